@@ -1,20 +1,7 @@
 -- What stands where a capability says so has a header.
-use Rattle.std.proofs.Common.{◌≡◌, ℕ, ◌-◌, ◌^◌, ◌<◌, List, length, sym, ap, ◌∙◌, subst, arith}
-use Rattle.std.specs.Prelude.{IsTrue}
-use Rattle.model.specs.declared.access.Access.{Access}
-use Rattle.model.specs.declared.capability.Capability.{Capability}
-use Rattle.model.specs.declared.capability.Capability.TheVariants.{Space}
-use Rattle.model.specs.declared.frame.Frame.{Frame}
-use Rattle.model.specs.declared.frame.ObjectHeader.{ObjectHeader}
-use Rattle.model.specs.declared.geometry.Geometry.{Geometry}
-use Rattle.model.specs.Frame.{frames_in, objects_of}
-use Rattle.model.specs.Keepable.{AreKeepable, IsSoundFrames}
-use Rattle.model.specs.Object.{is_page}
-use Rattle.model.specs.Sound.{MayBeHeld}
-use Rattle.model.specs.World.{content_at, root_at}
-use Rattle.capability.specs.Parts.{Parts, frames_of, objects_in}
-use Rattle.capability.proofs.Frames.{known_used, node_used, page_used}
-use Rattle.capability.proofs.Keeping.{keepable_later}
+use Rattle.address_space.proofs.Names.{◌≡◌, ℕ, ◌-◌, ◌^◌, ◌<◌, List, length, sym, ap, ◌∙◌, subst, arith, IsTrue, Access, Capability, Space, Frame, ObjectHeader}
+use Rattle.address_space.proofs.Names.{Geometry, frames_in, objects_of, AreKeepable, IsSoundFrames, is_page, MayBeHeld, content_at, root_at, Parts, frames_of}
+use Rattle.address_space.proofs.Names.{objects_in, known_used, node_used, page_used, keepable_later}
 
 pub space_known : (p : Parts) (n h : ℕ) (a : Access) → MayBeHeld (objects_in p) (Space n h a) → n < length p.headers
 space_known p n h a held = known_used p n (node_used (content_at (objects_in p) n) held.1)

@@ -1,15 +1,7 @@
 -- Trees of nodes, level by level.
-use Rattle.std.proofs.Common.{◌≡◌, ◌≢◌, ℕ, zero, suc, ◌+◌, ◌-◌, ◌*◌, ◌/◌, ◌%◌, ◌^◌, ◌<◌, ◌≤◌, ◌==◌, true, false, List, Result, Ok, Err, refl, sym, ap, ◌∙◌, arith}
-use Rattle.std.proofs.lemmas.Bool.{eq-eqb, ne_eqb}
-use Rattle.model.specs.declared.access.Access.{Access}
-use Rattle.model.specs.declared.answer.MemoryFault.{MemoryFault}
-use Rattle.model.specs.declared.answer.MemoryFault.TheVariants.{Hole, Malformed}
-use Rattle.model.specs.declared.capability.Capability.{Capability}
-use Rattle.model.specs.declared.capability.Capability.TheVariants.{Void, Number, Page, Node, Space, Process, Start, Resume, Bank, Discrim}
-use Rattle.model.specs.declared.object.Object.{Object}
-use Rattle.model.specs.Capability.{union}
-use Rattle.model.specs.Walk.{below, path, restricted, walk_along}
-use Rattle.model.specs.World.{slot_at}
+use Rattle.address_space.proofs.Names.{◌≡◌, ◌≢◌, ℕ, zero, suc, ◌+◌, ◌-◌, ◌*◌, ◌/◌, ◌%◌, ◌^◌, ◌<◌, ◌≤◌, ◌==◌, true, false, List, Result, Ok, Err, refl, sym, ap}
+use Rattle.address_space.proofs.Names.{◌∙◌, arith, eq-eqb, ne_eqb, Access, MemoryFault, Hole, Malformed, Capability, Void, Number, Page, Node, Space, Process}
+use Rattle.address_space.proofs.Names.{Start, Resume, Bank, Discrim, Object, union, below, path, restricted, walk_along, slot_at}
 
 pub power_some : (h : ℕ) → 0 < 32 ^ h
 power_some zero = omega arith

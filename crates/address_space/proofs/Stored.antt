@@ -1,15 +1,6 @@
 -- Sound frames with another word in a page.
-use Rattle.std.proofs.Common.{◌≡◌, ℕ, ◌^◌, ◌<◌, List, sym, ap, ◌∙◌, subst}
-use Rattle.model.specs.declared.frame.Frame.{Frame}
-use Rattle.model.specs.declared.geometry.Geometry.{Geometry}
-use Rattle.model.specs.declared.object.Object.{Object}
-use Rattle.model.specs.Frame.{objects_of}
-use Rattle.model.specs.Keepable.{AreCurrent, AreKeepable, IsSoundFrames, world_at}
-use Rattle.model.specs.Object.{is_waiting}
-use Rattle.model.specs.Sound.{IsSound}
-use Rattle.model.specs.World.{World, with_word}
-use Rattle.model_laws.proofs.SoundEdits.{edited_word}
-use Rattle.model_laws.proofs.SoundParts.{Waits, nearly_from, nearly_to, nearly_weaken}
+use Rattle.address_space.proofs.Names.{◌≡◌, ℕ, ◌^◌, ◌<◌, List, sym, ap, ◌∙◌, subst, Frame, Geometry, Object, objects_of, AreCurrent, AreKeepable, IsSoundFrames}
+use Rattle.address_space.proofs.Names.{world_at, is_waiting, IsSound, World, with_word, edited_word, Waits, nearly_from, nearly_to, nearly_weaken}
 
 world_with_word : (g : Geometry) (w : World) (n i word : ℕ) → word < 2 ^ 64 → IsSound g w →
     IsSound g (record { objects = with_word w.objects n i word; age = w.age })

@@ -1,3 +1,4 @@
+mod Names
 pub mod Lists
 pub mod Arenas
 pub mod Orders

@@ -1,15 +1,8 @@
 -- Numbers in the order of their last use, and pairs of a cache with them as its keys.
-use Rattle.std.proofs.Common.{◌≡◌, ◌≢◌, inl, inr, ℕ, ◌+◌, ◌-◌, ◌<◌, nat_eq, Bool, true, false, cond, ◌||◌, true≢false, List, [], ◌∷◌, length, take, Option, Some, None, is_some, IsSome, set, refl, sym, ap, ◌∙◌, arith}
-use Rattle.std.specs.Map.{keys_of, lookup, lookup_entry, remove_entry}
-use Rattle.std.specs.Option.{option_map_or}
-use Rattle.std.proofs.lemmas.Bool.{eqb-true, eq-eqb, ne_eqb, cases_eq}
-use Rattle.std.proofs.lemmas.List.{take_all, get_or-set_same, get_or-set_other}
-use Rattle.lru.specs.LruCache.{LruCache, promoted, put_entries}
-use Rattle.lru.proofs.CallerLemmas.{Contains-lookup_entry}
-use Rattle.model.specs.Revoke.{is_member}
-use Rattle.cache_entries.specs.declared.entry.Entry.{Entry}
-use Rattle.cache_entries.specs.Entries.{ArenaState, entry_at}
-use Rattle.cache_entries.specs.Order.{AllDiffer, without, AreKept}
+use Rattle.cache_entries.proofs.Names.{◌≡◌, ◌≢◌, inl, inr, ℕ, ◌+◌, ◌-◌, ◌<◌, nat_eq, Bool, true, false, cond, ◌||◌, true≢false, List, [], ◌∷◌, length, take}
+use Rattle.cache_entries.proofs.Names.{Option, Some, None, is_some, IsSome, set, refl, sym, ap, ◌∙◌, arith, keys_of, lookup, lookup_entry, remove_entry}
+use Rattle.cache_entries.proofs.Names.{option_map_or, eqb-true, eq-eqb, ne_eqb, cases_eq, take_all, get_or-set_same, get_or-set_other, LruCache, promoted}
+use Rattle.cache_entries.proofs.Names.{put_entries, Contains-lookup_entry, is_member, Entry, ArenaState, entry_at, AllDiffer, without, AreKept}
 use Rattle.cache_entries.proofs.Arenas.{some_within}
 
 -- ---- the keys of pairs

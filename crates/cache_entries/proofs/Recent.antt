@@ -1,10 +1,7 @@
 -- The numbers used last, and the one used longest ago.
-use Rattle.std.proofs.Common.{◌≡◌, ◌≢◌, inl, inr, ℕ, zero, suc, ◌+◌, ◌<◌, nat_eq, Bool, true, false, cond, ◌||◌, true≢false, List, [], ◌∷◌, length, take, Some, refl, sym, ap, ◌∙◌, arith}
-use Rattle.std.specs.List.{slice_get}
-use Rattle.std.proofs.lemmas.Bool.{eq-eqb, ne_eqb, cases_eq}
-use Rattle.std.proofs.lemmas.Option.{none-some, same_Some}
-use Rattle.model.specs.Revoke.{is_member}
-use Rattle.cache_entries.specs.Order.{AllDiffer, without}
+use Rattle.cache_entries.proofs.Names.{◌≡◌, ◌≢◌, inl, inr, ℕ, zero, suc, ◌+◌, ◌<◌, nat_eq, Bool, true, false, cond, ◌||◌, true≢false, List, [], ◌∷◌, length}
+use Rattle.cache_entries.proofs.Names.{take, Some, refl, sym, ap, ◌∙◌, arith, slice_get, eq-eqb, ne_eqb, cases_eq, none-some, same_Some, is_member, AllDiffer}
+use Rattle.cache_entries.proofs.Names.{without}
 
 -- what stands in a list is a member
 pub listed_member : (ns : List ℕ) (i n : ℕ) → slice_get ns i ≡ Some n → is_member ns n ≡ true

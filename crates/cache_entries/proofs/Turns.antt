@@ -1,12 +1,8 @@
 -- Numbers that are used in turn, and those whose use the order doesn't have yet.
-use Rattle.std.proofs.Common.{◌≡◌, ◌≢◌, ◌⊎◌, inl, inr, ℕ, zero, suc, ◌+◌, nat_eq, Bool, true, false, cond, ◌||◌, true≢false, List, [], ◌∷◌, ◌++◌, length, set, take, drop, get_or, ◌<◌, ◌≤◌, Some, refl, sym, ap, subst, ◌∙◌, arith}
-use Rattle.std.specs.List.{Contains, slice_get}
-use Rattle.std.proofs.lemmas.List.{take_more}
-use Rattle.std.proofs.lemmas.Bool.{eqb-true, eq-eqb, ne_eqb, cases_eq}
-use Rattle.std.proofs.lemmas.Option.{none-some, same_Some}
-use Rattle.model.specs.Revoke.{is_member}
-use Rattle.cache_entries.specs.Entries.{ArenaState}
-use Rattle.cache_entries.specs.Order.{AllDiffer, AreKept, AreLatest, used_in_turn, without}
+use Rattle.cache_entries.proofs.Names.{◌≡◌, ◌≢◌, ◌⊎◌, inl, inr, ℕ, zero, suc, ◌+◌, nat_eq, Bool, true, false, cond, ◌||◌, true≢false, List, [], ◌∷◌, ◌++◌}
+use Rattle.cache_entries.proofs.Names.{length, set, take, drop, get_or, ◌<◌, ◌≤◌, Some, refl, sym, ap, subst, ◌∙◌, arith, Contains, slice_get, take_more}
+use Rattle.cache_entries.proofs.Names.{eqb-true, eq-eqb, ne_eqb, cases_eq, none-some, same_Some, is_member, ArenaState, AllDiffer, AreKept, AreLatest}
+use Rattle.cache_entries.proofs.Names.{used_in_turn, without}
 use Rattle.cache_entries.proofs.Orders.{differ_without, gone, kept_used, length_without, member_head, member_tail, still}
 use Rattle.cache_entries.proofs.Recent.{listed_member}
 

@@ -1,6 +1,5 @@
 -- What lies beside the present frames, through one change after another.
-use Rattle.std.proofs.Common.{ℕ, ◌∙◌}
-use Rattle.capability.specs.Parts.{KeepsAside, LooksUp, Parts}
+use Rattle.capability.proofs.Names.{ℕ, ◌∙◌, KeepsAside, LooksUp, Parts}
 
 module _ {S : Type 0} (parts : S → Parts) (Fetched Announced : S → ℕ → Type 0) (Leads : S → S → Type 0) (twice : (s t u : S) → Leads s t → Leads t u → Leads s u) where
   -- what two changes leave aside both leave

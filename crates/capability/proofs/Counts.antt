@@ -1,24 +1,13 @@
 -- What frames stand for once counts have risen: the capabilities that they were compared with are void.
-use Rattle.std.proofs.Common.{◌≡◌, ℕ, ◌+◌, ◌^◌, ◌<◌, ◌≤◌, ◌==◌, inl, inr, nat_lt, if◌then◌else◌, Bool, true, false, List, [], ◌∷◌, map, length, slice_index_or, slice_set, refl, sym, ap, ◌∙◌, subst, arith, zero-add}
-use Rattle.std.specs.List.{All, enumerate_from}
-use Rattle.std.proofs.lemmas.Bool.{cases_eq, eq-eqb, ne_eqb}
-use Rattle.std.proofs.lemmas.Bool.Decides.{nat_tests}
-use Rattle.std.proofs.lemmas.List.{get_or-map, get_or-set_other, get_or-set_same, length-map, length-set}
-use Rattle.std.proofs.lemmas.List.FromFn.{get_or-enumerate_from, length-enumerate_from}
-use Rattle.model.specs.declared.capability.Cap.{Cap}
-use Rattle.model.specs.declared.capability.Capability.{Capability}
-use Rattle.model.specs.declared.capability.Capability.TheVariants.{Void, Number, Page, Node, Space, Process, Start, Resume, Bank, Discrim}
-use Rattle.model.specs.declared.frame.ObjectHeader.{ObjectHeader}
-use Rattle.model.specs.declared.geometry.Geometry.{Geometry}
-use Rattle.model.specs.declared.object.Content.{Content}
+use Rattle.capability.proofs.Names.{◌≡◌, ℕ, ◌+◌, ◌^◌, ◌<◌, ◌≤◌, ◌==◌, inl, inr, nat_lt, if◌then◌else◌, Bool, true, false, List, [], ◌∷◌, map, length}
+use Rattle.capability.proofs.Names.{slice_index_or, slice_set, refl, sym, ap, ◌∙◌, subst, arith, zero-add, All, enumerate_from, cases_eq, eq-eqb, ne_eqb}
+use Rattle.capability.proofs.Names.{nat_tests, get_or-set_other, get_or-set_same, length-map, length-set, get_or-enumerate_from, length-enumerate_from, Cap}
+use Rattle.capability.proofs.Names.{Capability, Void, Number, Page, Node, Space, Process, Start, Resume, Bank, Discrim, ObjectHeader, Geometry, Content, Object}
+use Rattle.capability.proofs.Names.{blank_header, called, conveyed, current_count, frames_in, given_up, header_at, held_at, objects_of, AreCurrent, AreKeepable}
+use Rattle.capability.proofs.Names.{IsCurrent, IsKeepable, caps_in, free, map_content, consume, is_member, names_member, rescind, resumes, void_where, without}
+use Rattle.capability.proofs.Names.{object_at, AreGivenUp, Parts, frames_of, with_header, objects_in}
+use Rattle.std.proofs.lemmas.List.{get_or-map}
 use Rattle.model.specs.declared.object.Content.TheVariants as content
-use Rattle.model.specs.declared.object.Object.{Object}
-use Rattle.model.specs.Frame.{blank_header, called, conveyed, current_count, frames_in, given_up, header_at, held_at, objects_of}
-use Rattle.model.specs.Keepable.{AreCurrent, AreKeepable, IsCurrent, IsKeepable, caps_in}
-use Rattle.model.specs.Object.{free, map_content}
-use Rattle.model.specs.Revoke.{consume, is_member, names_member, rescind, resumes, void_where, without}
-use Rattle.model.specs.World.{object_at}
-use Rattle.capability.specs.Parts.{AreGivenUp, Parts, frames_of, with_header, objects_in}
 use Rattle.capability.proofs.Edits.{content_agree, current_from, current_held, field_same}
 use Rattle.capability.proofs.Frames.{length_objects, object_in, objects_by}
 use Rattle.capability.proofs.Keeping.{frame_later, keepable_at, keepable_count, keepable_from}

@@ -1,20 +1,9 @@
 -- What an edit of present frames leaves.
-use Rattle.std.proofs.Common.{◌≡◌, ℕ, ◌<◌, ◌^◌, true, List, length, refl, sym, ap, subst, ◌∙◌, arith}
-use Rattle.std.specs.Prelude.{IsTrue}
-use Rattle.std.specs.List.{All}
-use Rattle.model.specs.declared.capability.Cap.{Cap}
-use Rattle.model.specs.declared.capability.Capability.{Capability}
-use Rattle.model.specs.declared.capability.Capability.TheVariants.{Void}
-use Rattle.model.specs.declared.object.Content.{Content}
+use Rattle.capability.proofs.Names.{◌≡◌, ℕ, ◌<◌, ◌^◌, true, List, length, refl, sym, ap, subst, ◌∙◌, arith, IsTrue, All, Cap, Capability, Void, Content, Object}
+use Rattle.capability.proofs.Names.{Root, conveyed, header_at, held_at, AreCurrent, AreKeepable, IsCurrent, IsKeepable, IsKeptCap, MayBeKept, caps_in, is_annex}
+use Rattle.capability.proofs.Names.{is_root, map_content, root_in, with_slot_in, with_word_in, content_at, is_process, root_at, with_content, with_root}
+use Rattle.capability.proofs.Names.{with_slot, with_word, live_cap, with_root_in, Edits, Parts, frames_of, objects_in, with_held}
 use Rattle.model.specs.declared.object.Content.TheVariants as content
-use Rattle.model.specs.declared.object.Object.{Object}
-use Rattle.model.specs.declared.object.Root.{Root}
-use Rattle.model.specs.Frame.{conveyed, header_at, held_at}
-use Rattle.model.specs.Keepable.{AreCurrent, AreKeepable, IsCurrent, IsKeepable, IsKeptCap, MayBeKept, caps_in}
-use Rattle.model.specs.Object.{is_annex, is_root, map_content, root_in, with_slot_in, with_word_in}
-use Rattle.model.specs.World.{content_at, is_process, root_at, with_content, with_root, with_slot, with_word}
-use Rattle.capability.specs.Objects.{live_cap, with_root_in}
-use Rattle.capability.specs.Parts.{Edits, Parts, frames_of, objects_in, with_held}
 use Rattle.capability.proofs.Edits.{current_held, header_kept, held_current, held_objects, live, slot_current, slot_through_map, word_current, word_through_map}
 use Rattle.capability.proofs.Frames.{content_there}
 use Rattle.capability.proofs.Keeping.{keepable_at, one_keepable, with_slot_keeps, with_word_keeps}

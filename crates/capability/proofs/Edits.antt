@@ -1,27 +1,12 @@
 -- What frames stand for once the header or the content at one number is another.
-use Rattle.std.proofs.Common.{rules, ◌≡◌, ℕ, suc, ◌<◌, inl, inr, nat_lt, if◌then◌else◌, List, [], ◌∷◌, map, length, slice_index_or, slice_set, refl, sym, ap, ◌∙◌, subst, arith}
-use Rattle.std.specs.List.{All}
-use Rattle.std.proofs.Math.ListN.{get_or-map}
-use Rattle.std.proofs.Math.Seq.{map-set_same}
-use Rattle.std.proofs.lemmas.Bool.{cases_lt}
-use Rattle.std.proofs.lemmas.Bool.Decides.{nat_tests}
-use Rattle.std.proofs.lemmas.List.{length-set, map-set, set-get_or}
-use Rattle.std.proofs.lemmas.List.Elements.{All-replicate, All-set}
-use Rattle.model.specs.declared.capability.Cap.{Cap}
-use Rattle.model.specs.declared.capability.Capability.{Capability}
-use Rattle.model.specs.declared.capability.Capability.TheVariants.{Void, Number, Page, Node, Space, Process, Start, Resume, Bank, Discrim}
-use Rattle.model.specs.declared.frame.Frame.{Frame}
-use Rattle.model.specs.declared.frame.ObjectHeader.{ObjectHeader}
-use Rattle.model.specs.declared.object.Content.{Content}
+use Rattle.capability.proofs.Names.{rules, ◌≡◌, ℕ, suc, ◌<◌, inl, inr, nat_lt, if◌then◌else◌, List, [], ◌∷◌, map, length, slice_index_or, slice_set, refl, sym}
+use Rattle.capability.proofs.Names.{ap, ◌∙◌, subst, arith, All, get_or-map, map-set_same, cases_lt, nat_tests, length-set, map-set, set-get_or, All-replicate}
+use Rattle.capability.proofs.Names.{All-set, Cap, Capability, Void, Number, Page, Node, Space, Process, Start, Resume, Bank, Discrim, Frame, ObjectHeader}
+use Rattle.capability.proofs.Names.{Content, Object, blank_header, conveyed, current_count, frames_in, header_at, headers, held_at, object_of, objects_of}
+use Rattle.capability.proofs.Names.{void_held, owned_by, claimed, AreCurrent, IsCurrent, caps_in, all_slots, map_content, role_of, with_slot_in, with_word_in}
+use Rattle.capability.proofs.Names.{content_at, with_content, Fresh, Parts, frames_of, fresh_content, with_both, with_header, with_held, objects_in}
 use Rattle.model.specs.declared.object.Content.TheVariants as content
-use Rattle.model.specs.declared.object.Object.{Object}
-use Rattle.model.specs.Frame.{blank_header, conveyed, current_count, frames_in, header_at, headers, held_at, object_of, objects_of, void_held, owned_by, claimed}
-use Rattle.model.specs.Keepable.{AreCurrent, IsCurrent, caps_in}
-use Rattle.model.specs.Object.{all_slots, map_content, role_of, with_slot_in, with_word_in}
-use Rattle.model.specs.World.{content_at, with_content}
-use Rattle.capability.specs.declared.present.Fresh.{Fresh}
 use Rattle.capability.specs.declared.present.Fresh.TheVariants as fresh
-use Rattle.capability.specs.Parts.{Parts, frames_of, fresh_content, with_both, with_header, with_held, objects_in}
 use Rattle.capability.proofs.Frames.{at_set, content_there, frame_in, frame_past, headers_in, owner_in, set_in}
 
 -- functions that agree on what a content holds make the same of it

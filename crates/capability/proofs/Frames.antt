@@ -1,24 +1,11 @@
 -- Frames are headers with contents beside them: what stands at a number.
-use Rattle.std.proofs.Common.{◌≡◌, ℕ, zero, suc, ◌<◌, ◌≤◌, inl, inr, true, false, List, [], ◌∷◌, map, length, slice_get, slice_index, slice_index_or, slice_set, Some, refl, sym, ap, ◌∙◌, subst, arith, ⊎_elim}
-use Rattle.std.specs.Prelude.{IsTrue}
-use Rattle.std.proofs.Math.ListN.{get_or-map}
-use Rattle.std.proofs.lemmas.Bool.{cases_eq, cases_lt}
-use Rattle.std.proofs.lemmas.List.{ext_get_or, get_or_past, get_or-set_same, get_or-set_other, set_past, length-map}
-use Rattle.std.proofs.lemmas.Option.{get_or_from_slice_get, slice_get-map}
-use Rattle.std.specs.Option.{option_map}
-use Rattle.model.specs.declared.capability.Cap.{Cap}
-use Rattle.model.specs.declared.capability.Capability.{Capability}
-use Rattle.model.specs.declared.capability.Capability.TheVariants.{Void}
-use Rattle.model.specs.declared.frame.Frame.{Frame}
-use Rattle.model.specs.declared.frame.ObjectHeader.{ObjectHeader}
-use Rattle.model.specs.declared.object.Content.{Content}
+use Rattle.capability.proofs.Names.{◌≡◌, ℕ, zero, suc, ◌<◌, ◌≤◌, inl, inr, true, false, List, [], ◌∷◌, map, length, slice_get, slice_index, slice_index_or}
+use Rattle.capability.proofs.Names.{slice_set, Some, refl, sym, ap, ◌∙◌, subst, arith, ⊎_elim, IsTrue, get_or-map, cases_eq, cases_lt, ext_get_or, get_or_past}
+use Rattle.capability.proofs.Names.{get_or-set_same, get_or-set_other, set_past, length-map, get_or_from_slice_get, slice_get-map, option_map, Cap, Capability}
+use Rattle.capability.proofs.Names.{Void, Frame, ObjectHeader, Content, Object, Root, blank_frame, blank_header, conveyed, frame_at, frames_in, header_at}
+use Rattle.capability.proofs.Names.{headers, held_at, object_of, objects_of, free, is_annex, is_bank, is_free, is_node, is_page, is_root, map_content, root_in}
+use Rattle.capability.proofs.Names.{slots_in, words_in, content_at, is_process, object_at, owner_at, slot_at, word_at, Parts, objects_in}
 use Rattle.model.specs.declared.object.Content.TheVariants as content
-use Rattle.model.specs.declared.object.Object.{Object}
-use Rattle.model.specs.declared.object.Root.{Root}
-use Rattle.model.specs.Frame.{blank_frame, blank_header, conveyed, frame_at, frames_in, header_at, headers, held_at, object_of, objects_of}
-use Rattle.model.specs.Object.{free, is_annex, is_bank, is_free, is_node, is_page, is_root, map_content, root_in, slots_in, words_in}
-use Rattle.model.specs.World.{content_at, is_process, object_at, owner_at, slot_at, word_at}
-use Rattle.capability.specs.Parts.{Parts, objects_in}
 use Rattle.capability.proofs.Mapped.{mapped}
 
 -- what holds of the new item at its place and of an old item at another holds after a set

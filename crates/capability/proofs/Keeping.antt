@@ -1,25 +1,13 @@
 -- Frames that can be kept stay so through each change.
-use Rattle.std.proofs.Common.{rules, ◌≡◌, ℕ, ◌+◌, ◌^◌, ◌<◌, ◌≤◌, inl, inr, List, length, slice_index_or, slice_set, refl, sym, ap, ◌∙◌, subst, arith}
-use Rattle.std.specs.Prelude.{IsTrue}
-use Rattle.std.proofs.lemmas.Bool.{cases_lt}
-use Rattle.std.proofs.lemmas.List.{get_or_past, length-set}
-use Rattle.std.proofs.lemmas.List.Elements.{All-replicate, All-set, All-weaker}
-use Rattle.model.specs.declared.capability.Cap.{Cap}
-use Rattle.model.specs.declared.capability.Capability.{Capability}
-use Rattle.model.specs.declared.capability.Capability.TheVariants.{Void, Number, Page, Node, Space, Process, Start, Resume, Bank, Discrim}
-use Rattle.model.specs.declared.frame.Frame.{Frame}
-use Rattle.model.specs.declared.frame.ObjectHeader.{ObjectHeader}
-use Rattle.model.specs.declared.geometry.Geometry.{Geometry}
-use Rattle.model.specs.declared.object.Content.{Content}
+use Rattle.capability.proofs.Names.{rules, ◌≡◌, ℕ, ◌+◌, ◌^◌, ◌<◌, ◌≤◌, inl, inr, List, length, slice_index_or, slice_set, refl, sym, ap, ◌∙◌, subst, arith}
+use Rattle.capability.proofs.Names.{IsTrue, cases_lt, get_or_past, length-set, All-replicate, All-set, All-weaker, Cap, Capability, Void, Number, Page, Node}
+use Rattle.capability.proofs.Names.{Space, Process, Start, Resume, Bank, Discrim, Frame, ObjectHeader, Geometry, Content, blank_frame, blank_header, called}
+use Rattle.capability.proofs.Names.{claimed, frame_at, header_at, held_at, owned_by, void_held, AreKeepable, AreKeptSlots, AreKeptWords, Follows, IsCount}
+use Rattle.capability.proofs.Names.{IsKeepable, IsKeptCap, MayBeKept, all_slots, is_annex, role_of, with_slot_in, with_word_in, zero_words, IsOfKind}
+use Rattle.capability.proofs.Names.{object_count, Fresh, FreshFits, HaveTheirRoles, IsFreshAt, Parts, frames_of, fresh_content, with_both, with_header}
 use Rattle.model.specs.declared.object.Content.TheVariants as content
 use Rattle.model.specs.declared.object.Role.TheVariants as role
-use Rattle.model.specs.Frame.{blank_frame, blank_header, called, claimed, frame_at, header_at, held_at, owned_by, void_held}
-use Rattle.model.specs.Keepable.{AreKeepable, AreKeptSlots, AreKeptWords, Follows, IsCount, IsKeepable, IsKeptCap, MayBeKept}
-use Rattle.model.specs.Object.{all_slots, is_annex, role_of, with_slot_in, with_word_in, zero_words}
-use Rattle.model.specs.Sound.{IsOfKind, object_count}
-use Rattle.capability.specs.declared.present.Fresh.{Fresh}
 use Rattle.capability.specs.declared.present.Fresh.TheVariants as fresh
-use Rattle.capability.specs.Parts.{FreshFits, HaveTheirRoles, IsFreshAt, Parts, frames_of, fresh_content, with_both, with_header}
 use Rattle.capability.proofs.Frames.{at_set, frame_in, length_in, pair_at, set_in}
 
 -- what can be kept at an age can be at a later one

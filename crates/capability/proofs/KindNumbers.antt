@@ -1,11 +1,6 @@
 -- A content of a kind stands at a number of its kind.
-use Rattle.std.proofs.Common.{◌≡◌, ℕ, ◌<◌, ◌≤◌, true}
-use Rattle.model.specs.declared.capability.Capability.{Capability}
-use Rattle.model.specs.declared.geometry.Geometry.{Geometry}
-use Rattle.model.specs.declared.object.Content.{Content}
+use Rattle.capability.proofs.Names.{◌≡◌, ℕ, ◌<◌, ◌≤◌, true, Capability, Geometry, Content, is_annex, is_bank, is_node, is_page, is_root, IsOfKind, object_count}
 use Rattle.model.specs.declared.object.Content.TheVariants as content
-use Rattle.model.specs.Object.{is_annex, is_bank, is_node, is_page, is_root}
-use Rattle.model.specs.Sound.{IsOfKind, object_count}
 
 pub node_number : (g : Geometry) (n : ℕ) (c : Content Capability) → IsOfKind g n c → is_node c ≡ true → n < g.nodes
 node_number g n (content.Node slots) kind is = kind

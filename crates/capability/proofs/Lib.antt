@@ -1,3 +1,4 @@
+mod Names
 pub mod Asides
 pub mod Frames
 pub mod Keeping

@@ -1,10 +1,7 @@
 -- A content with each capability in it changed is as it was in all else.
-use Rattle.std.proofs.Common.{◌≡◌, ℕ, map, refl}
-use Rattle.model.specs.declared.geometry.Geometry.{Geometry}
-use Rattle.model.specs.declared.object.Content.{Content}
+use Rattle.capability.proofs.Names.{◌≡◌, ℕ, map, refl, Geometry, Content, is_annex, is_bank, is_root, limit_in, map_content, role_of, slots_in, words_in}
+use Rattle.capability.proofs.Names.{IsOfKind}
 use Rattle.model.specs.declared.object.Content.TheVariants as content
-use Rattle.model.specs.Object.{is_annex, is_bank, is_root, limit_in, map_content, role_of, slots_in, words_in}
-use Rattle.model.specs.Sound.{IsOfKind}
 
 pub record IsMapped {B C : Type 0} (f : B → C) (c : Content B) (d : Content C) : Type 0 where
   pub role : role_of d ≡ role_of c

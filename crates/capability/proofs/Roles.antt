@@ -1,21 +1,10 @@
 -- What the roles in headers tell of the objects that frames stand for.
-use Rattle.std.proofs.Common.{◌≡◌, ℕ, ◌<◌, ◌≤◌, Bool, true, false, List, length, ⊎_elim, refl, sym, ap, subst, ◌∙◌}
-use Rattle.std.proofs.lemmas.Bool.{cases_lt}
-use Rattle.std.proofs.lemmas.List.{get_or_past}
-use Rattle.std.proofs.Math.ListN.{get_or-map}
-use Rattle.model.specs.declared.capability.Cap.{Cap}
-use Rattle.model.specs.declared.capability.Capability.{Capability}
-use Rattle.model.specs.declared.frame.Frame.{Frame}
-use Rattle.model.specs.declared.frame.ObjectHeader.{ObjectHeader}
-use Rattle.model.specs.declared.object.Content.{Content}
+use Rattle.capability.proofs.Names.{◌≡◌, ℕ, ◌<◌, ◌≤◌, Bool, true, false, List, length, ⊎_elim, refl, sym, ap, subst, ◌∙◌, cases_lt, get_or_past, get_or-map}
+use Rattle.capability.proofs.Names.{Cap, Capability, Frame, ObjectHeader, Content, Object, Role, blank_frame, blank_header, conveyed, frame_at, header_at}
+use Rattle.capability.proofs.Names.{headers, held_at, object_of, objects_of, is_bank, is_free, is_root, map_content, role_of, content_at, is_process}
+use Rattle.capability.proofs.Names.{HaveTheirRoles, Parts, frames_of, objects_in}
 use Rattle.model.specs.declared.object.Content.TheVariants as content
-use Rattle.model.specs.declared.object.Object.{Object}
-use Rattle.model.specs.declared.object.Role.{Role}
 use Rattle.model.specs.declared.object.Role.TheVariants as role
-use Rattle.model.specs.Frame.{blank_frame, blank_header, conveyed, frame_at, header_at, headers, held_at, object_of, objects_of}
-use Rattle.model.specs.Object.{is_bank, is_free, is_root, map_content, role_of}
-use Rattle.model.specs.World.{content_at, is_process}
-use Rattle.capability.specs.Parts.{HaveTheirRoles, Parts, frames_of, objects_in}
 use Rattle.capability.proofs.Frames.{frame_in, headers_in, object_in, object_past}
 use Rattle.capability.proofs.Mapped.{mapped}
 

@@ -1,24 +1,9 @@
 -- What frames stand for once the root of a process is another.
-use Rattle.std.proofs.Common.{◌≡◌, ℕ, ◌<◌, ◌^◌, true, slice_set, List, [], ◌∷◌, refl, sym, ap, ◌∙◌, subst, arith}
-use Rattle.std.specs.List.{All}
-use Rattle.std.proofs.lemmas.List.{length-set}
-use Rattle.std.proofs.lemmas.List.Elements.{All-set}
-use Rattle.model.specs.declared.capability.Cap.{Cap}
-use Rattle.model.specs.declared.capability.Capability.{Capability}
-use Rattle.model.specs.declared.frame.ObjectHeader.{ObjectHeader}
-use Rattle.model.specs.declared.geometry.Geometry.{Geometry}
-use Rattle.model.specs.declared.object.Content.{Content}
+use Rattle.capability.proofs.Names.{◌≡◌, ℕ, ◌<◌, ◌^◌, true, slice_set, List, [], ◌∷◌, refl, sym, ap, ◌∙◌, subst, arith, All, length-set, All-set, Cap}
+use Rattle.capability.proofs.Names.{Capability, ObjectHeader, Geometry, Content, Object, Root, State, conveyed, AreKeptWords, IsCurrent, IsKeepable, IsKeptCap}
+use Rattle.capability.proofs.Names.{MayBeKept, caps_in, with_space, IsSpace, is_root, map_content, root_in, root_at, with_root, with_state, live_cap}
+use Rattle.capability.proofs.Names.{with_root_in}
 use Rattle.model.specs.declared.object.Content.TheVariants as content
-use Rattle.model.specs.declared.object.Object.{Object}
-use Rattle.model.specs.declared.object.Root.{Root}
-use Rattle.model.specs.declared.object.State.{State}
-use Rattle.model.specs.Frame.{conveyed}
-use Rattle.model.specs.Keepable.{AreKeptWords, IsCurrent, IsKeepable, IsKeptCap, MayBeKept, caps_in}
-use Rattle.model.specs.Order.{with_space}
-use Rattle.model.specs.Sound.{IsSpace}
-use Rattle.model.specs.Object.{is_root, map_content, root_in}
-use Rattle.model.specs.World.{root_at, with_root, with_state}
-use Rattle.capability.specs.Objects.{live_cap, with_root_in}
 use Rattle.capability.proofs.Edits.{live}
 use Rattle.capability.proofs.Keeping.{refilled}
 

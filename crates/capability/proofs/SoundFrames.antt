@@ -1,8 +1,6 @@
 -- Frames stay sound where counts are raised.
-use Rattle.std.proofs.Common.{◌+◌, List, arith, subst, sym}
-use Rattle.model.specs.declared.object.Object.{Object}
-use Rattle.model.specs.Sound.{IsSound}
-use Rattle.capability.specs.Laws.{CalledIsConsumed, ConsumeKeepsSoundFrames, GivenUpIsRescinded, RescindKeepsSoundFrames}
+use Rattle.capability.proofs.Names.{◌+◌, List, arith, subst, sym, Object, IsSound, CalledIsConsumed, ConsumeKeepsSoundFrames, GivenUpIsRescinded}
+use Rattle.capability.proofs.Names.{RescindKeepsSoundFrames}
 use Rattle.capability.proofs.Counts.{current_called, current_given_up, keepable_given_up, objects_called, objects_given_up}
 use Rattle.capability.proofs.Keeping.{call_stays_keepable}
 

@@ -1,15 +1,7 @@
 -- The changes and the outcomes of orders.
-use Rattle.std.specs.Prelude.{ℕ, Option, None, Some, List, [], ◌∷◌}
-use Rattle.std.specs.Option.{option_to_list}
-use Rattle.model.specs.declared.capability.Capability.TheVariants.{Void}
-use Rattle.model.specs.declared.command.Message.{Message}
-use Rattle.model.specs.declared.object.Object.{Object}
-use Rattle.model.specs.declared.order.ResultCode.{ResultCode}
-use Rattle.model.specs.Banking.{inherited, new_annex, new_root, with_new}
-use Rattle.model.specs.Order.{with_root_word, with_space}
-use Rattle.model.specs.OrderOutcome.{OrderOutcome, code_number}
-use Rattle.model.specs.Revoke.{consume, rescind}
-use Rattle.model.specs.World.{root_at, with_root, with_slot, with_state, with_word}
+use Rattle.capability.specs.Names.{ℕ, Option, None, Some, List, [], ◌∷◌, option_to_list, Void, Message, Object, ResultCode, inherited, new_annex, new_root}
+use Rattle.capability.specs.Names.{with_new, with_root_word, with_space, OrderOutcome, code_number, consume, rescind, root_at, with_root, with_slot, with_state}
+use Rattle.capability.specs.Names.{with_word}
 use Rattle.capability.specs.declared.order.BankChange.{BankChange}
 use Rattle.capability.specs.declared.order.BankChange.TheVariants as bank
 use Rattle.capability.specs.declared.order.Change.{Change}

@@ -1,10 +1,5 @@
 -- Counts against the definitions of rescinding and consuming.
-use Rattle.std.specs.Prelude.{◌≡◌, ℕ, ◌+◌, ◌<◌, List, length}
-use Rattle.model.specs.declared.geometry.Geometry.{Geometry}
-use Rattle.model.specs.Frame.{called, header_at}
-use Rattle.model.specs.Keepable.{AreCurrent, IsSoundFrames}
-use Rattle.model.specs.Revoke.{consume, rescind}
-use Rattle.model.specs.Sound.{IsSound}
+use Rattle.capability.specs.Names.{◌≡◌, ℕ, ◌+◌, ◌<◌, List, length, Geometry, called, header_at, AreCurrent, IsSoundFrames, consume, rescind, IsSound}
 use Rattle.capability.specs.Parts.{AreGivenUp, Parts, frames_of, with_header, objects_in}
 
 -- to raise both counts of the members of a set and free them is to rescind them

@@ -9,6 +9,7 @@ pub use Rattle.model.specs.Revoke
 pub use Rattle.model.specs.Machine
 pub use Rattle.model.specs.Worlds
 pub use Rattle.model.specs.Banking
+pub mod Names
 pub mod Parts
 pub mod Objects
 pub mod Changes

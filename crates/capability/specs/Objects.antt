@@ -1,15 +1,6 @@
 -- The delivery of a message.
-use Rattle.std.specs.Prelude.{ℕ, List}
-use Rattle.model.specs.declared.capability.Cap.{Cap}
-use Rattle.model.specs.declared.capability.Capability.{Capability}
-use Rattle.model.specs.declared.frame.ObjectHeader.{ObjectHeader}
-use Rattle.model.specs.declared.object.Content.{Content}
+use Rattle.capability.specs.Names.{ℕ, List, Cap, Capability, ObjectHeader, Content, Object, Root, Running, current_count, root_at, with_root}
 use Rattle.model.specs.declared.object.Content.TheVariants as content
-use Rattle.model.specs.declared.object.Object.{Object}
-use Rattle.model.specs.declared.object.Root.{Root}
-use Rattle.model.specs.declared.object.State.TheVariants.{Running}
-use Rattle.model.specs.Frame.{current_count}
-use Rattle.model.specs.World.{root_at, with_root}
 
 -- the objects with words and a key given to a process, which runs
 abbrev pub with_message : List Object → ℕ → List ℕ → ℕ → List Object

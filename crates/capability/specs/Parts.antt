@@ -1,18 +1,9 @@
 -- The parts of a store of present frames, and what goes on beside a change.
-use Rattle.std.specs.Prelude.{◌≡◌, ◌↔◌, ℕ, ◌+◌, ◌<◌, ◌≤◌, ◌^◌, Bool, false, List, length, replicate, slice_index_or, slice_set, take, if◌then◌else◌, Result, OnOk, OnErr, IsErrOf}
-use Rattle.model.specs.declared.capability.Cap.{Cap}
-use Rattle.model.specs.declared.frame.Frame.{Frame}
-use Rattle.model.specs.declared.frame.ObjectHeader.{ObjectHeader}
-use Rattle.model.specs.declared.geometry.Geometry.{Geometry}
-use Rattle.model.specs.declared.object.Content.{Content}
+use Rattle.capability.specs.Names.{◌≡◌, ◌↔◌, ℕ, ◌+◌, ◌<◌, ◌≤◌, ◌^◌, Bool, false, List, length, replicate, slice_index_or, slice_set, take, if◌then◌else◌}
+use Rattle.capability.specs.Names.{Result, OnOk, OnErr, IsErrOf, Cap, Frame, ObjectHeader, Geometry, Content, Available, Object, frame_at, frames_in, header_at}
+use Rattle.capability.specs.Names.{held_at, given_up, objects_of, AreCurrent, AreKeepable, IsSoundFrames, touching, touched_count, all_slots, role_of}
+use Rattle.capability.specs.Names.{zero_words, is_given_up, is_member}
 use Rattle.model.specs.declared.object.Content.TheVariants as content
-use Rattle.model.specs.declared.object.State.TheVariants.{Available}
-use Rattle.model.specs.declared.object.Object.{Object}
-use Rattle.model.specs.Frame.{frame_at, frames_in, header_at, held_at, given_up, objects_of}
-use Rattle.model.specs.Keepable.{AreCurrent, AreKeepable, IsSoundFrames}
-use Rattle.model.specs.Machine.{touching, touched_count}
-use Rattle.model.specs.Object.{all_slots, role_of, zero_words}
-use Rattle.model.specs.Revoke.{is_given_up, is_member}
 use Rattle.capability.specs.declared.present.Fresh.{Fresh}
 use Rattle.capability.specs.declared.present.Fresh.TheVariants as fresh
 use Rattle.capability.specs.declared.present.PrepareFault.{PrepareFault}

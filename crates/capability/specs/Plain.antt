@@ -1,17 +1,9 @@
 -- The store in memory.
-use Rattle.std.specs.Prelude.{◌≡◌, ◌≢◌, ◌↔◌, ℕ, ◌<◌, ◌≤◌, nat_lt, if◌then◌else◌, Bool, List, length, slice_set, Result, OnOk, OnErr, IsErrOf}
-use Rattle.std.specs.List.{All, Contains}
-use Rattle.model.specs.declared.capability.Cap.{Cap}
-use Rattle.model.specs.declared.capability.Capability.{Capability}
-use Rattle.model.specs.declared.frame.ObjectHeader.{ObjectHeader}
-use Rattle.model.specs.declared.geometry.Geometry.{Geometry}
-use Rattle.model.specs.declared.object.Content.{Content}
+use Rattle.capability.specs.Names.{◌≡◌, ◌≢◌, ◌↔◌, ℕ, ◌<◌, ◌≤◌, nat_lt, if◌then◌else◌, Bool, List, length, slice_set, Result, OnOk, OnErr, IsErrOf, All}
+use Rattle.capability.specs.Names.{Contains, Cap, Capability, ObjectHeader, Geometry, Content, header_at, held_at, void_held, touched_count, touching}
+use Rattle.capability.specs.Names.{all_slots, zero_words, object_count}
 use Rattle.model.specs.declared.object.Content.TheVariants as content
 use Rattle.model.specs.declared.object.Role.TheVariants as role
-use Rattle.model.specs.Frame.{header_at, held_at, void_held}
-use Rattle.model.specs.Machine.{touched_count, touching}
-use Rattle.model.specs.Object.{all_slots, zero_words}
-use Rattle.model.specs.Sound.{object_count}
 use Rattle.capability.specs.declared.present.Fresh.{Fresh}
 use Rattle.capability.specs.declared.present.Fresh.TheVariants as fresh
 use Rattle.capability.specs.declared.present.PrepareFault.{PrepareFault}

@@ -1,3 +1,4 @@
+pub mod Names
 pub mod Saved
 pub mod Refused
 pub mod Opened

@@ -1,9 +1,5 @@
 -- The results of opening a device, and why one isn't opened.
-use Rattle.std.specs.Prelude.{◌≡◌, ◌↔◌, ℕ, ◌<◌, ◌≤◌, Result, IsErrOf, ⊤}
-use Rattle.device.specs.Disk.{Image, Disk}
-use Rattle.device.specs.Calls.{Agrees, Narrows}
-use Rattle.device.specs.Moments.{Peeks}
-use Rattle.layout.specs.Image.{IsBadBy}
+use Rattle.checkpoint.specs.Names.{◌≡◌, ◌↔◌, ℕ, ◌<◌, ◌≤◌, Result, IsErrOf, ⊤, Image, Disk, Agrees, Narrows, Peeks, IsBadBy}
 use Rattle.checkpoint.specs.declared.open_fault.OpenFault.{OpenFault}
 use Rattle.checkpoint.specs.declared.open_fault.OpenFault.TheVariants as refusal
 

@@ -1,12 +1,7 @@
 -- What a committed checkpoint saves, as frames.
-use Rattle.std.specs.Prelude.{◌≡◌, ◌⊎◌, ℕ, ◌+◌, ◌-◌, ◌^◌, Option, Some, None, List, slice_set}
-use Rattle.model.specs.declared.frame.Frame.{Frame}
-use Rattle.model.specs.declared.geometry.Geometry.{Geometry}
+use Rattle.checkpoint.specs.Names.{◌≡◌, ◌⊎◌, ℕ, ◌+◌, ◌-◌, ◌^◌, Option, Some, None, List, slice_set, Frame, Geometry, frame_at, Image, Disk, LeavesOnly}
+use Rattle.checkpoint.specs.Names.{SavedState, Encodes}
 use Rattle.model.specs.declared.object.Content.TheVariants as content
-use Rattle.model.specs.Frame.{frame_at}
-use Rattle.device.specs.Disk.{Image, Disk}
-use Rattle.device.specs.Moments.{LeavesOnly}
-use Rattle.layout.specs.Image.{SavedState, Encodes}
 
 -- the frames of all objects, and the numbers of the checkpoint; entries counts the objects that lie in the log
 pub record SavedFrames : Type 0 where

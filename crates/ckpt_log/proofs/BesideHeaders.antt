@@ -1,12 +1,7 @@
 -- What lies apart from the headers.
-use Rattle.std.proofs.Common.{◌+◌, ◌*◌, ◌≤◌, ℕ, List, take, ap, arith}
-use Rattle.layout.specs.Superblock.{Plan, IsPlan}
-use Rattle.layout.specs.Homes.{shape_of, place_length}
-use Rattle.layout.specs.Image.{frame_sector, half_sector, slot_sector, directory_sector, directory_length}
-use Rattle.layout.proofs.Halves.{half_within}
-use Rattle.layout.proofs.Sectors.{same_sectors}
-use Rattle.layout.proofs.Shapes.{same_shaped}
-use Rattle.ckpt_log.specs.HeaderLaws.{SequencesAreTold, NextFollows, HeadersSpareSectors, HeadersSpareFrames, HeadersSpareSlots, HeadersSpareDirectories}
+use Rattle.ckpt_log.proofs.Names.{◌+◌, ◌*◌, ◌≤◌, ℕ, List, take, ap, arith, Plan, IsPlan, shape_of, place_length, frame_sector, half_sector, slot_sector}
+use Rattle.ckpt_log.proofs.Names.{directory_sector, directory_length, half_within, same_sectors, same_shaped, SequencesAreTold, NextFollows}
+use Rattle.ckpt_log.proofs.Names.{HeadersSpareSectors, HeadersSpareFrames, HeadersSpareSlots, HeadersSpareDirectories}
 use Rattle.ckpt_log.proofs.Commits.{sequence_of, next_fits, precedes}
 
 pub sequences_told : SequencesAreTold

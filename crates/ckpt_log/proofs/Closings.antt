@@ -1,17 +1,8 @@
 -- What is committed while the gates of both headers are closed, the lesser header's first.
-use Rattle.std.proofs.Common.{◌≡◌, ◌⊎◌, ◌%◌, ℕ, zero, suc, Bool, true, false, Option, Some, None, List, refl, sym, ap, subst, ◌∙◌, inl, inr, ⊎_elim, arith}
-use Rattle.std.proofs.lemmas.Bool.{cases_lt}
-use Rattle.std.specs.Prelude.{nat_lt, if◌then◌else◌, ◌==◌, ◌&&◌}
-use Rattle.layout.specs.Gate.{is_open, gate_bytes}
-use Rattle.layout.specs.declared.gate.Gate.TheVariants.{Closed}
-use Rattle.layout.specs.Image.{HasNoHeader, committed_of, committed_slot, does_count, option_at, sequence_in}
-use Rattle.device.specs.Disk.{Image, Disk}
-use Rattle.device.specs.Moments.{LeavesOnly, Peeks}
-use Rattle.device.proofs.Images.{agrees_is}
-use Rattle.device.proofs.Moments.{leaves_on, leaves_weaker}
-use Rattle.device.specs.Calls.{Agrees, Elsewhere}
-use Rattle.ckpt_log.specs.Closing.{AreClosed, AreInTurn, KeepsOrHasNone, SparesRest, WasKeptOrHasNone}
-use Rattle.ckpt_log.specs.Commit.{closed_gate}
+use Rattle.ckpt_log.proofs.Names.{◌≡◌, ◌⊎◌, ◌%◌, ℕ, zero, suc, Bool, true, false, Option, Some, None, List, refl, sym, ap, subst, ◌∙◌, inl, inr, ⊎_elim, arith}
+use Rattle.ckpt_log.proofs.Names.{cases_lt, nat_lt, if◌then◌else◌, ◌==◌, ◌&&◌, is_open, gate_bytes, Closed, HasNoHeader, committed_of, committed_slot}
+use Rattle.ckpt_log.proofs.Names.{does_count, option_at, sequence_in, Image, Disk, LeavesOnly, Peeks, agrees_is, leaves_on, leaves_weaker, Agrees, Elsewhere}
+use Rattle.ckpt_log.proofs.Names.{AreClosed, AreInTurn, KeepsOrHasNone, SparesRest, WasKeptOrHasNone, closed_gate}
 use Rattle.ckpt_log.proofs.Runs.{IsClosing}
 use Rattle.ckpt_log.proofs.Winners.{belongs, counts_if, opened, slot_of_image}
 

@@ -1,21 +1,9 @@
 -- What a torn write of a gate or a header leaves committed.
-use Rattle.std.proofs.Common.{◌≡◌, ◌<◌, ◌≤◌, ◌+◌, ◌*◌, ◌%◌, ◌^◌, ℕ, Bool, true, false, Some, List, ◌++◌, drop, refl, sym, ap, subst, ◌∙◌, inl, inr, arith}
-use Rattle.std.specs.Prelude.{codes, cond, ◌==◌, if◌then◌else◌}
-use Rattle.std.specs.Int.{w64, from_le_bytes}
-use Rattle.std.proofs.lemmas.Nat.{from_le_bytes-to_le_bytes_8}
-use Rattle.layout.specs.declared.header.CheckpointHeader.{CheckpointHeader}
-use Rattle.layout.specs.declared.gate.Gate.TheVariants.{Closed, Open}
-use Rattle.layout.specs.Bytes.{number, number_from, zeros}
-use Rattle.layout.specs.Gate.{is_open, gate_bytes}
-use Rattle.layout.specs.Header.{header_bytes, IsHeader}
-use Rattle.layout.specs.Image.{committed_bytes, sequence_in}
-use Rattle.layout.proofs.Headers.{six}
-use Rattle.device.specs.Disk.{Image}
-use Rattle.device.specs.Calls.{Agrees, Elsewhere}
-use Rattle.device.proofs.Images.{agrees_is, elsewhere_on}
-use Rattle.ckpt_log.specs.declared.header_slot.HeaderSlot.{HeaderSlot}
-use Rattle.ckpt_log.specs.HeaderSlot.{slot_number, header_at, gate_at}
-use Rattle.ckpt_log.specs.Commit.{header_sector, gate_sector, closed_gate, Precedes, KeepsHeader, HasNew, IsOldOrNew}
+use Rattle.ckpt_log.proofs.Names.{◌≡◌, ◌<◌, ◌≤◌, ◌+◌, ◌*◌, ◌%◌, ◌^◌, ℕ, Bool, true, false, Some, List, ◌++◌, drop, refl, sym, ap, subst, ◌∙◌, inl, inr, arith}
+use Rattle.ckpt_log.proofs.Names.{codes, cond, ◌==◌, if◌then◌else◌, w64, from_le_bytes, from_le_bytes-to_le_bytes_8, CheckpointHeader, Closed, Open, number}
+use Rattle.ckpt_log.proofs.Names.{number_from, zeros, is_open, gate_bytes, header_bytes, IsHeader, committed_bytes, sequence_in, six, Image, Agrees, Elsewhere}
+use Rattle.ckpt_log.proofs.Names.{agrees_is, elsewhere_on, HeaderSlot, slot_number, header_at, gate_at, header_sector, gate_sector, closed_gate, Precedes}
+use Rattle.ckpt_log.proofs.Names.{KeepsHeader, HasNew, IsOldOrNew}
 use Rattle.ckpt_log.proofs.Winners.{CountsNoMore, belongs, opened, counts_if, keeps_at, new_at}
 
 as_le : (xs : List ℕ) → number_from xs ≡ from_le_bytes w64 xs

@@ -1,15 +1,7 @@
 -- What a device denotes after a commit, and after a crash in its course.
-use Rattle.std.proofs.Common.{ℕ, ◌≤◌, Option, Some, None, sym, subst, ◌∙◌, arith, List}
-use Rattle.device.specs.Disk.{Image}
-use Rattle.device.specs.Calls.{Elsewhere}
-use Rattle.layout.specs.declared.header.CheckpointHeader.{CheckpointHeader}
-use Rattle.layout.specs.Frame.{IsFrameOf}
-use Rattle.layout.specs.Homes.{home_place}
-use Rattle.layout.specs.Superblock.{Plan}
-use Rattle.layout.specs.Image.{SavedState, Encodes, half_sector, seat_in, slot_sector, sector_or}
-use Rattle.model.specs.Frame.{frame_at}
-use Rattle.ckpt_log.specs.Commit.{header_sector}
-use Rattle.ckpt_log.specs.CommitLaws.{HomesAreBehind, FramesAreBehind, IsReady, NewIsDenoted, OldIsDenoted}
+use Rattle.ckpt_log.proofs.Names.{ℕ, ◌≤◌, Option, Some, None, sym, subst, ◌∙◌, arith, List, Image, Elsewhere, CheckpointHeader, IsFrameOf, home_place, Plan}
+use Rattle.ckpt_log.proofs.Names.{SavedState, Encodes, half_sector, seat_in, slot_sector, sector_or, frame_at, header_sector, HomesAreBehind, FramesAreBehind}
+use Rattle.ckpt_log.proofs.Names.{IsReady, NewIsDenoted, OldIsDenoted}
 use Rattle.ckpt_log.proofs.BesideHeaders.{half_behind, spare_sectors, spare_frames, spare_directories}
 
 behind_by : (slot : Option ℕ) (p : Plan) (generation home : ℕ) → 5 ≤ half_sector p generation → 5 ≤ home → 5 ≤ sector_or slot (slot_sector p generation) home

@@ -1,11 +1,6 @@
 -- A directory without entries.
-use Rattle.std.proofs.Common.{◌≡◌, ◌+◌, ◌-◌, ◌*◌, ◌/◌, ◌≤◌, ℕ, List, [], ◌∷◌, length, take, drop, replicate, refl, ap, subst, ◌∙◌, arith}
-use Rattle.std.proofs.lemmas.List.{drop-replicate, take-replicate}
-use Rattle.device.specs.Disk.{Image}
-use Rattle.layout.specs.declared.directory.Entry.{Entry}
-use Rattle.layout.specs.Directory.{directory_bytes, IsDirectory}
-use Rattle.layout.specs.Superblock.{Plan}
-use Rattle.layout.specs.Image.{directory_in, directory_length, sectors_from}
+use Rattle.ckpt_log.proofs.Names.{◌≡◌, ◌+◌, ◌-◌, ◌*◌, ◌/◌, ◌≤◌, ℕ, List, [], ◌∷◌, length, take, drop, replicate, refl, ap, subst, ◌∙◌, arith, drop-replicate}
+use Rattle.ckpt_log.proofs.Names.{take-replicate, Image, Entry, directory_bytes, IsDirectory, Plan, directory_in, directory_length, sectors_from}
 
 -- it is spelt by no bytes
 pub no_entries : (p : Plan) (generation : ℕ) (image : Image) (es : List Entry) → length es ≡ 0 → IsDirectory p.geometry es × (directory_in image p generation (length es) ≡ directory_bytes es)

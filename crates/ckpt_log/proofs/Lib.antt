@@ -1,3 +1,4 @@
+mod Names
 pub mod BesideHeaders
 pub mod Closings
 pub mod Commits

@@ -1,10 +1,6 @@
 -- Where slots and directories lie in a half of the log.
-use Rattle.std.proofs.Common.{inl, inr, arith}
-use Rattle.std.proofs.lemmas.Bool.{cases_lt}
-use Rattle.layout.specs.Homes.{shape_of}
-use Rattle.layout.proofs.Halves.{half_within, half_apart}
-use Rattle.layout.proofs.Shapes.{few_sectors}
-use Rattle.ckpt_log.specs.Places.{SlotsAreInside, FramesAreInSlots, DirectoriesAreInside, HalvesAreWithin, HalvesAreApart, SlotsAreApart, SlotsSpareDirectories}
+use Rattle.ckpt_log.proofs.Names.{inl, inr, arith, cases_lt, shape_of, half_within, half_apart, few_sectors, SlotsAreInside, FramesAreInSlots}
+use Rattle.ckpt_log.proofs.Names.{DirectoriesAreInside, HalvesAreWithin, HalvesAreApart, SlotsAreApart, SlotsSpareDirectories}
 
 pub slots_inside : SlotsAreInside
 slots_inside p generation slot lt = record { starts = omega arith; ends = omega arith }

@@ -1,16 +1,6 @@
 -- What was written is read.
-use Rattle.std.proofs.Common.{◌≡◌, ℕ, List, refl, sym}
-use Rattle.model.specs.declared.frame.Frame.{Frame}
-use Rattle.layout.specs.declared.directory.Entry.{Entry}
-use Rattle.layout.specs.Directory.{directory_bytes, IsDirectory}
-use Rattle.layout.specs.Frame.{IsFrameOf, frame_bytes}
-use Rattle.model.specs.declared.geometry.Geometry.{Geometry}
-use Rattle.layout.proofs.Directories.{one_directory, directory_fits}
-use Rattle.layout.proofs.Images.{one_frame}
-use Rattle.frame_io.specs.declared.fault.ReadFault.{ReadFault}
-use Rattle.frame_io.specs.declared.fault.ReadFault.TheVariants.{Failed, Bad}
-use Rattle.frame_io.specs.Frames.{IsRefused}
-use Rattle.ckpt_log.specs.Slot.{IsBadDirectory, SlotsAreReadBack, DirectoriesAreReadBack}
+use Rattle.ckpt_log.proofs.Names.{◌≡◌, ℕ, List, refl, sym, Frame, Entry, directory_bytes, IsDirectory, IsFrameOf, frame_bytes, Geometry, one_directory}
+use Rattle.ckpt_log.proofs.Names.{directory_fits, one_frame, ReadFault, Failed, Bad, IsRefused, IsBadDirectory, SlotsAreReadBack, DirectoriesAreReadBack}
 
 slot_not_refused : (g : Geometry) (age object : ℕ) (f : Frame) (e : ReadFault) → IsFrameOf g age object (frame_bytes g object f) f → IsRefused g age object (frame_bytes g object f) e → e ≡ Failed
 slot_not_refused g age object f Failed is bad = refl

@@ -1,17 +1,7 @@
 -- The committed header with its directory, and why there is none.
-use Rattle.std.proofs.Common.{◌≡◌, ℕ, List, ◌++◌, length, take, sym, ap, subst, ◌∙◌}
-use Rattle.std.proofs.Math.Seq.{take-append_seam}
-use Rattle.layout.specs.declared.bad_image.BadImage.{BadImage}
-use Rattle.layout.specs.declared.directory.Entry.{Entry}
-use Rattle.layout.specs.declared.header.CheckpointHeader.{CheckpointHeader}
-use Rattle.layout.specs.Directory.{directory_bytes, IsDirectory}
-use Rattle.device.specs.Disk.{Image}
-use Rattle.layout.specs.Image.{HasHeader, HasDirectory, directory_in}
-use Rattle.layout.specs.Superblock.{Plan}
-use Rattle.frame_io.specs.declared.fault.ReadFault.{ReadFault}
+use Rattle.ckpt_log.proofs.Names.{◌≡◌, ℕ, List, ◌++◌, length, take, sym, ap, subst, ◌∙◌, take-append_seam, BadImage, Entry, CheckpointHeader, directory_bytes}
+use Rattle.ckpt_log.proofs.Names.{IsDirectory, Image, HasHeader, HasDirectory, directory_in, Plan, ReadFault, HasCommitted, HasNoCommitted, IsBadDirectory}
 use Rattle.frame_io.specs.declared.fault.ReadFault.TheVariants as fault
-use Rattle.ckpt_log.specs.Log.{HasCommitted, HasNoCommitted}
-use Rattle.ckpt_log.specs.Slot.{IsBadDirectory}
 
 pub bad_directory : (image seen : Image) (p : Plan) (h : CheckpointHeader) (n : ℕ) (e : ReadFault) → seen ≡ image → n ≡ h.entries → HasHeader image p h → IsBadDirectory p.geometry (directory_in seen p h.generation n) e → HasNoCommitted image p e
 bad_directory image seen p h n fault.Failed same all has bad = tt

@@ -1,15 +1,8 @@
 -- What a crash leaves in the course of a commit.
-use Rattle.std.proofs.Common.{◌≡◌, ◌<◌, ◌^◌, ◌⊎◌, ℕ, false, inl, inr, refl, sym, ap, subst, ◌∙◌}
-use Rattle.layout.specs.declared.header.CheckpointHeader.{CheckpointHeader}
-use Rattle.layout.specs.Gate.{is_open}
-use Rattle.layout.specs.Header.{header_bytes}
-use Rattle.layout.specs.Image.{committed_bytes}
-use Rattle.device.specs.Disk.{Image, Disk}
-use Rattle.device.specs.Calls.{Agrees, Elsewhere, Narrows, Only}
-use Rattle.device.specs.Moments.{Elapses, LeavesOnly, Peeks}
-use Rattle.device.proofs.Images.{agrees_is, elsewhere_same}
-use Rattle.device.proofs.Moments.{OnlyNow, CountsNow, in_one_call, leaves_weaker, leaves_on, ends}
-use Rattle.ckpt_log.specs.Commit.{header_sector, gate_sector, IsInOrder, IsInOrderAfter, CommitsOne, Precedes, KeepsHeader, HasNew, IsOldOrNew, IsOld}
+use Rattle.ckpt_log.proofs.Names.{◌≡◌, ◌<◌, ◌^◌, ◌⊎◌, ℕ, false, inl, inr, refl, sym, ap, subst, ◌∙◌, CheckpointHeader, is_open, header_bytes, committed_bytes}
+use Rattle.ckpt_log.proofs.Names.{Image, Disk, Agrees, Elsewhere, Narrows, Only, Elapses, LeavesOnly, Peeks, agrees_is, elsewhere_same, OnlyNow, CountsNow}
+use Rattle.ckpt_log.proofs.Names.{in_one_call, leaves_weaker, leaves_on, ends, header_sector, gate_sector, IsInOrder, IsInOrderAfter, CommitsOne, Precedes}
+use Rattle.ckpt_log.proofs.Names.{KeepsHeader, HasNew, IsOldOrNew, IsOld}
 use Rattle.ckpt_log.proofs.Commits.{closing_keeps, either_on, header_keeps, opening, precedes_on, keeps_on}
 
 -- what a crash leaves while a gate is closed where it is open

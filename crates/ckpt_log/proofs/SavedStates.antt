@@ -1,14 +1,8 @@
 -- Images that agree in the sectors that a saved state is read from.
-use Rattle.std.proofs.Common.{◌≡◌, ◌<◌, ◌+◌, ◌*◌, ℕ, Option, Some, None, List, take, refl, sym, ap, subst, ◌∙◌, arith}
-use Rattle.device.specs.Disk.{Image}
-use Rattle.layout.specs.Homes.{shape_of}
-use Rattle.layout.specs.Frame.{IsFrameOf}
-use Rattle.layout.specs.Image.{committed_slot, option_at, frame_sector, directory_sector, directory_length}
-use Rattle.layout.proofs.Sectors.{same_sectors}
-use Rattle.layout.proofs.Shapes.{same_shaped}
-use Rattle.ckpt_log.specs.SavedSectors.{SameFrom, SameHeader, SameDirectory, SameFrames, SameSaved}
+use Rattle.ckpt_log.proofs.Names.{◌≡◌, ◌<◌, ◌+◌, ◌*◌, ℕ, Option, Some, None, List, take, refl, sym, ap, subst, ◌∙◌, arith, Image, shape_of, IsFrameOf}
+use Rattle.ckpt_log.proofs.Names.{committed_slot, option_at, frame_sector, directory_sector, directory_length, same_sectors, same_shaped, SameFrom, SameHeader}
+use Rattle.ckpt_log.proofs.Names.{SameDirectory, SameFrames, SameSaved, frame_at}
 use Rattle.ckpt_log.proofs.Winners.{slot_of_image}
-use Rattle.model.specs.Frame.{frame_at}
 
 same_slot : (old new : Image) → SameFrom 1 4 old new → committed_slot new ≡ committed_slot old
 same_slot old new same =

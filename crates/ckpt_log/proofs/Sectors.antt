@@ -1,12 +1,6 @@
 -- One sector of a device.
-use Rattle.std.proofs.Common.{◌≡◌, ◌+◌, ◌*◌, ◌/◌, ◌++◌, ℕ, List, [], Result, Ok, Err, length, take, drop, refl, sym, ap, ◌∙◌, arith, append-nil}
-use Rattle.std.proofs.lemmas.List.{take_all}
-use Rattle.std.specs.Prelude.{OnOk}
-use Rattle.device.specs.Disk.{Image, Disk}
-use Rattle.device.specs.Calls.{Agrees, AreSectors, sectors_of}
-use Rattle.layout.specs.Image.{sectors_from}
-use Rattle.device.specs.Moments.{LeavesOnly}
-use Rattle.device.proofs.Moments.{CountsNow, ends}
+use Rattle.ckpt_log.proofs.Names.{◌≡◌, ◌+◌, ◌*◌, ◌/◌, ◌++◌, ℕ, List, [], Result, Ok, Err, length, take, drop, refl, sym, ap, ◌∙◌, arith, append-nil, take_all}
+use Rattle.ckpt_log.proofs.Names.{OnOk, Image, Disk, Agrees, AreSectors, sectors_of, sectors_from, LeavesOnly, CountsNow, ends}
 
 pub one_sector : (bytes : List ℕ) → length bytes ≡ 512 → sectors_of bytes ≡ 1
 one_sector bytes size = ap (λ (n : ℕ). n / 512) size

@@ -1,11 +1,7 @@
 -- Which of the two header slots is the committed one.
-use Rattle.std.proofs.Common.{◌≡◌, ◌<◌, ◌≤◌, ◌+◌, ◌*◌, ◌%◌, ◌⊎◌, ℕ, zero, suc, Bool, true, false, Option, Some, None, List, refl, sym, ap, subst, ◌∙◌, inl, inr, ⊎_elim, arith}
-use Rattle.std.specs.Prelude.{if◌then◌else◌, ◌==◌}
-use Rattle.std.proofs.lemmas.Bool.{and_parts, and_from, eqb-true, eq-eqb, le-ltb, lt-ltb, cases_lt}
-use Rattle.layout.specs.Gate.{is_open}
-use Rattle.layout.specs.Image.{committed_of, committed_slot, committed_bytes, option_at, does_count, sequence_in}
-use Rattle.device.specs.Disk.{Image}
-use Rattle.device.specs.Calls.{Elsewhere}
+use Rattle.ckpt_log.proofs.Names.{◌≡◌, ◌<◌, ◌≤◌, ◌+◌, ◌*◌, ◌%◌, ◌⊎◌, ℕ, zero, suc, Bool, true, false, Option, Some, None, List, refl, sym, ap, subst, ◌∙◌, inl}
+use Rattle.ckpt_log.proofs.Names.{inr, ⊎_elim, arith, if◌then◌else◌, ◌==◌, and_parts, and_from, eqb-true, eq-eqb, le-ltb, lt-ltb, cases_lt, is_open}
+use Rattle.ckpt_log.proofs.Names.{committed_of, committed_slot, committed_bytes, option_at, does_count, sequence_in, Image, Elsewhere}
 
 -- ---- of two slots
 

@@ -1,8 +1,5 @@
 -- What is left where the gates of both headers are closed, so that none is committed.
-use Rattle.std.specs.Prelude.{◌≡◌, ◌⊎◌, ℕ, nat_lt, true, false}
-use Rattle.layout.specs.Gate.{is_open}
-use Rattle.layout.specs.Image.{HasNoHeader, committed_bytes, sequence_in}
-use Rattle.device.specs.Disk.{Image, Disk}
+use Rattle.ckpt_log.specs.Names.{◌≡◌, ◌⊎◌, ℕ, nat_lt, true, false, is_open, HasNoHeader, committed_bytes, sequence_in, Image, Disk}
 
 -- both gates are closed
 pub record AreClosed (image : Image) : Type 0 where

@@ -1,12 +1,6 @@
 -- What a commit writes, and what a crash in its course leaves.
-use Rattle.std.specs.Prelude.{◌≡◌, ◌⊎◌, ℕ, ◌+◌, ◌*◌, ◌%◌, if◌then◌else◌, Some, List}
-use Rattle.layout.specs.declared.header.CheckpointHeader.{CheckpointHeader}
-use Rattle.layout.specs.declared.gate.Gate.TheVariants.{Closed}
-use Rattle.layout.specs.Gate.{gate_bytes, is_open}
-use Rattle.layout.specs.Header.{header_bytes}
-use Rattle.layout.specs.Image.{committed_bytes, sequence_in}
-use Rattle.device.specs.Disk.{Image, Disk}
-use Rattle.device.specs.Calls.{Elsewhere}
+use Rattle.ckpt_log.specs.Names.{◌≡◌, ◌⊎◌, ℕ, ◌+◌, ◌*◌, ◌%◌, if◌then◌else◌, Some, List, CheckpointHeader, Closed, gate_bytes, is_open, header_bytes}
+use Rattle.ckpt_log.specs.Names.{committed_bytes, sequence_in, Image, Disk, Elsewhere}
 
 -- the sector of a header, in the slot of its sequence number; its gate is the next one
 abbrev pub header_sector : CheckpointHeader → ℕ

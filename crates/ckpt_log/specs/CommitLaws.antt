@@ -1,16 +1,6 @@
 -- What a device denotes after a commit, and after a crash in its course.
-use Rattle.std.specs.Prelude.{◌≡◌, ℕ, ◌+◌, ◌<◌, ◌≤◌, List, length}
-use Rattle.device.specs.Disk.{Image}
-use Rattle.device.specs.Calls.{Elsewhere}
-use Rattle.layout.specs.declared.directory.Entry.{Entry}
-use Rattle.layout.specs.Header.{IsHeader}
-use Rattle.layout.specs.Frame.{IsFrameOf}
-use Rattle.layout.specs.Superblock.{Plan, IsPlan}
-use Rattle.layout.specs.Homes.{home_place}
-use Rattle.layout.specs.Image.{HasPlan, HasDirectory, SavedState, Encodes, frame_in, frame_sector, committed_bytes}
-use Rattle.frame_io.specs.Frames.{IsObject}
-use Rattle.model.specs.Frame.{frame_at}
-use Rattle.layout.specs.declared.header.CheckpointHeader.{CheckpointHeader}
+use Rattle.ckpt_log.specs.Names.{◌≡◌, ℕ, ◌+◌, ◌<◌, ◌≤◌, List, length, Image, Elsewhere, Entry, IsHeader, IsFrameOf, Plan, IsPlan, home_place, HasPlan}
+use Rattle.ckpt_log.specs.Names.{HasDirectory, SavedState, Encodes, frame_in, frame_sector, committed_bytes, IsObject, frame_at, CheckpointHeader}
 use Rattle.ckpt_log.specs.Commit.{header_sector, HasNew}
 
 -- home frames lie behind the headers

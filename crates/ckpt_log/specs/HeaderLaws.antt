@@ -1,12 +1,6 @@
 -- What a header's bytes tell, and what lies apart from the headers.
-use Rattle.std.specs.Prelude.{◌≡◌, ℕ, ◌+◌, ◌^◌, ◌<◌, ◌≤◌, List}
-use Rattle.layout.specs.declared.directory.Entry.{Entry}
-use Rattle.layout.specs.declared.header.CheckpointHeader.{CheckpointHeader}
-use Rattle.layout.specs.Header.{header_bytes, IsHeader}
-use Rattle.layout.specs.Superblock.{Plan, IsPlan}
-use Rattle.layout.specs.Image.{sequence_in, bytes_at, frame_in, frame_sector, slot_sector, directory_in}
-use Rattle.device.specs.Disk.{Image}
-use Rattle.device.specs.Calls.{Elsewhere}
+use Rattle.ckpt_log.specs.Names.{◌≡◌, ℕ, ◌+◌, ◌^◌, ◌<◌, ◌≤◌, List, Entry, CheckpointHeader, header_bytes, IsHeader, Plan, IsPlan, sequence_in, bytes_at}
+use Rattle.ckpt_log.specs.Names.{frame_in, frame_sector, slot_sector, directory_in, Image, Elsewhere}
 use Rattle.ckpt_log.specs.Commit.{header_sector, Commits, Precedes}
 use Rattle.ckpt_log.specs.SavedSectors.{SameFrom}
 

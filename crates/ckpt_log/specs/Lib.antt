@@ -1,3 +1,4 @@
+pub mod Names
 pub mod Closing
 pub mod Commit
 pub mod CommitLaws

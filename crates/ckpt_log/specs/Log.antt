@@ -1,16 +1,9 @@
 -- Which header in the log is committed, and which objects its directory names.
-use Rattle.std.specs.Prelude.{◌≡◌, ℕ, Option, Some, None, List, take, ⊤}
-use Rattle.layout.specs.declared.bad_image.BadImage.{BadImage}
+use Rattle.ckpt_log.specs.Names.{◌≡◌, ℕ, Option, Some, None, List, take, ⊤, BadImage, Entry, CheckpointHeader, header_bytes, IsHeader, Image, HasHeader}
+use Rattle.ckpt_log.specs.Names.{HasDirectory, HasNoHeader, HasBadHeader, HasBadDirectory, Plan, ReadFault}
 use Rattle.layout.specs.declared.bad_image.BadImage.TheVariants as bad
-use Rattle.layout.specs.declared.directory.Entry.{Entry}
-use Rattle.layout.specs.declared.header.CheckpointHeader.{CheckpointHeader}
-use Rattle.layout.specs.Header.{header_bytes, IsHeader}
-use Rattle.device.specs.Disk.{Image}
-use Rattle.layout.specs.Image.{HasHeader, HasDirectory, HasNoHeader, HasBadHeader, HasBadDirectory}
-use Rattle.layout.specs.Superblock.{Plan}
 use Rattle.ckpt_log.specs.declared.header_slot.HeaderSlot.{HeaderSlot}
 use Rattle.ckpt_log.specs.declared.header_slot.HeaderSlot.TheVariants.{First, Second}
-use Rattle.frame_io.specs.declared.fault.ReadFault.{ReadFault}
 use Rattle.frame_io.specs.declared.fault.ReadFault.TheVariants as fault
 
 -- of the bytes of two headers those in this slot

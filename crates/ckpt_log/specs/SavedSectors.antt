@@ -1,11 +1,6 @@
 -- The sectors that a saved state is read from.
-use Rattle.std.specs.Prelude.{◌≡◌, ℕ, ◌+◌, ◌<◌, List}
-use Rattle.layout.specs.declared.directory.Entry.{Entry}
-use Rattle.layout.specs.declared.header.CheckpointHeader.{CheckpointHeader}
-use Rattle.device.specs.Disk.{Image}
-use Rattle.layout.specs.Homes.{place_length}
-use Rattle.layout.specs.Image.{HasDirectory, frame_in, frame_sector, directory_sector, directory_length, SavedState, Encodes, committed_slot, committed_bytes}
-use Rattle.layout.specs.Superblock.{Plan}
+use Rattle.ckpt_log.specs.Names.{◌≡◌, ℕ, ◌+◌, ◌<◌, List, Entry, CheckpointHeader, Image, place_length, HasDirectory, frame_in, frame_sector, directory_sector}
+use Rattle.ckpt_log.specs.Names.{directory_length, SavedState, Encodes, committed_slot, committed_bytes, Plan}
 
 -- the same bytes in n sectors from one on
 abbrev pub SameFrom : ℕ → ℕ → Image → Image → Type 0

@@ -1,14 +1,6 @@
 -- What the slots of the log and its directories hold.
-use Rattle.std.specs.Prelude.{◌≡◌, ℕ, List, ⊤}
-use Rattle.model.specs.declared.frame.Frame.{Frame}
-use Rattle.model.specs.declared.geometry.Geometry.{Geometry}
-use Rattle.layout.specs.declared.bad_image.BadImage.TheVariants.{BadDirectory}
-use Rattle.layout.specs.declared.directory.Entry.{Entry}
-use Rattle.layout.specs.Directory.{directory_bytes, IsDirectory}
-use Rattle.layout.specs.Frame.{IsFrameOf, frame_bytes}
-use Rattle.frame_io.specs.declared.fault.ReadFault.{ReadFault}
-use Rattle.frame_io.specs.declared.fault.ReadFault.TheVariants.{Failed, Bad}
-use Rattle.frame_io.specs.Frames.{IsRefused}
+use Rattle.ckpt_log.specs.Names.{◌≡◌, ℕ, List, ⊤, Frame, Geometry, BadDirectory, Entry, directory_bytes, IsDirectory, IsFrameOf, frame_bytes, ReadFault, Failed}
+use Rattle.ckpt_log.specs.Names.{Bad, IsRefused}
 
 -- bytes are refused where they spell no directory
 abbrev pub IsBadDirectory : Geometry → List ℕ → ReadFault → Type 0

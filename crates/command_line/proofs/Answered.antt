@@ -1,21 +1,11 @@
 -- Words that the command takes name a job, unless they are an upgrade of one word to itself.
-use Rattle.std.proofs.Common.{◌≡◌, ◌∙◌, ◌&&◌, ◌||◌, is_some, not, suc, arith, length, option_map, refl, sym, subst, ap, List, [], ◌∷◌, Bool, drop, true, false, Option, Some, None, true≢false, codes, inl, inr}
-use Rattle.std.specs.List.{list_any}
-use Rattle.std.specs.Option.{option_map_or}
-use Rattle.std.specs.Str.{bytes_eq}
-use Rattle.std.proofs.lemmas.Bool.{eqb-true}
-use Rattle.std.proofs.lemmas.Slice.Eq.{bytes_eq-Decides}
-use Rattle.clap.specs.Walk.{Text, answers_to, is_empty, nothing_held, stop_after}
-use Rattle.clap.specs.declared.builder.command.Command.{Command}
-use Rattle.clap.specs.declared.parser.matches.ArgMatches.{ArgMatches}
-use Rattle.clap.specs.Simple.{App, HasMatchesOf, Shape, app_of, built, entered, is_simple, label_of, names_of, rows_at, subcommand_of, subcommand_rows_of}
-use Rattle.clap.specs.Takes.{entered_passes, level_passes, takes}
-use Rattle.clap.proofs.WalkLemmas.{both}
-use Rattle.command_line.specs.Arguments.{has_all, is_whole, subcommand_named}
-use Rattle.command_line.specs.Commands.{eros_app}
-use Rattle.command_line.specs.Jobs.{NamesJob, NamesNone}
-use Rattle.command_line.specs.declared.asked.Job.{Job}
-use Rattle.command_line.specs.Refusals.{AsksForSame}
+use Rattle.command_line.proofs.Names.{◌≡◌, ◌∙◌, ◌&&◌, ◌||◌, is_some, not, suc, arith, length, option_map, refl, sym, subst, ap, List, [], ◌∷◌, Bool, drop, true}
+use Rattle.command_line.proofs.Names.{false, Option, Some, None, true≢false, codes, inl, inr, list_any, option_map_or, bytes_eq, eqb-true, bytes_eq-Decides}
+use Rattle.command_line.proofs.Names.{answers_to, is_empty, nothing_held, stop_after, Command, ArgMatches, HasMatchesOf, Shape, app_of, built, entered}
+use Rattle.command_line.proofs.Names.{is_simple, label_of, names_of, rows_at, subcommand_of, entered_passes, level_passes, takes, both, has_all, is_whole}
+use Rattle.command_line.proofs.Names.{subcommand_named, eros_app, NamesJob, NamesNone, Job, AsksForSame}
+use Rattle.clap.specs.Walk.{Text}
+use Rattle.clap.specs.Simple.{App, subcommand_rows_of}
 use Rattle.command_line.proofs.Lacking.{found}
 use Rattle.command_line.proofs.Taken.{StopsWell, is_no_help, is_plain, level_keeps}
 

@@ -1,9 +1,6 @@
 -- What a command is once a subcommand or an argument is added.
-use Rattle.std.proofs.Common.{◌≡◌, ◌∙◌, ◌||◌, false, ap, ap₂, IfOk, Result, Ok, Err}
-use Rattle.clap.specs.Words.{AddsArg, AddsSubcommand, App, Rule, rule_of, with_rule, with_subcommand}
-use Rattle.clap.specs.declared.builder.arg.Arg.{Arg}
-use Rattle.clap.specs.declared.builder.command.Command.{Command}
-use Rattle.command_line.specs.Commands.{IsCommand}
+use Rattle.command_line.proofs.Names.{◌≡◌, ◌∙◌, ◌||◌, false, ap, ap₂, IfOk, Result, Ok, Err, AddsArg, AddsSubcommand, App, Rule, rule_of, with_rule}
+use Rattle.command_line.proofs.Names.{with_subcommand, Arg, Command, IsCommand}
 
 pub added : (a b : App) (old sub new : Command) → AddsSubcommand old sub new → IsCommand a old → IsCommand b sub → IsCommand (with_subcommand a b.top) new
 added a b old sub new adds is_old is_sub = (

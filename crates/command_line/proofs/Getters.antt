@@ -1,17 +1,8 @@
 -- What the getters of the matches give.
-use Rattle.std.proofs.Common.{◌≡◌, ◌∙◌, ap, subst, sym, Bool, true, false, true≢false, Option, Some, None, List, codes, map, option_map}
-use Rattle.std.specs.Borrow.{Bor}
-use Rattle.std.specs.Prelude.{Box, IfSome, unwrap_or}
-use Rattle.std.specs.Box.{box_value}
-use Rattle.std.specs.Str.{bytes_eq}
-use Rattle.std.proofs.lemmas.Slice.Eq.{bytes_eq-Decides}
-use Rattle.clap.specs.Words.{Row, Text, all_of, first_of, first_value, matched_of, raw_values, rows_of, subcommand_name_of, subcommand_rows, subcommand_rows_of}
-use Rattle.clap.specs.declared.parser.matches.ArgMatches.{ArgMatches}
-use Rattle.clap.specs.declared.parser.matches.SubCommand.{SubCommand}
-use Rattle.clap.specs.declared.parser.matches.ArgMatches.TheViews.{out-ArgMatches, out-SubCommand}
-use Rattle.clap.specs.declared.parser.matches.Found.{Found}
-use Rattle.clap.proofs.WalkLemmas.{first_value-rows, raw_values-rows}
-use Rattle.command_line.specs.Arguments.{IsFlag, IsGiven}
+use Rattle.command_line.proofs.Names.{◌≡◌, ◌∙◌, ap, subst, sym, Bool, true, false, true≢false, Option, Some, None, List, codes, map, option_map, Bor, Box}
+use Rattle.command_line.proofs.Names.{IfSome, unwrap_or, box_value, bytes_eq, bytes_eq-Decides, Row, Text, all_of, first_of, first_value, matched_of}
+use Rattle.command_line.proofs.Names.{raw_values, rows_of, subcommand_name_of, subcommand_rows, subcommand_rows_of, ArgMatches, SubCommand, out-ArgMatches}
+use Rattle.command_line.proofs.Names.{out-SubCommand, Found, first_value-rows, raw_values-rows, IsFlag, IsGiven}
 
 -- the subcommand that was met is that of its name and its rows
 module _ {Z : Type 0} where

@@ -1,25 +1,10 @@
 -- Rows that lack an argument, or have a wrong one, name no job.
-use Rattle.std.proofs.Common.{◌≡◌, ◌∙◌, ◌&&◌, ◌||◌, ◌⊎◌, ap, refl, subst, sym, Bool, ℕ, suc, arith, not, Option, Some, None, List, [], ◌∷◌, length, option_map, true, false, true≢false, inl, inr, codes}
-use Rattle.std.specs.Prelude.{⊤, cond, find, nat_lt, option_and_then, slice_get, unwrap_or}
-use Rattle.std.specs.List.{All, list_all, list_any, slice_index_or}
-use Rattle.std.specs.Option.{option_map_or}
-use Rattle.std.specs.Str.{bytes_eq}
-use Rattle.std.proofs.lemmas.Bool.{eqb-true}
-use Rattle.std.proofs.lemmas.List.Sums.{AllPass-from_list_all}
-use Rattle.std.proofs.lemmas.Slice.Eq.{bytes_eq-Decides}
-use Rattle.clap.specs.Facts.{parser_of_value}
-use Rattle.clap.specs.Simple.{Shape, built, label_of}
-use Rattle.clap.specs.Takes.{values_pass}
-use Rattle.clap.specs.ValueTests.{accepts}
-use Rattle.clap.specs.Walk.{answers_to, arg_by_id, is_empty}
-use Rattle.clap.specs.Words.{IsUnsignedIn, Row, Rule, Text, all_of, first_of}
-use Rattle.clap.specs.declared.builder.value_parser.ValueParser.{ValueParser}
-use Rattle.clap.specs.declared.builder.value_parser.ValueParser.TheVariants.{Unsigned}
-use Rattle.clap.proofs.ValueTestLemmas.{accepts-Accepts}
-use Rattle.clap.proofs.WalkLemmas.{both}
-use Rattle.command_line.specs.Arguments.{GivesNoNumber, has_all, is_filled, is_whole, subcommand_named}
-use Rattle.command_line.specs.Commands.{eros_app}
-use Rattle.command_line.specs.Jobs.{IsNoJob, IsSameTwice}
+use Rattle.command_line.proofs.Names.{◌≡◌, ◌∙◌, ◌&&◌, ◌||◌, ◌⊎◌, ap, refl, subst, sym, Bool, ℕ, suc, arith, not, Option, Some, None, List, [], ◌∷◌, length}
+use Rattle.command_line.proofs.Names.{option_map, true, false, true≢false, inl, inr, codes, ⊤, cond, find, nat_lt, option_and_then, slice_get, unwrap_or, All}
+use Rattle.command_line.proofs.Names.{list_all, list_any, slice_index_or, option_map_or, bytes_eq, eqb-true, AllPass-from_list_all, bytes_eq-Decides}
+use Rattle.command_line.proofs.Names.{parser_of_value, Shape, built, label_of, values_pass, accepts, answers_to, arg_by_id, is_empty, IsUnsignedIn, Row, Rule}
+use Rattle.command_line.proofs.Names.{Text, all_of, first_of, ValueParser, Unsigned, accepts-Accepts, both, GivesNoNumber, has_all, is_filled, is_whole}
+use Rattle.command_line.proofs.Names.{subcommand_named, eros_app, IsNoJob, IsSameTwice}
 
 -- what is found passes its test, and each test that all pass
 pub found : {X : Type 0} (p q : X → Bool) (xs : List X) (x : X) → find p xs ≡ Some x → list_all q xs ≡ true → (p x ≡ true) × (q x ≡ true)

@@ -1,3 +1,4 @@
+mod Names
 mod Answered
 mod Building
 mod Getters

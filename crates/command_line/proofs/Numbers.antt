@@ -1,12 +1,7 @@
 -- Words that write numbers, one after the other.
-use Rattle.std.proofs.Common.{◌≡◌, ◌∙◌, ◌<◌, ◌≤◌, ◌+◌, ap, ap₂, sym, subst, ℕ, List, [], ◌∷◌, ◌++◌, length, take, map, get_or}
-use Rattle.std.specs.Borrow.{Bor}
-use Rattle.std.specs.List.{All}
-use Rattle.std.proofs.lemmas.List.{get_or-map, length-map, map-append, take_all, take_more}
-use Rattle.std.proofs.lemmas.List.Elements.{All-get_or, All-more}
-use Rattle.clap.specs.Words.{IsUnsignedIn, Text}
-use Rattle.command_line.specs.Arguments.{IsNumber, number_of, texts_of}
-use Rattle.command_line.specs.Commands.{greatest_number}
+use Rattle.command_line.proofs.Names.{◌≡◌, ◌∙◌, ◌<◌, ◌≤◌, ◌+◌, ap, ap₂, sym, subst, ℕ, List, [], ◌∷◌, ◌++◌, length, take, map, get_or, Bor, All, get_or-map}
+use Rattle.command_line.proofs.Names.{length-map, map-append, take_all, take_more, All-get_or, All-more, IsUnsignedIn, Text, IsNumber, number_of, texts_of}
+use Rattle.command_line.proofs.Names.{greatest_number}
 
 -- what stands for a word where there is none
 abbrev pub no_word : Bor Text

@@ -1,12 +1,7 @@
 -- What the error of a parse comes to.
-use Rattle.std.proofs.Common.{◌≡◌, ◌⊎◌, inl, inr, refl, subst, sym, Bool, true, false, List}
-use Rattle.clap.specs.Words.{App, HasKind, Text, app_of, fault_of, is_simple_and_free, kind_of, subcommand_of, takes}
-use Rattle.clap.specs.declared.builder.command.Command.{Command}
-use Rattle.clap.specs.declared.error.Error.{Error}
-use Rattle.clap.specs.declared.error.kind.ErrorKind.TheVariants.{OutOfMemory, ValueValidation}
-use Rattle.command_line.specs.Commands.{eros_app}
-use Rattle.command_line.specs.Refusals.{Explains, IsFaultOf, IsRefused, AsksForSame}
-use Rattle.command_line.specs.declared.fault.JobFault.{JobFault}
+use Rattle.command_line.proofs.Names.{◌≡◌, ◌⊎◌, inl, inr, refl, subst, sym, Bool, true, false, List, App, HasKind, Text, fault_of, is_simple_and_free, kind_of}
+use Rattle.command_line.proofs.Names.{Command, Error, OutOfMemory, ValueValidation, eros_app, Explains, IsFaultOf, IsRefused, AsksForSame, JobFault}
+use Rattle.clap.specs.Words.{app_of, subcommand_of, takes}
 use Rattle.command_line.specs.declared.fault.JobFault.TheVariants as fault
 
 -- words are refused as bad ones by an error that explains it

@@ -1,24 +1,20 @@
 -- A parse that takes the words leaves each argument the values that it takes, and enters no help.
-use Rattle.std.proofs.Common.{◌≡◌, ◌<◌, ◌≤◌, ◌&&◌, ◌||◌, ℕ, zero, suc, not, is_some, refl, sym, subst, ap, ap₂, ◌∙◌, arith, List, [], ◌∷◌, ◌++◌, Bool, length, drop, true, false, Option, Some, None, true≢false}
-use Rattle.std.specs.Prelude.{⊤, cond, encode_utf8, fold, find, nat_le, nat_lt, slice_get, codes}
-use Rattle.std.specs.Option.{option_map_or}
-use Rattle.std.specs.List.{list_all, list_any}
-use Rattle.std.specs.Str.{bytes_eq, chars}
-use Rattle.std.proofs.lemmas.Bool.{eqb-true, leb-true, lt-ltb}
-use Rattle.std.proofs.lemmas.List.Folds.{list_all-append}
-use Rattle.std.proofs.lemmas.Slice.Eq.{bytes_eq-Decides}
-use Rattle.clap.specs.Lexer.{long_of, short_of}
-use Rattle.clap.specs.Values.{is_request}
-use Rattle.clap.specs.declared.builder.action.ArgAction.{ArgAction}
-use Rattle.clap.specs.declared.builder.action.ArgAction.TheVariants.{Set, Append, SetTrue, SetFalse, Count, Help, HelpShort, HelpLong, Version}
-use Rattle.clap.specs.declared.parser.matches.ValueSource.{ValueSource}
-use Rattle.clap.specs.declared.parser.matches.ValueSource.TheVariants.{CommandLine, DefaultValue}
-use Rattle.clap.specs.Facts.{explicit_source, unwrap_or_range}
-use Rattle.clap.specs.Walk.{Held, Names, Outcome, Row, Rule, Step, Text, Waiting, Walk, action_of, after_flag, after_step, arg_by_id, arg_by_index, arg_by_long, arg_by_short, at_row, attached_value, bundle, bundle_met, bundle_step, default_rows, done, finished, flag_met, has_row, idle, is_empty, is_pending, long_met, long_or_other, more_values, next, nothing_held, option, option_met, option_word, plain, plain_word, positional, positional_held, reacted, reading_by, refused, settled, settled_rows, short_met, short_or_plain, subcommand, subcommand_met, subcommand_or_other, takes_several, takes_values, to_positional, trailing, used, used_as, used_by_id, value, values_or_missing, waits, walk, walk_from, walked, walked_from, with_default, with_values, without, word_met}
-use Rattle.clap.specs.Simple.{Shape}
-use Rattle.clap.specs.Takes.{action_passes, bundle_passes, bundle_step_passes, default_passes, flag_word_passes, flags_pass, is_given, level_passes, long_passes, option_passes, other_passes, positional_passes, react_passes, settle_passes, short_passes, step_passes, use_passes, values_pass, walk_passes, word_passes}
-use Rattle.clap.proofs.WalkLemmas.{both}
-use Rattle.command_line.specs.Arguments.{is_filled, is_whole}
+use Rattle.command_line.proofs.Names.{◌≡◌, ◌<◌, ◌≤◌, ◌&&◌, ◌||◌, ℕ, zero, suc, not, is_some, refl, sym, subst, ap, ap₂, ◌∙◌, arith, List, [], ◌∷◌, ◌++◌, Bool}
+use Rattle.command_line.proofs.Names.{length, drop, true, false, Option, Some, None, true≢false, ⊤, cond, encode_utf8, fold, find, nat_le, nat_lt, slice_get}
+use Rattle.command_line.proofs.Names.{option_map_or, list_all, list_any, bytes_eq, chars, eqb-true, leb-true, lt-ltb, list_all-append, bytes_eq-Decides}
+use Rattle.command_line.proofs.Names.{long_of, short_of, is_request, ArgAction, Set, Append, SetTrue, SetFalse, Count, Help, HelpShort, HelpLong, Version}
+use Rattle.command_line.proofs.Names.{ValueSource, CommandLine, DefaultValue, explicit_source, unwrap_or_range, Held, Names, Outcome, Step, Waiting, Walk}
+use Rattle.command_line.proofs.Names.{action_of, after_flag, after_step, arg_by_id, arg_by_index, arg_by_long, arg_by_short, at_row, attached_value, bundle}
+use Rattle.command_line.proofs.Names.{bundle_met, bundle_step, default_rows, done, finished, flag_met, has_row, idle, is_empty, is_pending, long_met}
+use Rattle.command_line.proofs.Names.{long_or_other, more_values, next, nothing_held, option, option_met, option_word, plain, plain_word, positional}
+use Rattle.command_line.proofs.Names.{positional_held, reacted, reading_by, refused, settled, settled_rows, short_met, short_or_plain, subcommand}
+use Rattle.command_line.proofs.Names.{subcommand_met, subcommand_or_other, takes_several, takes_values, to_positional, trailing, used, used_as, used_by_id}
+use Rattle.command_line.proofs.Names.{value, values_or_missing, waits, walk, walk_from, walked, walked_from, with_default, with_values, without, word_met}
+use Rattle.command_line.proofs.Names.{Shape, action_passes, bundle_passes, bundle_step_passes, default_passes, flag_word_passes, flags_pass, is_given}
+use Rattle.command_line.proofs.Names.{level_passes, long_passes, option_passes, other_passes, positional_passes, react_passes, settle_passes, short_passes}
+use Rattle.command_line.proofs.Names.{step_passes, use_passes, values_pass, walk_passes, word_passes, both, is_filled, is_whole}
+use Rattle.std.specs.Prelude.{codes}
+use Rattle.clap.specs.Walk.{Row, Rule, Text}
 
 -- the values pass the parser of the argument of this name
 abbrev pub suits : List Rule → Text → List Text → Bool

@@ -1,36 +1,17 @@
 -- What a bank of a closed set is asked stays in the set.
-use Rattle.std.proofs.Common.{◌≡◌, ◌≢◌, ◌⊎◌, inl, inr, ℕ, ◌+◌, ◌==◌, ◌<◌, ◌≤◌, nat_eq, nat_lt, Bool, true, false, not, ◌&&◌, if◌then◌else◌, List, [], ◌∷◌, length, refl, sym, ap, subst, arith, ◌∙◌}
-use Rattle.std.specs.Prelude.{IsTrue, slice_index_or}
-use Rattle.std.specs.List.{range_with_len}
-use Rattle.std.proofs.lemmas.Bool.{false≢true, cases_eq, and_parts, or_cases, or_right, not-true, eqb-true, eqb-false}
-use Rattle.model.specs.declared.capability.Capability.{Capability}
-use Rattle.model.specs.declared.capability.Capability.TheVariants.{Void, Page, Node, Process, Bank}
-use Rattle.model.specs.declared.geometry.Geometry.{Geometry}
-use Rattle.model.specs.declared.object.Content.{Content}
+use Rattle.confinement.proofs.Names.{◌≡◌, ◌≢◌, ◌⊎◌, inl, inr, ℕ, ◌+◌, ◌==◌, ◌<◌, ◌≤◌, nat_eq, Bool, true, false, not, ◌&&◌, if◌then◌else◌, List, [], ◌∷◌}
+use Rattle.confinement.proofs.Names.{length, refl, sym, ap, subst, arith, ◌∙◌, IsTrue, slice_index_or, range_with_len, false≢true, cases_eq, and_parts}
+use Rattle.confinement.proofs.Names.{or_cases, or_right, not-true, eqb-true, eqb-false, Capability, Void, Page, Node, Process, Bank, Geometry, Content, Object}
+use Rattle.confinement.proofs.Names.{Arguments, BankOrder, ResultCode, chain, is_under, allocated, are_free, bank_allocated, free_nodes, free_pages, freed}
+use Rattle.confinement.proofs.Names.{freed_by, has_room, inherited, new_annex, new_node, new_page, new_root, on_bank, process_allocated, under, with_new}
+use Rattle.confinement.proofs.Names.{StaysInside, is_bank, is_free, is_root, root_in, slots_in, OrderOutcome, refused, is_member, rescind, NamesItsKind}
+use Rattle.confinement.proofs.Names.{annex_at, content_at, object_at, owner_at, chosen, tree_induction, under_found, used_where, inherited_content}
+use Rattle.confinement.proofs.Names.{inherited_object, IsTree, at_new, at_other, chain_unfolds, chain_zero, length_new, member_head, tree_of, AllDiffer}
+use Rattle.confinement.proofs.Names.{filter_once, found_in, member_cases, only_member, IsNow, holds_void, Encloses, IsKept, StaysWithin}
+use Rattle.std.proofs.Common.{nat_lt}
 use Rattle.model.specs.declared.object.Content.TheVariants as content
-use Rattle.model.specs.declared.object.Object.{Object}
-use Rattle.model.specs.declared.order.Arguments.{Arguments}
-use Rattle.model.specs.declared.order.BankOrder.{BankOrder}
 use Rattle.model.specs.declared.order.BankOrder.TheVariants as bank
-use Rattle.model.specs.declared.order.ResultCode.{ResultCode}
 use Rattle.model.specs.declared.order.ResultCode.TheVariants as code
-use Rattle.model.specs.Bank.{chain, is_under}
-use Rattle.model.specs.Banking.{allocated, are_free, bank_allocated, free_nodes, free_pages, freed, freed_by, has_room, inherited, new_annex, new_node, new_page, new_root, on_bank, process_allocated, under, with_new}
-use Rattle.model.specs.Closed.{StaysInside}
-use Rattle.model.specs.Object.{is_bank, is_free, is_root, root_in, slots_in}
-use Rattle.model.specs.OrderOutcome.{OrderOutcome, refused}
-use Rattle.model.specs.Revoke.{is_member, rescind}
-use Rattle.model.specs.Sound.{NamesItsKind}
-use Rattle.model.specs.World.{annex_at, content_at, object_at, owner_at}
-use Rattle.model_laws.proofs.Cases.{chosen}
-use Rattle.model_laws.proofs.BankFreed.{tree_induction, under_found}
-use Rattle.model_laws.proofs.BankRescind.{used_where}
-use Rattle.model_laws.proofs.BankReturn.{inherited_content, inherited_object}
-use Rattle.model_laws.proofs.BankTree.{IsTree, at_new, at_other, chain_unfolds, chain_zero, length_new, member_head, tree_of}
-use Rattle.model_laws.proofs.NumberLists.{AllDiffer, filter_once, found_in, member_cases, only_member}
-use Rattle.model_laws.proofs.SoundOrders.{IsNow}
-use Rattle.model_laws.proofs.SoundWorlds.{holds_void}
-use Rattle.confinement.specs.Confinement.{Encloses, IsKept, StaysWithin}
 use Rattle.confinement.proofs.Kept.{kept_refl, stays_refl, stays_rescind, stays_trans}
 
 -- an outcome whose objects, and the capability that it gives, stay in a set

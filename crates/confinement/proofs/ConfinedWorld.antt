@@ -1,20 +1,10 @@
 -- The world with a confined process.
-use Rattle.std.proofs.Common.{◌≡◌, ℕ, zero, suc, false, List, [], ◌∷◌, ◌++◌, refl, sym, ◌∙◌, inl, inr, ⊎_elim, arith}
-use Rattle.std.proofs.lemmas.List.Elements.{All-from_recursion}
-use Rattle.std.specs.Prelude.{All, IsTrue, replicate, slice_set}
-use Rattle.model.specs.declared.access.Access.{Access}
-use Rattle.model.specs.declared.capability.Capability.TheVariants.{Void, Node, Bank}
+use Rattle.confinement.proofs.Names.{◌≡◌, ℕ, zero, suc, false, List, [], ◌∷◌, ◌++◌, refl, sym, ◌∙◌, inl, inr, ⊎_elim, arith, All-from_recursion, All, IsTrue}
+use Rattle.confinement.proofs.Names.{replicate, slice_set, Access, Void, Node, Bank, Object, full, weak, StaysInside, all_slots, free, is_bank, is_free}
+use Rattle.confinement.proofs.Names.{zero_words, annex_at, content_at, is_process, owner_at, root_at, slot_at, with_content, with_slot, of_prime_bank, c0}
+use Rattle.confinement.proofs.Names.{confined, rows, ConfinedIsClosed, OutwardIsNotClosed, Each, each_after, each_at, holds_set, holds_void, IsRight, machine}
+use Rattle.confinement.proofs.Names.{rows_hold, IsRow}
 use Rattle.model.specs.declared.object.Content.TheVariants as content
-use Rattle.model.specs.declared.object.Object.{Object}
-use Rattle.model.specs.Capability.{full, weak}
-use Rattle.model.specs.Closed.{StaysInside}
-use Rattle.model.specs.Object.{all_slots, free, is_bank, is_free, zero_words}
-use Rattle.model.specs.World.{annex_at, content_at, is_process, owner_at, root_at, slot_at, with_content, with_slot}
-use Rattle.model.specs.Worlds.{of_prime_bank}
-use Rattle.confinement.specs.Worked.{c0, confined, rows, ConfinedIsClosed, OutwardIsNotClosed}
-use Rattle.model_laws.proofs.SoundWorlds.{Each, each_after, each_at, holds_set, holds_void}
-use Rattle.model_laws.proofs.Rows.{IsRight, machine, rows_hold}
-use Rattle.model_laws.specs.Worked.{IsRow}
 
 -- what holds of each member
 members : (P : ℕ → Type 0) → P 3 → P 4 → P 6 → (n : ℕ) → IsTrue (confined n) → P n

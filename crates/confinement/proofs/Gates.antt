@@ -1,32 +1,11 @@
 -- Invocations by a process of a set that encloses its members.
-use Rattle.std.proofs.Common.{◌≡◌, inl, inr, ℕ, zero, suc, Bool, Some, List, [], ◌∷◌, map, ◌∙◌}
-use Rattle.std.specs.Prelude.{IsTrue, slice_index, slice_index_or, slice_set}
-use Rattle.std.proofs.lemmas.Bool.{and_parts}
-use Rattle.model.specs.declared.capability.Capability.{Capability}
-use Rattle.model.specs.declared.capability.Capability.TheVariants.{Void, Resume}
-use Rattle.model.specs.declared.command.Invocation.{Invocation}
-use Rattle.model.specs.declared.command.Message.{Message}
-use Rattle.model.specs.declared.command.Operation.{Operation}
-use Rattle.model.specs.declared.command.Operation.TheVariants.{Call}
-use Rattle.model.specs.declared.geometry.Geometry.{Geometry}
-use Rattle.model.specs.declared.object.Object.{Object}
-use Rattle.model.specs.declared.object.Root.{Root}
-use Rattle.model.specs.declared.object.State.{State}
-use Rattle.model.specs.declared.object.State.TheVariants.{Running}
-use Rattle.model.specs.Closed.{StaysInside}
-use Rattle.model.specs.Invoke.{Effect, after_gate, after_order, deliver, invoke, on_kernel_object, ordered, replied, reply_of, sent_by, sent_to_gate, through_gate}
-use Rattle.model.specs.Object.{is_running}
-use Rattle.model.specs.OrderOutcome.{OrderOutcome}
-use Rattle.model.specs.Revoke.{consume}
-use Rattle.model.specs.World.{annex_at, is_process, is_running_process, register_at, root_at, with_root, with_slots_from, with_state}
-use Rattle.model_laws.proofs.Cases.{after_gate_by, after_order_by, invoked_by, replied_by}
-use Rattle.model_laws.proofs.SoundWorlds.{holds_replicate}
-use Rattle.model_laws.proofs.SoundEdits.{at_set}
-use Rattle.model_laws.proofs.SoundGates.{IsAfter, after_state, held_sent}
-use Rattle.model_laws.proofs.SoundOrders.{IsNow}
-use Rattle.model_laws.proofs.SoundParts.{IsHeld, Waits, held_on, held_to, nearly_from, state_at}
-use Rattle.model_laws.proofs.Usage.{frame_refl, tests_at}
-use Rattle.confinement.specs.Confinement.{Encloses, InvocationIsConfined, StaysWithin}
+use Rattle.confinement.proofs.Names.{◌≡◌, inl, inr, ℕ, zero, suc, Bool, Some, List, [], ◌∷◌, map, ◌∙◌, IsTrue, slice_index, slice_index_or, slice_set}
+use Rattle.confinement.proofs.Names.{and_parts, Capability, Void, Resume, Invocation, Message, Operation, Call, Geometry, Object, Root, State, Running}
+use Rattle.confinement.proofs.Names.{StaysInside, Effect, after_gate, after_order, deliver, invoke, on_kernel_object, ordered, replied, reply_of, sent_by}
+use Rattle.confinement.proofs.Names.{sent_to_gate, through_gate, is_running, OrderOutcome, consume, annex_at, is_process, is_running_process, register_at}
+use Rattle.confinement.proofs.Names.{root_at, with_root, with_slots_from, with_state, after_gate_by, after_order_by, invoked_by, replied_by, holds_replicate}
+use Rattle.confinement.proofs.Names.{at_set, IsAfter, after_state, held_sent, IsNow, IsHeld, Waits, held_on, held_to, nearly_from, state_at, frame_refl}
+use Rattle.confinement.proofs.Names.{tests_at, Encloses, InvocationIsConfined, StaysWithin}
 use Rattle.confinement.proofs.Kept.{stays_consume, stays_refl, stays_root, stays_slots, stays_state, stays_trans}
 use Rattle.confinement.proofs.Banks.{OutcomeStays}
 use Rattle.confinement.proofs.Orders.{order_stays, strong}

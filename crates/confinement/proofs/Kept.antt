@@ -1,24 +1,11 @@
 -- From some objects to others while everything outside a set is kept.
-use Rattle.std.proofs.Common.{◌≡◌, ◌⊎◌, inl, inr, ℕ, suc, ◌+◌, Bool, true, false, ◌||◌, if◌then◌else◌, Option, None, Some, List, [], ◌∷◌, map, refl, sym, ap, subst, ◌∙◌}
-use Rattle.std.specs.Prelude.{IsTrue, slice_index_or}
-use Rattle.std.proofs.lemmas.Bool.{eqb-true, or_cases}
-use Rattle.model.specs.declared.capability.Capability.{Capability}
-use Rattle.model.specs.declared.capability.Capability.TheVariants.{Void, Resume}
-use Rattle.model.specs.declared.object.Content.{Content}
+use Rattle.confinement.proofs.Names.{◌≡◌, ◌⊎◌, inl, inr, ℕ, suc, ◌+◌, Bool, true, false, ◌||◌, if◌then◌else◌, Option, None, Some, List, [], ◌∷◌, map, refl, sym}
+use Rattle.confinement.proofs.Names.{ap, subst, ◌∙◌, IsTrue, slice_index_or, eqb-true, or_cases, Capability, Void, Resume, Content, Object, Root, State, named}
+use Rattle.confinement.proofs.Names.{StaysInside, free, is_bank, is_free, is_root, map_content, root_in, slots_in, with_slot_in, with_word_in, consume}
+use Rattle.confinement.proofs.Names.{is_member, names_member, rescind, resumes, void_where, without, content_at, is_process, object_at, owner_at, root_at}
+use Rattle.confinement.proofs.Names.{with_content, with_root, with_slot, with_slots_from, with_state, with_word, chosen, one_of, at_rescind, void_void}
+use Rattle.confinement.proofs.Names.{without_mapped, at_content, at_set, object_consume, Encloses, IsKept, NamesInside, StaysWithin}
 use Rattle.model.specs.declared.object.Content.TheVariants as content
-use Rattle.model.specs.declared.object.Object.{Object}
-use Rattle.model.specs.declared.object.Root.{Root}
-use Rattle.model.specs.declared.object.State.{State}
-use Rattle.model.specs.Capability.{named}
-use Rattle.model.specs.Closed.{StaysInside}
-use Rattle.model.specs.Object.{free, is_bank, is_free, is_root, map_content, root_in, slots_in, with_slot_in, with_word_in}
-use Rattle.model.specs.Revoke.{consume, is_member, names_member, rescind, resumes, void_where, without}
-use Rattle.model.specs.World.{content_at, is_process, object_at, owner_at, root_at, with_content, with_root, with_slot, with_slots_from, with_state, with_word}
-use Rattle.model_laws.proofs.Cases.{chosen, one_of}
-use Rattle.model_laws.proofs.Revoking.{at_rescind}
-use Rattle.model_laws.proofs.Mapped.{void_void, without_mapped}
-use Rattle.model_laws.proofs.SoundEdits.{at_content, at_set, object_consume}
-use Rattle.confinement.specs.Confinement.{Encloses, IsKept, NamesInside, StaysWithin}
 
 -- a content that may stand at a member of a set: it makes no bank of what was none
 pub record MayStand (inside : ℕ → Bool) (os : List Object) (n : ℕ) (c : Content Capability) : Type 0 where

@@ -1,3 +1,4 @@
+mod Names
 mod Banks
 mod ConfinedWorld
 mod Gates

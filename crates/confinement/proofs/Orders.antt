@@ -1,32 +1,13 @@
 -- Orders on what stays inside a set that encloses its members.
-use Rattle.std.proofs.Common.{◌≡◌, ◌⊎◌, inl, inr, ℕ, ◌==◌, Bool, true, false, not, ◌||◌, List, refl, arith}
-use Rattle.std.specs.Prelude.{IsTrue, nat_lt, bit_or}
-use Rattle.std.proofs.lemmas.Bool.{eqb-true, eqb-false, or_cases, not-false}
-use Rattle.model.specs.declared.access.Access.{Access}
-use Rattle.model.specs.declared.capability.Capability.{Capability}
-use Rattle.model.specs.declared.capability.Capability.TheVariants.{Void, Number, Page, Node, Space, Process, Start, Bank, Discrim}
-use Rattle.model.specs.declared.geometry.Geometry.{Geometry}
-use Rattle.model.specs.declared.object.Object.{Object}
-use Rattle.model.specs.declared.object.State.{State}
-use Rattle.model.specs.declared.object.State.TheVariants.{Available, Running}
-use Rattle.model.specs.declared.order.Arguments.{Arguments}
-use Rattle.model.specs.declared.order.NodeOrder.{NodeOrder}
+use Rattle.confinement.proofs.Names.{◌≡◌, ◌⊎◌, inl, inr, ℕ, ◌==◌, Bool, true, false, not, ◌||◌, List, refl, arith, IsTrue, nat_lt, bit_or, eqb-true, eqb-false}
+use Rattle.confinement.proofs.Names.{or_cases, not-false, Access, Capability, Void, Number, Page, Node, Space, Process, Start, Bank, Discrim, Geometry, Object}
+use Rattle.confinement.proofs.Names.{State, Available, Running, Arguments, NodeOrder, PageOrder, ProcessOrder, on_bank, IsWeak, diminished, union, StaysInside}
+use Rattle.confinement.proofs.Names.{bank_order, fetched, is_space, node_order, on_node, on_page, on_process, order, page_order, process_order, reduces, stored}
+use Rattle.confinement.proofs.Names.{with_root_word, with_space, consume, NamesItsKind, annex_at, is_process, root_at, slot_at, with_state, chosen, found_or}
+use Rattle.confinement.proofs.Names.{IsNow, IsHeld, Waits, Encloses, StaysWithin}
 use Rattle.model.specs.declared.order.NodeOrder.TheVariants as node
-use Rattle.model.specs.declared.order.PageOrder.{PageOrder}
 use Rattle.model.specs.declared.order.PageOrder.TheVariants as page
-use Rattle.model.specs.declared.order.ProcessOrder.{ProcessOrder}
 use Rattle.model.specs.declared.order.ProcessOrder.TheVariants as process
-use Rattle.model.specs.Banking.{on_bank}
-use Rattle.model.specs.Capability.{IsWeak, diminished, union}
-use Rattle.model.specs.Closed.{StaysInside}
-use Rattle.model.specs.Order.{bank_order, fetched, is_space, node_order, on_node, on_page, on_process, order, page_order, process_order, reduces, stored, with_root_word, with_space}
-use Rattle.model.specs.Revoke.{consume}
-use Rattle.model.specs.Sound.{NamesItsKind}
-use Rattle.model.specs.World.{annex_at, is_process, root_at, slot_at, with_state}
-use Rattle.model_laws.proofs.Cases.{chosen, found_or}
-use Rattle.model_laws.proofs.SoundOrders.{IsNow}
-use Rattle.model_laws.proofs.SoundParts.{IsHeld, Waits}
-use Rattle.confinement.specs.Confinement.{Encloses, StaysWithin}
 use Rattle.confinement.proofs.Banks.{OutcomeStays, bank_stays}
 use Rattle.confinement.proofs.Kept.{stays_consume, stays_refl, stays_root, stays_slot, stays_state, stays_trans, stays_word}
 

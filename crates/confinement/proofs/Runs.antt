@@ -1,44 +1,20 @@
 -- Runs by processes of a closed set: each step stays in the set, with what was free.
-use Rattle.std.proofs.Common.{◌≡◌, ◌⊎◌, inl, inr, ℕ, suc, ◌+◌, ◌/◌, ◌%◌, ◌^◌, ◌==◌, ◌<◌, ◌≤◌, Bool, true, false, ◌&&◌, if◌then◌else◌, Option, None, Some, Result, Ok, Err, List, [], ◌∷◌, map, refl, sym, ap, subst, arith, ◌∙◌}
-use Rattle.std.specs.Prelude.{IsTrue, nat_lt, bit_or, slice_index_or}
-use Rattle.std.proofs.lemmas.Bool.{and_parts, eqb-true, ltb-true, or_cases, or_left, or_right}
-use Rattle.std.proofs.lemmas.List.Elements.{All-head, All-tail}
-use Rattle.std.proofs.lemmas.Nat.{le_or_l, le_or_r}
-use Rattle.model.specs.declared.access.Access.{Access}
-use Rattle.model.specs.declared.answer.Answer.{Answer}
+use Rattle.confinement.proofs.Names.{◌≡◌, ◌⊎◌, inl, inr, ℕ, suc, ◌+◌, ◌/◌, ◌%◌, ◌^◌, ◌==◌, ◌<◌, ◌≤◌, Bool, true, false, ◌&&◌, if◌then◌else◌, Option, None, Some}
+use Rattle.confinement.proofs.Names.{Result, Ok, Err, List, [], ◌∷◌, map, refl, sym, ap, subst, arith, ◌∙◌, IsTrue, nat_lt, bit_or, slice_index_or, and_parts}
+use Rattle.confinement.proofs.Names.{eqb-true, ltb-true, or_cases, or_left, or_right, All-head, All-tail, le_or_l, le_or_r, Access, Answer, MemoryFault}
+use Rattle.confinement.proofs.Names.{Malformed, ReadOnly, Refusal, Capability, Void, Number, Page, Node, Space, Process, Start, Resume, Bank, Discrim, Command}
+use Rattle.confinement.proofs.Names.{Invocation, Geometry, Line, Content, Object, named, union, IsClosed, StaysInside, Effect, invoke, Machine, Saved, Up, Down}
+use Rattle.confinement.proofs.Names.{renewing, is_bank, is_free, is_node, is_page, is_root, is_waiting, map_content, root_in, slots_in, void_where, IsRun}
+use Rattle.confinement.proofs.Names.{IsTurn, Replies, Turn, IsSound, NamesItsKind, Answers, Outcome, Step, carried_out, outcome, reached, refusal_of, opens}
+use Rattle.confinement.proofs.Names.{without_memory, writable, writing, Fits, Says, below, path, restricted, walk, walk_along, content_at, is_running_process}
+use Rattle.confinement.proofs.Names.{object_at, owner_at, root_at, slot_at, with_word, word_at, used_where, unless_passes, edited_word, invocation_keeps, Waits}
+use Rattle.confinement.proofs.Names.{nearly_from, nearly_to, nearly_weaken, AreBy, Encloses, InvocationIsConfined, IsBy, IsKept, IsLineBy, NamesInside}
+use Rattle.confinement.proofs.Names.{RunIsConfined, StaysWithin, with_free}
+use Rattle.model.specs.Machine.{Running}
 use Rattle.model.specs.declared.answer.Answer.TheVariants as answer
-use Rattle.model.specs.declared.answer.MemoryFault.{MemoryFault}
-use Rattle.model.specs.declared.answer.MemoryFault.TheVariants.{Malformed, ReadOnly}
-use Rattle.model.specs.declared.answer.Refusal.{Refusal}
-use Rattle.model.specs.declared.capability.Capability.{Capability}
-use Rattle.model.specs.declared.capability.Capability.TheVariants.{Void, Number, Page, Node, Space, Process, Start, Resume, Bank, Discrim}
-use Rattle.model.specs.declared.command.Command.{Command}
 use Rattle.model.specs.declared.command.Command.TheVariants as command
-use Rattle.model.specs.declared.command.Invocation.{Invocation}
-use Rattle.model.specs.declared.geometry.Geometry.{Geometry}
-use Rattle.model.specs.declared.line.Line.{Line}
 use Rattle.model.specs.declared.line.Line.TheVariants as line
-use Rattle.model.specs.declared.object.Content.{Content}
 use Rattle.model.specs.declared.object.Content.TheVariants as content
-use Rattle.model.specs.declared.object.Object.{Object}
-use Rattle.model.specs.Capability.{named, union}
-use Rattle.model.specs.Closed.{IsClosed, StaysInside}
-use Rattle.model.specs.Invoke.{Effect, invoke}
-use Rattle.model.specs.Machine.{Machine, Running, Saved, Up, Down, renewing}
-use Rattle.model.specs.Object.{is_bank, is_free, is_node, is_page, is_root, is_waiting, map_content, root_in, slots_in}
-use Rattle.model.specs.Revoke.{void_where}
-use Rattle.model.specs.Run.{IsRun, IsTurn, Replies, Turn}
-use Rattle.model.specs.Sound.{IsSound, NamesItsKind}
-use Rattle.model.specs.Step.{Answers, Outcome, Step, carried_out, outcome, reached, refusal_of, opens, without_memory, writable, writing}
-use Rattle.model.specs.Text.{Fits, Says}
-use Rattle.model.specs.Walk.{below, path, restricted, walk, walk_along}
-use Rattle.model.specs.World.{content_at, is_running_process, object_at, owner_at, root_at, slot_at, with_word, word_at}
-use Rattle.model_laws.proofs.BankRescind.{used_where}
-use Rattle.model_laws.proofs.Journaling.{unless_passes}
-use Rattle.model_laws.proofs.SoundEdits.{edited_word}
-use Rattle.model_laws.proofs.SoundGates.{invocation_keeps}
-use Rattle.model_laws.proofs.SoundParts.{Waits, nearly_from, nearly_to, nearly_weaken}
-use Rattle.confinement.specs.Confinement.{AreBy, Encloses, InvocationIsConfined, IsBy, IsKept, IsLineBy, NamesInside, RunIsConfined, StaysWithin, with_free}
 use Rattle.confinement.proofs.Gates.{invocation_confined}
 use Rattle.confinement.proofs.Kept.{stays_refl, stays_trans, stays_word}
 

@@ -1,15 +1,9 @@
 -- Why banks aren't a tree that owns all objects within their limits.
-use Rattle.std.proofs.Common.{◌≡◌, ◌≢◌, ℕ, ◌<◌, ◌≤◌, Bool, false, true, List, slice_index, refl, sym, ◌∙◌, subst, arith}
-use Rattle.std.specs.Prelude.{IsTrue, ◌↔◌, MatchOption, Option, None, Some}
-use Rattle.std.specs.List.{Contains}
-use Rattle.model.specs.declared.frame.Frame.{Frame}
-use Rattle.model.specs.declared.object.Role.{Role}
+use Rattle.consistency.proofs.Names.{◌≡◌, ◌≢◌, ℕ, ◌<◌, ◌≤◌, Bool, false, true, List, slice_index, refl, sym, ◌∙◌, subst, arith, IsTrue, MatchOption, Contains}
+use Rattle.consistency.proofs.Names.{Frame, Role, chain, objects_of, Unbanked, AreBanked, IsUnbanked, owner_of, role_at}
+use Rattle.std.specs.Prelude.{◌↔◌, Option, None, Some}
 use Rattle.model.specs.declared.object.Role.TheVariants as role
-use Rattle.model.specs.Bank.{chain}
-use Rattle.model.specs.Frame.{objects_of}
-use Rattle.consistency.specs.declared.reason.Unbanked.{Unbanked}
 use Rattle.consistency.specs.declared.reason.Unbanked.TheVariants as bank
-use Rattle.consistency.specs.Consistency.{AreBanked, IsUnbanked, owner_of, role_at}
 
 -- what isn't so where a test fails
 pub refuted : (b : Bool) (P : Type 0) → (IsTrue b ↔ P) → b ≡ false → P → ⊥

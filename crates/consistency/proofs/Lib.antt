@@ -1,3 +1,4 @@
+mod Names
 pub mod Looking
 pub mod Named
 pub mod Notes

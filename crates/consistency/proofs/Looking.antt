@@ -1,6 +1,5 @@
 -- Frames that were looked at.
-use Rattle.std.proofs.Common.{◌≡◌}
-use Rattle.capability.specs.Parts.{LooksUp, Parts}
+use Rattle.consistency.proofs.Names.{◌≡◌, LooksUp, Parts}
 
 module _ {S : Type 0} (parts : S → Parts) (Leads : S → S → Type 0) where
   -- frames were looked at, and the device didn't fail

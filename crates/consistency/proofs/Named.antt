@@ -1,23 +1,9 @@
 -- What objects hold, and whether it is named.
-use Rattle.std.proofs.Common.{◌≡◌, ◌+◌, ◌↔◌, ℕ, ◌<◌, ◌≤◌, inl, inr, Bool, true, List, [], ◌∷◌, length, slice_index_or, refl, sym, ap, ◌∙◌, subst, arith}
-use Rattle.std.specs.Prelude.{IsTrue, nat_lt}
-use Rattle.std.specs.List.{All}
-use Rattle.std.proofs.lemmas.Bool.{cases_lt, lt-ltb, ltb-true}
-use Rattle.std.proofs.lemmas.List.{get_or_default}
-use Rattle.std.proofs.lemmas.List.Elements.{All-from_get_or}
-use Rattle.model.specs.declared.capability.Cap.{Cap}
-use Rattle.model.specs.declared.frame.Frame.{Frame}
-use Rattle.model.specs.declared.frame.ObjectHeader.{ObjectHeader}
-use Rattle.model.specs.declared.object.Content.{Content}
+use Rattle.consistency.proofs.Names.{◌≡◌, ◌+◌, ◌↔◌, ℕ, ◌<◌, ◌≤◌, inl, inr, Bool, true, List, [], ◌∷◌, length, slice_index_or, refl, sym, ap, ◌∙◌, subst, arith}
+use Rattle.consistency.proofs.Names.{IsTrue, nat_lt, All, cases_lt, lt-ltb, ltb-true, get_or_default, All-from_get_or, Cap, Frame, ObjectHeader, Content, Role}
+use Rattle.consistency.proofs.Names.{Root, current_count, frame_at, headers, caps_in, role_of, Parts, frames_of, AreNamed, IsNamed, NamesItsRole}
 use Rattle.model.specs.declared.object.Content.TheVariants as content
-use Rattle.model.specs.declared.object.Role.{Role}
 use Rattle.model.specs.declared.object.Role.TheVariants as role
-use Rattle.model.specs.declared.object.Root.{Root}
-use Rattle.model.specs.Frame.{current_count, frame_at, headers}
-use Rattle.model.specs.Keepable.{caps_in}
-use Rattle.model.specs.Object.{role_of}
-use Rattle.capability.specs.Parts.{Parts, frames_of}
-use Rattle.consistency.specs.Consistency.{AreNamed, IsNamed, NamesItsRole}
 use Rattle.consistency.proofs.Tables.{frame_beyond, table_read}
 
 -- one capability, by its count

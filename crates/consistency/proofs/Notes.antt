@@ -1,15 +1,7 @@
 -- What is noted of roots.
-use Rattle.std.proofs.Common.{◌≡◌, ℕ, ◌<◌, inl, inr, List, Option, None, Some, length, refl, sym, ap, ◌∙◌, arith}
-use Rattle.std.proofs.lemmas.Bool.{cases_lt}
-use Rattle.std.proofs.lemmas.List.{get_or_past}
-use Rattle.model.specs.declared.frame.Frame.{Frame}
-use Rattle.model.specs.declared.object.Content.{Content}
+use Rattle.consistency.proofs.Names.{◌≡◌, ℕ, ◌<◌, inl, inr, List, Option, None, Some, length, refl, sym, ap, ◌∙◌, arith, cases_lt, get_or_past, Frame, Content}
+use Rattle.consistency.proofs.Names.{Root, blank_frame, frame_at, Noted, IsRootOf, annex_in, AreNoted, note_at, noted_in}
 use Rattle.model.specs.declared.object.Content.TheVariants as content
-use Rattle.model.specs.declared.object.Root.{Root}
-use Rattle.model.specs.Frame.{blank_frame, frame_at}
-use Rattle.consistency.specs.declared.processes.Noted.{Noted}
-use Rattle.consistency.specs.Consistency.{IsRootOf, annex_in}
-use Rattle.consistency.specs.Noted.{AreNoted, note_at, noted_in}
 
 -- what is no root is not noted
 pub unnoted : {C : Type 0} (c : Content C) → ((x : Root C) → c ≡ content.Root x → ⊥) → noted_in c ≡ None

@@ -1,29 +1,11 @@
 -- Consistent frames are sound, part by part.
-use Rattle.std.proofs.Common.{◌≡◌, ℕ, ◌^◌, ◌<◌, ◌≤◌, inl, inr, Bool, true, false, List, map, length, slice_index, slice_index_or, refl, sym, ap, ◌∙◌, subst, arith}
-use Rattle.std.specs.Prelude.{nat_lt, if◌then◌else◌}
-use Rattle.std.specs.List.{All}
-use Rattle.std.proofs.Math.ListN.{get_or-map}
-use Rattle.std.proofs.lemmas.Bool.{cases_lt, ltb-false}
-use Rattle.std.proofs.lemmas.List.{get_or_past, length-map}
-use Rattle.model.specs.declared.capability.Cap.{Cap}
-use Rattle.model.specs.declared.capability.Capability.{Capability}
-use Rattle.model.specs.declared.capability.Capability.TheVariants.{Void, Number, Page, Node, Space, Process, Start, Resume, Bank, Discrim}
-use Rattle.model.specs.declared.frame.Frame.{Frame}
-use Rattle.model.specs.declared.geometry.Geometry.{Geometry}
-use Rattle.model.specs.declared.object.Content.{Content}
+use Rattle.consistency.proofs.Names.{◌≡◌, ℕ, ◌^◌, ◌<◌, ◌≤◌, inl, inr, Bool, true, false, List, map, length, slice_index, slice_index_or, refl, sym, ap, ◌∙◌}
+use Rattle.consistency.proofs.Names.{subst, arith, nat_lt, if◌then◌else◌, All, get_or-map, cases_lt, ltb-false, get_or_past, length-map, Cap, Capability, Void}
+use Rattle.consistency.proofs.Names.{Number, Page, Node, Space, Process, Start, Resume, Bank, Discrim, Frame, Geometry, Content, IsWellFormed, blank_frame}
+use Rattle.consistency.proofs.Names.{conveyed, current_count, frame_at, headers, objects_of, void_held, AreKeepable, Follows, IsKeepable, IsKeptCap, MayBeKept}
+use Rattle.consistency.proofs.Names.{caps_in, map_content, IsSpace, MayBeHeld, object_count, annex_at, IsFilled, IsFramed, IsHeld, Waits, held_from, held_void}
+use Rattle.consistency.proofs.Names.{nearly_to, HaveTheirRoles, keepable_roles, AreBanked, AreWholeProcesses, IsNamed, ConsistentIsSound, kind_map}
 use Rattle.model.specs.declared.object.Content.TheVariants as content
-use Rattle.model.specs.Capability.{IsWellFormed}
-use Rattle.model.specs.Frame.{blank_frame, conveyed, current_count, frame_at, headers, objects_of, void_held}
-use Rattle.model.specs.Keepable.{AreKeepable, Follows, IsKeepable, IsKeptCap, MayBeKept, caps_in}
-use Rattle.model.specs.Object.{map_content}
-use Rattle.model.specs.Sound.{IsSpace, MayBeHeld, object_count}
-use Rattle.model.specs.World.{annex_at}
-use Rattle.model_laws.proofs.SoundParts.{IsFilled, IsFramed, IsHeld, Waits, held_from, held_void, nearly_to}
-use Rattle.capability.specs.Parts.{HaveTheirRoles}
-use Rattle.capability.proofs.Keeping.{keepable_roles}
-use Rattle.consistency.specs.Consistency.{AreBanked, AreWholeProcesses, IsNamed}
-use Rattle.consistency.specs.Laws.{ConsistentIsSound}
-use Rattle.capability.proofs.Mapped.{kind_map}
 use Rattle.consistency.proofs.Standing.{annex_role, bank_role, content_is, free_role, length_is, limit_is, names_kind, owner_is, process_of, role_annex, role_bank, role_free, root_of}
 
 -- what follows of a capability that is kept

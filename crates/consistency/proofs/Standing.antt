@@ -1,26 +1,12 @@
 -- What stands at a number, of frames and of the objects that they stand for.
-use Rattle.std.proofs.Common.{◌≡◌, ◌==◌, ℕ, zero, suc, Bool, true, List, Option, Some, length, refl, sym, ap, ◌∙◌}
-use Rattle.std.specs.Prelude.{IsTrue}
-use Rattle.std.proofs.Math.ListN.{get_or-map}
-use Rattle.std.proofs.lemmas.Bool.{eqb-true}
-use Rattle.std.proofs.lemmas.List.{length-map}
-use Rattle.model.specs.declared.capability.Cap.{Cap}
-use Rattle.model.specs.declared.capability.Capability.{Capability}
-use Rattle.model.specs.declared.capability.Capability.TheVariants.{Void, Number, Page, Node, Space, Process, Start, Resume, Bank, Discrim}
-use Rattle.model.specs.declared.frame.Frame.{Frame}
-use Rattle.model.specs.declared.geometry.Geometry.{Geometry}
-use Rattle.model.specs.declared.object.Content.{Content}
+use Rattle.consistency.proofs.Names.{◌≡◌, ◌==◌, ℕ, zero, suc, Bool, true, List, Option, Some, length, refl, sym, ap, ◌∙◌, IsTrue, get_or-map, eqb-true}
+use Rattle.consistency.proofs.Names.{length-map, Cap, Capability, Void, Number, Page, Node, Space, Process, Start, Resume, Bank, Discrim, Frame, Geometry}
+use Rattle.consistency.proofs.Names.{Content, Object, Role, blank_frame, conveyed, frame_at, header_at, headers, object_of, objects_of, is_annex, is_bank}
+use Rattle.consistency.proofs.Names.{is_free, is_node, is_page, is_root, is_waiting, limit_in, map_content, role_number, role_of, root_in, IsOfKind}
+use Rattle.consistency.proofs.Names.{NamesItsKind, annex_at, content_at, is_process, owner_at, root_at, HaveTheirRoles, mapped, IsRootOf, NamesItsRole}
+use Rattle.consistency.proofs.Names.{annex_in, is_waiting_root, owner_of, role_at}
 use Rattle.model.specs.declared.object.Content.TheVariants as content
-use Rattle.model.specs.declared.object.Object.{Object}
-use Rattle.model.specs.declared.object.Role.{Role}
 use Rattle.model.specs.declared.object.Role.TheVariants as role
-use Rattle.model.specs.Frame.{blank_frame, conveyed, frame_at, header_at, headers, object_of, objects_of}
-use Rattle.model.specs.Object.{is_annex, is_bank, is_free, is_node, is_page, is_root, is_waiting, limit_in, map_content, role_number, role_of, root_in}
-use Rattle.model.specs.Sound.{IsOfKind, NamesItsKind}
-use Rattle.model.specs.World.{annex_at, content_at, is_process, owner_at, root_at}
-use Rattle.capability.specs.Parts.{HaveTheirRoles}
-use Rattle.capability.proofs.Mapped.{mapped}
-use Rattle.consistency.specs.Consistency.{IsRootOf, NamesItsRole, annex_in, is_waiting_root, owner_of, role_at}
 
 -- the header, the content and the owner at a number
 pub header_is : (fs : List Frame) (n : ℕ) → header_at (headers fs) n ≡ (frame_at fs n).header

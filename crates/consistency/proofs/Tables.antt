@@ -1,16 +1,7 @@
 -- What the table of headers and the contents at hand tell of frames.
-use Rattle.std.proofs.Common.{◌≡◌, ℕ, ◌<◌, ◌≤◌, inl, inr, List, length, sym, ap, ◌∙◌, arith}
-use Rattle.std.proofs.lemmas.Bool.{cases_lt}
-use Rattle.std.proofs.lemmas.List.{get_or_past}
-use Rattle.model.specs.declared.capability.Cap.{Cap}
-use Rattle.model.specs.declared.frame.Frame.{Frame}
-use Rattle.model.specs.declared.frame.ObjectHeader.{ObjectHeader}
-use Rattle.model.specs.declared.object.Content.{Content}
+use Rattle.consistency.proofs.Names.{◌≡◌, ℕ, ◌<◌, ◌≤◌, inl, inr, List, length, sym, ap, ◌∙◌, arith, cases_lt, get_or_past, Cap, Frame, ObjectHeader, Content}
+use Rattle.consistency.proofs.Names.{blank_frame, frame_at, frames_in, header_at, headers, held_at, Parts, frames_of, frame_in, headers_in, length_in, role_at}
 use Rattle.model.specs.declared.object.Role.TheVariants as role
-use Rattle.model.specs.Frame.{blank_frame, frame_at, frames_in, header_at, headers, held_at}
-use Rattle.capability.specs.Parts.{Parts, frames_of}
-use Rattle.capability.proofs.Frames.{frame_in, headers_in, length_in}
-use Rattle.consistency.specs.Consistency.{role_at}
 use Rattle.consistency.proofs.Standing.{header_is}
 
 -- a header that was read

@@ -1,25 +1,12 @@
 -- Banks: their tree, their chains and their limits.
-use Rattle.std.proofs.Common.{◌≡◌, ◌≢◌, ◌↔◌, ℕ, zero, suc, ◌<◌, ◌≤◌, Bool, true, false, ◌||◌, List, [], ◌∷◌, length, map, slice_index, slice_index_or, zero-add, refl, sym, ap, ◌∙◌, arith}
-use Rattle.std.specs.Prelude.{IsTrue, MatchOption, None, Option, Some, nat_eq}
-use Rattle.std.specs.List.{Contains, list_any, range_with_len}
-use Rattle.std.proofs.lemmas.Bool.{eqb-true, eq-eqb}
-use Rattle.std.proofs.lemmas.List.FromFn.{get_or-map-range_with_len, length-map-range_with_len}
-use Rattle.std.proofs.lemmas.Map.Views.{Contains-from_any}
-use Rattle.model.specs.declared.frame.Frame.{Frame}
-use Rattle.model.specs.declared.frame.ObjectHeader.{ObjectHeader}
-use Rattle.model.specs.declared.geometry.Geometry.{Geometry}
+use Rattle.consistency.proofs.Names.{◌≡◌, ◌≢◌, ◌↔◌, ℕ, zero, suc, ◌<◌, ◌≤◌, Bool, true, false, ◌||◌, List, [], ◌∷◌, length, map, slice_index, slice_index_or}
+use Rattle.consistency.proofs.Names.{zero-add, refl, sym, ap, ◌∙◌, arith, IsTrue, MatchOption, nat_eq, Contains, list_any, range_with_len, eqb-true, eq-eqb}
+use Rattle.consistency.proofs.Names.{get_or-map-range_with_len, length-map-range_with_len, Contains-from_any, Frame, ObjectHeader, Geometry, chain, usage}
+use Rattle.consistency.proofs.Names.{frame_at, objects_of, AreKeepable, is_bank, limit_in, content_at, IsTree, HaveTheirRoles, Parts, frames_of, objects_in}
+use Rattle.consistency.proofs.Names.{keepable_roles, Unbanked, AreLimited, AreOwned, IsAboveLimit, IsUnbanked, owner_of, role_at}
+use Rattle.std.specs.Prelude.{None, Option, Some}
 use Rattle.model.specs.declared.object.Role.TheVariants as role
-use Rattle.model.specs.Bank.{chain, usage}
-use Rattle.model.specs.Frame.{frame_at, objects_of}
-use Rattle.model.specs.Keepable.{AreKeepable}
-use Rattle.model.specs.Object.{is_bank, limit_in}
-use Rattle.model.specs.World.{content_at}
-use Rattle.model_laws.proofs.BankTree.{IsTree}
-use Rattle.capability.specs.Parts.{HaveTheirRoles, Parts, frames_of, objects_in}
-use Rattle.capability.proofs.Keeping.{keepable_roles}
-use Rattle.consistency.specs.declared.reason.Unbanked.{Unbanked}
 use Rattle.consistency.specs.declared.reason.Unbanked.TheVariants as why
-use Rattle.consistency.specs.Consistency.{AreLimited, AreOwned, IsAboveLimit, IsUnbanked, owner_of, role_at}
 use Rattle.consistency.proofs.Sound.{kept_at}
 use Rattle.consistency.proofs.Standing.{bank_role, free_role, limit_is, owner_is, role_bank, role_free}
 use Rattle.consistency.proofs.Tables.{bank_known, role_known}

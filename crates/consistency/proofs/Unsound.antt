@@ -1,30 +1,11 @@
 -- What follows of sound frames: no reason of inconsistency.
-use Rattle.std.proofs.Common.{◌≡◌, ℕ, ◌≤◌, List, Option, Some, map, slice_index_or, refl, sym, ap, ◌∙◌, subst, arith}
-use Rattle.std.specs.Prelude.{IsTrue}
-use Rattle.std.specs.List.{All}
-use Rattle.std.proofs.Math.ListN.{get_or-map}
-use Rattle.std.proofs.lemmas.Bool.{le-ltb}
-use Rattle.std.proofs.lemmas.List.Elements.{All-from_get_or}
-use Rattle.model.specs.declared.capability.Cap.{Cap}
-use Rattle.model.specs.declared.capability.Capability.{Capability}
-use Rattle.model.specs.declared.capability.Capability.TheVariants.{Void}
-use Rattle.model.specs.declared.frame.Frame.{Frame}
-use Rattle.model.specs.declared.frame.ObjectHeader.{ObjectHeader}
-use Rattle.model.specs.declared.geometry.Geometry.{Geometry}
-use Rattle.model.specs.declared.object.Content.{Content}
+use Rattle.consistency.proofs.Names.{◌≡◌, ℕ, ◌≤◌, List, Option, Some, map, slice_index_or, refl, sym, ap, ◌∙◌, subst, arith, IsTrue, All, get_or-map, le-ltb}
+use Rattle.consistency.proofs.Names.{All-from_get_or, Cap, Capability, Void, Frame, ObjectHeader, Geometry, Content, usage, conveyed, current_count, frame_at}
+use Rattle.consistency.proofs.Names.{headers, objects_of, void_held, IsSoundFrames, caps_in, is_annex, map_content, root_in, slots_in, MayBeHeld, NamesItsKind}
+use Rattle.consistency.proofs.Names.{content_at, owner_at, HaveTheirRoles, keepable_roles, BadCapability, BadProcess, BadBank, AreBanked, AreNamed}
+use Rattle.consistency.proofs.Names.{AreWholeProcesses, IsNamed, role_at, InconsistentIsUnsound}
 use Rattle.model.specs.declared.object.Content.TheVariants as content
 use Rattle.model.specs.declared.object.Role.TheVariants as role
-use Rattle.model.specs.Bank.{usage}
-use Rattle.model.specs.Frame.{conveyed, current_count, frame_at, headers, objects_of, void_held}
-use Rattle.model.specs.Keepable.{IsSoundFrames, caps_in}
-use Rattle.model.specs.Object.{is_annex, map_content, root_in, slots_in}
-use Rattle.model.specs.Sound.{MayBeHeld, NamesItsKind}
-use Rattle.model.specs.World.{content_at, owner_at}
-use Rattle.capability.specs.Parts.{HaveTheirRoles}
-use Rattle.capability.proofs.Keeping.{keepable_roles}
-use Rattle.consistency.specs.declared.reason.Inconsistency.TheVariants.{BadCapability, BadProcess, BadBank}
-use Rattle.consistency.specs.Consistency.{AreBanked, AreNamed, AreWholeProcesses, IsNamed, role_at}
-use Rattle.consistency.specs.Laws.{InconsistentIsUnsound}
 use Rattle.consistency.proofs.Standing.{annex_role, bank_role, content_is, free_role, limit_is, names_role, owner_is, process_of, role_annex, role_bank, root_of}
 
 -- a live capability conveys what it is

@@ -1,26 +1,11 @@
 -- A description is that of one list of frames.
-use Rattle.std.proofs.Common.{◌≡◌, ℕ, ◌<◌, ◌++◌, inl, inr, ◌⊎◌, List, [], ◌∷◌, Option, map, slice_index_or, sym, ap, ◌∙◌, arith}
+use Rattle.described_world.proofs.Names.{◌≡◌, ℕ, ◌<◌, ◌++◌, inl, inr, ◌⊎◌, List, [], ◌∷◌, Option, map, slice_index_or, sym, ap, ◌∙◌, arith, All, Contains}
+use Rattle.described_world.proofs.Names.{cases_eq, ext_get_or, All-append, All-contains, All-map, Contains-append_right, Contains-tail, get_or_from_slice_get}
+use Rattle.described_world.proofs.Names.{Cap, Capability, Frame, State, blank_frame, frame_at, void_held, fresh_cap, Description, NodeEntry, PageEntry}
+use Rattle.described_world.proofs.Names.{ProcessEntry, SlotEntry, WordEntry, HasNamedWords, HoldsNamed, IsDescribedAnnex, IsDescribed, IsDescribedNode}
+use Rattle.described_world.proofs.Names.{IsDescribedPage, IsDescribedRoot, first_frame, named_at, node_numbers, page_numbers, word_named_at}
 use Rattle.std.specs.Prelude.{unwrap_or}
-use Rattle.std.specs.List.{All, Contains}
-use Rattle.std.proofs.lemmas.Bool.{cases_eq}
-use Rattle.std.proofs.lemmas.List.{ext_get_or}
-use Rattle.std.proofs.lemmas.List.Elements.{All-append, All-contains, All-map, Contains-append_right}
-use Rattle.std.proofs.lemmas.Map.Made.{Contains-tail}
-use Rattle.std.proofs.lemmas.Option.{get_or_from_slice_get}
-use Rattle.model.specs.declared.capability.Cap.{Cap}
-use Rattle.model.specs.declared.capability.Capability.{Capability}
-use Rattle.model.specs.declared.frame.Frame.{Frame}
 use Rattle.model.specs.declared.object.Content.TheVariants as content
-use Rattle.model.specs.declared.object.State.{State}
-use Rattle.model.specs.Frame.{blank_frame, frame_at, void_held}
-use Rattle.capability.specs.Plain.{fresh_cap}
-use Rattle.description.specs.declared.entry.Description.{Description}
-use Rattle.description.specs.declared.entry.NodeEntry.{NodeEntry}
-use Rattle.description.specs.declared.entry.PageEntry.{PageEntry}
-use Rattle.description.specs.declared.entry.ProcessEntry.{ProcessEntry}
-use Rattle.description.specs.declared.entry.SlotEntry.{SlotEntry}
-use Rattle.description.specs.declared.entry.WordEntry.{WordEntry}
-use Rattle.described_world.specs.Described.{HasNamedWords, HoldsNamed, IsDescribedAnnex, IsDescribed, IsDescribedNode, IsDescribedPage, IsDescribedRoot, first_frame, named_at, node_numbers, page_numbers, word_named_at}
 
 -- a number is in a list or it isn't
 in_or_out : (ns : List ℕ) (n : ℕ) → Contains ns n ⊎ (Contains ns n → ⊥)

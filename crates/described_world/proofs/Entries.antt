@@ -1,15 +1,9 @@
 -- The objects that a description names.
-use Rattle.std.proofs.Common.{◌≡◌, ◌⊎◌, inl, inr, ℕ, ◌<◌, ◌≤◌, List, ◌++◌, map, sym, ap, ◌∙◌, subst}
-use Rattle.std.specs.List.{Contains}
-use Rattle.std.proofs.lemmas.List.Elements.{All-contains, Contains-append_cases, Contains-append_left, Contains-append_right}
-use Rattle.model.specs.declared.frame.Frame.{Frame}
-use Rattle.model.specs.declared.geometry.Geometry.{Geometry}
+use Rattle.described_world.proofs.Names.{◌≡◌, ◌⊎◌, inl, inr, ℕ, ◌<◌, ◌≤◌, List, ◌++◌, map, sym, ap, ◌∙◌, subst, Contains, All-contains, Contains-append_cases}
+use Rattle.described_world.proofs.Names.{Contains-append_left, Contains-append_right, Frame, Geometry, blank_frame, frame_at, object_count, Description}
+use Rattle.described_world.proofs.Names.{AreDistinct, HasNumbers, IsDescribedAnnex, IsDescribed, IsDescribedNode, IsDescribedPage, IsDescribedRoot, first_frame}
+use Rattle.described_world.proofs.Names.{node_numbers, page_numbers, Entry, OfBank, OfRoot, OfAnnex, OfNode, OfPage, entries, number_of}
 use Rattle.model.specs.declared.object.Content.TheVariants as content
-use Rattle.model.specs.Frame.{blank_frame, frame_at}
-use Rattle.model.specs.Sound.{object_count}
-use Rattle.description.specs.declared.entry.Description.{Description}
-use Rattle.described_world.specs.Described.{AreDistinct, HasNumbers, IsDescribedAnnex, IsDescribed, IsDescribedNode, IsDescribedPage, IsDescribedRoot, first_frame, node_numbers, page_numbers}
-use Rattle.described_world.specs.Laid.{Entry, OfBank, OfRoot, OfAnnex, OfNode, OfPage, entries, number_of}
 use Rattle.described_world.proofs.Lists.{contains_either, contains_map, map_again, map_both, map_contains}
 
 -- an object that is named by a description

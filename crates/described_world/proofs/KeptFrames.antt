@@ -1,31 +1,13 @@
 -- Laid frames are those that are described, and can be kept.
-use Rattle.std.proofs.Common.{◌≡◌, ◌≢◌, inl, inr, ℕ, ◌+◌, ◌^◌, ◌<◌, ◌≤◌, Option, None, Some, List, ◌++◌, map, length, replicate, slice_index_or, unwrap_or, refl, sym, ap, ◌∙◌, subst, arith}
-use Rattle.std.specs.List.{All, Contains}
-use Rattle.std.proofs.lemmas.List.{length-replicate}
-use Rattle.std.proofs.lemmas.List.Elements.{All-contains, All-replicate}
-use Rattle.std.proofs.lemmas.Option.{slice_get-get_or}
-use Rattle.model.specs.declared.capability.Cap.{Cap}
-use Rattle.model.specs.declared.capability.Capability.{Capability}
-use Rattle.model.specs.declared.capability.Capability.TheVariants.{Void, Number, Page, Node, Space, Process, Start, Resume, Bank, Discrim}
-use Rattle.model.specs.declared.frame.Frame.{Frame}
-use Rattle.model.specs.declared.geometry.Geometry.{Geometry}
-use Rattle.model.specs.declared.object.State.TheVariants.{Available}
-use Rattle.model.specs.Capability.{IsWellFormed}
-use Rattle.model.specs.Frame.{blank_frame, frame_at, void_held}
-use Rattle.model.specs.Keepable.{AreKeepable, AreKeptSlots, Follows, IsCount, IsKept, IsKeptCap, IsKeepable}
-use Rattle.model.specs.Sound.{IsOfKind, IsSpace, object_count}
-use Rattle.capability.specs.Plain.{fresh_cap}
-use Rattle.layout.specs.Superblock.{IsGeometry}
-use Rattle.description.specs.declared.entry.BankEntry.{BankEntry}
-use Rattle.description.specs.declared.entry.Description.{Description}
-use Rattle.description.specs.declared.entry.NodeEntry.{NodeEntry}
-use Rattle.description.specs.declared.entry.PageEntry.{PageEntry}
-use Rattle.description.specs.declared.entry.ProcessEntry.{ProcessEntry}
-use Rattle.description.specs.declared.entry.SlotEntry.{SlotEntry}
-use Rattle.description.specs.declared.entry.WordEntry.{WordEntry}
-use Rattle.described_world.specs.declared.world.World.{World}
-use Rattle.described_world.specs.Described.{AreSlots, AreWords, HasFields, HasNamedWords, HasNumbers, HoldsNamed, IsSomeCapability, IsDescribed, IsProcessEntry, IsSpaceEntry, first_named}
-use Rattle.described_world.specs.Laid.{AreTargets, Entry, Fits, HasProcessTargets, HasTargets, IsLaid, IsTarget, OfAnnex, OfBank, OfNode, OfPage, OfRoot, entries, frame_of, laid, number_of, slot_held, slots_of, words_of}
+use Rattle.described_world.proofs.Names.{◌≡◌, ◌≢◌, inl, inr, ℕ, ◌+◌, ◌^◌, ◌<◌, ◌≤◌, Option, None, Some, List, ◌++◌, map, length, replicate, slice_index_or}
+use Rattle.described_world.proofs.Names.{unwrap_or, refl, sym, ap, ◌∙◌, subst, arith, All, Contains, length-replicate, All-contains, All-replicate}
+use Rattle.described_world.proofs.Names.{slice_get-get_or, Cap, Capability, Void, Number, Page, Node, Space, Process, Start, Resume, Bank, Discrim, Frame}
+use Rattle.described_world.proofs.Names.{Geometry, Available, IsWellFormed, blank_frame, frame_at, void_held, AreKeepable, AreKeptSlots, Follows, IsCount}
+use Rattle.described_world.proofs.Names.{IsKept, IsKeptCap, IsKeepable, IsOfKind, IsSpace, object_count, fresh_cap, IsGeometry, BankEntry, Description}
+use Rattle.described_world.proofs.Names.{NodeEntry, PageEntry, ProcessEntry, SlotEntry, WordEntry, World, AreSlots, AreWords, HasFields, HasNamedWords}
+use Rattle.described_world.proofs.Names.{HasNumbers, HoldsNamed, IsSomeCapability, IsDescribed, IsProcessEntry, IsSpaceEntry, first_named, AreTargets, Entry}
+use Rattle.described_world.proofs.Names.{Fits, HasProcessTargets, HasTargets, IsLaid, IsTarget, OfAnnex, OfBank, OfNode, OfPage, OfRoot, entries, frame_of}
+use Rattle.described_world.proofs.Names.{laid, number_of, slot_held, slots_of, words_of}
 use Rattle.described_world.proofs.Entries.{IsFrameOf, IsOf, entries_distinct, entries_of, in_range, numbers_are, of_entries}
 use Rattle.described_world.proofs.LaidFrames.{laid_both}
 use Rattle.described_world.proofs.Lists.{all_from, contains_either, each_at, each_holds, each_of, each_other, first_map, length_each, map_contains, same_at}

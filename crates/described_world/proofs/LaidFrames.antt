@@ -1,14 +1,7 @@
 -- Frames that are laid one after the other.
-use Rattle.std.proofs.Common.{◌≡◌, ℕ, ◌+◌, ◌<◌, ◌≤◌, List, ◌∷◌, ◌++◌, drop, length, map, slice_index_or, refl, sym, ap, ◌∙◌, subst, arith, vec_len}
-use Rattle.std.specs.List.{All}
-use Rattle.std.proofs.lemmas.List.{drop_all, drop_more}
-use Rattle.std.proofs.lemmas.List.Elements.{All-append, All-cons, All-nil}
-use Rattle.model.specs.declared.frame.Frame.{Frame}
-use Rattle.model.specs.declared.capability.Cap.{Cap}
-use Rattle.model.specs.declared.object.Content.{Content}
-use Rattle.described_world.specs.declared.world.World.{World}
-use Rattle.described_world.specs.Described.{first_frame}
-use Rattle.described_world.specs.Laid.{Entry, Fits, IsLaid, IsPut, frame_of, frames_of, laid, number_of}
+use Rattle.described_world.proofs.Names.{◌≡◌, ℕ, ◌+◌, ◌<◌, ◌≤◌, List, ◌∷◌, ◌++◌, drop, length, map, slice_index_or, refl, sym, ap, ◌∙◌, subst, arith, vec_len}
+use Rattle.described_world.proofs.Names.{All, drop_all, drop_more, All-append, All-cons, All-nil, Frame, Cap, Content, World, first_frame, Entry, Fits, IsLaid}
+use Rattle.described_world.proofs.Names.{IsPut, frame_of, frames_of, laid, number_of}
 use Rattle.described_world.proofs.Lists.{each_append}
 
 pub laid_append : (es fs : List Entry) (xs : List Frame) → laid (es ++ fs) xs ≡ laid fs (laid es xs)

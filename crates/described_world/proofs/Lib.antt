@@ -1,3 +1,4 @@
+mod Names
 pub mod DescribedOnce
 pub mod Entries
 pub mod KeptFrames

@@ -1,13 +1,8 @@
 -- Numbers of which none comes twice, and writes at them.
-use Rattle.std.proofs.Common.{◌≡◌, ◌≢◌, ◌⊎◌, ℕ, zero, suc, ◌+◌, ◌<◌, ◌≤◌, inl, inr, List, [], ◌∷◌, ◌++◌, map, length, replicate, Some, slice_get, drop, take, ◌-◌, slice_index_or, slice_set, refl, sym, ap, ◌∙◌, subst, arith}
-use Rattle.std.specs.Prelude.{◌↔◌}
-use Rattle.std.specs.List.{All, Any, Contains}
-use Rattle.std.proofs.lemmas.Bool.{cases_eq}
-use Rattle.std.proofs.lemmas.Bool.Decides.{nat_tests}
-use Rattle.std.proofs.lemmas.List.{get_or-set_same, get_or-set_other, length-drop, length-set, drop_all, drop_more, take_all}
-use Rattle.std.proofs.lemmas.List.Elements.{All-head, All-set, All-tail, Contains-get_or}
-use Rattle.described_world.specs.Described.{AreDistinct, first_named}
-use Rattle.described_world.specs.Laid.{set_each}
+use Rattle.described_world.proofs.Names.{◌≡◌, ◌≢◌, ◌⊎◌, ℕ, zero, suc, ◌+◌, ◌<◌, ◌≤◌, inl, inr, List, [], ◌∷◌, ◌++◌, map, length, replicate, Some, slice_get}
+use Rattle.described_world.proofs.Names.{drop, take, ◌-◌, slice_index_or, slice_set, refl, sym, ap, ◌∙◌, subst, arith, ◌↔◌, All, Any, Contains, cases_eq}
+use Rattle.described_world.proofs.Names.{nat_tests, get_or-set_same, get_or-set_other, length-drop, length-set, drop_all, drop_more, take_all, All-head}
+use Rattle.described_world.proofs.Names.{All-set, All-tail, Contains-get_or, AreDistinct, first_named, set_each}
 
 pub contains_here : {X : Type 0} → (x : X) (xs : List X) → Contains (x ∷ xs) x
 contains_here x xs = (0, omega arith, refl)

@@ -1,29 +1,12 @@
 -- In described frames in which each capability is named, each names a number of its kind.
-use Rattle.std.proofs.Common.{◌≡◌, ◌≢◌, inl, inr, ℕ, ◌<◌, ◌≤◌, List, [], Option, Some, unwrap_or, refl, sym, ap, ◌∙◌, subst}
-use Rattle.std.specs.Prelude.{IsTrue}
-use Rattle.std.specs.List.{All}
-use Rattle.std.proofs.Math.ListN.{get_or-map}
-use Rattle.std.proofs.lemmas.List.Elements.{All-contains, All-head}
-use Rattle.model.specs.declared.capability.Cap.{Cap}
-use Rattle.model.specs.declared.capability.Capability.{Capability}
-use Rattle.model.specs.declared.capability.Capability.TheVariants.{Void, Number, Page, Node, Space, Process, Start, Resume, Bank, Discrim}
-use Rattle.model.specs.declared.frame.Frame.{Frame}
-use Rattle.model.specs.declared.frame.ObjectHeader.{ObjectHeader}
-use Rattle.model.specs.declared.geometry.Geometry.{Geometry}
-use Rattle.model.specs.declared.object.Content.{Content}
+use Rattle.described_world.proofs.Names.{◌≡◌, ◌≢◌, inl, inr, ℕ, ◌<◌, ◌≤◌, List, [], Option, Some, unwrap_or, refl, sym, ap, ◌∙◌, subst, IsTrue, All, get_or-map}
+use Rattle.described_world.proofs.Names.{All-contains, All-head, Cap, Capability, Void, Number, Page, Node, Space, Process, Start, Resume, Bank, Discrim, Frame}
+use Rattle.described_world.proofs.Names.{ObjectHeader, Geometry, Content, blank_frame, current_count, frame_at, header_at, headers, caps_in, role_of, IsOfKind}
+use Rattle.described_world.proofs.Names.{object_count, fresh_cap, Description, NodeEntry, SlotEntry, AreNamed, IsNamed, NamesItsRole, is_waiting_root, AreSlots}
+use Rattle.described_world.proofs.Names.{HasFields, HasNumbers, HoldsNamed, IsDescribed, IsProcessEntry, first_frame, AreTargets, Entry, HasProcessTargets}
+use Rattle.described_world.proofs.Names.{HasTargets, IsTarget, OfAnnex, OfBank, OfNode, OfPage, OfRoot, number_of}
 use Rattle.model.specs.declared.object.Content.TheVariants as content
 use Rattle.model.specs.declared.object.Role.TheVariants as role
-use Rattle.model.specs.Frame.{blank_frame, current_count, frame_at, header_at, headers}
-use Rattle.model.specs.Keepable.{caps_in}
-use Rattle.model.specs.Object.{role_of}
-use Rattle.model.specs.Sound.{IsOfKind, object_count}
-use Rattle.capability.specs.Plain.{fresh_cap}
-use Rattle.description.specs.declared.entry.Description.{Description}
-use Rattle.description.specs.declared.entry.NodeEntry.{NodeEntry}
-use Rattle.description.specs.declared.entry.SlotEntry.{SlotEntry}
-use Rattle.consistency.specs.Consistency.{AreNamed, IsNamed, NamesItsRole, is_waiting_root}
-use Rattle.described_world.specs.Described.{AreSlots, HasFields, HasNumbers, HoldsNamed, IsDescribed, IsProcessEntry, first_frame}
-use Rattle.described_world.specs.Laid.{AreTargets, Entry, HasProcessTargets, HasTargets, IsTarget, OfAnnex, OfBank, OfNode, OfPage, OfRoot, number_of}
 use Rattle.described_world.proofs.Entries.{HasRange, IsFrameOf, described_cases, described_of, in_range}
 use Rattle.described_world.proofs.Lists.{all_from, all_got, first_of}
 

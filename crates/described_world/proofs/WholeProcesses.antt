@@ -1,15 +1,8 @@
 -- In described frames each process is a root and its annex.
-use Rattle.std.proofs.Common.{◌≡◌, inl, inr, ℕ, List, Option, None, Some, refl, sym, ap, ◌∙◌, subst}
-use Rattle.std.specs.List.{Contains}
-use Rattle.model.specs.declared.frame.Frame.{Frame}
-use Rattle.model.specs.declared.object.Role.{Role}
+use Rattle.described_world.proofs.Names.{◌≡◌, inl, inr, ℕ, List, Option, None, Some, refl, sym, ap, ◌∙◌, subst, Contains, Frame, Role, frame_at, Description}
+use Rattle.described_world.proofs.Names.{ProcessEntry, AreWholeProcesses, IsAnnexFor, IsRootOf, annex_in, owner_of, role_at, HasNumbers, IsDescribed, Entry}
+use Rattle.described_world.proofs.Names.{OfBank, OfRoot, OfAnnex, OfNode, OfPage, entries, number_of}
 use Rattle.model.specs.declared.object.Role.TheVariants as role
-use Rattle.model.specs.Frame.{frame_at}
-use Rattle.description.specs.declared.entry.Description.{Description}
-use Rattle.description.specs.declared.entry.ProcessEntry.{ProcessEntry}
-use Rattle.consistency.specs.Consistency.{AreWholeProcesses, IsAnnexFor, IsRootOf, annex_in, owner_of, role_at}
-use Rattle.described_world.specs.Described.{HasNumbers, IsDescribed}
-use Rattle.described_world.specs.Laid.{Entry, OfBank, OfRoot, OfAnnex, OfNode, OfPage, entries, number_of}
 use Rattle.described_world.proofs.Entries.{IsFrameOf, IsOf, described_cases, described_of, entries_distinct, of_entries}
 use Rattle.described_world.proofs.Lists.{same_entry}
 

@@ -1,18 +1,7 @@
 -- Worlds as headers with contents beside them.
-use Rattle.std.proofs.Common.{◌≡◌, ◌∙◌, ℕ, zero, suc, ◌<◌, ◌∷◌, List, replicate, slice_set, refl, ap, arith, vec_len}
-use Rattle.std.specs.Vec.{with_item}
-use Rattle.model.specs.declared.capability.Cap.{Cap}
-use Rattle.model.specs.declared.frame.Frame.{Frame}
-use Rattle.model.specs.declared.frame.ObjectHeader.{ObjectHeader}
-use Rattle.model.specs.declared.object.Content.{Content}
+use Rattle.described_world.proofs.Names.{◌≡◌, ◌∙◌, ℕ, zero, suc, ◌<◌, ◌∷◌, List, replicate, slice_set, refl, ap, arith, vec_len, with_item, Cap, Frame}
+use Rattle.described_world.proofs.Names.{ObjectHeader, Content, Role, blank_frame, blank_header, frames_in, role_of, set_in, World, first_frame, IsPut}
 use Rattle.model.specs.declared.object.Content.TheVariants as content
-use Rattle.model.specs.declared.object.Role.{Role}
-use Rattle.model.specs.Frame.{blank_frame, blank_header, frames_in}
-use Rattle.model.specs.Object.{role_of}
-use Rattle.capability.proofs.Frames.{set_in}
-use Rattle.described_world.specs.declared.world.World.{World}
-use Rattle.described_world.specs.Described.{first_frame}
-use Rattle.described_world.specs.Laid.{IsPut}
 
 -- free headers with free contents are free frames
 pub blank_frames : (n : ℕ) → frames_in (replicate n blank_header) (replicate n content.Free) ≡ replicate n blank_frame

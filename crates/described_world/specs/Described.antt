@@ -1,25 +1,8 @@
 -- The frames that a description names, and when it names some.
-use Rattle.std.specs.Prelude.{◌≡◌, ◌≢◌, ℕ, ◌^◌, ◌<◌, ◌≤◌, ◌==◌, if◌then◌else◌, List, [], ◌∷◌, ◌++◌, map, length, Option, None, Some, slice_get, unwrap_or}
-use Rattle.std.specs.List.{All, Contains}
-use Rattle.model.specs.declared.capability.Cap.{Cap}
-use Rattle.model.specs.declared.capability.Capability.{Capability}
-use Rattle.model.specs.declared.capability.Capability.TheVariants.{Void}
-use Rattle.model.specs.declared.frame.Frame.{Frame}
-use Rattle.model.specs.declared.object.Content.{Content}
+use Rattle.described_world.specs.Names.{◌≡◌, ◌≢◌, ℕ, ◌^◌, ◌<◌, ◌≤◌, ◌==◌, if◌then◌else◌, List, [], ◌∷◌, ◌++◌, map, length, Option, None, Some, slice_get}
+use Rattle.described_world.specs.Names.{unwrap_or, All, Contains, Cap, Capability, Void, Frame, Content, State, IsWellFormed, frame_at, blank_frame, role_of}
+use Rattle.described_world.specs.Names.{IsSpace, object_count, fresh_cap, Description, NodeEntry, PageEntry, ProcessEntry, SlotEntry, WordEntry, AreNamed}
 use Rattle.model.specs.declared.object.Content.TheVariants as content
-use Rattle.model.specs.declared.object.State.{State}
-use Rattle.model.specs.Capability.{IsWellFormed}
-use Rattle.model.specs.Frame.{frame_at, blank_frame}
-use Rattle.model.specs.Object.{role_of}
-use Rattle.model.specs.Sound.{IsSpace, object_count}
-use Rattle.capability.specs.Plain.{fresh_cap}
-use Rattle.description.specs.declared.entry.Description.{Description}
-use Rattle.description.specs.declared.entry.NodeEntry.{NodeEntry}
-use Rattle.description.specs.declared.entry.PageEntry.{PageEntry}
-use Rattle.description.specs.declared.entry.ProcessEntry.{ProcessEntry}
-use Rattle.description.specs.declared.entry.SlotEntry.{SlotEntry}
-use Rattle.description.specs.declared.entry.WordEntry.{WordEntry}
-use Rattle.consistency.specs.Consistency.{AreNamed}
 use Rattle.described_world.specs.declared.fault.WorldFault.{WorldFault}
 use Rattle.described_world.specs.declared.fault.WorldFault.TheVariants as fault
 

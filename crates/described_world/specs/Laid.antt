@@ -1,25 +1,9 @@
 -- How frames are laid: object by object, over free ones.
-use Rattle.std.specs.Prelude.{◌≡◌, ℕ, ◌^◌, ◌<◌, ◌≤◌, List, [], ◌∷◌, ◌++◌, map, replicate, slice_set, unwrap_or, vec_len}
-use Rattle.std.specs.List.{All}
-use Rattle.model.specs.declared.capability.Cap.{Cap}
-use Rattle.model.specs.declared.capability.Capability.{Capability}
-use Rattle.model.specs.declared.capability.Capability.TheVariants.{Void, Number, Page, Node, Space, Process, Start, Resume, Bank, Discrim}
-use Rattle.model.specs.declared.frame.Frame.{Frame}
-use Rattle.model.specs.declared.geometry.Geometry.{Geometry}
-use Rattle.model.specs.declared.object.Content.{Content}
+use Rattle.described_world.specs.Names.{◌≡◌, ℕ, ◌^◌, ◌<◌, ◌≤◌, List, [], ◌∷◌, ◌++◌, map, replicate, slice_set, unwrap_or, vec_len, All, Cap, Capability, Void}
+use Rattle.described_world.specs.Names.{Number, Page, Node, Space, Process, Start, Resume, Bank, Discrim, Frame, Geometry, Content, Available, frames_in}
+use Rattle.described_world.specs.Names.{void_held, AreKeptWords, object_count, fresh_cap, BankEntry, Description, NodeEntry, PageEntry, ProcessEntry, SlotEntry}
+use Rattle.described_world.specs.Names.{WordEntry}
 use Rattle.model.specs.declared.object.Content.TheVariants as content
-use Rattle.model.specs.declared.object.State.TheVariants.{Available}
-use Rattle.model.specs.Frame.{frames_in, void_held}
-use Rattle.model.specs.Keepable.{AreKeptWords}
-use Rattle.model.specs.Sound.{object_count}
-use Rattle.capability.specs.Plain.{fresh_cap}
-use Rattle.description.specs.declared.entry.BankEntry.{BankEntry}
-use Rattle.description.specs.declared.entry.Description.{Description}
-use Rattle.description.specs.declared.entry.NodeEntry.{NodeEntry}
-use Rattle.description.specs.declared.entry.PageEntry.{PageEntry}
-use Rattle.description.specs.declared.entry.ProcessEntry.{ProcessEntry}
-use Rattle.description.specs.declared.entry.SlotEntry.{SlotEntry}
-use Rattle.description.specs.declared.entry.WordEntry.{WordEntry}
 use Rattle.described_world.specs.Described.{first_frame}
 use Rattle.described_world.specs.declared.world.World.{World}
 

@@ -1,8 +1,5 @@
 -- A law of described frames.
-use Rattle.std.specs.Prelude.{List}
-use Rattle.model.specs.declared.frame.Frame.{Frame}
-use Rattle.description.specs.declared.entry.Description.{Description}
-use Rattle.consistency.specs.Consistency.{AreWholeProcesses}
+use Rattle.described_world.specs.Names.{List, Frame, Description, AreWholeProcesses}
 use Rattle.described_world.specs.Described.{HasFields, HasNumbers, IsDescribed}
 
 -- each process that is named has its annex, and there is no other annex

@@ -1,3 +1,4 @@
+pub mod Names
 pub mod Described
 pub mod Laid
 pub mod Laws

@@ -1,11 +1,6 @@
 -- Lists of values, element by element.
-use Rattle.std.proofs.Common.{◌≡◌, ℕ, zero, suc, ◌+◌, ◌<◌, List, [], ◌∷◌, ◌++◌, length, get_or, take, refl, sym, ap, ◌∙◌, arith}
-use Rattle.std.proofs.lemmas.List.{take_more}
-use Rattle.std.proofs.lemmas.Option.{same_Some}
-use Rattle.toml.specs.Data.{Data, Items, no_items, item, array, as_array}
-use Rattle.toml.specs.View.{view, items_view}
-use Rattle.toml.specs.declared.value.Value.{Value}
-use Rattle.description.specs.Reading.{AreItems, IsList}
+use Rattle.description.proofs.Names.{◌≡◌, ℕ, zero, suc, ◌+◌, ◌<◌, List, [], ◌∷◌, ◌++◌, length, get_or, take, refl, sym, ap, ◌∙◌, arith, take_more, same_Some}
+use Rattle.description.proofs.Names.{Data, Items, no_items, item, array, as_array, view, items_view, Value, AreItems, IsList}
 
 abbrev item_count : Items → ℕ
 item_count no_items = 0

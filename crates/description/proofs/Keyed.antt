@@ -1,10 +1,6 @@
 -- What is at a key, and what isn't.
-use Rattle.std.proofs.Common.{◌≡◌, ℕ, List, Option, Some, None, IsSomeAnd, MatchOption, Result, Vec, Global, refl, sym}
-use Rattle.std.proofs.lemmas.Option.{none-some, same_Some}
-use Rattle.toml.specs.Data.{Data, Members, get_member}
-use Rattle.description.specs.Reading.{AtOr}
-use Rattle.description.specs.Outcomes.{ReadsList}
-use Rattle.description.specs.declared.fault.DescriptionFault.{DescriptionFault}
+use Rattle.description.proofs.Names.{◌≡◌, ℕ, List, Option, Some, None, IsSomeAnd, MatchOption, Result, Vec, Global, refl, sym, none-some, same_Some, Data}
+use Rattle.description.proofs.Names.{Members, get_member, AtOr, ReadsList, DescriptionFault}
 
 pub missing : {A : Type 0} (P : Data → A → Type 0) (o : Option Data) → None ≡ o → (x : A) → IsSomeAnd o (λ d. P d x) → ⊥
 missing P None is x at = at

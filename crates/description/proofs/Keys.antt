@@ -1,10 +1,6 @@
 -- Keys that are known, and texts that are the same.
-use Rattle.std.proofs.Common.{◌≡◌, ℕ, true, List, [], ◌∷◌, map, nat_eq, nat_cmp, is_eq, Bor, refl, sym, ◌∙◌, arith}
-use Rattle.std.proofs.lemmas.Bool.Decides.{nat_tests}
-use Rattle.std.proofs.lemmas.Cmp.{same_from_slice_cmp}
-use Rattle.std.specs.Cmp.Lexicographic.{slice_cmp, pointwise}
-use Rattle.std.specs.List.{list_any}
-use Rattle.toml.specs.Data.{same_key}
+use Rattle.description.proofs.Names.{◌≡◌, ℕ, true, List, [], ◌∷◌, map, nat_eq, nat_cmp, is_eq, Bor, refl, sym, ◌∙◌, arith, nat_tests, same_from_slice_cmp}
+use Rattle.description.proofs.Names.{slice_cmp, pointwise, list_any, same_key}
 
 same_text : (a b : List ℕ) → pointwise nat_eq a b ≡ same_key b a
 same_text a b = sym (same_from_slice_cmp nat_cmp is_eq (λ y x. pointwise nat_eq x y) refl (λ _ _. refl) (λ _ _. refl) (λ x y xs ys o h. grind (arith, nat_tests)) b a (slice_cmp nat_cmp b a) refl)

@@ -1,3 +1,4 @@
+mod Names
 pub mod Elements
 pub mod Keyed
 pub mod Keys

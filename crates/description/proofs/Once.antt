@@ -1,18 +1,10 @@
 -- A value says one thing, and so a table says one description.
-use Rattle.std.proofs.Common.{◌≡◌, inl, inr, ℕ, pos, Option, Some, None, if◌then◌else◌, List, [], ◌∷◌, codes, IsSomeAnd, MatchOption, refl, sym, ap, subst, ◌∙◌, arith}
-use Rattle.std.specs.Str.{bytes_eq}
-use Rattle.std.proofs.lemmas.Option.{same_Some}
-use Rattle.model.specs.Text.{capability_text, state_text}
-use Rattle.model.specs.declared.capability.Capability.{Capability}
-use Rattle.model.specs.declared.capability.Capability.TheVariants.{Number, Void}
-use Rattle.model.specs.declared.geometry.Geometry.{Geometry}
-use Rattle.model.specs.declared.object.State.{State}
-use Rattle.model.specs.declared.object.State.TheVariants.{Available, Running, Waiting}
-use Rattle.toml.specs.Data.{Data, integer, string, array, table, Items, no_items, item, Members, get_member}
-use Rattle.script.proofs.CapabilityTexts.{text_once}
-use Rattle.description.specs.Laws.{Each, IsSame, IsSameNode, IsSamePage, IsSameProcess, NumberIsSpelledOnce}
-use Rattle.description.specs.Reading.{AreFour, AreItems, At, AtOr, IsBank, IsCapability, IsDescription, IsGeometry, IsList, IsNode, IsNumber, IsPage, IsPair, IsProcess, IsRange, IsSlot, IsState, IsTable, IsWideNumber, IsWord, whole_ranges}
-use Rattle.description.specs.declared.entry.Description.{Description}
+use Rattle.description.proofs.Names.{◌≡◌, inl, inr, ℕ, pos, Option, Some, None, if◌then◌else◌, List, [], ◌∷◌, codes, IsSomeAnd, MatchOption, refl, sym, ap}
+use Rattle.description.proofs.Names.{subst, ◌∙◌, arith, bytes_eq, same_Some, capability_text, state_text, Capability, Number, Void, Geometry, State, Available}
+use Rattle.description.proofs.Names.{Running, Waiting, Data, integer, string, array, table, Items, no_items, item, Members, get_member, text_once, Each, IsSame}
+use Rattle.description.proofs.Names.{IsSameNode, IsSamePage, IsSameProcess, NumberIsSpelledOnce, AreFour, AreItems, At, AtOr, IsBank, IsCapability}
+use Rattle.description.proofs.Names.{IsDescription, IsGeometry, IsList, IsNode, IsNumber, IsPage, IsPair, IsProcess, IsRange, IsSlot, IsState, IsTable}
+use Rattle.description.proofs.Names.{IsWideNumber, IsWord, whole_ranges, Description}
 
 -- ---- values
 

@@ -1,19 +1,8 @@
 -- Values of their types, and of others.
-use Rattle.std.proofs.Common.{◌≡◌, ◌≢◌, inl, inr, ℕ, ◌^◌, ◌<◌, ◌≤◌, ℤ, pos, negsuc, true, false, Option, Some, None, is_some, List, Result, Ok, Err, IfSome, IfNone, sym, ap, ◌∙◌, arith}
-use Rattle.std.proofs.lemmas.Option.{none-some, same_Some}
-use Rattle.std.specs.Prelude.{unsigned_abs}
-use Rattle.std.specs.Int.{is_negative}
-use Rattle.std.proofs.lemmas.Bool.{false≢true}
-use Rattle.model.specs.Capability.{IsWellFormed, named}
-use Rattle.model.specs.Text.{capability_text, state_text}
-use Rattle.model.specs.declared.capability.Capability.{Capability}
-use Rattle.model.specs.declared.capability.Capability.TheVariants.{Number}
-use Rattle.model.specs.declared.object.State.{State}
-use Rattle.toml.specs.Data.{Data, string, integer, float, boolean, datetime, array, table, as_integer, as_str}
-use Rattle.description.specs.Reading.{IsCapability, IsNumber, IsState, IsWideNumber}
-use Rattle.description.specs.Outcomes.{Fails, Reads}
-use Rattle.description.specs.declared.fault.DescriptionFault.{DescriptionFault}
-use Rattle.description.specs.declared.fault.DescriptionFault.TheVariants.{NoMemory, Shape}
+use Rattle.description.proofs.Names.{◌≡◌, ◌≢◌, inl, inr, ℕ, ◌^◌, ◌<◌, ◌≤◌, ℤ, pos, negsuc, true, false, Option, Some, None, is_some, List, Result, Ok, Err}
+use Rattle.description.proofs.Names.{IfSome, IfNone, sym, ap, ◌∙◌, arith, none-some, same_Some, unsigned_abs, is_negative, false≢true, IsWellFormed, named}
+use Rattle.description.proofs.Names.{capability_text, state_text, Capability, Number, State, Data, string, integer, float, boolean, datetime, array, table}
+use Rattle.description.proofs.Names.{as_integer, as_str, IsCapability, IsNumber, IsState, IsWideNumber, Fails, Reads, DescriptionFault, NoMemory, Shape}
 use Rattle.description.proofs.Once.{capability_once}
 
 pub integer_is : (d : Data) (z : ℤ) → Some z ≡ as_integer d → d ≡ integer z

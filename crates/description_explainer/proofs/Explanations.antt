@@ -1,31 +1,13 @@
 -- What is told of a description is so.
-use Rattle.std.proofs.Common.{◌≡◌, ℕ, ◌≤◌, List, sym, subst}
-use Rattle.model.specs.declared.frame.Frame.{Frame}
-use Rattle.consistency.specs.declared.reason.Unbanked.{Unbanked}
-use Rattle.consistency.specs.Consistency.{AreBanked, AreNamed, IsUnbanked, NamesItsRole}
-use Rattle.consistency.proofs.BankFaults.{unbanked_refuted}
-use Rattle.description.specs.declared.entry.Description.{Description}
-use Rattle.described_world.specs.Described.{HasFields, HasNumbers, IsDescribed}
-use Rattle.described_world.specs.Laid.{IsTarget}
-use Rattle.described_world.proofs.DescribedOnce.{described_once}
-use Rattle.image_builder.specs.Built.{IsFirstBroken, IsWithinLimits, Refuses}
-use Rattle.image_builder.proofs.Rules.{all_kept, field_broken, limits_broken, number_broken, owner_broken, target_broken}
-use Rattle.description_faults.specs.declared.place.Held.{Held}
-use Rattle.description_faults.specs.declared.place.Limit.{Limit}
-use Rattle.description_faults.specs.declared.place.Misnumbered.{Misnumbered}
-use Rattle.description_faults.specs.declared.place.Part.{Part}
-use Rattle.description_faults.specs.Broken.{BreaksField, BreaksLimit, BreaksNumber, BreaksTarget}
-use Rattle.description_faults.specs.Outcomes.{AllHave, BreaksIt, OneLacks}
-use Rattle.description_faults.proofs.NamedCapabilities.{all_named, kind_broken, role_broken, target_refuted}
-use Rattle.description_faults.proofs.Refuted.{field_refuted}
+use Rattle.description_explainer.proofs.Names.{◌≡◌, ℕ, ◌≤◌, List, sym, subst, Frame, Unbanked, AreBanked, AreNamed, IsUnbanked, NamesItsRole, unbanked_refuted}
+use Rattle.description_explainer.proofs.Names.{Description, HasFields, HasNumbers, IsDescribed, IsTarget, described_once, IsFirstBroken, IsWithinLimits}
+use Rattle.description_explainer.proofs.Names.{Refuses, all_kept, field_broken, limits_broken, number_broken, owner_broken, target_broken, Held, Limit}
+use Rattle.description_explainer.proofs.Names.{Misnumbered, Part, BreaksField, BreaksLimit, BreaksNumber, BreaksTarget, AllHave, BreaksIt, OneLacks, all_named}
+use Rattle.description_explainer.proofs.Names.{kind_broken, role_broken, target_refuted, field_refuted, ExplainsDescription, IfNone, IfSome, MatchOption}
+use Rattle.description_explainer.proofs.Names.{Members, IsDescription, Rule, rule_fault}
+use Rattle.std.specs.Prelude.{Option, Some, None}
 use Rattle.description_explainer.specs.declared.place.Rule.TheVariants as rule
-use Rattle.description_explainer.specs.Explained.{ExplainsDescription}
 use Rattle.description_explainer.proofs.Sizes.{limit_refuted}
-use Rattle.std.specs.Prelude.{Option, Some, None, IfNone, IfSome, MatchOption}
-use Rattle.toml.specs.Data.{Members}
-use Rattle.description.specs.Reading.{IsDescription}
-use Rattle.description_explainer.specs.declared.place.Rule.{Rule}
-use Rattle.description_explainer.specs.Places.{rule_fault}
 
 module _ (d : Description) where
   pub explains_limit : (l : Limit) → BreaksLimit d l → ExplainsDescription d (Some (rule.Limit l))

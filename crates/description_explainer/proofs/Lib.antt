@@ -1,2 +1,3 @@
+mod Names
 mod Explanations
 mod Sizes

@@ -1,16 +1,7 @@
 -- A size that no image has isn't that of a description within the limits.
-use Rattle.std.proofs.Common.{◌≡◌, ◌<◌, ◌≤◌, ◌^◌, List, Option, None, Some, subst, arith}
-use Rattle.std.specs.Prelude.{MatchOption}
-use Rattle.layout.specs.Superblock.{version_number}
-use Rattle.layout.specs.declared.version.Version.{Version}
-use Rattle.image_writer.specs.Laid.{MayBeLaid}
-use Rattle.image_writer.specs.declared.number_range.NumberRange.{NumberRange}
-use Rattle.image_builder.specs.Built.{IsWithinLimits}
-use Rattle.description.specs.declared.entry.Description.{Description}
-use Rattle.description_faults.specs.declared.place.Limit.{Limit}
+use Rattle.description_explainer.proofs.Names.{◌≡◌, ◌<◌, ◌≤◌, ◌^◌, List, Option, None, Some, subst, arith, MatchOption, version_number, Version, MayBeLaid}
+use Rattle.description_explainer.proofs.Names.{NumberRange, IsWithinLimits, Description, Limit, BreaksGeometry, BreaksLimit, BreaksRanges, ranges_refuted}
 use Rattle.description_faults.specs.declared.place.Limit.TheVariants as limit
-use Rattle.description_faults.specs.Broken.{BreaksGeometry, BreaksLimit, BreaksRanges}
-use Rattle.description_faults.proofs.Refuted.{ranges_refuted}
 
 pub limit_refuted : (d : Description) (l : Limit) → BreaksLimit d l → IsWithinLimits d → ⊥
 limit_refuted d limit.Nodes broken within = broken (within.laid.geometry.least_nodes, within.laid.geometry.most_nodes)

@@ -1,19 +1,10 @@
 -- What was read, and what wasn't.
-use Rattle.std.proofs.Common.{◌≡◌, ℕ, zero, suc, ◌+◌, ◌<◌, ◌^◌, Bool, true, false, List, [], ◌∷◌, ◌++◌, length, get_or, take, Option, None, Some, Result, Ok, Err, Vec, Global, refl, sym, ap, ◌∙◌, subst, arith}
-use Rattle.std.specs.declared.alloc.AllocError.{AllocError}
-use Rattle.std.specs.Prelude.{◌↔◌, IfOk, IsTrue, MatchOption}
-use Rattle.std.proofs.lemmas.Bool.{false≢true}
-use Rattle.std.proofs.lemmas.Option.{none-some, same_Some}
+use Rattle.description_faults.proofs.Names.{◌≡◌, ℕ, zero, suc, ◌+◌, ◌<◌, ◌^◌, Bool, true, false, List, [], ◌∷◌, ◌++◌, length, get_or, take, Option, None, Some}
+use Rattle.description_faults.proofs.Names.{Result, Ok, Err, Vec, Global, refl, sym, ap, ◌∙◌, subst, arith, AllocError, ◌↔◌, IfOk, IsTrue, MatchOption}
+use Rattle.description_faults.proofs.Names.{false≢true, none-some, same_Some, Data, Items, Members, no_items, item, array, as_array, get_item, get_member, view}
+use Rattle.description_faults.proofs.Names.{items_view, Value, Reads, ReadsList, AreItems, AtOr, IsList, DescriptionFault, Shape, NoMemory, HasBadItem, IsBadAt}
+use Rattle.description_faults.proofs.Names.{decided, HasList}
 use denote.RawPtr.{null_ptr}
-use Rattle.toml.specs.Data.{Data, Items, Members, no_items, item, array, as_array, get_item, get_member}
-use Rattle.toml.specs.View.{view, items_view}
-use Rattle.toml.specs.declared.value.Value.{Value}
-use Rattle.description.specs.Outcomes.{Reads, ReadsList}
-use Rattle.description.specs.Reading.{AreItems, AtOr, IsList}
-use Rattle.description.specs.declared.fault.DescriptionFault.{DescriptionFault}
-use Rattle.description.specs.declared.fault.DescriptionFault.TheVariants.{Shape, NoMemory}
-use Rattle.description_faults.specs.Outcomes.{HasBadItem, IsBadAt, decided}
-use Rattle.description_faults.specs.Shapes.{HasList}
 
 pub reads_decided : {A : Type 0} (P : A → Type 0) (r : Result A DescriptionFault) (out : Result Bool AllocError) → out ≡ decided r → Reads P r →
     IfOk out (λ fits. IsTrue fits ↔ ((x : A) × P x))

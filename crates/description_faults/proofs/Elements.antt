@@ -1,11 +1,7 @@
 -- Lists of numbers, of which one is outside a range or comes twice, and what holds of an element.
-use Rattle.std.proofs.Common.{◌≡◌, ◌≢◌, ℕ, zero, suc, ◌+◌, ◌<◌, ◌≤◌, List, [], ◌∷◌, length, map, get_or, take, Option, Some, slice_get, slice_index, IsSomeAnd, refl, sym, ap, ◌∙◌, subst, arith}
-use Rattle.std.specs.List.{All, Contains}
-use Rattle.std.proofs.lemmas.List.{take_all}
-use Rattle.std.proofs.lemmas.List.Elements.{All-cons, All-head, All-more, All-tail}
-use Rattle.std.proofs.lemmas.Option.{slice_get_read, slice_get-get_or}
-use Rattle.described_world.specs.Described.{AreDistinct}
-use Rattle.description_faults.specs.Broken.{IsOutside, IsTwice}
+use Rattle.description_faults.proofs.Names.{◌≡◌, ◌≢◌, ℕ, zero, suc, ◌+◌, ◌<◌, ◌≤◌, List, [], ◌∷◌, length, map, get_or, take, Option, Some, slice_get}
+use Rattle.description_faults.proofs.Names.{slice_index, IsSomeAnd, refl, sym, ap, ◌∙◌, subst, arith, All, Contains, take_all, All-cons, All-head, All-more}
+use Rattle.description_faults.proofs.Names.{All-tail, slice_get_read, slice_get-get_or, AreDistinct, IsOutside, IsTwice}
 
 -- an element of an index, and what holds of it
 pub element_at : {A : Type 0} (P : A → Type 0) (xs : List A) (i : ℕ) (x : A) → i < length xs → x ≡ get_or xs i x → P x → IsSomeAnd (slice_get xs i) P

@@ -1,25 +1,15 @@
 -- Where a table isn't that of a description.
-use Rattle.std.proofs.Common.{◌≡◌, ◌≢◌, ℕ, ◌<◌, List, [], ◌∷◌, length, map, codes, Option, None, Some, Result, Ok, Err, IsSomeAnd, Vec, refl, sym, ap, ◌∙◌, subst, arith}
-use Rattle.std.specs.declared.alloc.AllocError.{AllocError}
-use Rattle.std.specs.Borrow.{Bor}
-use Rattle.std.specs.Prelude.{IfOk, IsTrue, MatchOption}
-use Rattle.std.specs.List.{All, Contains}
-use Rattle.std.proofs.lemmas.List.Elements.{All-cons, All-contains}
-use Rattle.std.proofs.lemmas.Option.{none-some, same_Some}
-use Rattle.toml.specs.Data.{Data, Items, Members, array, table, get_item, get_member}
-use Rattle.toml.specs.View.{view}
-use Rattle.toml.specs.declared.value.Value.{Value}
-use Rattle.description.specs.Reading.{IsBank, IsDescription, IsList, IsNode, IsPage, IsProcess, IsRange, has_only, whole_ranges}
-use Rattle.description_faults.specs.declared.key.Key.{Key}
-use Rattle.description_faults.specs.declared.key.Key.TheVariants.{Nodes, Pages, Log, Layout, Age, Ranges, Banks, Processes, NodeList, PageList, BankNumber, BankOwner, BankLimit, ProcessRoot, ProcessAnnex, ProcessOwner, ProcessState, ProcessKey, ProcessWords, ProcessSpace, ProcessRegisters, NodeNumber, NodeOwner, NodeSlots, PageNumber, PageOwner, PageWords}
-use Rattle.description_faults.specs.declared.place.Flaw.{Flaw}
-use Rattle.description_faults.specs.declared.place.Flaw.TheVariants.{Unknown, Misfit, Item}
-use Rattle.description_faults.specs.declared.place.ShapePlace.{ShapePlace}
-use Rattle.description_faults.specs.declared.place.TableName.{TableName}
+use Rattle.description_faults.proofs.Names.{◌≡◌, ◌≢◌, ℕ, ◌<◌, List, [], ◌∷◌, length, map, codes, Option, None, Some, Result, Ok, Err, IsSomeAnd, Vec, refl, sym}
+use Rattle.description_faults.proofs.Names.{ap, ◌∙◌, subst, arith, AllocError, Bor, IfOk, IsTrue, MatchOption, All, Contains, All-cons, All-contains, none-some}
+use Rattle.description_faults.proofs.Names.{same_Some, Data, Items, Members, array, table, get_item, get_member, view, Value, IsBank, IsDescription, IsList}
+use Rattle.description_faults.proofs.Names.{IsNode, IsPage, IsProcess, IsRange, has_only, whole_ranges, Key, Nodes, Pages, Log, Layout, Age, Ranges, Banks}
+use Rattle.description_faults.proofs.Names.{Processes, NodeList, PageList, BankNumber, BankOwner, BankLimit, ProcessRoot, ProcessAnnex, ProcessOwner}
+use Rattle.description_faults.proofs.Names.{ProcessState, ProcessKey, ProcessWords, ProcessSpace, ProcessRegisters, NodeNumber, NodeOwner, NodeSlots}
+use Rattle.description_faults.proofs.Names.{PageNumber, PageOwner, PageWords, Flaw, Unknown, Misfit, Item, ShapePlace, TableName, HasBadItem, HasItemAs}
+use Rattle.description_faults.proofs.Names.{IsBadAt, IsFlawAt, IsTableOf, IsWholeItem, BreaksShape, Fits, HasItem, IsFlaw, IsItem, IsTableAt, IsUnlisted}
+use Rattle.description_faults.proofs.Names.{key_name, keys_of, object_at}
 use Rattle.description_faults.specs.declared.place.TableName.TheVariants as name
 use Rattle.description_faults.proofs.Decisions.{at_some, bad_at, unlisted_at, with_default}
-use Rattle.description_faults.specs.Outcomes.{HasBadItem, HasItemAs, IsBadAt, IsFlawAt, IsTableOf, IsWholeItem}
-use Rattle.description_faults.specs.Shapes.{BreaksShape, Fits, HasItem, IsFlaw, IsItem, IsTableAt, IsUnlisted, key_name, keys_of, object_at}
 
 -- a key that isn't that of a list of objects
 abbrev pub IsPlain : Key → Type 0

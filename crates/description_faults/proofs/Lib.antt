@@ -1,3 +1,4 @@
+mod Names
 pub mod Decisions
 pub mod Flaws
 pub mod Elements

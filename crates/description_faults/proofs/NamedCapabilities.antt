@@ -1,33 +1,14 @@
 -- The capabilities that a description names, and those that its frames hold.
-use Rattle.std.proofs.Common.{◌≡◌, ℕ, ◌<◌, ◌≤◌, inl, inr, List, [], ◌∷◌, length, Option, None, Some, slice_get, unwrap_or, IsSomeAnd, refl, sym, ap, ◌∙◌, subst, arith}
-use Rattle.std.specs.List.{All, Contains}
-use Rattle.std.proofs.lemmas.Bool.{cases_eq}
-use Rattle.std.proofs.lemmas.List.Elements.{All-cons, All-contains, All-head, All-tail}
-use Rattle.std.proofs.lemmas.Option.{get_or_from_slice_get}
-use Rattle.model.specs.declared.capability.Cap.{Cap}
-use Rattle.model.specs.declared.capability.Capability.{Capability}
-use Rattle.model.specs.declared.capability.Capability.TheVariants.{Void}
-use Rattle.model.specs.declared.frame.Frame.{Frame}
-use Rattle.model.specs.declared.geometry.Geometry.{Geometry}
-use Rattle.model.specs.Frame.{frame_at}
-use Rattle.model.specs.Keepable.{caps_in}
-use Rattle.capability.specs.Plain.{fresh_cap}
-use Rattle.consistency.specs.Consistency.{AreNamed, IsNamed, NamesItsRole}
-use Rattle.description.specs.declared.entry.Description.{Description}
-use Rattle.description.specs.declared.entry.NodeEntry.{NodeEntry}
-use Rattle.description.specs.declared.entry.ProcessEntry.{ProcessEntry}
-use Rattle.description.specs.declared.entry.SlotEntry.{SlotEntry}
-use Rattle.described_world.specs.Described.{AreSlots, HasFields, HasNumbers, HoldsNamed, IsDescribed, IsProcessEntry, named_at}
-use Rattle.described_world.specs.Laid.{AreTargets, Entry, HasProcessTargets, HasTargets, IsTarget, OfAnnex, OfBank, OfNode, OfPage, OfRoot, number_of}
-use Rattle.described_world.proofs.DescribedOnce.{described_once}
-use Rattle.described_world.proofs.Entries.{IsFrameOf, IsOf, described_cases, described_of}
-use Rattle.described_world.proofs.Lists.{all_from, all_got, first_beyond, first_of, first_there}
-use Rattle.described_world.proofs.NamedTargets.{named_targets, never_raised, role_target}
-use Rattle.description_faults.specs.declared.place.Held.{Held}
+use Rattle.description_faults.proofs.Names.{◌≡◌, ℕ, ◌<◌, ◌≤◌, inl, inr, List, [], ◌∷◌, length, Option, None, Some, slice_get, unwrap_or, IsSomeAnd, refl, sym}
+use Rattle.description_faults.proofs.Names.{ap, ◌∙◌, subst, arith, All, Contains, cases_eq, All-cons, All-contains, All-head, All-tail, get_or_from_slice_get}
+use Rattle.description_faults.proofs.Names.{Cap, Capability, Void, Frame, Geometry, frame_at, caps_in, fresh_cap, AreNamed, IsNamed, NamesItsRole, Description}
+use Rattle.description_faults.proofs.Names.{NodeEntry, ProcessEntry, SlotEntry, AreSlots, HasFields, HasNumbers, HoldsNamed, IsDescribed, IsProcessEntry}
+use Rattle.description_faults.proofs.Names.{named_at, AreTargets, Entry, HasProcessTargets, HasTargets, IsTarget, OfAnnex, OfBank, OfNode, OfPage, OfRoot}
+use Rattle.description_faults.proofs.Names.{number_of, described_once, IsFrameOf, IsOf, described_cases, described_of, all_from, all_got, first_beyond}
+use Rattle.description_faults.proofs.Names.{first_of, first_there, named_targets, never_raised, role_target, Held, BreaksTarget, HoldsAt, AllHave, AllIn}
+use Rattle.description_faults.proofs.Names.{AllOfProcess, IfNamed, OneLacks}
 use Rattle.description_faults.specs.declared.place.Held.TheVariants as held
-use Rattle.description_faults.specs.Broken.{BreaksTarget, HoldsAt}
 use Rattle.description_faults.proofs.Refuted.{all_refuted}
-use Rattle.description_faults.specs.Outcomes.{AllHave, AllIn, AllOfProcess, IfNamed, OneLacks}
 
 -- a property of what is named, or of nothing
 or_void : (P : Capability → Type 0) (o : Option Capability) → P Void → IfNamed P o → P (unwrap_or o Void)

@@ -1,19 +1,10 @@
 -- The numbers of a description, by their places among all.
-use Rattle.std.proofs.Common.{◌≡◌, ◌≢◌, ℕ, zero, suc, ◌+◌, ◌-◌, ◌<◌, ◌≤◌, List, [], ◌∷◌, ◌++◌, length, map, Option, None, Some, option_map, slice_get, IsSomeAnd, refl, sym, ap, ◌∙◌, subst, arith}
-use Rattle.std.specs.List.{All, Contains}
-use Rattle.std.proofs.lemmas.List.{length-append, length-map}
-use Rattle.std.proofs.lemmas.List.Elements.{All-contains}
-use Rattle.std.proofs.lemmas.Option.{slice_get-map}
-use Rattle.model.specs.declared.geometry.Geometry.{Geometry}
-use Rattle.model.specs.Sound.{object_count}
-use Rattle.description.specs.declared.entry.Description.{Description}
-use Rattle.described_world.specs.Described.{AreDistinct, HasNumbers, node_numbers, page_numbers}
-use Rattle.described_world.proofs.Lists.{all_got}
+use Rattle.description_faults.proofs.Names.{◌≡◌, ◌≢◌, ℕ, zero, suc, ◌+◌, ◌-◌, ◌<◌, ◌≤◌, List, [], ◌∷◌, ◌++◌, length, map, Option, None, Some, option_map}
+use Rattle.description_faults.proofs.Names.{slice_get, IsSomeAnd, refl, sym, ap, ◌∙◌, subst, arith, All, Contains, length-append, length-map, All-contains}
+use Rattle.description_faults.proofs.Names.{slice_get-map, Geometry, object_count, Description, AreDistinct, HasNumbers, node_numbers, page_numbers, all_got}
+use Rattle.description_faults.proofs.Names.{Named, BreaksNumber, IsOfItsKind, IsOutside, IsTwice, number_at, BreaksIt, place_of}
 use Rattle.description_faults.specs.declared.place.Misnumbered.TheVariants as misnumbered
-use Rattle.description_faults.specs.declared.place.Named.{Named}
 use Rattle.description_faults.specs.declared.place.Named.TheVariants as named
-use Rattle.description_faults.specs.Broken.{BreaksNumber, IsOfItsKind, IsOutside, IsTwice, number_at}
-use Rattle.description_faults.specs.Outcomes.{BreaksIt, place_of}
 use Rattle.description_faults.proofs.Refuted.{all_refuted, twice_refuted}
 
 front : {A : Type 0} (xs ys : List A) (i : ℕ) → i < length xs → slice_get (xs ++ ys) i ≡ slice_get xs i

@@ -1,21 +1,10 @@
 -- Which part of which object breaks a rule.
-use Rattle.std.proofs.Common.{◌≡◌, ℕ, ◌<◌, ◌≤◌, List, map, length, get_or, Option, None, Some, slice_get, IsSomeAnd, refl, sym, subst, arith}
-use Rattle.std.specs.Prelude.{MatchOption}
-use Rattle.std.specs.List.{All}
-use Rattle.std.proofs.lemmas.List.Elements.{All-map}
-use Rattle.model.specs.declared.capability.Capability.{Capability}
-use Rattle.description.specs.declared.entry.Description.{Description}
-use Rattle.description.specs.declared.entry.NodeEntry.{NodeEntry}
-use Rattle.description.specs.declared.entry.PageEntry.{PageEntry}
-use Rattle.description.specs.declared.entry.ProcessEntry.{ProcessEntry}
-use Rattle.description.specs.declared.entry.SlotEntry.{SlotEntry}
-use Rattle.described_world.specs.Described.{HasFields}
-use Rattle.description_faults.specs.declared.place.Held.{Held}
+use Rattle.description_faults.proofs.Names.{◌≡◌, ℕ, ◌<◌, ◌≤◌, List, map, length, get_or, Option, None, Some, slice_get, IsSomeAnd, refl, sym, subst, arith}
+use Rattle.description_faults.proofs.Names.{MatchOption, All, All-map, Capability, Description, NodeEntry, PageEntry, ProcessEntry, SlotEntry, HasFields, Held}
+use Rattle.description_faults.proofs.Names.{Part, BreaksField, HoldsAt, AllHave, BreaksNodes, BreaksPages, BreaksProcess, BreaksProcesses, LacksIt, OneLacks}
+use Rattle.description_faults.proofs.Names.{OneOf, OneOfNodes, OneOfProcess, OneOfProcesses}
 use Rattle.description_faults.specs.declared.place.Held.TheVariants as held
-use Rattle.description_faults.specs.declared.place.Part.{Part}
 use Rattle.description_faults.specs.declared.place.Part.TheVariants as part
-use Rattle.description_faults.specs.Broken.{BreaksField, HoldsAt}
-use Rattle.description_faults.specs.Outcomes.{AllHave, BreaksNodes, BreaksPages, BreaksProcess, BreaksProcesses, LacksIt, OneLacks, OneOf, OneOfNodes, OneOfProcess, OneOfProcesses}
 use Rattle.description_faults.proofs.Elements.{element_at}
 
 -- an element that is there

@@ -1,12 +1,7 @@
 -- Ranges that go on from number to number.
-use Rattle.std.proofs.Common.{◌≡◌, ℕ, zero, suc, ◌+◌, ◌<◌, ◌≤◌, List, [], ◌∷◌, ◌++◌, length, map, get_or, take, drop, refl, sym, ap, ◌∙◌, subst, arith}
-use Rattle.std.proofs.lemmas.List.{drop_all, drop_more, get_or_default, take_all, take_more}
-use Rattle.model.specs.declared.geometry.Geometry.{Geometry}
-use Rattle.model.specs.Sound.{object_count}
-use Rattle.layout.specs.Superblock.{Cover, IsNext}
-use Rattle.image_writer.specs.Laid.{placed}
-use Rattle.image_writer.specs.declared.number_range.NumberRange.{NumberRange}
-use Rattle.description_faults.specs.Broken.{GoesOn, count_in}
+use Rattle.description_faults.proofs.Names.{◌≡◌, ℕ, zero, suc, ◌+◌, ◌<◌, ◌≤◌, List, [], ◌∷◌, ◌++◌, length, map, get_or, take, drop, refl, sym, ap, ◌∙◌, subst}
+use Rattle.description_faults.proofs.Names.{arith, drop_all, drop_more, get_or_default, take_all, take_more, Geometry, object_count, Cover, IsNext, placed}
+use Rattle.description_faults.proofs.Names.{NumberRange, GoesOn, count_in}
 
 count_more : (rs : List NumberRange) (r : NumberRange) → count_in (rs ++ r ∷ []) ≡ count_in rs + r.count
 count_more [] r = omega arith

@@ -1,28 +1,13 @@
 -- What stands at a place that breaks a rule isn't there where the rule is kept.
-use Rattle.std.proofs.Common.{◌≡◌, ◌≢◌, ℕ, zero, suc, ◌+◌, ◌<◌, ◌≤◌, ◌^◌, List, [], ◌∷◌, length, map, get_or, take, Option, None, Some, slice_get, slice_index_or, IsSomeAnd, refl, sym, ap, ◌∙◌, subst, arith}
-use Rattle.std.specs.List.{All, Contains}
-use Rattle.std.proofs.lemmas.List.Elements.{All-map}
-use Rattle.std.proofs.lemmas.Option.{none-some, same_Some, slice_get_within}
-use Rattle.model.specs.declared.geometry.Geometry.{Geometry}
-use Rattle.model.specs.Sound.{object_count}
-use Rattle.layout.specs.Superblock.{Cover, IsNext}
-use Rattle.image_writer.specs.Laid.{placed}
-use Rattle.image_writer.specs.declared.number_range.NumberRange.{NumberRange}
-use Rattle.description.specs.declared.entry.Description.{Description}
-use Rattle.description.specs.declared.entry.NodeEntry.{NodeEntry}
-use Rattle.description.specs.declared.entry.PageEntry.{PageEntry}
-use Rattle.description.specs.declared.entry.SlotEntry.{SlotEntry}
-use Rattle.described_world.specs.Described.{AreDistinct, AreSlots, AreWords, HasFields, IsProcessEntry, IsSomeCapability}
-use Rattle.described_world.proofs.Lists.{all_got}
-use Rattle.description_faults.specs.declared.place.Indexed.{Indexed}
+use Rattle.description_faults.proofs.Names.{◌≡◌, ◌≢◌, ℕ, zero, suc, ◌+◌, ◌<◌, ◌≤◌, ◌^◌, List, [], ◌∷◌, length, map, get_or, take, Option, None, Some, slice_get}
+use Rattle.description_faults.proofs.Names.{slice_index_or, IsSomeAnd, refl, sym, ap, ◌∙◌, subst, arith, All, Contains, All-map, none-some, same_Some}
+use Rattle.description_faults.proofs.Names.{slice_get_within, Geometry, object_count, Cover, IsNext, placed, NumberRange, Description, NodeEntry, PageEntry}
+use Rattle.description_faults.proofs.Names.{SlotEntry, AreDistinct, AreSlots, AreWords, HasFields, IsProcessEntry, IsSomeCapability, all_got, Indexed, Limit}
+use Rattle.description_faults.proofs.Names.{Part, SlotFlaw, BreaksField, BreaksIndexed, BreaksRanges, BreaksSlots, GoesOn, IsOutside, IsTwice, count_in}
 use Rattle.description_faults.specs.declared.place.Indexed.TheVariants as indexed
-use Rattle.description_faults.specs.declared.place.Limit.{Limit}
 use Rattle.description_faults.specs.declared.place.Limit.TheVariants as limit
-use Rattle.description_faults.specs.declared.place.Part.{Part}
 use Rattle.description_faults.specs.declared.place.Part.TheVariants as part
-use Rattle.description_faults.specs.declared.place.SlotFlaw.{SlotFlaw}
 use Rattle.description_faults.specs.declared.place.SlotFlaw.TheVariants as slot
-use Rattle.description_faults.specs.Broken.{BreaksField, BreaksIndexed, BreaksRanges, BreaksSlots, GoesOn, IsOutside, IsTwice, count_in}
 
 -- an element that breaks what all keep
 pub all_refuted : {A : Type 0} (P Q : A → Type 0) (xs : List A) (i : ℕ) → IsSomeAnd (slice_get xs i) Q → ((x : A) → P x → Q x → ⊥) → All P xs → ⊥

@@ -1,14 +1,8 @@
 -- Lists of slots and words whose indexes are as they must be.
-use Rattle.std.proofs.Common.{◌≡◌, ℕ, ◌<◌, ◌≤◌, List, map, Option, None, Some, slice_get, IsSomeAnd, refl, sym, subst}
-use Rattle.std.specs.Prelude.{MatchOption}
-use Rattle.std.specs.List.{All}
-use Rattle.description.specs.declared.entry.SlotEntry.{SlotEntry}
-use Rattle.description.specs.declared.entry.WordEntry.{WordEntry}
-use Rattle.described_world.specs.Described.{AreDistinct, AreSlots, AreWords, IsSomeCapability}
-use Rattle.description_faults.specs.declared.place.Indexed.{Indexed}
-use Rattle.description_faults.specs.declared.place.SlotFlaw.{SlotFlaw}
+use Rattle.description_faults.proofs.Names.{◌≡◌, ℕ, ◌<◌, ◌≤◌, List, map, Option, None, Some, slice_get, IsSomeAnd, refl, sym, subst, MatchOption, All}
+use Rattle.description_faults.proofs.Names.{SlotEntry, WordEntry, AreDistinct, AreSlots, AreWords, IsSomeCapability, Indexed, SlotFlaw, BreaksIndexed}
+use Rattle.description_faults.proofs.Names.{BreaksSlots}
 use Rattle.description_faults.specs.declared.place.SlotFlaw.TheVariants as slot
-use Rattle.description_faults.specs.Broken.{BreaksIndexed, BreaksSlots}
 use Rattle.description_faults.proofs.Elements.{all_unmapped}
 
 pub slots_end : (first : ℕ) (slots : List SlotEntry) (ns : List ℕ) (found : Option SlotFlaw) → ns ≡ map (λ s. s.index) slots → All (λ n. (first ≤ n) × (n < 32)) ns × AreDistinct ns

@@ -1,18 +1,7 @@
 -- Where a description breaks the rules beyond its shape.
-use Rattle.std.specs.Prelude.{◌≡◌, ◌≢◌, ℕ, ◌+◌, ◌^◌, ◌<◌, ◌≤◌, List, [], ◌∷◌, Option, None, Some, length, map, option_map, slice_get, take, IsSomeAnd}
-use Rattle.model.specs.declared.capability.Capability.{Capability}
-use Rattle.model.specs.declared.frame.Frame.{Frame}
-use Rattle.model.specs.declared.geometry.Geometry.{Geometry}
-use Rattle.model.specs.Sound.{object_count}
-use Rattle.layout.specs.Superblock.{IsNext, version_number}
-use Rattle.layout.specs.declared.version.Version.{Version}
-use Rattle.image_writer.specs.Laid.{placed}
-use Rattle.image_writer.specs.declared.number_range.NumberRange.{NumberRange}
-use Rattle.consistency.specs.Consistency.{IsUnbanked, NamesItsRole}
-use Rattle.consistency.specs.declared.reason.Unbanked.{Unbanked}
-use Rattle.description.specs.declared.entry.Description.{Description}
-use Rattle.description.specs.declared.entry.SlotEntry.{SlotEntry}
-use Rattle.described_world.specs.Described.{IsDescribed, IsSomeCapability, IsSpaceEntry}
+use Rattle.description_faults.specs.Names.{◌≡◌, ◌≢◌, ℕ, ◌+◌, ◌^◌, ◌<◌, ◌≤◌, List, [], ◌∷◌, Option, None, Some, length, map, option_map, slice_get, take}
+use Rattle.description_faults.specs.Names.{IsSomeAnd, Capability, Frame, Geometry, object_count, IsNext, version_number, Version, placed, NumberRange}
+use Rattle.description_faults.specs.Names.{IsUnbanked, NamesItsRole, Unbanked, Description, SlotEntry, IsDescribed, IsSomeCapability, IsSpaceEntry}
 use Rattle.description_faults.specs.declared.place.Held.{Held}
 use Rattle.description_faults.specs.declared.place.Held.TheVariants as held
 use Rattle.description_faults.specs.declared.place.Indexed.{Indexed}

@@ -1,3 +1,4 @@
+pub mod Names
 pub mod Broken
 pub mod Outcomes
 pub mod Shapes

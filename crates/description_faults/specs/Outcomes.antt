@@ -1,19 +1,8 @@
 -- What the functions that look for a place answer.
-use Rattle.std.specs.Prelude.{◌≡◌, ℕ, ◌+◌, ◌^◌, ◌≤◌, Bool, true, false, List, length, map, slice_get, Option, None, Some, Result, Ok, Err, IsSomeAnd, alloc_error}
-use Rattle.std.specs.declared.alloc.AllocError.{AllocError}
-use Rattle.std.specs.List.{All}
-use Rattle.model.specs.declared.capability.Capability.{Capability}
-use Rattle.described_world.specs.Described.{IsSpaceEntry, node_numbers}
-use Rattle.toml.specs.Data.{Data, Items, Members, array, get_item, get_member}
-use Rattle.description.specs.declared.entry.BankEntry.{BankEntry}
-use Rattle.description.specs.declared.entry.Description.{Description}
-use Rattle.description.specs.declared.entry.NodeEntry.{NodeEntry}
-use Rattle.description.specs.declared.entry.PageEntry.{PageEntry}
-use Rattle.description.specs.declared.entry.ProcessEntry.{ProcessEntry}
-use Rattle.description.specs.declared.entry.SlotEntry.{SlotEntry}
-use Rattle.description.specs.declared.fault.DescriptionFault.{DescriptionFault}
-use Rattle.description.specs.declared.fault.DescriptionFault.TheVariants.{Shape, NoMemory}
-use Rattle.description.specs.Reading.{IsBank, IsDescription, IsNode, IsPage, IsProcess, IsTable}
+use Rattle.description_faults.specs.Names.{◌≡◌, ℕ, ◌+◌, ◌^◌, ◌≤◌, Bool, true, false, List, length, map, slice_get, Option, None, Some, Result, Ok, Err}
+use Rattle.description_faults.specs.Names.{IsSomeAnd, alloc_error, AllocError, All, Capability, IsSpaceEntry, node_numbers, Data, Items, Members, array}
+use Rattle.description_faults.specs.Names.{get_item, get_member, BankEntry, Description, NodeEntry, PageEntry, ProcessEntry, SlotEntry, DescriptionFault, Shape}
+use Rattle.description_faults.specs.Names.{NoMemory, IsBank, IsDescription, IsNode, IsPage, IsProcess, IsTable}
 use Rattle.description_faults.specs.declared.key.Key.{Key}
 use Rattle.description_faults.specs.declared.key.Key.TheVariants.{Banks, Processes, NodeList, PageList}
 use Rattle.description_faults.specs.declared.place.TableName.{TableName}

@@ -1,19 +1,8 @@
 -- Where a table hasn't the shape of a description.
-use Rattle.std.specs.Prelude.{◌≡◌, ℕ, Bool, true, false, List, [], ◌∷◌, Option, None, Some, map, codes, Vec, IsSomeAnd, IsTrue}
-use Rattle.std.specs.List.{Contains, list_any}
-use Rattle.std.specs.declared.alloc.Global.{Global}
-use Rattle.image_writer.specs.declared.number_range.NumberRange.{NumberRange}
-use Rattle.model.specs.declared.capability.Capability.{Capability}
-use Rattle.model.specs.declared.capability.Capability.TheVariants.{Void}
-use Rattle.model.specs.declared.object.State.{State}
-use Rattle.toml.specs.Data.{Data, Items, Members, array, table, get_item, get_member, same_key}
-use Rattle.description.specs.declared.entry.BankEntry.{BankEntry}
-use Rattle.description.specs.declared.entry.NodeEntry.{NodeEntry}
-use Rattle.description.specs.declared.entry.PageEntry.{PageEntry}
-use Rattle.description.specs.declared.entry.ProcessEntry.{ProcessEntry}
-use Rattle.description.specs.declared.entry.SlotEntry.{SlotEntry}
-use Rattle.description.specs.declared.entry.WordEntry.{WordEntry}
-use Rattle.description.specs.Reading.{AreFour, At, AtOr, IsBank, IsCapability, IsList, IsNode, IsNumber, IsPage, IsProcess, IsRange, IsSlot, IsState, IsTable, IsWideNumber, IsWord, has_key}
+use Rattle.description_faults.specs.Names.{◌≡◌, ℕ, Bool, true, false, List, [], ◌∷◌, Option, None, Some, map, codes, Vec, IsSomeAnd, IsTrue, Contains, list_any}
+use Rattle.description_faults.specs.Names.{Global, NumberRange, Capability, Void, State, Data, Items, Members, array, table, get_item, get_member, same_key}
+use Rattle.description_faults.specs.Names.{BankEntry, NodeEntry, PageEntry, ProcessEntry, SlotEntry, WordEntry, AreFour, At, AtOr, IsBank, IsCapability, IsList}
+use Rattle.description_faults.specs.Names.{IsNode, IsNumber, IsPage, IsProcess, IsRange, IsSlot, IsState, IsTable, IsWideNumber, IsWord, has_key}
 use Rattle.description_faults.specs.declared.key.Key.{Key}
 use Rattle.description_faults.specs.declared.key.Key.TheVariants.{Nodes, Pages, Log, Layout, Age, Ranges, Banks, Processes, NodeList, PageList, BankNumber, BankOwner, BankLimit, ProcessRoot, ProcessAnnex, ProcessOwner, ProcessState, ProcessKey, ProcessWords, ProcessSpace, ProcessRegisters, NodeNumber, NodeOwner, NodeSlots, PageNumber, PageOwner, PageWords}
 use Rattle.description_faults.specs.declared.place.Flaw.{Flaw}

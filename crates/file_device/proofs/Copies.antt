@@ -1,16 +1,10 @@
 -- Each call keeps the copy and the file in accord.
-use Rattle.std.proofs.Common.{◌≡◌, ◌<◌, ◌≤◌, ℕ, ◌+◌, ◌-◌, ◌*◌, List, [], ◌∷◌, ◌++◌, length, All, Result, Ok, Err, OnOk, OnErr, refl, sym, ◌∙◌, ap, subst, arith, inl, ⊎_elim}
-use Rattle.std.proofs.lemmas.Bool.{cases_lt}
-use Rattle.memory_device.specs.declared.record.Outcome.TheVariants.{Keep}
-use Rattle.device.specs.Disk.{IsWhole}
-use Rattle.device.specs.Calls.{Elsewhere, AreSectors, sectors_of, image_of, Narrows, Tears, Only}
-use Rattle.device.specs.Moments.{Elapses}
-use Rattle.memory_device.specs.Past.{Event, synced, cut, State, at_first, after, MayLeave, disk_of, writes_of}
-use Rattle.memory_device.specs.PastLaws.{image_whole}
-use Rattle.memory_device.proofs.Past.{replay-append, replay-one, written-durable}
+use Rattle.file_device.proofs.Names.{◌≡◌, ◌<◌, ◌≤◌, ℕ, ◌+◌, ◌-◌, ◌*◌, List, [], ◌∷◌, ◌++◌, length, All, Result, Ok, Err, OnOk, OnErr, refl, sym, ◌∙◌, ap, subst}
+use Rattle.file_device.proofs.Names.{arith, inl, ⊎_elim, cases_lt, Keep, IsWhole, Elsewhere, AreSectors, sectors_of, image_of, Narrows, Tears, Only, Elapses}
+use Rattle.file_device.proofs.Names.{Event, cut, State, at_first, after, MayLeave, disk_of, writes_of, image_whole, replay-append, replay-one, written-durable}
+use Rattle.file_device.proofs.Names.{IsCopy, now_of, present_whole, unwritten_same}
+use Rattle.memory_device.specs.Past.{synced}
 use Rattle.memory_device.proofs.Disks as Disks
-use Rattle.file_device.specs.Sound.{IsCopy, now_of}
-use Rattle.file_device.specs.SoundLaws.{present_whole, unwritten_same}
 
 -- a file to which nothing has been done
 pub copy_fresh : (sectors : ℕ) (copy first : List ℕ) (events : List Event) → sectors ≤ 131072 → length copy ≡ 512 * sectors → All (λ b. b < 256) copy → first ≡ copy → events ≡ [] → IsCopy sectors copy first events

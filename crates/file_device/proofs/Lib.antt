@@ -1,3 +1,4 @@
+mod Names
 mod Copies
 mod Deeds
 mod Mirrored

@@ -1,14 +1,7 @@
 -- A device has the sectors of its file.
-use Rattle.std.proofs.Common.{◌≡◌, ◌<◌, ◌≤◌, ℕ, ◌+◌, ◌*◌, ◌/◌, List, [], ◌∷◌, ◌++◌, Option, None, Some, IfSome, length, take, drop, replicate, refl, sym, ap, ◌∙◌, subst, arith, length-append}
-use Rattle.std.proofs.Math.Seq.{take-add}
-use Rattle.std.proofs.lemmas.List.{drop-drop, length-replicate, take-replicate}
-use Rattle.std.specs.List.{concat}
-use Rattle.device.specs.Disk.{Disk}
-use Rattle.device.specs.Calls.{image_of, sectors_of}
-use Rattle.device.proofs.Flat.{got_inside, zeros_are}
-use Rattle.file_device.specs.declared.openable.Access.{Access}
-use Rattle.file_device.specs.declared.openable.Lock.{Lock}
-use Rattle.file_device.specs.OpeningCalls.{OpeningCall, reads, IsOpened, IsMade, Answers, Mirrors}
+use Rattle.file_device.proofs.Names.{◌≡◌, ◌<◌, ◌≤◌, ℕ, ◌+◌, ◌*◌, ◌/◌, List, [], ◌∷◌, ◌++◌, Option, None, Some, IfSome, length, take, drop, replicate, refl, sym}
+use Rattle.file_device.proofs.Names.{ap, ◌∙◌, subst, arith, length-append, take-add, drop-drop, length-replicate, take-replicate, concat, Disk, image_of}
+use Rattle.file_device.proofs.Names.{sectors_of, got_inside, zeros_are, Access, Lock, OpeningCall, reads, IsOpened, IsMade, Answers, Mirrors}
 
 -- what reads got of a file, where they are true of it
 reads_true : (first now : List ℕ) (byte : ℕ) (pieces : List (List ℕ)) → Answers first (reads byte pieces) now

@@ -1,19 +1,10 @@
 -- The calls that open or make a device, one after another.
-use Rattle.std.proofs.Common.{◌≡◌, ℕ, ◌+◌, ◌*◌, ◌≤◌, List, [], ◌∷◌, ◌++◌, Option, option_map, None, Some, IfSome, length, take, refl, sym, ap, ◌∙◌, subst, append-nil, arith, length-append, length-take-le, drop_at}
-use Rattle.std.proofs.Math.Seq.{take-add}
-use Rattle.std.proofs.lemmas.List.{take-append-le}
-use Rattle.std.proofs.lemmas.List.Folds.{concat-append}
-use Rattle.std.proofs.lemmas.Slice.{take-put_mid_below}
-use Rattle.std.specs.List.{concat}
+use Rattle.file_device.proofs.Names.{◌≡◌, ℕ, ◌+◌, ◌*◌, ◌≤◌, List, [], ◌∷◌, ◌++◌, Option, option_map, None, Some, IfSome, length, take, refl, sym, ap, ◌∙◌}
+use Rattle.file_device.proofs.Names.{subst, append-nil, arith, length-append, length-take-le, drop_at, take-add, take-append-le, concat-append}
+use Rattle.file_device.proofs.Names.{take-put_mid_below, concat, Disk, Agrees, image_of, sectors_of, Access, Create, Lock, Exclusive, OpeningCall, opened}
+use Rattle.file_device.proofs.Names.{locked, synced, measured, got, resized, listed, resizes, KeepsLength, reads, Gets, LoadsLocked, MakesZeros, IsOpened}
+use Rattle.file_device.proofs.Names.{IsMade, Adds}
 use borrow.Rule.Slice.PartMut.{put_mid, post_of}
-use Rattle.device.specs.Disk.{Disk}
-use Rattle.device.specs.Calls.{Agrees, image_of, sectors_of}
-use Rattle.file_device.specs.declared.openable.Access.{Access}
-use Rattle.file_device.specs.declared.openable.Access.TheVariants.{Create}
-use Rattle.file_device.specs.declared.openable.Lock.{Lock}
-use Rattle.file_device.specs.declared.openable.Lock.TheVariants.{Exclusive}
-use Rattle.file_device.specs.OpeningCalls.{OpeningCall, opened, locked, synced, measured, got, resized, listed, resizes, KeepsLength, reads, Gets, LoadsLocked, MakesZeros, IsOpened, IsMade}
-use Rattle.file_device.specs.RawCalls.{Adds}
 use Rattle.file_device.proofs.Deeds.{adds_none, adds_more}
 
 abbrev Calls : Type 0

@@ -1,8 +1,6 @@
 -- How the logic stores an event of a device.
-use Rattle.std.specs.Prelude.{◌≡◌, ℕ, zero, suc, List, [], refl}
-use Rattle.std.specs.Coded.{Coded, code_by, coded×, coded_ℕ, coded_list}
-use Rattle.memory_device.specs.declared.record.Outcome.TheVariants.{Keep, Drop, Fill}
-use Rattle.memory_device.specs.Past.{Event, wrote, synced, cut}
+use Rattle.file_device.specs.Names.{◌≡◌, ℕ, zero, suc, List, [], Coded, code_by, coded×, coded_ℕ, coded_list, Keep, Drop, Fill, Event, wrote, synced, cut}
+use Rattle.std.specs.Prelude.{refl}
 
 -- which event, a number and bytes
 abbrev Parts : Type 0

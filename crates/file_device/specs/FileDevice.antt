@@ -1,7 +1,5 @@
 -- A device in a file.
-use Rattle.device.specs.Disk.{Disk}
-use Rattle.device.specs.Calls.{image_of}
-use Rattle.memory_device.specs.Past.{disk_of}
+use Rattle.file_device.specs.Names.{Disk, image_of, disk_of}
 use Rattle.file_device.specs.declared.file_device.CopiedFile.{CopiedFile}
 use Rattle.file_device.specs.declared.host_file.HostFile.{HostFile}
 use Rattle.file_device.specs.declared.raw_file.RawFile as raws

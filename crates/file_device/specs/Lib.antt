@@ -1,3 +1,4 @@
+pub mod Names
 pub mod Codes
 pub mod FileDevice
 pub mod OpeningCalls

@@ -1,8 +1,5 @@
 -- What holds of a file and its copy, whatever was done to it.
-use Rattle.std.specs.Prelude.{◌≡◌, ◌<◌, ◌≤◌, ℕ, ◌*◌, List, length, All}
-use Rattle.device.specs.Disk.{IsWhole}
-use Rattle.device.specs.Calls.{Agrees, image_of}
-use Rattle.memory_device.specs.Past.{Event, State, at_first, replay}
+use Rattle.file_device.specs.Names.{◌≡◌, ◌<◌, ◌≤◌, ℕ, ◌*◌, List, length, All, IsWhole, Agrees, image_of, Event, State, at_first, replay}
 
 -- the sectors after all that was done to the file
 abbrev pub now_of : List ℕ → List Event → State

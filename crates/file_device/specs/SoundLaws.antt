@@ -1,11 +1,6 @@
 -- What follows for the sectors of a file from what holds of its copy.
-use Rattle.std.specs.Prelude.{◌≡◌, ℕ, Bool, true, false, ◌||◌, ◌==◌, if◌then◌else◌, List, [], ◌∷◌}
-use Rattle.std.proofs.Common.{refl, ap, ◌∙◌, subst}
-use Rattle.std.proofs.Math.Path.{fun_ext}
-use Rattle.device.specs.Disk.{Image, IsWhole}
-use Rattle.device.specs.Calls.{image_of}
-use Rattle.memory_device.specs.Past.{Event, wrote, synced, cut, State, at_first, after, replay, MayLeave}
-use Rattle.memory_device.specs.PastLaws.{image_whole}
+use Rattle.file_device.specs.Names.{◌≡◌, ℕ, Bool, true, false, ◌||◌, ◌==◌, if◌then◌else◌, List, [], ◌∷◌, refl, ap, ◌∙◌, subst, fun_ext, Image, IsWhole}
+use Rattle.file_device.specs.Names.{image_of, Event, wrote, synced, cut, State, at_first, after, replay, MayLeave, image_whole}
 use Rattle.file_device.specs.Sound.{IsCopy, now_of}
 
 -- what wasn't written since the last sync or power cut is durable

@@ -1,8 +1,5 @@
 -- What a step of a file adds to its history.
-use Rattle.std.specs.Prelude.{ℕ, ◌+◌, List, [], ◌∷◌, ◌++◌}
-use Rattle.memory_device.specs.declared.record.Outcome.TheVariants.{Keep}
-use Rattle.device.specs.Calls.{sectors_of}
-use Rattle.memory_device.specs.Past.{Event, synced, cut, writes_of}
+use Rattle.file_device.specs.Names.{ℕ, ◌+◌, List, [], ◌∷◌, ◌++◌, Keep, sectors_of, Event, synced, cut, writes_of}
 use Rattle.file_device.specs.declared.history.History.{History}
 use Rattle.file_device.specs.declared.history.Step.{Step}
 use Rattle.file_device.specs.declared.history.Step.TheVariants.{Wrote, Synced, Cut, Failed}

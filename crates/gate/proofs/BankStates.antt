@@ -1,38 +1,12 @@
 -- What is counted, as a process that returns becomes available, after the reply, and after an invocation that asks no bank.
-use Rattle.std.proofs.Common.{◌≡◌, ℕ, ◌+◌, ◌++◌, ◌≤◌, ◌&&◌, Bool, true, false, List, Result, Ok, Err, drop, length, refl, sym, ap, subst, ◌∙◌, arith, if◌then◌else◌}
-use Rattle.std.specs.Prelude.{IsTrue, OnOk, OnErr, slice_index}
-use Rattle.std.specs.List.{All}
-use Rattle.model.specs.declared.capability.Capability.TheVariants.{Bank}
+use Rattle.gate.proofs.Names.{◌≡◌, ℕ, ◌+◌, ◌++◌, ◌≤◌, ◌&&◌, Bool, true, false, List, Result, Ok, Err, drop, length, refl, sym, ap, subst, ◌∙◌, arith}
+use Rattle.gate.proofs.Names.{if◌then◌else◌, IsTrue, OnOk, OnErr, slice_index, All, Bank, Invocation, Frame, Operation, Call, Return, Send, Geometry, Object}
+use Rattle.gate.proofs.Names.{Arguments, objects_of, deliver, AreCurrent, AreKeepable, IsSoundFrames, is_running, IsNoBankOrder, IsSound, NamesItsKind, Fits}
+use Rattle.gate.proofs.Names.{World, annex_at, is_process, is_running_process, register_at, root_at, deliver_frame, invocation_frame, state_sound, AreArguments}
+use Rattle.gate.proofs.Names.{IsNow, held_to, SameFrame, frame_refl, tests_at, usage_same, Caller, OrderPlan, Reply, message_of, AreSound, IsUnchanged, Parts}
+use Rattle.gate.proofs.Names.{frames_of, objects_in, AreCounted, BanksState, MayAsk, writer_count, writers, IsPlanned, answered, arguments_of, state_before}
+use Rattle.gate.proofs.Names.{MayChange, Invokes, IsAsked}
 use Rattle.model.specs.declared.command.Command.TheVariants as command
-use Rattle.model.specs.declared.command.Invocation.{Invocation}
-use Rattle.model.specs.declared.frame.Frame.{Frame}
-use Rattle.model.specs.declared.command.Operation.{Operation}
-use Rattle.model.specs.declared.command.Operation.TheVariants.{Call, Return, Send}
-use Rattle.model.specs.declared.geometry.Geometry.{Geometry}
-use Rattle.model.specs.declared.object.Object.{Object}
-use Rattle.model.specs.declared.order.Arguments.{Arguments}
-use Rattle.model.specs.Frame.{objects_of}
-use Rattle.model.specs.Invoke.{deliver}
-use Rattle.model.specs.Keepable.{AreCurrent, AreKeepable, IsSoundFrames}
-use Rattle.model.specs.Object.{is_running}
-use Rattle.model.specs.Order.{IsNoBankOrder}
-use Rattle.model.specs.Sound.{IsSound, NamesItsKind}
-use Rattle.model.specs.Text.{Fits}
-use Rattle.model.specs.World.{World, annex_at, is_process, is_running_process, register_at, root_at}
-use Rattle.model_laws.proofs.InvocationFrame.{deliver_frame, invocation_frame, state_sound}
-use Rattle.model_laws.proofs.SoundOrders.{AreArguments, IsNow}
-use Rattle.model_laws.proofs.SoundParts.{held_to}
-use Rattle.model_laws.proofs.Usage.{SameFrame, frame_refl, tests_at, usage_same}
-use Rattle.capability.specs.declared.order.Caller.{Caller}
-use Rattle.capability.specs.declared.order.OrderPlan.{OrderPlan}
-use Rattle.capability.specs.declared.order.Reply.{Reply}
-use Rattle.capability.specs.Changes.{message_of}
-use Rattle.capability.specs.Parts.{AreSound, IsUnchanged, Parts, frames_of, objects_in}
-use Rattle.space_bank.specs.Banks.{AreCounted, BanksState, MayAsk}
-use Rattle.space_bank.specs.Planning.{writer_count, writers}
-use Rattle.gate.specs.Ordering.{IsPlanned, answered, arguments_of, state_before}
-use Rattle.gate.specs.Plan.{MayChange}
-use Rattle.gate.specs.Invoke.{Invokes, IsAsked}
 use Rattle.gate.proofs.Effects.{frame_before}
 use Rattle.gate.proofs.Known.{running_process, same_frames}
 use Rattle.gate.proofs.Plans.{arguments_held, invoked_held}

@@ -1,43 +1,13 @@
 -- What an invocation comes to, from what each part of it told.
-use Rattle.std.proofs.Common.{◌≡◌, ℕ, zero, suc, ◌+◌, ◌++◌, ◌^◌, ◌<◌, ◌≤◌, Bool, List, Option, None, Some, drop, length, refl, sym, ap, ◌∙◌, subst, arith, if◌then◌else◌}
-use Rattle.std.specs.Prelude.{IsTrue, slice_index}
-use Rattle.std.specs.List.{All}
-use Rattle.model.specs.declared.capability.Capability.{Capability}
-use Rattle.model.specs.declared.capability.Capability.TheVariants.{Void, Number, Page, Node, Space, Process, Start, Resume, Bank, Discrim}
+use Rattle.gate.proofs.Names.{◌≡◌, ℕ, zero, suc, ◌+◌, ◌++◌, ◌^◌, ◌<◌, ◌≤◌, Bool, List, Option, None, Some, drop, length, refl, sym, ap, ◌∙◌, subst, arith}
+use Rattle.gate.proofs.Names.{if◌then◌else◌, IsTrue, slice_index, All, Capability, Void, Number, Page, Node, Space, Process, Start, Resume, Bank, Discrim}
+use Rattle.gate.proofs.Names.{Invocation, Operation, Call, Return, Send, Frame, Geometry, Object, Available, Arguments, ResultCode, objects_of, Effect}
+use Rattle.gate.proofs.Names.{can_start, invoke, on_kernel_object, ordered, through_gate, AreCurrent, AreKeepable, IsSoundFrames, world_at, touching}
+use Rattle.gate.proofs.Names.{touched_count, order, OrderOutcome, consume, IsSound, object_count, Fits, World, annex_at, is_process, is_running_process}
+use Rattle.gate.proofs.Names.{register_at, with_state, state_frame, invocation_keeps, ordered_keeps, order_keeps, IsNow, held_to, SameFrame, frame_refl, Caller}
+use Rattle.gate.proofs.Names.{OrderPlan, Reply, changed, writer_count, writers, Invokes, IsAsked, IsKernelObject, Overfills, result_code, IsPlanned, answered}
+use Rattle.gate.proofs.Names.{arguments_of, finished, ordered_by, state_before, FitsCap, fetched_of}
 use Rattle.model.specs.declared.command.Command.TheVariants as command
-use Rattle.model.specs.declared.command.Invocation.{Invocation}
-use Rattle.model.specs.declared.command.Operation.{Operation}
-use Rattle.model.specs.declared.command.Operation.TheVariants.{Call, Return, Send}
-use Rattle.model.specs.declared.frame.Frame.{Frame}
-use Rattle.model.specs.declared.geometry.Geometry.{Geometry}
-use Rattle.model.specs.declared.object.Object.{Object}
-use Rattle.model.specs.declared.object.State.TheVariants.{Available}
-use Rattle.model.specs.declared.order.Arguments.{Arguments}
-use Rattle.model.specs.declared.order.ResultCode.{ResultCode}
-use Rattle.model.specs.Frame.{objects_of}
-use Rattle.model.specs.Invoke.{Effect, can_start, invoke, on_kernel_object, ordered, through_gate}
-use Rattle.model.specs.Keepable.{AreCurrent, AreKeepable, IsSoundFrames, world_at}
-use Rattle.model.specs.Machine.{touching, touched_count}
-use Rattle.model.specs.Order.{order}
-use Rattle.model.specs.OrderOutcome.{OrderOutcome}
-use Rattle.model.specs.Revoke.{consume}
-use Rattle.model.specs.Sound.{IsSound, object_count}
-use Rattle.model.specs.Text.{Fits}
-use Rattle.model.specs.World.{World, annex_at, is_process, is_running_process, register_at, with_state}
-use Rattle.model_laws.proofs.InvocationFrame.{state_frame}
-use Rattle.model_laws.proofs.SoundGates.{invocation_keeps, ordered_keeps}
-use Rattle.model_laws.proofs.SoundObjects.{order_keeps}
-use Rattle.model_laws.proofs.SoundOrders.{IsNow}
-use Rattle.model_laws.proofs.SoundParts.{held_to}
-use Rattle.model_laws.proofs.Usage.{SameFrame, frame_refl}
-use Rattle.capability.specs.declared.order.Caller.{Caller}
-use Rattle.capability.specs.declared.order.OrderPlan.{OrderPlan}
-use Rattle.capability.specs.declared.order.Reply.{Reply}
-use Rattle.capability.specs.Changes.{changed}
-use Rattle.space_bank.specs.Planning.{writer_count, writers}
-use Rattle.gate.specs.Invoke.{Invokes, IsAsked, IsKernelObject, Overfills, result_code}
-use Rattle.gate.specs.Ordering.{IsPlanned, answered, arguments_of, finished, ordered_by, state_before}
-use Rattle.gate.specs.Plan.{FitsCap, fetched_of}
 use Rattle.gate.proofs.Fits.{held_fits}
 use Rattle.gate.proofs.Plans.{arguments_held, change_fetched, invoked_held}
 

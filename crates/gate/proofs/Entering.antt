@@ -1,25 +1,8 @@
 -- What an invocation through a gate comes to.
-use Rattle.std.proofs.Common.{◌≡◌, ℕ, ◌^◌, ◌<◌, Bool, true, false, ◌||◌, List, None, Some, refl, sym, ap, ◌∙◌, subst, if◌then◌else◌}
-use Rattle.std.specs.Prelude.{IsTrue, slice_set}
-use Rattle.std.specs.List.{All}
-use Rattle.std.proofs.lemmas.List.Elements.{All-map, All-set}
-use Rattle.model.specs.declared.capability.Capability.{Capability}
-use Rattle.model.specs.declared.capability.Capability.TheVariants.{Resume}
-use Rattle.model.specs.declared.command.Invocation.{Invocation}
-use Rattle.model.specs.declared.command.Operation.{Operation}
-use Rattle.model.specs.declared.command.Operation.TheVariants.{Call, Return, Send}
-use Rattle.model.specs.declared.geometry.Geometry.{Geometry}
-use Rattle.model.specs.declared.object.Object.{Object}
-use Rattle.model.specs.Invoke.{Effect, can_start, invoke, sent_by, through_gate}
-use Rattle.model.specs.Sound.{NamesItsKind, object_count}
-use Rattle.model.specs.World.{annex_at, is_process, register_at}
-use Rattle.model_laws.proofs.SoundOrders.{IsNow}
-use Rattle.model_laws.proofs.SoundParts.{held_to}
-use Rattle.capability.specs.Parts.{AreSound, Parts, objects_in}
-use Rattle.gate.specs.declared.gates.Gate.{Gate}
-use Rattle.capability.specs.declared.order.Caller.{Caller}
-use Rattle.gate.specs.Invoke.{IsAsked, entered, gate_capability, received, result_code, written_through}
-use Rattle.gate.specs.Plan.{FitsCap}
+use Rattle.gate.proofs.Names.{◌≡◌, ℕ, ◌^◌, ◌<◌, Bool, true, false, ◌||◌, List, None, Some, refl, sym, ap, ◌∙◌, subst, if◌then◌else◌, IsTrue, slice_set, All}
+use Rattle.gate.proofs.Names.{All-map, All-set, Capability, Resume, Invocation, Operation, Call, Return, Send, Geometry, Object, Effect, can_start, invoke}
+use Rattle.gate.proofs.Names.{sent_by, through_gate, NamesItsKind, object_count, annex_at, is_process, register_at, IsNow, held_to, AreSound, Parts, objects_in}
+use Rattle.gate.proofs.Names.{Gate, Caller, IsAsked, entered, gate_capability, received, result_code, written_through, FitsCap}
 use Rattle.gate.proofs.Effects.{code_by, invoke_is, invoked_by}
 use Rattle.gate.proofs.Fits.{held_fits, resume_fits}
 use Rattle.gate.proofs.Standing.{register_kind}

@@ -1,26 +1,10 @@
 -- Capabilities that may be kept.
-use Rattle.std.proofs.Common.{◌≡◌, ℕ, true, ◌^◌, ◌<◌, ◌≤◌, List, length, refl, sym, subst, arith}
-use Rattle.std.specs.Prelude.{IsTrue}
-use Rattle.std.proofs.Math.ListN.{get_or-map}
-use Rattle.model.specs.declared.capability.Cap.{Cap}
-use Rattle.model.specs.declared.capability.Capability.{Capability}
-use Rattle.model.specs.declared.capability.Capability.TheVariants.{Void, Number, Page, Node, Space, Process, Start, Resume, Bank, Discrim}
-use Rattle.model.specs.declared.frame.Frame.{Frame}
-use Rattle.model.specs.declared.frame.ObjectHeader.{ObjectHeader}
-use Rattle.model.specs.declared.geometry.Geometry.{Geometry}
-use Rattle.model.specs.declared.object.Content.{Content}
+use Rattle.gate.proofs.Names.{◌≡◌, ℕ, true, ◌^◌, ◌<◌, ◌≤◌, List, length, refl, sym, subst, arith, IsTrue, get_or-map, Cap, Capability, Void, Number, Page, Node}
+use Rattle.gate.proofs.Names.{Space, Process, Start, Resume, Bank, Discrim, Frame, ObjectHeader, Geometry, Content, Object, blank_frame, conveyed}
+use Rattle.gate.proofs.Names.{current_count, frame_at, header_at, headers, held_at, AreKeepable, IsCount, IsKeptCap, IsNodeNumber, is_annex, is_node, is_root}
+use Rattle.gate.proofs.Names.{map_content, IsOfKind, MayBeHeld, object_count, content_at, Parts, frames_of, objects_in, content_there, headers_in, known_used}
+use Rattle.gate.proofs.Names.{node_used, keepable_count, bank_number, node_number, page_number, root_number, FitsCap}
 use Rattle.model.specs.declared.object.Content.TheVariants as content
-use Rattle.model.specs.declared.object.Object.{Object}
-use Rattle.model.specs.Frame.{blank_frame, conveyed, current_count, frame_at, header_at, headers, held_at}
-use Rattle.model.specs.Keepable.{AreKeepable, IsCount, IsKeptCap, IsNodeNumber}
-use Rattle.model.specs.Object.{is_annex, is_node, is_root, map_content}
-use Rattle.model.specs.Sound.{IsOfKind, MayBeHeld, object_count}
-use Rattle.model.specs.World.{content_at}
-use Rattle.capability.specs.Parts.{Parts, frames_of, objects_in}
-use Rattle.capability.proofs.Frames.{content_there, headers_in, known_used, node_used}
-use Rattle.capability.proofs.Keeping.{keepable_count}
-use Rattle.capability.proofs.KindNumbers.{bank_number, node_number, page_number, root_number}
-use Rattle.gate.specs.Plan.{FitsCap}
 
 header_there : (fs : List Frame) (n : ℕ) → header_at (headers fs) n ≡ (frame_at fs n).header
 header_there fs n = get_or-map (λ (f : Frame). f.header) fs n blank_frame

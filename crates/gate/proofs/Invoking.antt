@@ -1,23 +1,11 @@
 -- What comes of an invocation, from what its looks, its announcing and its change told.
-use Rattle.std.proofs.Common.{◌≡◌, ℕ, ◌+◌, ◌^◌, ◌<◌, ◌≤◌, Bool, true, false, List, Option, None, Some, Result, Ok, Err, refl, sym, ap, ◌∙◌, subst, ⊎_elim, arith}
-use Rattle.std.proofs.lemmas.Bool.{cases_lt}
-use Rattle.std.specs.Prelude.{IfOk, IsErrOf, IsTrue, OnErr}
+use Rattle.gate.proofs.Names.{◌≡◌, ℕ, ◌+◌, ◌^◌, ◌<◌, ◌≤◌, Bool, true, false, List, Option, None, Some, Result, Ok, Err, refl, sym, ap, ◌∙◌, subst, ⊎_elim}
+use Rattle.gate.proofs.Names.{arith, cases_lt, IfOk, IsErrOf, IsTrue, OnErr, Invocation, Geometry, Object, ResultCode, Effect, invoke, AreCurrent, AreKeepable}
+use Rattle.gate.proofs.Names.{touching, touched_count, Fits, is_running_process, PrepareFault, IsUnchanged, Looks, Parts, Prepares, Renews, frames_of}
+use Rattle.gate.proofs.Names.{objects_in, InvokeFault, Invoked, Invokes, Overfills, TellsState, fault_of, result_code}
 use Rattle.model.specs.declared.command.Command.TheVariants as command
-use Rattle.model.specs.declared.command.Invocation.{Invocation}
-use Rattle.model.specs.declared.geometry.Geometry.{Geometry}
-use Rattle.model.specs.declared.object.Object.{Object}
-use Rattle.model.specs.declared.order.ResultCode.{ResultCode}
-use Rattle.model.specs.Invoke.{Effect, invoke}
-use Rattle.model.specs.Keepable.{AreCurrent, AreKeepable}
-use Rattle.model.specs.Machine.{touching, touched_count}
-use Rattle.model.specs.Text.{Fits}
-use Rattle.model.specs.World.{is_running_process}
-use Rattle.capability.specs.declared.present.PrepareFault.{PrepareFault}
 use Rattle.capability.specs.declared.present.PrepareFault.TheVariants as prepare
-use Rattle.capability.specs.Parts.{IsUnchanged, Looks, Parts, Prepares, Renews, frames_of, objects_in}
-use Rattle.gate.specs.declared.fault.InvokeFault.{InvokeFault}
 use Rattle.gate.specs.declared.fault.InvokeFault.TheVariants as fault
-use Rattle.gate.specs.Invoke.{Invoked, Invokes, Overfills, TellsState, fault_of, result_code}
 use Rattle.gate.proofs.Effects.{invokes_by, overfills_by, sound_after}
 use Rattle.gate.proofs.Fits.{in_geometry}
 use Rattle.gate.proofs.Listed.{full_fault, on_ok}

@@ -1,19 +1,8 @@
 -- Which numbers have objects.
-use Rattle.std.proofs.Common.{◌≡◌, ℕ, zero, suc, ◌<◌, true, false, ◌&&◌, Bool, Some, List, [], ◌∷◌, length, refl, sym, ap, ◌∙◌, subst, arith}
-use Rattle.std.specs.Prelude.{IsTrue}
-use Rattle.std.specs.List.{All}
-use Rattle.model.specs.declared.capability.Capability.{Capability}
-use Rattle.model.specs.declared.capability.Capability.TheVariants.{Void, Number, Page, Node, Space, Process, Start, Resume, Bank, Discrim}
-use Rattle.model.specs.declared.frame.Frame.{Frame}
-use Rattle.model.specs.declared.frame.ObjectHeader.{ObjectHeader}
-use Rattle.model.specs.declared.object.Object.{Object}
-use Rattle.model.specs.Capability.{named}
-use Rattle.model.specs.Frame.{frames_in, objects_of}
-use Rattle.model.specs.Object.{is_annex, is_free}
-use Rattle.model.specs.Sound.{NamesItsKind}
-use Rattle.model.specs.World.{annex_at, content_at, is_process, is_running_process}
-use Rattle.capability.specs.Parts.{Parts, frames_of, objects_in}
-use Rattle.capability.proofs.Frames.{annex_used, bank_used, known_used, node_used, page_used, process_known, root_used}
+use Rattle.gate.proofs.Names.{◌≡◌, ℕ, zero, suc, ◌<◌, true, false, ◌&&◌, Bool, Some, List, [], ◌∷◌, length, refl, sym, ap, ◌∙◌, subst, arith, IsTrue, All}
+use Rattle.gate.proofs.Names.{Capability, Void, Number, Page, Node, Space, Process, Start, Resume, Bank, Discrim, Frame, ObjectHeader, Object, named, frames_in}
+use Rattle.gate.proofs.Names.{objects_of, is_annex, is_free, NamesItsKind, annex_at, content_at, is_process, is_running_process, Parts, frames_of, objects_in}
+use Rattle.gate.proofs.Names.{annex_used, bank_used, known_used, node_used, page_used, process_known, root_used}
 
 pub annex_known : (p : Parts) (n : ℕ) → IsTrue (is_annex (content_at (objects_in p) n)) → n < length p.headers
 annex_known p n is = known_used p n (annex_used (content_at (objects_in p) n) is)

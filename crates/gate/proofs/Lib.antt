@@ -1,3 +1,4 @@
+mod Names
 pub mod BankStates
 mod Effects
 mod Entering

@@ -1,13 +1,8 @@
 -- What follows of the numbers that were listed.
-use Rattle.std.proofs.Common.{rules, ◌≡◌, ◌<◌, length, ℕ, zero, suc, List, [], ◌∷◌, Result, Ok, Err, refl, arith}
-use Rattle.std.specs.Prelude.{IsErrOf, OnOk, slice_index}
-use Rattle.capability.specs.declared.present.PrepareFault.{PrepareFault}
-use Rattle.std.specs.List.{All, Contains}
-use Rattle.model.specs.declared.command.Operation.{Operation}
-use Rattle.model.specs.declared.command.Operation.TheVariants.{Call, Return, Send}
+use Rattle.gate.proofs.Names.{rules, ◌≡◌, ◌<◌, length, ℕ, zero, suc, List, [], ◌∷◌, Result, Ok, Err, refl, arith, IsErrOf, OnOk, slice_index, PrepareFault, All}
+use Rattle.gate.proofs.Names.{Contains, Operation, Call, Return, Send, fault_of, written_through}
 use Rattle.capability.specs.declared.present.PrepareFault.TheVariants as prepare
 use Rattle.gate.specs.declared.fault.InvokeFault.TheVariants as invoke_fault
-use Rattle.gate.specs.Invoke.{fault_of, written_through}
 
 pub on_ok : {T E : Type 0} (r : Result T E) {P Q : Type 0} → (P → Q) → OnOk r P → OnOk r Q
 on_ok (Ok x) f p = f p

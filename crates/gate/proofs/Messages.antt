@@ -1,13 +1,6 @@
 -- A message, register by register.
-use Rattle.std.proofs.Common.{◌≡◌, ℕ, ◌+◌, ◌<◌, ◌≤◌, List, [], ◌∷◌, ◌++◌, length, take, get_or, refl, ap, ◌∙◌, sym, arith, add-zero}
-use Rattle.std.proofs.lemmas.List.{take_more, take_all, length-take}
-use Rattle.model.specs.declared.capability.Capability.{Capability}
-use Rattle.model.specs.declared.capability.Capability.TheVariants.{Void}
-use Rattle.model.specs.declared.command.Message.{Message}
-use Rattle.model.specs.declared.object.Object.{Object}
-use Rattle.model.specs.Invoke.{deliver}
-use Rattle.model.specs.World.{with_slot, with_slots_from, annex_at}
-use Rattle.capability.specs.Objects.{with_message}
+use Rattle.gate.proofs.Names.{◌≡◌, ℕ, ◌+◌, ◌<◌, ◌≤◌, List, [], ◌∷◌, ◌++◌, length, take, get_or, refl, ap, ◌∙◌, sym, arith, add-zero, take_more, take_all}
+use Rattle.gate.proofs.Names.{length-take, Capability, Void, Message, Object, deliver, with_slot, with_slots_from, annex_at, with_message}
 
 -- one more capability goes into the next slot
 pub with_slots_push : (os : List Object) (n k : ℕ) (cs : List Capability) (c : Capability) →

@@ -1,46 +1,16 @@
 -- What an order comes to that goes as planned.
-use Rattle.std.proofs.Common.{◌≡◌, ⊎_elim, ℕ, zero, suc, ◌^◌, ◌<◌, true, List, [], ◌++◌, Option, None, Some, drop, length, refl, sym, ap, ◌∙◌, subst, arith}
-use Rattle.std.specs.Prelude.{IsTrue, slice_index}
-use Rattle.std.specs.List.{All}
-use Rattle.std.specs.Option.{option_to_list}
-use Rattle.model.specs.declared.capability.Capability.{Capability}
-use Rattle.model.specs.declared.capability.Capability.TheVariants.{Void, Number, Page, Node, Space, Process, Start, Resume, Bank, Discrim}
+use Rattle.gate.proofs.Names.{◌≡◌, ⊎_elim, ℕ, zero, suc, ◌^◌, ◌<◌, true, List, [], ◌++◌, Option, None, Some, drop, length, refl, sym, ap, ◌∙◌, subst, arith}
+use Rattle.gate.proofs.Names.{IsTrue, slice_index, All, option_to_list, Capability, Void, Number, Page, Node, Space, Process, Start, Resume, Bank, Discrim}
+use Rattle.gate.proofs.Names.{Invocation, Operation, Call, Return, Send, Geometry, Object, Arguments, BankOrder, on_bank, is_annex, is_bank, is_node}
+use Rattle.gate.proofs.Names.{OrderOutcome, refused, bank_order, order, NamesItsKind, object_count, Fits, annex_at, content_at, is_process, register_at}
+use Rattle.gate.proofs.Names.{used_within, annex_kept, written_within, all_words, held_sent, AreArguments, IsNow, IsHeld, Waits, held_to, SameFrame, frame_refl}
+use Rattle.gate.proofs.Names.{tests_at, BankChange, Caller, Change, OrderPlan, changed, outcome_by, target_of, written_of, numbers_of, IsForBank, MayMake}
+use Rattle.gate.proofs.Names.{PlansAs, writer_count, writers, IsAsked, IsPlanned, Plans, arguments_of, ChangesAs, FitsCap, HaveAnnexesOf, IsFor, IsOfProcess}
+use Rattle.gate.proofs.Names.{IsWithinObject, MayChange, MayEdit, MayHold, fetched_of, node_named, outcome_of, process_named, annex_used, node_used, root_used}
 use Rattle.model.specs.declared.command.Command.TheVariants as command
-use Rattle.model.specs.declared.command.Invocation.{Invocation}
-use Rattle.model.specs.declared.command.Operation.{Operation}
-use Rattle.model.specs.declared.command.Operation.TheVariants.{Call, Return, Send}
-use Rattle.model.specs.declared.geometry.Geometry.{Geometry}
-use Rattle.model.specs.declared.object.Object.{Object}
-use Rattle.model.specs.declared.order.Arguments.{Arguments}
-use Rattle.model.specs.declared.order.BankOrder.{BankOrder}
 use Rattle.model.specs.declared.order.ResultCode.TheVariants as code
-use Rattle.model.specs.Banking.{on_bank}
-use Rattle.model.specs.Object.{is_annex, is_bank, is_node}
-use Rattle.model.specs.OrderOutcome.{OrderOutcome, refused}
-use Rattle.model.specs.Order.{bank_order, order}
-use Rattle.model.specs.Sound.{NamesItsKind, object_count}
-use Rattle.model.specs.Text.{Fits}
-use Rattle.model.specs.World.{annex_at, content_at, is_process, register_at}
-use Rattle.model_laws.proofs.BankFreed.{used_within}
-use Rattle.model_laws.proofs.BankWrites.{annex_kept, written_within}
-use Rattle.model_laws.proofs.SoundGates.{all_words, held_sent}
-use Rattle.model_laws.proofs.SoundOrders.{AreArguments, IsNow}
-use Rattle.model_laws.proofs.SoundParts.{IsHeld, Waits, held_to}
-use Rattle.model_laws.proofs.Usage.{SameFrame, frame_refl, tests_at}
-use Rattle.capability.specs.declared.order.BankChange.{BankChange}
 use Rattle.capability.specs.declared.order.BankChange.TheVariants as bank
-use Rattle.capability.specs.declared.order.Caller.{Caller}
-use Rattle.capability.specs.declared.order.Change.{Change}
 use Rattle.capability.specs.declared.order.Change.TheVariants as change
-use Rattle.capability.specs.declared.order.OrderPlan.{OrderPlan}
-use Rattle.capability.specs.Changes.{changed, outcome_by, target_of, written_of}
-use Rattle.space_bank.specs.Allocating.{numbers_of}
-use Rattle.space_bank.specs.Carrying.{IsForBank, MayMake, PlansAs}
-use Rattle.space_bank.specs.Planning.{writer_count, writers}
-use Rattle.gate.specs.Invoke.{IsAsked}
-use Rattle.gate.specs.Ordering.{IsPlanned, Plans, arguments_of}
-use Rattle.gate.specs.Plan.{ChangesAs, FitsCap, HaveAnnexesOf, IsFor, IsOfProcess, IsWithinObject, MayChange, MayEdit, MayHold, fetched_of, node_named, outcome_of, process_named}
-use Rattle.capability.proofs.Frames.{annex_used, node_used, root_used}
 use Rattle.gate.proofs.Fits.{held_fits}
 use Rattle.gate.proofs.Known.{named_used}
 use Rattle.gate.proofs.Roles.{changed_annex}

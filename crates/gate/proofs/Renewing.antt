@@ -1,23 +1,9 @@
 -- Counts of allocations through an invocation.
-use Rattle.std.proofs.Common.{◌≡◌, ℕ, Bool, true, false, List, Some, ap, ◌∙◌}
-use Rattle.std.specs.Prelude.{IsTrue, if◌then◌else◌, slice_index}
-use Rattle.model.specs.declared.capability.Capability.TheVariants.{Resume, Start}
+use Rattle.gate.proofs.Names.{◌≡◌, ℕ, Bool, true, false, List, Some, ap, ◌∙◌, IsTrue, slice_index, Resume, Start, Invocation, ObjectHeader, Object, header_at}
+use Rattle.gate.proofs.Names.{Effect, invoke, is_free, IsNoBankOrder, Fits, content_at, is_running_process, register_at, invocation_frame, SameFrame, tests_at}
+use Rattle.gate.proofs.Names.{AreSound, Parts, Renews, objects_in, SameAllocations, SameFree, renews_after, renews_none, Gate, gate_capability}
+use Rattle.std.specs.Prelude.{if◌then◌else◌}
 use Rattle.model.specs.declared.command.Command.TheVariants as command
-use Rattle.model.specs.declared.command.Invocation.{Invocation}
-use Rattle.model.specs.declared.frame.ObjectHeader.{ObjectHeader}
-use Rattle.model.specs.declared.object.Object.{Object}
-use Rattle.model.specs.Frame.{header_at}
-use Rattle.model.specs.Invoke.{Effect, invoke}
-use Rattle.model.specs.Object.{is_free}
-use Rattle.model.specs.Order.{IsNoBankOrder}
-use Rattle.model.specs.Text.{Fits}
-use Rattle.model.specs.World.{content_at, is_running_process, register_at}
-use Rattle.model_laws.proofs.InvocationFrame.{invocation_frame}
-use Rattle.model_laws.proofs.Usage.{SameFrame, tests_at}
-use Rattle.capability.specs.Parts.{AreSound, Parts, Renews, objects_in}
-use Rattle.space_bank.proofs.Renewing.{SameAllocations, SameFree, renews_after, renews_none}
-use Rattle.gate.specs.declared.gates.Gate.{Gate}
-use Rattle.gate.specs.Invoke.{gate_capability}
 use Rattle.gate.proofs.Standing.{LooksAs, looked_objects, now_sound}
 
 -- a gate is asked no bank's order

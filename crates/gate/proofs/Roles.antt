@@ -1,29 +1,11 @@
 -- What stays of processes while one of them changes.
-use Rattle.std.proofs.Common.{◌≡◌, ℕ, true, List, [], refl, sym, ap, ◌∙◌}
-use Rattle.std.specs.Prelude.{IsTrue, slice_index_or}
-use Rattle.std.proofs.Math.ListN.{get_or-map}
-use Rattle.std.proofs.Math.Seq.{map-set_same}
-use Rattle.model.specs.declared.capability.Capability.{Capability}
-use Rattle.model.specs.declared.command.Invocation.{Invocation}
-use Rattle.model.specs.declared.command.Operation.{Operation}
-use Rattle.model.specs.declared.command.Operation.TheVariants.{Call, Return, Send}
-use Rattle.model.specs.declared.object.Content.{Content}
+use Rattle.gate.proofs.Names.{◌≡◌, ℕ, true, List, [], refl, sym, ap, ◌∙◌, IsTrue, slice_index_or, get_or-map, map-set_same, Capability, Invocation, Operation}
+use Rattle.gate.proofs.Names.{Call, Return, Send, Content, Object, Root, State, Available, Waiting, after_gate, free, is_node, is_root, map_content, root_in}
+use Rattle.gate.proofs.Names.{with_slot_in, with_word_in, with_root_word, with_space, consume, resumes, void_where, without, annex_at, content_at, is_process}
+use Rattle.gate.proofs.Names.{root_at, with_content, with_root, with_slot, with_state, with_word, root_frame, set_frame, slot_frame, word_frame, SameFrame}
+use Rattle.gate.proofs.Names.{frame_refl, Change, changed, IsOfProcess, IsWithinObject}
 use Rattle.model.specs.declared.object.Content.TheVariants as content
-use Rattle.model.specs.declared.object.Object.{Object}
-use Rattle.model.specs.declared.object.Root.{Root}
-use Rattle.model.specs.declared.object.State.{State}
-use Rattle.model.specs.declared.object.State.TheVariants.{Available, Waiting}
-use Rattle.model.specs.Invoke.{after_gate}
-use Rattle.model.specs.Object.{free, is_node, is_root, map_content, root_in, with_slot_in, with_word_in}
-use Rattle.model.specs.Order.{with_root_word, with_space}
-use Rattle.model.specs.Revoke.{consume, resumes, void_where, without}
-use Rattle.model.specs.World.{annex_at, content_at, is_process, root_at, with_content, with_root, with_slot, with_state, with_word}
-use Rattle.model_laws.proofs.InvocationFrame.{root_frame, set_frame, slot_frame, word_frame}
-use Rattle.model_laws.proofs.Usage.{SameFrame, frame_refl}
-use Rattle.capability.specs.declared.order.Change.{Change}
 use Rattle.capability.specs.declared.order.Change.TheVariants as change
-use Rattle.capability.specs.Changes.{changed}
-use Rattle.gate.specs.Plan.{IsOfProcess, IsWithinObject}
 
 -- a field of all contents that one edit leaves
 module _ {X : Type 0} (field : Content Capability → X) where

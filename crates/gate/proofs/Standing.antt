@@ -1,22 +1,8 @@
 -- What sound frames stand for.
-use Rattle.std.proofs.Common.{◌≡◌, ℕ, ◌+◌, ◌-◌, ◌^◌, ◌<◌, List, length, Result, sym, subst, ap, ◌∙◌, arith}
-use Rattle.std.specs.Prelude.{IsTrue}
-use Rattle.model.specs.declared.capability.Capability.{Capability}
-use Rattle.model.specs.declared.frame.Frame.{Frame}
-use Rattle.model.specs.declared.frame.ObjectHeader.{ObjectHeader}
-use Rattle.model.specs.declared.geometry.Geometry.{Geometry}
-use Rattle.model.specs.Frame.{header_at, objects_of}
-use Rattle.model.specs.Keepable.{AreKeepable, IsSoundFrames, world_at}
-use Rattle.model.specs.Object.{is_annex}
-use Rattle.model.specs.Sound.{NamesItsKind, object_count}
-use Rattle.model.specs.World.{annex_at, content_at, is_process, register_at}
-use Rattle.model_laws.proofs.SoundOrders.{IsNow}
-use Rattle.model_laws.proofs.SoundParts.{nearly_from}
-use Rattle.capability.specs.declared.present.PrepareFault.{PrepareFault}
-use Rattle.capability.specs.Parts.{AreSound, LooksUp, Parts, Prepares, frames_of, objects_in}
-use Rattle.capability.proofs.Frames.{length_objects}
-use Rattle.capability.proofs.Keeping.{keepable_count, keepable_later}
-use Rattle.gate.specs.Invoke.{KeepsSoundFrames}
+use Rattle.gate.proofs.Names.{◌≡◌, ℕ, ◌+◌, ◌-◌, ◌^◌, ◌<◌, List, length, Result, sym, subst, ap, ◌∙◌, arith, IsTrue, Capability, Frame, ObjectHeader, Geometry}
+use Rattle.gate.proofs.Names.{header_at, objects_of, AreKeepable, IsSoundFrames, world_at, is_annex, NamesItsKind, object_count, annex_at, content_at}
+use Rattle.gate.proofs.Names.{is_process, register_at, IsNow, nearly_from, PrepareFault, AreSound, LooksUp, Parts, Prepares, frames_of, objects_in}
+use Rattle.gate.proofs.Names.{length_objects, keepable_count, keepable_later, KeepsSoundFrames}
 use Rattle.gate.proofs.Fits.{calls_kept}
 use Rattle.gate.proofs.Known.{annex_known, same_frames}
 

@@ -1,22 +1,9 @@
 -- What an invocation does to a store of present frames.
-use Rattle.std.specs.Prelude.{◌≡◌, ◌↔◌, ℕ, ◌+◌, ◌^◌, ◌<◌, ◌≤◌, Bool, true, false, List, [], ◌∷◌, Option, None, Some, if◌then◌else◌, slice_set, Result, Ok, Err, IfOk, OnOk, OnErr, IsErrOf}
-use Rattle.model.specs.declared.capability.Capability.{Capability}
-use Rattle.model.specs.declared.capability.Capability.TheVariants.{Start, Resume}
-use Rattle.model.specs.declared.command.Invocation.{Invocation}
-use Rattle.model.specs.declared.command.Operation.{Operation}
-use Rattle.model.specs.declared.command.Operation.TheVariants.{Call, Send}
-use Rattle.model.specs.declared.geometry.Geometry.{Geometry}
-use Rattle.model.specs.declared.object.Object.{Object}
-use Rattle.model.specs.declared.order.ResultCode.{ResultCode}
-use Rattle.model.specs.Invoke.{Effect, invoke, after_gate, deliver, ordered}
-use Rattle.model.specs.Keepable.{IsSoundFrames}
-use Rattle.model.specs.Machine.{touching, touched_count}
-use Rattle.model.specs.Revoke.{consume}
-use Rattle.model.specs.World.{annex_at, is_running_process, register_at}
-use Rattle.capability.specs.declared.order.Caller.{Caller}
-use Rattle.capability.specs.declared.present.PrepareFault.{PrepareFault}
+use Rattle.gate.specs.Names.{◌≡◌, ◌↔◌, ℕ, ◌+◌, ◌^◌, ◌<◌, ◌≤◌, Bool, true, false, List, [], ◌∷◌, Option, None, Some, if◌then◌else◌, slice_set, Result, Ok, Err}
+use Rattle.gate.specs.Names.{IfOk, OnOk, OnErr, IsErrOf, Capability, Start, Resume, Invocation, Operation, Call, Send, Geometry, Object, ResultCode, Effect}
+use Rattle.gate.specs.Names.{invoke, after_gate, deliver, ordered, IsSoundFrames, touching, touched_count, consume, annex_at, is_running_process, register_at}
+use Rattle.gate.specs.Names.{Caller, PrepareFault, IsUnchanged, Parts, Renews, frames_of, objects_in}
 use Rattle.capability.specs.declared.present.PrepareFault.TheVariants as prepare
-use Rattle.capability.specs.Parts.{IsUnchanged, Parts, Renews, frames_of, objects_in}
 use Rattle.gate.specs.declared.fault.InvokeFault.{InvokeFault}
 use Rattle.gate.specs.declared.fault.InvokeFault.TheVariants as fault
 use Rattle.gate.specs.declared.gates.Gate.{Gate}

@@ -1,3 +1,4 @@
+pub mod Names
 pub mod Plan
 pub mod Invoke
 pub mod Ordering

@@ -1,26 +1,7 @@
 -- An invocation of a kernel object over a store of present frames: its plan, its change, its reply.
-use Rattle.std.specs.Prelude.{◌≡◌, ℕ, ◌<◌, ◌++◌, true, List, drop, length, if◌then◌else◌, slice_index, slice_index_or}
-use Rattle.std.specs.List.{All}
-use Rattle.model.specs.declared.capability.Capability.{Capability}
-use Rattle.model.specs.declared.capability.Capability.TheVariants.{Void}
-use Rattle.model.specs.declared.command.Invocation.{Invocation}
-use Rattle.model.specs.declared.command.Operation.{Operation}
-use Rattle.model.specs.declared.command.Operation.TheVariants.{Call, Return}
-use Rattle.model.specs.declared.geometry.Geometry.{Geometry}
-use Rattle.model.specs.declared.object.Object.{Object}
-use Rattle.model.specs.declared.object.State.TheVariants.{Available}
-use Rattle.model.specs.declared.order.Arguments.{Arguments}
-use Rattle.model.specs.Invoke.{deliver, sent_by}
-use Rattle.model.specs.Order.{order}
-use Rattle.model.specs.World.{annex_at, is_process, is_running_process, with_state}
-use Rattle.model_laws.proofs.SoundOrders.{IsNow}
-use Rattle.model_laws.proofs.Usage.{SameFrame}
-use Rattle.capability.specs.declared.order.Caller.{Caller}
-use Rattle.capability.specs.declared.order.OrderPlan.{OrderPlan}
-use Rattle.capability.specs.declared.order.Reply.{Reply}
-use Rattle.capability.specs.Changes.{changed, message_of, outcome_by}
-use Rattle.capability.specs.Parts.{Parts, Renews}
-use Rattle.space_bank.specs.Planning.{writer_count, writers}
+use Rattle.gate.specs.Names.{◌≡◌, ℕ, ◌<◌, ◌++◌, true, List, drop, length, if◌then◌else◌, slice_index, slice_index_or, All, Capability, Void, Invocation}
+use Rattle.gate.specs.Names.{Operation, Call, Return, Geometry, Object, Available, Arguments, deliver, sent_by, order, annex_at, is_process, is_running_process}
+use Rattle.gate.specs.Names.{with_state, IsNow, SameFrame, Caller, OrderPlan, Reply, changed, message_of, outcome_by, Parts, Renews, writer_count, writers}
 use Rattle.gate.specs.Plan.{MayChange}
 
 -- the arguments that an invocation gives its order

@@ -1,23 +1,8 @@
 -- The plan of an order on a kernel object, before anything changes.
-use Rattle.std.specs.Prelude.{◌≡◌, ◌⊎◌, ℕ, ◌<◌, ◌≤◌, Option, None, Some, List, IsTrue}
-use Rattle.model.specs.declared.capability.Capability.{Capability}
-use Rattle.model.specs.declared.capability.Capability.TheVariants.{Number, Page, Node, Space, Process}
-use Rattle.model.specs.declared.geometry.Geometry.{Geometry}
-use Rattle.model.specs.declared.object.Object.{Object}
-use Rattle.model.specs.declared.order.Arguments.{Arguments}
-use Rattle.model.specs.Capability.{named}
-use Rattle.model.specs.OrderOutcome.{OrderOutcome}
-use Rattle.model.specs.Order.{IsNoBankOrder}
-use Rattle.model.specs.Keepable.{IsKeptCap}
-use Rattle.model.specs.Object.{is_node}
-use Rattle.model.specs.Sound.{IsSpace}
-use Rattle.model.specs.World.{annex_at, content_at, is_process}
-use Rattle.capability.specs.declared.order.Change.{Change}
+use Rattle.gate.specs.Names.{◌≡◌, ◌⊎◌, ℕ, ◌<◌, ◌≤◌, Option, None, Some, List, IsTrue, Capability, Number, Page, Node, Space, Process, Geometry, Object}
+use Rattle.gate.specs.Names.{Arguments, named, OrderOutcome, IsNoBankOrder, IsKeptCap, is_node, IsSpace, annex_at, content_at, is_process, Change, OrderPlan}
+use Rattle.gate.specs.Names.{changed, outcome_by, written_of, numbers_of, MayMake}
 use Rattle.capability.specs.declared.order.Change.TheVariants as change
-use Rattle.capability.specs.declared.order.OrderPlan.{OrderPlan}
-use Rattle.capability.specs.Changes.{changed, outcome_by, written_of}
-use Rattle.space_bank.specs.Allocating.{numbers_of}
-use Rattle.space_bank.specs.Carrying.{MayMake}
 
 -- the outcome of an order on one object, as planned
 abbrev pub outcome_of : List Object → OrderPlan → OrderOutcome

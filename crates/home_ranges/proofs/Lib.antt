@@ -1,3 +1,4 @@
+mod Names
 pub mod Places
 pub mod Shared
 mod Runs

@@ -1,28 +1,12 @@
 -- Places of numbers in ranges that cover them.
-use Rattle.std.proofs.Common.{◌≡◌, ◌⊎◌, ℕ, zero, suc, refl, ◌+◌, ◌-◌, ◌*◌, ◌/◌, ◌%◌, ◌<◌, ◌≤◌, Option, Some, None, List, [], ◌∷◌, length, get_or, map, sym, ap, subst, ◌∙◌, inl, inr, arith, Result, Ok, Err, Bool, true, false, nat_lt, nat_le, min, ◌&&◌}
-use Rattle.std.specs.Prelude.{if◌then◌else◌, OnOk, ⊤}
-use Rattle.std.proofs.lemmas.Bool.{cases_lt}
-use Rattle.std.proofs.lemmas.List.{length-map, get_or_append_left, get_or-map}
-use Rattle.std.proofs.lemmas.Bool.Decides.{nat_tests}
-use Rattle.model.specs.declared.geometry.Geometry.{Geometry}
-use Rattle.device.specs.Disk.{Image}
-use Rattle.layout.specs.declared.extent.Extent.{Extent}
-use Rattle.layout.specs.declared.extent.HomeRange.{HomeRange}
-use Rattle.layout.specs.declared.half.Half.{Half}
-use Rattle.layout.specs.declared.half.Half.TheVariants.{First, Second}
-use Rattle.layout.specs.declared.shape.Shape.{Shape}
-use Rattle.layout.specs.declared.shape.Shape.TheVariants.{Node, Packed, Page}
-use Rattle.layout.specs.declared.version.Version.{Version}
-use Rattle.layout.specs.declared.version.Version.TheVariants.{One, Two}
-use Rattle.layout.specs.Half.{half_of}
-use Rattle.layout.specs.Homes.{range_with, node_offset, place_in, place_by, home_place, rank_in, shape_of, place_length}
-use Rattle.layout.specs.Image.{sectors_from}
-use Rattle.layout.specs.Shape.{node_shape, shape_bytes, shape_length}
-use Rattle.layout.specs.Superblock.{Plan, IsPlan, Cover, IsOfOneKind, IsWithin, IsApart, IsInside, extent_at, extents, nodes_length, range_extent, half_extent, half_start}
-use Rattle.layout.proofs.Halves.{itself, apart_inside, apart_turned, many, half_at}
-use Rattle.frame_io.specs.Frames.{IsObject}
-use Rattle.home_ranges.specs.Home.{EndsInZeros, HaveHome, HoldsHome}
-use Rattle.home_ranges.specs.Laws.{home_extent, PlacesAreWithin, PlacesAreApart, NumbersAreApart, PlacesSpareLog}
+use Rattle.home_ranges.proofs.Names.{◌≡◌, ◌⊎◌, ℕ, zero, suc, refl, ◌+◌, ◌-◌, ◌*◌, ◌/◌, ◌%◌, ◌<◌, ◌≤◌, Option, Some, None, List, [], ◌∷◌, length, get_or, map}
+use Rattle.home_ranges.proofs.Names.{sym, ap, subst, ◌∙◌, inl, inr, arith, Result, Ok, Err, Bool, true, false, nat_lt, nat_le, min, ◌&&◌, if◌then◌else◌, OnOk}
+use Rattle.home_ranges.proofs.Names.{⊤, cases_lt, length-map, get_or_append_left, get_or-map, nat_tests, Geometry, Image, Extent, HomeRange, Half, First}
+use Rattle.home_ranges.proofs.Names.{Second, Shape, Node, Packed, Page, Version, One, Two, half_of, range_with, node_offset, place_in, place_by, home_place}
+use Rattle.home_ranges.proofs.Names.{rank_in, shape_of, place_length, sectors_from, node_shape, shape_bytes, shape_length, Plan, IsPlan, Cover, IsOfOneKind}
+use Rattle.home_ranges.proofs.Names.{IsWithin, IsApart, IsInside, extent_at, extents, nodes_length, range_extent, half_extent, half_start, itself, apart_inside}
+use Rattle.home_ranges.proofs.Names.{apart_turned, many, half_at, IsObject, EndsInZeros, HaveHome, HoldsHome, home_extent, PlacesAreWithin, PlacesAreApart}
+use Rattle.home_ranges.proofs.Names.{NumbersAreApart, PlacesSpareLog}
 
 abbrev pub range_at : List HomeRange → ℕ → HomeRange
 range_at rs i = get_or rs i (record { first = 0; count = 0; sector = 0 })

@@ -1,13 +1,6 @@
 -- The slots whose sectors have the frames of objects, and their entries.
-use Rattle.std.proofs.Common.{◌≡◌, ℕ, suc, ◌<◌, Bool, Option, Some, None, List, [], ◌∷◌, length, refl, sym, ap, ◌∙◌, inl, inr, arith}
-use Rattle.std.specs.Prelude.{if◌then◌else◌}
-use Rattle.std.proofs.lemmas.Bool.{cases_eq, eq-eqb, ne_eqb}
-use Rattle.layout.specs.declared.directory.Entry.{Entry}
-use Rattle.layout.specs.Directory.{entry_at}
-use Rattle.layout.specs.Homes.{home_place}
-use Rattle.layout.specs.Image.{slot_in, slot_beside, or_beside, seat_in}
-use Rattle.layout.specs.Superblock.{Plan}
-use Rattle.layout.proofs.SlotsOf.{found_slot}
+use Rattle.home_ranges.proofs.Names.{◌≡◌, ℕ, suc, ◌<◌, Bool, Option, Some, None, List, [], ◌∷◌, length, refl, sym, ap, ◌∙◌, inl, inr, arith, if◌then◌else◌}
+use Rattle.home_ranges.proofs.Names.{cases_eq, eq-eqb, ne_eqb, Entry, entry_at, home_place, slot_in, slot_beside, or_beside, seat_in, Plan, found_slot}
 
 -- ---- the first entry whose home is that of an object
 

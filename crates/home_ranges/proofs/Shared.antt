@@ -1,16 +1,7 @@
 -- Homes that several numbers share.
-use Rattle.std.proofs.Common.{◌≡◌, ℕ, ◌+◌, ◌-◌, ◌%◌, ◌<◌, ◌≤◌, Bool, true, false, nat_lt, refl, sym, ap, ◌∙◌, inl, inr, arith}
-use Rattle.std.specs.Prelude.{if◌then◌else◌}
-use Rattle.model.specs.declared.geometry.Geometry.{Geometry}
-use Rattle.layout.specs.declared.extent.HomeRange.{HomeRange}
-use Rattle.layout.specs.declared.shape.Shape.{Shape}
-use Rattle.layout.specs.declared.shape.Shape.TheVariants.{Node, Packed, Page}
-use Rattle.layout.specs.declared.version.Version.{Version}
-use Rattle.layout.specs.declared.version.Version.TheVariants.{One, Two}
-use Rattle.layout.specs.Homes.{range_with, node_offset, place_in, home_place, rank_in, shape_of}
-use Rattle.layout.specs.Shape.{node_shape}
-use Rattle.layout.specs.Superblock.{Plan, IsPlan}
-use Rattle.frame_io.specs.Frames.{IsObject}
+use Rattle.home_ranges.proofs.Names.{◌≡◌, ℕ, ◌+◌, ◌-◌, ◌%◌, ◌<◌, ◌≤◌, Bool, true, false, nat_lt, refl, sym, ap, ◌∙◌, inl, inr, arith, if◌then◌else◌, Geometry}
+use Rattle.home_ranges.proofs.Names.{HomeRange, Shape, Node, Packed, Page, Version, One, Two, range_with, node_offset, place_in, home_place, rank_in, shape_of}
+use Rattle.home_ranges.proofs.Names.{node_shape, Plan, IsPlan, IsObject}
 use Rattle.home_ranges.proofs.Places.{range_at, Has, found, found_too, place_is, shape_is, lt_true, lt_false, one_range, IsOwn, ranked_in, one_cluster, beside}
 
 -- ---- what lies between two numbers that share a home has it too

@@ -1,12 +1,5 @@
 -- What the sectors of a home hold, and who has it.
-use Rattle.std.specs.Prelude.{◌≡◌, ℕ, ◌+◌, ◌<◌, ◌≤◌, List}
-use Rattle.device.specs.Disk.{Image}
-use Rattle.layout.specs.Homes.{home_place, shape_of}
-use Rattle.layout.specs.Image.{bytes_at}
-use Rattle.layout.specs.Shape.{shape_bytes}
-use Rattle.layout.specs.Superblock.{Plan}
-use Rattle.frame_io.specs.Clusters.{IsBlankBehind}
-use Rattle.frame_io.specs.Frames.{IsObject}
+use Rattle.home_ranges.specs.Names.{◌≡◌, ℕ, ◌+◌, ◌<◌, ◌≤◌, List, Image, home_place, shape_of, bytes_at, shape_bytes, Plan, IsBlankBehind, IsObject}
 
 -- the bytes of a home are the frames of all that have it
 abbrev pub HoldsHome : Plan → ℕ → List ℕ → Image → Type 0

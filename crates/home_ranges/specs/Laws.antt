@@ -1,14 +1,6 @@
 -- Home places lie apart from one another and from the log.
-use Rattle.std.specs.Prelude.{◌≡◌, ℕ, List, None}
-use Rattle.device.specs.Disk.{Image}
-use Rattle.device.specs.Calls.{Elsewhere}
-use Rattle.layout.specs.declared.directory.Entry.{Entry}
-use Rattle.layout.specs.declared.extent.Extent.{Extent}
-use Rattle.layout.specs.declared.version.Version.TheVariants.{One}
-use Rattle.layout.specs.Homes.{home_place, place_length}
-use Rattle.layout.specs.Superblock.{Plan, IsPlan, IsWithin, IsApart, half_extent}
-use Rattle.layout.specs.Image.{seat_in, bytes_at, frame_in, half_sector}
-use Rattle.frame_io.specs.Frames.{IsObject}
+use Rattle.home_ranges.specs.Names.{◌≡◌, ℕ, List, None, Image, Elsewhere, Entry, Extent, One, home_place, place_length, Plan, IsPlan, IsWithin, IsApart}
+use Rattle.home_ranges.specs.Names.{half_extent, seat_in, bytes_at, frame_in, half_sector, IsObject}
 
 -- the sectors of the home of a number
 abbrev pub home_extent : Plan → ℕ → Extent

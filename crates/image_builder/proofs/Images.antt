@@ -1,27 +1,9 @@
 -- What is written is an image of a description.
-use Rattle.std.proofs.Common.{◌≡◌, ◌≤◌, ℕ, List, ap, inl, inr, subst, sym, ◌∙◌, ⊎_elim}
-use Rattle.toml.specs.Data.{Members}
-use Rattle.model.specs.declared.capability.Cap.{Cap}
-use Rattle.model.specs.declared.frame.Frame.{Frame}
-use Rattle.model.specs.declared.frame.ObjectHeader.{ObjectHeader}
-use Rattle.model.specs.declared.object.Content.{Content}
-use Rattle.model.specs.Frame.{frames_in}
-use Rattle.model.specs.Keepable.{AreKeepable, IsSoundFrames}
-use Rattle.device.specs.Disk.{Disk, Image}
-use Rattle.device.specs.Calls.{Elsewhere}
-use Rattle.device.specs.Moments.{LeavesOnly}
-use Rattle.device.proofs.Moments.{OnlyNow, leaves_weaker, started}
-use Rattle.layout.specs.Image.{Encodes}
-use Rattle.layout.specs.Superblock.{Plan}
-use Rattle.layout.proofs.Images.{one_state}
-use Rattle.checkpoint.specs.Saved.{Holds, SavedFrames, kept_of}
-use Rattle.image_writer.specs.Written.{IsLeftWriting, first_saved, first_state}
-use Rattle.image_writer.proofs.OldImages.{kept_holds_the_same, none_is_held}
-use Rattle.description.specs.Reading.{IsDescription}
-use Rattle.description.specs.declared.entry.Description.{Description}
-use Rattle.image_builder.specs.Built.{Builds, IsLeftOf, IsWithinLimits, plan_for}
-use Rattle.image_builder.specs.Checked.{AreLaid, IsLeftBuilding, IsSoundDescription}
-use Rattle.described_world.proofs.DescribedOnce.{described_once}
+use Rattle.image_builder.proofs.Names.{◌≡◌, ◌≤◌, ℕ, List, ap, inl, inr, subst, sym, ◌∙◌, ⊎_elim, Members, Cap, Frame, ObjectHeader, Content, frames_in}
+use Rattle.image_builder.proofs.Names.{AreKeepable, IsSoundFrames, Disk, Image, Elsewhere, LeavesOnly, OnlyNow, leaves_weaker, started, Encodes, Plan}
+use Rattle.image_builder.proofs.Names.{one_state, Holds, SavedFrames, kept_of, IsLeftWriting, first_saved, first_state, kept_holds_the_same, none_is_held}
+use Rattle.image_builder.proofs.Names.{IsDescription, Description, Builds, IsLeftOf, IsWithinLimits, plan_for, AreLaid, IsLeftBuilding, IsSoundDescription}
+use Rattle.image_builder.proofs.Names.{described_once}
 use Rattle.image_builder.proofs.Refusals.{accepted}
 
 -- an image holds one state

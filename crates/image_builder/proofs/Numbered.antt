@@ -1,11 +1,6 @@
 -- Directories whose slots are in order.
-use Rattle.std.proofs.Common.{◌≡◌, ℕ, zero, suc, ◌+◌, ◌<◌, ◌≤◌, List, [], ◌∷◌, ◌++◌, length, get_or, drop, refl, sym, ap, ◌∙◌, append_assoc, arith}
-use Rattle.std.specs.Prelude.{slice_index_or}
-use Rattle.std.proofs.lemmas.List.{append-nil, drop_all, drop_more}
-use Rattle.model.specs.declared.geometry.Geometry.{Geometry}
-use Rattle.layout.specs.declared.directory.Entry.{Entry}
-use Rattle.layout.specs.Directory.{IsDirectory, entry_at}
-use Rattle.image_builder.specs.Upgraded.{numbered}
+use Rattle.image_builder.proofs.Names.{◌≡◌, ℕ, zero, suc, ◌+◌, ◌<◌, ◌≤◌, List, [], ◌∷◌, ◌++◌, length, get_or, drop, refl, sym, ap, ◌∙◌, append_assoc, arith}
+use Rattle.image_builder.proofs.Names.{slice_index_or, append-nil, drop_all, drop_more, Geometry, Entry, IsDirectory, entry_at, numbered}
 
 abbrev none : Entry
 none = record { object = 0; slot = 0 }

@@ -1,27 +1,10 @@
 -- What is refused whatever the device, and with which fault.
-use Rattle.std.proofs.Common.{◌≡◌, ◌≢◌, ℕ, ◌<◌, List, ap, refl, subst, sym, arith}
-use Rattle.std.specs.Prelude.{IfErr, OnOk, Result, Ok, Err}
-use Rattle.toml.specs.Data.{Members}
-use Rattle.device.specs.Disk.{Disk}
-use Rattle.model.specs.declared.capability.Cap.{Cap}
-use Rattle.model.specs.declared.frame.Frame.{Frame}
-use Rattle.model.specs.declared.frame.ObjectHeader.{ObjectHeader}
-use Rattle.model.specs.declared.geometry.Geometry.{Geometry}
-use Rattle.model.specs.declared.object.Content.{Content}
-use Rattle.model.specs.Frame.{frames_in}
-use Rattle.model.specs.Keepable.{IsSoundFrames}
-use Rattle.consistency.proofs.Unsound.{sound_banked, sound_named}
-use Rattle.consistency.specs.declared.reason.Inconsistency.{Inconsistency}
-use Rattle.consistency.specs.declared.reason.Inconsistency.TheVariants.{BadCapability, BadProcess, BadBank}
-use Rattle.consistency.specs.Consistency.{AreBanked, AreNamed, AreWholeProcesses, IsInconsistent}
-use Rattle.description.specs.declared.entry.Description.{Description}
-use Rattle.description.specs.Reading.{IsDescription}
-use Rattle.described_world.specs.Described.{HasFields, HasNumbers, IsDescribed}
-use Rattle.image_builder.specs.declared.fault.BuildFault.{BuildFault}
-use Rattle.image_builder.specs.declared.fault.BuildFault.TheVariants.{Shape, Limits, Number, Field, Target, Owner, Small, Failed, NoMemory}
-use Rattle.image_builder.specs.Built.{Builds, BuildsFrom, IsAccepted, IsRefused, IsWithinLimits, Refuses, Rule, TellsNoSize, fault_number}
-use Rattle.image_builder.specs.Checked.{AreLaid, IsRefusedEarly, IsSoundDescription}
-use Rattle.described_world.proofs.DescribedOnce.{described_once}
+use Rattle.image_builder.proofs.Names.{◌≡◌, ◌≢◌, ℕ, ◌<◌, List, ap, refl, subst, sym, arith, IfErr, OnOk, Result, Ok, Err, Members, Disk, Cap, Frame}
+use Rattle.image_builder.proofs.Names.{ObjectHeader, Geometry, Content, frames_in, IsSoundFrames, sound_banked, sound_named, Inconsistency, BadCapability}
+use Rattle.image_builder.proofs.Names.{BadProcess, BadBank, AreBanked, AreNamed, AreWholeProcesses, IsInconsistent, Description, IsDescription, HasFields}
+use Rattle.image_builder.proofs.Names.{HasNumbers, IsDescribed, BuildFault, Shape, Limits, Number, Field, Target, Owner, Small, Failed, NoMemory, Builds}
+use Rattle.image_builder.proofs.Names.{BuildsFrom, IsAccepted, IsRefused, IsWithinLimits, Refuses, Rule, TellsNoSize, fault_number, AreLaid, IsRefusedEarly}
+use Rattle.image_builder.proofs.Names.{IsSoundDescription, described_once}
 use Rattle.image_builder.proofs.Rules.{all_kept, field_broken, number_broken, owner_broken, small_broken, target_broken}
 
 -- a lesser fault isn't that of the device

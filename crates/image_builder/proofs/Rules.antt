@@ -1,12 +1,7 @@
 -- The rule that is the first to be broken.
-use Rattle.std.proofs.Common.{◌≡◌, ℕ, ◌+◌, ◌<◌, ◌≤◌, inl, inr, refl, sym, ap, ◌∙◌, subst, arith}
-use Rattle.std.specs.Prelude.{◌==◌, if◌then◌else◌}
-use Rattle.std.proofs.lemmas.Bool.{cases_lt}
-use Rattle.description.specs.declared.entry.Description.{Description}
-use Rattle.image_builder.specs.declared.fault.BuildFault.{BuildFault}
-use Rattle.image_builder.specs.declared.fault.BuildFault.TheVariants.{Shape, Limits, Number, Field, Target, Owner, Small, Failed, NoMemory}
-use Rattle.image_builder.specs.Built.{IsAccepted, IsFirstBroken, Rule, fault_number}
-use Rattle.image_builder.specs.Laws.{NoFault, OneFault}
+use Rattle.image_builder.proofs.Names.{◌≡◌, ℕ, ◌+◌, ◌<◌, ◌≤◌, inl, inr, refl, sym, ap, ◌∙◌, subst, arith, ◌==◌, if◌then◌else◌, cases_lt, Description}
+use Rattle.image_builder.proofs.Names.{BuildFault, Shape, Limits, Number, Field, Target, Owner, Small, Failed, NoMemory, IsAccepted, IsFirstBroken, Rule}
+use Rattle.image_builder.proofs.Names.{fault_number, NoFault, OneFault}
 
 -- the fault of a number
 abbrev fault_at : ℕ → BuildFault

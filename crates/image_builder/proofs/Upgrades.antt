@@ -1,30 +1,12 @@
 -- What a device saves, written to another.
-use Rattle.std.proofs.Common.{◌≡◌, ℕ, ◌<◌, ◌≤◌, List, length, ap, inl, inr, refl, subst, sym, ◌∙◌, arith}
-use Rattle.std.specs.Prelude.{◌≢◌, Result, Ok, Err, IfErr, IfOk, IsErrOf, OnOk}
-use Rattle.model.specs.declared.frame.Frame.{Frame}
-use Rattle.device.specs.Disk.{Disk, Image}
-use Rattle.device.specs.Calls.{Agrees, Elsewhere}
-use Rattle.device.specs.Moments.{LeavesOnly}
-use Rattle.device.proofs.Images.{agrees_is}
-use Rattle.device.proofs.Moments.{OnlyNow, leaves_weaker, started}
-use Rattle.layout.specs.declared.directory.Entry.{Entry}
-use Rattle.layout.specs.declared.version.Version.TheVariants.{Two}
-use Rattle.layout.specs.Directory.{IsDirectory}
-use Rattle.layout.specs.Header.{IsHeader}
-use Rattle.layout.specs.Image.{Encodes, SavedState}
-use Rattle.layout.specs.Superblock.{Plan}
-use Rattle.checkpoint.specs.declared.open_fault.OpenFault.{OpenFault}
+use Rattle.image_builder.proofs.Names.{◌≡◌, ℕ, ◌<◌, ◌≤◌, List, length, ap, inl, inr, refl, subst, sym, ◌∙◌, arith, Result, Ok, Err, IfErr, IsErrOf, OnOk, Frame}
+use Rattle.image_builder.proofs.Names.{Disk, Image, Agrees, Elsewhere, LeavesOnly, agrees_is, OnlyNow, leaves_weaker, started, Entry, Two, IsDirectory}
+use Rattle.image_builder.proofs.Names.{IsHeader, Encodes, SavedState, Plan, OpenFault, Looks, kept_of, laid_again, IsLeftWriting, state_of, kept_holds_the_same}
+use Rattle.image_builder.proofs.Names.{none_is_held, IsSoundSaved, RefusesToOpen, UpgradeFault, IsLeftUpgrading, IsNotUpgraded, IsOnlyRead, Upgrades, numbered}
+use Rattle.image_builder.proofs.Names.{upgraded}
+use Rattle.std.specs.Prelude.{◌≢◌, IfOk}
 use Rattle.checkpoint.specs.declared.open_fault.OpenFault.TheVariants as opening
-use Rattle.checkpoint.specs.Opened.{Looks}
-use Rattle.checkpoint.specs.Saved.{kept_of}
-use Rattle.image_writer.specs.Laid.{laid_again}
-use Rattle.image_writer.specs.Written.{IsLeftWriting, state_of}
-use Rattle.image_writer.proofs.OldImages.{kept_holds_the_same, none_is_held}
-use Rattle.recovery.specs.Denotes.{IsSoundSaved}
-use Rattle.recovery.specs.Recovered.{RefusesToOpen}
-use Rattle.image_builder.specs.declared.upgrade_fault.UpgradeFault.{UpgradeFault}
 use Rattle.image_builder.specs.declared.upgrade_fault.UpgradeFault.TheVariants as fault
-use Rattle.image_builder.specs.Upgraded.{IsLeftUpgrading, IsNotUpgraded, IsOnlyRead, Upgrades, numbered, upgraded}
 use Rattle.image_builder.proofs.Images.{holds_one}
 use Rattle.image_builder.proofs.Numbered.{directory_numbered, length_numbered}
 

@@ -1,21 +1,7 @@
 -- What `build` answers, and what the device then holds.
-use Rattle.std.specs.Prelude.{◌≡◌, ◌⊎◌, ℕ, ◌^◌, ◌<◌, ◌≤◌, ◌==◌, if◌then◌else◌, List}
-use Rattle.toml.specs.Data.{Members}
-use Rattle.model.specs.declared.frame.Frame.{Frame}
-use Rattle.model.specs.Keepable.{IsSoundFrames}
-use Rattle.device.specs.Disk.{Disk, Image}
-use Rattle.device.specs.Calls.{Elsewhere}
-use Rattle.layout.specs.Image.{Encodes}
-use Rattle.layout.specs.Superblock.{Plan, version_number}
-use Rattle.layout.specs.declared.version.Version.{Version}
-use Rattle.layout.specs.declared.version.Version.TheVariants.{One, Two}
-use Rattle.checkpoint.specs.Saved.{Holds, SavedFrames}
-use Rattle.image_writer.specs.Laid.{MayBeLaid, plan_from}
-use Rattle.image_writer.specs.Written.{first_saved, first_state}
-use Rattle.consistency.specs.Consistency.{AreBanked, AreNamed}
-use Rattle.description.specs.declared.entry.Description.{Description}
-use Rattle.description.specs.Reading.{IsDescription}
-use Rattle.described_world.specs.Described.{HasFields, HasNumbers, IsDescribed}
+use Rattle.image_builder.specs.Names.{◌≡◌, ◌⊎◌, ℕ, ◌^◌, ◌<◌, ◌≤◌, ◌==◌, if◌then◌else◌, List, Members, Frame, IsSoundFrames, Disk, Image, Elsewhere, Encodes}
+use Rattle.image_builder.specs.Names.{Plan, version_number, Version, One, Two, Holds, SavedFrames, MayBeLaid, plan_from, first_saved, first_state, AreBanked}
+use Rattle.image_builder.specs.Names.{AreNamed, Description, IsDescription, HasFields, HasNumbers, IsDescribed}
 use Rattle.image_builder.specs.declared.fault.BuildFault.{BuildFault}
 use Rattle.image_builder.specs.declared.fault.BuildFault.TheVariants.{Shape, Limits, Number, Field, Target, Owner, Small, Failed, NoMemory}
 

@@ -1,16 +1,6 @@
 -- What is known of a description on the way to its image.
-use Rattle.std.specs.Prelude.{◌≡◌, ◌≢◌, ◌⊎◌, ℕ, List, length}
-use Rattle.model.specs.declared.capability.Cap.{Cap}
-use Rattle.model.specs.declared.frame.Frame.{Frame}
-use Rattle.model.specs.declared.frame.ObjectHeader.{ObjectHeader}
-use Rattle.model.specs.declared.object.Content.{Content}
-use Rattle.model.specs.Frame.{frames_in}
-use Rattle.model.specs.Keepable.{AreKeepable, IsSoundFrames}
-use Rattle.model.specs.Sound.{object_count}
-use Rattle.device.specs.Disk.{Disk, Image}
-use Rattle.checkpoint.specs.Saved.{Holds, SavedFrames}
-use Rattle.description.specs.declared.entry.Description.{Description}
-use Rattle.described_world.specs.Described.{HasFields, HasNumbers, IsDescribed}
+use Rattle.image_builder.specs.Names.{◌≡◌, ◌≢◌, ◌⊎◌, ℕ, List, length, Cap, Frame, ObjectHeader, Content, frames_in, AreKeepable, IsSoundFrames, object_count}
+use Rattle.image_builder.specs.Names.{Disk, Image, Holds, SavedFrames, Description, HasFields, HasNumbers, IsDescribed}
 use Rattle.image_builder.specs.declared.fault.BuildFault.{BuildFault}
 use Rattle.image_builder.specs.declared.fault.BuildFault.TheVariants.{Failed}
 use Rattle.image_builder.specs.Built.{IsRefused, IsSavedOf}

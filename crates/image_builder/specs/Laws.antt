@@ -1,6 +1,5 @@
 -- A description is refused with at most one fault.
-use Rattle.std.specs.Prelude.{◌≡◌, ℕ}
-use Rattle.description.specs.declared.entry.Description.{Description}
+use Rattle.image_builder.specs.Names.{◌≡◌, ℕ, Description}
 use Rattle.image_builder.specs.declared.fault.BuildFault.{BuildFault}
 use Rattle.image_builder.specs.Built.{IsAccepted, IsFirstBroken}
 

@@ -1,3 +1,4 @@
+pub mod Names
 pub mod Built
 pub mod Checked
 pub mod Laws

@@ -1,19 +1,7 @@
 -- What `upgrade` writes, and why it doesn't.
-use Rattle.std.specs.Prelude.{◌≡◌, ◌⊎◌, ◌↔◌, ℕ, ◌+◌, ◌<◌, ◌≤◌, List, [], ◌∷◌}
-use Rattle.device.specs.Disk.{Disk, Image}
-use Rattle.device.specs.Calls.{Elsewhere}
-use Rattle.layout.specs.declared.directory.Entry.{Entry}
-use Rattle.layout.specs.declared.version.Version.TheVariants.{Two}
-use Rattle.layout.specs.Image.{Encodes, SavedState}
-use Rattle.checkpoint.specs.declared.open_fault.OpenFault.{OpenFault}
+use Rattle.image_builder.specs.Names.{◌≡◌, ◌⊎◌, ◌↔◌, ℕ, ◌+◌, ◌<◌, ◌≤◌, List, [], ◌∷◌, Disk, Image, Elsewhere, Entry, Two, Encodes, SavedState, OpenFault, Looks}
+use Rattle.image_builder.specs.Names.{Holds, SavedFrames, kept_of, frames_of, StoreState, parts_of, saved_by, laid_again, IsSoundSaved, RefusesToOpen}
 use Rattle.checkpoint.specs.declared.open_fault.OpenFault.TheVariants as opening
-use Rattle.checkpoint.specs.Opened.{Looks}
-use Rattle.checkpoint.specs.Saved.{Holds, SavedFrames, kept_of}
-use Rattle.capability.specs.Parts.{frames_of}
-use Rattle.object_cache.specs.StoreState.{StoreState, parts_of, saved_by}
-use Rattle.image_writer.specs.Laid.{laid_again}
-use Rattle.recovery.specs.Denotes.{IsSoundSaved}
-use Rattle.recovery.specs.Recovered.{RefusesToOpen}
 use Rattle.image_builder.specs.declared.upgrade_fault.UpgradeFault.{UpgradeFault}
 use Rattle.image_builder.specs.declared.upgrade_fault.UpgradeFault.TheVariants as fault
 

@@ -1,39 +1,17 @@
 -- Entries that tell all objects of a sound world are a description of it.
-use Rattle.std.proofs.Common.{◌≡◌, ◌≢◌, ◌⊎◌, ℕ, ◌<◌, ◌≤◌, inl, inr, List, ◌++◌, map, length, Option, None, Some, slice_index_or, unwrap_or, refl, sym, ap, ◌∙◌, subst, arith}
-use Rattle.std.specs.Prelude.{IsTrue}
-use Rattle.std.specs.List.{All, Contains}
+use Rattle.image_describer.proofs.Names.{◌≡◌, ◌≢◌, ◌⊎◌, ℕ, ◌<◌, ◌≤◌, inl, inr, List, ◌++◌, map, length, Option, None, Some, slice_index_or, unwrap_or, refl}
+use Rattle.image_describer.proofs.Names.{sym, ap, ◌∙◌, subst, arith, IsTrue, All, Contains, get_or-map, cases_lt, length-map, All-append, All-contains, All-map}
+use Rattle.image_describer.proofs.Names.{All-weaker, Contains-append_left, Contains-append_right, slice_get-get_or, slice_get-map, Cap, Capability, Void}
+use Rattle.image_describer.proofs.Names.{Geometry, Content, Object, Role, IsWellFormed, blank_frame, frame_at, free, is_annex, is_free, is_root, role_of}
+use Rattle.image_describer.proofs.Names.{root_in, slots_in, HasShape, IsOfKind, IsSound, IsSpace, MayBeHeld, object_count, World, annex_at, content_at}
+use Rattle.image_describer.proofs.Names.{is_process, object_at, fresh_cap, BankEntry, Description, NodeEntry, PageEntry, ProcessEntry, SlotEntry, WordEntry}
+use Rattle.image_describer.proofs.Names.{AreDistinct, AreSlots, AreWords, HasFields, HasNamedWords, HasNumbers, HoldsNamed, IsDescribed, IsDescribedAnnex}
+use Rattle.image_describer.proofs.Names.{IsDescribedNode, IsDescribedPage, IsDescribedRoot, IsProcessEntry, IsSomeCapability, IsSpaceEntry, first_frame}
+use Rattle.image_describer.proofs.Names.{node_numbers, page_numbers, all_from, contains_map, map_contains, AreBriefSlots, AreBriefWords, Describes, IsBrief}
+use Rattle.image_describer.proofs.Names.{NamesSlots, NamesWords, plain_frame, plain_frames, TellAll, TellsBank, TellsNode, TellsPage, TellsProcess}
 use Rattle.std.specs.Option.{option_map}
-use Rattle.std.proofs.Math.ListN.{get_or-map}
-use Rattle.std.proofs.lemmas.Bool.{cases_lt}
-use Rattle.std.proofs.lemmas.List.{length-map}
-use Rattle.std.proofs.lemmas.List.Elements.{All-append, All-contains, All-map, All-weaker, Contains-append_left, Contains-append_right}
-use Rattle.std.proofs.lemmas.Option.{slice_get-get_or, slice_get-map}
-use Rattle.model.specs.declared.capability.Cap.{Cap}
-use Rattle.model.specs.declared.capability.Capability.{Capability}
-use Rattle.model.specs.declared.capability.Capability.TheVariants.{Void}
-use Rattle.model.specs.declared.geometry.Geometry.{Geometry}
-use Rattle.model.specs.declared.object.Content.{Content}
 use Rattle.model.specs.declared.object.Content.TheVariants as content
-use Rattle.model.specs.declared.object.Object.{Object}
-use Rattle.model.specs.declared.object.Role.{Role}
 use Rattle.model.specs.declared.object.Role.TheVariants as role
-use Rattle.model.specs.Capability.{IsWellFormed}
-use Rattle.model.specs.Frame.{blank_frame, frame_at}
-use Rattle.model.specs.Object.{free, is_annex, is_free, is_root, role_of, root_in, slots_in}
-use Rattle.model.specs.Sound.{HasShape, IsOfKind, IsSound, IsSpace, MayBeHeld, object_count}
-use Rattle.model.specs.World.{World, annex_at, content_at, is_process, object_at}
-use Rattle.capability.specs.Plain.{fresh_cap}
-use Rattle.description.specs.declared.entry.BankEntry.{BankEntry}
-use Rattle.description.specs.declared.entry.Description.{Description}
-use Rattle.description.specs.declared.entry.NodeEntry.{NodeEntry}
-use Rattle.description.specs.declared.entry.PageEntry.{PageEntry}
-use Rattle.description.specs.declared.entry.ProcessEntry.{ProcessEntry}
-use Rattle.description.specs.declared.entry.SlotEntry.{SlotEntry}
-use Rattle.description.specs.declared.entry.WordEntry.{WordEntry}
-use Rattle.described_world.specs.Described.{AreDistinct, AreSlots, AreWords, HasFields, HasNamedWords, HasNumbers, HoldsNamed, IsDescribed, IsDescribedAnnex, IsDescribedNode, IsDescribedPage, IsDescribedRoot, IsProcessEntry, IsSomeCapability, IsSpaceEntry, first_frame, node_numbers, page_numbers}
-use Rattle.described_world.proofs.Lists.{all_from, contains_map, map_contains}
-use Rattle.image_describer.specs.Describes.{AreBriefSlots, AreBriefWords, Describes, IsBrief, NamesSlots, NamesWords, plain_frame, plain_frames}
-use Rattle.image_describer.specs.Told.{TellAll, TellsBank, TellsNode, TellsPage, TellsProcess}
 use Rattle.image_describer.proofs.Naming.{named_is}
 use Rattle.image_describer.proofs.Rising.{apart_by, distinct_both, distinct_other, rising_distinct}
 

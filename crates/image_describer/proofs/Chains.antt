@@ -1,9 +1,6 @@
 -- Tables that come of an empty one by several values put at keys.
-use Rattle.std.proofs.Common.{◌≡◌, ℕ, zero, suc, ◌<◌, Bool, true, false, not, ◌&&◌, List, [], ◌∷◌, ◌++◌, length, Option, None, slice_index_or, refl, sym, ap, ◌∙◌, subst, arith}
-use Rattle.std.specs.Prelude.{IsTrue}
-use Rattle.std.specs.List.{list_any}
-use Rattle.toml.specs.Data.{Data, Members, get_member, same_key}
-use Rattle.description.specs.Reading.{has_only}
+use Rattle.image_describer.proofs.Names.{◌≡◌, ℕ, zero, suc, ◌<◌, Bool, true, false, not, ◌&&◌, List, [], ◌∷◌, ◌++◌, length, Option, None, slice_index_or, refl}
+use Rattle.image_describer.proofs.Names.{sym, ap, ◌∙◌, subst, arith, IsTrue, list_any, Data, Members, get_member, same_key, has_only}
 use Rattle.image_describer.proofs.Puts.{Puts}
 
 -- a key, and what is put there

@@ -1,15 +1,11 @@
 -- What the lines of a description leave in the nodes of TOML's reader.
-use Rattle.std.proofs.Common.{◌≡◌, ℕ, Bool, true, false, not, ◌&&◌, List, [], ◌∷◌, ◌++◌, Option, Some, None, option_and_then, IfSome, MatchOption, append-nil, append_assoc, refl, sym, ap, ◌∙◌, subst, inr}
-use Rattle.std.specs.Prelude.{IsTrue}
-use Rattle.std.proofs.lemmas.Option.{none-some, same_Some}
-use Rattle.toml_parser.specs.Strings.{Key}
-use Rattle.toml.specs.Data.{Data, string, integer, float, boolean, datetime, array, table, Items, no_items, item, push_item, Members, no_members, member, get_member, same_key}
-use Rattle.toml.specs.Tables.{Nodes, no_nodes, value, open_array, close, insert, Edit, Document, Expression, array_table, along_dots, along_header, at_key, put}
-use Rattle.toml.specs.Text.{are_tables, elements, is_section, section, sections}
-use Rattle.toml.proofs.Fill.{Exists, fill, fill_elements, fill_pairs, fill_sections, roots, run-append, run_elements}
-use Rattle.toml.proofs.NodeLaws.{along_found, get_node-insert, replace-insert}
-use Rattle.toml.proofs.ReadLines.{run}
-use Rattle.description.specs.Reading.{AreItems, IsList, IsTable}
+use Rattle.image_describer.proofs.Names.{◌≡◌, ℕ, Bool, true, false, not, ◌&&◌, List, [], ◌∷◌, ◌++◌, Option, Some, None, option_and_then, IfSome, MatchOption}
+use Rattle.image_describer.proofs.Names.{append-nil, append_assoc, refl, sym, ap, ◌∙◌, subst, inr, IsTrue, none-some, same_Some, Key, Data, string, integer}
+use Rattle.image_describer.proofs.Names.{float, boolean, datetime, array, table, Items, no_items, item, push_item, Members, no_members, member, get_member}
+use Rattle.image_describer.proofs.Names.{same_key, Nodes, no_nodes, value, open_array, close, insert, Edit, Document, Expression, array_table, along_dots}
+use Rattle.image_describer.proofs.Names.{along_header, at_key, put, are_tables, elements, is_section, section, sections, Exists, fill, fill_elements}
+use Rattle.image_describer.proofs.Names.{fill_pairs, fill_sections, roots, run-append, run_elements, along_found, get_node-insert, replace-insert, run}
+use Rattle.image_describer.proofs.Names.{AreItems, IsList, IsTable}
 use Rattle.image_describer.proofs.Chains.{Chain, Pair, are_apart, is_apart}
 use Rattle.image_describer.proofs.Puts.{Puts, no_node, puts_inserted, puts_none}
 

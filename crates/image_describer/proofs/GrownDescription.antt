@@ -1,33 +1,14 @@
 -- A description that was renumbered is that of the world in an image of other sizes.
-use Rattle.std.proofs.Common.{◌≡◌, inl, inr, ℕ, ◌<◌, ◌≤◌, ◌^◌, List, [], ◌∷◌, ◌++◌, map, length, Option, sym, ap, ◌∙◌, subst, arith}
-use Rattle.std.specs.Prelude.{Vec}
-use Rattle.std.specs.declared.alloc.Global.{Global}
-use Rattle.std.specs.List.{All, Contains}
-use Rattle.std.proofs.lemmas.Bool.{cases_lt}
-use Rattle.std.proofs.lemmas.List.{length-map}
-use Rattle.std.proofs.lemmas.List.Elements.{All-append, All-contains, All-map, Contains-append_cases, Contains-append_left, Contains-append_right}
-use Rattle.model.specs.declared.capability.Capability.{Capability}
-use Rattle.model.specs.declared.frame.Frame.{Frame}
-use Rattle.model.specs.declared.geometry.Geometry.{Geometry}
+use Rattle.image_describer.proofs.Names.{◌≡◌, inl, inr, ℕ, ◌<◌, ◌≤◌, ◌^◌, List, [], ◌∷◌, ◌++◌, map, length, Option, sym, ap, ◌∙◌, subst, arith, Vec, Global}
+use Rattle.image_describer.proofs.Names.{All, Contains, cases_lt, length-map, All-append, All-contains, All-map, Contains-append_cases, Contains-append_left}
+use Rattle.image_describer.proofs.Names.{Contains-append_right, Capability, Frame, Geometry, Object, State, blank_frame, frame_at, object_count, fresh_cap}
+use Rattle.image_describer.proofs.Names.{BankEntry, Description, NodeEntry, PageEntry, ProcessEntry, SlotEntry, WordEntry, AreDistinct, AreSlots, AreWords}
+use Rattle.image_describer.proofs.Names.{HasFields, HasNamedWords, HasNumbers, HoldsNamed, IsDescribed, IsDescribedAnnex, IsDescribedNode, IsDescribedPage}
+use Rattle.image_describer.proofs.Names.{IsDescribedRoot, IsProcessEntry, IsSpaceEntry, first_frame, node_numbers, page_numbers, OfAnnex, OfBank, OfNode}
+use Rattle.image_describer.proofs.Names.{OfPage, OfRoot, described_of, in_range, all_from, contains_here, contains_map, contains_there, map_contains}
+use Rattle.image_describer.proofs.Names.{AreBriefSlots, AreBriefWords, AreRising, IsBrief, plain_frame, plain_frames, IsMovedNode, IsMovedPage, IsMovedProcess}
+use Rattle.image_describer.proofs.Names.{IsRenumbered, NamesNodes, NamesPages, moved, moved_capability, moved_held}
 use Rattle.model.specs.declared.object.Content.TheVariants as content
-use Rattle.model.specs.declared.object.Object.{Object}
-use Rattle.model.specs.declared.object.State.{State}
-use Rattle.model.specs.Frame.{blank_frame, frame_at}
-use Rattle.model.specs.Sound.{object_count}
-use Rattle.capability.specs.Plain.{fresh_cap}
-use Rattle.description.specs.declared.entry.BankEntry.{BankEntry}
-use Rattle.description.specs.declared.entry.Description.{Description}
-use Rattle.description.specs.declared.entry.NodeEntry.{NodeEntry}
-use Rattle.description.specs.declared.entry.PageEntry.{PageEntry}
-use Rattle.description.specs.declared.entry.ProcessEntry.{ProcessEntry}
-use Rattle.description.specs.declared.entry.SlotEntry.{SlotEntry}
-use Rattle.description.specs.declared.entry.WordEntry.{WordEntry}
-use Rattle.described_world.specs.Described.{AreDistinct, AreSlots, AreWords, HasFields, HasNamedWords, HasNumbers, HoldsNamed, IsDescribed, IsDescribedAnnex, IsDescribedNode, IsDescribedPage, IsDescribedRoot, IsProcessEntry, IsSpaceEntry, first_frame, node_numbers, page_numbers}
-use Rattle.described_world.specs.Laid.{OfAnnex, OfBank, OfNode, OfPage, OfRoot}
-use Rattle.described_world.proofs.Entries.{described_of, in_range}
-use Rattle.described_world.proofs.Lists.{all_from, contains_here, contains_map, contains_there, map_contains}
-use Rattle.image_describer.specs.Describes.{AreBriefSlots, AreBriefWords, AreRising, IsBrief, plain_frame, plain_frames}
-use Rattle.image_describer.specs.Grown.{IsMovedNode, IsMovedPage, IsMovedProcess, IsRenumbered, NamesNodes, NamesPages, moved, moved_capability, moved_held}
 use Rattle.image_describer.proofs.GrownWorld.{comes_from, frame_arrived, frame_inside, frame_past, grown_length, grown_objects, node_arrives, origin, page_arrives}
 use Rattle.image_describer.proofs.Moved.{brief_moved, holds_moved, moved_cap, moved_frame, node_stays, page_moves, slots_moved, space_entry_moved}
 use Rattle.image_describer.proofs.Pairs.{zip_all, zip_map}

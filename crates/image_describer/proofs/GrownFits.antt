@@ -1,32 +1,12 @@
 -- The objects of a world have numbers in an image of other sizes exactly where those that its description names do.
-use Rattle.std.proofs.Common.{◌≡◌, ◌≢◌, inl, inr, ℕ, ◌<◌, ◌≤◌, true, false, refl, sym, ap, ◌∙◌, subst, arith}
-use Rattle.std.proofs.lemmas.Bool.{true≢false}
-use Rattle.std.proofs.lemmas.List.Elements.{All-contains}
-use Rattle.model.specs.declared.capability.Cap.{Cap}
-use Rattle.model.specs.declared.frame.Frame.{Frame}
-use Rattle.model.specs.declared.geometry.Geometry.{Geometry}
-use Rattle.model.specs.declared.object.Content.{Content}
+use Rattle.image_describer.proofs.Names.{◌≡◌, ◌≢◌, inl, inr, ℕ, ◌<◌, ◌≤◌, true, false, refl, sym, ap, ◌∙◌, subst, arith, true≢false, All-contains, Cap, Frame}
+use Rattle.image_describer.proofs.Names.{Geometry, Content, frame_at, is_free, role_of, object_count, World, content_at, fresh_cap, mapped, BankEntry}
+use Rattle.image_describer.proofs.Names.{Description, NodeEntry, PageEntry, ProcessEntry, first_frame, Entry, OfAnnex, OfBank, OfNode, OfPage, OfRoot}
+use Rattle.image_describer.proofs.Names.{number_of, IsFrameOf, IsOf, described_cases, described_of, in_range, all_from, GrowthFault, Describes, plain_frames}
+use Rattle.image_describer.proofs.Names.{IsNotRenumbered, IsUnsuited, NamesNodes, NamesPages, NodesFit, PagesFit, moved}
 use Rattle.model.specs.declared.object.Content.TheVariants as content
 use Rattle.model.specs.declared.object.Role.TheVariants as role
-use Rattle.model.specs.Frame.{frame_at}
-use Rattle.model.specs.Object.{is_free, role_of}
-use Rattle.model.specs.Sound.{object_count}
-use Rattle.model.specs.World.{World, content_at}
-use Rattle.capability.specs.Plain.{fresh_cap}
-use Rattle.capability.proofs.Mapped.{mapped}
-use Rattle.description.specs.declared.entry.BankEntry.{BankEntry}
-use Rattle.description.specs.declared.entry.Description.{Description}
-use Rattle.description.specs.declared.entry.NodeEntry.{NodeEntry}
-use Rattle.description.specs.declared.entry.PageEntry.{PageEntry}
-use Rattle.description.specs.declared.entry.ProcessEntry.{ProcessEntry}
-use Rattle.described_world.specs.Described.{first_frame}
-use Rattle.described_world.specs.Laid.{Entry, OfAnnex, OfBank, OfNode, OfPage, OfRoot, number_of}
-use Rattle.described_world.proofs.Entries.{IsFrameOf, IsOf, described_cases, described_of, in_range}
-use Rattle.described_world.proofs.Lists.{all_from}
-use Rattle.image_describer.specs.declared.sizes.GrowthFault.{GrowthFault}
 use Rattle.image_describer.specs.declared.sizes.GrowthFault.TheVariants as fault
-use Rattle.image_describer.specs.Describes.{Describes, plain_frames}
-use Rattle.image_describer.specs.Grown.{IsNotRenumbered, IsUnsuited, NamesNodes, NamesPages, NodesFit, PagesFit, moved}
 use Rattle.image_describer.proofs.Plain.{plain_at}
 
 -- what has a role isn't free

@@ -1,18 +1,9 @@
 -- The laws of descriptions that were renumbered.
-use Rattle.std.proofs.Common.{◌≡◌, ℕ, Bool, true, false, List, [], ◌∷◌, map, refl, sym, ap, ◌∙◌}
-use Rattle.std.proofs.lemmas.Bool.{true≢false}
-use Rattle.std.proofs.lemmas.List.{ext_get_or}
-use Rattle.model.specs.declared.capability.Capability.{Capability}
-use Rattle.model.specs.declared.capability.Capability.TheVariants.{Void, Number, Page, Node, Space, Process, Start, Resume, Bank, Discrim}
-use Rattle.model.specs.declared.geometry.Geometry.{Geometry}
-use Rattle.model.specs.declared.object.Content.{Content}
+use Rattle.image_describer.proofs.Names.{◌≡◌, ℕ, Bool, true, false, List, [], ◌∷◌, map, refl, sym, ap, ◌∙◌, true≢false, ext_get_or, Capability, Void, Number}
+use Rattle.image_describer.proofs.Names.{Page, Node, Space, Process, Start, Resume, Bank, Discrim, Geometry, Content, Object, free, is_free, map_content}
+use Rattle.image_describer.proofs.Names.{IsSound, World, content_at, object_at, owner_at, IsGrown, moved, moved_capability, moved_object, GrownIsDescribed}
+use Rattle.image_describer.proofs.Names.{GrownToItself}
 use Rattle.model.specs.declared.object.Content.TheVariants as content
-use Rattle.model.specs.declared.object.Object.{Object}
-use Rattle.model.specs.Object.{free, is_free, map_content}
-use Rattle.model.specs.Sound.{IsSound}
-use Rattle.model.specs.World.{World, content_at, object_at, owner_at}
-use Rattle.image_describer.specs.Grown.{IsGrown, moved, moved_capability, moved_object}
-use Rattle.image_describer.specs.Laws.{GrownIsDescribed, GrownToItself}
 use Rattle.image_describer.proofs.GrownDescription.{fields_grown, frames_grown, numbers_grown}
 use Rattle.image_describer.proofs.GrownFits.{nodes_fit, pages_fit}
 use Rattle.image_describer.proofs.GrownWorld.{free_object, grown_world, is_grown}

@@ -1,14 +1,7 @@
 -- The home ranges of an image of other sizes.
-use Rattle.std.proofs.Common.{◌≡◌, inl, inr, ℕ, ◌+◌, Bool, true, false, if◌then◌else◌, List, [], ◌∷◌, map, refl, arith}
+use Rattle.image_describer.proofs.Names.{◌≡◌, inl, inr, ℕ, ◌+◌, Bool, true, false, if◌then◌else◌, List, [], ◌∷◌, map, refl, arith, nat_tests, HomeRange, Cover}
+use Rattle.image_describer.proofs.Names.{IsGeometry, IsOfOneKind, NumberRange, MayBeLaid, placed, Geometry, whole_ranges, grown_ranges}
 use Rattle.std.specs.Prelude.{◌==◌, ◌&&◌}
-use Rattle.std.proofs.lemmas.Bool.Decides.{nat_tests}
-use Rattle.layout.specs.declared.extent.HomeRange.{HomeRange}
-use Rattle.layout.specs.Superblock.{Cover, IsGeometry, IsOfOneKind}
-use Rattle.image_writer.specs.declared.number_range.NumberRange.{NumberRange}
-use Rattle.image_writer.specs.Laid.{MayBeLaid, placed}
-use Rattle.model.specs.declared.geometry.Geometry.{Geometry}
-use Rattle.description.specs.Reading.{whole_ranges}
-use Rattle.image_describer.specs.Grown.{grown_ranges}
 
 module _ (g h : Geometry) (nodes : g.nodes ≡ h.nodes) (pages : g.pages ≡ h.pages) where
   kind_same : (r : HomeRange) → IsOfOneKind g r → IsOfOneKind h r

@@ -1,22 +1,10 @@
 -- A description that was renumbered has a text.
-use Rattle.std.proofs.Common.{◌≡◌, ℕ, ◌<◌, ◌≤◌, Bool, true, false, if◌then◌else◌, List, [], ◌∷◌, length, sym, subst, arith}
-use Rattle.std.specs.Prelude.{◌==◌, ◌&&◌, Vec}
-use Rattle.std.specs.declared.alloc.Global.{Global}
-use Rattle.std.specs.List.{All}
-use Rattle.std.proofs.lemmas.List.Elements.{All-cons, All-contains, All-nil}
-use Rattle.layout.specs.Superblock.{IsGeometry}
-use Rattle.image_writer.specs.declared.number_range.NumberRange.{NumberRange}
-use Rattle.model.specs.Sound.{object_count}
-use Rattle.description.specs.declared.entry.BankEntry.{BankEntry}
-use Rattle.description.specs.declared.entry.Description.{Description}
-use Rattle.description.specs.declared.entry.NodeEntry.{NodeEntry}
-use Rattle.description.specs.declared.entry.PageEntry.{PageEntry}
-use Rattle.description.specs.declared.entry.ProcessEntry.{ProcessEntry}
-use Rattle.description.specs.declared.entry.WordEntry.{WordEntry}
-use Rattle.description.specs.Reading.{whole_ranges}
-use Rattle.described_world.proofs.Lists.{all_from}
-use Rattle.image_describer.specs.Grown.{IsMovedNode, IsMovedPage, IsMovedProcess, IsRenumbered, NamesPages, moved}
-use Rattle.image_describer.specs.Spelled.{CanBeSpelled, IsShort, IsWide, NamesWide, SpellsBank, SpellsNode, SpellsPage, SpellsProcess, SpellsRange, SpellsSlot, SpellsWord}
+use Rattle.image_describer.proofs.Names.{◌≡◌, ℕ, ◌<◌, ◌≤◌, Bool, true, false, if◌then◌else◌, List, [], ◌∷◌, length, sym, subst, arith, Vec, Global, All}
+use Rattle.image_describer.proofs.Names.{All-cons, All-contains, All-nil, IsGeometry, NumberRange, object_count, BankEntry, Description, NodeEntry, PageEntry}
+use Rattle.image_describer.proofs.Names.{ProcessEntry, WordEntry, whole_ranges, all_from, IsMovedNode, IsMovedPage, IsMovedProcess, IsRenumbered, NamesPages}
+use Rattle.image_describer.proofs.Names.{moved, CanBeSpelled, IsShort, IsWide, NamesWide, SpellsBank, SpellsNode, SpellsPage, SpellsProcess, SpellsRange}
+use Rattle.image_describer.proofs.Names.{SpellsSlot, SpellsWord}
+use Rattle.std.specs.Prelude.{◌==◌, ◌&&◌}
 use Rattle.image_describer.proofs.Moved.{moved_wide, spelled_moved, wide_moved}
 use Rattle.image_describer.proofs.Pairs.{zip_all}
 

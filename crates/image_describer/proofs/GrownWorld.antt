@@ -1,22 +1,10 @@
 -- The objects of a world in an image of other sizes.
-use Rattle.std.proofs.Common.{◌≡◌, ◌≢◌, inl, inr, ℕ, ◌+◌, ◌-◌, ◌<◌, ◌≤◌, nat_lt, if◌then◌else◌, Bool, true, false, List, map, length, refl, sym, ap, ◌∙◌, arith}
-use Rattle.std.specs.List.{range_with_len}
-use Rattle.std.proofs.lemmas.Bool.{cases_lt, true≢false}
-use Rattle.std.proofs.lemmas.Bool.Decides.{nat_tests}
-use Rattle.std.proofs.lemmas.List.{get_or_past, length-map}
-use Rattle.std.proofs.lemmas.List.FromFn.{get_or-map-range_with_len, length-range_with_len}
-use Rattle.model.specs.declared.capability.Capability.{Capability}
-use Rattle.model.specs.declared.frame.Frame.{Frame}
-use Rattle.model.specs.declared.geometry.Geometry.{Geometry}
-use Rattle.model.specs.declared.object.Content.{Content}
+use Rattle.image_describer.proofs.Names.{◌≡◌, ◌≢◌, inl, inr, ℕ, ◌+◌, ◌-◌, ◌<◌, ◌≤◌, nat_lt, if◌then◌else◌, Bool, true, false, List, map, length, refl, sym, ap}
+use Rattle.image_describer.proofs.Names.{◌∙◌, arith, range_with_len, cases_lt, true≢false, nat_tests, get_or_past, length-map, get_or-map-range_with_len}
+use Rattle.image_describer.proofs.Names.{length-range_with_len, Capability, Frame, Geometry, Content, Object, blank_frame, frame_at, free, is_free, IsSound}
+use Rattle.image_describer.proofs.Names.{object_count, World, content_at, object_at, owner_at, plain_frame, plain_frames, IsGrown, NodesFit, PagesFit, moved}
+use Rattle.image_describer.proofs.Names.{moved_object}
 use Rattle.model.specs.declared.object.Content.TheVariants as content
-use Rattle.model.specs.declared.object.Object.{Object}
-use Rattle.model.specs.Frame.{blank_frame, frame_at}
-use Rattle.model.specs.Object.{free, is_free}
-use Rattle.model.specs.Sound.{IsSound, object_count}
-use Rattle.model.specs.World.{World, content_at, object_at, owner_at}
-use Rattle.image_describer.specs.Describes.{plain_frame, plain_frames}
-use Rattle.image_describer.specs.Grown.{IsGrown, NodesFit, PagesFit, moved, moved_object}
 use Rattle.image_describer.proofs.Moved.{moved_frame, plain_moved}
 use Rattle.image_describer.proofs.Plain.{plain_at}
 

@@ -1,3 +1,4 @@
+mod Names
 mod Added
 mod Assembled
 mod Chains

@@ -1,12 +1,10 @@
 -- The lines of a description are those that TOML has for its values.
-use Rattle.std.proofs.Common.{◌≡◌, ℕ, suc, ◌<◌, ◌≤◌, ◌^◌, pos, Bool, true, false, ◌&&◌, List, [], ◌∷◌, ◌++◌, codes, decimal, Option, Some, None, IfSome, append-nil, append_assoc, refl, sym, ap, ◌∙◌, subst, arith}
-use Rattle.std.specs.List.{flat_map, join_by}
-use Rattle.toml_writer.specs.Text.{dotted_text, key_text, string_text}
-use Rattle.toml.specs.Data.{Data, string, integer, float, boolean, datetime, array, table, Items, no_items, item, Members, depth, has_valid_dates, items_depth, items_have_valid_dates}
-use Rattle.toml.specs.Tables.{Expression}
-use Rattle.toml.specs.Text.{IsItemsText, IsLinesText, IsValueText, are_tables, breaks_lines, elements, is_section, pairs}
-use Rattle.toml.proofs.ReadLines.{AllPrinted}
-use Rattle.image_describer.specs.Text.{Field, begin_line, field_line, field_lines, list_text, pair_text, quoted}
+use Rattle.image_describer.proofs.Names.{◌≡◌, ℕ, suc, ◌<◌, ◌≤◌, ◌^◌, pos, Bool, true, false, ◌&&◌, List, [], ◌∷◌, ◌++◌, codes, decimal, Option, Some, None}
+use Rattle.image_describer.proofs.Names.{IfSome, append-nil, append_assoc, refl, sym, ap, ◌∙◌, subst, arith, flat_map, join_by, dotted_text, key_text}
+use Rattle.image_describer.proofs.Names.{string_text, Data, string, integer, float, boolean, datetime, array, table, Items, no_items, item, Members, depth}
+use Rattle.image_describer.proofs.Names.{has_valid_dates, items_depth, items_have_valid_dates, Expression, IsItemsText, IsLinesText, IsValueText, are_tables}
+use Rattle.image_describer.proofs.Names.{breaks_lines, elements, is_section, pairs, AllPrinted, Field, begin_line, field_line, field_lines, list_text}
+use Rattle.image_describer.proofs.Names.{pair_text, quoted}
 use Rattle.image_describer.proofs.Chains.{Pair}
 use Rattle.image_describer.proofs.Filled.{ArePairs, keyed, member_or, no_sections, tables}
 

@@ -1,28 +1,12 @@
 -- Numbers and capabilities in an image of other sizes.
-use Rattle.std.proofs.Common.{◌≡◌, ◌≢◌, ℕ, ◌+◌, ◌-◌, ◌<◌, ◌≤◌, if◌then◌else◌, Bool, true, false, List, [], ◌∷◌, map, Option, Some, None, unwrap_or, refl, sym, ap, ◌∙◌, subst, arith}
+use Rattle.image_describer.proofs.Names.{◌≡◌, ◌≢◌, ℕ, ◌+◌, ◌-◌, ◌<◌, ◌≤◌, if◌then◌else◌, Bool, true, false, List, [], ◌∷◌, map, Option, Some, None, unwrap_or}
+use Rattle.image_describer.proofs.Names.{refl, sym, ap, ◌∙◌, subst, arith, All, nat_tests, length-map, All-map, All-weaker, slice_get-map, Cap, Capability}
+use Rattle.image_describer.proofs.Names.{Void, Number, Page, Node, Space, Process, Start, Resume, Bank, Discrim, Frame, Geometry, Content, Object, IsWellFormed}
+use Rattle.image_describer.proofs.Names.{named, map_content, IsSpace, object_count, fresh_cap, SlotEntry, AreDistinct, AreSlots, HoldsNamed, IsSomeCapability}
+use Rattle.image_describer.proofs.Names.{IsSpaceEntry, named_at, AreBriefSlots, AreRising, plain_frame, moved, moved_capability, moved_held, moved_object}
+use Rattle.image_describer.proofs.Names.{moved_slot, IsWide, NamesWide, SpellsSlot}
 use Rattle.std.specs.Prelude.{◌==◌, IfSome, option_map}
-use Rattle.std.specs.List.{All}
-use Rattle.std.proofs.lemmas.Bool.Decides.{nat_tests}
-use Rattle.std.proofs.lemmas.List.{length-map}
-use Rattle.std.proofs.lemmas.List.Elements.{All-map, All-weaker}
-use Rattle.std.proofs.lemmas.Option.{slice_get-map}
-use Rattle.model.specs.declared.capability.Cap.{Cap}
-use Rattle.model.specs.declared.capability.Capability.{Capability}
-use Rattle.model.specs.declared.capability.Capability.TheVariants.{Void, Number, Page, Node, Space, Process, Start, Resume, Bank, Discrim}
-use Rattle.model.specs.declared.frame.Frame.{Frame}
-use Rattle.model.specs.declared.geometry.Geometry.{Geometry}
-use Rattle.model.specs.declared.object.Content.{Content}
 use Rattle.model.specs.declared.object.Content.TheVariants as content
-use Rattle.model.specs.declared.object.Object.{Object}
-use Rattle.model.specs.Capability.{IsWellFormed, named}
-use Rattle.model.specs.Object.{map_content}
-use Rattle.model.specs.Sound.{IsSpace, object_count}
-use Rattle.capability.specs.Plain.{fresh_cap}
-use Rattle.description.specs.declared.entry.SlotEntry.{SlotEntry}
-use Rattle.described_world.specs.Described.{AreDistinct, AreSlots, HoldsNamed, IsSomeCapability, IsSpaceEntry, named_at}
-use Rattle.image_describer.specs.Describes.{AreBriefSlots, AreRising, plain_frame}
-use Rattle.image_describer.specs.Grown.{moved, moved_capability, moved_held, moved_object, moved_slot}
-use Rattle.image_describer.specs.Spelled.{IsWide, NamesWide, SpellsSlot}
 
 -- Numbers
 

@@ -1,13 +1,9 @@
 -- What a list holds beside its default, one item after another.
-use Rattle.std.proofs.Common.{◌≡◌, ◌≢◌, ℕ, ◌+◌, ◌<◌, ◌≤◌, inl, inr, List, [], ◌∷◌, ◌++◌, map, length, slice_index_or, Option, None, Some, option_to_list, sym, ap, ◌∙◌, subst, arith}
-use Rattle.std.specs.List.{All, Contains}
-use Rattle.std.proofs.lemmas.Bool.{cases_eq, cases_lt}
-use Rattle.std.proofs.lemmas.List.{append-nil, get_or_past}
-use Rattle.std.proofs.lemmas.List.Elements.{All-contains, All-head, All-map, All-push, All-tail, All-weaker}
-use Rattle.described_world.specs.Described.{first_named}
-use Rattle.described_world.proofs.Lists.{first_beyond, first_none, first_of, first_there, map_both}
-use Rattle.image_describer.specs.Describes.{AreRising, Names}
-use Rattle.image_describer.specs.Told.{MayName}
+use Rattle.image_describer.proofs.Names.{◌≡◌, ◌≢◌, ℕ, ◌+◌, ◌<◌, ◌≤◌, inl, inr, List, [], ◌∷◌, ◌++◌, map, length, slice_index_or, Option, None, Some}
+use Rattle.image_describer.proofs.Names.{option_to_list, sym, ap, ◌∙◌, subst, arith, All, Contains, cases_eq, cases_lt, get_or_past, All-contains, All-head}
+use Rattle.image_describer.proofs.Names.{All-map, All-push, All-tail, All-weaker, first_named, first_beyond, first_none, first_of, first_there, map_both}
+use Rattle.image_describer.proofs.Names.{AreRising, Names, MayName}
+use Rattle.std.proofs.lemmas.List.{append-nil}
 use Rattle.image_describer.proofs.Rising.{rising_distinct, rising_more}
 
 module _ {E V : Type 0} (index : E → ℕ) (value : E → V) (default : V) where

@@ -1,7 +1,6 @@
 -- Lists that are rewritten one item after the other.
-use Rattle.std.proofs.Common.{◌≡◌, ℕ, zero, suc, ◌+◌, ◌<◌, ◌≤◌, List, [], ◌∷◌, map, length, slice_index_or, slice_set, refl, sym, ap, ◌∙◌, subst, arith}
-use Rattle.std.specs.List.{All, AllZip}
-use Rattle.std.proofs.lemmas.List.Elements.{AllZip-get_or, length_all_zip}
+use Rattle.image_describer.proofs.Names.{◌≡◌, ℕ, zero, suc, ◌+◌, ◌<◌, ◌≤◌, List, [], ◌∷◌, map, length, slice_index_or, slice_set, refl, sym, ap, ◌∙◌, subst}
+use Rattle.image_describer.proofs.Names.{arith, All, AllZip, AllZip-get_or, length_all_zip}
 
 -- the pairs below an index stand so to one another, and the rest is the same
 abbrev pub ZipBelow : {A : Type 0} → (A → A → Type 0) → ℕ → List A → List A → Type 0

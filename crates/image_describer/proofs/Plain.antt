@@ -1,30 +1,13 @@
 -- Plain frames stand for the objects that they were made of, and are sound where those are.
-use Rattle.std.proofs.Common.{◌≡◌, ℕ, nat_lt, if◌then◌else◌, Bool, true, false, List, [], ◌∷◌, map, length, slice_index_or, refl, sym, ap, ◌∙◌, subst, arith}
-use Rattle.std.specs.List.{All}
-use Rattle.std.proofs.Math.ListN.{get_or-map}
-use Rattle.std.proofs.lemmas.List.{length-map}
-use Rattle.std.proofs.lemmas.List.Elements.{All-map, All-weaker}
-use Rattle.model.specs.declared.capability.Cap.{Cap}
-use Rattle.model.specs.declared.capability.Capability.{Capability}
-use Rattle.model.specs.declared.capability.Capability.TheVariants.{Void, Number, Page, Node, Space, Process, Start, Resume, Bank, Discrim}
-use Rattle.model.specs.declared.frame.Frame.{Frame}
-use Rattle.model.specs.declared.frame.ObjectHeader.{ObjectHeader}
-use Rattle.model.specs.declared.geometry.Geometry.{Geometry}
-use Rattle.model.specs.declared.object.Content.{Content}
+use Rattle.image_describer.proofs.Names.{◌≡◌, ℕ, nat_lt, if◌then◌else◌, Bool, true, false, List, [], ◌∷◌, map, length, slice_index_or, refl, sym, ap, ◌∙◌}
+use Rattle.image_describer.proofs.Names.{subst, arith, All, get_or-map, length-map, All-map, All-weaker, Cap, Capability, Void, Number, Page, Node, Space}
+use Rattle.image_describer.proofs.Names.{Process, Start, Resume, Bank, Discrim, Frame, ObjectHeader, Geometry, Content, Object, blank_frame, conveyed}
+use Rattle.image_describer.proofs.Names.{current_count, frame_at, header_at, headers, object_of, objects_of, void_held, AreCurrent, AreKeepable, AreKeptSlots}
+use Rattle.image_describer.proofs.Names.{Follows, IsCurrent, IsKeepable, IsKeptCap, IsSoundFrames, MayBeKept, caps_in, world_at, free, map_content, role_of}
+use Rattle.image_describer.proofs.Names.{IsSound, IsSpace, object_at, fresh_cap, kind_map, mapped, sound_named, described_once, plain_frame, plain_frames}
+use Rattle.image_describer.proofs.Names.{DescribedIsLaid, DescribedIsSame}
 use Rattle.model.specs.declared.object.Content.TheVariants as content
-use Rattle.model.specs.declared.object.Object.{Object}
-use Rattle.model.specs.Frame.{blank_frame, conveyed, current_count, frame_at, header_at, headers, object_of, objects_of, void_held}
-use Rattle.model.specs.Keepable.{AreCurrent, AreKeepable, AreKeptSlots, Follows, IsCurrent, IsKeepable, IsKeptCap, IsSoundFrames, MayBeKept, caps_in, world_at}
-use Rattle.model.specs.Object.{free, map_content, role_of}
-use Rattle.model.specs.Sound.{IsSound, IsSpace}
-use Rattle.model.specs.World.{object_at}
-use Rattle.capability.specs.Plain.{fresh_cap}
-use Rattle.capability.proofs.Mapped.{kind_map, mapped}
 use Rattle.described_world.specs.declared.fault.WorldFault.TheVariants as fault
-use Rattle.consistency.proofs.Unsound.{sound_named}
-use Rattle.described_world.proofs.DescribedOnce.{described_once}
-use Rattle.image_describer.specs.Describes.{plain_frame, plain_frames}
-use Rattle.image_describer.specs.Laws.{DescribedIsLaid, DescribedIsSame}
 
 pub plain_at : (os : List Object) (n : ℕ) → frame_at (plain_frames os) n ≡ plain_frame (object_at os n)
 unfolding plain_frames

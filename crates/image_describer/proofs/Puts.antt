@@ -1,14 +1,9 @@
 -- What a table has once a value is put at a key.
-use Rattle.std.proofs.Common.{◌≡◌, ℕ, Bool, true, false, ◌&&◌, List, Option, Some, None, option_map, if◌then◌else◌, Ordering, Less, Equal, Greater, nat_cmp, is_eq, refl, sym, ap, ◌∙◌}
-use Rattle.std.specs.Prelude.{IsTrue}
-use Rattle.std.specs.Cmp.Lexicographic.{slice_cmp}
-use Rattle.std.specs.List.{list_any}
-use Rattle.std.specs.Ordering.{match_ordering}
-use Rattle.std.proofs.lemmas.Cmp.{alike_right, nat_list_cmp_total}
-use Rattle.toml.specs.Data.{Data, get_member, member, Members, no_members, same_key}
-use Rattle.toml.specs.Tables.{Node, Nodes, close, close_node, get_node, insert, no_nodes, node}
-use Rattle.toml.proofs.NodeLaws.{get_node-insert}
-use Rattle.description.specs.Reading.{has_only}
+use Rattle.image_describer.proofs.Names.{◌≡◌, ℕ, Bool, true, false, ◌&&◌, List, Option, Some, None, option_map, if◌then◌else◌, Ordering, Less, Equal, Greater}
+use Rattle.image_describer.proofs.Names.{nat_cmp, is_eq, refl, sym, ap, ◌∙◌, IsTrue, slice_cmp, list_any, match_ordering, alike_right, nat_list_cmp_total, Data}
+use Rattle.image_describer.proofs.Names.{get_member, member, Members, no_members, same_key, Nodes, close, close_node, get_node, insert, no_nodes, node}
+use Rattle.image_describer.proofs.Names.{get_node-insert, has_only}
+use Rattle.toml.specs.Tables.{Node}
 
 -- a value is put at a key, where there is one
 pub record Puts (key : List ℕ) (o : Option Data) (old new : Members) : Type 0 where

@@ -1,21 +1,9 @@
 -- The texts of capabilities and states stand between quotes as they are.
-use Rattle.std.proofs.Common.{◌≡◌, ℕ, ◌<◌, ◌≤◌, ◌^◌, Bool, true, false, not, ◌&&◌, ◌==◌, nat_lt, List, [], ◌∷◌, ◌++◌, codes, decimal, IfSome, inl, inr, refl, arith}
-use Rattle.std.specs.List.{list_all, list_any}
-use Rattle.std.specs.Str.Parse.{AllDigits}
-use Rattle.std.proofs.lemmas.Bool.{cases_Bool}
-use Rattle.std.proofs.lemmas.Bool.Decides.{nat_tests}
-use Rattle.std.proofs.lemmas.Fmt.{decimal_is_IsNumeral}
-use Rattle.std.proofs.lemmas.Str.Parse.{digit_from_value}
-use Rattle.toml_parser.specs.Lexical.{is_non_eol}
-use Rattle.toml_writer.specs.Text.{encoding_of, escaped, is_control, needs_escape, quotes_after, string_text}
-use Rattle.model.specs.Capability.{IsWellFormed, named}
-use Rattle.model.specs.Text.{access_text, capability_text, state_text}
-use Rattle.model.specs.declared.access.Access.{Access}
-use Rattle.model.specs.declared.capability.Capability.{Capability}
-use Rattle.model.specs.declared.capability.Capability.TheVariants.{Void, Number, Page, Node, Space, Process, Start, Resume, Bank, Discrim}
-use Rattle.model.specs.declared.object.State.{State}
-use Rattle.model.specs.declared.object.State.TheVariants.{Available, Running, Waiting}
-use Rattle.image_describer.specs.Text.{quoted}
+use Rattle.image_describer.proofs.Names.{◌≡◌, ℕ, ◌<◌, ◌≤◌, ◌^◌, Bool, true, false, not, ◌&&◌, ◌==◌, nat_lt, List, [], ◌∷◌, ◌++◌, codes, decimal, IfSome, inl}
+use Rattle.image_describer.proofs.Names.{inr, refl, arith, list_all, list_any, AllDigits, cases_Bool, nat_tests, decimal_is_IsNumeral, digit_from_value}
+use Rattle.image_describer.proofs.Names.{is_non_eol, encoding_of, escaped, is_control, needs_escape, quotes_after, string_text, IsWellFormed, named}
+use Rattle.image_describer.proofs.Names.{access_text, capability_text, state_text, Access, Capability, Void, Number, Page, Node, Space, Process, Start, Resume}
+use Rattle.image_describer.proofs.Names.{Bank, Discrim, State, Available, Running, Waiting, quoted}
 
 -- a byte that no string escapes
 abbrev is_safe : ℕ → Bool

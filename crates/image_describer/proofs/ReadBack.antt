@@ -1,26 +1,12 @@
 -- The text of a description is read again as that description.
-use Rattle.std.proofs.Common.{◌≡◌, ℕ, suc, ◌==◌, Bool, true, false, List, [], ◌∷◌, ◌++◌, codes, length, Option, Some, refl, sym, ap, ◌∙◌, append-nil, append_assoc, option_map, option_and_then, arith}
-use Rattle.std.specs.List.{AllByRecursion as ByRecursion, flat_map}
-use Rattle.std.proofs.lemmas.List.Elements.{recursion_from_All}
-use Rattle.toml_parser.specs.Lexical.{first}
-use Rattle.toml_writer.specs.Text.{key_text}
-use Rattle.toml.specs.Data.{Members, no_members}
-use Rattle.toml.specs.Parse.{parse_document, skip_bom}
-use Rattle.toml.specs.Tables.{Document, Expression, Nodes, along_header, close, no_nodes}
-use Rattle.toml.specs.Text.{IsLinesText, elements, pairs}
-use Rattle.toml.proofs.Fill.{run-append, run_pairs}
-use Rattle.toml.proofs.ReadLines.{AllPrinted, line_turn, read_lines, run}
-use Rattle.toml.proofs.Turns.{document_some}
-use Rattle.description.specs.declared.entry.BankEntry.{BankEntry}
-use Rattle.description.specs.declared.entry.Description.{Description}
-use Rattle.description.specs.declared.entry.NodeEntry.{NodeEntry}
-use Rattle.description.specs.declared.entry.PageEntry.{PageEntry}
-use Rattle.description.specs.declared.entry.ProcessEntry.{ProcessEntry}
-use Rattle.description.specs.Reading.{IsBank, IsDescription, IsNode, IsPage, IsProcess}
-use Rattle.described_world.specs.Described.{AreSlots, HasFields, IsProcessEntry}
-use Rattle.image_describer.specs.Laws.{TextIsRead}
-use Rattle.image_describer.specs.Spelled.{CanBeSpelled, SpellsBank, SpellsNode, SpellsPage, SpellsProcess}
-use Rattle.image_describer.specs.Text.{bank_fields, bank_text, description_text, field_lines, image_fields, node_fields, node_text, page_fields, page_text, process_fields, process_text}
+use Rattle.image_describer.proofs.Names.{◌≡◌, ℕ, suc, ◌==◌, Bool, true, false, List, [], ◌∷◌, ◌++◌, codes, length, Option, Some, refl, sym, ap, ◌∙◌, append-nil}
+use Rattle.image_describer.proofs.Names.{append_assoc, option_map, option_and_then, arith, flat_map, recursion_from_All, first, key_text, Members, no_members}
+use Rattle.image_describer.proofs.Names.{parse_document, skip_bom, Document, Expression, Nodes, along_header, close, no_nodes, IsLinesText, elements, pairs}
+use Rattle.image_describer.proofs.Names.{run-append, run_pairs, AllPrinted, line_turn, read_lines, run, document_some, BankEntry, Description, NodeEntry}
+use Rattle.image_describer.proofs.Names.{PageEntry, ProcessEntry, IsBank, IsDescription, IsNode, IsPage, IsProcess, AreSlots, HasFields, IsProcessEntry}
+use Rattle.image_describer.proofs.Names.{TextIsRead, CanBeSpelled, SpellsBank, SpellsNode, SpellsPage, SpellsProcess, bank_fields, bank_text, description_text}
+use Rattle.image_describer.proofs.Names.{field_lines, image_fields, node_fields, node_text, page_fields, page_text, process_fields, process_text}
+use Rattle.std.specs.List.{AllByRecursion as ByRecursion}
 use Rattle.image_describer.proofs.Chains.{Pair, chain_append, chain_other}
 use Rattle.image_describer.proofs.Filled.{AreRead, IsRead, all_new, all_tables, filled, keyed, list_read, run_list, tables}
 use Rattle.image_describer.proofs.Lines.{AllFields, SpellFields, append_lines, append_printed, are_pairs, lines_of_fields, lines_of_tables, printed_fields, printed_tables}

@@ -1,10 +1,6 @@
 -- Numbers that rise, and lists of which no number comes twice.
-use Rattle.std.proofs.Common.{◌≡◌, ℕ, ◌<◌, inl, inr, List, [], ◌∷◌, ◌++◌, map, subst, arith}
-use Rattle.std.specs.List.{All, Contains}
-use Rattle.std.proofs.lemmas.List.Elements.{All-contains, All-head, All-push, All-tail, Contains-append_cases}
-use Rattle.described_world.specs.Described.{AreDistinct}
-use Rattle.described_world.proofs.Lists.{contains_here, contains_map, contains_there, map_contains}
-use Rattle.image_describer.specs.Describes.{AreRising}
+use Rattle.image_describer.proofs.Names.{◌≡◌, ℕ, ◌<◌, inl, inr, List, [], ◌∷◌, ◌++◌, map, subst, arith, All, Contains, All-contains, All-head, All-push}
+use Rattle.image_describer.proofs.Names.{All-tail, Contains-append_cases, AreDistinct, contains_here, contains_map, contains_there, map_contains, AreRising}
 
 -- one more, above all
 pub rising_more : (ns : List ℕ) (n : ℕ) → AreRising ns → All (λ m. m < n) ns → AreRising (ns ++ n ∷ [])

@@ -1,20 +1,10 @@
 -- What the lines of objects, and of a whole description, are read as.
-use Rattle.std.proofs.Common.{◌≡◌, ℕ, ◌<◌, ◌==◌, nat_lt, ◌&&◌, true, List, [], ◌∷◌, ◌++◌, codes, decimal, length, slice_index_or, Option, None, Some, IsSomeAnd, MatchOption, refl, sym, subst, arith}
-use Rattle.std.specs.Prelude.{IsTrue}
-use Rattle.std.specs.List.{list_all}
-use Rattle.model.specs.declared.capability.Capability.TheVariants.{Void}
-use Rattle.toml_parser.specs.Lexical.{is_bare}
-use Rattle.toml_writer.specs.Text.{key_text}
-use Rattle.toml.specs.Data.{Data, Members, get_member, no_members}
-use Rattle.description.specs.declared.entry.BankEntry.{BankEntry}
-use Rattle.description.specs.declared.entry.Description.{Description}
-use Rattle.description.specs.declared.entry.NodeEntry.{NodeEntry}
-use Rattle.description.specs.declared.entry.PageEntry.{PageEntry}
-use Rattle.description.specs.declared.entry.ProcessEntry.{ProcessEntry}
-use Rattle.description.specs.Reading.{AreFour, IsBank, IsCapability, IsDescription, IsList, IsNode, IsNumber, IsPage, IsProcess, IsRange, IsSlot, IsState, IsTable, IsWideNumber, IsWord, whole_ranges}
-use Rattle.described_world.specs.Described.{AreSlots, IsProcessEntry}
-use Rattle.image_describer.specs.Spelled.{CanBeSpelled, SpellsBank, SpellsNode, SpellsPage, SpellsProcess}
-use Rattle.image_describer.specs.Text.{bank_fields, image_fields, node_fields, page_fields, process_fields, state_value, wide_text}
+use Rattle.image_describer.proofs.Names.{◌≡◌, ℕ, ◌<◌, ◌==◌, nat_lt, ◌&&◌, true, List, [], ◌∷◌, ◌++◌, codes, decimal, length, slice_index_or, Option, None, Some}
+use Rattle.image_describer.proofs.Names.{IsSomeAnd, MatchOption, refl, sym, subst, arith, IsTrue, list_all, Void, is_bare, key_text, Data, Members, get_member}
+use Rattle.image_describer.proofs.Names.{no_members, BankEntry, Description, NodeEntry, PageEntry, ProcessEntry, AreFour, IsBank, IsCapability, IsDescription}
+use Rattle.image_describer.proofs.Names.{IsList, IsNode, IsNumber, IsPage, IsProcess, IsRange, IsSlot, IsState, IsTable, IsWideNumber, IsWord, whole_ranges}
+use Rattle.image_describer.proofs.Names.{AreSlots, IsProcessEntry, CanBeSpelled, SpellsBank, SpellsNode, SpellsPage, SpellsProcess, bank_fields, image_fields}
+use Rattle.image_describer.proofs.Names.{node_fields, page_fields, process_fields, state_value, wide_text}
 use Rattle.image_describer.proofs.Chains.{Chain, Pair, are_apart, chain_at, chain_only}
 use Rattle.image_describer.proofs.Filled.{IsRead}
 use Rattle.image_describer.proofs.Lines.{SpellFields, are_pairs, deeper, spells_number}

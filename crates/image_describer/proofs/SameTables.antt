@@ -1,22 +1,9 @@
 -- Descriptions that one table says have the same frames.
-use Rattle.std.proofs.Common.{◌≡◌, ℕ, suc, List, [], ◌∷◌, ◌++◌, map, refl, sym, ap, ◌∙◌, subst, arith}
-use Rattle.std.specs.List.{All, Contains}
-use Rattle.std.proofs.lemmas.List.Elements.{All-cons, All-nil}
-use Rattle.model.specs.declared.frame.Frame.{Frame}
-use Rattle.model.specs.declared.geometry.Geometry.{Geometry}
+use Rattle.image_describer.proofs.Names.{◌≡◌, ℕ, suc, List, [], ◌∷◌, ◌++◌, map, refl, sym, ap, ◌∙◌, subst, arith, All, Contains, All-cons, All-nil, Frame}
+use Rattle.image_describer.proofs.Names.{Geometry, frame_at, object_count, fresh_cap, BankEntry, Description, NodeEntry, PageEntry, ProcessEntry, SlotEntry}
+use Rattle.image_describer.proofs.Names.{WordEntry, Each, IsSame, IsSameNode, IsSamePage, IsSameProcess, HasNamedWords, HoldsNamed, IsDescribed}
+use Rattle.image_describer.proofs.Names.{IsDescribedAnnex, IsDescribedNode, IsDescribedPage, IsDescribedRoot, first_frame, node_numbers, page_numbers}
 use Rattle.model.specs.declared.object.Content.TheVariants as content
-use Rattle.model.specs.Frame.{frame_at}
-use Rattle.model.specs.Sound.{object_count}
-use Rattle.capability.specs.Plain.{fresh_cap}
-use Rattle.description.specs.declared.entry.BankEntry.{BankEntry}
-use Rattle.description.specs.declared.entry.Description.{Description}
-use Rattle.description.specs.declared.entry.NodeEntry.{NodeEntry}
-use Rattle.description.specs.declared.entry.PageEntry.{PageEntry}
-use Rattle.description.specs.declared.entry.ProcessEntry.{ProcessEntry}
-use Rattle.description.specs.declared.entry.SlotEntry.{SlotEntry}
-use Rattle.description.specs.declared.entry.WordEntry.{WordEntry}
-use Rattle.description.specs.Laws.{Each, IsSame, IsSameNode, IsSamePage, IsSameProcess}
-use Rattle.described_world.specs.Described.{HasNamedWords, HoldsNamed, IsDescribed, IsDescribedAnnex, IsDescribedNode, IsDescribedPage, IsDescribedRoot, first_frame, node_numbers, page_numbers}
 
 -- what holds of all of one list holds of all of the other
 all_same : {A : Type 0} (R : A → A → Type 0) (P : A → Type 0) → ((x y : A) → R x y → P y → P x) → (xs ys : List A) → Each R xs ys → All P ys → All P xs

@@ -1,42 +1,18 @@
 -- The description of a sound world has a text: its numbers are short enough.
-use Rattle.std.proofs.Common.{◌≡◌, ◌≢◌, ℕ, ◌+◌, ◌<◌, ◌≤◌, ◌^◌, true, List, [], ◌∷◌, ◌++◌, map, Option, Some, None, unwrap_or, IfSome, refl, sym, ap, ◌∙◌, subst, arith}
-use Rattle.std.specs.Prelude.{IsTrue}
-use Rattle.std.specs.List.{All, AllByRecursion as ByRecursion, Contains}
-use Rattle.std.proofs.lemmas.List.Elements.{All-contains, All-from_recursion, All-map, All-weaker, Contains-append_left, Contains-append_right}
-use Rattle.model.specs.declared.capability.Cap.{Cap}
-use Rattle.model.specs.declared.capability.Capability.{Capability}
-use Rattle.model.specs.declared.capability.Capability.TheVariants.{Void, Number, Page, Node, Space, Process, Start, Resume, Bank, Discrim}
-use Rattle.model.specs.declared.frame.Frame.{Frame}
-use Rattle.model.specs.declared.geometry.Geometry.{Geometry}
-use Rattle.model.specs.declared.object.Content.{Content}
+use Rattle.image_describer.proofs.Names.{◌≡◌, ◌≢◌, ℕ, ◌+◌, ◌<◌, ◌≤◌, ◌^◌, true, List, [], ◌∷◌, ◌++◌, map, Option, Some, None, unwrap_or, IfSome, refl, sym, ap}
+use Rattle.image_describer.proofs.Names.{◌∙◌, subst, arith, IsTrue, All, Contains, All-contains, All-from_recursion, All-map, All-weaker, Contains-append_left}
+use Rattle.image_describer.proofs.Names.{Contains-append_right, Cap, Capability, Void, Number, Page, Node, Space, Process, Start, Resume, Bank, Discrim, Frame}
+use Rattle.image_describer.proofs.Names.{Geometry, Content, Object, named, frame_at, objects_of, AreKeptSlots, AreKeptWords, Follows, IsKeepable, IsKeptCap}
+use Rattle.image_describer.proofs.Names.{IsSoundFrames, MayBeKept, world_at, is_bank, is_free, map_content, role_of, IsOfKind, object_count, content_at}
+use Rattle.image_describer.proofs.Names.{object_at, owner_at, HomeRange, Version, One, Two, Cover, IsPlan, Plan, version_number, numbers_of, fresh_cap, mapped}
+use Rattle.image_describer.proofs.Names.{BankEntry, Description, NodeEntry, PageEntry, ProcessEntry, SlotEntry, WordEntry, AreSlots, AreWords, HasNamedWords}
+use Rattle.image_describer.proofs.Names.{HoldsNamed, IsDescribedNode, IsDescribedPage, IsDescribedAnnex, IsDescribedRoot, IsProcessEntry, first_frame, named_at}
+use Rattle.image_describer.proofs.Names.{node_numbers, page_numbers, word_named_at, all_from, all_got, contains_map, first_of, Describes, plain_frame}
+use Rattle.image_describer.proofs.Names.{plain_frames, DescribedHasText, IsShort, IsWide, NamesWide, SpellsBank, SpellsGeometry, SpellsNode, SpellsPage}
+use Rattle.image_describer.proofs.Names.{SpellsProcess, SpellsRange, SpellsSlot, SpellsWord}
+use Rattle.std.specs.List.{AllByRecursion as ByRecursion}
 use Rattle.model.specs.declared.object.Content.TheVariants as content
-use Rattle.model.specs.declared.object.Object.{Object}
 use Rattle.model.specs.declared.object.Role.TheVariants as role
-use Rattle.model.specs.Capability.{named}
-use Rattle.model.specs.Frame.{frame_at, objects_of}
-use Rattle.model.specs.Keepable.{AreKeptSlots, AreKeptWords, Follows, IsKeepable, IsKeptCap, IsSoundFrames, MayBeKept, world_at}
-use Rattle.model.specs.Object.{is_bank, is_free, map_content, role_of}
-use Rattle.model.specs.Sound.{IsOfKind, object_count}
-use Rattle.model.specs.World.{content_at, object_at, owner_at}
-use Rattle.layout.specs.declared.extent.HomeRange.{HomeRange}
-use Rattle.layout.specs.declared.version.Version.{Version}
-use Rattle.layout.specs.declared.version.Version.TheVariants.{One, Two}
-use Rattle.layout.specs.Superblock.{Cover, IsPlan, Plan, version_number}
-use Rattle.image_writer.specs.Laid.{numbers_of}
-use Rattle.capability.specs.Plain.{fresh_cap}
-use Rattle.capability.proofs.Mapped.{mapped}
-use Rattle.description.specs.declared.entry.BankEntry.{BankEntry}
-use Rattle.description.specs.declared.entry.Description.{Description}
-use Rattle.description.specs.declared.entry.NodeEntry.{NodeEntry}
-use Rattle.description.specs.declared.entry.PageEntry.{PageEntry}
-use Rattle.description.specs.declared.entry.ProcessEntry.{ProcessEntry}
-use Rattle.description.specs.declared.entry.SlotEntry.{SlotEntry}
-use Rattle.description.specs.declared.entry.WordEntry.{WordEntry}
-use Rattle.described_world.specs.Described.{AreSlots, AreWords, HasNamedWords, HoldsNamed, IsDescribedNode, IsDescribedPage, IsDescribedAnnex, IsDescribedRoot, IsProcessEntry, first_frame, named_at, node_numbers, page_numbers, word_named_at}
-use Rattle.described_world.proofs.Lists.{all_from, all_got, contains_map, first_of}
-use Rattle.image_describer.specs.Describes.{Describes, plain_frame, plain_frames}
-use Rattle.image_describer.specs.Laws.{DescribedHasText}
-use Rattle.image_describer.specs.Spelled.{IsShort, IsWide, NamesWide, SpellsBank, SpellsGeometry, SpellsNode, SpellsPage, SpellsProcess, SpellsRange, SpellsSlot, SpellsWord}
 use Rattle.image_describer.proofs.Plain.{plain_at, sound_plain}
 
 -- what can be held names a number of 64 bits

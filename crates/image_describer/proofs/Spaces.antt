@@ -1,8 +1,5 @@
 -- The text of a space.
-use Rattle.std.proofs.Common.{◌≡◌, ℕ, List, ◌∷◌, ◌++◌, decimal, append_assoc, sym, ap, ◌∙◌}
-use Rattle.model.specs.declared.access.Access.{Access}
-use Rattle.model.specs.declared.capability.Capability.TheVariants.{Space}
-use Rattle.model.specs.Text.{access_text, capability_text}
+use Rattle.image_describer.proofs.Names.{◌≡◌, ℕ, List, ◌∷◌, ◌++◌, decimal, append_assoc, sym, ap, ◌∙◌, Access, Space, access_text, capability_text}
 
 -- as it is put together
 pub space_text : (o h : ℕ) (a : Access) (word : List ℕ) → word ≡ access_text a → 115 ∷ 112 ∷ 97 ∷ 99 ∷ 101 ∷ 32 ∷ (decimal o ++ 32 ∷ (decimal h ++ word)) ≡ capability_text (Space o h a)

@@ -1,20 +1,10 @@
 -- Objects of a kind, told one number after another.
-use Rattle.std.proofs.Common.{◌≡◌, ◌≢◌, ℕ, ◌+◌, ◌<◌, ◌≤◌, inl, inr, List, [], ◌∷◌, ◌++◌, map, length, Option, None, Some, option_to_list, sym, ap, ◌∙◌, subst, arith}
-use Rattle.std.specs.List.{All, Contains}
-use Rattle.std.proofs.lemmas.Bool.{cases_lt}
+use Rattle.image_describer.proofs.Names.{◌≡◌, ◌≢◌, ℕ, ◌+◌, ◌<◌, ◌≤◌, inl, inr, List, [], ◌∷◌, ◌++◌, map, length, Option, None, Some, option_to_list, sym, ap}
+use Rattle.image_describer.proofs.Names.{◌∙◌, subst, arith, All, Contains, cases_lt, All-map, All-push, All-weaker, Contains-append_left, Contains-append_right}
+use Rattle.image_describer.proofs.Names.{ObjectHeader, Object, Role, role_of, content_at, Parts, objects_in, object_past, contains_here, map_both, AreRising}
+use Rattle.image_describer.proofs.Names.{MayTell, TellAll}
 use Rattle.std.proofs.lemmas.List.{append-nil}
-use Rattle.std.proofs.lemmas.List.Elements.{All-map, All-push, All-weaker, Contains-append_left, Contains-append_right}
-use Rattle.model.specs.declared.frame.ObjectHeader.{ObjectHeader}
-use Rattle.model.specs.declared.object.Object.{Object}
-use Rattle.model.specs.declared.object.Role.{Role}
 use Rattle.model.specs.declared.object.Role.TheVariants as role
-use Rattle.model.specs.Object.{role_of}
-use Rattle.model.specs.World.{content_at}
-use Rattle.capability.specs.Parts.{Parts, objects_in}
-use Rattle.capability.proofs.Frames.{object_past}
-use Rattle.described_world.proofs.Lists.{contains_here, map_both}
-use Rattle.image_describer.specs.Describes.{AreRising}
-use Rattle.image_describer.specs.Told.{MayTell, TellAll}
 use Rattle.image_describer.proofs.Rising.{rising_more}
 
 module _ {E : Type 0} (number : E → ℕ) (Tells : E → Type 0) (kind : Role) (os : List Object) where

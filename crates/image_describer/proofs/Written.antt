@@ -1,22 +1,13 @@
 -- The values that the text of a description writes: what TOML has for each, and what it says.
-use Rattle.std.proofs.Common.{◌≡◌, ◌≢◌, ℕ, suc, pos, ◌<◌, ◌≤◌, ◌^◌, ◌==◌, nat_lt, get_or, ◌&&◌, Bool, true, false, if◌then◌else◌, List, [], ◌∷◌, decimal, length, Option, Some, None, unwrap_or, MatchOption, inl, inr, refl, sym, ap, ◌∙◌, arith}
-use Rattle.std.specs.List.{All, AllByRecursion as ByRecursion, list_all}
-use Rattle.std.proofs.lemmas.Bool.{cases_Bool}
-use Rattle.std.proofs.lemmas.Bool.Decides.{nat_tests}
-use Rattle.std.proofs.lemmas.List.Elements.{recursion_from_All}
-use Rattle.toml.specs.Data.{Data, string, integer, array, no_items, item}
-use Rattle.image_writer.specs.declared.number_range.NumberRange.{NumberRange}
-use Rattle.model.specs.declared.capability.Capability.{Capability}
-use Rattle.model.specs.declared.capability.Capability.TheVariants.{Void, Number, Page, Node, Space, Process, Start, Resume, Bank, Discrim}
-use Rattle.model.specs.declared.geometry.Geometry.{Geometry}
-use Rattle.model.specs.declared.object.State.{State}
-use Rattle.model.specs.Text.{capability_text, state_text}
-use Rattle.description.specs.Reading.{AreFour, AreItems, IsCapability, IsList, IsNumber, IsRange, IsSlot, IsState, IsWideNumber, IsWord, whole_ranges}
-use Rattle.description.specs.declared.entry.SlotEntry.{SlotEntry}
-use Rattle.description.specs.declared.entry.WordEntry.{WordEntry}
-use Rattle.described_world.specs.Described.{IsSomeCapability, IsSpaceEntry}
-use Rattle.image_describer.specs.Spelled.{IsShort, IsWide, NamesWide, SpellsRange, SpellsSlot, SpellsWord}
-use Rattle.image_describer.specs.Text.{are_whole, held_text, is_range, list_text, list_unless_empty, number_unless, range_text, slot_text, space_unless_void, state_value, unless, wide_text, word_text, words_unless_zeros}
+use Rattle.image_describer.proofs.Names.{◌≡◌, ◌≢◌, ℕ, suc, pos, ◌<◌, ◌≤◌, ◌^◌, ◌==◌, nat_lt, get_or, ◌&&◌, Bool, true, false, if◌then◌else◌, List, [], ◌∷◌}
+use Rattle.image_describer.proofs.Names.{decimal, length, Option, Some, None, unwrap_or, MatchOption, inl, inr, refl, sym, ap, ◌∙◌, arith, All, list_all}
+use Rattle.image_describer.proofs.Names.{cases_Bool, nat_tests, recursion_from_All, Data, string, integer, array, no_items, item, NumberRange, Capability, Void}
+use Rattle.image_describer.proofs.Names.{Number, Page, Node, Space, Process, Start, Resume, Bank, Discrim, Geometry, State, capability_text, state_text}
+use Rattle.image_describer.proofs.Names.{AreFour, AreItems, IsCapability, IsList, IsNumber, IsRange, IsSlot, IsState, IsWideNumber, IsWord, whole_ranges}
+use Rattle.image_describer.proofs.Names.{SlotEntry, WordEntry, IsSomeCapability, IsSpaceEntry, IsShort, IsWide, NamesWide, SpellsRange, SpellsSlot, SpellsWord}
+use Rattle.image_describer.proofs.Names.{are_whole, held_text, is_range, list_text, list_unless_empty, number_unless, range_text, slot_text, space_unless_void}
+use Rattle.image_describer.proofs.Names.{state_value, unless, wide_text, word_text, words_unless_zeros}
+use Rattle.std.specs.List.{AllByRecursion as ByRecursion}
 use Rattle.image_describer.proofs.Lines.{AllSpell, Spells, SpellsOption, deeper, items, spells_list, spells_number, spells_pair, spells_text}
 use Rattle.image_describer.proofs.Quoted.{quoted_capability, quoted_state}
 

@@ -1,18 +1,7 @@
 -- What the description of a world is.
-use Rattle.std.specs.Prelude.{◌≡◌, ◌≢◌, ℕ, ◌<◌, List, [], ◌∷◌, map, length, slice_index_or, unwrap_or, Some}
-use Rattle.std.specs.List.{All}
-use Rattle.model.specs.declared.capability.Capability.{Capability}
-use Rattle.model.specs.declared.capability.Capability.TheVariants.{Void}
-use Rattle.model.specs.declared.frame.Frame.{Frame}
-use Rattle.model.specs.declared.geometry.Geometry.{Geometry}
-use Rattle.model.specs.declared.object.Object.{Object}
-use Rattle.model.specs.Object.{map_content}
-use Rattle.model.specs.World.{World}
-use Rattle.capability.specs.Plain.{fresh_cap}
-use Rattle.description.specs.declared.entry.Description.{Description}
-use Rattle.description.specs.declared.entry.SlotEntry.{SlotEntry}
-use Rattle.description.specs.declared.entry.WordEntry.{WordEntry}
-use Rattle.described_world.specs.Described.{HasFields, HasNumbers, IsDescribed, first_frame, first_named}
+use Rattle.image_describer.specs.Names.{◌≡◌, ◌≢◌, ℕ, ◌<◌, List, [], ◌∷◌, map, length, slice_index_or, unwrap_or, Some, All, Capability, Void, Frame, Geometry}
+use Rattle.image_describer.specs.Names.{Object, map_content, World, fresh_cap, Description, SlotEntry, WordEntry, HasFields, HasNumbers, IsDescribed}
+use Rattle.image_describer.specs.Names.{first_frame, first_named}
 
 -- the frame of an object that was never given up, and none of whose capabilities is stale
 abbrev pub plain_frame : Object → Frame

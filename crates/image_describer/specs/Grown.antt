@@ -1,21 +1,8 @@
 -- An image of other sizes: nodes keep their numbers, and pages follow the nodes.
-use Rattle.std.specs.Prelude.{◌≡◌, ◌≢◌, ℕ, ◌+◌, ◌-◌, ◌<◌, ◌≤◌, ◌==◌, ◌&&◌, nat_lt, if◌then◌else◌, false, Option, None, Some, List, map, length, unwrap_or}
-use Rattle.std.specs.List.{All, AllZip}
-use Rattle.image_writer.specs.declared.number_range.NumberRange.{NumberRange}
-use Rattle.layout.specs.Superblock.{IsGeometry}
-use Rattle.model.specs.declared.capability.Capability.{Capability}
-use Rattle.model.specs.declared.capability.Capability.TheVariants.{Void, Number, Page, Node, Space, Process, Start, Resume, Bank, Discrim}
-use Rattle.model.specs.declared.geometry.Geometry.{Geometry}
-use Rattle.model.specs.declared.object.Object.{Object}
-use Rattle.model.specs.Object.{free, is_free, map_content}
-use Rattle.model.specs.Sound.{object_count}
-use Rattle.model.specs.World.{World, content_at, object_at}
-use Rattle.description.specs.declared.entry.Description.{Description}
-use Rattle.description.specs.declared.entry.NodeEntry.{NodeEntry}
-use Rattle.description.specs.declared.entry.PageEntry.{PageEntry}
-use Rattle.description.specs.declared.entry.ProcessEntry.{ProcessEntry}
-use Rattle.description.specs.declared.entry.SlotEntry.{SlotEntry}
-use Rattle.description.specs.Reading.{whole_ranges}
+use Rattle.image_describer.specs.Names.{◌≡◌, ◌≢◌, ℕ, ◌+◌, ◌-◌, ◌<◌, ◌≤◌, ◌==◌, ◌&&◌, nat_lt, if◌then◌else◌, false, Option, None, Some, List, map, length}
+use Rattle.image_describer.specs.Names.{unwrap_or, All, AllZip, NumberRange, IsGeometry, Capability, Void, Number, Page, Node, Space, Process, Start, Resume}
+use Rattle.image_describer.specs.Names.{Bank, Discrim, Geometry, Object, free, is_free, map_content, object_count, World, content_at, object_at, Description}
+use Rattle.image_describer.specs.Names.{NodeEntry, PageEntry, ProcessEntry, SlotEntry, whole_ranges}
 use Rattle.image_describer.specs.declared.sizes.GrowthFault.{GrowthFault}
 use Rattle.image_describer.specs.declared.sizes.GrowthFault.TheVariants as fault
 use Rattle.image_describer.specs.declared.sizes.Sizes.{Sizes}

@@ -1,19 +1,7 @@
 -- What a description of a world is laid as, and that it has a text.
-use Rattle.std.specs.Prelude.{◌≡◌, ℕ, List, map, Some}
-use Rattle.model.specs.declared.frame.Frame.{Frame}
-use Rattle.model.specs.declared.geometry.Geometry.{Geometry}
-use Rattle.model.specs.Keepable.{IsSoundFrames, world_at}
-use Rattle.model.specs.Sound.{IsSound}
-use Rattle.model.specs.World.{World}
-use Rattle.toml.specs.Data.{Members}
-use Rattle.toml.specs.Parse.{parse_document}
-use Rattle.layout.specs.Superblock.{IsPlan, Plan, version_number}
-use Rattle.image_writer.specs.Laid.{numbers_of}
-use Rattle.description.specs.Reading.{IsDescription}
-use Rattle.description.specs.declared.entry.Description.{Description}
-use Rattle.described_world.specs.Described.{HasFields, IsDescribed, IsWorldFault}
-use Rattle.described_world.specs.declared.fault.WorldFault.{WorldFault}
-use Rattle.described_world.specs.declared.fault.WorldFault.TheVariants.{NoMemory}
+use Rattle.image_describer.specs.Names.{◌≡◌, ℕ, List, map, Some, Frame, Geometry, IsSoundFrames, world_at, IsSound, World, Members, parse_document, IsPlan}
+use Rattle.image_describer.specs.Names.{Plan, version_number, numbers_of, IsDescription, Description, HasFields, IsDescribed, IsWorldFault, WorldFault}
+use Rattle.image_describer.specs.Names.{NoMemory}
 use Rattle.image_describer.specs.Describes.{Describes}
 use Rattle.image_describer.specs.Grown.{IsGrown, IsRenumbered, NamesNodes, NamesPages}
 use Rattle.image_describer.specs.Spelled.{CanBeSpelled}

@@ -1,3 +1,4 @@
+pub mod Names
 pub mod Describes
 pub mod Grown
 pub mod Laws

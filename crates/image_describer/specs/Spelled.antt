@@ -1,17 +1,6 @@
 -- Which descriptions have a text.
-use Rattle.std.specs.Prelude.{◌≡◌, ℕ, ◌^◌, ◌<◌, Option, length, IfSome}
-use Rattle.std.specs.List.{All}
-use Rattle.image_writer.specs.declared.number_range.NumberRange.{NumberRange}
-use Rattle.model.specs.declared.capability.Capability.{Capability}
-use Rattle.model.specs.declared.geometry.Geometry.{Geometry}
-use Rattle.model.specs.Capability.{named}
-use Rattle.description.specs.declared.entry.BankEntry.{BankEntry}
-use Rattle.description.specs.declared.entry.Description.{Description}
-use Rattle.description.specs.declared.entry.NodeEntry.{NodeEntry}
-use Rattle.description.specs.declared.entry.PageEntry.{PageEntry}
-use Rattle.description.specs.declared.entry.ProcessEntry.{ProcessEntry}
-use Rattle.description.specs.declared.entry.SlotEntry.{SlotEntry}
-use Rattle.description.specs.declared.entry.WordEntry.{WordEntry}
+use Rattle.image_describer.specs.Names.{◌≡◌, ℕ, ◌^◌, ◌<◌, Option, length, IfSome, All, NumberRange, Capability, Geometry, named, BankEntry, Description}
+use Rattle.image_describer.specs.Names.{NodeEntry, PageEntry, ProcessEntry, SlotEntry, WordEntry}
 
 -- a number that TOML has, and one of 64 bits
 abbrev pub IsShort : ℕ → Type 0

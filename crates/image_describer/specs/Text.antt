@@ -1,19 +1,7 @@
 -- The text of a description, in TOML.
-use Rattle.std.specs.Prelude.{ℕ, ◌^◌, ◌==◌, ◌&&◌, nat_lt, Bool, false, if◌then◌else◌, Option, None, Some, List, [], ◌∷◌, ◌++◌, codes, decimal, unwrap_or}
-use Rattle.std.specs.List.{flat_map, join_by, list_all}
-use Rattle.image_writer.specs.declared.number_range.NumberRange.{NumberRange}
-use Rattle.model.specs.declared.capability.Capability.{Capability}
-use Rattle.model.specs.declared.capability.Capability.TheVariants.{Void, Number}
-use Rattle.model.specs.declared.geometry.Geometry.{Geometry}
-use Rattle.model.specs.declared.object.State.{State}
-use Rattle.model.specs.Text.{capability_text, line_of, state_text}
-use Rattle.description.specs.declared.entry.BankEntry.{BankEntry}
-use Rattle.description.specs.declared.entry.Description.{Description}
-use Rattle.description.specs.declared.entry.NodeEntry.{NodeEntry}
-use Rattle.description.specs.declared.entry.PageEntry.{PageEntry}
-use Rattle.description.specs.declared.entry.ProcessEntry.{ProcessEntry}
-use Rattle.description.specs.declared.entry.SlotEntry.{SlotEntry}
-use Rattle.description.specs.declared.entry.WordEntry.{WordEntry}
+use Rattle.image_describer.specs.Names.{ℕ, ◌^◌, ◌==◌, ◌&&◌, nat_lt, Bool, false, if◌then◌else◌, Option, None, Some, List, [], ◌∷◌, ◌++◌, codes, decimal}
+use Rattle.image_describer.specs.Names.{unwrap_or, flat_map, join_by, list_all, NumberRange, Capability, Void, Number, Geometry, State, capability_text}
+use Rattle.image_describer.specs.Names.{line_of, state_text, BankEntry, Description, NodeEntry, PageEntry, ProcessEntry, SlotEntry, WordEntry}
 
 -- Values
 

@@ -1,19 +1,8 @@
 -- The entries of objects, one by one.
-use Rattle.std.specs.Prelude.{◌≡◌, ◌≢◌, ℕ, List, [], map, Option, None, Some}
-use Rattle.std.specs.List.{All, Contains}
-use Rattle.model.specs.declared.capability.Capability.{Capability}
+use Rattle.image_describer.specs.Names.{◌≡◌, ◌≢◌, ℕ, List, [], map, Option, None, Some, All, Contains, Capability, Object, Role, State, role_of, content_at}
+use Rattle.image_describer.specs.Names.{object_at, BankEntry, Description, NodeEntry, PageEntry, ProcessEntry}
 use Rattle.model.specs.declared.object.Content.TheVariants as content
-use Rattle.model.specs.declared.object.Object.{Object}
-use Rattle.model.specs.declared.object.Role.{Role}
 use Rattle.model.specs.declared.object.Role.TheVariants as role
-use Rattle.model.specs.declared.object.State.{State}
-use Rattle.model.specs.Object.{role_of}
-use Rattle.model.specs.World.{content_at, object_at}
-use Rattle.description.specs.declared.entry.BankEntry.{BankEntry}
-use Rattle.description.specs.declared.entry.Description.{Description}
-use Rattle.description.specs.declared.entry.NodeEntry.{NodeEntry}
-use Rattle.description.specs.declared.entry.PageEntry.{PageEntry}
-use Rattle.description.specs.declared.entry.ProcessEntry.{ProcessEntry}
 use Rattle.image_describer.specs.Describes.{AreRising, NamesSlots, NamesWords}
 
 -- what is named of an item at an index: an entry that has it, or nothing where it is at its default

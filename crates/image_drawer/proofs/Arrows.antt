@@ -1,28 +1,12 @@
 -- Arrows are those of the world.
-use Rattle.std.proofs.Common.{◌≡◌, ℕ, Bool, true, false, inl, inr, List, [], ◌++◌, map, Option, None, Some, slice_index_or, unwrap_or, refl, sym, ap, ◌∙◌, subst}
-use Rattle.std.specs.Prelude.{IsTrue}
-use Rattle.std.specs.List.{Contains, flat_map}
-use Rattle.std.proofs.lemmas.List.Elements.{All-contains, Contains-append_cases, Contains-append_left, Contains-append_right}
-use Rattle.model.specs.declared.capability.Capability.{Capability}
-use Rattle.model.specs.declared.capability.Capability.TheVariants.{Void}
-use Rattle.model.specs.declared.geometry.Geometry.{Geometry}
-use Rattle.model.specs.declared.object.Object.{Object}
-use Rattle.model.specs.Capability.{named}
-use Rattle.model.specs.Object.{is_node, is_root, root_in, slots_in}
-use Rattle.model.specs.World.{World, annex_at, content_at, is_process, register_at, root_at, slot_at}
-use Rattle.description.specs.declared.entry.Description.{Description}
-use Rattle.description.specs.declared.entry.NodeEntry.{NodeEntry}
-use Rattle.description.specs.declared.entry.ProcessEntry.{ProcessEntry}
-use Rattle.description.specs.declared.entry.SlotEntry.{SlotEntry}
-use Rattle.described_world.specs.Described.{AreDistinct, AreSlots, IsProcessEntry, node_numbers, page_numbers}
-use Rattle.described_world.specs.Laid.{Entry, OfAnnex, OfBank, OfNode, OfPage, OfRoot, number_of}
-use Rattle.described_world.proofs.Entries.{IsOf, described_cases}
-use Rattle.described_world.proofs.Lists.{contains_cases, contains_here, contains_none}
-use Rattle.image_describer.specs.Describes.{Describes, plain_frames}
-use Rattle.image_drawer.specs.Graph.{arrow_of, arrow_to, arrows, arrows_at, node_arrows, process_arrows}
-use Rattle.image_drawer.specs.Laws.{ArrowsAreHeld, Holds, IsArrow, IsOnce}
-use Rattle.image_drawer.specs.declared.arrow.Arrow.{Arrow}
-use Rattle.image_drawer.specs.declared.arrow.Place.{Place}
+use Rattle.image_drawer.proofs.Names.{◌≡◌, ℕ, Bool, true, false, inl, inr, List, [], ◌++◌, map, Option, None, Some, slice_index_or, refl, sym, ap, ◌∙◌, subst}
+use Rattle.image_drawer.proofs.Names.{IsTrue, Contains, flat_map, All-contains, Contains-append_cases, Contains-append_left, Contains-append_right, Capability}
+use Rattle.image_drawer.proofs.Names.{Void, Geometry, Object, named, is_node, is_root, root_in, slots_in, World, annex_at, content_at, is_process, register_at}
+use Rattle.image_drawer.proofs.Names.{root_at, slot_at, Description, NodeEntry, ProcessEntry, SlotEntry, AreDistinct, AreSlots, IsProcessEntry, node_numbers}
+use Rattle.image_drawer.proofs.Names.{page_numbers, Entry, OfAnnex, OfBank, OfNode, OfPage, OfRoot, number_of, IsOf, described_cases, contains_cases}
+use Rattle.image_drawer.proofs.Names.{contains_here, contains_none, Describes, plain_frames, arrow_of, arrow_to, arrows, arrows_at, node_arrows, process_arrows}
+use Rattle.image_drawer.proofs.Names.{ArrowsAreHeld, Holds, IsArrow, IsOnce, Arrow, Place}
+use Rattle.std.proofs.Common.{unwrap_or}
 use Rattle.image_drawer.specs.declared.arrow.Place.TheVariants as place
 use Rattle.image_drawer.proofs.Once.{contains_flat, distinct_left, distinct_right, flat_contains, once_append, once_distinct, once_flat}
 use Rattle.image_drawer.proofs.Told.{annex_told, bank_told, free_told, node_told, page_told, root_told, said_slot, slot_said}

@@ -1,25 +1,12 @@
 -- Boxes and owners are those of the world.
-use Rattle.std.proofs.Common.{◌≡◌, ◌≢◌, ℕ, ◌==◌, true, false, inl, inr, List, [], ◌∷◌, ◌++◌, map, refl, sym, ap, ◌∙◌, subst, arith}
-use Rattle.std.specs.List.{Contains, flat_map}
-use Rattle.std.proofs.lemmas.Bool.{cases_eq}
-use Rattle.std.proofs.lemmas.Bool.Decides.{nat_tests}
-use Rattle.std.proofs.lemmas.List.Elements.{Contains-append_cases, Contains-append_left, Contains-append_right}
-use Rattle.std.proofs.lemmas.List.Folds.{flat_map-map}
-use Rattle.model.specs.declared.capability.Capability.{Capability}
-use Rattle.model.specs.declared.geometry.Geometry.{Geometry}
-use Rattle.model.specs.declared.object.Content.{Content}
+use Rattle.image_drawer.proofs.Names.{◌≡◌, ◌≢◌, ℕ, true, false, inl, inr, List, [], ◌∷◌, ◌++◌, map, refl, sym, ap, ◌∙◌, subst, arith, Contains, flat_map}
+use Rattle.image_drawer.proofs.Names.{cases_eq, nat_tests, Contains-append_cases, Contains-append_left, Contains-append_right, flat_map-map, Capability}
+use Rattle.image_drawer.proofs.Names.{Geometry, Content, Object, free, is_annex, is_free, World, object_at, owner_at, Description, AreDistinct, node_numbers}
+use Rattle.image_drawer.proofs.Names.{page_numbers, Entry, OfAnnex, OfBank, OfNode, OfPage, OfRoot, number_of, IsOf, described_cases, contains_cases}
+use Rattle.image_drawer.proofs.Names.{contains_here, contains_map, contains_none, map_again, map_both, map_contains, Describes, plain_frames, boxes, joined}
+use Rattle.image_drawer.proofs.Names.{owners, BoxesAreObjects, HasBox, IsOnce, IsOwner, OwnersAreOwners}
+use Rattle.std.proofs.Common.{◌==◌}
 use Rattle.model.specs.declared.object.Content.TheVariants as content
-use Rattle.model.specs.declared.object.Object.{Object}
-use Rattle.model.specs.Object.{free, is_annex, is_free}
-use Rattle.model.specs.World.{World, object_at, owner_at}
-use Rattle.description.specs.declared.entry.Description.{Description}
-use Rattle.described_world.specs.Described.{AreDistinct, node_numbers, page_numbers}
-use Rattle.described_world.specs.Laid.{Entry, OfAnnex, OfBank, OfNode, OfPage, OfRoot, number_of}
-use Rattle.described_world.proofs.Entries.{IsOf, described_cases}
-use Rattle.described_world.proofs.Lists.{contains_cases, contains_here, contains_map, contains_none, map_again, map_both, map_contains}
-use Rattle.image_describer.specs.Describes.{Describes, plain_frames}
-use Rattle.image_drawer.specs.Graph.{boxes, joined, owners}
-use Rattle.image_drawer.specs.Laws.{BoxesAreObjects, HasBox, IsOnce, IsOwner, OwnersAreOwners}
 use Rattle.image_drawer.proofs.Once.{contains_flat, distinct_apart, distinct_left, distinct_right, flat_contains, once_append, once_distinct, once_flat}
 use Rattle.image_drawer.proofs.Texts.{flat_map-four}
 use Rattle.image_drawer.proofs.Told.{annex_told, bank_told, free_told, node_told, page_told, root_told}

@@ -1,3 +1,4 @@
+mod Names
 pub mod Arrows
 pub mod Boxes
 pub mod Listed

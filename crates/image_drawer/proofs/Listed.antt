@@ -1,22 +1,8 @@
 -- The numbers of those who hold an object, and of the boxes.
-use Rattle.std.proofs.Common.{◌≡◌, inl, inr, ℕ, ◌<◌, Bool, true, false, List, [], ◌∷◌, ◌++◌, map, refl, sym, ap, ◌∙◌, subst, arith}
-use Rattle.std.specs.Prelude.{◌==◌, ◌||◌}
-use Rattle.std.specs.List.{All, Contains, filter, list_any}
-use Rattle.std.proofs.lemmas.Bool.{cases_eq}
-use Rattle.std.proofs.lemmas.Bool.Decides.{nat_tests}
-use Rattle.std.proofs.lemmas.List.Elements.{All-append, All-cons, All-contains, All-filter, All-map}
-use Rattle.model.specs.Sound.{object_count}
-use Rattle.description.specs.declared.entry.BankEntry.{BankEntry}
-use Rattle.description.specs.declared.entry.Description.{Description}
-use Rattle.description.specs.declared.entry.NodeEntry.{NodeEntry}
-use Rattle.description.specs.declared.entry.PageEntry.{PageEntry}
-use Rattle.description.specs.declared.entry.ProcessEntry.{ProcessEntry}
-use Rattle.described_world.specs.Described.{HasNumbers}
-use Rattle.described_world.specs.Laid.{OfBank, OfNode, OfPage, OfRoot}
-use Rattle.described_world.proofs.Entries.{in_range}
-use Rattle.described_world.proofs.Lists.{all_from, contains_here, contains_there}
-use Rattle.image_drawer.specs.Graph.{boxes}
-use Rattle.image_drawer.specs.Part.{holders, holds_in, is_listed, names}
+use Rattle.image_drawer.proofs.Names.{◌≡◌, inl, inr, ℕ, ◌<◌, Bool, true, false, List, [], ◌∷◌, ◌++◌, map, refl, sym, ap, ◌∙◌, subst, arith, ◌==◌, ◌||◌, All}
+use Rattle.image_drawer.proofs.Names.{Contains, filter, list_any, cases_eq, nat_tests, All-append, All-cons, All-contains, All-filter, All-map, object_count}
+use Rattle.image_drawer.proofs.Names.{BankEntry, Description, NodeEntry, PageEntry, ProcessEntry, HasNumbers, OfBank, OfNode, OfPage, OfRoot, in_range}
+use Rattle.image_drawer.proofs.Names.{all_from, contains_here, contains_there, boxes, holders, holds_in, is_listed, names}
 
 either_or : (a r b c : Bool) → r ≡ (b || c) → (a || r) ≡ ((a || b) || c)
 either_or true r b c is = refl

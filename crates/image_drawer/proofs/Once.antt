@@ -1,10 +1,7 @@
 -- Lists in which nothing comes twice, and what lists of lists hold.
-use Rattle.std.proofs.Common.{◌≡◌, ℕ, inl, inr, List, [], ◌∷◌, ◌++◌, map, sym, ◌∙◌, subst}
-use Rattle.std.specs.List.{Contains, flat_map}
-use Rattle.std.proofs.lemmas.List.Elements.{Contains-append_cases, Contains-append_left, Contains-append_right}
-use Rattle.described_world.specs.Described.{AreDistinct}
-use Rattle.described_world.proofs.Lists.{contains_cases, contains_here, contains_map, contains_none, contains_there}
-use Rattle.image_drawer.specs.Laws.{IsOnce}
+use Rattle.image_drawer.proofs.Names.{◌≡◌, ℕ, inl, inr, List, [], ◌∷◌, ◌++◌, map, sym, ◌∙◌, subst, Contains, flat_map, Contains-append_cases}
+use Rattle.image_drawer.proofs.Names.{Contains-append_left, Contains-append_right, AreDistinct, contains_cases, contains_here, contains_map, contains_none}
+use Rattle.image_drawer.proofs.Names.{contains_there, IsOnce}
 
 -- what is in one of the lists
 pub contains_flat : {X Y : Type 0} (f : X → List Y) (y : Y) (xs : List X) → Contains (flat_map f xs) y → (x : X) × Contains xs x × Contains (f x) y

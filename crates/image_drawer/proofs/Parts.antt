@@ -1,23 +1,10 @@
 -- What the graph of a part of a description shows.
-use Rattle.std.proofs.Common.{◌≡◌, ℕ, Bool, true, false, if◌then◌else◌, Option, Some, None, unwrap_or, List, [], ◌∷◌, ◌++◌, map, refl, sym, ap, ◌∙◌}
-use Rattle.std.specs.Prelude.{◌==◌, ◌&&◌}
-use Rattle.std.specs.List.{AllZip, filter, flat_map}
-use Rattle.std.proofs.lemmas.List.Elements.{filter-append}
-use Rattle.model.specs.declared.capability.Capability.{Capability}
-use Rattle.model.specs.declared.capability.Capability.TheVariants.{Void}
-use Rattle.model.specs.Capability.{named}
-use Rattle.description.specs.declared.entry.BankEntry.{BankEntry}
-use Rattle.description.specs.declared.entry.Description.{Description}
-use Rattle.description.specs.declared.entry.NodeEntry.{NodeEntry}
-use Rattle.description.specs.declared.entry.PageEntry.{PageEntry}
-use Rattle.description.specs.declared.entry.ProcessEntry.{ProcessEntry}
-use Rattle.description.specs.declared.entry.SlotEntry.{SlotEntry}
-use Rattle.image_describer.proofs.Pairs.{zip_map}
-use Rattle.image_drawer.specs.declared.arrow.Arrow.{Arrow}
-use Rattle.image_drawer.specs.declared.arrow.Place.{Place}
+use Rattle.image_drawer.proofs.Names.{◌≡◌, ℕ, Bool, true, false, if◌then◌else◌, Option, Some, None, List, [], ◌∷◌, ◌++◌, map, refl, sym, ap, ◌∙◌, ◌==◌, ◌&&◌}
+use Rattle.image_drawer.proofs.Names.{AllZip, filter, flat_map, filter-append, Capability, Void, named, BankEntry, Description, NodeEntry, PageEntry}
+use Rattle.image_drawer.proofs.Names.{ProcessEntry, SlotEntry, zip_map, Arrow, Place, arrow_of, arrow_to, arrows_at, joined, node_arrows, process_arrows}
+use Rattle.image_drawer.proofs.Names.{IsPart, IsPartOfNode, IsPartOfProcess, PartIsShown, is_inside, leads_inside, space_inside}
+use Rattle.std.proofs.Common.{unwrap_or}
 use Rattle.image_drawer.specs.declared.arrow.Place.TheVariants as place
-use Rattle.image_drawer.specs.Graph.{arrow_of, arrow_to, arrows_at, joined, node_arrows, process_arrows}
-use Rattle.image_drawer.specs.Part.{IsPart, IsPartOfNode, IsPartOfProcess, PartIsShown, is_inside, leads_inside, space_inside}
 
 -- Lists
 

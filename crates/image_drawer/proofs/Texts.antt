@@ -1,16 +1,7 @@
 -- Texts of items, written one after the other.
-use Rattle.std.proofs.Common.{◌≡◌, ℕ, ◌+◌, ◌<◌, ◌≤◌, List, [], ◌∷◌, ◌++◌, Option, Result, Err, codes, decimal, length, get_or, take, drop, refl, sym, ap, ◌∙◌, subst, append_assoc, append-nil, add-one}
-use Rattle.std.specs.List.{flat_map}
-use Rattle.std.specs.Io.KnownBytes.{Appends}
-use Rattle.std.proofs.KnownBytes.{Appends-trans}
-use Rattle.std.proofs.lemmas.Grind.{flat_map-append}
-use Rattle.std.proofs.lemmas.List.{take-append-drop, take_all}
-use Rattle.std.proofs.Math.Seq.{take-suc}
-use Rattle.model.specs.Text.{spaced}
-use Rattle.script.specs.declared.fault.RunFault.{RunFault}
-use Rattle.script.specs.Writing.{Writes}
-use Rattle.script.proofs.Fronts.{text_fails, writes_after, writes_fail, writes_same}
-use Rattle.image_drawer.specs.Graph.{box_line, next_line}
+use Rattle.image_drawer.proofs.Names.{◌≡◌, ℕ, ◌+◌, ◌<◌, ◌≤◌, List, [], ◌∷◌, ◌++◌, Option, Result, Err, codes, decimal, length, get_or, take, drop, refl, sym}
+use Rattle.image_drawer.proofs.Names.{ap, ◌∙◌, subst, append_assoc, append-nil, add-one, flat_map, Appends, Appends-trans, flat_map-append, take-append-drop}
+use Rattle.image_drawer.proofs.Names.{take_all, take-suc, spaced, RunFault, Writes, text_fails, writes_after, writes_fail, writes_same, box_line, next_line}
 
 -- the texts of lists that items come to
 pub flat_map-flat_map : {A B C : Type 0} (f : B → List C) (h : A → List B) (xs : List A) → flat_map f (flat_map h xs) ≡ flat_map (λ x. flat_map f (h x)) xs

@@ -1,34 +1,12 @@
 -- The objects of a world, by the entries of its description.
-use Rattle.std.proofs.Common.{◌≡◌, ◌≢◌, ℕ, ◌<◌, ◌≤◌, inl, inr, List, [], ◌∷◌, map, length, Some, slice_index_or, unwrap_or, refl, sym, ap, ◌∙◌, arith}
-use Rattle.std.specs.List.{Contains}
-use Rattle.std.proofs.Math.ListN.{get_or-map}
-use Rattle.std.proofs.lemmas.Bool.{cases_eq, cases_lt}
-use Rattle.std.proofs.lemmas.List.{get_or_past, length-map}
-use Rattle.std.proofs.lemmas.List.Elements.{All-contains}
-use Rattle.std.proofs.lemmas.Option.{get_or_from_slice_get}
-use Rattle.model.specs.declared.capability.Cap.{Cap}
-use Rattle.model.specs.declared.capability.Capability.{Capability}
-use Rattle.model.specs.declared.capability.Capability.TheVariants.{Void}
-use Rattle.model.specs.declared.frame.Frame.{Frame}
-use Rattle.model.specs.declared.geometry.Geometry.{Geometry}
-use Rattle.model.specs.declared.object.Content.{Content}
+use Rattle.image_drawer.proofs.Names.{◌≡◌, ◌≢◌, ℕ, ◌<◌, ◌≤◌, inl, inr, List, [], ◌∷◌, map, length, Some, slice_index_or, refl, sym, ap, ◌∙◌, arith, Contains}
+use Rattle.image_drawer.proofs.Names.{get_or-map, cases_eq, cases_lt, get_or_past, length-map, All-contains, get_or_from_slice_get, Cap, Capability, Void}
+use Rattle.image_drawer.proofs.Names.{Frame, Geometry, Content, Object, State, named, blank_frame, frame_at, free, map_content, World, object_at, fresh_cap}
+use Rattle.image_drawer.proofs.Names.{BankEntry, Description, NodeEntry, PageEntry, ProcessEntry, SlotEntry, AreSlots, HoldsNamed, IsDescribedAnnex}
+use Rattle.image_drawer.proofs.Names.{IsDescribedNode, IsDescribedPage, IsDescribedRoot, first_frame, named_at, contains_here, contains_there, first_beyond}
+use Rattle.image_drawer.proofs.Names.{first_of, first_there, Describes, plain_frame, plain_frames}
+use Rattle.std.proofs.Common.{unwrap_or}
 use Rattle.model.specs.declared.object.Content.TheVariants as content
-use Rattle.model.specs.declared.object.Object.{Object}
-use Rattle.model.specs.declared.object.State.{State}
-use Rattle.model.specs.Capability.{named}
-use Rattle.model.specs.Frame.{blank_frame, frame_at}
-use Rattle.model.specs.Object.{free, map_content}
-use Rattle.model.specs.World.{World, object_at}
-use Rattle.capability.specs.Plain.{fresh_cap}
-use Rattle.description.specs.declared.entry.BankEntry.{BankEntry}
-use Rattle.description.specs.declared.entry.Description.{Description}
-use Rattle.description.specs.declared.entry.NodeEntry.{NodeEntry}
-use Rattle.description.specs.declared.entry.PageEntry.{PageEntry}
-use Rattle.description.specs.declared.entry.ProcessEntry.{ProcessEntry}
-use Rattle.description.specs.declared.entry.SlotEntry.{SlotEntry}
-use Rattle.described_world.specs.Described.{AreSlots, HoldsNamed, IsDescribedAnnex, IsDescribedNode, IsDescribedPage, IsDescribedRoot, first_frame, named_at}
-use Rattle.described_world.proofs.Lists.{contains_here, contains_there, first_beyond, first_of, first_there}
-use Rattle.image_describer.specs.Describes.{Describes, plain_frame, plain_frames}
 
 -- a capability behind its count
 abbrev pub what : Cap → Capability

@@ -1,17 +1,7 @@
 -- A description as a graph in DOT: boxes, owners and arrows.
-use Rattle.std.specs.Prelude.{ℕ, ◌==◌, if◌then◌else◌, Option, None, Some, List, [], ◌∷◌, ◌++◌, map, codes, decimal, unwrap_or}
-use Rattle.std.specs.List.{flat_map}
-use Rattle.model.specs.declared.capability.Capability.{Capability}
-use Rattle.model.specs.declared.capability.Capability.TheVariants.{Void, Number, Space, Start, Resume, Discrim}
-use Rattle.model.specs.declared.object.State.{State}
-use Rattle.model.specs.Capability.{access_bits, named}
-use Rattle.model.specs.Text.{capability_text, line_of, spaced, state_text}
-use Rattle.description.specs.declared.entry.BankEntry.{BankEntry}
-use Rattle.description.specs.declared.entry.Description.{Description}
-use Rattle.description.specs.declared.entry.NodeEntry.{NodeEntry}
-use Rattle.description.specs.declared.entry.PageEntry.{PageEntry}
-use Rattle.description.specs.declared.entry.ProcessEntry.{ProcessEntry}
-use Rattle.description.specs.declared.entry.SlotEntry.{SlotEntry}
+use Rattle.image_drawer.specs.Names.{ℕ, ◌==◌, if◌then◌else◌, Option, None, Some, List, [], ◌∷◌, ◌++◌, map, codes, decimal, unwrap_or, flat_map, Capability}
+use Rattle.image_drawer.specs.Names.{Void, Number, Space, Start, Resume, Discrim, State, access_bits, named, capability_text, line_of, spaced, state_text}
+use Rattle.image_drawer.specs.Names.{BankEntry, Description, NodeEntry, PageEntry, ProcessEntry, SlotEntry}
 use Rattle.image_drawer.specs.declared.arrow.Arrow.{Arrow}
 use Rattle.image_drawer.specs.declared.arrow.Place.{Place}
 use Rattle.image_drawer.specs.declared.arrow.Place.TheVariants as place

@@ -1,14 +1,6 @@
 -- What the graph of the description of a world shows.
-use Rattle.std.specs.Prelude.{◌≡◌, ◌≢◌, ◌↔◌, ℕ, false, List, [], ◌∷◌, Some, IsTrue}
-use Rattle.std.specs.List.{Contains}
-use Rattle.model.specs.declared.capability.Capability.{Capability}
-use Rattle.model.specs.declared.geometry.Geometry.{Geometry}
-use Rattle.model.specs.declared.object.Object.{Object}
-use Rattle.model.specs.Capability.{named}
-use Rattle.model.specs.Object.{is_annex, is_free, is_node}
-use Rattle.model.specs.World.{World, content_at, is_process, owner_at, register_at, root_at, slot_at}
-use Rattle.description.specs.declared.entry.Description.{Description}
-use Rattle.image_describer.specs.Describes.{Describes}
+use Rattle.image_drawer.specs.Names.{◌≡◌, ◌≢◌, ◌↔◌, ℕ, false, List, [], ◌∷◌, Some, IsTrue, Contains, Capability, Geometry, Object, named, is_annex, is_free}
+use Rattle.image_drawer.specs.Names.{is_node, World, content_at, is_process, owner_at, register_at, root_at, slot_at, Description, Describes}
 use Rattle.image_drawer.specs.Graph.{arrows, boxes, owners}
 use Rattle.image_drawer.specs.declared.arrow.Arrow.{Arrow}
 use Rattle.image_drawer.specs.declared.arrow.Place.{Place}

@@ -1,13 +1,6 @@
 -- The part of a description that is drawn.
-use Rattle.std.specs.Prelude.{◌≡◌, ℕ, ◌==◌, ◌&&◌, ◌||◌, Bool, true, false, if◌then◌else◌, Option, None, Some, List, ◌∷◌, ◌++◌, map, unwrap_or}
-use Rattle.std.specs.List.{AllZip, filter, list_any}
-use Rattle.model.specs.declared.capability.Capability.{Capability}
-use Rattle.model.specs.declared.capability.Capability.TheVariants.{Void}
-use Rattle.model.specs.Capability.{named}
-use Rattle.description.specs.declared.entry.Description.{Description}
-use Rattle.description.specs.declared.entry.NodeEntry.{NodeEntry}
-use Rattle.description.specs.declared.entry.ProcessEntry.{ProcessEntry}
-use Rattle.description.specs.declared.entry.SlotEntry.{SlotEntry}
+use Rattle.image_drawer.specs.Names.{◌≡◌, ℕ, ◌==◌, ◌&&◌, ◌||◌, Bool, true, false, if◌then◌else◌, Option, None, Some, List, ◌∷◌, ◌++◌, map, unwrap_or, AllZip}
+use Rattle.image_drawer.specs.Names.{filter, list_any, Capability, Void, named, Description, NodeEntry, ProcessEntry, SlotEntry}
 use Rattle.image_drawer.specs.Graph.{arrows, boxes, owners}
 
 -- a capability names nothing, or an object of a set

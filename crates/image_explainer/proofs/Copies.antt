@@ -1,7 +1,5 @@
 -- A copy of a device that was read.
-use Rattle.std.proofs.Common.{ℕ, ◌+◌, List, ◌∙◌}
-use Rattle.device.specs.Disk.{Image}
-use Rattle.device.specs.Calls.{Agrees, AreSectors}
+use Rattle.image_explainer.proofs.Names.{ℕ, ◌+◌, List, ◌∙◌, Image, Agrees, AreSectors}
 
 -- is one of what the device held before
 pub copied_before : (new old : Image) (bytes : List ℕ) → AreSectors new 0 bytes → Agrees new old → AreSectors old 0 bytes

@@ -1,10 +1,6 @@
 -- Texts that are put together piece by piece.
-use Rattle.std.proofs.Common.{◌≡◌, ℕ, List, ◌∷◌, ◌++◌, ap, ◌∙◌, append_assoc}
-use Rattle.std.specs.Prelude.{codes, decimal}
-use Rattle.layout.specs.declared.bad_image.BadImage.{BadImage}
-use Rattle.image_explainer.specs.declared.fault.ImageFault.{ImageFault}
-use Rattle.image_explainer.specs.Breaking.{reason_of}
-use Rattle.image_explainer.specs.Text.{fault_text, number_of_reason, place_text}
+use Rattle.image_explainer.proofs.Names.{◌≡◌, ℕ, List, ◌∷◌, ◌++◌, ap, ◌∙◌, append_assoc, codes, decimal, BadImage, ImageFault, reason_of, fault_text}
+use Rattle.image_explainer.proofs.Names.{number_of_reason, place_text}
 
 module _ (l a b m n : List ℕ) (first : m ≡ l ++ a) (second : n ≡ m ++ b) where
   pub joined_2 : n ≡ l ++ (a ++ b)

@@ -1,3 +1,4 @@
+mod Names
 mod Copies
 mod Joined
 mod Matching

@@ -1,16 +1,7 @@
 -- Roots and annexes that don't belong together.
-use Rattle.std.proofs.Common.{◌≡◌, ℕ, ◌+◌, ◌<◌, ◌≤◌, List, Option, None, Some, length, inl, inr, subst, arith}
-use Rattle.std.proofs.lemmas.Bool.{cases_lt}
-use Rattle.model.specs.declared.frame.Frame.{Frame}
-use Rattle.consistency.specs.declared.processes.Noted.{Noted}
-use Rattle.consistency.specs.Consistency.{AreWholeProcesses}
-use Rattle.consistency.specs.Noted.{AreNoted}
-use Rattle.consistency.proofs.Notes.{none_noted}
-use Rattle.image_explainer.specs.Finding.{HasRoot, IsMatched, MatchesOr}
-use Rattle.image_explainer.specs.declared.fault.Unmatched.{Unmatched}
-use Rattle.image_explainer.specs.Breaking.{IsUnmatched}
-use Rattle.std.specs.Prelude.{IfNone, IfSome}
-use Rattle.std.proofs.lemmas.List.{get_or_past}
+use Rattle.image_explainer.proofs.Names.{◌≡◌, ℕ, ◌+◌, ◌<◌, ◌≤◌, List, Option, None, Some, length, inl, inr, subst, arith, cases_lt, Frame, Noted}
+use Rattle.image_explainer.proofs.Names.{AreWholeProcesses, AreNoted, none_noted, HasRoot, IsMatched, MatchesOr, Unmatched, IsUnmatched, IfNone, IfSome}
+use Rattle.image_explainer.proofs.Names.{get_or_past}
 
 -- past the notes there is no root
 pub all_matched : (fs : List Frame) (notes : List (Option Noted)) (n : ℕ) → AreNoted fs notes → length notes ≤ n → ((p : ℕ) → p < n → IsMatched fs p) → (p : ℕ) → IsMatched fs p

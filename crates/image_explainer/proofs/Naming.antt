@@ -1,19 +1,7 @@
 -- Capabilities that name what they can't.
-use Rattle.std.proofs.Common.{◌≡◌, ℕ, ◌<◌, List, [], Option, length, slice_index_or, sym, ap, ◌∙◌, subst, arith}
-use Rattle.std.specs.Prelude.{IfNone}
-use Rattle.std.specs.List.{All}
-use Rattle.std.proofs.lemmas.List.{get_or_default}
-use Rattle.model.specs.declared.capability.Cap.{Cap}
-use Rattle.model.specs.declared.frame.Frame.{Frame}
-use Rattle.model.specs.declared.frame.ObjectHeader.{ObjectHeader}
-use Rattle.model.specs.declared.object.Content.{Content}
-use Rattle.model.specs.Frame.{current_count, frame_at, header_at, void_held}
-use Rattle.model.specs.Keepable.{caps_in}
-use Rattle.capability.specs.Parts.{Parts, frames_of}
-use Rattle.consistency.specs.Consistency.{IsNamed}
-use Rattle.consistency.proofs.Tables.{header_read, table_read}
-use Rattle.image_explainer.specs.declared.fault.Misnamed.{Misnamed}
-use Rattle.image_explainer.specs.Breaking.{IsMisnamed}
+use Rattle.image_explainer.proofs.Names.{◌≡◌, ℕ, ◌<◌, List, [], Option, length, slice_index_or, sym, ap, ◌∙◌, subst, arith, IfNone, All, get_or_default, Cap}
+use Rattle.image_explainer.proofs.Names.{Frame, ObjectHeader, Content, current_count, frame_at, header_at, void_held, caps_in, Parts, frames_of, IsNamed}
+use Rattle.image_explainer.proofs.Names.{header_read, table_read, Misnamed, IsMisnamed}
 
 -- the capability of an index, which was read with the table
 pub misnamed_here : (p : Parts) (n i : ℕ) (held : List Cap) (d : Cap) (hs ks : List ObjectHeader) (h : ObjectHeader) (current : ℕ) → held ≡ caps_in (frame_at (frames_of p) n).content → i < length held

@@ -1,39 +1,16 @@
 -- Faults as reasons to refuse an image.
-use Rattle.std.proofs.Common.{◌≡◌, ℕ, ◌≤◌, ◌^◌, List, Option, None, Some, Ok, inl, inr, ⊎_elim, refl, sym, ap, ◌∙◌, subst}
+use Rattle.image_explainer.proofs.Names.{◌≡◌, ℕ, ◌≤◌, ◌^◌, List, Option, None, Some, Ok, inl, inr, ⊎_elim, refl, sym, ap, ◌∙◌, subst, Frame, Cap, void_held}
+use Rattle.image_explainer.proofs.Names.{AreKeepable, Disk, Image, BadImage, OpenFault, Looks, Holds, SavedFrames, Inconsistency, BadBank, BadCapability}
+use Rattle.image_explainer.proofs.Names.{BadProcess, AreNamed, AreWholeProcesses, IsInconsistent, IsNamed, frames_of, unbanked_refuted, consistent_is_sound}
+use Rattle.image_explainer.proofs.Names.{OpensStore, StoreState, parts_of, view_of, saved_of, IsUnfit, holds_one, frames_not_bad, SectorFault, IsFault}
+use Rattle.image_explainer.proofs.Names.{ImageFault, Misnamed, Unmatched, BreaksFrames, IsMisnamed, IsUnmatched, reason_of, AreBadForOneReason, Explains}
+use Rattle.image_explainer.proofs.Names.{IsExplainedBy, IsConsistentOr}
 use Rattle.std.specs.Prelude.{Result}
-use Rattle.model.specs.declared.frame.Frame.{Frame}
-use Rattle.model.specs.declared.capability.Cap.{Cap}
-use Rattle.model.specs.Frame.{void_held}
-use Rattle.model.specs.Keepable.{AreKeepable}
-use Rattle.device.specs.Disk.{Disk, Image}
-use Rattle.layout.specs.declared.bad_image.BadImage.{BadImage}
-use Rattle.checkpoint.specs.declared.open_fault.OpenFault.{OpenFault}
 use Rattle.checkpoint.specs.declared.open_fault.OpenFault.TheVariants as open_fault
-use Rattle.checkpoint.specs.Opened.{Looks}
-use Rattle.checkpoint.specs.Saved.{Holds, SavedFrames}
-use Rattle.consistency.specs.declared.reason.Inconsistency.{Inconsistency}
-use Rattle.consistency.specs.declared.reason.Inconsistency.TheVariants.{BadBank, BadCapability, BadProcess}
-use Rattle.consistency.specs.Consistency.{AreNamed, AreWholeProcesses, IsInconsistent, IsNamed}
-use Rattle.capability.specs.Parts.{frames_of}
-use Rattle.consistency.proofs.BankFaults.{unbanked_refuted}
-use Rattle.consistency.proofs.Sound.{consistent_is_sound}
-use Rattle.object_store.specs.Store.{OpensStore}
-use Rattle.object_cache.specs.StoreState.{StoreState, parts_of, view_of}
-use Rattle.recovery.specs.Denotes.{saved_of}
-use Rattle.recovery.specs.Recovered.{IsUnfit, reason_of as inconsistent_reason}
-use Rattle.recovery.proofs.Denoted.{holds_one}
-use Rattle.layout.proofs.Denoted.{frames_not_bad}
+use Rattle.recovery.specs.Recovered.{reason_of as inconsistent_reason}
 use Rattle.sector_faults.proofs.OneReason.{one_reason as one_sector_reason}
-use Rattle.sector_faults.specs.declared.fault.SectorFault.{SectorFault}
-use Rattle.sector_faults.specs.Breaking.{IsFault}
-use Rattle.image_explainer.specs.declared.fault.ImageFault.{ImageFault}
 use Rattle.image_explainer.specs.declared.fault.ImageFault.TheVariants as fault
-use Rattle.image_explainer.specs.declared.fault.Misnamed.{Misnamed}
-use Rattle.image_explainer.specs.declared.fault.Unmatched.{Unmatched}
 use Rattle.image_explainer.specs.declared.fault.Unmatched.TheVariants as unmatched
-use Rattle.image_explainer.specs.Breaking.{BreaksFrames, IsMisnamed, IsUnmatched, reason_of}
-use Rattle.image_explainer.specs.Explained.{AreBadForOneReason, Explains, IsExplainedBy}
-use Rattle.image_explainer.specs.Finding.{IsConsistentOr}
 
 unnamed : (fs : List Frame) (m : Misnamed) → IsMisnamed fs m → AreNamed fs → ⊥
 unnamed fs m is named = is.broken (subst (λ (c : Cap). IsNamed fs c) is.held (named m.holder m.index void_held is.within))

@@ -1,22 +1,10 @@
 -- Devices that were refused for what is wrong in their sectors.
-use Rattle.std.proofs.Common.{ℕ, Some, Result, Ok, Err, ⊎_elim, refl, sym, subst, ◌∙◌, arith}
+use Rattle.image_explainer.proofs.Names.{ℕ, Some, Result, Ok, Err, ⊎_elim, refl, sym, subst, ◌∙◌, arith, cases_lt, Disk, Image, CountsNow, peeks_on, agrees_is}
+use Rattle.image_explainer.proofs.Names.{BadImage, IsBadBy, OpenFault, CountsOpen, Looks, Refuses, ReadsOnly, IsNoReason, SectorFault, IsFault, ImageFault}
+use Rattle.image_explainer.proofs.Names.{Explains}
 use Rattle.std.specs.Prelude.{Option}
-use Rattle.std.proofs.lemmas.Bool.{cases_lt}
-use Rattle.device.specs.Disk.{Disk, Image}
-use Rattle.device.proofs.Moments.{CountsNow, peeks_on}
-use Rattle.device.proofs.Images.{agrees_is}
-use Rattle.layout.specs.declared.bad_image.BadImage.{BadImage}
-use Rattle.layout.specs.Image.{IsBadBy}
-use Rattle.checkpoint.specs.declared.open_fault.OpenFault.{OpenFault}
 use Rattle.checkpoint.specs.declared.open_fault.OpenFault.TheVariants as open_fault
-use Rattle.checkpoint.specs.Opened.{CountsOpen, Looks, Refuses}
-use Rattle.frame_io.specs.Calls.{ReadsOnly}
-use Rattle.kernel.specs.Opening.{IsNoReason}
-use Rattle.sector_faults.specs.declared.fault.SectorFault.{SectorFault}
-use Rattle.sector_faults.specs.Breaking.{IsFault}
-use Rattle.image_explainer.specs.declared.fault.ImageFault.{ImageFault}
 use Rattle.image_explainer.specs.declared.fault.ImageFault.TheVariants as fault
-use Rattle.image_explainer.specs.Explained.{Explains}
 use Rattle.image_explainer.proofs.Reasons.{explained_sectors}
 
 -- a device that was refused is still bad

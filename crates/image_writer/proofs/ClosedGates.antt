@@ -1,15 +1,7 @@
 -- Under closed gates no header is committed, whatever is written elsewhere.
-use Rattle.std.proofs.Common.{◌≡◌, ◌⊎◌, ℕ, ◌+◌, ◌≤◌, inl, inr, ⊎_elim, sym, subst, ap, ◌∙◌, arith}
-use Rattle.layout.specs.Gate.{is_open}
-use Rattle.device.specs.Disk.{Disk, Image}
-use Rattle.device.specs.Calls.{Elsewhere, IsTorn, Only}
-use Rattle.device.specs.Moments.{LeavesOnly}
-use Rattle.device.proofs.Images.{agrees_is}
-use Rattle.device.proofs.Moments.{OnlyNow, leaves_on, leaves_weaker, started}
-use Rattle.frame_io.specs.Calls.{WritesAt}
-use Rattle.ckpt_log.specs.Closing.{AreClosed, SparesRest, WasKeptOrHasNone}
-use Rattle.ckpt_log.proofs.Closings.{none_committed}
-use Rattle.image_writer.specs.Written.{IsBeforeOrNone, LeavesClosed}
+use Rattle.image_writer.proofs.Names.{◌≡◌, ◌⊎◌, ℕ, ◌+◌, ◌≤◌, inl, inr, ⊎_elim, sym, subst, ap, ◌∙◌, arith, is_open, Disk, Image, Elsewhere, IsTorn, Only}
+use Rattle.image_writer.proofs.Names.{LeavesOnly, agrees_is, OnlyNow, leaves_on, leaves_weaker, started, WritesAt, AreClosed, SparesRest, WasKeptOrHasNone}
+use Rattle.image_writer.proofs.Names.{none_committed, IsBeforeOrNone, LeavesClosed}
 
 -- sectors before the gates, or behind the headers
 abbrev pub AreBeside : ℕ → ℕ → Type 0

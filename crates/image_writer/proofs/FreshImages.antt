@@ -1,35 +1,12 @@
 -- An image denotes its state once the gate is open.
-use Rattle.std.proofs.Common.{◌≡◌, ◌⊎◌, inl, inr, ⊎_elim, ℕ, ◌^◌, ◌<◌, ◌≤◌, ◌+◌, ◌-◌, ◌*◌, ◌%◌, Bool, true, false, List, [], length, take, Some, Result, Ok, Err, refl, sym, ap, subst, ◌∙◌, arith}
-use Rattle.std.specs.Prelude.{◌==◌, ◌&&◌, OnOk}
-use Rattle.model.specs.declared.frame.Frame.{Frame}
-use Rattle.model.specs.declared.geometry.Geometry.{Geometry}
-use Rattle.model.specs.Frame.{frame_at}
-use Rattle.model.specs.Keepable.{AreKeepable}
-use Rattle.model.specs.Sound.{object_count}
-use Rattle.device.specs.Disk.{Disk, Image}
-use Rattle.device.specs.Moments.{LeavesOnly}
-use Rattle.device.proofs.Moments.{leaves_on, leaves_weaker}
-use Rattle.device.specs.Calls.{Agrees, Elsewhere}
-use Rattle.device.proofs.Images.{agrees_is}
-use Rattle.layout.specs.declared.directory.Entry.{Entry}
-use Rattle.layout.specs.declared.header.CheckpointHeader.{CheckpointHeader}
-use Rattle.layout.specs.Directory.{IsDirectory, directory_bytes}
-use Rattle.layout.specs.Frame.{frame_bytes}
-use Rattle.layout.specs.Gate.{is_open}
-use Rattle.layout.specs.Header.{IsHeader, header_bytes}
-use Rattle.layout.specs.Homes.{place_length, shape_of}
-use Rattle.layout.specs.Image.{Encodes, HasNoHeader, committed_of, committed_bytes, directory_in, directory_length, directory_sector, does_count, frame_in, frame_sector, option_at, sectors_from, sequence_in}
-use Rattle.layout.specs.Shape.{shape_bytes}
-use Rattle.layout.specs.Superblock.{Plan, IsPlan}
-use Rattle.layout.proofs.Halves.{half_within}
-use Rattle.layout.proofs.Sectors.{same_sectors}
-use Rattle.home_ranges.proofs.Places.{places_within}
-use Rattle.ckpt_log.specs.Closing.{AreClosed}
-use Rattle.ckpt_log.proofs.Closings.{none_committed}
-use Rattle.checkpoint.specs.Saved.{Holds, SavedFrames, kept_of}
-use Rattle.ckpt_log.proofs.BesideHeaders.{half_behind, sequences_told}
-use Rattle.ckpt_log.proofs.Denoted.{frames_behind}
-use Rattle.image_writer.specs.Written.{HasOpeningSectors, IsBeforeOrNone, IsLeftWriting, IsWritten, first_header, state_of}
+use Rattle.image_writer.proofs.Names.{◌≡◌, ◌⊎◌, inl, inr, ⊎_elim, ℕ, ◌^◌, ◌<◌, ◌≤◌, ◌+◌, ◌-◌, ◌*◌, ◌%◌, Bool, true, false, List, [], length, take, Some, Result}
+use Rattle.image_writer.proofs.Names.{Ok, Err, refl, sym, ap, subst, ◌∙◌, arith, ◌==◌, ◌&&◌, OnOk, Frame, Geometry, frame_at, AreKeepable, object_count, Disk}
+use Rattle.image_writer.proofs.Names.{Image, LeavesOnly, leaves_on, leaves_weaker, Agrees, Elsewhere, agrees_is, Entry, CheckpointHeader, IsDirectory}
+use Rattle.image_writer.proofs.Names.{directory_bytes, frame_bytes, is_open, IsHeader, header_bytes, place_length, shape_of, Encodes, HasNoHeader, committed_of}
+use Rattle.image_writer.proofs.Names.{committed_bytes, directory_in, directory_length, directory_sector, does_count, frame_in, frame_sector, option_at}
+use Rattle.image_writer.proofs.Names.{sectors_from, sequence_in, shape_bytes, Plan, IsPlan, half_within, same_sectors, places_within, AreClosed, none_committed}
+use Rattle.image_writer.proofs.Names.{Holds, SavedFrames, kept_of, half_behind, sequences_told, frames_behind, HasOpeningSectors, IsBeforeOrNone, IsLeftWriting}
+use Rattle.image_writer.proofs.Names.{IsWritten, first_header, state_of}
 
 -- of two headers the first is committed, where it counts and the other doesn't
 first_alone : (first second : Bool) (m n : ℕ) → first ≡ true → second ≡ false → committed_of first m second n ≡ Some 0

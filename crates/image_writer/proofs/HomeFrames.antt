@@ -1,29 +1,11 @@
 -- Homes are written one after the other.
-use Rattle.std.proofs.Common.{◌≡◌, ℕ, zero, suc, Result, Ok, Err, ◌+◌, ◌-◌, ◌<◌, ◌≤◌, List, length, slice_index_or, inl, inr, ⊎_elim, refl, sym, subst, ap, ◌∙◌, arith}
-use Rattle.std.specs.Prelude.{OnOk}
-use Rattle.std.proofs.lemmas.Bool.{cases_eq, cases_lt}
-use Rattle.std.proofs.lemmas.List.{get_or_read}
-use Rattle.model.specs.declared.capability.Cap.{Cap}
-use Rattle.model.specs.declared.frame.Frame.{Frame}
-use Rattle.model.specs.declared.frame.ObjectHeader.{ObjectHeader}
-use Rattle.model.specs.declared.object.Content.{Content}
-use Rattle.model.specs.declared.object.Content.TheVariants as content
-use Rattle.model.specs.Frame.{frame_at, frames_in, header_at}
-use Rattle.model.specs.Sound.{object_count}
-use Rattle.device.specs.Disk.{Image}
-use Rattle.device.specs.Calls.{Elsewhere}
-use Rattle.layout.specs.declared.shape.Shape.{Shape}
-use Rattle.layout.specs.declared.shape.Shape.TheVariants.{Node, Packed, Page}
-use Rattle.layout.specs.Frame.{frame_bytes}
-use Rattle.layout.specs.Homes.{home_place, place_length, shape_of}
-use Rattle.layout.specs.Image.{bytes_at}
-use Rattle.layout.specs.Superblock.{Plan, IsPlan}
-use Rattle.layout.proofs.Shapes.{same_shaped}
-use Rattle.frame_io.specs.Frames.{IsObject}
-use Rattle.home_ranges.proofs.Places.{IsOwn, alone, one_before, places_within, places_apart}
+use Rattle.image_writer.proofs.Names.{◌≡◌, ℕ, zero, suc, Result, Ok, Err, ◌+◌, ◌-◌, ◌<◌, ◌≤◌, List, length, slice_index_or, inl, inr, ⊎_elim, refl, sym, subst}
+use Rattle.image_writer.proofs.Names.{ap, ◌∙◌, arith, OnOk, cases_eq, cases_lt, get_or_read, Cap, Frame, ObjectHeader, Content, frame_at, frames_in, header_at}
+use Rattle.image_writer.proofs.Names.{object_count, Image, Elsewhere, Shape, Node, Packed, Page, frame_bytes, home_place, place_length, shape_of, bytes_at}
+use Rattle.image_writer.proofs.Names.{Plan, IsPlan, same_shaped, IsObject, IsOwn, alone, one_before, places_within, places_apart, IsHome, LieAt, frames_before}
+use Rattle.image_writer.proofs.Names.{AreHome}
 use Rattle.capability.proofs.Frames.{frame_in}
-use Rattle.image_writer.specs.Homes.{IsHome, LieAt, frames_before}
-use Rattle.image_writer.specs.Written.{AreHome}
+use Rattle.model.specs.declared.object.Content.TheVariants as content
 
 -- what has the home of a number below n is home
 abbrev pub AreHomeTo : Plan → List Frame → ℕ → Image → Type 0

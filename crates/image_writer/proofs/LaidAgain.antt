@@ -1,11 +1,7 @@
 -- What is laid out may be laid out again.
-use Rattle.std.proofs.Common.{◌≡◌, ℕ, ◌+◌, ◌<◌, ◌≤◌, List, [], ◌∷◌, ◌++◌, length, get_or, set, take, drop, map, refl, sym, ap, ◌∙◌, append_assoc, arith}
-use Rattle.std.proofs.lemmas.List.{append-nil, drop_all, drop_more, length-map, length-set, take_all, take_more_set}
-use Rattle.model.specs.declared.geometry.Geometry.{Geometry}
-use Rattle.layout.specs.declared.extent.HomeRange.{HomeRange}
-use Rattle.layout.specs.Superblock.{Plan, IsPlan, Cover}
-use Rattle.image_writer.specs.declared.number_range.NumberRange.{NumberRange}
-use Rattle.image_writer.specs.Laid.{MayBeLaid, numbers_of, placed}
+use Rattle.image_writer.proofs.Names.{◌≡◌, ℕ, ◌+◌, ◌<◌, ◌≤◌, List, [], ◌∷◌, ◌++◌, length, get_or, set, take, drop, map, refl, sym, ap, ◌∙◌, append_assoc, arith}
+use Rattle.image_writer.proofs.Names.{append-nil, drop_all, drop_more, length-map, length-set, take_all, take_more_set, Geometry, HomeRange, Plan, IsPlan}
+use Rattle.image_writer.proofs.Names.{Cover, NumberRange, MayBeLaid, numbers_of, placed}
 
 cover_numbers : (g : Geometry) (n : ℕ) (rs : List HomeRange) → Cover g n rs → Cover g n (map (placed 0) (map numbers_of rs))
 cover_numbers g n [] end = end

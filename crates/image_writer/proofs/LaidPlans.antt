@@ -1,16 +1,8 @@
 -- What is laid out one behind the other is a plan.
-use Rattle.std.proofs.Common.{◌≡◌, ◌⊎◌, ℕ, zero, suc, ◌+◌, ◌-◌, ◌*◌, ◌<◌, ◌≤◌, Bool, true, false, nat_lt, List, [], ◌∷◌, ◌++◌, length, map, refl, sym, ap, subst, inl, ⊎_elim, arith}
-use Rattle.std.specs.Prelude.{if◌then◌else◌}
-use Rattle.std.proofs.lemmas.Bool.{lt-ltb, le-ltb}
-use Rattle.std.specs.List.{All}
-use Rattle.model.specs.declared.geometry.Geometry.{Geometry}
-use Rattle.layout.specs.declared.extent.Extent.{Extent}
-use Rattle.layout.specs.declared.extent.HomeRange.{HomeRange}
-use Rattle.layout.specs.declared.version.Version.{Version}
-use Rattle.layout.specs.declared.version.Version.TheVariants.{One, Two}
-use Rattle.layout.specs.Superblock.{Cover, IsPlan, IsWithin, AreApart, extent_at, extents, half_extent, nodes_length, range_extent}
-use Rattle.image_writer.specs.declared.number_range.NumberRange.{NumberRange}
-use Rattle.image_writer.specs.Laid.{MayBeLaid, behind, half_length, laid, placed, plan_from, sectors_of}
+use Rattle.image_writer.proofs.Names.{◌≡◌, ◌⊎◌, ℕ, zero, suc, ◌+◌, ◌-◌, ◌*◌, ◌<◌, ◌≤◌, Bool, true, false, nat_lt, List, [], ◌∷◌, ◌++◌, length, map, refl, sym}
+use Rattle.image_writer.proofs.Names.{ap, subst, inl, ⊎_elim, arith, if◌then◌else◌, lt-ltb, le-ltb, All, Geometry, Extent, HomeRange, Version, One, Two, Cover}
+use Rattle.image_writer.proofs.Names.{IsPlan, IsWithin, AreApart, extent_at, extents, half_extent, nodes_length, range_extent, NumberRange, MayBeLaid, behind}
+use Rattle.image_writer.proofs.Names.{half_length, laid, placed, plan_from, sectors_of}
 use Rattle.image_writer.proofs.Laying.{cons_behind, cons_laid, length_laid, none_behind, none_laid}
 
 -- ---- extents that follow one another

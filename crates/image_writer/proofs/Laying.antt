@@ -1,14 +1,7 @@
 -- Ranges are laid one behind the other.
-use Rattle.std.proofs.Common.{◌≡◌, ℕ, suc, ◌+◌, ◌*◌, ◌<◌, ◌≤◌, nat_lt, Bool, true, false, List, [], ◌∷◌, ◌++◌, length, get_or, set, take, drop, refl, sym, ap, ◌∙◌, append_assoc, arith}
-use Rattle.std.specs.Prelude.{if◌then◌else◌}
-use Rattle.std.proofs.lemmas.List.{append-nil, drop_all, drop_more, length-set, take_all, take_more_set}
-use Rattle.model.specs.declared.geometry.Geometry.{Geometry}
-use Rattle.layout.specs.declared.extent.HomeRange.{HomeRange}
-use Rattle.layout.specs.declared.version.Version.{Version}
-use Rattle.layout.specs.declared.version.Version.TheVariants.{One, Two}
-use Rattle.layout.specs.Superblock.{nodes_length}
-use Rattle.image_writer.specs.declared.number_range.NumberRange.{NumberRange}
-use Rattle.image_writer.specs.Laid.{behind, laid, placed, sectors_of}
+use Rattle.image_writer.proofs.Names.{◌≡◌, ℕ, suc, ◌+◌, ◌*◌, ◌<◌, ◌≤◌, nat_lt, Bool, true, false, List, [], ◌∷◌, ◌++◌, length, get_or, set, take, drop, refl}
+use Rattle.image_writer.proofs.Names.{sym, ap, ◌∙◌, append_assoc, arith, if◌then◌else◌, append-nil, drop_all, drop_more, length-set, take_all, take_more_set}
+use Rattle.image_writer.proofs.Names.{Geometry, HomeRange, Version, One, Two, nodes_length, NumberRange, behind, laid, placed, sectors_of}
 
 pub cons_laid : (v : Version) (g : Geometry) (at : ℕ) (r : NumberRange) (rs : List NumberRange) → laid v g at (r ∷ rs) ≡ placed at r ∷ laid v g (at + sectors_of v g r) rs
 unfolding laid

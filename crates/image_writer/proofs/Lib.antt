@@ -1,3 +1,4 @@
+mod Names
 mod ClosedGates
 mod FreshImages
 mod HomeFrames

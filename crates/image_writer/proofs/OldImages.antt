@@ -1,21 +1,8 @@
 -- What is left of an image whose gates are closed.
-use Rattle.std.proofs.Common.{◌≡◌, ℕ, ◌+◌, ◌*◌, ◌<◌, ◌≤◌, Option, Some, None, List, take, sym, ap, subst, ◌∙◌, arith}
-use Rattle.model.specs.Frame.{frame_at}
-use Rattle.device.specs.Disk.{Image}
-use Rattle.layout.specs.declared.directory.Entry.{Entry}
-use Rattle.layout.specs.Frame.{IsFrameOf}
-use Rattle.layout.specs.Header.{header_bytes}
-use Rattle.layout.specs.Homes.{place_length, shape_of}
-use Rattle.layout.specs.Image.{Encodes, SavedState, committed_bytes, directory_in, directory_length, directory_sector, frame_in, frame_sector, option_at, sectors_from}
-use Rattle.layout.specs.Shape.{shape_bytes}
-use Rattle.layout.specs.Superblock.{Plan, IsPlan}
-use Rattle.layout.proofs.Sectors.{same_sectors}
-use Rattle.home_ranges.proofs.Places.{places_within}
-use Rattle.ckpt_log.specs.Closing.{KeepsImage}
-use Rattle.ckpt_log.proofs.BesideHeaders.{half_behind}
-use Rattle.ckpt_log.proofs.Denoted.{frames_behind}
-use Rattle.checkpoint.specs.Saved.{Holds, SavedFrames}
-use Rattle.image_writer.specs.Laws.{KeptHoldsTheSame, NoneIsHeld}
+use Rattle.image_writer.proofs.Names.{◌≡◌, ℕ, ◌+◌, ◌*◌, ◌<◌, ◌≤◌, Option, Some, None, List, take, sym, ap, subst, ◌∙◌, arith, frame_at, Image, Entry, IsFrameOf}
+use Rattle.image_writer.proofs.Names.{header_bytes, place_length, shape_of, Encodes, SavedState, committed_bytes, directory_in, directory_length}
+use Rattle.image_writer.proofs.Names.{directory_sector, frame_in, frame_sector, option_at, sectors_from, shape_bytes, Plan, IsPlan, same_sectors, places_within}
+use Rattle.image_writer.proofs.Names.{KeepsImage, half_behind, frames_behind, Holds, SavedFrames, KeptHoldsTheSame, NoneIsHeld}
 
 module _ (old new : Image) (kept : KeepsImage old new) where
   -- behind the headers all is as it was

@@ -1,18 +1,6 @@
 -- Clusters are filled node by node.
-use Rattle.std.proofs.Common.{◌≡◌, ℕ, ◌+◌, ◌-◌, ◌<◌, List, inl, inr, subst, ap, ◌∙◌, arith}
-use Rattle.std.proofs.lemmas.Bool.{cases_lt}
-use Rattle.model.specs.declared.frame.Frame.{Frame}
-use Rattle.model.specs.declared.geometry.Geometry.{Geometry}
-use Rattle.model.specs.Frame.{frame_at}
-use Rattle.layout.specs.declared.shape.Shape.TheVariants.{Packed}
-use Rattle.layout.specs.Frame.{frame_bytes}
-use Rattle.layout.specs.Homes.{home_place, shape_of}
-use Rattle.layout.specs.Shape.{shape_bytes}
-use Rattle.layout.specs.Superblock.{Plan, IsPlan}
-use Rattle.frame_io.specs.Frames.{IsObject}
-use Rattle.home_ranges.specs.Home.{HaveHome}
-use Rattle.home_ranges.proofs.Places.{ranked}
-use Rattle.image_writer.specs.Homes.{AreFramesOf}
+use Rattle.image_writer.proofs.Names.{◌≡◌, ℕ, ◌+◌, ◌-◌, ◌<◌, List, inl, inr, subst, ap, ◌∙◌, arith, cases_lt, Frame, Geometry, frame_at, Packed, frame_bytes}
+use Rattle.image_writer.proofs.Names.{home_place, shape_of, shape_bytes, Plan, IsPlan, IsObject, HaveHome, ranked, AreFramesOf}
 
 -- the frames of the first n from a number on are in a cluster
 abbrev pub AreIn : Geometry → List Frame → ℕ → ℕ → List ℕ → Type 0

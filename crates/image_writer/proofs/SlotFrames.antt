@@ -1,32 +1,11 @@
 -- Slots of the log are written one after the other, behind the homes.
-use Rattle.std.proofs.Common.{◌≡◌, ℕ, Result, Ok, Err, ◌+◌, ◌-◌, ◌*◌, ◌/◌, ◌<◌, ◌≤◌, Option, Some, None, List, length, inl, inr, ⊎_elim, refl, sym, subst, ap, ◌∙◌, arith}
-use Rattle.std.specs.Prelude.{OnOk}
-use Rattle.std.proofs.lemmas.Bool.{cases_lt}
-use Rattle.model.specs.declared.capability.Cap.{Cap}
-use Rattle.model.specs.declared.frame.Frame.{Frame}
-use Rattle.model.specs.declared.frame.ObjectHeader.{ObjectHeader}
-use Rattle.model.specs.declared.object.Content.{Content}
-use Rattle.model.specs.Frame.{frame_at, frames_in, header_at}
-use Rattle.model.specs.Sound.{object_count}
+use Rattle.image_writer.proofs.Names.{◌≡◌, ℕ, Result, Ok, Err, ◌+◌, ◌-◌, ◌*◌, ◌/◌, ◌<◌, ◌≤◌, Option, Some, None, List, length, inl, inr, ⊎_elim, refl, sym}
+use Rattle.image_writer.proofs.Names.{subst, ap, ◌∙◌, arith, OnOk, cases_lt, Cap, Frame, ObjectHeader, Content, frame_at, frames_in, header_at, object_count}
+use Rattle.image_writer.proofs.Names.{Image, Elsewhere, Entry, Packed, IsDirectory, directory_bytes, entry_at, frame_bytes, home_place, place_length, shape_of}
+use Rattle.image_writer.proofs.Names.{bytes_at, directory_in, directory_length, directory_sector, frame_in, half_sector, seat_in, sectors_from, slot_sector}
+use Rattle.image_writer.proofs.Names.{shape_bytes, shape_length, Plan, IsPlan, half_extent, half_within, few_sectors, same_shaped, IsObject, IsOwn, one_length}
+use Rattle.image_writer.proofs.Names.{places_spare_log, seat_entry, begins, AreFramesOf, LieAt, AreHome, AreInSlots}
 use Rattle.std.specs.Prelude.{slice_index_or}
-use Rattle.device.specs.Disk.{Image}
-use Rattle.device.specs.Calls.{Elsewhere}
-use Rattle.layout.specs.declared.directory.Entry.{Entry}
-use Rattle.layout.specs.declared.shape.Shape.TheVariants.{Packed}
-use Rattle.layout.specs.Directory.{IsDirectory, directory_bytes, entry_at}
-use Rattle.layout.specs.Frame.{frame_bytes}
-use Rattle.layout.specs.Homes.{home_place, place_length, shape_of}
-use Rattle.layout.specs.Image.{bytes_at, directory_in, directory_length, directory_sector, frame_in, half_sector, seat_in, sectors_from, slot_sector}
-use Rattle.layout.specs.Shape.{shape_bytes, shape_length}
-use Rattle.layout.specs.Superblock.{Plan, IsPlan, half_extent}
-use Rattle.layout.proofs.Halves.{half_within}
-use Rattle.layout.proofs.Shapes.{few_sectors, same_shaped}
-use Rattle.frame_io.specs.Frames.{IsObject}
-use Rattle.home_ranges.proofs.Places.{IsOwn, one_length, places_spare_log}
-use Rattle.home_ranges.proofs.Seats.{seat_entry}
-use Rattle.home_ranges.proofs.Shared.{begins}
-use Rattle.image_writer.specs.Homes.{AreFramesOf, LieAt}
-use Rattle.image_writer.specs.Written.{AreHome, AreInSlots}
 use Rattle.image_writer.proofs.HomeFrames.{own_at}
 
 -- ---- the slot of one entry

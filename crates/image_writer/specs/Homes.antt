@@ -1,16 +1,6 @@
 -- What is written of a home.
-use Rattle.std.specs.Prelude.{◌≡◌, ℕ, List}
-use Rattle.model.specs.declared.frame.Frame.{Frame}
-use Rattle.model.specs.Frame.{frame_at}
-use Rattle.device.specs.Disk.{Image}
-use Rattle.layout.specs.declared.shape.Shape.{Shape}
-use Rattle.layout.specs.declared.shape.Shape.TheVariants.{Node, Packed, Page}
-use Rattle.layout.specs.Frame.{frame_bytes}
-use Rattle.layout.specs.Homes.{home_place, shape_of}
-use Rattle.layout.specs.Image.{bytes_at}
-use Rattle.layout.specs.Shape.{shape_bytes}
-use Rattle.layout.specs.Superblock.{Plan}
-use Rattle.frame_io.specs.Frames.{IsObject}
+use Rattle.image_writer.specs.Names.{◌≡◌, ℕ, List, Frame, frame_at, Image, Shape, Node, Packed, Page, frame_bytes, home_place, shape_of, bytes_at, shape_bytes}
+use Rattle.image_writer.specs.Names.{Plan, IsObject}
 
 -- how many frames lie before one in its home
 abbrev pub frames_before : Shape → ℕ

@@ -1,9 +1,6 @@
 -- Where the parts of an image lie whose ranges follow one another.
-use Rattle.std.specs.Prelude.{ℕ, ◌+◌, ◌≤◌, List, [], ◌∷◌, length, map}
-use Rattle.model.specs.declared.geometry.Geometry.{Geometry}
-use Rattle.layout.specs.declared.extent.HomeRange.{HomeRange}
-use Rattle.layout.specs.declared.version.Version.{Version}
-use Rattle.layout.specs.Superblock.{Plan, plan_of, IsGeometry, Cover, half_extent, range_extent}
+use Rattle.image_writer.specs.Names.{ℕ, ◌+◌, ◌≤◌, List, [], ◌∷◌, length, map, Geometry, HomeRange, Version, Plan, plan_of, IsGeometry, Cover, half_extent}
+use Rattle.image_writer.specs.Names.{range_extent}
 use Rattle.image_writer.specs.declared.number_range.NumberRange.{NumberRange}
 
 -- a range with its frames from a sector on

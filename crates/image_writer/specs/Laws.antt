@@ -1,12 +1,6 @@
 -- How many sectors an image takes by version 2; and what is left of one whose gates are closed: it is as before until the
 -- last one is, and then it holds nothing.
-use Rattle.std.specs.Prelude.{◌↔◌, ℕ, ◌+◌, ◌*◌, ◌≤◌, List, length}
-use Rattle.model.specs.declared.geometry.Geometry.{Geometry}
-use Rattle.device.specs.Disk.{Image}
-use Rattle.layout.specs.Image.{HasNoHeader}
-use Rattle.layout.specs.declared.version.Version.TheVariants.{One, Two}
-use Rattle.ckpt_log.specs.Closing.{KeepsImage}
-use Rattle.checkpoint.specs.Saved.{Holds, SavedFrames}
+use Rattle.image_writer.specs.Names.{◌↔◌, ℕ, ◌+◌, ◌*◌, ◌≤◌, List, length, Geometry, Image, HasNoHeader, One, Two, KeepsImage, Holds, SavedFrames}
 use Rattle.image_writer.specs.declared.number_range.NumberRange.{NumberRange}
 use Rattle.image_writer.specs.Laid.{plan_from}
 

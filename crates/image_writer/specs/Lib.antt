@@ -1,3 +1,4 @@
+pub mod Names
 pub mod Homes
 pub mod Laid
 pub mod Laws

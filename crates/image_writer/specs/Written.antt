@@ -1,20 +1,7 @@
 -- What a fresh image saves, and its parts.
-use Rattle.std.specs.Prelude.{◌≡◌, ◌⊎◌, ℕ, ◌<◌, List, [], length}
-use Rattle.model.specs.declared.frame.Frame.{Frame}
-use Rattle.model.specs.declared.geometry.Geometry.{Geometry}
-use Rattle.model.specs.Frame.{frame_at}
-use Rattle.model.specs.Sound.{object_count}
-use Rattle.device.specs.Disk.{Disk, Image}
-use Rattle.layout.specs.declared.directory.Entry.{Entry}
-use Rattle.layout.specs.declared.header.CheckpointHeader.{CheckpointHeader}
-use Rattle.layout.specs.Directory.{directory_bytes, entry_at}
-use Rattle.layout.specs.Frame.{frame_bytes}
-use Rattle.layout.specs.Header.{header_bytes}
-use Rattle.layout.specs.Homes.{home_place}
-use Rattle.layout.specs.Image.{HasNoHeader, SavedState, bytes_at, directory_in, frame_in, slot_sector}
-use Rattle.layout.specs.Superblock.{Plan, IsPlan, superblock_bytes}
-use Rattle.ckpt_log.specs.Closing.{AreClosed, KeepsImage}
-use Rattle.checkpoint.specs.Saved.{Holds, SavedFrames}
+use Rattle.image_writer.specs.Names.{◌≡◌, ◌⊎◌, ℕ, ◌<◌, List, [], length, Frame, Geometry, frame_at, object_count, Disk, Image, Entry, CheckpointHeader}
+use Rattle.image_writer.specs.Names.{directory_bytes, entry_at, frame_bytes, header_bytes, home_place, HasNoHeader, SavedState, bytes_at, directory_in}
+use Rattle.image_writer.specs.Names.{frame_in, slot_sector, Plan, IsPlan, superblock_bytes, AreClosed, KeepsImage, Holds, SavedFrames}
 use Rattle.image_writer.specs.Homes.{LieAt}
 
 -- a saved state with these parts

@@ -1,11 +1,6 @@
 -- The description of a world is built.
-use Rattle.std.proofs.Common.{ℕ, ◌^◌, ◌≤◌, sym, subst}
-use Rattle.model.specs.Frame.{objects_of}
-use Rattle.consistency.proofs.Unsound.{sound_banked, sound_named}
+use Rattle.jobs.proofs.Names.{ℕ, ◌^◌, ◌≤◌, sym, subst, objects_of, sound_banked, sound_named, sound_plain, plain_frames, DescribedIsAccepted}
 use Rattle.image_builder.specs.declared.fault.BuildFault.TheVariants as build
-use Rattle.image_describer.proofs.Plain.{sound_plain}
-use Rattle.image_describer.specs.Describes.{plain_frames}
-use Rattle.jobs.specs.Laws.{DescribedIsAccepted}
 
 pub described_is_accepted : DescribedIsAccepted
 described_is_accepted g age fs d v sectors sound describes layout laid room build.Limits =

@@ -1,18 +1,8 @@
 -- What the command that builds comes to.
-use Rattle.std.proofs.Common.{◌≡◌, ℕ, List, Option, Ok, Err, ap, subst}
-use Rattle.std.specs.Prelude.{◌↔◌, IsErrOf, Result}
-use Rattle.std.specs.Io.KnownBytes.{Appends}
-use Rattle.toml.specs.Data.{Members}
-use Rattle.model.specs.Text.{line_of}
-use Rattle.device.specs.Disk.{Disk}
-use Rattle.description.specs.declared.entry.Description.{Description}
-use Rattle.description.specs.Reading.{IsDescription}
-use Rattle.image_builder.specs.declared.fault.BuildFault.{BuildFault}
-use Rattle.image_builder.specs.declared.fault.BuildFault.TheVariants.{Failed}
-use Rattle.image_builder.specs.Built.{BuildsFrom, IsWithinLimits, plan_for}
-use Rattle.script.specs.Writing.{AppendsFront}
+use Rattle.jobs.proofs.Names.{◌≡◌, ℕ, List, Option, Ok, Err, ap, subst, ◌↔◌, IsErrOf, Appends, Members, line_of, Disk, Description, IsDescription, BuildFault}
+use Rattle.jobs.proofs.Names.{Failed, BuildsFrom, IsWithinLimits, plan_for, AppendsFront, BuildsImage, built_text}
+use Rattle.std.specs.Prelude.{Result}
 use Rattle.jobs.specs.declared.fault.Fault.TheVariants as fault
-use Rattle.jobs.specs.Images.{BuildsImage, built_text}
 
 module _ {D : Type 0} (disk : D → Disk) (ms : Members) (old : D) (output : Option (List ℕ)) where
   pub refused_cause : (why : BuildFault) (P : Type 0) → ((let r : Result (Unit {0}) BuildFault = Err why in IsErrOf r Failed) ↔ P) → (why ≡ Failed) ↔ P

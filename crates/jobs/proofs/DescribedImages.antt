@@ -1,37 +1,9 @@
 -- What the command that describes comes to, and what its text is built as.
-use Rattle.std.proofs.Common.{◌≡◌, ℕ, List, Result, Ok, refl, sym, ap, ◌∙◌, subst}
-use Rattle.std.proofs.lemmas.Option.{same_Some}
-use Rattle.toml.specs.Data.{Members}
-use Rattle.model.specs.declared.frame.Frame.{Frame}
-use Rattle.model.specs.declared.geometry.Geometry.{Geometry}
-use Rattle.model.specs.declared.object.Object.{Object}
-use Rattle.model.specs.Frame.{objects_of}
-use Rattle.model.specs.Keepable.{IsSoundFrames, world_at}
-use Rattle.model.specs.World.{World}
-use Rattle.model.specs.Machine.{Saved}
-use Rattle.device.specs.Disk.{Disk, Image}
-use Rattle.device.proofs.Images.{agrees_is}
-use Rattle.layout.specs.Image.{Encodes, SavedState}
-use Rattle.checkpoint.specs.declared.open_fault.OpenFault.{OpenFault}
-use Rattle.checkpoint.specs.Opened.{Looks}
-use Rattle.checkpoint.specs.Saved.{Holds, SavedFrames}
-use Rattle.migrator.specs.Durable.{saved_state, seen_of}
-use Rattle.capability.specs.Parts.{AreSound, frames_of, objects_in}
-use Rattle.image_writer.specs.Written.{first_saved}
-use Rattle.recovery.specs.declared.live.Live.{Live}
-use Rattle.recovery.specs.Recovered.{Recovers}
-use Rattle.description.specs.declared.entry.Description.{Description}
-use Rattle.description.specs.Reading.{IsDescription}
-use Rattle.description.specs.Laws.{IsSame}
-use Rattle.description.proofs.Once.{description_once}
-use Rattle.image_describer.proofs.Plain.{described_is_same}
-use Rattle.image_describer.proofs.Short.{described_has_text}
-use Rattle.image_describer.proofs.SameTables.{same_described}
-use Rattle.image_describer.specs.Spelled.{CanBeSpelled}
-use Rattle.object_cache.specs.StoreState.{StoreState, parts_of, view_of}
-use Rattle.jobs.specs.Images.{DescribesSaved, IsDescriptionOf, OpensAndDescribes}
-use Rattle.jobs.specs.Laws.{DescribedIsDenoted}
-use Rattle.jobs.specs.Reaching.{HoldsOfSaved}
+use Rattle.jobs.proofs.Names.{◌≡◌, ℕ, List, Result, Ok, refl, sym, ap, ◌∙◌, subst, same_Some, Members, Frame, Geometry, Object, objects_of, IsSoundFrames}
+use Rattle.jobs.proofs.Names.{world_at, World, Saved, Disk, Image, agrees_is, Encodes, SavedState, OpenFault, Looks, Holds, SavedFrames, saved_state, seen_of}
+use Rattle.jobs.proofs.Names.{AreSound, frames_of, objects_in, first_saved, Live, Recovers, Description, IsDescription, IsSame, description_once}
+use Rattle.jobs.proofs.Names.{described_is_same, described_has_text, same_described, CanBeSpelled, StoreState, parts_of, view_of, DescribesSaved}
+use Rattle.jobs.proofs.Names.{IsDescriptionOf, OpensAndDescribes, DescribedIsDenoted, HoldsOfSaved}
 
 -- A store that was made of a device.
 module _ {D : Type 0} (disk : D → Disk) (seen_left : (d : D) → (disk d).may_leave (disk d).seen) (device : D) (l : Live (StoreState D)) (wakes : Recovers disk (view_of disk) (parts_of disk) device l) where

@@ -1,21 +1,9 @@
 -- What the command that draws comes to.
-use Rattle.std.proofs.Common.{◌≡◌, ℕ, ◌<◌, ◌^◌, List, Option, Result, Ok, Err, sym, subst, arith}
-use Rattle.model.specs.declared.geometry.Geometry.{Geometry}
-use Rattle.model.specs.declared.object.Object.{Object}
-use Rattle.model.specs.Sound.{object_count}
-use Rattle.device.specs.Disk.{Disk}
-use Rattle.checkpoint.specs.declared.open_fault.OpenFault.{OpenFault}
+use Rattle.jobs.proofs.Names.{◌≡◌, ℕ, ◌<◌, ◌^◌, List, Option, Result, Ok, Err, sym, subst, arith, Geometry, Object, object_count, Disk, OpenFault, Description}
+use Rattle.jobs.proofs.Names.{HasNumbers, AreSoundObjects, Focus, Fault, Whole, DrawsImage, DrawsPart, IsHeldTo, KeepsPart, KeepsReached, OfWhole, OpensWhole}
+use Rattle.jobs.proofs.Names.{DescribesSaved, HoldsOfSaved}
 use Rattle.checkpoint.specs.declared.open_fault.OpenFault.TheVariants as opening
-use Rattle.description.specs.declared.entry.Description.{Description}
-use Rattle.described_world.specs.Described.{HasNumbers}
-use Rattle.reach.specs.Reached.{AreSoundObjects}
-use Rattle.jobs.specs.declared.drawing.Focus.{Focus}
-use Rattle.jobs.specs.declared.fault.Fault.{Fault}
 use Rattle.jobs.specs.declared.fault.Fault.TheVariants as fault
-use Rattle.jobs.specs.declared.whole.Whole.{Whole}
-use Rattle.jobs.specs.Drawing.{DrawsImage, DrawsPart, IsHeldTo, KeepsPart, KeepsReached, OfWhole, OpensWhole}
-use Rattle.jobs.specs.Images.{DescribesSaved}
-use Rattle.jobs.specs.Reaching.{HoldsOfSaved}
 use Rattle.jobs.proofs.ReachedImages.{objects_sound}
 
 -- what was answered is all that is saved

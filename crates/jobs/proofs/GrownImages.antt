@@ -1,46 +1,13 @@
 -- What a description for other sizes is built as.
-use Rattle.std.proofs.Common.{◌≡◌, ℕ, List, Option, Result, Ok, Err, map, sym, ap, ◌∙◌, subst, arith}
-use Rattle.std.specs.Io.KnownBytes.{Appends}
-use Rattle.std.proofs.lemmas.Bool.Decides.{nat_tests}
-use Rattle.std.proofs.lemmas.Option.{same_Some}
-use Rattle.toml.specs.Data.{Members}
-use Rattle.model.specs.declared.frame.Frame.{Frame}
-use Rattle.model.specs.declared.geometry.Geometry.{Geometry}
-use Rattle.model.specs.declared.object.Object.{Object}
-use Rattle.model.specs.Keepable.{IsSoundFrames, world_at}
-use Rattle.model.specs.Machine.{Saved}
-use Rattle.model.specs.Sound.{IsSound}
-use Rattle.model.specs.World.{World}
-use Rattle.device.specs.Disk.{Disk}
+use Rattle.jobs.proofs.Names.{◌≡◌, ℕ, List, Option, Result, Ok, Err, map, sym, ap, ◌∙◌, subst, arith, Appends, nat_tests, same_Some, Members, Frame, Geometry}
+use Rattle.jobs.proofs.Names.{Object, IsSoundFrames, world_at, Saved, IsSound, World, Disk, Holds, SavedFrames, NumberRange, MayBeLaid, numbers_of, first_saved}
+use Rattle.jobs.proofs.Names.{may_be_laid, Description, IsDescription, IsSame, description_once, HasFields, described_once, GrowthFault, Sizes, Describes}
+use Rattle.jobs.proofs.Names.{plain_frames, IsGrown, IsNotRenumbered, grown_geometry, grown_ranges, CanBeSpelled, brief_grown, fields_grown, not_suited}
+use Rattle.jobs.proofs.Names.{grown_is_described, grown_to_itself, grown_spelled, objects_plain, same_described, AppendsFront, Fault, IsGrownFrom}
+use Rattle.jobs.proofs.Names.{TellsDescription, TellsGrown, TellsText, DescribesImage, DescribesSaved, IsDescribedIn, ReadsSaved, RefusesSizes, TellsWhole}
+use Rattle.jobs.proofs.Names.{GrownIsDenoted, UnsizedIsWhole}
 use Rattle.checkpoint.specs.declared.open_fault.OpenFault.TheVariants as opening
-use Rattle.checkpoint.specs.Saved.{Holds, SavedFrames}
-use Rattle.image_writer.specs.declared.number_range.NumberRange.{NumberRange}
-use Rattle.image_writer.specs.Laid.{MayBeLaid, numbers_of}
-use Rattle.image_writer.specs.Written.{first_saved}
-use Rattle.image_writer.proofs.LaidAgain.{may_be_laid}
-use Rattle.description.specs.declared.entry.Description.{Description}
-use Rattle.description.specs.Reading.{IsDescription}
-use Rattle.description.specs.Laws.{IsSame}
-use Rattle.description.proofs.Once.{description_once}
-use Rattle.described_world.specs.Described.{HasFields}
-use Rattle.described_world.proofs.DescribedOnce.{described_once}
-use Rattle.image_describer.specs.declared.sizes.GrowthFault.{GrowthFault}
-use Rattle.image_describer.specs.declared.sizes.Sizes.{Sizes}
-use Rattle.image_describer.specs.Describes.{Describes, plain_frames}
-use Rattle.image_describer.specs.Grown.{IsGrown, IsNotRenumbered, grown_geometry, grown_ranges}
-use Rattle.image_describer.specs.Spelled.{CanBeSpelled}
-use Rattle.image_describer.proofs.GrownDescription.{brief_grown, fields_grown}
-use Rattle.image_describer.proofs.GrownFits.{not_suited}
-use Rattle.image_describer.proofs.GrownLaws.{grown_is_described, grown_to_itself}
-use Rattle.image_describer.proofs.GrownText.{grown_spelled}
-use Rattle.image_describer.proofs.Plain.{objects_plain}
-use Rattle.image_describer.proofs.SameTables.{same_described}
-use Rattle.script.specs.Writing.{AppendsFront}
-use Rattle.jobs.specs.declared.fault.Fault.{Fault}
 use Rattle.jobs.specs.declared.fault.Fault.TheVariants as fault
-use Rattle.jobs.specs.Growing.{IsGrownFrom, TellsDescription, TellsGrown, TellsText}
-use Rattle.jobs.specs.Images.{DescribesImage, DescribesSaved, IsDescribedIn, ReadsSaved, RefusesSizes, TellsWhole}
-use Rattle.jobs.specs.Laws.{GrownIsDenoted, UnsizedIsWhole}
 
 pub grown_is_denoted : GrownIsDenoted
 grown_is_denoted p g age frames text table e saved size c told read said built holds =

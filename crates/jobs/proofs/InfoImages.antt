@@ -1,31 +1,11 @@
 -- The lines about what a store has, and those about what its device saves.
-use Rattle.std.proofs.Common.{◌≡◌, Bool, ℕ, ◌+◌, List, [], ◌∷◌, length, map, cond, refl, sym, ap, ◌∙◌, subst, arith}
-use Rattle.std.specs.Prelude.{IfOk, Ok, Result, Vec}
-use Rattle.std.specs.List.{count_by, fold}
-use Rattle.std.specs.declared.alloc.Global.{Global}
-use Rattle.device.specs.Disk.{Disk}
-use Rattle.layout.specs.Image.{SavedState}
-use Rattle.checkpoint.specs.Saved.{kept_of}
-use Rattle.recovery.specs.declared.live.Live.{Live}
-use Rattle.recovery.specs.Denotes.{saved_of}
-use Rattle.recovery.specs.Recovered.{Recovers}
-use Rattle.object_cache.specs.declared.all_objects.AllObjects.{AllObjects}
-use Rattle.object_cache.specs.StoreState.{StoreState, AreObjectsOf, parts_of, saved_by, view_of}
-use Rattle.jobs.specs.declared.info.InfoLine.{InfoLine}
-use Rattle.model.specs.declared.capability.Cap.{Cap}
-use Rattle.model.specs.declared.frame.Frame.{Frame}
-use Rattle.model.specs.declared.frame.ObjectHeader.{ObjectHeader}
-use Rattle.model.specs.declared.object.Content.{Content}
+use Rattle.jobs.proofs.Names.{◌≡◌, Bool, ℕ, ◌+◌, List, [], ◌∷◌, length, map, cond, refl, sym, ap, ◌∙◌, subst, arith, Vec, count_by, fold, Global, Disk}
+use Rattle.jobs.proofs.Names.{SavedState, kept_of, Live, saved_of, Recovers, AllObjects, StoreState, AreObjectsOf, parts_of, saved_by, view_of, InfoLine, Cap}
+use Rattle.jobs.proofs.Names.{Frame, ObjectHeader, Content, Object, Role, conveyed, frames_in, headers, object_of, objects_of, world_at, map_content, Plan}
+use Rattle.jobs.proofs.Names.{Checkpoint, InfoOf, has_role, info_lines, lines_over, lines_with, objects_with}
+use Rattle.std.specs.Prelude.{IfOk, Ok, Result}
 use Rattle.model.specs.declared.object.Content.TheVariants as content
-use Rattle.model.specs.declared.object.Object.{Object}
-use Rattle.model.specs.declared.object.Role.{Role}
 use Rattle.model.specs.declared.object.Role.TheVariants as role
-use Rattle.model.specs.Frame.{conveyed, frames_in, headers, object_of, objects_of}
-use Rattle.model.specs.Keepable.{world_at}
-use Rattle.model.specs.Object.{map_content}
-use Rattle.layout.specs.Superblock.{Plan}
-use Rattle.checkpoint.specs.declared.committed.Checkpoint.{Checkpoint}
-use Rattle.jobs.specs.Info.{InfoOf, has_role, info_lines, lines_over, lines_with, objects_with}
 use Rattle.jobs.proofs.DescribedImages.{encodes, looked, sound}
 
 module _ (hs : List ObjectHeader) (r : Role) where

@@ -1,3 +1,4 @@
+mod Names
 mod AcceptedDescriptions
 mod BuiltImages
 mod DescribedImages

@@ -1,21 +1,8 @@
 -- What an observer made of a run, and how the command ends.
-use Rattle.std.proofs.Common.{◌≡◌, ℕ, Bool, true, false, List, [], ◌∷◌, Option, None, Some, Result, Ok, Err, refl, sym, ◌∙◌, subst, ⊎_elim}
-use Rattle.model.specs.declared.geometry.Geometry.{Geometry}
-use Rattle.model.specs.Machine.{Up, opened}
-use Rattle.model.specs.Run.{Turn}
-use Rattle.device.specs.Disk.{Disk}
-use Rattle.capability.specs.Parts.{Parts}
-use Rattle.checkpoint.specs.declared.open_fault.OpenFault.{OpenFault}
-use Rattle.object_store.specs.Store.{View}
-use Rattle.runs.specs.declared.cause.Stop.{Stop}
-use Rattle.runs.specs.declared.tracer.Tracer.{Tracer}
-use Rattle.runs.specs.KernelRuns.{AreSeen}
-use Rattle.runs.specs.Tracing.{Ends, Sees}
-use Rattle.script.specs.declared.fault.RunFault.{RunFault}
+use Rattle.jobs.proofs.Names.{◌≡◌, ℕ, Bool, true, false, List, [], ◌∷◌, Option, None, Some, Result, Ok, Err, refl, sym, ◌∙◌, subst, ⊎_elim, Geometry, Up}
+use Rattle.jobs.proofs.Names.{opened, Turn, Disk, Parts, OpenFault, View, Stop, Tracer, AreSeen, Ends, Sees, RunFault, Fault, HasStop, IsRunEnd, OpensAndRuns}
+use Rattle.jobs.proofs.Names.{OpensAndSees, RunsImage, SeesImage}
 use Rattle.script.specs.declared.fault.RunFault.TheVariants as run
-use Rattle.jobs.specs.declared.fault.Fault.{Fault}
-use Rattle.jobs.specs.Faults.{HasStop, IsRunEnd}
-use Rattle.jobs.specs.Images.{OpensAndRuns, OpensAndSees, RunsImage, SeesImage}
 
 -- an observer that lets each run go on never ends one
 goes_on_to_end : {O : Type 0} (sees : Turn → O → O → Bool → Type 0) → ((t : Turn) (old new : O) (on : Bool) → sees t old new on → on ≡ true) →

@@ -1,14 +1,9 @@
 -- What the command says of the objects that processes can ever change.
-use Rattle.std.proofs.Common.{◌≡◌, ℕ, List, Option, Result, Ok, Err, Vec, sym, subst}
-use Rattle.std.specs.declared.alloc.Global.{Global}
-use Rattle.model.specs.declared.object.Object.{Object}
-use Rattle.device.specs.Disk.{Disk}
-use Rattle.checkpoint.specs.declared.open_fault.OpenFault.{OpenFault}
+use Rattle.jobs.proofs.Names.{◌≡◌, ℕ, List, Option, Result, Ok, Err, sym, subst, Global, Object, Disk, OpenFault, AreSoundObjects, Fault, HoldsOfSaved}
+use Rattle.jobs.proofs.Names.{OpensAndReads, ReachesImage, TellsReach}
+use Rattle.std.proofs.Common.{Vec}
 use Rattle.checkpoint.specs.declared.open_fault.OpenFault.TheVariants as opening
-use Rattle.reach.specs.Reached.{AreSoundObjects}
-use Rattle.jobs.specs.declared.fault.Fault.{Fault}
 use Rattle.jobs.specs.declared.fault.Fault.TheVariants as fault
-use Rattle.jobs.specs.Reaching.{HoldsOfSaved, OpensAndReads, ReachesImage, TellsReach}
 
 -- what was answered is all objects that are saved
 pub objects_read : {D : Type 0} (disk : D → Disk) (device back : D) (answer : Result (Vec Object Global) OpenFault) (objects : Vec Object Global) → answer ≡ Ok objects → OpensAndReads disk device back answer

@@ -1,21 +1,9 @@
 -- What the commands that open an image come to.
-use Rattle.std.proofs.Common.{◌≡◌, ℕ, List, Option, Ok, Err, sym, ap, ◌∙◌, subst}
+use Rattle.jobs.proofs.Names.{◌≡◌, ℕ, List, Option, Ok, Err, sym, ap, ◌∙◌, subst, Appends, Running, Saved, line_of, Disk, Parts, Checkpoint, Looks, View, Power}
+use Rattle.jobs.proofs.Names.{Opens, IsDeviceOf, IsTold, AppendsFront, ChecksImage, checked_text}
 use Rattle.std.specs.Prelude.{None, Some}
-use Rattle.std.specs.Io.KnownBytes.{Appends}
-use Rattle.model.specs.Machine.{Running, Saved}
-use Rattle.model.specs.Text.{line_of}
-use Rattle.device.specs.Disk.{Disk}
-use Rattle.capability.specs.Parts.{Parts}
-use Rattle.checkpoint.specs.declared.committed.Checkpoint.{Checkpoint}
-use Rattle.checkpoint.specs.Opened.{Looks}
-use Rattle.object_store.specs.Store.{View}
-use Rattle.kernel.specs.Power.{Power}
 use Rattle.kernel.specs.Power as power
-use Rattle.kernel.specs.Opening.{Opens}
-use Rattle.kernel.specs.Standing.{IsDeviceOf, IsTold}
-use Rattle.script.specs.Writing.{AppendsFront}
 use Rattle.jobs.specs.declared.fault.Fault.TheVariants as fault
-use Rattle.jobs.specs.Images.{ChecksImage, checked_text}
 
 module _ {D S : Type 0} (disk : D → Disk) (view : S → View D) (parts : S → Parts) (device : D) where
   -- nothing was written to the device beneath a kernel that was just opened

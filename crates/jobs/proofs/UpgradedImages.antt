@@ -1,19 +1,10 @@
 -- What the command that upgrades comes to.
-use Rattle.std.proofs.Common.{◌≡◌, ℕ, List, Option, Ok, Err, refl, ap, arith, subst, sym, ◌∙◌}
-use Rattle.std.specs.Prelude.{◌↔◌, IfErr, IsErrOf, OnErr, OnOk, Result}
-use Rattle.std.specs.Io.KnownBytes.{Appends}
-use Rattle.model.specs.Text.{line_of}
-use Rattle.device.specs.Disk.{Disk}
-use Rattle.layout.specs.declared.version.Version.TheVariants.{Two}
+use Rattle.jobs.proofs.Names.{◌≡◌, ℕ, List, Option, Ok, Err, refl, ap, arith, subst, sym, ◌∙◌, ◌↔◌, IfErr, IsErrOf, OnErr, OnOk, Appends, line_of, Disk, Two}
+use Rattle.jobs.proofs.Names.{laid_again, UpgradeFault, IsRefusedAsOld, ReadsAndCloses, Upgrades, AppendsFront, Fault, UpgradesImage, old_failed, upgraded_text}
+use Rattle.std.specs.Prelude.{Result}
 use Rattle.checkpoint.specs.declared.open_fault.OpenFault.TheVariants as opening
-use Rattle.image_writer.specs.Laid.{laid_again}
-use Rattle.image_builder.specs.declared.upgrade_fault.UpgradeFault.{UpgradeFault}
 use Rattle.image_builder.specs.declared.upgrade_fault.UpgradeFault.TheVariants as upgrade
-use Rattle.image_builder.specs.Upgraded.{IsRefusedAsOld, ReadsAndCloses, Upgrades}
-use Rattle.script.specs.Writing.{AppendsFront}
-use Rattle.jobs.specs.declared.fault.Fault.{Fault}
 use Rattle.jobs.specs.declared.fault.Fault.TheVariants as fault
-use Rattle.jobs.specs.Images.{UpgradesImage, old_failed, upgraded_text}
 
 pub upgrade_cause : (why : UpgradeFault) (P : Type 0) → ((let r : Result ℕ UpgradeFault = Err why in IsErrOf r upgrade.Failed) ↔ P) → (why ≡ upgrade.Failed) ↔ P
 upgrade_cause why P caused = (λ is. caused.0 (ap (λ (f : UpgradeFault). Err f) is), λ rose. let is = caused.1 rose in cc)

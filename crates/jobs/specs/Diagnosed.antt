@@ -1,13 +1,6 @@
 -- What is printed of why an image is refused.
-use Rattle.std.specs.Prelude.{◌≡◌, ℕ, List, codes, Option, None, Some, Result, Ok, Err}
-use Rattle.std.specs.Io.KnownBytes.{Appends}
-use Rattle.model.specs.Text.{line_of}
-use Rattle.device.specs.Disk.{Disk}
-use Rattle.checkpoint.specs.declared.open_fault.OpenFault.{OpenFault}
-use Rattle.image_explainer.specs.declared.fault.ImageFault.{ImageFault}
+use Rattle.jobs.specs.Names.{◌≡◌, ℕ, List, codes, Option, None, Some, Result, Ok, Err, Appends, line_of, Disk, OpenFault, ImageFault, fault_text, AppendsFront}
 use Rattle.image_explainer.specs.Explained.{Explains}
-use Rattle.image_explainer.specs.Text.{fault_text}
-use Rattle.script.specs.Writing.{AppendsFront}
 use Rattle.jobs.specs.declared.fault.Fault.{Fault}
 use Rattle.jobs.specs.declared.fault.Fault.TheVariants as fault
 

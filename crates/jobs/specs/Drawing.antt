@@ -1,17 +1,7 @@
 -- What the command that draws says of an image.
-use Rattle.std.specs.Prelude.{◌≡◌, ℕ, Bool, true, false, Option, None, Some, List, [], ◌∷◌, Result, Ok, Err}
-use Rattle.std.specs.Io.KnownBytes.{Appends}
-use Rattle.model.specs.declared.object.Object.{Object}
-use Rattle.model.specs.World.{is_process}
-use Rattle.device.specs.Disk.{Disk}
-use Rattle.checkpoint.specs.declared.open_fault.OpenFault.{OpenFault}
+use Rattle.jobs.specs.Names.{◌≡◌, ℕ, Bool, true, false, Option, None, Some, List, [], ◌∷◌, Result, Ok, Err, Appends, Object, is_process, Disk, OpenFault}
+use Rattle.jobs.specs.Names.{RefusesToOpen, AppendsFront, Description, boxes, graph_text, IsPart, holders, is_listed, IsReach}
 use Rattle.checkpoint.specs.declared.open_fault.OpenFault.TheVariants as opening
-use Rattle.recovery.specs.Recovered.{RefusesToOpen}
-use Rattle.script.specs.Writing.{AppendsFront}
-use Rattle.description.specs.declared.entry.Description.{Description}
-use Rattle.image_drawer.specs.Graph.{boxes, graph_text}
-use Rattle.image_drawer.specs.Part.{IsPart, holders, is_listed}
-use Rattle.reach.specs.Reached.{IsReach}
 use Rattle.jobs.specs.declared.drawing.Focus.{Focus}
 use Rattle.jobs.specs.declared.fault.Fault.{Fault}
 use Rattle.jobs.specs.declared.fault.Fault.TheVariants as fault

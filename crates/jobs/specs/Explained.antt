@@ -1,9 +1,5 @@
 -- The explanation of the description in a text.
-use Rattle.std.specs.Prelude.{◌≡◌, ℕ, Bool, true, false, List, None, Some}
-use Rattle.toml.specs.Data.{Members}
-use Rattle.toml.specs.Parse.{parse_document}
-use Rattle.description_explainer.specs.declared.place.Place.{Place}
-use Rattle.description_explainer.specs.Places.{Explains}
+use Rattle.jobs.specs.Names.{◌≡◌, ℕ, Bool, true, false, List, None, Some, Members, parse_document, Place, Explains}
 
 -- it is that of a description which `build` accepts on a device that is large enough
 abbrev pub IsAcceptedText : List ℕ → Type 0

@@ -1,22 +1,12 @@
 -- The message of a fault, and the exit status of a command.
-use Rattle.std.specs.Prelude.{◌≡◌, ℕ, List, [], ◌∷◌, ◌++◌, codes, decimal, Option, None, Some, Result, Ok, Err}
-use Rattle.layout.specs.declared.bad_image.BadImage.{BadImage}
+use Rattle.jobs.specs.Names.{◌≡◌, ℕ, List, [], ◌∷◌, ◌++◌, codes, decimal, Option, None, Some, Result, Ok, Err, BadImage, OpenFault, line_of, spaced, BuildFault}
+use Rattle.jobs.specs.Names.{UpgradeFault, fault_number, GrowthFault, Stop, cause_text, RunFault, Writes}
 use Rattle.layout.specs.declared.bad_image.BadImage.TheVariants as bad
-use Rattle.checkpoint.specs.declared.open_fault.OpenFault.{OpenFault}
 use Rattle.checkpoint.specs.declared.open_fault.OpenFault.TheVariants as opening
-use Rattle.model.specs.Text.{line_of, spaced}
-use Rattle.image_builder.specs.declared.fault.BuildFault.{BuildFault}
 use Rattle.image_builder.specs.declared.fault.BuildFault.TheVariants as build
-use Rattle.image_builder.specs.declared.upgrade_fault.UpgradeFault.{UpgradeFault}
 use Rattle.image_builder.specs.declared.upgrade_fault.UpgradeFault.TheVariants as upgrade
-use Rattle.image_builder.specs.Built.{fault_number}
-use Rattle.image_describer.specs.declared.sizes.GrowthFault.{GrowthFault}
 use Rattle.image_describer.specs.declared.sizes.GrowthFault.TheVariants as growth
-use Rattle.runs.specs.declared.cause.Stop.{Stop}
-use Rattle.runs.specs.Tracing.{cause_text}
-use Rattle.script.specs.declared.fault.RunFault.{RunFault}
 use Rattle.script.specs.declared.fault.RunFault.TheVariants as run
-use Rattle.script.specs.Writing.{Writes}
 use Rattle.jobs.specs.declared.fault.Fault.{Fault}
 use Rattle.jobs.specs.declared.fault.Fault.TheVariants as fault
 

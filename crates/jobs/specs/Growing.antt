@@ -1,16 +1,7 @@
 -- A description of an image, renumbered for other sizes.
-use Rattle.std.specs.Prelude.{◌≡◌, ℕ, List, Some, Option, Result, Ok, Err}
-use Rattle.std.specs.Io.KnownBytes.{Appends}
-use Rattle.toml.specs.Data.{Members}
-use Rattle.toml.specs.Parse.{parse_document}
-use Rattle.layout.specs.Superblock.{IsGeometry}
+use Rattle.jobs.specs.Names.{◌≡◌, ℕ, List, Some, Option, Result, Ok, Err, Appends, Members, parse_document, IsGeometry, AppendsFront, Description}
+use Rattle.jobs.specs.Names.{IsDescription, Sizes, IsNotRenumbered, IsRenumbered, NamesNodes, NamesPages, grown_geometry, description_text}
 use Rattle.checkpoint.specs.declared.open_fault.OpenFault.TheVariants as opening
-use Rattle.script.specs.Writing.{AppendsFront}
-use Rattle.description.specs.declared.entry.Description.{Description}
-use Rattle.description.specs.Reading.{IsDescription}
-use Rattle.image_describer.specs.declared.sizes.Sizes.{Sizes}
-use Rattle.image_describer.specs.Grown.{IsNotRenumbered, IsRenumbered, NamesNodes, NamesPages, grown_geometry}
-use Rattle.image_describer.specs.Text.{description_text}
 use Rattle.jobs.specs.declared.fault.Fault.{Fault}
 use Rattle.jobs.specs.declared.fault.Fault.TheVariants as fault
 

@@ -1,46 +1,13 @@
 -- What the commands do with images.
-use Rattle.std.specs.Prelude.{◌≡◌, ◌≢◌, ◌↔◌, ◌<◌, ℕ, List, [], ◌∷◌, codes, decimal, Bool, map, Option, Some, Result, Ok, Err}
-use Rattle.std.specs.Io.KnownBytes.{Appends}
-use Rattle.toml.specs.Data.{Members}
-use Rattle.toml.specs.Parse.{parse_document}
-use Rattle.model.specs.declared.frame.Frame.{Frame}
-use Rattle.model.specs.declared.geometry.Geometry.{Geometry}
-use Rattle.model.specs.Keepable.{IsSoundFrames, world_at}
-use Rattle.model.specs.Machine.{Saved}
-use Rattle.model.specs.World.{World}
-use Rattle.model.specs.Run.{Turn}
-use Rattle.model.specs.Text.{line_of, spaced}
-use Rattle.device.specs.Disk.{Disk}
-use Rattle.layout.specs.Image.{Encodes, SavedState}
-use Rattle.layout.specs.Superblock.{Plan, version_number}
-use Rattle.layout.specs.declared.version.Version.TheVariants.{Two}
-use Rattle.checkpoint.specs.Opened.{Looks}
-use Rattle.checkpoint.specs.declared.open_fault.OpenFault.{OpenFault}
+use Rattle.jobs.specs.Names.{◌≡◌, ◌≢◌, ◌↔◌, ◌<◌, ℕ, List, [], ◌∷◌, codes, decimal, Bool, map, Option, Some, Result, Ok, Err, Appends, Members, parse_document}
+use Rattle.jobs.specs.Names.{Frame, Geometry, IsSoundFrames, world_at, Saved, World, Turn, line_of, spaced, Disk, Encodes, SavedState, Plan, version_number}
+use Rattle.jobs.specs.Names.{Two, Looks, OpenFault, laid_again, numbers_of, Parts, View, Power, RefusesToOpen, Opens, Denotes, IsDeviceOf, Description}
+use Rattle.jobs.specs.Names.{IsDescription, BuildsFrom, Refuses, plan_for, GrowthFault, Sizes, Describes, IsBrief, IsGrown, IsUnsuited, grown_geometry}
+use Rattle.jobs.specs.Names.{grown_ranges, description_text, IsNotUpgraded, Upgrades, Stop, RunsOver, RunsSeen, RunFault, AppendsFront}
 use Rattle.checkpoint.specs.declared.open_fault.OpenFault.TheVariants as opening
-use Rattle.image_writer.specs.Laid.{laid_again, numbers_of}
-use Rattle.capability.specs.Parts.{Parts}
-use Rattle.object_store.specs.Store.{View}
-use Rattle.kernel.specs.Power.{Power}
-use Rattle.recovery.specs.Recovered.{RefusesToOpen}
-use Rattle.kernel.specs.Opening.{Opens}
-use Rattle.recovery.specs.Denotes.{Denotes}
-use Rattle.kernel.specs.Standing.{IsDeviceOf}
-use Rattle.description.specs.declared.entry.Description.{Description}
-use Rattle.description.specs.Reading.{IsDescription}
 use Rattle.image_builder.specs.declared.fault.BuildFault.TheVariants as build
 use Rattle.image_builder.specs.declared.upgrade_fault.UpgradeFault.TheVariants as upgrade
-use Rattle.image_builder.specs.Built.{BuildsFrom, Refuses, plan_for}
-use Rattle.image_describer.specs.declared.sizes.GrowthFault.{GrowthFault}
-use Rattle.image_describer.specs.declared.sizes.Sizes.{Sizes}
-use Rattle.image_describer.specs.Describes.{Describes, IsBrief}
-use Rattle.image_describer.specs.Grown.{IsGrown, IsUnsuited, grown_geometry, grown_ranges}
-use Rattle.image_describer.specs.Text.{description_text}
-use Rattle.image_builder.specs.Upgraded.{IsNotUpgraded, Upgrades}
-use Rattle.runs.specs.declared.cause.Stop.{Stop}
-use Rattle.runs.specs.KernelRuns.{RunsOver, RunsSeen}
-use Rattle.script.specs.declared.fault.RunFault.{RunFault}
 use Rattle.script.specs.declared.fault.RunFault.TheVariants as run
-use Rattle.script.specs.Writing.{AppendsFront}
 use Rattle.jobs.specs.declared.fault.Fault.{Fault}
 use Rattle.jobs.specs.declared.fault.Fault.TheVariants as fault
 use Rattle.jobs.specs.Faults.{IsRunEnd}

@@ -1,28 +1,8 @@
 -- What is printed about an image.
-use Rattle.std.specs.Prelude.{◌≡◌, ℕ, ◌==◌, Bool, List, [], ◌∷◌, ◌++◌, codes, decimal, map, Option, Result, Ok, Err, Vec}
-use Rattle.std.specs.declared.alloc.Global.{Global}
-use Rattle.std.specs.Io.KnownBytes.{Appends}
-use Rattle.std.specs.List.{count_by, flat_map}
-use Rattle.model.specs.declared.capability.Cap.{Cap}
-use Rattle.model.specs.declared.object.Content.{Content}
-use Rattle.model.specs.declared.object.Role.{Role}
+use Rattle.jobs.specs.Names.{◌≡◌, ℕ, ◌==◌, Bool, List, [], ◌∷◌, ◌++◌, codes, decimal, map, Option, Result, Ok, Err, Vec, Global, Appends, count_by, flat_map}
+use Rattle.jobs.specs.Names.{Cap, Content, Role, IsSoundFrames, Saved, role_number, role_of, line_of, spaced, World, Disk, HomeRange, Encodes, SavedState, Plan}
+use Rattle.jobs.specs.Names.{version_number, Checkpoint, OpenFault, Looks, kept_of, saved_of, RefusesToOpen, AppendsFront}
 use Rattle.model.specs.declared.object.Role.TheVariants as role
-use Rattle.model.specs.Keepable.{IsSoundFrames}
-use Rattle.model.specs.Machine.{Saved}
-use Rattle.model.specs.Object.{role_number, role_of}
-use Rattle.model.specs.Text.{line_of, spaced}
-use Rattle.model.specs.World.{World}
-use Rattle.device.specs.Disk.{Disk}
-use Rattle.layout.specs.declared.extent.HomeRange.{HomeRange}
-use Rattle.layout.specs.Image.{Encodes, SavedState}
-use Rattle.layout.specs.Superblock.{Plan, version_number}
-use Rattle.checkpoint.specs.declared.committed.Checkpoint.{Checkpoint}
-use Rattle.checkpoint.specs.declared.open_fault.OpenFault.{OpenFault}
-use Rattle.checkpoint.specs.Opened.{Looks}
-use Rattle.checkpoint.specs.Saved.{kept_of}
-use Rattle.recovery.specs.Denotes.{saved_of}
-use Rattle.recovery.specs.Recovered.{RefusesToOpen}
-use Rattle.script.specs.Writing.{AppendsFront}
 use Rattle.jobs.specs.declared.fault.Fault.{Fault}
 use Rattle.jobs.specs.declared.fault.Fault.TheVariants as fault
 use Rattle.jobs.specs.declared.info.InfoLine.{InfoLine}

@@ -1,24 +1,7 @@
 -- What is built can be run.
-use Rattle.std.specs.Prelude.{◌≡◌, ℕ, ◌≤◌, List, Some}
-use Rattle.toml.specs.Data.{Members}
-use Rattle.toml.specs.Parse.{parse_document}
-use Rattle.model.specs.declared.frame.Frame.{Frame}
-use Rattle.model.specs.declared.geometry.Geometry.{Geometry}
-use Rattle.model.specs.Keepable.{IsSoundFrames, world_at}
-use Rattle.model.specs.Machine.{Saved}
-use Rattle.model.specs.World.{World}
-use Rattle.device.specs.Disk.{Image}
-use Rattle.layout.specs.declared.version.Version.{Version}
-use Rattle.layout.specs.Superblock.{Plan, version_number}
-use Rattle.checkpoint.specs.Saved.{Holds, SavedFrames}
-use Rattle.image_writer.specs.Laid.{MayBeLaid}
-use Rattle.image_writer.specs.Written.{first_saved}
-use Rattle.recovery.specs.Denotes.{Denotes}
-use Rattle.description.specs.declared.entry.Description.{Description}
-use Rattle.description.specs.Reading.{IsDescription}
-use Rattle.image_builder.specs.Built.{IsAccepted, IsSavedOf, plan_for}
-use Rattle.image_describer.specs.Describes.{Describes}
-use Rattle.image_describer.specs.Grown.{IsGrown}
+use Rattle.jobs.specs.Names.{◌≡◌, ℕ, ◌≤◌, List, Some, Members, parse_document, Frame, Geometry, IsSoundFrames, world_at, Saved, World, Image, Version, Plan}
+use Rattle.jobs.specs.Names.{version_number, Holds, SavedFrames, MayBeLaid, first_saved, Denotes, Description, IsDescription, IsAccepted, IsSavedOf, plan_for}
+use Rattle.jobs.specs.Names.{Describes, IsGrown}
 use Rattle.jobs.specs.Images.{IsTextIn, IsTextOf}
 
 -- what holds the frames of a built image denotes the world that they stand for, of generation 0 and with nothing in the

@@ -1,3 +1,4 @@
+pub mod Names
 pub mod Diagnosed
 pub mod Drawing
 pub mod Explained

@@ -1,25 +1,8 @@
 -- What the command says of the objects that some processes can ever change.
-use Rattle.std.specs.Prelude.{◌≡◌, ℕ, Bool, not, Option, None, Some, List, Vec, Result, Ok, Err, IsTrue, is_some}
-use Rattle.std.specs.Io.KnownBytes.{Appends}
-use Rattle.std.specs.List.{All, find}
-use Rattle.std.specs.declared.alloc.Global.{Global}
-use Rattle.number_set.specs.Marks.{is_marked}
-use Rattle.model.specs.declared.object.Object.{Object}
-use Rattle.model.specs.Frame.{objects_of}
-use Rattle.model.specs.Keepable.{IsSoundFrames}
-use Rattle.model.specs.World.{is_process}
-use Rattle.device.specs.Disk.{Disk}
-use Rattle.layout.specs.Image.{Encodes, SavedState}
-use Rattle.checkpoint.specs.Opened.{Looks}
-use Rattle.checkpoint.specs.declared.open_fault.OpenFault.{OpenFault}
+use Rattle.jobs.specs.Names.{◌≡◌, ℕ, Bool, not, Option, None, Some, List, Vec, Result, Ok, Err, IsTrue, is_some, Appends, All, find, Global, is_marked, Object}
+use Rattle.jobs.specs.Names.{objects_of, IsSoundFrames, is_process, Disk, Encodes, SavedState, Looks, OpenFault, RefusesToOpen, AppendsFront, Step}
+use Rattle.jobs.specs.Names.{IsShortestIfAny, chain_text, reach_text, BoundsRuns, IsReach}
 use Rattle.checkpoint.specs.declared.open_fault.OpenFault.TheVariants as opening
-use Rattle.recovery.specs.Recovered.{RefusesToOpen}
-use Rattle.script.specs.Writing.{AppendsFront}
-use Rattle.reach.specs.declared.step.Step.{Step}
-use Rattle.reach.specs.Chain.{IsShortestIfAny}
-use Rattle.reach.specs.ChainLines.{chain_text}
-use Rattle.reach.specs.Lines.{reach_text}
-use Rattle.reach.specs.Reached.{BoundsRuns, IsReach}
 use Rattle.jobs.specs.declared.fault.Fault.{Fault}
 use Rattle.jobs.specs.declared.fault.Fault.TheVariants as fault
 

@@ -1,11 +1,6 @@
 -- What a shell tells beside the answers.
-use Rattle.std.specs.Prelude.{◌≡◌, ℕ, ◌||◌, Bool, true, false, List, length, codes, Option, Result}
-use Rattle.model.specs.Text.{line_of}
-use Rattle.runs.specs.declared.script_pieces.Piece.{Piece}
+use Rattle.jobs.specs.Names.{◌≡◌, ℕ, ◌||◌, Bool, true, false, List, length, codes, Option, Result, line_of, Piece, Unsaved, RunFault, Writes}
 use Rattle.runs.specs.declared.script_pieces.Piece.TheVariants as piece
-use Rattle.runs.specs.declared.unsaved.Unsaved.{Unsaved}
-use Rattle.script.specs.declared.fault.RunFault.{RunFault}
-use Rattle.script.specs.Writing.{Writes}
 
 abbrev pub unsaved_text : List ℕ
 unsaved_text = codes "eros: some invocations or stores are not committed"

@@ -1,39 +1,20 @@
 -- How a command ends: refused, carried out, or in a failure of the device.
-use Rattle.std.specs.Prelude.{IsErrAnd}
-use Rattle.std.proofs.Common.{◌≡◌, ◌↔◌, ◌⊎◌, inl, inr, ℕ, ◌+◌, ◌-◌, ◌^◌, ◌<◌, ◌≤◌, Bool, Option, None, Some, Result, Ok, Err, List, [], ◌∷◌, length, refl, sym, ap, ◌∙◌, subst, arith}
-use Rattle.model.specs.declared.answer.Answer.{Answer}
+use Rattle.kernel.proofs.Names.{IsErrAnd, ◌≡◌, ◌↔◌, ◌⊎◌, inl, inr, ℕ, ◌+◌, ◌-◌, ◌^◌, ◌<◌, ◌≤◌, Bool, Option, None, Some, Result, Ok, Err, List, [], ◌∷◌, length}
+use Rattle.kernel.proofs.Names.{refl, sym, ap, ◌∙◌, subst, arith, Answer, Refusal, Command, Frame, Geometry, objects_of, AreKeepable, IsSoundFrames, world_at}
+use Rattle.kernel.proofs.Names.{Frozen, Running, Saved, Up, touched_count, untouched, Step, moved, refusal_of, second, Failed, Image, Disk, CheckpointFault}
+use Rattle.kernel.proofs.Names.{IsCommitAnswer, IsFreezeAnswer, IsRefused, Holds, LeavesSaved, LeavesEither, Parts, frames_of, objects_in, keepable_count}
+use Rattle.kernel.proofs.Names.{Aside, FrozenFrames, IsStabilizeAnswer, Leads, MayCommit, View, freezing, left_in, moved_saved, next_saved, stabilized}
+use Rattle.kernel.proofs.Names.{AreCounted, BanksState, Performs, answer_of, Live, saved_of, LeavesOne, AreSoundTogether, IsUp, base_of, disk_at, frozen_of}
+use Rattle.kernel.proofs.Names.{renewed_since, running, running_of, IsCaused, ServesUp, leaves_saved, base_frozen, none_renewed}
+use Rattle.kernel.specs.Standing.{refusal_by}
 use Rattle.model.specs.declared.answer.Answer.TheVariants as answer
-use Rattle.model.specs.declared.answer.Refusal.{Refusal}
 use Rattle.model.specs.declared.answer.Refusal.TheVariants as refusal
-use Rattle.model.specs.declared.command.Command.{Command}
 use Rattle.model.specs.declared.command.Command.TheVariants as command
-use Rattle.model.specs.declared.frame.Frame.{Frame}
-use Rattle.model.specs.declared.geometry.Geometry.{Geometry}
-use Rattle.model.specs.Frame.{objects_of}
-use Rattle.model.specs.Keepable.{AreKeepable, IsSoundFrames, world_at}
-use Rattle.model.specs.Machine.{Frozen, Running, Saved, Up, touched_count, untouched}
-use Rattle.model.specs.Step.{Step, moved, refusal_of, second}
-use Rattle.device.specs.declared.device.Failed.{Failed}
-use Rattle.device.specs.Disk.{Image, Disk}
-use Rattle.checkpoint.specs.declared.checkpoint_fault.CheckpointFault.{CheckpointFault}
 use Rattle.checkpoint.specs.declared.checkpoint_fault.CheckpointFault.TheVariants as fault
-use Rattle.checkpoint.specs.Refused.{IsCommitAnswer, IsFreezeAnswer, IsRefused}
-use Rattle.checkpoint.specs.Saved.{Holds, LeavesSaved, LeavesEither}
-use Rattle.capability.specs.Parts.{Parts, frames_of, objects_in}
-use Rattle.capability.proofs.Keeping.{keepable_count}
-use Rattle.object_store.specs.Store.{Aside, FrozenFrames, IsStabilizeAnswer, Leads, MayCommit, View, freezing, left_in, moved_saved, next_saved, stabilized}
 use Rattle.object_store.specs.Store as store
-use Rattle.space_bank.specs.Banks.{AreCounted, BanksState}
-use Rattle.kernel.specs.Machine.{Performs, answer_of}
 use Rattle.kernel.proofs.Performing.{AreSame}
 use Rattle.kernel.proofs.ProcessSteps.{refused_step}
-use Rattle.recovery.specs.declared.live.Live.{Live}
-use Rattle.recovery.specs.Denotes.{saved_of, LeavesOne}
-use Rattle.recovery.specs.Live.{AreSoundTogether, IsUp, base_of, disk_at, frozen_of, renewed_since, running, running_of}
-use Rattle.kernel.specs.Standing.{IsCaused, ServesUp, refusal_by}
-use Rattle.recovery.proofs.Denoted.{leaves_saved}
 use Rattle.kernel.proofs.Crashes.{leaves_along, leaves_either, leaves_here, leaves_home}
-use Rattle.recovery.proofs.Renewed.{base_frozen, none_renewed}
 use Rattle.kernel.proofs.Renewed.{base_moved, renewed_on}
 use Rattle.kernel.proofs.Stages.{acts_sound, begun_sound, committed_sound, frames_again, frozen_none, frozen_some, moved_sound, next_sound, none_there, same_running, saved_moved, some_left, some_there, stabilized_sound, stays_sound}
 use Rattle.kernel.proofs.Steps.{checkpoint_step, commit_step, evict_refused, evict_step, migrate_step, none_to_commit, none_to_stabilize, not_home, not_stable, running_already, second_of_commit, stabilize_step}

@@ -1,21 +1,8 @@
 -- Result codes beside answers.
-use Rattle.std.proofs.Common.{◌≡◌, None, Result, Ok, Err, refl, sym, ap, ◌∙◌}
-use Rattle.std.specs.Prelude.{IfOk}
-use Rattle.model.specs.declared.answer.Answer.{Answer}
-use Rattle.model.specs.declared.command.Command.{Command}
+use Rattle.kernel.proofs.Names.{◌≡◌, None, Result, Ok, Err, refl, sym, ap, ◌∙◌, IfOk, Answer, Command, Invocation, Geometry, Down, Machine, Running, Up, Failed}
+use Rattle.kernel.proofs.Names.{Disk, Parts, objects_in, View, Served, code_with, Live, HasCode, Stands, told_code}
 use Rattle.model.specs.declared.command.Command.TheVariants as command
-use Rattle.model.specs.declared.command.Invocation.{Invocation}
-use Rattle.model.specs.declared.geometry.Geometry.{Geometry}
-use Rattle.model.specs.Machine.{Down, Machine, Running, Up}
-use Rattle.device.specs.declared.device.Failed.{Failed}
-use Rattle.device.specs.Disk.{Disk}
-use Rattle.capability.specs.Parts.{Parts, objects_in}
-use Rattle.object_store.specs.Store.{View}
-use Rattle.kernel.specs.declared.processes.served.Served.{Served}
-use Rattle.kernel.specs.Machine.{code_with}
-use Rattle.recovery.specs.declared.live.Live.{Live}
 use Rattle.kernel.specs.Power as power
-use Rattle.kernel.specs.Standing.{HasCode, Stands, told_code}
 
 -- a command that isn't an invocation has none
 pub other_code : (g : Geometry) (m : Machine) (c : Command) (a : Answer) → ((i : Invocation) → c ≡ command.Invoke i → ⊥) → told_code g m c a ≡ None

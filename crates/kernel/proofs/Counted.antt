@@ -1,15 +1,6 @@
 -- What is counted of banks, after a store into a page.
-use Rattle.std.proofs.Common.{◌≡◌, ℕ, List, Result, Ok, Err, sym, subst}
-use Rattle.model.specs.declared.answer.MemoryFault.{MemoryFault}
-use Rattle.model.specs.declared.geometry.Geometry.{Geometry}
-use Rattle.model.specs.declared.object.Object.{Object}
-use Rattle.model.specs.World.{with_word}
-use Rattle.model_laws.proofs.InvocationFrame.{word_frame}
-use Rattle.capability.specs.Parts.{Parts, objects_in}
-use Rattle.space_bank.specs.Banks.{AreCounted, BanksState}
-use Rattle.address_space.specs.References.{IsStored}
-use Rattle.gate.proofs.BankStates.{counted_looked, counted_on}
-use Rattle.gate.proofs.Standing.{LooksAs}
+use Rattle.kernel.proofs.Names.{◌≡◌, ℕ, List, Result, Ok, Err, sym, subst, MemoryFault, Geometry, Object, with_word, word_frame, Parts, objects_in, AreCounted}
+use Rattle.kernel.proofs.Names.{BanksState, IsStored, counted_looked, counted_on, LooksAs}
 
 abbrev IsCountedAt : Parts → BanksState → Type 0
 IsCountedAt p s = AreCounted p.geometry (objects_in p) s

@@ -1,16 +1,7 @@
 -- What a crash leaves, in terms of saved parts.
-use Rattle.std.proofs.Common.{◌≡◌, ◌⊎◌, ℕ, ◌-◌, Bool, true, false, List, [], ◌∷◌, ◌++◌, refl, sym, ap, subst, ⊎_elim, inl, inr, arith}
-use Rattle.std.specs.Prelude.{◌==◌, if◌then◌else◌}
-use Rattle.std.proofs.lemmas.Bool.Decides.{nat_tests}
-use Rattle.model.specs.declared.geometry.Geometry.{Geometry}
-use Rattle.model.specs.Machine.{Saved}
-use Rattle.model.specs.Step.{at_home}
-use Rattle.device.specs.Disk.{Image, Disk}
-use Rattle.device.proofs.Moments.{CountsNow, OnlyNow, ends, leaves_weaker, started}
-use Rattle.checkpoint.specs.Saved.{SavedFrames, Holds, LeavesSaved, LeavesEither, home_saved}
-use Rattle.object_store.specs.Store.{Aside, moved_saved}
-use Rattle.recovery.proofs.Denoted.{denoted_by}
-use Rattle.recovery.specs.Denotes.{saved_of, IsSoundSaved, DenotesOne, Leaves, LeavesOne}
+use Rattle.kernel.proofs.Names.{◌≡◌, ◌⊎◌, ℕ, ◌-◌, Bool, true, false, List, [], ◌∷◌, ◌++◌, refl, sym, ap, subst, ⊎_elim, inl, inr, arith, ◌==◌, if◌then◌else◌}
+use Rattle.kernel.proofs.Names.{nat_tests, Geometry, Saved, at_home, Image, Disk, CountsNow, OnlyNow, ends, leaves_weaker, started, SavedFrames, Holds}
+use Rattle.kernel.proofs.Names.{LeavesSaved, LeavesEither, home_saved, Aside, moved_saved, denoted_by, saved_of, IsSoundSaved, DenotesOne, Leaves, LeavesOne}
 
 -- one of the first is one of all
 pub among : (g : Geometry) (size : ℕ) (c : Image) (ss ts : List Saved) → DenotesOne g size ss c → DenotesOne g size (ss ++ ts) c

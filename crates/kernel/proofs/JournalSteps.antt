@@ -1,49 +1,22 @@
 -- A page is journaled: the machine after it, and what a crash leaves.
-use Rattle.std.proofs.Common.{◌≡◌, inl, inr, ℕ, ◌+◌, ◌^◌, ◌<◌, ◌≤◌, ◌==◌, Bool, true, false, not, ◌&&◌, Option, None, Some, List, [], ◌∷◌, map, length, set, length-set, refl, sym, ap, ◌∙◌, subst, arith}
-use Rattle.std.specs.Prelude.{if◌then◌else◌, nat_lt, slice_index_or}
-use Rattle.std.specs.List.{All, range_with_len}
-use Rattle.std.proofs.Math.ListN.{get_or-map}
-use Rattle.std.proofs.Math.Seq.{map-set_same}
-use Rattle.std.proofs.lemmas.Bool.{cases_lt}
-use Rattle.std.proofs.lemmas.Bool.Decides.{nat_tests}
-use Rattle.std.proofs.lemmas.List.{get_or_past, map-set}
-use Rattle.std.proofs.lemmas.List.Elements.{All-nil}
+use Rattle.kernel.proofs.Names.{◌≡◌, inl, inr, ℕ, ◌+◌, ◌^◌, ◌<◌, ◌≤◌, Bool, true, false, not, ◌&&◌, Option, None, Some, List, [], ◌∷◌, map, length, set}
+use Rattle.kernel.proofs.Names.{length-set, refl, sym, ap, ◌∙◌, subst, arith, if◌then◌else◌, nat_lt, slice_index_or, All, range_with_len, get_or-map}
+use Rattle.kernel.proofs.Names.{map-set_same, cases_lt, nat_tests, get_or_past, map-set, All-nil, Refusal, NotPage, Renewed, Cap, Capability, Frame}
+use Rattle.kernel.proofs.Names.{ObjectHeader, Geometry, Content, Object, Role, blank_frame, conveyed, frame_at, header_at, headers, held_at, object_of}
+use Rattle.kernel.proofs.Names.{objects_of, AreCurrent, AreKeepable, AreKeptWords, IsCurrent, IsKeepable, IsSoundFrames, MayBeKept, caps_in, Frozen, Running}
+use Rattle.kernel.proofs.Names.{Saved, Up, is_page, map_content, role_of, words_in, IsOfKind, IsSound, object_count, Step, carried_out, refusal_of, second}
+use Rattle.kernel.proofs.Names.{unjournaled, unless, World, content_at, owner_at, with_content, journal_keeps_sound, journaled_saved, with_words, SavedFrames}
+use Rattle.kernel.proofs.Names.{maps_same, Parts, frames_of, objects_in, at_set, frame_in, keepable_count, is_page_now, is_page_role, is_still_saved}
+use Rattle.kernel.proofs.Names.{aside_after_journal, next_journaled, words_now, Aside, BanksState, saved_of, IsSoundSaved, AreSoundTogether, base_of}
+use Rattle.kernel.proofs.Names.{renewed_since, running_of, allocations_at, base_saved, renewed_at}
+use Rattle.std.proofs.Common.{◌==◌}
 use Rattle.model.specs.declared.answer.Answer.TheVariants as answer
-use Rattle.model.specs.declared.answer.Refusal.{Refusal}
 use Rattle.model.specs.declared.answer.Refusal.TheVariants as refusal
-use Rattle.model.specs.declared.answer.Unjournaled.TheVariants.{NotPage, Renewed}
-use Rattle.model.specs.declared.capability.Cap.{Cap}
-use Rattle.model.specs.declared.capability.Capability.{Capability}
 use Rattle.model.specs.declared.command.Command.TheVariants as command
-use Rattle.model.specs.declared.frame.Frame.{Frame}
-use Rattle.model.specs.declared.frame.ObjectHeader.{ObjectHeader}
-use Rattle.model.specs.declared.geometry.Geometry.{Geometry}
-use Rattle.model.specs.declared.object.Content.{Content}
 use Rattle.model.specs.declared.object.Content.TheVariants as content
-use Rattle.model.specs.declared.object.Object.{Object}
-use Rattle.model.specs.declared.object.Role.{Role}
 use Rattle.model.specs.declared.object.Role.TheVariants as role
-use Rattle.model.specs.Frame.{blank_frame, conveyed, frame_at, header_at, headers, held_at, object_of, objects_of}
-use Rattle.model.specs.Keepable.{AreCurrent, AreKeepable, AreKeptWords, IsCurrent, IsKeepable, IsSoundFrames, MayBeKept, caps_in}
-use Rattle.model.specs.Machine.{Frozen, Running, Saved, Up}
-use Rattle.model.specs.Object.{is_page, map_content, role_of, words_in}
-use Rattle.model.specs.Sound.{IsOfKind, IsSound, object_count}
-use Rattle.model.specs.Step.{Step, carried_out, refusal_of, second, unjournaled, unless}
 use Rattle.model.specs.Step as machine
-use Rattle.model.specs.World.{World, content_at, owner_at, with_content}
-use Rattle.model_laws.proofs.Journaling.{journal_keeps_sound}
-use Rattle.checkpoint.specs.Saved.{journaled_saved, with_words, SavedFrames}
-use Rattle.checkpoint.proofs.Lists.{maps_same}
-use Rattle.capability.specs.Parts.{Parts, frames_of, objects_in}
-use Rattle.capability.proofs.Frames.{at_set, frame_in}
-use Rattle.capability.proofs.Keeping.{keepable_count}
-use Rattle.object_store.specs.Journal.{is_page_now, is_page_role, is_still_saved, aside_after_journal, next_journaled, words_now}
-use Rattle.object_store.specs.Store.{Aside}
-use Rattle.space_bank.specs.Banks.{BanksState}
 use Rattle.kernel.proofs.ProcessSteps.{done_step}
-use Rattle.recovery.specs.Denotes.{saved_of, IsSoundSaved}
-use Rattle.recovery.specs.Live.{AreSoundTogether, base_of, renewed_since, running_of}
-use Rattle.recovery.proofs.Renewed.{allocations_at, base_saved, renewed_at}
 use Rattle.kernel.proofs.Renewed.{header_in}
 use Rattle.kernel.proofs.Stages.{frames_later}
 

@@ -1,33 +1,16 @@
 -- How the journaling of a page ends: refused, done, or in a failure of the device.
-use Rattle.std.proofs.Common.{◌≡◌, ◌⊎◌, inl, inr, ℕ, ◌+◌, ◌^◌, ◌<◌, ◌≤◌, Bool, true, false, Option, None, Some, Ok, Err, List, [], ◌∷◌, length, refl, sym, ap, ◌∙◌, subst, arith}
-use Rattle.std.specs.Prelude.{if◌then◌else◌, nat_lt, IsErrOf}
-use Rattle.std.proofs.lemmas.Bool.Decides.{nat_tests}
+use Rattle.kernel.proofs.Names.{◌≡◌, ◌⊎◌, inl, inr, ℕ, ◌+◌, ◌^◌, ◌<◌, ◌≤◌, Bool, true, false, Option, None, Some, Ok, Err, List, [], ◌∷◌, length, refl, sym, ap}
+use Rattle.kernel.proofs.Names.{◌∙◌, subst, arith, if◌then◌else◌, nat_lt, IsErrOf, nat_tests, Refusal, NotPage, Renewed, Geometry, Running, Saved, Up, Step}
+use Rattle.kernel.proofs.Names.{second, World, Image, Disk, journaled_saved, SavedFrames, Holds, LeavesOneOf, Parts, keepable_count, JournalFault}
+use Rattle.kernel.proofs.Names.{IsJournalAnswer, IsTurnedAway, is_page_now, is_still_saved, aside_after_journal, next_journaled, words_now, Aside, View}
+use Rattle.kernel.proofs.Names.{left_in, IsUnlooked, Live, saved_of, LeavesOne, unjournaled_by, IsUp, disk_at, running, IsCaused, ServesUp}
 use Rattle.model.specs.declared.answer.Answer.TheVariants as answer
-use Rattle.model.specs.declared.answer.Refusal.{Refusal}
 use Rattle.model.specs.declared.answer.Refusal.TheVariants as refusal
-use Rattle.model.specs.declared.answer.Unjournaled.TheVariants.{NotPage, Renewed}
 use Rattle.model.specs.declared.command.Command.TheVariants as command
-use Rattle.model.specs.declared.geometry.Geometry.{Geometry}
-use Rattle.model.specs.Machine.{Running, Saved, Up}
-use Rattle.model.specs.Step.{Step, second}
 use Rattle.model.specs.Step as machine
-use Rattle.model.specs.World.{World}
-use Rattle.device.specs.Disk.{Image, Disk}
-use Rattle.checkpoint.specs.Saved.{journaled_saved, SavedFrames, Holds, LeavesOneOf}
-use Rattle.capability.specs.Parts.{Parts}
-use Rattle.capability.proofs.Keeping.{keepable_count}
-use Rattle.object_store.specs.declared.journal_fault.JournalFault.{JournalFault}
 use Rattle.object_store.specs.declared.journal_fault.JournalFault.TheVariants as fault
-use Rattle.object_store.specs.Journal.{IsJournalAnswer, IsTurnedAway, is_page_now, is_still_saved, aside_after_journal, next_journaled, words_now}
-use Rattle.object_store.specs.Store.{Aside, View, left_in}
-use Rattle.kernel.specs.Machine.{IsUnlooked}
 use Rattle.kernel.proofs.Performing.{AreSame}
 use Rattle.kernel.proofs.ProcessSteps.{refused_step}
-use Rattle.recovery.specs.declared.live.Live.{Live}
-use Rattle.recovery.specs.Denotes.{saved_of, LeavesOne}
-use Rattle.kernel.specs.Journal.{unjournaled_by}
-use Rattle.recovery.specs.Live.{IsUp, disk_at, running}
-use Rattle.kernel.specs.Standing.{IsCaused, ServesUp}
 use Rattle.kernel.proofs.Acts.{failed, is_up, refused, refused_again, with_store}
 use Rattle.kernel.proofs.Crashes.{leaves_along, leaves_either}
 use Rattle.kernel.proofs.JournalSteps.{journal_no_page, journal_pending, journal_renewed, journal_running, journal_step, journal_unknown, journal_worn, known_now, next_is, now_is, page_now, running_next, saved_is, saved_next, saved_too, second_of_journal, sound_next, together_next}

@@ -1,3 +1,4 @@
+mod Names
 mod Acts
 mod Codes
 mod Counted

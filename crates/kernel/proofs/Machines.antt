@@ -1,34 +1,17 @@
 -- From a store that serves to a machine that is up or down.
-use Rattle.std.proofs.Common.{append-nil, ◌≡◌, ◌↔◌, ◌⊎◌, ℕ, zero, suc, ◌<◌, ◌≤◌, Option, Some, List, [], ◌∷◌, ◌++◌, length, refl, sym, ap, ◌∙◌, subst, inl, inr, arith}
-use Rattle.std.specs.Prelude.{slice_index_or}
-use Rattle.std.specs.List.{Contains}
-use Rattle.model.specs.declared.answer.Answer.{Answer}
+use Rattle.kernel.proofs.Names.{append-nil, ◌≡◌, ◌↔◌, ◌⊎◌, ℕ, zero, suc, ◌<◌, ◌≤◌, Option, Some, List, [], ◌∷◌, ◌++◌, length, refl, sym, ap, ◌∙◌, subst, inl}
+use Rattle.kernel.proofs.Names.{inr, arith, slice_index_or, Contains, Answer, Command, Geometry, Machine, Running, Saved, Up, Down, candidates, opened, Reopens}
+use Rattle.kernel.proofs.Names.{Step, carried_out, refusal_of, second, Only, Disk, Elapses, LeavesOnly, agrees_is, CountsNow, OnlyNow, goes_on_cut, leaves_on}
+use Rattle.kernel.proofs.Names.{leaves_weaker, started, OpenFault, Parts, View, Live, Power, power_of, saved_of, DenotesOne, Leaves, LeavesOne, RefusesToOpen}
+use Rattle.kernel.proofs.Names.{Recovers, IsNoReason, IsSomeDown, Opens, ReopensAs, Reopened, IsSomeUp, IsUp, running, IsCaused, IsDeviceOf, IsSomeMachine}
+use Rattle.kernel.proofs.Names.{Serves, ServesFrom, ServesUp, Stands, disk_of, one_denoted, one_not_bad}
+use Rattle.kernel.specs.Opening.{refused_by}
 use Rattle.model.specs.declared.answer.Answer.TheVariants as answer
 use Rattle.model.specs.declared.answer.Refusal.TheVariants as refusal
-use Rattle.model.specs.declared.command.Command.{Command}
 use Rattle.model.specs.declared.command.Command.TheVariants as command
-use Rattle.model.specs.declared.geometry.Geometry.{Geometry}
-use Rattle.model.specs.Machine.{Machine, Running, Saved, Up, Down, candidates, opened}
-use Rattle.model.specs.Step.{Reopens, Step, carried_out, refusal_of, second}
-use Rattle.device.specs.Calls.{Only}
-use Rattle.device.specs.Disk.{Disk}
-use Rattle.device.specs.Moments.{Elapses, LeavesOnly}
-use Rattle.device.proofs.Images.{agrees_is}
-use Rattle.device.proofs.Moments.{CountsNow, OnlyNow, goes_on_cut, leaves_on, leaves_weaker, started}
-use Rattle.checkpoint.specs.declared.open_fault.OpenFault.{OpenFault}
 use Rattle.checkpoint.specs.declared.open_fault.OpenFault.TheVariants as fault
-use Rattle.capability.specs.Parts.{Parts}
-use Rattle.object_store.specs.Store.{View}
-use Rattle.recovery.specs.declared.live.Live.{Live}
-use Rattle.kernel.specs.Power.{Power, power_of}
 use Rattle.kernel.specs.Power as power
-use Rattle.recovery.specs.Denotes.{saved_of, DenotesOne, Leaves, LeavesOne}
-use Rattle.recovery.specs.Recovered.{RefusesToOpen, Recovers}
-use Rattle.kernel.specs.Opening.{IsNoReason, IsSomeDown, Opens, ReopensAs, Reopened, refused_by}
-use Rattle.recovery.specs.Live.{IsSomeUp, IsUp, running}
-use Rattle.kernel.specs.Standing.{IsCaused, IsDeviceOf, IsSomeMachine, Serves, ServesFrom, ServesUp, Stands, disk_of}
 use Rattle.kernel.proofs.Crashes.{leaves_end, leaves_here, among}
-use Rattle.recovery.proofs.Denoted.{one_denoted, one_not_bad}
 
 -- ---- steps of the machine
 

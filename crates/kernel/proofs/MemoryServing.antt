@@ -1,32 +1,13 @@
 -- What loads and stores come to over present frames, from what each part of them told.
-use Rattle.std.proofs.Common.{◌≡◌, ◌↔◌, ℕ, ◌%◌, ◌<◌, ◌≤◌, Bool, true, List, [], ◌∷◌, Option, None, Some, Result, Ok, Err, refl, sym, ap, ◌∙◌, subst, arith}
-use Rattle.std.specs.Prelude.{IsErrOf}
-use Rattle.model.specs.declared.answer.Answer.{Answer}
+use Rattle.kernel.proofs.Names.{◌≡◌, ◌↔◌, ℕ, ◌%◌, ◌<◌, ◌≤◌, Bool, true, List, [], ◌∷◌, Option, None, Some, Result, Ok, Err, refl, sym, ap, ◌∙◌, subst, arith}
+use Rattle.kernel.proofs.Names.{IsErrOf, Answer, MemoryFault, Refusal, Command, Frame, ObjectHeader, Geometry, Object, header_at, objects_of, IsSoundFrames}
+use Rattle.kernel.proofs.Names.{Frozen, Saved, Machine, touching, touched_count, Step, is_process, is_running_process, with_word, none_in_frame, renewing_none}
+use Rattle.kernel.proofs.Names.{word_frame, SameFrame, frame_refl, tests_at, PrepareFault, IsUnchanged, Looks, LooksUp, Parts, frames_of, objects_in, IsLoaded}
+use Rattle.kernel.proofs.Names.{IsStored, KeepsSound, OverfillsStore, renews_none, IsEarly, Performs, machine_at, renewed_by, refused_by}
 use Rattle.model.specs.declared.answer.Answer.TheVariants as answer
-use Rattle.model.specs.declared.answer.MemoryFault.{MemoryFault}
-use Rattle.model.specs.declared.answer.Refusal.{Refusal}
 use Rattle.model.specs.declared.answer.Refusal.TheVariants as refusal
-use Rattle.model.specs.declared.command.Command.{Command}
 use Rattle.model.specs.declared.command.Command.TheVariants as command
-use Rattle.model.specs.declared.frame.Frame.{Frame}
-use Rattle.model.specs.declared.frame.ObjectHeader.{ObjectHeader}
-use Rattle.model.specs.declared.geometry.Geometry.{Geometry}
-use Rattle.model.specs.declared.object.Object.{Object}
-use Rattle.model.specs.Frame.{header_at, objects_of}
-use Rattle.model.specs.Keepable.{IsSoundFrames}
-use Rattle.model.specs.Machine.{Frozen, Saved, Machine, touching, touched_count}
-use Rattle.model.specs.Step.{Step}
-use Rattle.model.specs.World.{is_process, is_running_process, with_word}
-use Rattle.model_laws.proofs.GivenUp.{none_in_frame, renewing_none}
-use Rattle.model_laws.proofs.InvocationFrame.{word_frame}
-use Rattle.model_laws.proofs.Usage.{SameFrame, frame_refl, tests_at}
-use Rattle.capability.specs.declared.present.PrepareFault.{PrepareFault}
 use Rattle.capability.specs.declared.present.PrepareFault.TheVariants as prepare
-use Rattle.capability.specs.Parts.{IsUnchanged, Looks, LooksUp, Parts, frames_of, objects_in}
-use Rattle.address_space.specs.References.{IsLoaded, IsStored, KeepsSound, OverfillsStore}
-use Rattle.space_bank.proofs.Renewing.{renews_none}
-use Rattle.kernel.specs.Machine.{IsEarly, Performs, machine_at, renewed_by}
-use Rattle.kernel.specs.Prepared.{refused_by}
 use Rattle.kernel.proofs.Performing.{AreSame, refused_serves, same_frames, same_renews, same_sound, serves_looked, standing, still_machine, told_cause, unfailed}
 use Rattle.kernel.proofs.ProcessSteps.{early_fine}
 use Rattle.kernel.proofs.MemorySteps.{load_early, load_step, load_without_memory, loaded_answer, store_early, store_fault_step, store_full_step, store_step, store_without_memory}

@@ -1,21 +1,12 @@
 -- Loads and stores as steps of the machine.
-use Rattle.std.proofs.Common.{◌≡◌, ℕ, ◌%◌, ◌<◌, ◌≤◌, Bool, true, false, not, [], ◌∷◌, Option, None, Some, Result, Ok, Err, refl, sym, ap, ◌∙◌, inr, inl, arith}
-use Rattle.std.specs.Prelude.{◌&&◌, if◌then◌else◌}
-use Rattle.std.proofs.lemmas.Bool.Decides.{nat_tests}
-use Rattle.model.specs.declared.access.Access.{Access}
-use Rattle.model.specs.declared.answer.Answer.{Answer}
+use Rattle.kernel.proofs.Names.{◌≡◌, ℕ, ◌%◌, ◌<◌, ◌≤◌, Bool, true, false, not, [], ◌∷◌, Option, None, Some, Result, Ok, Err, refl, sym, ap, ◌∙◌, inr, inl}
+use Rattle.kernel.proofs.Names.{arith, if◌then◌else◌, nat_tests, Access, Answer, MemoryFault, Refusal, Command, Geometry, Running, Up, Down, candidates}
+use Rattle.kernel.proofs.Names.{touching, touched_count, Step, Outcome, refusal_of, carried_out, of_running, opens, outcome, overfills, gives_way, reached}
+use Rattle.kernel.proofs.Names.{takes_memory, unless, writable, writing, is_process, is_running_process, with_word, word_at, IsLoaded, IsEarly}
+use Rattle.std.specs.Prelude.{◌&&◌}
 use Rattle.model.specs.declared.answer.Answer.TheVariants as answer
-use Rattle.model.specs.declared.answer.MemoryFault.{MemoryFault}
-use Rattle.model.specs.declared.answer.Refusal.{Refusal}
 use Rattle.model.specs.declared.answer.Refusal.TheVariants as refusal
-use Rattle.model.specs.declared.command.Command.{Command}
 use Rattle.model.specs.declared.command.Command.TheVariants as command
-use Rattle.model.specs.declared.geometry.Geometry.{Geometry}
-use Rattle.model.specs.Machine.{Running, Up, Down, candidates, touching, touched_count}
-use Rattle.model.specs.Step.{Step, Outcome, refusal_of, carried_out, of_running, opens, outcome, overfills, gives_way, reached, takes_memory, unless, writable, writing}
-use Rattle.model.specs.World.{is_process, is_running_process, with_word, word_at}
-use Rattle.address_space.specs.References.{IsLoaded}
-use Rattle.kernel.specs.Machine.{IsEarly}
 use Rattle.kernel.proofs.ProcessSteps.{done_step, refused_step}
 
 -- a command of a process that has to run, and the refusal of one that does

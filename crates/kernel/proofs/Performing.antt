@@ -1,37 +1,15 @@
 -- What a command comes to over present frames, from what each part of it told.
-use Rattle.std.proofs.Common.{◌≡◌, ◌↔◌, ℕ, ◌+◌, ◌^◌, ◌<◌, ◌≤◌, Bool, true, false, List, length, Option, Result, Ok, Err, refl, sym, ap, ◌∙◌, subst, ⊎_elim, arith}
-use Rattle.std.proofs.lemmas.Bool.{cases_lt}
-use Rattle.model.specs.declared.answer.Answer.{Answer}
+use Rattle.kernel.proofs.Names.{◌≡◌, ◌↔◌, ℕ, ◌+◌, ◌^◌, ◌<◌, ◌≤◌, Bool, true, false, List, length, Option, Result, Ok, Err, refl, sym, ap, ◌∙◌, subst, ⊎_elim}
+use Rattle.kernel.proofs.Names.{arith, cases_lt, Answer, Refusal, Command, Invocation, Frame, Geometry, Object, ResultCode, ObjectHeader, frames_in, header_at}
+use Rattle.kernel.proofs.Names.{objects_of, IsSoundFrames, world_at, Frozen, Running, Saved, Machine, Up, renewing, touching, touched_count, is_free, Step}
+use Rattle.kernel.proofs.Names.{shown, content_at, is_process, is_running_process, none_given_up, renewing_none, Parts, Renews, frames_of, objects_in}
+use Rattle.kernel.proofs.Names.{keepable_count, IsErr, IsErrOf, PrepareFault, InvokeFault, Invoked, Invokes, KeepsSoundFrames, TellsState, Failed, renews_after}
+use Rattle.kernel.proofs.Names.{renews_none, Performs, machine_at, renewed_by, refusal_by, refused_by}
 use Rattle.model.specs.declared.answer.Answer.TheVariants as answer
-use Rattle.model.specs.declared.answer.Refusal.{Refusal}
 use Rattle.model.specs.declared.answer.Refusal.TheVariants as refusal
-use Rattle.model.specs.declared.command.Command.{Command}
 use Rattle.model.specs.declared.command.Command.TheVariants as command
-use Rattle.model.specs.declared.command.Invocation.{Invocation}
-use Rattle.model.specs.declared.frame.Frame.{Frame}
-use Rattle.model.specs.declared.geometry.Geometry.{Geometry}
-use Rattle.model.specs.declared.object.Object.{Object}
-use Rattle.model.specs.declared.order.ResultCode.{ResultCode}
-use Rattle.model.specs.declared.frame.ObjectHeader.{ObjectHeader}
-use Rattle.model.specs.Frame.{frames_in, header_at, objects_of}
-use Rattle.model.specs.Keepable.{IsSoundFrames, world_at}
-use Rattle.model.specs.Machine.{Frozen, Running, Saved, Machine, Up, renewing, touching, touched_count}
-use Rattle.model.specs.Object.{is_free}
-use Rattle.model.specs.Step.{Step, shown}
-use Rattle.model.specs.World.{content_at, is_process, is_running_process}
-use Rattle.model_laws.proofs.GivenUp.{none_given_up, renewing_none}
-use Rattle.capability.specs.Parts.{Parts, Renews, frames_of, objects_in}
-use Rattle.capability.proofs.Keeping.{keepable_count}
-use Rattle.std.specs.Prelude.{IsErr, IsErrOf}
-use Rattle.capability.specs.declared.present.PrepareFault.{PrepareFault}
 use Rattle.capability.specs.declared.present.PrepareFault.TheVariants as prepare
-use Rattle.gate.specs.declared.fault.InvokeFault.{InvokeFault}
 use Rattle.gate.specs.declared.fault.InvokeFault.TheVariants as fault
-use Rattle.gate.specs.Invoke.{Invoked, Invokes, KeepsSoundFrames, TellsState}
-use Rattle.device.specs.declared.device.Failed.{Failed}
-use Rattle.space_bank.proofs.Renewing.{renews_after, renews_none}
-use Rattle.kernel.specs.Machine.{Performs, machine_at, renewed_by}
-use Rattle.kernel.specs.Prepared.{refusal_by, refused_by}
 use Rattle.kernel.proofs.ProcessSteps.{bad_number_step, early_step, full_step, invoke_step, no_memory_step, show_no_memory, show_step, stalled_step}
 
 -- the same parts but for failures

@@ -1,22 +1,11 @@
 -- Steps of the machine: which refusal applies, and what is carried out.
-use Rattle.std.proofs.Common.{◌≡◌, ℕ, ◌+◌, ◌^◌, ◌<◌, ◌≤◌, Bool, true, false, not, List, Option, None, Some, refl, sym, ap, ◌∙◌, subst, inl, inr, arith}
-use Rattle.std.specs.Prelude.{nat_lt}
-use Rattle.std.proofs.lemmas.Bool.Decides.{nat_tests}
-use Rattle.model.specs.declared.answer.Answer.{Answer}
+use Rattle.kernel.proofs.Names.{◌≡◌, ℕ, ◌+◌, ◌^◌, ◌<◌, ◌≤◌, Bool, true, false, not, List, Option, None, Some, refl, sym, ap, ◌∙◌, subst, inl, inr, arith}
+use Rattle.kernel.proofs.Names.{nat_lt, nat_tests, Answer, Refusal, Command, Invocation, Geometry, Object, Effect, invoke, Running, Machine, Up, renewing}
+use Rattle.kernel.proofs.Names.{touching, touched_count, object_count, Step, Outcome, refusal_of, carried_out, unless, overfills, writing, gives_way, shown}
+use Rattle.kernel.proofs.Names.{is_process, is_running_process, IsEarly}
 use Rattle.model.specs.declared.answer.Answer.TheVariants as answer
-use Rattle.model.specs.declared.answer.Refusal.{Refusal}
 use Rattle.model.specs.declared.answer.Refusal.TheVariants as refusal
-use Rattle.model.specs.declared.command.Command.{Command}
 use Rattle.model.specs.declared.command.Command.TheVariants as command
-use Rattle.model.specs.declared.command.Invocation.{Invocation}
-use Rattle.model.specs.declared.geometry.Geometry.{Geometry}
-use Rattle.model.specs.declared.object.Object.{Object}
-use Rattle.model.specs.Invoke.{Effect, invoke}
-use Rattle.model.specs.Machine.{Running, Machine, Up, renewing, touching, touched_count}
-use Rattle.model.specs.Sound.{object_count}
-use Rattle.model.specs.Step.{Step, Outcome, refusal_of, carried_out, unless, overfills, writing, gives_way, shown}
-use Rattle.model.specs.World.{is_process, is_running_process}
-use Rattle.kernel.specs.Machine.{IsEarly}
 
 -- the answer by the refusal that applies
 abbrev AnswersBy : Geometry → Running → Command → Answer → Machine → Option Refusal → Type 0

@@ -1,24 +1,10 @@
 -- Which numbers were renewed since the last checkpoint or restart, told by counts.
-use Rattle.std.proofs.Common.{◌≡◌, ℕ, ◌+◌, ◌-◌, ◌<◌, ◌≤◌, ◌==◌, ◌||◌, Bool, true, false, not, List, length, map, slice_index_or, refl, sym, ap, ◌∙◌, arith}
-use Rattle.std.specs.Prelude.{if◌then◌else◌}
-use Rattle.std.specs.List.{range_with_len}
-use Rattle.std.proofs.Math.ListN.{get_or-map}
-use Rattle.std.proofs.lemmas.Bool.{ne_eqb}
-use Rattle.std.proofs.lemmas.List.{ext_get_or}
-use Rattle.std.proofs.lemmas.List.FromFn.{get_or-map-range_with_len, length-map-range_with_len}
-use Rattle.model.specs.declared.capability.Cap.{Cap}
-use Rattle.model.specs.declared.frame.Frame.{Frame}
-use Rattle.model.specs.declared.frame.ObjectHeader.{ObjectHeader}
-use Rattle.model.specs.declared.object.Content.{Content}
-use Rattle.model.specs.Frame.{blank_frame, frame_at, frames_in, header_at}
-use Rattle.model.specs.Machine.{renewing}
-use Rattle.model.specs.Revoke.{is_given_up}
-use Rattle.capability.specs.Parts.{Parts, Renews, frames_of, objects_in}
-use Rattle.capability.proofs.Frames.{headers_in}
-use Rattle.checkpoint.specs.Saved.{SavedFrames, home_saved}
-use Rattle.object_store.specs.Store.{Aside, moved, moved_saved}
-use Rattle.recovery.specs.Live.{base_of, renewed_since}
-use Rattle.recovery.proofs.Renewed.{allocations_at, base_by, renewed_at, renewed_length}
+use Rattle.kernel.proofs.Names.{◌≡◌, ℕ, ◌+◌, ◌-◌, ◌<◌, ◌≤◌, ◌||◌, Bool, true, false, not, List, length, map, refl, sym, ap, ◌∙◌, arith, if◌then◌else◌}
+use Rattle.kernel.proofs.Names.{range_with_len, get_or-map, ne_eqb, ext_get_or, get_or-map-range_with_len, length-map-range_with_len, Cap, Frame, ObjectHeader}
+use Rattle.kernel.proofs.Names.{Content, blank_frame, frame_at, frames_in, header_at, renewing, is_given_up, Parts, Renews, frames_of, objects_in, headers_in}
+use Rattle.kernel.proofs.Names.{SavedFrames, home_saved, Aside, moved_saved, base_of, renewed_since, allocations_at, base_by, renewed_at, renewed_length}
+use Rattle.std.proofs.Common.{◌==◌, slice_index_or}
+use Rattle.object_store.specs.Store.{moved}
 
 pub header_in : (hs : List ObjectHeader) (cs : List (Content Cap)) (n : ℕ) → (frame_at (frames_in hs cs) n).header ≡ header_at hs n
 header_in hs cs n = sym (get_or-map (λ (f : Frame). f.header) (frames_in hs cs) n blank_frame) ∙ ap (λ (ks : List ObjectHeader). header_at ks n) (headers_in hs cs)

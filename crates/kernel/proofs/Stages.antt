@@ -1,23 +1,11 @@
 -- What is sound stays sound through each stage of a checkpoint.
-use Rattle.std.proofs.Common.{◌≡◌, ℕ, ◌+◌, ◌-◌, ◌^◌, ◌<◌, ◌≤◌, Bool, true, false, Option, None, Some, List, refl, sym, ap, ◌∙◌, subst, arith}
-use Rattle.std.specs.Prelude.{◌==◌, if◌then◌else◌, option_map}
-use Rattle.model.specs.declared.frame.Frame.{Frame}
-use Rattle.model.specs.declared.geometry.Geometry.{Geometry}
-use Rattle.model.specs.Frame.{frames_in, objects_of}
-use Rattle.model.specs.Keepable.{AreKeepable, IsSoundFrames, world_at}
-use Rattle.model.specs.Machine.{Running}
-use Rattle.model.specs.Sound.{IsSound}
-use Rattle.model.specs.Step.{at_home, moved}
-use Rattle.capability.specs.Parts.{Parts, Renews, frames_of, objects_in}
-use Rattle.capability.proofs.Keeping.{keepable_later}
-use Rattle.checkpoint.specs.Saved.{most, SavedFrames, home_saved}
-use Rattle.object_store.specs.Store.{Aside, FrozenFrames, freezing, next_saved, moved_saved, stabilized}
+use Rattle.kernel.proofs.Names.{◌≡◌, ℕ, ◌+◌, ◌-◌, ◌^◌, ◌<◌, ◌≤◌, Bool, true, false, Option, None, Some, List, refl, sym, ap, ◌∙◌, subst, arith, ◌==◌}
+use Rattle.kernel.proofs.Names.{if◌then◌else◌, option_map, Frame, Geometry, frames_in, objects_of, AreKeepable, IsSoundFrames, world_at, Running, IsSound}
+use Rattle.kernel.proofs.Names.{at_home, moved, Parts, Renews, frames_of, objects_in, keepable_later, most, SavedFrames, home_saved, Aside, FrozenFrames}
+use Rattle.kernel.proofs.Names.{freezing, next_saved, moved_saved, stabilized, AreCounted, BanksState, saved_of, IsSoundSaved, AreSoundTogether, IsSoundFrozen}
+use Rattle.kernel.proofs.Names.{base_of, frozen_of, renewed_since, running_of, allocations_at, base_frozen}
 use Rattle.object_store.specs.Store as store
-use Rattle.space_bank.specs.Banks.{AreCounted, BanksState}
 use Rattle.kernel.proofs.Performing.{AreSame, same_frames}
-use Rattle.recovery.specs.Denotes.{saved_of, IsSoundSaved}
-use Rattle.recovery.specs.Live.{AreSoundTogether, IsSoundFrozen, base_of, frozen_of, renewed_since, running_of}
-use Rattle.recovery.proofs.Renewed.{allocations_at, base_frozen}
 use Rattle.kernel.proofs.Renewed.{base_moved, risen_on}
 
 -- ---- frames at a later age

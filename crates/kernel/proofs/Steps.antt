@@ -1,16 +1,10 @@
 -- Steps of the machine: evictions, the stages of a checkpoint, and what opens it.
-use Rattle.std.proofs.Common.{◌≡◌, ℕ, ◌+◌, ◌-◌, ◌^◌, ◌<◌, ◌≤◌, Bool, true, false, Option, None, Some, List, [], ◌∷◌, refl, sym, ap, ◌∙◌, subst, arith}
-use Rattle.std.specs.Prelude.{nat_lt, ◌==◌, if◌then◌else◌}
-use Rattle.std.proofs.lemmas.Bool.Decides.{nat_tests}
+use Rattle.kernel.proofs.Names.{◌≡◌, ℕ, ◌+◌, ◌-◌, ◌^◌, ◌<◌, ◌≤◌, Bool, true, false, Option, None, Some, List, [], ◌∷◌, refl, sym, ap, ◌∙◌, subst, arith, nat_lt}
+use Rattle.kernel.proofs.Names.{◌==◌, if◌then◌else◌, nat_tests, Refusal, Geometry, Frozen, Saved, Running, Up, touched_count, untouched, object_count, Step}
+use Rattle.kernel.proofs.Names.{carried_out, committed, moved, refusal_of, second, unless, World}
 use Rattle.model.specs.declared.answer.Answer.TheVariants as answer
-use Rattle.model.specs.declared.answer.Refusal.{Refusal}
 use Rattle.model.specs.declared.answer.Refusal.TheVariants as refusal
 use Rattle.model.specs.declared.command.Command.TheVariants as command
-use Rattle.model.specs.declared.geometry.Geometry.{Geometry}
-use Rattle.model.specs.Machine.{Frozen, Saved, Running, Up, touched_count, untouched}
-use Rattle.model.specs.Sound.{object_count}
-use Rattle.model.specs.Step.{Step, carried_out, committed, moved, refusal_of, second, unless}
-use Rattle.model.specs.World.{World}
 use Rattle.kernel.proofs.ProcessSteps.{done_step}
 
 -- a machine with another checkpoint on its way

@@ -1,9 +1,6 @@
 -- What is answered where a page isn't journaled.
-use Rattle.std.specs.Prelude.{if◌then◌else◌, Bool}
-use Rattle.model.specs.declared.answer.Refusal.{Refusal}
+use Rattle.kernel.specs.Names.{if◌then◌else◌, Bool, Refusal, NotPage, Renewed, JournalFault}
 use Rattle.model.specs.declared.answer.Refusal.TheVariants as refusal
-use Rattle.model.specs.declared.answer.Unjournaled.TheVariants.{NotPage, Renewed}
-use Rattle.object_store.specs.declared.journal_fault.JournalFault.{JournalFault}
 use Rattle.object_store.specs.declared.journal_fault.JournalFault.TheVariants as fault
 
 -- the machine's refusal where its store refuses, by whether an object has the number

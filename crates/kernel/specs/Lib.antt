@@ -1,3 +1,4 @@
+pub mod Names
 pub mod Machine
 pub mod Prepared
 pub mod Power

@@ -1,21 +1,9 @@
 -- The machine of present frames, and the steps over them.
-use Rattle.std.specs.Prelude.{◌≡◌, ◌≢◌, ◌↔◌, ℕ, ◌<◌, ◌≤◌, Bool, Option, None, Some, List, true, false, Result, Ok, Err}
-use Rattle.device.specs.declared.device.Failed.{Failed}
-use Rattle.model.specs.declared.answer.Answer.{Answer}
+use Rattle.kernel.specs.Names.{◌≡◌, ◌≢◌, ◌↔◌, ℕ, ◌<◌, ◌≤◌, Bool, Option, None, Some, List, true, false, Result, Ok, Err, Failed, Answer, Refusal, Command}
+use Rattle.kernel.specs.Names.{Invocation, Geometry, Object, ResultCode, IsSoundFrames, world_at, Frozen, Saved, Machine, Up, renewing, Step, is_process}
+use Rattle.kernel.specs.Names.{is_running_process, Parts, Renews, frames_of, objects_in, result_code}
 use Rattle.model.specs.declared.answer.Answer.TheVariants as answer
-use Rattle.model.specs.declared.answer.Refusal.{Refusal}
 use Rattle.model.specs.declared.answer.Refusal.TheVariants as refusal
-use Rattle.model.specs.declared.command.Command.{Command}
-use Rattle.model.specs.declared.command.Invocation.{Invocation}
-use Rattle.model.specs.declared.geometry.Geometry.{Geometry}
-use Rattle.model.specs.declared.object.Object.{Object}
-use Rattle.model.specs.declared.order.ResultCode.{ResultCode}
-use Rattle.model.specs.Keepable.{IsSoundFrames, world_at}
-use Rattle.model.specs.Machine.{Frozen, Saved, Machine, Up, renewing}
-use Rattle.model.specs.Step.{Step}
-use Rattle.model.specs.World.{is_process, is_running_process}
-use Rattle.capability.specs.Parts.{Parts, Renews, frames_of, objects_in}
-use Rattle.gate.specs.Invoke.{result_code}
 use Rattle.kernel.specs.declared.processes.served.Served.{Served}
 
 -- the machine whose objects now are those of present frames

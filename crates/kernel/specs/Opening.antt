@@ -1,20 +1,9 @@
 -- The outcomes of opening a device, for a kernel.
-use Rattle.std.specs.Prelude.{◌≡◌, ◌⊎◌, List}
-use Rattle.model.specs.declared.geometry.Geometry.{Geometry}
-use Rattle.model.specs.declared.answer.Answer.{Answer}
+use Rattle.kernel.specs.Names.{◌≡◌, ◌⊎◌, List, Geometry, Answer, Refusal, Machine, Saved, Up, Down, opened, Reopens, Only, Disk, OpenFault, Looks, Parts, View}
+use Rattle.kernel.specs.Names.{Denotes, Leaves, LeavesOne}
 use Rattle.model.specs.declared.answer.Answer.TheVariants as answer
-use Rattle.model.specs.declared.answer.Refusal.{Refusal}
 use Rattle.model.specs.declared.answer.Refusal.TheVariants as refusal
-use Rattle.model.specs.Machine.{Machine, Saved, Up, Down, opened}
-use Rattle.model.specs.Step.{Reopens}
-use Rattle.device.specs.Calls.{Only}
-use Rattle.device.specs.Disk.{Disk}
-use Rattle.checkpoint.specs.declared.open_fault.OpenFault.{OpenFault}
 use Rattle.checkpoint.specs.declared.open_fault.OpenFault.TheVariants as fault
-use Rattle.checkpoint.specs.Opened.{Looks}
-use Rattle.capability.specs.Parts.{Parts}
-use Rattle.object_store.specs.Store.{View}
-use Rattle.recovery.specs.Denotes.{Denotes, Leaves, LeavesOne}
 use Rattle.kernel.specs.Power.{Power}
 use Rattle.kernel.specs.Standing.{Stands, disk_of}
 

@@ -1,6 +1,5 @@
 -- Whether a machine is up.
-use Rattle.std.specs.Prelude.{Option, None, Some}
-use Rattle.recovery.specs.declared.live.Live.{Live}
+use Rattle.kernel.specs.Names.{Option, None, Some, Live}
 
 -- a machine is up at a store, or down with its device; within a command it may have neither
 pub data Power (D S : Type 0) : Type 0 where

@@ -1,9 +1,7 @@
 -- The refusals of a failed `prepare`, and of an invocation that isn't carried out.
-use Rattle.model.specs.declared.answer.Refusal.{Refusal}
+use Rattle.kernel.specs.Names.{Refusal, PrepareFault, InvokeFault}
 use Rattle.model.specs.declared.answer.Refusal.TheVariants as refusal
-use Rattle.capability.specs.declared.present.PrepareFault.{PrepareFault}
 use Rattle.capability.specs.declared.present.PrepareFault.TheVariants as prepare
-use Rattle.gate.specs.declared.fault.InvokeFault.{InvokeFault}
 use Rattle.gate.specs.declared.fault.InvokeFault.TheVariants as fault
 
 -- the refusal of a load or a store

@@ -1,26 +1,12 @@
 -- The machine that a kernel stands for, and how it serves a command.
-use Rattle.std.specs.Prelude.{◌≡◌, ◌↔◌, ◌<◌, ◌≤◌, Option, None, Some, [], ◌++◌}
-use Rattle.model.specs.declared.answer.Answer.{Answer}
+use Rattle.kernel.specs.Names.{◌≡◌, ◌↔◌, ◌<◌, ◌≤◌, Option, None, Some, [], ◌++◌, Answer, Refusal, Command, Geometry, ResultCode, Machine, Up, Down, candidates}
+use Rattle.kernel.specs.Names.{Step, second, Disk, Parts, CheckpointFault, Checkpoint, View, Live, Leaves, LeavesOne, IsUp, disk_at, running}
 use Rattle.model.specs.declared.answer.Answer.TheVariants as answer
-use Rattle.model.specs.declared.answer.Refusal.{Refusal}
 use Rattle.model.specs.declared.answer.Refusal.TheVariants as refusal
-use Rattle.model.specs.declared.command.Command.{Command}
 use Rattle.model.specs.declared.command.Command.TheVariants as command
-use Rattle.model.specs.declared.geometry.Geometry.{Geometry}
-use Rattle.model.specs.declared.order.ResultCode.{ResultCode}
-use Rattle.model.specs.Machine.{Machine, Up, Down, candidates}
-use Rattle.model.specs.Step.{Step, second}
-use Rattle.device.specs.Disk.{Disk}
-use Rattle.capability.specs.Parts.{Parts}
-use Rattle.checkpoint.specs.declared.checkpoint_fault.CheckpointFault.{CheckpointFault}
 use Rattle.checkpoint.specs.declared.checkpoint_fault.CheckpointFault.TheVariants as fault
-use Rattle.checkpoint.specs.declared.committed.Checkpoint.{Checkpoint}
-use Rattle.object_store.specs.Store.{View}
 use Rattle.kernel.specs.declared.processes.served.Served.{Served}
 use Rattle.kernel.specs.Machine.{code_with}
-use Rattle.recovery.specs.declared.live.Live.{Live}
-use Rattle.recovery.specs.Denotes.{Leaves, LeavesOne}
-use Rattle.recovery.specs.Live.{IsUp, disk_at, running}
 use Rattle.kernel.specs.Power.{Power}
 use Rattle.kernel.specs.Power as power
 

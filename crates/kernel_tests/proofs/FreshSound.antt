@@ -1,30 +1,13 @@
 -- A sound world, as frames whose counts never rose: these are sound.
-use Rattle.std.proofs.Common.{◌≡◌, ℕ, ◌^◌, ◌<◌, Bool, true, false, List, [], ◌∷◌, length, map, slice_index, slice_index_or, refl, sym, ap, ◌∙◌, subst, arith}
-use Rattle.std.specs.List.{All}
-use Rattle.std.proofs.Math.ListN.{get_or-map}
-use Rattle.std.proofs.lemmas.List.{length-map}
-use Rattle.std.proofs.lemmas.List.Elements.{All-from_get_or, All-map}
-use Rattle.model.specs.declared.capability.Cap.{Cap}
-use Rattle.model.specs.declared.capability.Capability.{Capability}
-use Rattle.model.specs.declared.capability.Capability.TheVariants.{Void, Number, Page, Node, Space, Process, Start, Resume, Bank, Discrim}
-use Rattle.model.specs.declared.frame.Frame.{Frame}
-use Rattle.model.specs.declared.frame.ObjectHeader.{ObjectHeader}
-use Rattle.model.specs.declared.geometry.Geometry.{Geometry}
-use Rattle.model.specs.declared.object.Content.{Content}
+use Rattle.kernel_tests.proofs.Names.{◌≡◌, ℕ, ◌^◌, ◌<◌, Bool, true, false, List, [], ◌∷◌, length, map, slice_index, slice_index_or, refl, sym, ap, ◌∙◌, subst}
+use Rattle.kernel_tests.proofs.Names.{arith, All, get_or-map, length-map, All-from_get_or, All-map, Cap, Capability, Void, Number, Page, Node, Space, Process}
+use Rattle.kernel_tests.proofs.Names.{Start, Resume, Bank, Discrim, Frame, ObjectHeader, Geometry, Content, Object, frames_in, headers, AreKeptSlots, Follows}
+use Rattle.kernel_tests.proofs.Names.{IsCurrent, IsKeepable, IsKeptCap, IsSoundFrames, MayBeKept, caps_in, free, is_annex, is_free, is_root, map_content}
+use Rattle.kernel_tests.proofs.Names.{role_of, root_in, slots_in, words_in, HasShape, IsOfKind, IsSound, IsSpace, MayBeHeld, object_count, World, annex_at}
+use Rattle.kernel_tests.proofs.Names.{content_at, object_at, owner_at, Parts, frames_of, fresh_cap, fresh_frame, fresh_header, fresh_held, annex_number}
+use Rattle.kernel_tests.proofs.Names.{bank_number, node_number, page_number, root_number, kind_map, mapped, role_free}
 use Rattle.model.specs.declared.object.Content.TheVariants as content
-use Rattle.model.specs.declared.object.Object.{Object}
-use Rattle.model.specs.Frame.{frames_in, headers}
-use Rattle.model.specs.Keepable.{AreKeptSlots, Follows, IsCurrent, IsKeepable, IsKeptCap, IsSoundFrames, MayBeKept, caps_in}
-use Rattle.model.specs.Object.{free, is_annex, is_free, is_root, map_content, role_of, root_in, slots_in, words_in}
-use Rattle.model.specs.Sound.{HasShape, IsOfKind, IsSound, IsSpace, MayBeHeld, object_count}
-use Rattle.model.specs.World.{World, annex_at, content_at, object_at, owner_at}
-use Rattle.capability.specs.Parts.{Parts, frames_of}
-use Rattle.capability.specs.Plain.{fresh_cap}
-use Rattle.kernel_tests.specs.Fresh.{fresh_frame, fresh_header, fresh_held}
 use Rattle.kernel_tests.proofs.FreshWorlds.{frames_fresh, objects_of_fresh}
-use Rattle.capability.proofs.KindNumbers.{annex_number, bank_number, node_number, page_number, root_number}
-use Rattle.capability.proofs.Mapped.{kind_map, mapped}
-use Rattle.capability.proofs.Roles.{role_free}
 
 none_above : (hs : List ObjectHeader) (cs : List Capability) → All (IsCurrent hs) (map fresh_cap cs)
 none_above hs cs = All-map (IsCurrent hs) fresh_cap cs (λ k d inside. omega arith)

@@ -1,21 +1,9 @@
 -- Where nothing was ever given up, frames with counts stand for the objects that they were made of.
-use Rattle.std.proofs.Common.{◌≡◌, ℕ, List, [], ◌∷◌, length, map, get_or, refl, sym, ap, ◌∙◌}
-use Rattle.model.specs.declared.capability.Cap.{Cap}
-use Rattle.std.proofs.Math.ListN.{get_or-map}
-use Rattle.model.specs.declared.capability.Capability.{Capability}
-use Rattle.model.specs.declared.capability.Capability.TheVariants.{Void, Number, Page, Node, Space, Process, Start, Resume, Bank, Discrim}
-use Rattle.model.specs.declared.frame.Frame.{Frame}
-use Rattle.model.specs.declared.frame.ObjectHeader.{ObjectHeader}
-use Rattle.model.specs.declared.object.Content.{Content}
+use Rattle.kernel_tests.proofs.Names.{◌≡◌, ℕ, List, [], ◌∷◌, length, map, get_or, refl, sym, ap, ◌∙◌, Cap, get_or-map, Capability, Void, Number, Page, Node}
+use Rattle.kernel_tests.proofs.Names.{Space, Process, Start, Resume, Bank, Discrim, Frame, ObjectHeader, Content, Object, headers, header_at, current_count}
+use Rattle.kernel_tests.proofs.Names.{conveyed, object_of, objects_of, blank_frame, frames_in, world_at, map_content, free, f0, i0, World, fresh_cap}
+use Rattle.kernel_tests.proofs.Names.{fresh_frame, fresh_header, fresh_held, prime_header}
 use Rattle.model.specs.declared.object.Content.TheVariants as content
-use Rattle.model.specs.declared.object.Object.{Object}
-use Rattle.model.specs.Frame.{headers, header_at, current_count, conveyed, object_of, objects_of, blank_frame, frames_in}
-use Rattle.model.specs.Keepable.{world_at}
-use Rattle.model.specs.Object.{map_content, free}
-use Rattle.model.specs.Worlds.{f0, i0}
-use Rattle.model.specs.World.{World}
-use Rattle.capability.specs.Plain.{fresh_cap}
-use Rattle.kernel_tests.specs.Fresh.{fresh_frame, fresh_header, fresh_held, prime_header}
 
 -- what is undone for each element is undone for all
 map_back : {A B : Type 0} (f : A → B) (back : B → A) → ((x : A) → back (f x) ≡ x) → (xs : List A) → map back (map f xs) ≡ xs

@@ -1,3 +1,4 @@
+mod Names
 mod FreshSound
 mod FreshWorlds
 mod MadeWorlds

@@ -1,14 +1,6 @@
 -- The worlds that tests begin with are sound, and can be kept.
-use Rattle.std.proofs.Common.{◌≡◌, Result, Ok, Err, map, sym, subst, arith}
-use Rattle.std.specs.Prelude.{IfOk}
-use Rattle.model.specs.declared.geometry.Geometry.{Geometry}
-use Rattle.model.specs.Keepable.{AreKeepable, IsSoundFrames, world_at}
-use Rattle.model.specs.Sound.{IsSound}
-use Rattle.model.specs.World.{World}
-use Rattle.model.specs.Worlds.{small}
-use Rattle.capability.specs.Parts.{frames_of}
-use Rattle.capability.specs.Plain.{PlainState, parts_of}
-use Rattle.kernel_tests.specs.Fresh.{fresh_header, fresh_held}
+use Rattle.kernel_tests.proofs.Names.{◌≡◌, Result, Ok, Err, map, sym, subst, arith, IfOk, Geometry, AreKeepable, IsSoundFrames, world_at, IsSound, World, small}
+use Rattle.kernel_tests.proofs.Names.{frames_of, PlainState, parts_of, fresh_header, fresh_held}
 use Rattle.kernel_tests.proofs.FreshSound.{fresh_parts_sound}
 
 module _ {E : Type 0} (w : World) (sound : IsSound small w) where

@@ -1,16 +1,9 @@
 -- Capabilities read back from their bytes.
-use Rattle.std.proofs.Common.{◌≡◌, ℕ, zero, suc, ◌+◌, ◌*◌, ◌/◌, ◌%◌, ◌^◌, ◌<◌, List, [], ◌∷◌, ◌++◌, length, get_or, take, drop, refl, sym, ap, subst, ◌∙◌, inl, inr, append_assoc, arith}
-use Rattle.std.proofs.lemmas.Nat.{le_bytes_8}
-use Rattle.std.proofs.lemmas.List.{take_all, drop_all, append-nil}
-use Rattle.model.specs.declared.access.Access.{Access}
-use Rattle.model.specs.declared.capability.Cap.{Cap}
-use Rattle.model.specs.declared.capability.Capability.{Capability}
-use Rattle.model.specs.declared.capability.Capability.TheVariants.{Void, Number, Page, Node, Space, Process, Start, Resume, Bank, Discrim}
-use Rattle.model.specs.declared.geometry.Geometry.{Geometry}
-use Rattle.model.specs.Capability.{tag_of, access_bits, IsAccess}
-use Rattle.model.specs.Keepable.{Follows, IsKeptCap}
-use Rattle.layout.specs.Bytes.{number, short_number}
-use Rattle.layout.specs.Capability.{key_of, height_of, number_of, head_bytes, capability_bytes, head_number, HeadFits, assembled}
+use Rattle.layout.proofs.Names.{◌≡◌, ℕ, zero, suc, ◌+◌, ◌*◌, ◌/◌, ◌%◌, ◌^◌, ◌<◌, List, [], ◌∷◌, ◌++◌, length, get_or, take, drop, refl, sym, ap, subst, ◌∙◌}
+use Rattle.layout.proofs.Names.{inl, inr, append_assoc, arith, le_bytes_8, take_all, drop_all, append-nil, Access, Cap, Capability, Void, Number, Space}
+use Rattle.layout.proofs.Names.{Process, Start, Resume, Bank, Discrim, Geometry, tag_of, access_bits, IsAccess, Follows, IsKeptCap, number, short_number}
+use Rattle.layout.proofs.Names.{key_of, height_of, number_of, head_bytes, capability_bytes, head_number, HeadFits, assembled}
+use Rattle.model.specs.declared.capability.Capability.TheVariants.{Page, Node}
 use Rattle.layout.proofs.Numbers.{number_splits}
 
 pub small_8 : (a b c d e f g h : ℕ) → a < 256 → b < 256 → c < 256 → d < 256 → e < 256 → f < 256 → g < 256 → h < 256

@@ -1,17 +1,9 @@
 -- The frames of nodes in the bytes of a cluster.
-use Rattle.std.proofs.Common.{◌≡◌, ℕ, ◌+◌, ◌-◌, ◌*◌, ◌<◌, List, ◌++◌, length, take, drop, sym, ap, ◌∙◌, inl, inr, arith, true, nat_lt}
+use Rattle.layout.proofs.Names.{◌≡◌, ℕ, ◌+◌, ◌-◌, ◌*◌, ◌<◌, List, ◌++◌, length, take, drop, sym, ap, ◌∙◌, inl, inr, arith, true, nat_lt, if◌then◌else◌}
+use Rattle.layout.proofs.Names.{cases_lt, nat_tests, drop_at, take_at, length-append, length-replicate, length-take-le, length-drop, take-append-drop}
+use Rattle.layout.proofs.Names.{between_is, between-put_mid, drop-put_mid, take-put_mid_below, Frame, Geometry, Packed, zeros, front_bytes, slots_bytes}
+use Rattle.layout.proofs.Names.{slots_of, node_frame_bytes, page_frame_bytes, frame_bytes, shape_bytes}
 use borrow.Rule.Slice.PartMut.{put_mid}
-use Rattle.std.specs.Prelude.{if◌then◌else◌}
-use Rattle.std.proofs.lemmas.Bool.{cases_lt}
-use Rattle.std.proofs.lemmas.Bool.Decides.{nat_tests}
-use Rattle.std.proofs.lemmas.List.{drop_at, take_at, length-append, length-replicate, length-take-le, length-drop, take-append-drop}
-use Rattle.std.proofs.lemmas.Slice.{between_is, between-put_mid, drop-put_mid, take-put_mid_below}
-use Rattle.model.specs.declared.frame.Frame.{Frame}
-use Rattle.model.specs.declared.geometry.Geometry.{Geometry}
-use Rattle.layout.specs.declared.shape.Shape.TheVariants.{Packed}
-use Rattle.layout.specs.Bytes.{zeros}
-use Rattle.layout.specs.Frame.{front_bytes, slots_bytes, slots_of, node_frame_bytes, page_frame_bytes, frame_bytes}
-use Rattle.layout.specs.Shape.{shape_bytes}
 
 pub length-zeros : (n : ℕ) → length (zeros n) ≡ n
 unfolding zeros

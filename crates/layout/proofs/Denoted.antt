@@ -1,17 +1,8 @@
 -- An image that denotes a saved state has none of the first seven reasons to be refused.
-use Rattle.std.proofs.Common.{◌≡◌, ℕ, None, Some, List, [], ◌∷◌, ◌++◌, drop, refl, sym, ap, subst, ◌∙◌, ⊎_elim, arith}
-use Rattle.std.proofs.lemmas.List.{drop_at, drop-drop}
-use Rattle.model.specs.declared.frame.Frame.{Frame}
-use Rattle.model.specs.Frame.{frame_at}
-use Rattle.device.specs.Disk.{Image}
-use Rattle.layout.specs.declared.bad_image.BadImage.{BadImage}
+use Rattle.layout.proofs.Names.{◌≡◌, ℕ, None, Some, List, [], ◌∷◌, ◌++◌, drop, refl, sym, ap, subst, ◌∙◌, ⊎_elim, arith, drop_at, drop-drop, Frame, frame_at}
+use Rattle.layout.proofs.Names.{Image, BadImage, Entry, CheckpointHeader, number, zeros, header_bytes, SavedState, Encodes, IsBadBy, HasHeader, HasDirectory}
+use Rattle.layout.proofs.Names.{HasNoHeader, IsTooSmall, option_at, total_in, Plan, IsPlan, HasMark, superblock_bytes, ranges_bytes}
 use Rattle.layout.specs.declared.bad_image.BadImage.TheVariants as bad
-use Rattle.layout.specs.declared.directory.Entry.{Entry}
-use Rattle.layout.specs.declared.header.CheckpointHeader.{CheckpointHeader}
-use Rattle.layout.specs.Bytes.{number, zeros}
-use Rattle.layout.specs.Header.{header_bytes}
-use Rattle.layout.specs.Image.{SavedState, Encodes, IsBadBy, HasHeader, HasDirectory, HasNoHeader, IsTooSmall, option_at, total_in}
-use Rattle.layout.specs.Superblock.{Plan, IsPlan, HasMark, superblock_bytes, ranges_bytes}
 use Rattle.layout.proofs.Numbers.{stream}
 use Rattle.layout.proofs.FrameReaders.{passed, passed_on}
 use Rattle.layout.proofs.Images.{same_plan, same_header, same_directory}

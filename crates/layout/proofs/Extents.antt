@@ -1,12 +1,8 @@
 -- Sectors that are apart, and ranges that cover all numbers.
-use Rattle.std.proofs.Common.{◌≡◌, ℕ, zero, suc, ◌+◌, ◌-◌, ◌<◌, ◌≤◌, List, [], ◌∷◌, ◌++◌, length, get_or, set, take, drop, sym, ap, subst, ◌∙◌, inl, inr, arith}
-use Rattle.std.specs.List.{All, between}
-use Rattle.std.proofs.lemmas.Bool.{cases_lt}
-use Rattle.std.proofs.lemmas.List.{get_or-drop, get_or_default, length-drop, length-set, take_rest, take_all, take_more_set, append_assoc, drop_more, drop_all}
-use Rattle.model.specs.declared.geometry.Geometry.{Geometry}
-use Rattle.layout.specs.declared.extent.Extent.{Extent}
-use Rattle.layout.specs.declared.extent.HomeRange.{HomeRange}
-use Rattle.layout.specs.Superblock.{extent_at, IsApart, AreApart, Cover, IsNext}
+use Rattle.layout.proofs.Names.{◌≡◌, ℕ, zero, suc, ◌+◌, ◌-◌, ◌<◌, ◌≤◌, List, [], ◌∷◌, ◌++◌, length, get_or, set, take, drop, sym, ap, subst, ◌∙◌, inl, inr}
+use Rattle.layout.proofs.Names.{arith, All, between, cases_lt, get_or-drop, get_or_default, length-drop, length-set, take_rest, take_all, take_more_set}
+use Rattle.layout.proofs.Names.{drop_more, drop_all, Geometry, Extent, HomeRange, extent_at, IsApart, AreApart, Cover, IsNext}
+use Rattle.std.proofs.lemmas.List.{append_assoc}
 
 -- the first i extents are apart from all behind them
 abbrev pub ApartBelow : List Extent → ℕ → Type 0

@@ -1,26 +1,12 @@
 -- Bytes that spell a frame are read as that frame.
-use Rattle.std.proofs.Common.{◌≡◌, ℕ, ◌+◌, ◌/◌, ◌%◌, ◌^◌, ◌<◌, ◌≤◌, Bool, true, false, List, [], ◌∷◌, ◌++◌, length, take, drop, refl, sym, ap, subst, ◌∙◌, append_assoc, inl, inr, arith}
-use Rattle.std.proofs.lemmas.Bool.{cases_lt, lt-ltb, le-ltb}
-use Rattle.std.proofs.lemmas.List.{drop_at, drop-drop, take-append-le, drop-append-le, length-drop}
-use Rattle.std.proofs.lemmas.List.Elements.{All-head, All-tail}
-use Rattle.std.specs.List.{All}
-use Rattle.std.specs.Prelude.{nat_lt, if◌then◌else◌}
-use Rattle.byteorder.specs.Endian.{little_number}
-use Rattle.byteorder.specs.Numbers.{little_from-take}
-use Rattle.device.specs.Disk.{Image}
-use Rattle.model.specs.declared.capability.Cap.{Cap}
-use Rattle.model.specs.declared.frame.Frame.{Frame}
-use Rattle.model.specs.declared.frame.ObjectHeader.{ObjectHeader}
-use Rattle.model.specs.declared.geometry.Geometry.{Geometry}
-use Rattle.model.specs.declared.object.Content.{Content}
-use Rattle.model.specs.declared.object.Role.{Role}
-use Rattle.model.specs.Keepable.{IsKeptCap}
-use Rattle.model.specs.Object.{role_of, role_number}
-use Rattle.layout.specs.Bytes.{number, number_from, zeros}
-use Rattle.layout.specs.Capability.{capability_bytes, head_number, number_of}
-use Rattle.layout.specs.Frame.{front_numbers, slots_of, slots_bytes, words_bytes, page_words, role_in, body_in, page_body_in, content_of, IsNodeFrame, IsPageFrame, node_frame_bytes, page_frame_bytes, IsFront, IsFrameOf, frame_length}
-use Rattle.layout.specs.FrameReader.{cap_with, cap_from, slots_from, words_from, header_from, node_from, page_from, frame_from}
-use Rattle.layout.specs.Image.{sectors_from}
+use Rattle.layout.proofs.Names.{◌≡◌, ℕ, ◌+◌, ◌/◌, ◌%◌, ◌^◌, ◌<◌, ◌≤◌, Bool, true, false, List, [], ◌∷◌, ◌++◌, length, take, drop, refl, sym, ap, subst, ◌∙◌}
+use Rattle.layout.proofs.Names.{append_assoc, inl, inr, arith, cases_lt, lt-ltb, le-ltb, drop_at, drop-drop, take-append-le, drop-append-le, length-drop}
+use Rattle.layout.proofs.Names.{All-head, All-tail, All, if◌then◌else◌, little_number, little_from-take, Image, Cap, Frame, ObjectHeader, Geometry, Content}
+use Rattle.layout.proofs.Names.{Role, IsKeptCap, role_of, role_number, number, number_from, zeros, capability_bytes, head_number, number_of, front_numbers}
+use Rattle.layout.proofs.Names.{slots_of, slots_bytes, words_bytes, page_words, role_in, body_in, page_body_in, content_of, IsNodeFrame, IsPageFrame}
+use Rattle.layout.proofs.Names.{node_frame_bytes, page_frame_bytes, IsFront, IsFrameOf, frame_length, cap_with, cap_from, slots_from, words_from, header_from}
+use Rattle.layout.proofs.Names.{node_from, page_from, frame_from, sectors_from}
+use Rattle.std.specs.Prelude.{nat_lt}
 use Rattle.layout.proofs.Capabilities.{as_numbers, follows_fits, head_below, made_again, same_cap}
 use Rattle.layout.proofs.Numbers.{AllFit, stream, number_told, length-number}
 use Rattle.layout.proofs.Frames.{front_stream, content_again, role_again, role_fits, node_parts, front_list, length-front}

@@ -1,28 +1,14 @@
 -- Frames read back from their bytes.
-use Rattle.std.proofs.Common.{◌≡◌, ℕ, zero, suc, ◌+◌, ◌-◌, ◌*◌, ◌%◌, ◌^◌, ◌<◌, ◌≤◌, List, [], ◌∷◌, ◌++◌, length, take, drop, refl, sym, ap, subst, ◌∙◌, append_assoc, arith}
-use Rattle.std.specs.Prelude.{replicate, map}
-use Rattle.std.specs.List.{between}
+use Rattle.layout.proofs.Names.{◌≡◌, ℕ, zero, suc, ◌+◌, ◌-◌, ◌*◌, ◌%◌, ◌^◌, ◌<◌, ◌≤◌, List, [], ◌∷◌, ◌++◌, length, take, drop, refl, sym, ap, subst, ◌∙◌}
+use Rattle.layout.proofs.Names.{append_assoc, arith, replicate, map, between, replicate-append-replicate, drop-replicate, drop-drop, take_at, drop_at}
+use Rattle.layout.proofs.Names.{take-append-drop, length-append, length-take-le, length-map, Cap, Frame, ObjectHeader, Geometry, Content, Role, Root, State}
+use Rattle.layout.proofs.Names.{Available, Running, Waiting, void_held, IsCount, AreKeptSlots, role_of, role_number, state_number, number, short_number, zeros}
+use Rattle.layout.proofs.Names.{Body, capability_bytes, head_bytes, front_numbers, front_bytes, number_cap, slots_of, slots_bytes, node_frame_bytes, root_slots}
+use Rattle.layout.proofs.Names.{root_from, role_in, state_in, body_in, content_of, FollowsRole, IsFront, IsBody, IsNodeFrame}
 use borrow.Rule.Slice.PartMut.{put_mid}
-use Rattle.std.proofs.lemmas.List.{replicate-append-replicate, drop-replicate, drop-drop, take_at, drop_at, take-append-drop, length-append, length-take-le, length-map}
-use Rattle.model.specs.declared.capability.Cap.{Cap}
-use Rattle.model.specs.declared.frame.Frame.{Frame}
-use Rattle.model.specs.declared.frame.ObjectHeader.{ObjectHeader}
-use Rattle.model.specs.declared.geometry.Geometry.{Geometry}
-use Rattle.model.specs.declared.object.Content.{Content}
 use Rattle.model.specs.declared.object.Content.TheVariants as content
-use Rattle.model.specs.declared.object.Role.{Role}
 use Rattle.model.specs.declared.object.Role.TheVariants as role
-use Rattle.model.specs.declared.object.Root.{Root}
-use Rattle.model.specs.declared.object.State.{State}
-use Rattle.model.specs.declared.object.State.TheVariants.{Available, Running, Waiting}
-use Rattle.model.specs.Frame.{void_held}
-use Rattle.model.specs.Keepable.{IsCount, AreKeptSlots}
-use Rattle.model.specs.Object.{role_of, role_number, state_number}
-use Rattle.layout.specs.Bytes.{number, short_number, zeros}
-use Rattle.layout.specs.declared.body.Body.{Body}
 use Rattle.layout.specs.declared.body.Body.TheVariants as body
-use Rattle.layout.specs.Capability.{capability_bytes, head_bytes}
-use Rattle.layout.specs.Frame.{front_numbers, front_bytes, number_cap, slots_of, slots_bytes, node_frame_bytes, root_slots, root_from, role_in, state_in, body_in, content_of, FollowsRole, IsFront, IsBody, IsNodeFrame}
 use Rattle.layout.proofs.Numbers.{stream, AllFit, stream_splits, IsWritten}
 use Rattle.layout.proofs.SlotLists.{slots_bytes-nil, slots_bytes-cons, slots_bytes-append, length-slots, slots_split}
 

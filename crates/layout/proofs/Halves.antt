@@ -1,14 +1,8 @@
 -- The halves of the log among the extents of a plan.
-use Rattle.std.proofs.Common.{◌≡◌, ℕ, ◌+◌, ◌-◌, ◌%◌, ◌<◌, [], ◌∷◌, length, map, Bool, true, false, refl, subst, ap, ◌∙◌, inl, inr, arith, length-append, ⊎_elim}
-use Rattle.std.specs.Prelude.{◌==◌, if◌then◌else◌}
-use Rattle.std.proofs.lemmas.Bool.Decides.{nat_tests}
-use Rattle.std.proofs.lemmas.List.{length-map, get_or-append_right}
-use Rattle.layout.specs.declared.extent.Extent.{Extent}
-use Rattle.layout.specs.declared.half.Half.{Half}
-use Rattle.layout.specs.declared.half.Half.TheVariants.{First, Second}
-use Rattle.layout.specs.Half.{half_of}
-use Rattle.layout.specs.Superblock.{Plan, IsPlan, IsWithin, IsApart, IsInside, extent_at, extents, range_extent, half_extent, half_start}
-use Rattle.layout.specs.Image.{half_sector}
+use Rattle.layout.proofs.Names.{◌≡◌, ℕ, ◌+◌, ◌-◌, ◌%◌, ◌<◌, [], ◌∷◌, length, Bool, true, false, refl, subst, ap, ◌∙◌, inl, inr, arith, ⊎_elim, ◌==◌}
+use Rattle.layout.proofs.Names.{if◌then◌else◌, nat_tests, length-map, get_or-append_right, Extent, Half, First, Second, half_of, Plan, IsPlan, IsWithin}
+use Rattle.layout.proofs.Names.{IsApart, IsInside, extent_at, extents, range_extent, half_extent, half_start, half_sector}
+use Rattle.std.proofs.Common.{map, length-append}
 
 pub itself : (e : Extent) → IsInside e e
 itself e = record { starts = omega arith; ends = omega arith }

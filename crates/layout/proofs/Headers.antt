@@ -1,9 +1,6 @@
 -- Headers of checkpoints read back from their bytes.
-use Rattle.std.proofs.Common.{◌≡◌, ℕ, ◌^◌, ◌<◌, ◌≤◌, Bool, true, false, cond, List, [], ◌∷◌, ◌++◌, drop, refl, sym, ap, ◌∙◌, append_assoc, arith}
-use Rattle.std.specs.Prelude.{codes, ◌==◌}
-use Rattle.layout.specs.declared.header.CheckpointHeader.{CheckpointHeader}
-use Rattle.layout.specs.Bytes.{number, zeros}
-use Rattle.layout.specs.Header.{header_bytes, IsHeader}
+use Rattle.layout.proofs.Names.{◌≡◌, ℕ, ◌^◌, ◌<◌, ◌≤◌, Bool, true, false, cond, List, [], ◌∷◌, ◌++◌, drop, refl, sym, ap, ◌∙◌, append_assoc, arith, codes, ◌==◌}
+use Rattle.layout.proofs.Names.{CheckpointHeader, number, zeros, header_bytes, IsHeader}
 use Rattle.layout.proofs.Numbers.{stream, AllFit, stream_splits, IsWritten, written_all, drop_filled}
 
 abbrev pub fields : CheckpointHeader → List ℕ

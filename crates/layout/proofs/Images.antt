@@ -1,17 +1,7 @@
 -- An image denotes at most one saved state.
-use Rattle.std.proofs.Common.{◌≡◌, ℕ, ◌+◌, ◌<◌, Some, List, length, sym, ap, subst, ◌∙◌, inl, inr, arith}
-use Rattle.std.proofs.lemmas.Bool.{cases_lt}
-use Rattle.std.proofs.lemmas.List.{same_lists, get_or_default}
-use Rattle.model.specs.declared.frame.Frame.{Frame}
-use Rattle.model.specs.declared.geometry.Geometry.{Geometry}
-use Rattle.model.specs.Frame.{frame_at, blank_frame}
-use Rattle.layout.specs.declared.directory.Entry.{Entry}
-use Rattle.layout.specs.declared.header.CheckpointHeader.{CheckpointHeader}
-use Rattle.layout.specs.Header.{header_bytes}
-use Rattle.layout.specs.Superblock.{Plan}
-use Rattle.device.specs.Disk.{Image}
-use Rattle.layout.specs.Frame.{IsFrameOf}
-use Rattle.layout.specs.Image.{HasPlan, HasHeader, HasDirectory, frame_in, SavedState, Encodes}
+use Rattle.layout.proofs.Names.{◌≡◌, ℕ, ◌+◌, ◌<◌, Some, List, length, sym, ap, subst, ◌∙◌, inl, inr, arith, cases_lt, same_lists, get_or_default, Frame}
+use Rattle.layout.proofs.Names.{Geometry, frame_at, blank_frame, Entry, CheckpointHeader, header_bytes, Plan, Image, IsFrameOf, HasPlan, HasHeader}
+use Rattle.layout.proofs.Names.{HasDirectory, frame_in, SavedState, Encodes}
 use Rattle.layout.proofs.Headers.{one_header}
 use Rattle.layout.proofs.Directories.{one_directory, directory_fits}
 use Rattle.layout.proofs.Frames.{one_node_frame}

@@ -1,24 +1,11 @@
 -- What the readers of both kinds of frames ask for is what can be kept.
-use Rattle.std.proofs.Common.{◌≡◌, ℕ, ◌+◌, ◌^◌, ◌<◌, ◌≤◌, Bool, List, [], ◌∷◌, ◌++◌, length, refl, sym, ap, ◌∙◌, arith}
-use Rattle.std.specs.Prelude.{map, replicate, if◌then◌else◌, IsTrue}
-use Rattle.std.specs.List.{All}
-use Rattle.std.proofs.lemmas.Bool.{lt-ltb, le-ltb, false≢true}
-use Rattle.std.proofs.lemmas.List.{length-append, length-map, length-replicate}
-use Rattle.std.proofs.lemmas.List.Elements.{All-from_recursion, All-cons, All-append, All-map, All-replicate, All-weaker}
-use Rattle.model.specs.declared.capability.Cap.{Cap}
-use Rattle.model.specs.declared.frame.Frame.{Frame}
-use Rattle.model.specs.declared.geometry.Geometry.{Geometry}
-use Rattle.model.specs.declared.object.Content.{Content}
+use Rattle.layout.proofs.Names.{◌≡◌, ℕ, ◌+◌, ◌^◌, ◌<◌, ◌≤◌, Bool, List, [], ◌∷◌, ◌++◌, length, refl, sym, ap, ◌∙◌, arith, map, replicate, if◌then◌else◌, IsTrue}
+use Rattle.layout.proofs.Names.{All, lt-ltb, le-ltb, false≢true, length-append, length-map, length-replicate, All-from_recursion, All-cons, All-append, All-map}
+use Rattle.layout.proofs.Names.{All-replicate, All-weaker, Cap, Frame, Geometry, Content, Root, State, Available, Running, Waiting, void_held, IsKeptCap}
+use Rattle.layout.proofs.Names.{AreKeptSlots, AreKeptWords, MayBeKept, IsKept, IsKeepable, role_of, is_free, state_number, IsOfKind, number_cap, root_slots}
+use Rattle.layout.proofs.Names.{slots_of, node_frame_bytes, page_frame_bytes, frame_bytes, FollowsRole, HoldsPage, IsFront, IsNodeFrame, IsPageFrame, IsFrameOf}
 use Rattle.model.specs.declared.object.Content.TheVariants as content
 use Rattle.model.specs.declared.object.Role.TheVariants as role
-use Rattle.model.specs.declared.object.Root.{Root}
-use Rattle.model.specs.declared.object.State.{State}
-use Rattle.model.specs.declared.object.State.TheVariants.{Available, Running, Waiting}
-use Rattle.model.specs.Frame.{void_held}
-use Rattle.model.specs.Keepable.{IsKeptCap, AreKeptSlots, AreKeptWords, MayBeKept, IsKept, IsKeepable}
-use Rattle.model.specs.Object.{role_of, is_free, state_number}
-use Rattle.model.specs.Sound.{IsOfKind}
-use Rattle.layout.specs.Frame.{number_cap, root_slots, slots_of, node_frame_bytes, page_frame_bytes, frame_bytes, FollowsRole, HoldsPage, IsFront, IsNodeFrame, IsPageFrame, IsFrameOf}
 
 -- ---- slots
 

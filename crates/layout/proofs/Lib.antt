@@ -1,3 +1,4 @@
+mod Names
 mod Numbers
 mod Capabilities
 pub mod Headers

@@ -1,23 +1,13 @@
 -- Frames of pages read back from their bytes.
-use Rattle.std.proofs.Common.{◌≡◌, ℕ, suc, ◌+◌, ◌-◌, ◌*◌, ◌^◌, ◌<◌, ◌≤◌, List, [], ◌∷◌, ◌++◌, length, set, take, drop, refl, sym, ap, subst, ◌∙◌, append_assoc, inl, inr, arith}
-use Rattle.std.specs.Prelude.{replicate, IsTrue}
-use Rattle.std.proofs.lemmas.Bool.{false≢true}
-use Rattle.std.specs.List.{All, flat_map}
+use Rattle.layout.proofs.Names.{◌≡◌, ℕ, suc, ◌+◌, ◌-◌, ◌*◌, ◌^◌, ◌<◌, ◌≤◌, List, [], ◌∷◌, ◌++◌, length, set, take, drop, refl, sym, ap, subst, ◌∙◌}
+use Rattle.layout.proofs.Names.{append_assoc, inl, inr, arith, replicate, IsTrue, false≢true, All, flat_map, same_lists, length-replicate, get_or-replicate}
+use Rattle.layout.proofs.Names.{drop-drop, take_at, drop_at, take_all, take-append-drop, append-nil, take_more_set, length-set, length-append, length-drop}
+use Rattle.layout.proofs.Names.{length-take-le, drop-take, drop_all, take-add, flat_map-append, All-same, All-replicate, All-push, All-nil, Cap, Frame}
+use Rattle.layout.proofs.Names.{ObjectHeader, Content, IsCount, AreKeptWords, role_of, role_number, is_free, zero_words, number, zeros, Body, front_numbers}
+use Rattle.layout.proofs.Names.{front_bytes, page_words, words_bytes, page_frame_bytes, role_in, page_body_in, content_of, IsFront, HoldsPage, IsPageFrame}
+use Rattle.layout.proofs.Names.{IsPageBody}
 use borrow.Rule.Slice.PartMut.{put_mid}
-use Rattle.std.proofs.lemmas.List.{same_lists, length-replicate, get_or-replicate, drop-drop, take_at, drop_at, take_all, take-append-drop, append-nil, take_more_set, length-set, length-append, length-drop, length-take-le, drop-take, drop_all}
-use Rattle.std.proofs.Math.Seq.{take-add}
-use Rattle.std.proofs.lemmas.List.Concat.{flat_map-append}
-use Rattle.std.proofs.lemmas.List.Elements.{All-same, All-replicate, All-push, All-nil}
-use Rattle.model.specs.declared.capability.Cap.{Cap}
-use Rattle.model.specs.declared.frame.Frame.{Frame}
-use Rattle.model.specs.declared.frame.ObjectHeader.{ObjectHeader}
-use Rattle.model.specs.declared.object.Content.{Content}
 use Rattle.model.specs.declared.object.Content.TheVariants as content
-use Rattle.model.specs.Keepable.{IsCount, AreKeptWords}
-use Rattle.model.specs.Object.{role_of, role_number, is_free, zero_words}
-use Rattle.layout.specs.Bytes.{number, zeros}
-use Rattle.layout.specs.declared.body.Body.{Body}
-use Rattle.layout.specs.Frame.{front_numbers, front_bytes, page_words, words_bytes, page_frame_bytes, role_in, page_body_in, content_of, IsFront, HoldsPage, IsPageFrame, IsPageBody}
 use Rattle.layout.proofs.Numbers.{length-number, stream, AllFit, stream_splits}
 use Rattle.layout.proofs.Frames.{length-front, front_list, front_told, front_bytes_are, role_again, role_fits, drop_zeros}
 

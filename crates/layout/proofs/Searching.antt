@@ -1,11 +1,6 @@
 -- The search for the range that has a number.
-use Rattle.std.proofs.Common.{◌≡◌, ℕ, ◌+◌, ◌-◌, ◌<◌, ◌≤◌, Option, Some, None, Bool, true, false, nat_lt, nat_le, ◌&&◌, List, ◌∷◌, length, get_or, drop, sym, ap, ◌∙◌, inl, inr, arith}
-use Rattle.std.specs.Prelude.{if◌then◌else◌}
-use Rattle.std.proofs.lemmas.Bool.{cases_lt}
-use Rattle.std.proofs.lemmas.Bool.Decides.{nat_tests}
-use Rattle.std.proofs.lemmas.List.{drop_more, drop_all}
-use Rattle.layout.specs.declared.extent.HomeRange.{HomeRange}
-use Rattle.layout.specs.Homes.{range_with}
+use Rattle.layout.proofs.Names.{◌≡◌, ℕ, ◌+◌, ◌-◌, ◌<◌, ◌≤◌, Option, Some, None, Bool, true, false, nat_lt, nat_le, ◌&&◌, List, ◌∷◌, length, get_or, drop, sym}
+use Rattle.layout.proofs.Names.{ap, ◌∙◌, inl, inr, arith, if◌then◌else◌, cases_lt, nat_tests, drop_more, drop_all, HomeRange, range_with}
 
 abbrev range_at : List HomeRange → ℕ → HomeRange
 range_at rs i = get_or rs i (record { first = 0; count = 0; sector = 0 })

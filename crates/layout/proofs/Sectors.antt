@@ -1,8 +1,7 @@
 -- Bytes that are sectors of an image.
-use Rattle.std.proofs.Common.{◌≡◌, ℕ, zero, suc, ◌+◌, ◌*◌, ◌/◌, ◌%◌, ◌<◌, List, [], ◌∷◌, ◌++◌, length, take, drop, refl, sym, ap, subst, ◌∙◌, arith, length-drop}
-use Rattle.std.proofs.lemmas.List.{take-append-drop, drop-drop}
-use Rattle.device.specs.Disk.{Image}
-use Rattle.layout.specs.Image.{sectors_from}
+use Rattle.layout.proofs.Names.{◌≡◌, ℕ, zero, suc, ◌+◌, ◌*◌, ◌/◌, ◌%◌, ◌<◌, List, [], ◌∷◌, ◌++◌, length, take, drop, refl, sym, ap, subst, ◌∙◌, arith}
+use Rattle.layout.proofs.Names.{take-append-drop, drop-drop, Image, sectors_from}
+use Rattle.std.proofs.Common.{length-drop}
 
 no_bytes : (bytes : List ℕ) → length bytes ≡ 0 → [] ≡ bytes
 no_bytes [] e = refl

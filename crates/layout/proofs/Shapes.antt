@@ -1,17 +1,7 @@
 -- How many sectors frames take, and their bytes in these.
-use Rattle.std.proofs.Common.{◌≡◌, ℕ, ◌+◌, ◌<◌, ◌≤◌, Bool, true, false, nat_lt, refl, ap, ◌∙◌, arith}
-use Rattle.std.specs.Prelude.{if◌then◌else◌}
-use Rattle.std.proofs.lemmas.Bool.Decides.{nat_tests}
-use Rattle.device.specs.Disk.{Image}
-use Rattle.layout.specs.declared.shape.Shape.{Shape}
-use Rattle.layout.specs.declared.shape.Shape.TheVariants.{Node, Packed, Page}
-use Rattle.layout.specs.declared.version.Version.{Version}
-use Rattle.layout.specs.declared.version.Version.TheVariants.{One}
-use Rattle.layout.specs.Frame.{frame_length}
-use Rattle.layout.specs.Homes.{range_with, rank_in, shape_of, place_length}
-use Rattle.layout.specs.Image.{sectors_from, shaped_at, bytes_at}
-use Rattle.layout.specs.Shape.{node_shape, shape_length, shape_bytes}
-use Rattle.layout.specs.Superblock.{Plan}
+use Rattle.layout.proofs.Names.{◌≡◌, ℕ, ◌+◌, ◌<◌, ◌≤◌, Bool, true, false, nat_lt, refl, ap, ◌∙◌, arith, if◌then◌else◌, nat_tests, Image, Shape, Node, Packed}
+use Rattle.layout.proofs.Names.{Page, Version, One, frame_length, range_with, rank_in, shape_of, place_length, sectors_from, shaped_at, bytes_at, node_shape}
+use Rattle.layout.proofs.Names.{shape_length, shape_bytes, Plan}
 use Rattle.layout.proofs.Sectors.{same_sectors}
 
 -- no frame takes more than a slot of the log

@@ -1,20 +1,10 @@
 -- Capabilities one after the other.
-use Rattle.std.proofs.Common.{◌≡◌, ℕ, ◌+◌, ◌-◌, ◌*◌, ◌<◌, ◌≤◌, List, [], ◌∷◌, ◌++◌, length, get_or, set, take, drop, refl, sym, ap, ◌∙◌, append_assoc, arith}
-use Rattle.std.specs.Prelude.{replicate}
-use Rattle.std.specs.List.{All, between}
+use Rattle.layout.proofs.Names.{◌≡◌, ℕ, ◌+◌, ◌-◌, ◌*◌, ◌<◌, ◌≤◌, List, [], ◌∷◌, ◌++◌, length, get_or, set, take, drop, refl, sym, ap, ◌∙◌, append_assoc, arith}
+use Rattle.layout.proofs.Names.{replicate, All, between, same_lists, take_rest, length-replicate, get_or-replicate, drop_more, take_more, take_more_set}
+use Rattle.layout.proofs.Names.{take_all, take_at, drop_at, append-nil, length-append, length-set, length-take, length-drop, take-append-drop, take-add}
+use Rattle.layout.proofs.Names.{flat_map-append, All-push, All-replicate, All-nil, All-head, All-tail, All-same, take-put_mid, Cap, Geometry, void_held}
+use Rattle.layout.proofs.Names.{IsKeptCap, AreKeptSlots, number, short_number, capability_bytes, head_bytes, slots_bytes}
 use borrow.Rule.Slice.PartMut.{put_mid}
-use Rattle.std.proofs.lemmas.List.{same_lists, take_rest, length-replicate, get_or-replicate, drop_more, take_more, take_more_set, take_all, take_at, drop_at, append-nil, length-append, length-set, length-take, length-drop, take-append-drop}
-use Rattle.std.proofs.Math.Seq.{take-add}
-use Rattle.std.proofs.lemmas.List.Concat.{flat_map-append}
-use Rattle.std.proofs.lemmas.List.Elements.{All-push, All-replicate, All-nil, All-head, All-tail, All-same}
-use Rattle.std.proofs.lemmas.Slice.{take-put_mid}
-use Rattle.model.specs.declared.capability.Cap.{Cap}
-use Rattle.model.specs.declared.geometry.Geometry.{Geometry}
-use Rattle.model.specs.Frame.{void_held}
-use Rattle.model.specs.Keepable.{IsKeptCap, AreKeptSlots}
-use Rattle.layout.specs.Bytes.{number, short_number}
-use Rattle.layout.specs.Capability.{capability_bytes, head_bytes}
-use Rattle.layout.specs.Frame.{slots_bytes}
 use Rattle.layout.proofs.Capabilities.{one_capability}
 
 pub length-capability : (c : Cap) → length (capability_bytes c) ≡ 24

@@ -1,10 +1,6 @@
 -- The slots that a directory gives.
-use Rattle.std.proofs.Common.{◌≡◌, ℕ, zero, suc, ◌+◌, ◌<◌, Bool, Some, None, List, [], ◌∷◌, length, refl, sym, ap, subst, ◌∙◌, inl, inr, arith}
-use Rattle.std.specs.Prelude.{if◌then◌else◌}
-use Rattle.std.proofs.lemmas.Bool.{cases_eq, eq-eqb, ne_eqb}
-use Rattle.layout.specs.declared.directory.Entry.{Entry}
-use Rattle.layout.specs.Directory.{entry_at, AreRising}
-use Rattle.layout.specs.Image.{slot_in}
+use Rattle.layout.proofs.Names.{◌≡◌, ℕ, zero, suc, ◌+◌, ◌<◌, Bool, Some, None, List, [], ◌∷◌, length, refl, sym, ap, subst, ◌∙◌, inl, inr, arith, if◌then◌else◌}
+use Rattle.layout.proofs.Names.{cases_eq, eq-eqb, ne_eqb, Entry, entry_at, AreRising, slot_in}
 
 -- the entry that gives an object its slot
 pub record HasSlot (es : List Entry) (object slot : ℕ) : Type 0 where

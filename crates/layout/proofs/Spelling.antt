@@ -1,21 +1,9 @@
 -- What bytes spell is what is read of them.
-use Rattle.std.proofs.Common.{◌≡◌, ℕ, ◌<◌, List, length, sym, ap, subst, ◌∙◌, arith}
-use Rattle.std.specs.Prelude.{map}
-use Rattle.std.specs.List.{range_with_len}
-use Rattle.std.proofs.lemmas.List.{same_lists}
-use Rattle.std.proofs.lemmas.List.FromFn.{length-map-range_with_len, get_or-map-range_with_len}
-use Rattle.model.specs.declared.frame.Frame.{Frame}
-use Rattle.model.specs.declared.geometry.Geometry.{Geometry}
-use Rattle.model.specs.Frame.{frame_at, blank_frame}
-use Rattle.model.specs.Keepable.{IsKeepable}
-use Rattle.device.specs.Disk.{Image}
-use Rattle.layout.specs.declared.directory.Entry.{Entry}
-use Rattle.layout.specs.declared.header.CheckpointHeader.{CheckpointHeader}
-use Rattle.layout.specs.Frame.{IsFrameOf, frame_bytes}
-use Rattle.layout.specs.FrameReader.{frame_from}
-use Rattle.layout.specs.Image.{frame_in, HasPlan, HasHeader, HasDirectory, Encodes}
-use Rattle.layout.specs.Spelt.{count_of, frame_read, frames_read, IsSpelt, AreSpelt, state_in}
-use Rattle.layout.specs.Superblock.{Plan}
+use Rattle.layout.proofs.Names.{◌≡◌, ℕ, ◌<◌, List, length, sym, ap, subst, ◌∙◌, arith, map, range_with_len, same_lists, length-map-range_with_len}
+use Rattle.layout.proofs.Names.{get_or-map-range_with_len, Frame, Geometry, frame_at, blank_frame, IsKeepable, Image, Entry, CheckpointHeader, IsFrameOf}
+use Rattle.layout.proofs.Names.{frame_bytes, frame_from, frame_in, HasPlan, HasHeader, HasDirectory, Encodes, count_of, frame_read, frames_read, IsSpelt}
+use Rattle.layout.proofs.Names.{AreSpelt, Plan}
+use Rattle.layout.specs.Spelt.{state_in}
 use Rattle.layout.proofs.FrameReaders.{frame_again}
 
 pub length_read : (image : Image) (p : Plan) (generation : ℕ) (es : List Entry) → length (frames_read image p generation es) ≡ count_of p

@@ -1,21 +1,14 @@
 -- Superblocks read back from their bytes.
-use Rattle.std.proofs.Common.{◌≡◌, ℕ, zero, suc, ◌+◌, ◌-◌, ◌*◌, ◌/◌, ◌%◌, ◌^◌, ◌<◌, ◌≤◌, List, [], ◌∷◌, ◌++◌, length, get_or, set, take, drop, refl, sym, ap, subst, ◌∙◌, append_assoc, arith}
-use Rattle.std.specs.List.{All, between}
+use Rattle.layout.proofs.Names.{◌≡◌, ℕ, zero, suc, ◌+◌, ◌-◌, ◌*◌, ◌/◌, ◌%◌, ◌^◌, ◌<◌, ◌≤◌, List, [], ◌∷◌, ◌++◌, length, get_or, set, take, drop, refl, sym, ap}
+use Rattle.layout.proofs.Names.{subst, ◌∙◌, append_assoc, arith, All, between, replicate, codes, map, IfSome, IfNone, w32, from_le_bytes, le_bytes_8}
+use Rattle.layout.proofs.Names.{from_le_bytes-to_le_bytes_4, same_lists, take_more, take_more_set, take_all, take_at, drop_at, drop-drop, append-nil}
+use Rattle.layout.proofs.Names.{length-append, length-replicate, get_or-replicate, length-take-le, length-drop, take-append-drop, length-map}
+use Rattle.layout.proofs.Names.{get_or_append_left, get_or-append-add, get_or-map, take-add, flat_map-append, All-same, All-push, All-nil, All-tail, All-head}
+use Rattle.layout.proofs.Names.{All-append, All-replicate, Geometry, Extent, HomeRange, Version, One, Two, number, half_number, zeros, Plan, version_number}
+use Rattle.layout.proofs.Names.{plan_of, extents, range_extent, half_extent, IsWithin, range_bytes, ranges_bytes, unused, superblock_bytes, HasMark, IsPlan}
+use Rattle.layout.proofs.Names.{RangeFits}
+use Rattle.std.specs.Prelude.{Option, Some, None}
 use borrow.Rule.Slice.PartMut.{put_mid}
-use Rattle.std.specs.Prelude.{replicate, codes, map, Option, Some, None, IfSome, IfNone}
-use Rattle.std.specs.Int.{w32, from_le_bytes}
-use Rattle.std.proofs.lemmas.Nat.{le_bytes_8, from_le_bytes-to_le_bytes_4}
-use Rattle.std.proofs.lemmas.List.{same_lists, take_more, take_more_set, take_all, take_at, drop_at, drop-drop, append-nil, length-append, length-replicate, get_or-replicate, length-take-le, length-drop, take-append-drop, length-map, get_or_append_left, get_or-append-add, get_or-map}
-use Rattle.std.proofs.Math.Seq.{take-add}
-use Rattle.std.proofs.lemmas.List.Concat.{flat_map-append}
-use Rattle.std.proofs.lemmas.List.Elements.{All-same, All-push, All-nil, All-tail, All-head, All-append, All-replicate}
-use Rattle.model.specs.declared.geometry.Geometry.{Geometry}
-use Rattle.layout.specs.declared.extent.Extent.{Extent}
-use Rattle.layout.specs.declared.extent.HomeRange.{HomeRange}
-use Rattle.layout.specs.declared.version.Version.{Version}
-use Rattle.layout.specs.declared.version.Version.TheVariants.{One, Two}
-use Rattle.layout.specs.Bytes.{number, half_number, zeros}
-use Rattle.layout.specs.Superblock.{Plan, version_number, plan_of, extents, range_extent, half_extent, IsWithin, range_bytes, ranges_bytes, unused, superblock_bytes, HasMark, IsPlan, RangeFits}
 use Rattle.layout.proofs.Numbers.{length-number, number_splits, stream, AllFit, stream_splits, IsWritten}
 use Rattle.layout.proofs.Capabilities.{small_8}
 use Rattle.layout.proofs.Extents.{counts_within, firsts_within}

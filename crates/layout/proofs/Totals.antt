@@ -1,8 +1,5 @@
 -- The total of sectors in the bytes of a superblock.
-use Rattle.std.proofs.Common.{◌≡◌, ℕ, List, [], ◌∷◌, ◌++◌, drop, arith}
-use Rattle.layout.specs.Bytes.{zeros}
-use Rattle.layout.specs.Superblock.{Plan, IsPlan, superblock_bytes, ranges_bytes}
-use Rattle.layout.specs.Image.{total_in}
+use Rattle.layout.proofs.Names.{◌≡◌, ℕ, List, [], ◌∷◌, ◌++◌, drop, arith, zeros, Plan, IsPlan, superblock_bytes, ranges_bytes, total_in}
 use Rattle.layout.proofs.Numbers.{stream}
 use Rattle.layout.proofs.FrameReaders.{told, passed, passed_on}
 use Rattle.layout.proofs.Superblocks.{magic, numbers_of, second_of, eight_ranges, plan_stream}

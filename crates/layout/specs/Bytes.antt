@@ -1,6 +1,5 @@
 -- Numbers and zeros as bytes.
-use Rattle.std.specs.Prelude.{ℕ, List, replicate}
-use Rattle.byteorder.specs.Endian.{little_bytes, little_number}
+use Rattle.layout.specs.Names.{ℕ, List, replicate, little_bytes, little_number}
 
 -- the eight bytes of a number, the lowest first
 unfoldable pub number : ℕ → List ℕ

@@ -1,10 +1,6 @@
 -- Capabilities as bytes.
-use Rattle.std.specs.Prelude.{ℕ, ◌+◌, ◌*◌, ◌<◌, ◌==◌, if◌then◌else◌, List, [], ◌∷◌, ◌++◌}
-use Rattle.model.specs.declared.access.Access.{Access}
-use Rattle.model.specs.declared.capability.Cap.{Cap}
-use Rattle.model.specs.declared.capability.Capability.{Capability}
-use Rattle.model.specs.declared.capability.Capability.TheVariants.{Void, Number, Page, Node, Space, Process, Start, Resume, Bank, Discrim}
-use Rattle.model.specs.Capability.{tag_of, access_bits}
+use Rattle.layout.specs.Names.{ℕ, ◌+◌, ◌*◌, ◌<◌, ◌==◌, if◌then◌else◌, List, [], ◌∷◌, ◌++◌, Access, Cap, Capability, Void, Number, Page, Node, Space, Process}
+use Rattle.layout.specs.Names.{Start, Resume, Bank, Discrim, tag_of, access_bits}
 use Rattle.layout.specs.Bytes.{number, short_number}
 
 -- the fields of a capability, and 0 for those that it hasn't

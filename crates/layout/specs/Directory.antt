@@ -1,7 +1,5 @@
 -- The directory of a checkpoint.
-use Rattle.std.specs.Prelude.{◌≡◌, ℕ, ◌+◌, ◌^◌, ◌<◌, List, ◌++◌, length, slice_index_or}
-use Rattle.std.specs.List.{All, flat_map}
-use Rattle.model.specs.declared.geometry.Geometry.{Geometry}
+use Rattle.layout.specs.Names.{◌≡◌, ℕ, ◌+◌, ◌^◌, ◌<◌, List, ◌++◌, length, slice_index_or, All, flat_map, Geometry}
 use Rattle.layout.specs.declared.directory.Entry.{Entry}
 use Rattle.layout.specs.Bytes.{number}
 

@@ -1,23 +1,9 @@
 -- Frames as bytes.
-use Rattle.std.specs.Prelude.{◌≡◌, ◌⊎◌, ℕ, ◌^◌, ◌<◌, ◌==◌, ◌%◌, nat_lt, if◌then◌else◌, IsTrue, List, [], ◌∷◌, ◌++◌, length, map, replicate, slice_index_or}
-use Rattle.std.specs.List.{flat_map}
-use Rattle.model.specs.declared.capability.Cap.{Cap}
-use Rattle.model.specs.declared.capability.Capability.{Capability}
-use Rattle.model.specs.declared.capability.Capability.TheVariants.{Number}
-use Rattle.model.specs.declared.frame.Frame.{Frame}
-use Rattle.model.specs.declared.frame.ObjectHeader.{ObjectHeader}
-use Rattle.model.specs.declared.geometry.Geometry.{Geometry}
-use Rattle.model.specs.declared.object.Content.{Content}
+use Rattle.layout.specs.Names.{◌≡◌, ◌⊎◌, ℕ, ◌^◌, ◌<◌, ◌==◌, ◌%◌, nat_lt, if◌then◌else◌, IsTrue, List, [], ◌∷◌, ◌++◌, length, map, replicate, slice_index_or}
+use Rattle.layout.specs.Names.{flat_map, Cap, Capability, Number, Frame, ObjectHeader, Geometry, Content, Role, Root, State, Available, Running, Waiting}
+use Rattle.layout.specs.Names.{void_held, IsCount, AreKeptSlots, AreKeptWords, IsKeepable, role_of, role_number, is_free, state_number, zero_words, IsSpace}
 use Rattle.model.specs.declared.object.Content.TheVariants as content
-use Rattle.model.specs.declared.object.Role.{Role}
 use Rattle.model.specs.declared.object.Role.TheVariants as role
-use Rattle.model.specs.declared.object.Root.{Root}
-use Rattle.model.specs.declared.object.State.{State}
-use Rattle.model.specs.declared.object.State.TheVariants.{Available, Running, Waiting}
-use Rattle.model.specs.Frame.{void_held}
-use Rattle.model.specs.Keepable.{IsCount, AreKeptSlots, AreKeptWords, IsKeepable}
-use Rattle.model.specs.Object.{role_of, role_number, is_free, state_number, zero_words}
-use Rattle.model.specs.Sound.{IsSpace}
 use Rattle.layout.specs.declared.body.Body.{Body}
 use Rattle.layout.specs.declared.body.Body.TheVariants as body
 use Rattle.layout.specs.declared.body.Room.{Room}

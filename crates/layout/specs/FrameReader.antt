@@ -1,9 +1,5 @@
 -- The frame that bytes would be, whatever they are; where they spell one, it is that one.
-use Rattle.std.specs.Prelude.{ℕ, zero, suc, ◌/◌, ◌%◌, nat_lt, if◌then◌else◌, List, [], ◌∷◌, drop}
-use Rattle.model.specs.declared.capability.Cap.{Cap}
-use Rattle.model.specs.declared.frame.Frame.{Frame}
-use Rattle.model.specs.declared.frame.ObjectHeader.{ObjectHeader}
-use Rattle.model.specs.declared.geometry.Geometry.{Geometry}
+use Rattle.layout.specs.Names.{ℕ, zero, suc, ◌/◌, ◌%◌, nat_lt, if◌then◌else◌, List, [], ◌∷◌, drop, Cap, Frame, ObjectHeader, Geometry}
 use Rattle.layout.specs.Bytes.{number_from}
 use Rattle.layout.specs.Capability.{assembled}
 use Rattle.layout.specs.Frame.{role_in, body_in, page_body_in, content_of}

@@ -1,6 +1,5 @@
 -- Where the frames of objects lie at home, and how.
-use Rattle.std.specs.Prelude.{ℕ, ◌+◌, ◌-◌, ◌*◌, ◌/◌, ◌%◌, nat_lt, nat_le, ◌&&◌, if◌then◌else◌, Option, Some, None, List, [], ◌∷◌}
-use Rattle.model.specs.declared.geometry.Geometry.{Geometry}
+use Rattle.layout.specs.Names.{ℕ, ◌+◌, ◌-◌, ◌*◌, ◌/◌, ◌%◌, nat_lt, nat_le, ◌&&◌, if◌then◌else◌, Option, Some, None, List, [], ◌∷◌, Geometry}
 use Rattle.layout.specs.declared.extent.HomeRange.{HomeRange}
 use Rattle.layout.specs.declared.shape.Shape.{Shape}
 use Rattle.layout.specs.declared.shape.Shape.TheVariants.{Page}

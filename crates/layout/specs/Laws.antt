@@ -1,9 +1,5 @@
 -- Given bytes spell at most one value, a frame is read of the bytes that spell it, and an image denotes at most one saved state.
-use Rattle.std.specs.Prelude.{◌≡◌, ℕ, List}
-use Rattle.model.specs.declared.capability.Cap.{Cap}
-use Rattle.model.specs.declared.frame.Frame.{Frame}
-use Rattle.model.specs.declared.geometry.Geometry.{Geometry}
-use Rattle.model.specs.Keepable.{IsKeptCap}
+use Rattle.layout.specs.Names.{◌≡◌, ℕ, List, Cap, Frame, Geometry, IsKeptCap, Image}
 use Rattle.layout.specs.declared.directory.Entry.{Entry}
 use Rattle.layout.specs.declared.gate.Gate.{Gate}
 use Rattle.layout.specs.declared.header.CheckpointHeader.{CheckpointHeader}
@@ -14,7 +10,6 @@ use Rattle.layout.specs.Directory.{directory_bytes, IsDirectory}
 use Rattle.layout.specs.Frame.{IsFrameOf}
 use Rattle.layout.specs.FrameReader.{frame_from}
 use Rattle.layout.specs.Superblock.{Plan, superblock_bytes, IsPlan}
-use Rattle.device.specs.Disk.{Image}
 use Rattle.layout.specs.Image.{SavedState, Encodes}
 
 abbrev pub SpellOneCapability : Type 0

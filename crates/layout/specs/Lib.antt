@@ -1,3 +1,4 @@
+pub mod Names
 pub mod Bytes
 pub mod Capability
 pub mod Gate

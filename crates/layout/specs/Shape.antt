@@ -1,6 +1,5 @@
 -- How the frame of an object lies in the sectors from where it begins.
-use Rattle.std.specs.Prelude.{ℕ, ◌*◌, ◌<◌, ◌≤◌, List, ◌++◌, take, drop}
-use Rattle.model.specs.declared.geometry.Geometry.{Geometry}
+use Rattle.layout.specs.Names.{ℕ, ◌*◌, ◌<◌, ◌≤◌, List, ◌++◌, take, drop, Geometry}
 use Rattle.layout.specs.declared.shape.Shape.{Shape}
 use Rattle.layout.specs.declared.shape.Shape.TheVariants.{Node, Packed, Page}
 use Rattle.layout.specs.declared.version.Version.{Version}

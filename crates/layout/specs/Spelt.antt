@@ -1,8 +1,5 @@
 -- The frames that the sectors of an image would be, and where they spell them.
-use Rattle.std.specs.Prelude.{ℕ, ◌+◌, ◌<◌, List, map}
-use Rattle.std.specs.List.{range_with_len}
-use Rattle.model.specs.declared.frame.Frame.{Frame}
-use Rattle.device.specs.Disk.{Image}
+use Rattle.layout.specs.Names.{ℕ, ◌+◌, ◌<◌, List, map, range_with_len, Frame, Image}
 use Rattle.layout.specs.declared.directory.Entry.{Entry}
 use Rattle.layout.specs.declared.header.CheckpointHeader.{CheckpointHeader}
 use Rattle.layout.specs.Frame.{IsFrameOf}

@@ -1,7 +1,6 @@
 -- The superblock: how much a device holds, and where.
-use Rattle.std.specs.Prelude.{◌≡◌, ◌⊎◌, ℕ, ◌+◌, ◌-◌, ◌*◌, ◌/◌, ◌<◌, ◌≤◌, ◌^◌, nat_lt, if◌then◌else◌, List, [], ◌∷◌, ◌++◌, length, map, take, drop, replicate, slice_index_or, codes}
-use Rattle.std.specs.List.{All, flat_map}
-use Rattle.model.specs.declared.geometry.Geometry.{Geometry}
+use Rattle.layout.specs.Names.{◌≡◌, ◌⊎◌, ℕ, ◌+◌, ◌-◌, ◌*◌, ◌/◌, ◌<◌, ◌≤◌, ◌^◌, nat_lt, if◌then◌else◌, List, [], ◌∷◌, ◌++◌, length, map, take, drop, replicate}
+use Rattle.layout.specs.Names.{slice_index_or, codes, All, flat_map, Geometry}
 use Rattle.layout.specs.declared.bad_image.BadImage.{BadImage}
 use Rattle.layout.specs.declared.bad_image.BadImage.TheVariants.{NotASuperblock, BadGeometry}
 use Rattle.layout.specs.declared.extent.Extent.{Extent}

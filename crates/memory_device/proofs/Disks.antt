@@ -1,14 +1,9 @@
 -- What the calls of a device with a record do to it, as its users see it.
-use Rattle.std.proofs.Common.{◌≡◌, ◌<◌, ◌≤◌, ◌⊎◌, ℕ, ◌+◌, zero, suc, Bool, false, ◌||◌, if◌then◌else◌, nat_lt, List, [], ◌∷◌, ◌++◌, length, replicate, All, refl, sym, ◌∙◌, ap, subst, arith, inl, inr, ⊎_elim, append_assoc}
-use Rattle.std.proofs.lemmas.Bool.{cases_lt, cases_Bool, lt-ltb, le-ltb}
-use Rattle.std.proofs.lemmas.List.{append-nil}
-use Rattle.memory_device.specs.declared.record.Outcome.{Outcome}
-use Rattle.memory_device.specs.declared.record.Outcome.TheVariants.{Keep, Drop, Fill}
-use Rattle.device.specs.Disk.{Image, Disk, IsWhole}
-use Rattle.device.specs.Calls.{Agrees, Elsewhere, AreSectors, sectors_of, image_of, Narrows, Tears, Only}
-use Rattle.device.specs.Moments.{Elapses}
-use Rattle.memory_device.specs.Past.{Event, wrote, synced, cut, State, at_first, after, replay, left_by, MayLeave, disk_of, writes_of, IsQuiet, EndsCut}
-use Rattle.memory_device.specs.Record.{names, entries_of}
+use Rattle.memory_device.proofs.Names.{◌≡◌, ◌<◌, ◌≤◌, ◌⊎◌, ℕ, ◌+◌, zero, suc, Bool, false, ◌||◌, if◌then◌else◌, nat_lt, List, [], ◌∷◌, ◌++◌, length, replicate}
+use Rattle.memory_device.proofs.Names.{All, refl, sym, ◌∙◌, ap, subst, arith, inl, inr, ⊎_elim, append_assoc, cases_lt, cases_Bool, lt-ltb, le-ltb, append-nil}
+use Rattle.memory_device.proofs.Names.{Outcome, Keep, Drop, Fill, Image, Disk, IsWhole, Agrees, Elsewhere, AreSectors, sectors_of, image_of, Narrows, Tears}
+use Rattle.memory_device.proofs.Names.{Only, Elapses, Event, wrote, synced, cut, State, at_first, after, replay, left_by, MayLeave, disk_of, writes_of, IsQuiet}
+use Rattle.memory_device.proofs.Names.{EndsCut, names, entries_of}
 use Rattle.memory_device.proofs.Past.{replay-append, replay-one, elapses_still, elapses_one, written-durable, written-present_before, written-present_after, written-present_inside, quiet-unsynced}
 use Rattle.memory_device.proofs.Patches.{or_false}
 use Rattle.memory_device.proofs.Keeps.{written-unsynced, names-entries_of}

@@ -1,12 +1,8 @@
 -- The record of what was done, and the events that it stands for.
-use Rattle.std.proofs.Common.{◌≡◌, ◌⊎◌, ℕ, ◌+◌, zero, suc, List, [], ◌∷◌, ◌++◌, length, get_or, take, drop, Option, Some, None, unwrap_or, refl, sym, ◌∙◌, ap, subst, arith, inl, inr, ⊎_elim, add-one, length-append, append_assoc, ◌*◌}
-use Rattle.std.proofs.Math.ListN.{set}
-use Rattle.memory_device.specs.declared.record.Outcome.{Outcome}
-use Rattle.memory_device.specs.declared.record.Action.TheVariants.{Wrote, Synced}
-use Rattle.memory_device.specs.declared.record.RecordEntry.{RecordEntry}
-use Rattle.device.specs.Calls.{image_of}
-use Rattle.memory_device.specs.Past.{Event, wrote, synced, cut, writes_of, IsQuiet, EndsCut}
-use Rattle.memory_device.specs.Record.{event_of, mark_of, entry_events, events_of, entries_of, mark_after, marked}
+use Rattle.memory_device.proofs.Names.{◌≡◌, ◌⊎◌, ℕ, ◌+◌, zero, suc, List, [], ◌∷◌, ◌++◌, length, get_or, take, drop, Option, Some, None, unwrap_or, refl, sym}
+use Rattle.memory_device.proofs.Names.{◌∙◌, ap, subst, arith, inl, inr, ⊎_elim, add-one, length-append, append_assoc, ◌*◌, set, Outcome, Wrote, Synced}
+use Rattle.memory_device.proofs.Names.{RecordEntry, image_of, Event, wrote, synced, cut, writes_of, IsQuiet, EndsCut, event_of, mark_of, entry_events}
+use Rattle.memory_device.proofs.Names.{events_of, entries_of, mark_after, marked}
 
 -- a write over the last entry
 pub marked_set : (outcome : Outcome) (es : List RecordEntry) (k : ℕ) (e : RecordEntry) → suc k ≡ length es → e ≡ get_or es k e → set es k (mark_after outcome e) ≡ marked outcome es

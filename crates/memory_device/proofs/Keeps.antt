@@ -1,18 +1,9 @@
 -- Each call keeps the bytes and the record in accord.
-use Rattle.std.proofs.Common.{◌≡◌, ◌<◌, ◌≤◌, ◌⊎◌, ℕ, ◌+◌, ◌-◌, zero, suc, Bool, true, false, ◌||◌, nat_eq, if◌then◌else◌, List, [], ◌∷◌, ◌++◌, length, drop, replicate, All, refl, sym, ◌∙◌, ap, arith, inl, inr, ⊎_elim}
-use Rattle.std.proofs.lemmas.Bool.{cases_lt, cases_Bool, or_cases, eqb-true, eqb-false, cases_order}
-use Rattle.std.proofs.lemmas.List.{drop-append-le, drop_all}
-use Rattle.std.proofs.Math.Bool.{or_assoc}
-use Rattle.memory_device.specs.declared.record.Outcome.{Outcome}
-use Rattle.memory_device.specs.declared.record.Outcome.TheVariants.{Keep, Drop, Fill}
-use Rattle.memory_device.specs.declared.record.Action.TheVariants.{Synced}
-use Rattle.memory_device.specs.declared.record.RecordEntry.{RecordEntry}
-use Rattle.std.proofs.Common.{None}
-use Rattle.device.specs.Disk.{Image}
-use Rattle.device.specs.Calls.{Agrees, Elsewhere, Patches, AreSectors, sectors_of, image_of}
-use Rattle.memory_device.specs.Past.{Event, wrote, synced, cut, State, at_first, after, replay, left_by, writes_of}
-use Rattle.memory_device.specs.Record.{names, events_of, entries_of, marked}
-use Rattle.memory_device.specs.Sound.{IsSoundMirror, now_of, state_with}
+use Rattle.memory_device.proofs.Names.{◌≡◌, ◌<◌, ◌≤◌, ◌⊎◌, ℕ, ◌+◌, ◌-◌, zero, suc, Bool, true, false, ◌||◌, nat_eq, if◌then◌else◌, List, [], ◌∷◌, ◌++◌, length}
+use Rattle.memory_device.proofs.Names.{drop, replicate, All, refl, sym, ◌∙◌, ap, arith, inl, inr, ⊎_elim, cases_lt, cases_Bool, or_cases, eqb-true, eqb-false}
+use Rattle.memory_device.proofs.Names.{cases_order, drop-append-le, drop_all, or_assoc, Outcome, Keep, Drop, Fill, Synced, RecordEntry, None, Image, Agrees}
+use Rattle.memory_device.proofs.Names.{Elsewhere, Patches, AreSectors, sectors_of, image_of, Event, wrote, synced, cut, State, at_first, after, replay, left_by}
+use Rattle.memory_device.proofs.Names.{writes_of, names, events_of, entries_of, marked, IsSoundMirror, now_of, state_with}
 use Rattle.memory_device.proofs.Past.{replay-append, replay-one, written-durable, written-present_before, written-present_after, written-present_inside, quiet-unsynced}
 use Rattle.memory_device.proofs.Patches.{or_false, or_right, names-append}
 use Rattle.memory_device.proofs.Entries.{past_written, length_written, past_synced, events_of-marked}

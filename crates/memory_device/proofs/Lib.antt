@@ -1,3 +1,4 @@
+mod Names
 pub mod Disks
 mod Entries
 mod Keeps

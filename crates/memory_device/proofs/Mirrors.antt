@@ -1,13 +1,7 @@
 -- What the calls of a device in memory do to it, as its users see it.
-use Rattle.std.proofs.Common.{◌≡◌, ℕ, List, [], ◌∷◌, ◌++◌, subst}
-use Rattle.memory_device.specs.declared.record.Outcome.{Outcome}
-use Rattle.memory_device.specs.declared.mirror.Mirror.{Mirror}
-use Rattle.device.specs.Disk.{IsWhole}
-use Rattle.device.specs.Calls.{Agrees, Elsewhere, AreSectors, sectors_of, image_of, Narrows, Tears, Only}
-use Rattle.device.specs.Moments.{Elapses}
-use Rattle.memory_device.specs.Past.{synced, left_by, writes_of, EndsCut}
-use Rattle.memory_device.specs.Mirror.{past_of, state_of, disk_of_mirror}
-use Rattle.memory_device.specs.SoundLaws.{present_whole, durable_whole, synced_same}
+use Rattle.memory_device.proofs.Names.{◌≡◌, ℕ, List, [], ◌∷◌, ◌++◌, subst, Outcome, Mirror, IsWhole, Agrees, Elsewhere, AreSectors, sectors_of, image_of}
+use Rattle.memory_device.proofs.Names.{Narrows, Tears, Only, Elapses, synced, left_by, writes_of, EndsCut, past_of, state_of, disk_of_mirror, present_whole}
+use Rattle.memory_device.proofs.Names.{durable_whole, synced_same}
 use Rattle.memory_device.proofs.Disks as Disks
 
 module _ (old new : Mirror) (first_is : new.first ≡ old.first) (sectors_is : new.sectors ≡ old.sectors) (failures risen : ℕ) where

@@ -1,11 +1,7 @@
 -- How a device with a record goes on.
-use Rattle.std.proofs.Common.{◌≡◌, ◌<◌, ◌≤◌, ℕ, ◌+◌, zero, suc, Bool, false, if◌then◌else◌, List, [], ◌∷◌, ◌++◌, length, take, refl, sym, ◌∙◌, ap, subst, arith, inl, inr, ⊎_elim, length-append}
-use Rattle.std.proofs.lemmas.List.{take-append-le, take_all}
-use Rattle.std.proofs.lemmas.Bool.{cases_lt, eq-eqb, ne_eqb}
-use Rattle.device.specs.Disk.{Image}
-use Rattle.device.specs.Calls.{image_of}
-use Rattle.device.specs.Moments.{Elapses}
-use Rattle.memory_device.specs.Past.{Event, wrote, cut, State, at_first, after, replay, MayLeave, disk_of, writes_of, IsQuiet}
+use Rattle.memory_device.proofs.Names.{◌≡◌, ◌<◌, ◌≤◌, ℕ, ◌+◌, zero, suc, Bool, false, if◌then◌else◌, List, [], ◌∷◌, ◌++◌, length, take, refl, sym, ◌∙◌, ap}
+use Rattle.memory_device.proofs.Names.{subst, arith, inl, inr, ⊎_elim, length-append, take-append-le, take_all, cases_lt, eq-eqb, ne_eqb, Image, image_of}
+use Rattle.memory_device.proofs.Names.{Elapses, Event, wrote, cut, State, at_first, after, replay, MayLeave, disk_of, writes_of, IsQuiet}
 
 -- events after events
 pub replay-append : (s : State) (xs ys : List Event) → replay s (xs ++ ys) ≡ replay (replay s xs) ys

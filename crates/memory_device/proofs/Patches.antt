@@ -1,17 +1,8 @@
 -- Sectors that take the place of others, one after another.
-use Rattle.std.proofs.Common.{◌≡◌, ◌<◌, ◌≤◌, ℕ, ◌+◌, ◌*◌, Bool, true, false, ◌||◌, ◌==◌, if◌then◌else◌, zero, suc, List, [], ◌∷◌, ◌++◌, length, get_or, take, drop, replicate, refl, sym, ◌∙◌, ap, arith, ⊎_elim, length-drop}
-use Rattle.std.proofs.lemmas.Bool.{eq-eqb, eqb-true, eqb-false, or_cases, cases_Bool, cases_order}
-use Rattle.std.proofs.lemmas.List.{take_more, take-take, take-replicate, length-take-le}
-use Rattle.std.proofs.Math.Bool.{or_assoc}
-use Rattle.device.specs.Disk.{Image}
-use Rattle.device.specs.Calls.{Agrees, image_of, sectors_of, AreSectors, Elsewhere, Patches}
-use Rattle.memory_device.specs.Past.{State, left_by}
-use Rattle.memory_device.specs.declared.record.Outcome.{Outcome}
-use Rattle.memory_device.specs.declared.record.Outcome.TheVariants.{Fill}
-use Rattle.memory_device.specs.Record.{writes, names}
-use Rattle.memory_device.specs.declared.record.Action.{Action}
-use Rattle.memory_device.specs.declared.record.Action.TheVariants.{Wrote}
-use Rattle.memory_device.specs.declared.record.RecordEntry.{RecordEntry}
+use Rattle.memory_device.proofs.Names.{◌≡◌, ◌<◌, ◌≤◌, ℕ, ◌+◌, ◌*◌, Bool, true, false, ◌||◌, ◌==◌, if◌then◌else◌, zero, suc, List, [], ◌∷◌, ◌++◌, length, get_or}
+use Rattle.memory_device.proofs.Names.{take, drop, replicate, refl, sym, ◌∙◌, ap, arith, ⊎_elim, length-drop, eq-eqb, eqb-true, eqb-false, or_cases, cases_Bool}
+use Rattle.memory_device.proofs.Names.{cases_order, take_more, take-take, take-replicate, length-take-le, or_assoc, Image, Agrees, image_of, sectors_of}
+use Rattle.memory_device.proofs.Names.{AreSectors, Elsewhere, Patches, State, left_by, Outcome, Fill, writes, names, Action, Wrote, RecordEntry}
 
 pub or_false : (a b : Bool) → (a || b) ≡ false → (a ≡ false) × (b ≡ false)
 or_false false b none = (refl, none)

@@ -1,6 +1,5 @@
 -- A device that stops after some calls.
-use Rattle.std.specs.Prelude.{◌≡◌, ◌<◌, ℕ, ◌+◌, ◌-◌, Option, Some, option_map, Result, IsErr}
-use Rattle.device.specs.Disk.{Disk}
+use Rattle.memory_device.specs.Names.{◌≡◌, ◌<◌, ℕ, ◌+◌, ◌-◌, Option, Some, option_map, Result, IsErr, Disk}
 use Rattle.memory_device.specs.declared.fuse.Fuse.{Fuse}
 
 -- the device that the calls are passed to

@@ -1,3 +1,4 @@
+pub mod Names
 pub mod Fuse
 pub mod Memory
 pub mod Mirror

@@ -1,8 +1,7 @@
 -- A device in memory.
-use Rattle.std.specs.Prelude.{◌≡◌, ℕ, ◌-◌, List, vec_len}
+use Rattle.memory_device.specs.Names.{◌≡◌, ℕ, ◌-◌, List, vec_len, Disk}
 use Rattle.memory_device.specs.declared.memory.Memory.{Memory}
 use Rattle.memory_device.specs.declared.record.Outcome.{Outcome}
-use Rattle.device.specs.Disk.{Disk}
 use Rattle.memory_device.specs.Past.{Event, State}
 use Rattle.memory_device.specs.Mirror.{past_of, state_of, disk_of_mirror}
 

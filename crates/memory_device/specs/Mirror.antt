@@ -1,8 +1,6 @@
 -- A device in memory as what it has gone through.
-use Rattle.std.specs.Prelude.{ℕ, List}
+use Rattle.memory_device.specs.Names.{ℕ, List, Disk, image_of}
 use Rattle.memory_device.specs.declared.mirror.Mirror.{Mirror}
-use Rattle.device.specs.Disk.{Disk}
-use Rattle.device.specs.Calls.{image_of}
 use Rattle.memory_device.specs.Past.{Event, State, disk_of}
 use Rattle.memory_device.specs.Record.{events_of}
 use Rattle.memory_device.specs.Sound.{now_of}

@@ -1,9 +1,8 @@
 -- What a device with a record has gone through, and what a crash may leave at each moment of that.
-use Rattle.std.specs.Prelude.{◌≡◌, ◌≤◌, ◌⊎◌, ℕ, ◌+◌, Bool, false, ◌||◌, ◌==◌, if◌then◌else◌, List, [], ◌∷◌, ◌++◌, length, take, replicate, zero, suc}
+use Rattle.memory_device.specs.Names.{◌≡◌, ◌≤◌, ◌⊎◌, ℕ, ◌+◌, Bool, false, ◌||◌, ◌==◌, if◌then◌else◌, List, [], ◌∷◌, ◌++◌, length, take, replicate, zero, suc}
+use Rattle.memory_device.specs.Names.{Image, IsWhole, Disk, image_of}
 use Rattle.memory_device.specs.declared.record.Outcome.{Outcome}
 use Rattle.memory_device.specs.declared.record.Outcome.TheVariants.{Keep, Drop, Fill}
-use Rattle.device.specs.Disk.{Image, IsWhole, Disk}
-use Rattle.device.specs.Calls.{image_of}
 
 -- what happens to a device: a sector is written, all is synced, or the power goes and comes back
 pub data Event : Type 0 where

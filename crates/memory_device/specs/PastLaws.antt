@@ -1,10 +1,6 @@
 -- What holds of each device with a record: the laws that a device has to meet.
-use Rattle.std.specs.Prelude.{◌≡◌, ◌≤◌, ◌<◌, ℕ, ◌*◌, List, length, take, drop, All}
-use Rattle.std.proofs.Common.{arith, sym, subst, ap, length-drop}
-use Rattle.std.proofs.lemmas.List.{take_all, drop_all, length-take-le}
-use Rattle.std.proofs.lemmas.List.Elements.{All-take, All-drop}
-use Rattle.device.specs.Disk.{Image, IsWhole}
-use Rattle.device.specs.Calls.{image_of}
+use Rattle.memory_device.specs.Names.{◌≡◌, ◌≤◌, ◌<◌, ℕ, ◌*◌, List, length, take, drop, All, arith, sym, subst, ap, length-drop, take_all, drop_all}
+use Rattle.memory_device.specs.Names.{length-take-le, All-take, All-drop, Image, IsWhole, image_of}
 use Rattle.memory_device.specs.Past.{Event, at_first, replay, MayLeave}
 
 module _ (sectors : ℕ) (first : Image) (past : List Event) where

@@ -1,10 +1,9 @@
 -- The record that a device in memory keeps of what was done to it.
-use Rattle.std.specs.Prelude.{ℕ, zero, suc, ◌+◌, Bool, false, ◌||◌, ◌==◌, List, [], ◌∷◌, ◌++◌, Option, Some, None, unwrap_or}
+use Rattle.memory_device.specs.Names.{ℕ, zero, suc, ◌+◌, Bool, false, ◌||◌, ◌==◌, List, [], ◌∷◌, ◌++◌, Option, Some, None, unwrap_or, image_of}
 use Rattle.memory_device.specs.declared.record.Outcome.{Outcome}
 use Rattle.memory_device.specs.declared.record.Action.{Action}
 use Rattle.memory_device.specs.declared.record.Action.TheVariants.{Wrote, Synced}
 use Rattle.memory_device.specs.declared.record.RecordEntry.{RecordEntry}
-use Rattle.device.specs.Calls.{image_of}
 use Rattle.memory_device.specs.Past.{Event, wrote, synced, cut}
 
 -- what was done

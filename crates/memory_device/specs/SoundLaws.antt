@@ -1,9 +1,6 @@
 -- What follows for the sectors of a device in memory from what holds of its bytes and its record.
-use Rattle.std.specs.Prelude.{◌≡◌, ℕ, false, List}
-use Rattle.std.proofs.Common.{sym, ◌∙◌, subst}
-use Rattle.std.proofs.Math.Path.{fun_ext}
+use Rattle.memory_device.specs.Names.{◌≡◌, ℕ, false, List, sym, ◌∙◌, subst, fun_ext, IsWhole}
 use Rattle.memory_device.specs.declared.record.RecordEntry.{RecordEntry}
-use Rattle.device.specs.Disk.{IsWhole}
 use Rattle.memory_device.specs.Past.{MayLeave}
 use Rattle.memory_device.specs.PastLaws.{image_whole}
 use Rattle.memory_device.specs.Sound.{IsSoundMirror, now_of}

@@ -1,22 +1,8 @@
 -- A header is adopted with its directory.
-use Rattle.std.proofs.Common.{◌≡◌, ◌⊎◌, ℕ, zero, suc, Option, None, List, [], ◌∷◌, length, refl, sym, ap, subst, ◌∙◌, inl, inr, ⊎_elim}
-use Rattle.std.specs.Prelude.{replicate}
-use Rattle.device.specs.Disk.{Disk}
-use Rattle.device.specs.Moments.{LeavesOnly}
-use Rattle.device.proofs.Moments.{leaves_weaker}
-use Rattle.layout.specs.declared.directory.Entry.{Entry}
-use Rattle.layout.specs.declared.header.CheckpointHeader.{CheckpointHeader}
-use Rattle.layout.specs.Image.{Encodes, SavedState}
-use Rattle.layout.specs.Spelt.{state_in}
-use Rattle.checkpoint.specs.Saved.{Holds, LeavesEither}
-use Rattle.ckpt_log.specs.Places.{directory_extent}
-use Rattle.migrator.specs.declared.books.Books.{Books}
-use Rattle.migrator.specs.declared.table.Place.{Place}
-use Rattle.migrator.specs.declared.table.Place.TheVariants.{Nowhere}
-use Rattle.migrator.specs.Durable.{IsDurable, IsKept, IsRunning, IsSoundOn, LeavesState, Stored, saved_state, stored_in, stored_on}
-use Rattle.migrator.specs.Mended.{Unwritten, mended}
-use Rattle.migrator.specs.Saving.{MayAdopt, MaySave, SavesOnly, SparesKept, adopted}
-use Rattle.migrator.specs.Table.{place_at}
+use Rattle.migrator.proofs.Names.{◌≡◌, ◌⊎◌, ℕ, zero, suc, Option, None, List, [], ◌∷◌, length, refl, sym, ap, subst, ◌∙◌, inl, inr, ⊎_elim, replicate, Disk}
+use Rattle.migrator.proofs.Names.{LeavesOnly, leaves_weaker, Entry, CheckpointHeader, Encodes, SavedState, state_in, Holds, LeavesEither, directory_extent}
+use Rattle.migrator.proofs.Names.{Books, Place, Nowhere, IsDurable, IsKept, IsRunning, IsSoundOn, LeavesState, Stored, saved_state, stored_in, stored_on}
+use Rattle.migrator.proofs.Names.{Unwritten, mended, MayAdopt, MaySave, SavesOnly, SparesKept, adopted, place_at}
 use Rattle.migrator.proofs.Buffered.{none_idle, without}
 use Rattle.migrator.proofs.Committing.{kept_saves, state_saves, stored_saves}
 use Rattle.migrator.proofs.GoingOn.{holds}

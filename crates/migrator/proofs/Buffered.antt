@@ -1,34 +1,11 @@
 -- What a cluster in memory leaves of what is kept of a store.
-use Rattle.std.proofs.Common.{◌≡◌, ◌⊎◌, ℕ, ◌+◌, ◌-◌, ◌%◌, ◌<◌, Option, Some, None, List, length, set, refl, sym, ap, subst, ◌∙◌, inl, inr, arith}
-use Rattle.std.proofs.lemmas.Bool.{cases_eq}
-use Rattle.device.specs.Disk.{Image, Disk}
-use Rattle.layout.specs.declared.extent.Extent.{Extent}
-use Rattle.layout.specs.Homes.{home_place, shape_of}
-use Rattle.layout.specs.Image.{bytes_at, frame_in, half_sector, slot_sector}
-use Rattle.layout.specs.Shape.{shape_bytes}
-use Rattle.layout.specs.declared.shape.Shape.{Shape}
-use Rattle.layout.specs.declared.shape.Shape.TheVariants.{Packed}
-use Rattle.layout.specs.FrameReader.{frame_from}
-use Rattle.layout.specs.Spelt.{count_of, IsSpelt, frame_read}
-use Rattle.layout.specs.Frame.{IsFrameOf}
-use Rattle.layout.specs.Superblock.{Plan, IsPlan, IsInside, half_extent}
-use Rattle.layout.proofs.Halves.{apart_inside}
-use Rattle.layout.proofs.Spelling.{spelt_same}
-use Rattle.layout.proofs.SlotsOf.{found_slot}
-use Rattle.frame_io.specs.Calls.{ReadsOnly}
-use Rattle.migrator.specs.declared.table.Place.{Place}
-use Rattle.migrator.specs.declared.table.Place.TheVariants.{Whole}
-use Rattle.migrator.specs.Table.{place_at, slot_of, slot_for, entries_of}
-use Rattle.home_ranges.proofs.Places.{ranked}
-use Rattle.home_ranges.proofs.Shared.{begins}
-use Rattle.checkpoint.specs.Saved.{most}
-use Rattle.migrator.specs.Mended.{Unwritten, mended, IsSpeltIn, IsUnwritten, IfUnwritten}
-use Rattle.model.specs.declared.frame.Frame.{Frame}
-use Rattle.migrator.specs.Put.{slot_bytes, slot_frame}
-use Rattle.migrator.specs.declared.books.Books.{Books}
-use Rattle.migrator.specs.Durable.{GoesOnDisk, IsDurable, frozen_generation, working_generation, generation_after, stored_on, IsKept, HasUnwritten, MayHaveUnwritten}
-use Rattle.ckpt_log.specs.Places.{place_extent, slot_extent}
-use Rattle.ckpt_log.proofs.Places.{frames_in_slots, slots_apart}
+use Rattle.migrator.proofs.Names.{◌≡◌, ◌⊎◌, ℕ, ◌+◌, ◌-◌, ◌%◌, ◌<◌, Option, Some, None, List, length, set, refl, sym, ap, subst, ◌∙◌, inl, inr, arith, cases_eq}
+use Rattle.migrator.proofs.Names.{Image, Disk, Extent, home_place, shape_of, bytes_at, frame_in, half_sector, slot_sector, shape_bytes, Shape, Packed}
+use Rattle.migrator.proofs.Names.{frame_from, count_of, IsSpelt, frame_read, IsFrameOf, Plan, IsPlan, IsInside, half_extent, apart_inside, spelt_same}
+use Rattle.migrator.proofs.Names.{found_slot, ReadsOnly, Place, Whole, place_at, slot_of, slot_for, entries_of, ranked, begins, most, Unwritten, mended}
+use Rattle.migrator.proofs.Names.{IsSpeltIn, IsUnwritten, IfUnwritten, Frame, slot_bytes, slot_frame, Books, GoesOnDisk, IsDurable, frozen_generation}
+use Rattle.migrator.proofs.Names.{working_generation, generation_after, stored_on, IsKept, HasUnwritten, MayHaveUnwritten, place_extent, slot_extent}
+use Rattle.migrator.proofs.Names.{frames_in_slots, slots_apart}
 use Rattle.migrator.proofs.Committing.{frozen_fits}
 use Rattle.migrator.proofs.Completing.{packed_read}
 use Rattle.migrator.proofs.Fetching.{fetched_goes_on, fetched_kept, fetched_stored}

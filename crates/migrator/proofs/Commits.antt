@@ -1,14 +1,7 @@
 -- The slots of a checkpoint were completed, and its header is adopted.
-use Rattle.std.proofs.Common.{◌≡◌, ℕ, ◌<◌, ◌≤◌, ◌^◌, Option, Some, None, refl, ap, subst, ◌∙◌}
-use Rattle.model.specs.Keepable.{AreKeepable}
-use Rattle.device.specs.Disk.{Disk}
-use Rattle.checkpoint.specs.Saved.{LeavesEither}
-use Rattle.migrator.specs.Completed.{AreComplete, Keeps}
-use Rattle.migrator.specs.declared.books.Books.{Books}
-use Rattle.migrator.specs.Durable.{FrozenPuts, GoesOnDisk, IsDurable, IsKept, IsSoundOn, Stored, frozen_generation, frozen_of, next_header, next_saved, seen_by, stored_after_commit, stored_in, stored_on}
-use Rattle.migrator.specs.Mended.{Unwritten, mended}
-use Rattle.migrator.specs.Saving.{MayAdopt, adopted}
-use Rattle.migrator.specs.Table.{entries_of, whole_count}
+use Rattle.migrator.proofs.Names.{◌≡◌, ℕ, ◌<◌, ◌≤◌, ◌^◌, Option, Some, None, refl, ap, subst, ◌∙◌, AreKeepable, Disk, LeavesEither, AreComplete, Keeps, Books}
+use Rattle.migrator.proofs.Names.{FrozenPuts, GoesOnDisk, IsDurable, IsKept, IsSoundOn, Stored, frozen_generation, frozen_of, next_header, next_saved, seen_by}
+use Rattle.migrator.proofs.Names.{stored_after_commit, stored_in, stored_on, Unwritten, mended, MayAdopt, adopted, entries_of, whole_count}
 use Rattle.migrator.proofs.Adopting.{kept_raw, sound_raw, stored_raw}
 use Rattle.migrator.proofs.Committing.{committed_stored, may_commit}
 use Rattle.migrator.proofs.Completed.{IsReady, goes_after, has_after, keepable_at, kept_with, mid_kept, ready, stored_after}

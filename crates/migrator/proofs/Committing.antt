@@ -1,43 +1,16 @@
 -- The frozen frames become the saved ones.
-use Rattle.std.proofs.Common.{◌≡◌, ℕ, ◌+◌, ◌-◌, ◌%◌, ◌^◌, ◌<◌, ◌≤◌, Bool, true, false, cond, Option, Some, None, List, length, refl, sym, ap, subst, ◌∙◌, inr, arith}
-use Rattle.std.specs.Prelude.{◌==◌, map, replicate}
-use Rattle.std.specs.List.{range_with_len}
-use Rattle.std.proofs.lemmas.List.{length-replicate}
-use Rattle.model.specs.declared.frame.Frame.{Frame}
-use Rattle.model.specs.Frame.{frame_at}
-use Rattle.model.specs.Keepable.{IsKeepable, AreKeepable}
-use Rattle.device.specs.Disk.{Image, Disk}
-use Rattle.layout.specs.declared.directory.Entry.{Entry}
-use Rattle.layout.specs.declared.extent.Extent.{Extent}
-use Rattle.layout.specs.declared.header.CheckpointHeader.{CheckpointHeader}
-use Rattle.layout.specs.Directory.{IsDirectory, entry_at}
-use Rattle.layout.specs.Frame.{IsFrameOf}
-use Rattle.layout.specs.FrameReader.{frame_from}
-use Rattle.layout.specs.Header.{IsHeader}
-use Rattle.layout.specs.Image.{frame_in, seat_in, slot_in, slot_beside, half_sector}
-use Rattle.layout.specs.Spelt.{count_of, frame_read, frames_read, IsSpelt, AreSpelt}
-use Rattle.layout.specs.Superblock.{Plan, IsApart, IsInside, half_extent}
-use Rattle.layout.proofs.Halves.{itself, apart_inside, half_within}
-use Rattle.layout.proofs.Spelling.{length_read, read_at, spelt_same, spelt_at}
-use Rattle.home_ranges.proofs.Seats.{beside_seat}
-use Rattle.home_ranges.proofs.Places.{places_within}
-use Rattle.ckpt_log.specs.Commit.{header_sector}
-use Rattle.ckpt_log.specs.Places.{slot_extent, place_extent, directory_extent}
-use Rattle.ckpt_log.proofs.Denoted.{frames_behind}
-use Rattle.ckpt_log.proofs.Places.{frames_in_slots, directories_inside, slots_spare_directories}
-use Rattle.migrator.specs.declared.table.Place.{Place}
-use Rattle.migrator.specs.declared.table.Place.TheVariants.{Nowhere, Torn, Whole}
-use Rattle.migrator.specs.Table.{place_at, slot_of, taken_count, whole_count, has_slot, entries_of}
-use Rattle.migrator.specs.Put.{Put, Absent, put_at, put_or, overlaid, slot_bytes, put_of, puts_in, ArePut}
-use Rattle.checkpoint.specs.Saved.{most}
-use Rattle.migrator.specs.declared.books.Books.{Books}
-use Rattle.migrator.specs.Durable.{IsDurable, frozen_generation, working_generation, generation_after, Stored, saved_state, frozen_of, stored_in, IsRunning, IsKept, LeavesState, next_header, stored_after_commit}
-use Rattle.migrator.specs.Completed.{AreComplete}
-use Rattle.migrator.specs.Saving.{MayAdopt, MaySave, SavesOnly, SparesKept, adopted}
-use Rattle.migrator.specs.Spared.{SparesFrames, Spares}
+use Rattle.migrator.proofs.Names.{◌≡◌, ℕ, ◌+◌, ◌-◌, ◌%◌, ◌^◌, ◌<◌, ◌≤◌, Bool, true, false, cond, Option, Some, None, List, length, refl, sym, ap, subst, ◌∙◌}
+use Rattle.migrator.proofs.Names.{inr, arith, ◌==◌, map, replicate, range_with_len, length-replicate, Frame, frame_at, IsKeepable, AreKeepable, Image, Disk}
+use Rattle.migrator.proofs.Names.{Entry, Extent, CheckpointHeader, IsDirectory, entry_at, IsFrameOf, frame_from, IsHeader, frame_in, seat_in, slot_in}
+use Rattle.migrator.proofs.Names.{slot_beside, half_sector, count_of, frame_read, frames_read, IsSpelt, AreSpelt, Plan, IsApart, IsInside, half_extent, itself}
+use Rattle.migrator.proofs.Names.{apart_inside, half_within, length_read, read_at, spelt_same, spelt_at, beside_seat, places_within, header_sector, slot_extent}
+use Rattle.migrator.proofs.Names.{place_extent, directory_extent, frames_behind, frames_in_slots, directories_inside, slots_spare_directories, Place, Nowhere}
+use Rattle.migrator.proofs.Names.{Torn, Whole, place_at, slot_of, taken_count, whole_count, has_slot, entries_of, Put, Absent, put_at, put_or, overlaid}
+use Rattle.migrator.proofs.Names.{slot_bytes, put_of, puts_in, ArePut, most, Books, IsDurable, frozen_generation, working_generation, generation_after, Stored}
+use Rattle.migrator.proofs.Names.{saved_state, frozen_of, stored_in, IsRunning, IsKept, LeavesState, next_header, stored_after_commit, AreComplete, MayAdopt}
+use Rattle.migrator.proofs.Names.{MaySave, SavesOnly, SparesKept, adopted, SparesFrames, Spares, maps_same}
 use Rattle.migrator.proofs.Tables.{all_whole, whole_taken, entries_directory, length_entries, slot_entries, blank_at, blank_table, tally-blank}
 use Rattle.migrator.proofs.Spared.{state_stays}
-use Rattle.checkpoint.proofs.Lists.{maps_same}
 use Rattle.migrator.proofs.Kept.{stored_stays, kept_on}
 use Rattle.migrator.proofs.PlacesApart.{in_slot, in_seat, at_home, frame_apart, home_apart, spares_other, homes_behind}
 use Rattle.migrator.proofs.Seats.{no_entries, seat_fits}

@@ -1,31 +1,12 @@
 -- What is kept of a store is kept while its slots are completed.
-use Rattle.std.proofs.Common.{◌≡◌, ℕ, ◌+◌, ◌*◌, ◌%◌, ◌<◌, Option, Some, None, List, refl, sym, ap, subst, ◌∙◌, arith}
-use Rattle.device.specs.Disk.{Image, Disk}
-use Rattle.device.specs.Calls.{IsTorn}
-use Rattle.model.specs.Keepable.{AreKeepable}
-use Rattle.layout.specs.declared.directory.Entry.{Entry}
-use Rattle.layout.specs.declared.extent.Extent.{Extent}
-use Rattle.layout.specs.declared.header.CheckpointHeader.{CheckpointHeader}
-use Rattle.layout.specs.Directory.{entry_at}
-use Rattle.layout.specs.Image.{half_sector}
-use Rattle.layout.specs.Spelt.{count_of}
-use Rattle.layout.specs.Superblock.{Plan, IsInside, half_extent}
-use Rattle.layout.specs.Homes.{shape_of}
-use Rattle.layout.proofs.SlotsOf.{found_slot, own_slot}
+use Rattle.migrator.proofs.Names.{◌≡◌, ℕ, ◌+◌, ◌*◌, ◌%◌, ◌<◌, Option, Some, None, List, refl, sym, ap, subst, ◌∙◌, arith, Image, Disk, IsTorn, AreKeepable}
+use Rattle.migrator.proofs.Names.{Entry, Extent, CheckpointHeader, entry_at, half_sector, count_of, Plan, IsInside, half_extent, shape_of, found_slot, own_slot}
+use Rattle.migrator.proofs.Names.{spelt_same, Place, Whole, place_at, slot_of, entries_of, AreComplete, Keeps, Unwritten, mended, IfUnwritten, Put, slot_bytes}
+use Rattle.migrator.proofs.Names.{puts_in, Books, frozen_generation, working_generation, generation_after, FrozenPuts, Stored, stored_in, frozen_of}
+use Rattle.migrator.proofs.Names.{next_header, next_saved, saved_state, IsKept, IsRunning, LeavesState, MayHaveUnwritten, Holds, LeavesSaved, kept_of, Spares}
+use Rattle.migrator.proofs.Names.{Touches, SparesPuts}
 use Rattle.migrator.proofs.Committing.{frozen_fits}
-use Rattle.layout.proofs.Spelling.{spelt_same}
-use Rattle.migrator.specs.declared.table.Place.{Place}
-use Rattle.migrator.specs.declared.table.Place.TheVariants.{Whole}
-use Rattle.migrator.specs.Table.{place_at, slot_of, entries_of}
-use Rattle.migrator.specs.Completed.{AreComplete, Keeps}
-use Rattle.migrator.specs.Mended.{Unwritten, mended, IfUnwritten}
-use Rattle.migrator.specs.Put.{Put, slot_bytes, puts_in}
-use Rattle.migrator.specs.declared.books.Books.{Books}
-use Rattle.migrator.specs.Durable.{frozen_generation, working_generation, generation_after, FrozenPuts, Stored, stored_in, frozen_of, next_header, next_saved, saved_state, IsKept, IsRunning, LeavesState, MayHaveUnwritten}
-use Rattle.checkpoint.specs.Saved.{Holds, LeavesSaved, kept_of}
-use Rattle.migrator.specs.Spared.{Spares, Touches}
 use Rattle.migrator.proofs.GoingOn.{GoesOnSeen, goes_spared}
-use Rattle.migrator.specs.Saving.{SparesPuts}
 use Rattle.migrator.proofs.Kept.{puts_same, are_put_same, puts_stay, are_put_on, stored_same, home_stays}
 use Rattle.migrator.proofs.Mended.{mended_disk, leaves_mended, leaves_raw, unmended}
 use Rattle.migrator.proofs.PlacesApart.{spares_other}

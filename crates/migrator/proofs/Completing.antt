@@ -1,34 +1,11 @@
 -- The slots of a checkpoint get the frames of whole clusters.
-use Rattle.std.proofs.Common.{◌≡◌, ◌⊎◌, ℕ, ◌+◌, ◌-◌, ◌*◌, ◌<◌, ◌≤◌, Option, Some, None, Result, Ok, Err, List, [], length, refl, sym, ap, subst, ◌∙◌, inl, inr, arith}
-use Rattle.std.proofs.lemmas.Bool.{cases_eq, cases_lt}
-use Rattle.std.specs.Prelude.{OnOk, OnErr}
-use Rattle.device.specs.Disk.{Image, Disk}
-use Rattle.device.specs.Calls.{Elsewhere, IsTorn, image_of, sectors_of}
-use Rattle.device.proofs.Images.{elsewhere_on}
-use Rattle.device.proofs.Moments.{OnlyNow, started}
-use Rattle.layout.specs.declared.directory.Entry.{Entry}
-use Rattle.layout.specs.declared.extent.Extent.{Extent}
-use Rattle.layout.specs.declared.shape.Shape.{Shape}
-use Rattle.layout.specs.declared.shape.Shape.TheVariants.{Packed}
-use Rattle.layout.specs.Directory.{IsDirectory, entry_at}
-use Rattle.layout.specs.Homes.{home_place, place_length, shape_of}
-use Rattle.layout.specs.Image.{bytes_at, sectors_from, shaped_at, slot_in, slot_sector, half_sector}
-use Rattle.layout.specs.Shape.{shape_bytes}
-use Rattle.layout.specs.Superblock.{Plan, IsPlan, IsApart, IsInside, half_extent}
-use Rattle.layout.proofs.Halves.{apart_inside}
-use Rattle.layout.proofs.Sectors.{whole_sectors}
-use Rattle.layout.proofs.SlotsOf.{own_slot}
-use Rattle.frame_io.specs.Frames.{IsObject}
-use Rattle.home_ranges.proofs.Places.{IsOwn, alone, ranked}
-use Rattle.home_ranges.proofs.Shared.{begins}
-use Rattle.ckpt_log.specs.Places.{place_extent, slot_extent}
-use Rattle.ckpt_log.proofs.Places.{frames_in_slots, halves_within, slots_apart}
-use Rattle.migrator.specs.Completed.{IsFilled, IsComplete, AreComplete, Keeps, KeepsOne}
-use Rattle.home_ranges.specs.Home.{EndsInZeros}
-use Rattle.migrator.specs.Gathered.{HasZerosAt, IsGathered}
-use Rattle.migrator.specs.Mended.{Unwritten, mended, IsUnwritten, IfUnwritten}
-use Rattle.migrator.specs.Put.{slot_bytes}
-use Rattle.migrator.specs.Spared.{Touches}
+use Rattle.migrator.proofs.Names.{◌≡◌, ◌⊎◌, ℕ, ◌+◌, ◌-◌, ◌*◌, ◌<◌, ◌≤◌, Option, Some, None, Result, Ok, Err, List, [], length, refl, sym, ap, subst, ◌∙◌, inl}
+use Rattle.migrator.proofs.Names.{inr, arith, cases_eq, cases_lt, OnOk, OnErr, Image, Disk, Elsewhere, IsTorn, image_of, sectors_of, elsewhere_on, OnlyNow}
+use Rattle.migrator.proofs.Names.{started, Entry, Extent, Shape, Packed, IsDirectory, entry_at, home_place, place_length, shape_of, bytes_at, sectors_from}
+use Rattle.migrator.proofs.Names.{shaped_at, slot_in, slot_sector, half_sector, shape_bytes, Plan, IsPlan, IsApart, IsInside, half_extent, apart_inside}
+use Rattle.migrator.proofs.Names.{whole_sectors, own_slot, IsObject, IsOwn, alone, ranked, begins, place_extent, slot_extent, frames_in_slots, halves_within}
+use Rattle.migrator.proofs.Names.{slots_apart, IsFilled, IsComplete, AreComplete, Keeps, KeepsOne, EndsInZeros, HasZerosAt, IsGathered, Unwritten, mended}
+use Rattle.migrator.proofs.Names.{IsUnwritten, IfUnwritten, slot_bytes, Touches}
 use Rattle.migrator.proofs.Mended.{mended_here, mended_elsewhere, elsewhere_within, touches_within, touches_on}
 use Rattle.migrator.proofs.PlacesApart.{home_apart}
 use Rattle.migrator.proofs.Seats.{found_first}

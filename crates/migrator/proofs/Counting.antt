@@ -1,7 +1,5 @@
 -- Failures that are counted over calls in a row.
-use Rattle.std.proofs.Common.{◌≡◌, Ok, arith}
-use Rattle.device.specs.Disk.{Disk}
-use Rattle.device.specs.Calls.{Counts}
+use Rattle.migrator.proofs.Names.{◌≡◌, Ok, arith, Disk, Counts}
 
 -- none is counted where all calls succeeded
 pub ok_counts : {T E : Type 0} {old new : Disk} {value : T} → new.failures ≡ old.failures → Counts {T = T} {E = E} old new (Ok value)

@@ -1,33 +1,11 @@
 -- Frames that are spelt are read, and never refused.
-use Rattle.std.proofs.Common.{◌≡◌, ℕ, ◌<◌, Option, Some, None, Result, Ok, Err, List, refl, sym, ap, subst, ◌∙◌, arith}
-use Rattle.std.specs.Prelude.{option_map, IfOk}
-use Rattle.model.specs.Frame.{frame_at}
-use Rattle.layout.specs.Spelt.{count_of}
-use Rattle.layout.specs.Superblock.{Plan}
-use Rattle.migrator.specs.declared.table.Place.{Place}
-use Rattle.migrator.specs.declared.table.Place.TheVariants.{Whole}
-use Rattle.migrator.specs.Table.{place_at, slot_of}
-use Rattle.migrator.specs.Put.{Put, put_or, put_of, ArePut}
+use Rattle.migrator.proofs.Names.{◌≡◌, ℕ, ◌<◌, Option, Some, None, Result, Ok, Err, List, refl, sym, ap, subst, ◌∙◌, arith, option_map, IfOk, frame_at}
+use Rattle.migrator.proofs.Names.{count_of, Plan, Place, Whole, place_at, slot_of, Put, put_or, put_of, ArePut, Frame, Geometry, Image, Disk, Failed, Agrees}
+use Rattle.migrator.proofs.Names.{Counts, agrees_is, leaves_weaker, IsFrameOf, Encodes, one_frame, ReadsOnly, CountsFailed, IsRefused, ReadFault, Holds, Books}
+use Rattle.migrator.proofs.Names.{DurableState, frozen_generation, working_generation, below_at, frozen_put, frozen_of, newest, IsRunning, stored_in}
+use Rattle.migrator.proofs.Names.{saved_state, LeavesState, IsKept, ReadsStore, Unwritten}
 use Rattle.migrator.proofs.Putting.{put_is}
-use Rattle.model.specs.declared.frame.Frame.{Frame}
-use Rattle.model.specs.declared.geometry.Geometry.{Geometry}
-use Rattle.device.specs.Disk.{Image, Disk}
-use Rattle.device.specs.declared.device.Failed.{Failed}
-use Rattle.device.specs.Calls.{Agrees, Counts}
-use Rattle.device.proofs.Images.{agrees_is}
-use Rattle.device.proofs.Moments.{leaves_weaker}
-use Rattle.layout.specs.Frame.{IsFrameOf}
-use Rattle.layout.specs.Image.{Encodes}
-use Rattle.layout.proofs.Images.{one_frame}
-use Rattle.frame_io.specs.Calls.{ReadsOnly}
-use Rattle.frame_io.specs.Fault.{CountsFailed}
-use Rattle.frame_io.specs.Frames.{IsRefused}
-use Rattle.frame_io.specs.declared.fault.ReadFault.{ReadFault}
 use Rattle.frame_io.specs.declared.fault.ReadFault.TheVariants as fault
-use Rattle.checkpoint.specs.Saved.{Holds}
-use Rattle.migrator.specs.declared.books.Books.{Books}
-use Rattle.migrator.specs.Durable.{DurableState, frozen_generation, working_generation, below_at, frozen_put, frozen_of, newest, IsRunning, stored_in, saved_state, LeavesState, IsKept, ReadsStore}
-use Rattle.migrator.specs.Mended.{Unwritten}
 use Rattle.migrator.proofs.GoingOn.{GoesOnSeen, goes_seen, holds}
 use Rattle.migrator.proofs.Mended.{mended_disk, reads_mended}
 

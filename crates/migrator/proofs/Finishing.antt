@@ -1,33 +1,15 @@
 -- All that is saved is home, and a header says so.
-use Rattle.std.proofs.Common.{◌≡◌, ℕ, ◌+◌, ◌-◌, ◌*◌, ◌%◌, ◌<◌, ◌≤◌, Bool, false, cond, Option, Some, None, List, [], refl, sym, ap, subst, ◌∙◌, inr, arith}
-use Rattle.std.specs.Prelude.{◌==◌}
-use Rattle.std.proofs.lemmas.Bool.{ne_eqb}
-use Rattle.model.specs.declared.frame.Frame.{Frame}
-use Rattle.device.specs.Disk.{Disk}
-use Rattle.layout.specs.declared.extent.Extent.{Extent}
-use Rattle.layout.specs.declared.header.CheckpointHeader.{CheckpointHeader}
-use Rattle.layout.specs.Directory.{IsDirectory}
-use Rattle.layout.specs.Header.{IsHeader}
-use Rattle.layout.specs.Image.{frame_in, seat_in, half_sector}
-use Rattle.layout.specs.Spelt.{count_of, AreSpelt, frames_read}
-use Rattle.layout.specs.Superblock.{Plan, IsApart, IsInside, half_extent}
-use Rattle.layout.proofs.Halves.{half_within, within_inside}
-use Rattle.layout.proofs.Spelling.{read_same, spelt_same}
-use Rattle.home_ranges.proofs.Seats.{seat_entry}
-use Rattle.home_ranges.specs.Laws.{home_extent}
-use Rattle.ckpt_log.specs.Places.{directory_extent}
-use Rattle.migrator.specs.declared.table.Place.TheVariants.{Nowhere}
-use Rattle.migrator.specs.Table.{place_at}
-use Rattle.migrator.specs.declared.books.Books.{Books}
-use Rattle.migrator.specs.Durable.{IsDurable, IsSoundOn, seen_by, stored_on, frozen_generation, working_generation, generation_after, Stored, saved_state, stored_in, IsRunning, IsKept, LeavesState, home_header, finished}
-use Rattle.migrator.specs.Saving.{MayAdopt, MaySave, SparesKept, SparesPuts, adopted}
-use Rattle.migrator.specs.Spared.{SparesFrames, Spares}
+use Rattle.migrator.proofs.Names.{◌≡◌, ℕ, ◌+◌, ◌-◌, ◌*◌, ◌%◌, ◌<◌, ◌≤◌, Bool, false, cond, Option, Some, None, List, [], refl, sym, ap, subst, ◌∙◌, inr, arith}
+use Rattle.migrator.proofs.Names.{◌==◌, ne_eqb, Frame, Disk, Extent, CheckpointHeader, IsDirectory, IsHeader, frame_in, seat_in, half_sector, count_of}
+use Rattle.migrator.proofs.Names.{AreSpelt, frames_read, Plan, IsApart, IsInside, half_extent, half_within, within_inside, read_same, spelt_same, seat_entry}
+use Rattle.migrator.proofs.Names.{home_extent, directory_extent, Nowhere, place_at, Books, IsDurable, IsSoundOn, seen_by, stored_on, frozen_generation}
+use Rattle.migrator.proofs.Names.{working_generation, generation_after, Stored, saved_state, stored_in, IsRunning, IsKept, LeavesState, home_header, finished}
+use Rattle.migrator.proofs.Names.{MayAdopt, MaySave, SparesKept, SparesPuts, adopted, SparesFrames, Spares, Unwritten, mended}
 use Rattle.migrator.proofs.PlacesApart.{at_home, frame_apart, home_apart}
 use Rattle.migrator.proofs.Seats.{seat_fits}
 use Rattle.migrator.proofs.Putting.{none_spares, half_spares, homes_spare, other_parity}
 use Rattle.migrator.proofs.Committing.{slots_apart_directory, directory_inside}
 use Rattle.migrator.proofs.Moving.{no_checkpoint}
-use Rattle.migrator.specs.Mended.{Unwritten, mended}
 use Rattle.migrator.proofs.Adopting.{with_header, idle_books, kept_raw, may_adopt_idle, sound_raw}
 use Rattle.migrator.proofs.Buffered.{none_idle}
 

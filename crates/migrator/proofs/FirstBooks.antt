@@ -1,25 +1,8 @@
 -- A device that was read whole holds a store.
-use Rattle.std.proofs.Common.{◌≡◌, ℕ, ◌+◌, ◌-◌, None, List, length, take, refl, sym, ap, subst, ◌∙◌, arith}
-use Rattle.std.specs.Prelude.{replicate}
-use Rattle.std.proofs.lemmas.List.{length-replicate}
-use Rattle.device.specs.Disk.{Image, Disk}
-use Rattle.device.specs.Calls.{Only}
-use Rattle.device.proofs.Images.{agrees_is}
-use Rattle.layout.specs.declared.directory.Entry.{Entry}
-use Rattle.layout.specs.declared.header.CheckpointHeader.{CheckpointHeader}
-use Rattle.layout.specs.Image.{HasPlan, Encodes}
-use Rattle.layout.specs.Spelt.{count_of, frames_read, state_in}
-use Rattle.layout.specs.Superblock.{Plan}
-use Rattle.layout.proofs.Spelling.{denotes, length_read}
-use Rattle.migrator.specs.declared.table.Place.{Place}
-use Rattle.migrator.specs.declared.table.Place.TheVariants.{Nowhere, Whole}
-use Rattle.migrator.specs.Table.{place_at, taken_count, has_slot, IsTable}
-use Rattle.migrator.specs.Put.{Absent, ArePut}
-use Rattle.checkpoint.specs.Saved.{Holds}
-use Rattle.migrator.specs.declared.books.Books.{Books}
-use Rattle.migrator.specs.Durable.{IsDurable, stored_in, saved_state, IsKept, IsSoundOn}
-use Rattle.migrator.specs.Opened.{IsRead, OpensDurable}
-use Rattle.checkpoint.specs.Opened.{Looks}
+use Rattle.migrator.proofs.Names.{◌≡◌, ℕ, ◌+◌, ◌-◌, None, List, length, take, refl, sym, ap, subst, ◌∙◌, arith, replicate, length-replicate, Image, Disk, Only}
+use Rattle.migrator.proofs.Names.{agrees_is, Entry, CheckpointHeader, HasPlan, Encodes, count_of, frames_read, state_in, Plan, denotes, length_read, Place}
+use Rattle.migrator.proofs.Names.{Nowhere, Whole, place_at, taken_count, has_slot, IsTable, Absent, ArePut, Holds, Books, IsDurable, stored_in, saved_state}
+use Rattle.migrator.proofs.Names.{IsKept, IsSoundOn, IsRead, OpensDurable, Looks}
 use Rattle.migrator.proofs.Tables.{blank_at, blank_table, tally-blank}
 use Rattle.migrator.proofs.Freezing.{puts_blank}
 use Rattle.migrator.proofs.GoingOn.{holds}

@@ -1,18 +1,8 @@
 -- What was put is frozen.
-use Rattle.std.proofs.Common.{◌≡◌, ℕ, ◌+◌, ◌<◌, ◌≤◌, Some, None, List, length, sym, ap, subst, ◌∙◌, arith}
-use Rattle.std.specs.Prelude.{map, replicate}
-use Rattle.std.specs.List.{range_with_len}
-use Rattle.std.proofs.lemmas.List.{same_lists, length-replicate, get_or-replicate}
-use Rattle.std.proofs.lemmas.List.FromFn.{length-map-range_with_len, get_or-map-range_with_len}
-use Rattle.device.specs.Disk.{Image}
-use Rattle.layout.specs.Spelt.{count_of}
-use Rattle.layout.specs.Superblock.{Plan}
-use Rattle.migrator.specs.declared.table.Place.{Place}
-use Rattle.migrator.specs.declared.table.Place.TheVariants.{Nowhere, Whole}
-use Rattle.migrator.specs.Table.{place_at}
-use Rattle.migrator.specs.Put.{Put, Absent, held_slot, sum_of, put_of, puts_in, ArePut}
-use Rattle.migrator.specs.declared.books.Books.{Books}
-use Rattle.migrator.specs.Durable.{frozen_generation, working_generation, generation_after, Stored, stored_in, IsRunning, IsKept, freezing}
+use Rattle.migrator.proofs.Names.{◌≡◌, ℕ, ◌+◌, ◌<◌, ◌≤◌, Some, None, List, length, sym, ap, subst, ◌∙◌, arith, map, replicate, range_with_len, same_lists}
+use Rattle.migrator.proofs.Names.{length-replicate, get_or-replicate, length-map-range_with_len, get_or-map-range_with_len, Image, count_of, Plan, Place}
+use Rattle.migrator.proofs.Names.{Nowhere, Whole, place_at, Put, Absent, held_slot, sum_of, put_of, puts_in, ArePut, Books, frozen_generation}
+use Rattle.migrator.proofs.Names.{working_generation, generation_after, Stored, stored_in, IsRunning, IsKept, freezing}
 use Rattle.migrator.proofs.Putting.{held_taken}
 
 pub length_puts : (image : Image) (p : Plan) (generation : ℕ) (ps : List Place) → length (puts_in image p generation ps) ≡ count_of p

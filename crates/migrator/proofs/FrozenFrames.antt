@@ -1,27 +1,9 @@
 -- A frozen frame is put into its slot.
-use Rattle.std.proofs.Common.{◌≡◌, ℕ, ◌+◌, ◌%◌, ◌<◌, ◌≤◌, Option, Some, None, Result, Ok, Err, List, length, set, refl, sym, ap, subst, ◌∙◌, arith}
-use Rattle.std.specs.Prelude.{option_map, OnOk, OnErr}
-use Rattle.model.specs.declared.frame.Frame.{Frame}
-use Rattle.model.specs.Keepable.{IsKeepable}
-use Rattle.device.specs.Disk.{Image, Disk}
-use Rattle.device.specs.declared.device.Failed.{Failed}
-use Rattle.layout.specs.Frame.{IsFrameOf, frame_bytes}
-use Rattle.layout.specs.Image.{half_sector, slot_sector}
-use Rattle.layout.specs.Spelt.{count_of}
-use Rattle.layout.specs.Superblock.{IsInside, half_extent}
-use Rattle.layout.proofs.Spelling.{bytes_spelt}
-use Rattle.layout.specs.Homes.{place_length}
-use Rattle.frame_io.specs.Calls.{WritesAt}
-use Rattle.ckpt_log.specs.Places.{place_extent}
-use Rattle.migrator.specs.declared.table.Place.{Place}
-use Rattle.migrator.specs.declared.table.Place.TheVariants.{Torn, Whole}
-use Rattle.migrator.specs.Table.{taken_count, slot_for}
-use Rattle.migrator.specs.Put.{Put, Broken, Kept, slot_bytes, slot_frame, puts_in, ArePut}
-use Rattle.checkpoint.specs.Saved.{most}
-use Rattle.migrator.specs.declared.books.Books.{Books}
-use Rattle.migrator.specs.Durable.{frozen_generation, working_generation, generation_after, FrozenPuts, Stored, stored_in, frozen_of, with_put, IsRunning, IsKept, with_frozen, with_frozen}
-use Rattle.migrator.specs.Spared.{Spares}
-use Rattle.migrator.specs.Saving.{SparesKept}
+use Rattle.migrator.proofs.Names.{◌≡◌, ℕ, ◌+◌, ◌%◌, ◌<◌, ◌≤◌, Option, Some, None, Result, Ok, Err, List, length, set, refl, sym, ap, subst, ◌∙◌, arith}
+use Rattle.migrator.proofs.Names.{option_map, OnOk, OnErr, Frame, IsKeepable, Image, Disk, Failed, IsFrameOf, frame_bytes, half_sector, slot_sector, count_of}
+use Rattle.migrator.proofs.Names.{IsInside, half_extent, bytes_spelt, place_length, WritesAt, place_extent, Place, Torn, Whole, taken_count, slot_for, Put}
+use Rattle.migrator.proofs.Names.{Broken, Kept, slot_bytes, slot_frame, puts_in, ArePut, most, Books, frozen_generation, working_generation, generation_after}
+use Rattle.migrator.proofs.Names.{FrozenPuts, Stored, stored_in, frozen_of, with_put, IsRunning, IsKept, with_frozen, Spares, SparesKept}
 use Rattle.migrator.proofs.Kept.{stored_stays, kept_on}
 use Rattle.migrator.proofs.PlacesApart.{place_inside, spares_other}
 use Rattle.migrator.proofs.GoingOn.{GoesOnSeen, goes_spared}

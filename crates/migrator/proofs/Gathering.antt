@@ -1,25 +1,10 @@
 -- The saved frames of a cluster's nodes are put together.
-use Rattle.std.proofs.Common.{◌≡◌, ℕ, ◌+◌, ◌-◌, ◌*◌, ◌<◌, ◌≤◌, Option, Some, Result, Ok, Err, List, ◌++◌, length, take, drop, sym, ap, subst, ◌∙◌, inl, inr, arith}
-use Rattle.std.specs.Prelude.{◌↔◌, OnOk, IsErr}
-use Rattle.std.proofs.lemmas.Bool.{cases_lt}
-use Rattle.std.proofs.lemmas.List.{drop_at, length-append}
-use Rattle.device.specs.Disk.{Image, Disk}
-use Rattle.device.specs.Calls.{Counts}
-use Rattle.layout.specs.declared.directory.Entry.{Entry}
-use Rattle.layout.specs.declared.shape.Shape.{Shape}
-use Rattle.layout.specs.declared.shape.Shape.TheVariants.{Packed}
-use Rattle.layout.specs.Bytes.{zeros}
-use Rattle.layout.specs.Homes.{home_place, place_length, shape_of}
-use Rattle.layout.specs.Image.{frame_in, frame_sector, seat_in, sector_or, sectors_from, shaped_at, slot_in, slot_sector, bytes_at}
-use Rattle.layout.specs.Shape.{shape_bytes, shape_length}
-use Rattle.layout.specs.Superblock.{Plan, IsPlan}
-use Rattle.layout.proofs.Clusters.{length-zeros}
-use Rattle.frame_io.specs.Calls.{ReadsOnly, WritesAt}
-use Rattle.frame_io.specs.Frames.{IsObject}
-use Rattle.home_ranges.specs.Home.{EndsInZeros, HaveHome, HoldsHome}
-use Rattle.home_ranges.proofs.Places.{IsOwn, alone, ranked}
-use Rattle.migrator.specs.Gathered.{HasZerosAt, IsGathered, IsCopied}
-use Rattle.migrator.specs.Spared.{Touches}
+use Rattle.migrator.proofs.Names.{◌≡◌, ℕ, ◌+◌, ◌-◌, ◌*◌, ◌<◌, ◌≤◌, Option, Some, Result, Ok, Err, List, ◌++◌, length, take, drop, sym, ap, subst, ◌∙◌, inl, inr}
+use Rattle.migrator.proofs.Names.{arith, ◌↔◌, OnOk, IsErr, cases_lt, drop_at, Image, Disk, Counts, Entry, Shape, Packed, zeros, home_place, place_length}
+use Rattle.migrator.proofs.Names.{shape_of, frame_in, frame_sector, seat_in, sector_or, sectors_from, shaped_at, slot_in, slot_sector, bytes_at, shape_bytes}
+use Rattle.migrator.proofs.Names.{shape_length, Plan, IsPlan, length-zeros, ReadsOnly, WritesAt, IsObject, EndsInZeros, HaveHome, HoldsHome, IsOwn, alone}
+use Rattle.migrator.proofs.Names.{ranked, HasZerosAt, IsGathered, IsCopied, Touches}
+use Rattle.std.proofs.lemmas.List.{length-append}
 use Rattle.migrator.proofs.Spared.{reads_then}
 use Rattle.migrator.proofs.PlacesApart.{in_slot}
 

@@ -1,13 +1,6 @@
 -- A write apart from what is saved goes on from it.
-use Rattle.std.proofs.Common.{◌≡◌, ◌∙◌, ℕ, refl, subst}
-use Rattle.device.specs.Disk.{Image, Disk}
-use Rattle.device.proofs.Moments.{leaves_weaker}
-use Rattle.layout.specs.declared.extent.Extent.{Extent}
-use Rattle.layout.specs.Image.{Encodes, SavedState}
-use Rattle.migrator.specs.declared.books.Books.{Books}
-use Rattle.migrator.specs.Durable.{saved_state, seen_by, LeavesState, GoesOnDisk}
-use Rattle.checkpoint.specs.Saved.{kept_of, Holds, LeavesSaved}
-use Rattle.migrator.specs.Spared.{Spares, Touches}
+use Rattle.migrator.proofs.Names.{◌≡◌, ◌∙◌, ℕ, refl, subst, Image, Disk, leaves_weaker, Extent, Encodes, SavedState, Books, saved_state, seen_by, LeavesState}
+use Rattle.migrator.proofs.Names.{GoesOnDisk, kept_of, Holds, LeavesSaved, Spares, Touches}
 use Rattle.migrator.proofs.Mended.{mended_disk, leaves_raw}
 use Rattle.migrator.proofs.Spared.{sound_spared, moments_spared}
 

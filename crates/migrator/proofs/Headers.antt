@@ -1,18 +1,7 @@
 -- The headers of frames.
-use Rattle.std.proofs.Common.{◌≡◌, ℕ, Bool, true, false, List, refl, sym, ap, ◌∙◌, nat_lt}
-use Rattle.std.specs.Prelude.{if◌then◌else◌}
-use Rattle.model.specs.declared.frame.ObjectHeader.{ObjectHeader}
-use Rattle.model.specs.declared.geometry.Geometry.{Geometry}
-use Rattle.device.specs.Disk.{Image}
-use Rattle.layout.specs.declared.shape.Shape.{Shape}
-use Rattle.layout.specs.declared.shape.Shape.TheVariants.{Node, Packed, Page}
-use Rattle.layout.specs.Frame.{frame_length}
-use Rattle.layout.specs.FrameReader.{frame_from, header_from}
-use Rattle.layout.specs.Image.{sectors_from, shaped_at}
-use Rattle.layout.proofs.FrameReaders.{header_is}
-use Rattle.frame_io.specs.Frames.{IsHeaderAt}
-use Rattle.home_ranges.proofs.Places.{lt_true, lt_false}
-use Rattle.migrator.specs.Headers.{IsHeaderOf}
+use Rattle.migrator.proofs.Names.{◌≡◌, ℕ, Bool, true, false, List, refl, sym, ap, ◌∙◌, nat_lt, if◌then◌else◌, ObjectHeader, Geometry, Image, Shape, Node}
+use Rattle.migrator.proofs.Names.{Packed, Page, frame_length, frame_from, header_from, sectors_from, shaped_at, header_is, IsHeaderAt, lt_true, lt_false}
+use Rattle.migrator.proofs.Names.{IsHeaderOf}
 
 length_by : (g : Geometry) (n : ℕ) (test : Bool) → nat_lt n g.nodes ≡ test → frame_length g n ≡ (if test then 2 else 9)
 length_by g n test is = ap (λ (t : Bool). if t then 2 else 9) is

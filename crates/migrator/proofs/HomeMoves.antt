@@ -1,13 +1,6 @@
 -- A saved frame goes home, by a device and the books over it.
-use Rattle.std.proofs.Common.{◌≡◌, ℕ, ◌+◌, ◌-◌, ◌<◌, Option, None, refl, sym, ap, subst, arith}
-use Rattle.device.specs.Disk.{Disk}
-use Rattle.layout.specs.Directory.{entry_at}
-use Rattle.layout.specs.Homes.{home_place, place_length}
-use Rattle.migrator.specs.declared.books.Books.{Books}
-use Rattle.migrator.specs.Durable.{IsDurable, MovedBy, seen_by}
-use Rattle.migrator.specs.Gathered.{IsCopied, IsFirst}
-use Rattle.migrator.specs.Mended.{Unwritten, mended}
-use Rattle.migrator.specs.Spared.{Touches}
+use Rattle.migrator.proofs.Names.{◌≡◌, ℕ, ◌+◌, ◌-◌, ◌<◌, Option, None, refl, sym, ap, subst, arith, Disk, entry_at, home_place, place_length, Books, IsDurable}
+use Rattle.migrator.proofs.Names.{MovedBy, seen_by, IsCopied, IsFirst, Unwritten, mended, Touches}
 use Rattle.migrator.proofs.Buffered.{none_idle, without}
 use Rattle.migrator.proofs.GoingOn.{goes_seen}
 use Rattle.migrator.proofs.Mended.{mended_disk, touches_mended}

@@ -1,57 +1,20 @@
 -- One object is saved anew: its frame lies in the half of the log that the saved generation used, and it is the one entry of the generation after the next.
-use Rattle.std.proofs.Common.{◌≡◌, ◌⊎◌, ℕ, zero, suc, ◌+◌, ◌*◌, ◌%◌, ◌^◌, ◌<◌, ◌≤◌, Bool, Option, Some, None, List, [], ◌∷◌, length, get_or, set, refl, sym, ap, subst, ◌∙◌, inl, inr, arith}
-use Rattle.std.specs.Prelude.{◌==◌, if◌then◌else◌, option_map}
-use Rattle.std.proofs.lemmas.Bool.{cases_lt, cases_eq, le-ltb}
-use Rattle.std.proofs.lemmas.List.{get_or_past, get_or_default}
-use Rattle.model.specs.declared.capability.Cap.{Cap}
-use Rattle.model.specs.declared.frame.Frame.{Frame}
-use Rattle.model.specs.declared.frame.ObjectHeader.{ObjectHeader}
-use Rattle.model.specs.declared.geometry.Geometry.{Geometry}
-use Rattle.model.specs.declared.object.Content.{Content}
+use Rattle.migrator.proofs.Names.{◌≡◌, ◌⊎◌, ℕ, zero, suc, ◌+◌, ◌*◌, ◌%◌, ◌^◌, ◌<◌, ◌≤◌, Bool, Option, Some, None, List, [], ◌∷◌, length, get_or, set, refl, sym}
+use Rattle.migrator.proofs.Names.{ap, subst, ◌∙◌, inl, inr, arith, ◌==◌, if◌then◌else◌, option_map, cases_lt, cases_eq, le-ltb, get_or_past, get_or_default}
+use Rattle.migrator.proofs.Names.{Cap, Frame, ObjectHeader, Geometry, Content, frame_at, blank_frame, IsKeepable, AreKeptWords, role_of, IsOfKind, Image, Disk}
+use Rattle.migrator.proofs.Names.{LeavesOnly, leaves_weaker, leaves_on, Entry, Extent, Half, First, Second, IsDirectory, IsEntry, entry_at, IsFrameOf}
+use Rattle.migrator.proofs.Names.{page_frame_bytes, node_frame_bytes, frame_from, half_of, IsHeader, frame_in, seat_in, slot_sector, half_sector, sectors_from}
+use Rattle.migrator.proofs.Names.{shaped_at, bytes_at, count_of, frame_read, frames_read, IsSpelt, AreSpelt, Plan, IsPlan, IsInside, half_extent, half_start}
+use Rattle.migrator.proofs.Names.{slot_here, slot_behind, length_read, read_at, spelt_same, spelt_at, bytes_spelt, Shape, home_place, shape_of, IsShapeFor}
+use Rattle.migrator.proofs.Names.{page_bytes, WritesAt, slot_extent, directory_extent, slots_inside, Place, Nowhere, Torn, Whole, place_at, Put, Kept}
+use Rattle.migrator.proofs.Names.{slot_bytes, put_of, puts_in, ArePut, most, SavedFrames, Holds, LeavesSaved, LeavesEither, replaced_saved, with_words}
+use Rattle.migrator.proofs.Names.{journaled_saved, Books, IsDurable, IsSoundOn, frozen_generation, working_generation, generation_after, FrozenPuts, Stored}
+use Rattle.migrator.proofs.Names.{saved_state, frozen_of, stored_in, stored_on, IsRunning, IsKept, LeavesState, replaced, replaced_header, stored_after_journal}
+use Rattle.migrator.proofs.Names.{first_bytes, first_frame, beside_seat, alone, IsHeaderOf, MayAdopt, MaySave, SparesKept, adopted, SparesFrames, maps_same}
+use Rattle.migrator.proofs.Names.{Unwritten, mended}
 use Rattle.model.specs.declared.object.Content.TheVariants as content
 use Rattle.model.specs.declared.object.Role.TheVariants as role
-use Rattle.model.specs.Frame.{frame_at, blank_frame}
-use Rattle.model.specs.Keepable.{IsKeepable, AreKeptWords}
-use Rattle.model.specs.Object.{role_of}
-use Rattle.model.specs.Sound.{IsOfKind}
-use Rattle.device.specs.Disk.{Image, Disk}
-use Rattle.device.specs.Moments.{LeavesOnly}
-use Rattle.device.proofs.Moments.{leaves_weaker, leaves_on}
-use Rattle.layout.specs.declared.directory.Entry.{Entry}
-use Rattle.layout.specs.declared.extent.Extent.{Extent}
-use Rattle.layout.specs.declared.half.Half.{Half}
-use Rattle.layout.specs.declared.half.Half.TheVariants.{First, Second}
-use Rattle.layout.specs.Directory.{IsDirectory, IsEntry, entry_at}
-use Rattle.layout.specs.Frame.{IsFrameOf, page_frame_bytes, node_frame_bytes}
-use Rattle.layout.specs.FrameReader.{frame_from}
-use Rattle.layout.specs.Half.{half_of}
-use Rattle.layout.specs.Header.{IsHeader}
-use Rattle.layout.specs.Image.{frame_in, seat_in, slot_sector, half_sector, sectors_from, shaped_at, bytes_at}
-use Rattle.layout.specs.Spelt.{count_of, frame_read, frames_read, IsSpelt, AreSpelt}
-use Rattle.layout.specs.Superblock.{Plan, IsPlan, IsInside, half_extent, half_start}
-use Rattle.layout.proofs.SlotsOf.{slot_here, slot_behind}
-use Rattle.layout.proofs.Spelling.{length_read, read_at, spelt_same, spelt_at, bytes_spelt}
-use Rattle.layout.specs.declared.shape.Shape.{Shape}
-use Rattle.layout.specs.Homes.{home_place, shape_of}
-use Rattle.layout.specs.Shape.{IsShapeFor}
-use Rattle.layout.proofs.Shapes.{page_bytes}
-use Rattle.frame_io.specs.Calls.{WritesAt}
-use Rattle.ckpt_log.specs.Places.{slot_extent, directory_extent}
-use Rattle.ckpt_log.proofs.Places.{slots_inside}
-use Rattle.migrator.specs.declared.table.Place.{Place}
-use Rattle.migrator.specs.declared.table.Place.TheVariants.{Nowhere, Torn, Whole}
-use Rattle.migrator.specs.Table.{place_at}
-use Rattle.migrator.specs.Put.{Put, Kept, slot_bytes, put_of, puts_in, ArePut}
-use Rattle.checkpoint.specs.Saved.{most, SavedFrames, Holds, LeavesSaved, LeavesEither, replaced_saved, with_words, journaled_saved}
-use Rattle.migrator.specs.declared.books.Books.{Books}
-use Rattle.migrator.specs.Durable.{IsDurable, IsSoundOn, frozen_generation, working_generation, generation_after, FrozenPuts, Stored, saved_state, frozen_of, stored_in, stored_on, IsRunning, IsKept, LeavesState, replaced, replaced_header, stored_after_journal, first_bytes, first_frame}
-use Rattle.home_ranges.proofs.Seats.{beside_seat}
-use Rattle.home_ranges.proofs.Places.{alone}
-use Rattle.migrator.specs.Headers.{IsHeaderOf}
-use Rattle.migrator.specs.Saving.{MayAdopt, MaySave, SparesKept, adopted}
-use Rattle.migrator.specs.Spared.{SparesFrames}
 use Rattle.migrator.proofs.Spared.{touches}
-use Rattle.checkpoint.proofs.Lists.{maps_same}
 use Rattle.migrator.proofs.Kept.{map_set, stored_stays, kept_on}
 use Rattle.migrator.proofs.GoingOn.{GoesOnSeen, goes_spared}
 use Rattle.migrator.proofs.Later.{keepable_later}
@@ -59,7 +22,6 @@ use Rattle.migrator.proofs.PlacesApart.{in_slot, at_home, frame_apart, home_apar
 use Rattle.migrator.proofs.Seats.{none_beside, page_own, no_entries, seat_fits}
 use Rattle.migrator.proofs.Putting.{other_parity, half_spares, none_spares, homes_spare}
 use Rattle.migrator.proofs.Committing.{one_more, slots_apart_directory, directory_inside}
-use Rattle.migrator.specs.Mended.{Unwritten, mended}
 use Rattle.migrator.proofs.Adopting.{with_header, idle_books, kept_raw, may_adopt_idle, sound_raw}
 use Rattle.migrator.proofs.Buffered.{none_idle}
 

@@ -1,34 +1,12 @@
 -- What is kept of a store is kept through a write apart from it.
-use Rattle.std.proofs.Common.{◌≡◌, ℕ, ◌-◌, ◌<◌, Option, Some, None, List, length, get_or, set, refl, sym, ap, subst, ◌∙◌, inl, inr, arith}
-use Rattle.std.specs.Prelude.{map, option_map}
-use Rattle.std.specs.List.{range_with_len}
-use Rattle.std.proofs.lemmas.Bool.{cases_eq}
-use Rattle.std.proofs.lemmas.List.{same_lists, length-set, get_or-set_same, get_or-set_other}
-use Rattle.std.proofs.lemmas.List.FromFn.{length-map-range_with_len, get_or-map-range_with_len}
-use Rattle.device.specs.Disk.{Image}
-use Rattle.device.specs.Calls.{Elsewhere}
-use Rattle.layout.specs.declared.extent.Extent.{Extent}
-use Rattle.layout.specs.Directory.{entry_at}
-use Rattle.layout.specs.Frame.{IsFrameOf}
-use Rattle.layout.specs.FrameReader.{frame_from}
-use Rattle.layout.specs.Image.{SavedState, slot_sector}
-use Rattle.layout.specs.Spelt.{count_of}
-use Rattle.layout.specs.Superblock.{Plan, IsPlan, IsApart}
-use Rattle.layout.proofs.Spelling.{spelt_same}
-use Rattle.layout.specs.Homes.{home_place, place_length}
-use Rattle.home_ranges.specs.Laws.{home_extent}
-use Rattle.home_ranges.proofs.Places.{one_length}
-use Rattle.migrator.specs.declared.table.Place.{Place}
-use Rattle.migrator.specs.declared.table.Place.TheVariants.{Nowhere, Torn, Whole}
-use Rattle.migrator.specs.Table.{place_at}
-use Rattle.migrator.specs.Put.{Put, Kept, slot_bytes, put_of, puts_in, ArePut}
-use Rattle.checkpoint.proofs.Lists.{maps_same}
-use Rattle.checkpoint.specs.Saved.{most, SavedFrames, kept_of}
-use Rattle.migrator.specs.declared.books.Books.{Books}
-use Rattle.migrator.specs.Durable.{frozen_generation, working_generation, FrozenPuts, Stored, saved_state, frozen_of, stored_in, IsHome, IsKept}
-use Rattle.migrator.specs.Spared.{SparesFrames}
+use Rattle.migrator.proofs.Names.{◌≡◌, ℕ, ◌-◌, ◌<◌, Option, Some, None, List, length, get_or, set, refl, sym, ap, subst, ◌∙◌, inl, inr, arith, map, option_map}
+use Rattle.migrator.proofs.Names.{range_with_len, cases_eq, same_lists, length-set, get_or-set_same, get_or-set_other, length-map-range_with_len}
+use Rattle.migrator.proofs.Names.{get_or-map-range_with_len, Image, Elsewhere, Extent, entry_at, IsFrameOf, frame_from, SavedState, slot_sector, count_of, Plan}
+use Rattle.migrator.proofs.Names.{IsPlan, IsApart, spelt_same, home_place, place_length, home_extent, one_length, Place, Nowhere, Torn, Whole, place_at, Put}
+use Rattle.migrator.proofs.Names.{Kept, slot_bytes, put_of, puts_in, ArePut, maps_same, most, SavedFrames, kept_of, Books, frozen_generation}
+use Rattle.migrator.proofs.Names.{working_generation, FrozenPuts, Stored, saved_state, frozen_of, stored_in, IsHome, IsKept, SparesFrames, SparesKept}
+use Rattle.migrator.proofs.Names.{SparesPuts}
 use Rattle.migrator.proofs.Spared.{frame_stays, state_stays, bytes_stay}
-use Rattle.migrator.specs.Saving.{SparesKept, SparesPuts}
 
 -- ---- lists by number
 

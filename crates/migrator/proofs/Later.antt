@@ -1,14 +1,8 @@
 -- What can be kept at an age can be at a later one.
-use Rattle.std.proofs.Common.{ℕ, ◌≤◌, List, arith}
-use Rattle.std.proofs.lemmas.List.Elements.{All-weaker}
-use Rattle.model.specs.declared.capability.Cap.{Cap}
-use Rattle.model.specs.declared.capability.Capability.{Capability}
-use Rattle.model.specs.declared.capability.Capability.TheVariants.{Void, Number, Page, Node, Space, Process, Start, Resume, Bank, Discrim}
-use Rattle.model.specs.declared.frame.Frame.{Frame}
-use Rattle.model.specs.declared.geometry.Geometry.{Geometry}
-use Rattle.model.specs.declared.object.Content.{Content}
+use Rattle.migrator.proofs.Names.{ℕ, ◌≤◌, List, arith, All-weaker, Cap, Capability, Void, Number, Space, Process, Start, Resume, Bank, Discrim, Frame, Geometry}
+use Rattle.migrator.proofs.Names.{Content, AreKeptSlots, Follows, IsCount, IsKeepable, IsKeptCap, MayBeKept}
+use Rattle.model.specs.declared.capability.Capability.TheVariants.{Page, Node}
 use Rattle.model.specs.declared.object.Content.TheVariants as content
-use Rattle.model.specs.Keepable.{AreKeptSlots, Follows, IsCount, IsKeepable, IsKeptCap, MayBeKept}
 
 module _ (g : Geometry) (age later : ℕ) (le : age ≤ later) where
   count_later : (n : ℕ) → IsCount age n → IsCount later n

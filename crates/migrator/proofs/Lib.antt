@@ -1,3 +1,4 @@
+mod Names
 pub mod Tables
 mod Spared
 pub mod Kept

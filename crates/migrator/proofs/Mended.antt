@@ -1,31 +1,9 @@
 -- What a device gives, but for a slot that it failed to write.
-use Rattle.std.proofs.Common.{◌≡◌, ℕ, ◌+◌, ◌-◌, ◌<◌, ◌≤◌, Bool, true, false, Option, Some, None, List, sym, ap, subst, ◌∙◌, arith, nat_le, nat_lt}
-use Rattle.std.specs.Prelude.{◌&&◌, if◌then◌else◌}
-use Rattle.std.proofs.lemmas.Bool.{and_from, and_left, and_right}
-use Rattle.std.proofs.lemmas.Bool.Decides.{nat_tests}
-use Rattle.device.specs.Disk.{Image, Disk}
-use Rattle.device.specs.Calls.{Elsewhere, IsTorn, image_of}
-use Rattle.device.specs.Moments.{Elapses, LeavesOnly}
-use Rattle.device.proofs.Images.{agrees_is, elsewhere_on}
-use Rattle.device.proofs.Moments.{leaves_weaker, leaves_on}
-use Rattle.model.specs.declared.frame.Frame.{Frame}
-use Rattle.model.specs.declared.geometry.Geometry.{Geometry}
-use Rattle.layout.specs.declared.directory.Entry.{Entry}
-use Rattle.layout.specs.declared.shape.Shape.{Shape}
-use Rattle.layout.specs.declared.shape.Shape.TheVariants.{Packed}
-use Rattle.layout.specs.Frame.{IsFrameOf}
-use Rattle.layout.specs.FrameReader.{frame_from}
-use Rattle.layout.specs.Shape.{shape_bytes}
-use Rattle.layout.proofs.Images.{one_frame}
-use Rattle.checkpoint.specs.Saved.{most}
-use Rattle.layout.specs.declared.extent.Extent.{Extent}
-use Rattle.layout.specs.Homes.{place_length}
-use Rattle.layout.specs.Image.{bytes_at, frame_in}
-use Rattle.layout.specs.Spelt.{count_of}
-use Rattle.layout.specs.Superblock.{Plan, IsApart, IsInside}
-use Rattle.frame_io.specs.Calls.{ReadsOnly, WritesAt}
-use Rattle.migrator.specs.Mended.{Unwritten, mended, unwritten_of, IsSpeltIn}
-use Rattle.migrator.specs.Spared.{SparesFrames, Touches}
+use Rattle.migrator.proofs.Names.{◌≡◌, ℕ, ◌+◌, ◌-◌, ◌<◌, ◌≤◌, Bool, true, false, Option, Some, None, List, sym, ap, subst, ◌∙◌, arith, nat_le, nat_lt, ◌&&◌}
+use Rattle.migrator.proofs.Names.{if◌then◌else◌, and_from, and_left, and_right, nat_tests, Image, Disk, Elsewhere, IsTorn, image_of, Elapses, LeavesOnly}
+use Rattle.migrator.proofs.Names.{agrees_is, elsewhere_on, leaves_weaker, leaves_on, Frame, Geometry, Entry, Shape, Packed, IsFrameOf, frame_from, shape_bytes}
+use Rattle.migrator.proofs.Names.{one_frame, most, Extent, place_length, bytes_at, frame_in, count_of, Plan, IsApart, IsInside, ReadsOnly, WritesAt, Unwritten}
+use Rattle.migrator.proofs.Names.{mended, unwritten_of, IsSpeltIn, SparesFrames, Touches}
 use Rattle.migrator.proofs.Spared.{bytes_stay, frame_stays}
 
 -- ---- its sectors and the others

@@ -1,13 +1,7 @@
 -- Saved frames go home one after the other.
-use Rattle.std.proofs.Common.{◌≡◌, ◌⊎◌, ℕ, ◌+◌, ◌-◌, ◌<◌, ◌≤◌, Bool, true, false, refl, sym, ap, subst, ◌∙◌, inl, ⊎_elim, arith}
-use Rattle.std.specs.Prelude.{◌==◌, if◌then◌else◌}
-use Rattle.std.proofs.lemmas.Bool.{eq-eqb, ne_eqb}
-use Rattle.device.specs.Disk.{Image, Disk}
-use Rattle.device.specs.Moments.{LeavesOnly}
-use Rattle.device.proofs.Moments.{leaves_weaker, leaves_on}
-use Rattle.checkpoint.specs.Saved.{SavedFrames, home_saved, Holds, LeavesEither}
-use Rattle.migrator.specs.declared.books.Books.{Books}
-use Rattle.migrator.specs.Durable.{IsSoundOn, Stored, stored_on, MovedBy, IsLesser, finished, moved_saved, moved}
+use Rattle.migrator.proofs.Names.{◌≡◌, ◌⊎◌, ℕ, ◌+◌, ◌-◌, ◌<◌, ◌≤◌, Bool, true, false, refl, sym, ap, subst, ◌∙◌, inl, ⊎_elim, arith, ◌==◌, if◌then◌else◌}
+use Rattle.migrator.proofs.Names.{eq-eqb, ne_eqb, Image, Disk, LeavesOnly, leaves_weaker, leaves_on, SavedFrames, home_saved, Holds, LeavesEither, Books}
+use Rattle.migrator.proofs.Names.{IsSoundOn, Stored, stored_on, MovedBy, IsLesser, finished, moved_saved, moved}
 use Rattle.migrator.proofs.Moving.{moved_books, goes_trans, goes_none}
 
 module _ (disk : Disk) (b : Books) (only_now : (c : Image) → disk.left_since disk.moment c → disk.may_leave c) where

@@ -1,29 +1,10 @@
 -- A saved frame goes home.
-use Rattle.std.proofs.Common.{◌≡◌, ℕ, ◌+◌, ◌-◌, ◌<◌, ◌≤◌, Option, Some, None, List, length, refl, sym, ap, subst, ◌∙◌, inl, inr, arith}
-use Rattle.std.proofs.lemmas.Bool.{cases_lt}
-use Rattle.device.specs.Disk.{Image, Disk}
-use Rattle.device.specs.Moments.{LeavesOnly}
-use Rattle.device.proofs.Moments.{leaves_on, started}
-use Rattle.layout.specs.Directory.{entry_at}
-use Rattle.layout.specs.Image.{slot_in}
-use Rattle.layout.specs.Spelt.{count_of}
-use Rattle.layout.specs.Superblock.{Plan, IsPlan}
-use Rattle.layout.proofs.Halves.{apart_turned}
-use Rattle.layout.proofs.SlotsOf.{own_slot}
-use Rattle.layout.specs.Homes.{home_place, place_length}
-use Rattle.home_ranges.proofs.Places.{places_apart}
-use Rattle.home_ranges.specs.Laws.{home_extent}
-use Rattle.ckpt_log.specs.Places.{place_extent}
-use Rattle.migrator.specs.declared.table.Place.{Place}
-use Rattle.migrator.specs.declared.table.Place.TheVariants.{Nowhere}
-use Rattle.migrator.specs.Table.{place_at, slot_of, IsTable, taken_count}
-use Rattle.migrator.specs.Gathered.{IsCopied, IsFirst}
-use Rattle.checkpoint.specs.Saved.{SavedFrames, Holds}
-use Rattle.migrator.specs.declared.books.Books.{Books}
-use Rattle.migrator.specs.Durable.{frozen_generation, working_generation, seen_by, Stored, GoesOnDisk, saved_state, stored_in, IsHome, IsRunning, IsKept}
-use Rattle.migrator.specs.Spared.{Spares, Touches}
+use Rattle.migrator.proofs.Names.{◌≡◌, ℕ, ◌+◌, ◌-◌, ◌<◌, ◌≤◌, Option, Some, None, List, length, refl, sym, ap, subst, ◌∙◌, inl, inr, arith, cases_lt, Image}
+use Rattle.migrator.proofs.Names.{Disk, LeavesOnly, leaves_on, started, entry_at, slot_in, count_of, Plan, IsPlan, apart_turned, own_slot, home_place}
+use Rattle.migrator.proofs.Names.{place_length, places_apart, home_extent, place_extent, Place, Nowhere, place_at, slot_of, IsTable, taken_count, IsCopied}
+use Rattle.migrator.proofs.Names.{IsFirst, SavedFrames, Holds, Books, frozen_generation, working_generation, seen_by, Stored, GoesOnDisk, saved_state}
+use Rattle.migrator.proofs.Names.{stored_in, IsHome, IsRunning, IsKept, Spares, Touches, SparesPuts, SparesKept}
 use Rattle.migrator.proofs.Spared.{frame_stays}
-use Rattle.migrator.specs.Saving.{SparesPuts, SparesKept}
 use Rattle.migrator.proofs.Kept.{stored_stays, kept_on}
 use Rattle.migrator.proofs.GoingOn.{GoesOnSeen, holds, goes_spared}
 use Rattle.migrator.proofs.PlacesApart.{place_inside, home_apart, spares_home}

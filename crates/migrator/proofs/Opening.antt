@@ -1,21 +1,11 @@
 -- What is read of a device as it is opened.
-use Rattle.std.proofs.Common.{◌≡◌, Result, Ok, Err, ℕ, ◌+◌, ◌<◌, ◌≤◌, Some, None, List, length, sym, ap, subst, ◌∙◌, append-nil, inl, inr, ⊎_elim, arith}
-use Rattle.std.specs.Prelude.{IfErr}
-use Rattle.std.proofs.lemmas.Bool.{cases_lt}
-use Rattle.device.specs.Disk.{Image}
-use Rattle.device.specs.Calls.{Agrees}
-use Rattle.layout.specs.declared.bad_image.BadImage.{BadImage}
+use Rattle.migrator.proofs.Names.{◌≡◌, Result, Ok, Err, ℕ, ◌+◌, ◌<◌, ◌≤◌, Some, None, List, length, sym, ap, subst, ◌∙◌, append-nil, inl, inr, ⊎_elim, arith}
+use Rattle.migrator.proofs.Names.{IfErr, cases_lt, Image, Agrees, BadImage, Entry, entry_at, AreRising, HasPlan, IsBadBy, IsTooSmall, total_in, sectors_from}
+use Rattle.migrator.proofs.Names.{slot_in, Plan, IsPlan, superblock_bytes, own_slot, rising_to, no_slot, total_told, OpenFault, IsBadFor, HasNoPlan}
+use Rattle.migrator.proofs.Names.{IsUnplanned}
+use Rattle.layout.specs.Superblock.{IsRefused}
 use Rattle.layout.specs.declared.bad_image.BadImage.TheVariants as bad
-use Rattle.layout.specs.declared.directory.Entry.{Entry}
-use Rattle.layout.specs.Directory.{entry_at, AreRising}
-use Rattle.layout.specs.Image.{HasPlan, IsBadBy, IsTooSmall, total_in, sectors_from, slot_in}
-use Rattle.layout.specs.Superblock.{Plan, IsPlan, IsRefused, superblock_bytes}
-use Rattle.layout.proofs.SlotsOf.{own_slot, rising_to, no_slot}
-use Rattle.layout.proofs.Totals.{total_told}
-use Rattle.checkpoint.specs.declared.open_fault.OpenFault.{OpenFault}
 use Rattle.checkpoint.specs.declared.open_fault.OpenFault.TheVariants as refusal
-use Rattle.checkpoint.specs.Opened.{IsBadFor}
-use Rattle.migrator.specs.Opened.{HasNoPlan, IsUnplanned}
 
 -- ---- the superblock
 

@@ -1,17 +1,8 @@
 -- A page is written into the first slot of the half that the saved generation used.
-use Rattle.std.proofs.Common.{◌≡◌, ℕ, ◌≤◌, None, List, sym, subst}
-use Rattle.model.specs.Frame.{frame_at}
-use Rattle.model.specs.Keepable.{AreKeptWords}
-use Rattle.model.specs.declared.frame.ObjectHeader.{ObjectHeader}
+use Rattle.migrator.proofs.Names.{◌≡◌, ℕ, ◌≤◌, None, List, sym, subst, frame_at, AreKeptWords, ObjectHeader, Disk, Image, IsFrameOf, page_frame_bytes}
+use Rattle.migrator.proofs.Names.{sectors_from, slot_sector, WritesAt, with_words, Books, GoesOnDisk, IsDurable, first_bytes, stored_on}
 use Rattle.model.specs.declared.object.Content.TheVariants as content
 use Rattle.model.specs.declared.object.Role.TheVariants as role
-use Rattle.device.specs.Disk.{Disk, Image}
-use Rattle.layout.specs.Frame.{IsFrameOf, page_frame_bytes}
-use Rattle.layout.specs.Image.{sectors_from, slot_sector}
-use Rattle.frame_io.specs.Calls.{WritesAt}
-use Rattle.checkpoint.specs.Saved.{with_words}
-use Rattle.migrator.specs.declared.books.Books.{Books}
-use Rattle.migrator.specs.Durable.{GoesOnDisk, IsDurable, first_bytes, stored_on}
 use Rattle.migrator.proofs.Buffered.{none_idle}
 use Rattle.migrator.proofs.GoingOn.{goes_seen}
 use Rattle.migrator.proofs.Journaling.{put_goes_on, put_kept, put_spelt, put_stored}

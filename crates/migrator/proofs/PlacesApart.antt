@@ -1,23 +1,9 @@
 -- Places of frames that lie apart.
-use Rattle.std.proofs.Common.{◌≡◌, ℕ, ◌%◌, ◌<◌, ◌≤◌, Option, Some, None, List, length, refl, sym, ap, subst, ◌∙◌, inl, inr, arith}
-use Rattle.device.specs.Disk.{Image}
-use Rattle.layout.specs.declared.directory.Entry.{Entry}
-use Rattle.layout.specs.declared.extent.Extent.{Extent}
-use Rattle.layout.specs.declared.header.CheckpointHeader.{CheckpointHeader}
-use Rattle.layout.specs.Directory.{IsDirectory}
-use Rattle.layout.specs.Homes.{home_place, place_length}
-use Rattle.layout.specs.Image.{bytes_at, frame_in, seat_in, slot_in, slot_sector, half_sector, sector_or}
-use Rattle.layout.specs.Spelt.{count_of}
-use Rattle.layout.specs.Superblock.{Plan, IsPlan, IsApart, IsInside, half_extent}
-use Rattle.layout.proofs.Halves.{itself, apart_inside, apart_turned, within_inside}
-use Rattle.home_ranges.proofs.Seats.{own_seat}
-use Rattle.home_ranges.specs.Laws.{home_extent}
-use Rattle.home_ranges.proofs.Places.{places_within, places_apart, places_spare_log}
-use Rattle.ckpt_log.specs.Places.{place_extent, directory_extent}
-use Rattle.ckpt_log.proofs.Places.{slots_inside, frames_in_slots, directories_inside, halves_within, halves_apart}
-use Rattle.ckpt_log.specs.CommitLaws.{HomesAreBehind}
-use Rattle.migrator.specs.Put.{slot_bytes}
-use Rattle.migrator.specs.Spared.{frame_extent, Spares}
+use Rattle.migrator.proofs.Names.{◌≡◌, ℕ, ◌%◌, ◌<◌, ◌≤◌, Option, Some, None, List, length, refl, sym, ap, subst, ◌∙◌, inl, inr, arith, Image, Entry, Extent}
+use Rattle.migrator.proofs.Names.{CheckpointHeader, IsDirectory, home_place, place_length, bytes_at, frame_in, seat_in, slot_in, slot_sector, half_sector}
+use Rattle.migrator.proofs.Names.{sector_or, count_of, Plan, IsPlan, IsApart, IsInside, half_extent, itself, apart_inside, apart_turned, within_inside}
+use Rattle.migrator.proofs.Names.{own_seat, home_extent, places_within, places_apart, places_spare_log, place_extent, directory_extent, slots_inside}
+use Rattle.migrator.proofs.Names.{frames_in_slots, directories_inside, halves_within, halves_apart, HomesAreBehind, slot_bytes, frame_extent, Spares}
 use Rattle.migrator.proofs.Seats.{no_entries, seats_differ, seat_fits}
 
 -- ---- where the frame of an object is read

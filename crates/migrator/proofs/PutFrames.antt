@@ -1,25 +1,8 @@
 -- A frame is put: what then holds of a device and its books.
-use Rattle.std.proofs.Common.{◌≡◌, ◌⊎◌, ◌∙◌, ℕ, ◌+◌, ◌<◌, ◌≤◌, Option, Some, None, Result, List, set, refl, ap, subst, arith}
-use Rattle.std.specs.Prelude.{OnOk, OnErr}
-use Rattle.model.specs.declared.frame.Frame.{Frame}
-use Rattle.model.specs.Keepable.{IsKeepable}
-use Rattle.device.specs.Disk.{Image, Disk}
-use Rattle.device.specs.declared.device.Failed.{Failed}
-use Rattle.layout.specs.Frame.{frame_bytes}
-use Rattle.layout.specs.Homes.{place_length}
-use Rattle.layout.specs.Image.{slot_sector}
-use Rattle.layout.specs.Spelt.{count_of}
-use Rattle.frame_io.specs.Calls.{WritesAt}
-use Rattle.checkpoint.specs.Saved.{most}
-use Rattle.migrator.specs.Completed.{Keeps}
-use Rattle.migrator.specs.declared.books.Books.{Books}
-use Rattle.migrator.specs.declared.table.Place.{Place}
-use Rattle.migrator.specs.declared.table.Place.TheVariants.{Torn, Whole}
-use Rattle.migrator.specs.Durable.{GoesOnDisk, IsDurable, IsRunning, frozen_generation, seen_by, stored_on, with_frozen, with_working, working_generation}
-use Rattle.migrator.specs.Mended.{Unwritten, mended}
-use Rattle.migrator.specs.Put.{Broken, HasRoom, Kept, puts_in, slot_bytes}
-use Rattle.migrator.specs.Spared.{Touches}
-use Rattle.migrator.specs.Table.{entries_of, slot_for}
+use Rattle.migrator.proofs.Names.{◌≡◌, ◌⊎◌, ◌∙◌, ℕ, ◌+◌, ◌<◌, ◌≤◌, Option, Some, None, Result, List, set, refl, ap, subst, arith, OnOk, OnErr, Frame}
+use Rattle.migrator.proofs.Names.{IsKeepable, Image, Disk, Failed, frame_bytes, place_length, slot_sector, count_of, WritesAt, most, Keeps, Books, Place, Torn}
+use Rattle.migrator.proofs.Names.{Whole, GoesOnDisk, IsDurable, IsRunning, frozen_generation, seen_by, stored_on, with_frozen, with_working, working_generation}
+use Rattle.migrator.proofs.Names.{Unwritten, mended, Broken, HasRoom, Kept, puts_in, slot_bytes, Touches, entries_of, slot_for}
 use Rattle.migrator.proofs.Buffered.{entry_of, held_after, held_working, without, working_again}
 use Rattle.migrator.proofs.Committing.{frozen_fits}
 use Rattle.migrator.proofs.Completed.{goes_after, kept_with, mid_kept, stored_after}

@@ -1,32 +1,12 @@
 -- A frame is put into a slot.
-use Rattle.std.proofs.Common.{◌≡◌, ◌⊎◌, ℕ, zero, suc, ◌+◌, ◌%◌, ◌<◌, ◌≤◌, Option, Some, None, List, [], ◌∷◌, length, get_or, set, refl, sym, ap, subst, ◌∙◌, inl, inr, ⊎_elim, arith}
-use Rattle.std.specs.Prelude.{map}
-use Rattle.std.specs.List.{range_with_len}
-use Rattle.std.proofs.lemmas.Bool.{cases_eq}
-use Rattle.std.proofs.lemmas.List.{same_lists, length-set}
-use Rattle.std.proofs.lemmas.List.FromFn.{length-map-range_with_len, get_or-map-range_with_len}
-use Rattle.model.specs.declared.frame.Frame.{Frame}
-use Rattle.device.specs.Disk.{Image}
-use Rattle.layout.specs.declared.extent.Extent.{Extent}
-use Rattle.layout.specs.Frame.{IsFrameOf}
-use Rattle.layout.specs.Image.{half_sector}
-use Rattle.layout.specs.Spelt.{count_of}
-use Rattle.layout.specs.Directory.{entry_at}
-use Rattle.layout.specs.Superblock.{Plan, IsPlan, IsApart, IsInside, half_extent}
-use Rattle.layout.proofs.Halves.{apart_inside}
-use Rattle.home_ranges.specs.Laws.{home_extent}
-use Rattle.ckpt_log.specs.Places.{slot_extent, place_extent}
-use Rattle.ckpt_log.proofs.Places.{frames_in_slots, slots_apart}
-use Rattle.migrator.specs.declared.table.Place.{Place}
-use Rattle.migrator.specs.declared.table.Place.TheVariants.{Nowhere, Torn, Whole}
-use Rattle.migrator.specs.Table.{place_at, slot_of, has_slot, has_frame, tally, taken_count, whole_count, slot_or, slot_for, IsTable}
-use Rattle.migrator.specs.Put.{Put, Absent, Kept, put_at, kept_frame, held_slot, sum_of, kept_count, HasRoom, slot_bytes, slot_frame, put_of, puts_in, ArePut}
-use Rattle.checkpoint.specs.Saved.{most}
-use Rattle.migrator.specs.declared.books.Books.{Books}
-use Rattle.migrator.specs.Durable.{frozen_generation, generation_after, IsRunning, IsKept}
+use Rattle.migrator.proofs.Names.{◌≡◌, ◌⊎◌, ℕ, zero, suc, ◌+◌, ◌%◌, ◌<◌, ◌≤◌, Option, Some, None, List, [], ◌∷◌, length, get_or, set, refl, sym, ap, subst, ◌∙◌}
+use Rattle.migrator.proofs.Names.{inl, inr, ⊎_elim, arith, map, range_with_len, cases_eq, same_lists, length-set, length-map-range_with_len}
+use Rattle.migrator.proofs.Names.{get_or-map-range_with_len, Frame, Image, Extent, IsFrameOf, half_sector, count_of, entry_at, Plan, IsPlan, IsApart, IsInside}
+use Rattle.migrator.proofs.Names.{half_extent, apart_inside, home_extent, slot_extent, place_extent, frames_in_slots, slots_apart, Place, Nowhere, Torn, Whole}
+use Rattle.migrator.proofs.Names.{place_at, slot_of, has_slot, has_frame, tally, taken_count, whole_count, slot_or, slot_for, IsTable, Put, Absent, Kept}
+use Rattle.migrator.proofs.Names.{put_at, kept_frame, held_slot, sum_of, kept_count, HasRoom, slot_bytes, slot_frame, put_of, puts_in, ArePut, most, Books}
+use Rattle.migrator.proofs.Names.{frozen_generation, generation_after, IsRunning, IsKept, Spares, SparesPuts}
 use Rattle.migrator.proofs.Tables.{tally-set, table_set, set_here, set_there}
-use Rattle.migrator.specs.Spared.{Spares}
-use Rattle.migrator.specs.Saving.{SparesPuts}
 use Rattle.migrator.proofs.Kept.{map_set}
 use Rattle.migrator.proofs.PlacesApart.{other_half, home_apart, spares_other, spares_log}
 

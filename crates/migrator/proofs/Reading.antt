@@ -1,31 +1,12 @@
 -- Reads one after the other, and the frames that they find.
-use Rattle.std.proofs.Common.{◌≡◌, ℕ, ◌+◌, ◌<◌, Result, Ok, Err, List, [], ◌∷◌, ◌++◌, refl, sym, subst, ◌∙◌, inl, inr, ⊎_elim, arith}
-use Rattle.std.specs.Prelude.{map, IfOk, IfErr}
-use Rattle.std.specs.List.{range_with_len}
-use Rattle.std.proofs.lemmas.Bool.{cases_lt}
-use Rattle.std.proofs.lemmas.List.FromFn.{map-range_with_len_more}
-use Rattle.model.specs.declared.frame.Frame.{Frame}
-use Rattle.device.specs.Disk.{Image, Disk}
-use Rattle.device.specs.Calls.{Only}
-use Rattle.device.specs.Moments.{Elapses}
-use Rattle.device.proofs.Images.{agrees_is}
-use Rattle.device.proofs.Moments.{leaves_weaker, leaves_on, peeks_started}
-use Rattle.layout.specs.declared.directory.Entry.{Entry}
-use Rattle.layout.specs.declared.header.CheckpointHeader.{CheckpointHeader}
-use Rattle.layout.specs.declared.bad_image.BadImage.{BadImage}
+use Rattle.migrator.proofs.Names.{◌≡◌, ℕ, ◌+◌, ◌<◌, Result, Ok, Err, List, [], ◌∷◌, ◌++◌, refl, sym, subst, ◌∙◌, inl, inr, ⊎_elim, arith, map, IfOk, IfErr}
+use Rattle.migrator.proofs.Names.{range_with_len, cases_lt, map-range_with_len_more, Frame, Image, Disk, Only, Elapses, agrees_is, leaves_weaker, leaves_on}
+use Rattle.migrator.proofs.Names.{peeks_started, Entry, CheckpointHeader, BadImage, HasPlan, HasHeader, HasDirectory, Encodes, IsBadBy, count_of, IsSpelt}
+use Rattle.migrator.proofs.Names.{AreSpelt, frame_read, frames_read, state_in, Plan, denotes, ReadsOnly, HasNoCommitted, OpenFault, IsBadAt, IsBadFor}
+use Rattle.migrator.proofs.Names.{LeavesState}
 use Rattle.layout.specs.declared.bad_image.BadImage.TheVariants as bad
-use Rattle.layout.specs.Image.{HasPlan, HasHeader, HasDirectory, Encodes, IsBadBy}
-use Rattle.layout.specs.Spelt.{count_of, IsSpelt, AreSpelt, frame_read, frames_read, state_in}
-use Rattle.layout.specs.Superblock.{Plan}
-use Rattle.layout.proofs.Spelling.{denotes}
-use Rattle.frame_io.specs.Calls.{ReadsOnly}
 use Rattle.frame_io.specs.declared.fault.ReadFault.TheVariants as fault
-use Rattle.ckpt_log.specs.Log.{HasNoCommitted}
-use Rattle.checkpoint.specs.declared.open_fault.OpenFault.{OpenFault}
 use Rattle.checkpoint.specs.declared.open_fault.OpenFault.TheVariants as refusal
-use Rattle.migrator.specs.Opened.{IsBadAt}
-use Rattle.checkpoint.specs.Opened.{IsBadFor}
-use Rattle.migrator.specs.Durable.{LeavesState}
 
 time_on : (a b c : Disk) → ReadsOnly a b → ReadsOnly b c → Elapses a c
 time_on a b c first second = record {

@@ -1,28 +1,9 @@
 -- A directory is written, and a header is published over it.
-use Rattle.std.proofs.Common.{◌≡◌, ◌⊎◌, ℕ, ◌+◌, Result, Ok, Err, List, refl, sym, subst, ◌∙◌, inl, inr, ⊎_elim}
-use Rattle.std.specs.Prelude.{OnOk, OnErr}
-use Rattle.device.specs.Disk.{Image, Disk}
-use Rattle.device.specs.Calls.{Elsewhere, Only}
-use Rattle.device.specs.Moments.{LeavesOnly}
-use Rattle.device.proofs.Images.{agrees_is}
-use Rattle.device.proofs.Moments.{leaves_weaker, leaves_on}
-use Rattle.layout.specs.declared.directory.Entry.{Entry}
-use Rattle.layout.specs.declared.header.CheckpointHeader.{CheckpointHeader}
-use Rattle.layout.specs.Directory.{directory_bytes}
-use Rattle.layout.specs.Frame.{IsFrameOf}
-use Rattle.layout.specs.Header.{IsHeader}
-use Rattle.layout.specs.Image.{Encodes, SavedState, frame_in, directory_in, directory_sector, directory_length}
-use Rattle.layout.specs.Spelt.{AreSpelt, state_in}
-use Rattle.layout.specs.Superblock.{Plan}
-use Rattle.layout.proofs.Spelling.{length_read, read_at, spelt_same}
-use Rattle.frame_io.specs.Calls.{WritesAt}
-use Rattle.ckpt_log.specs.Commit.{header_sector, CommitsOne, Precedes, HasNew, IsOld}
-use Rattle.ckpt_log.specs.CommitLaws.{IsReady}
-use Rattle.ckpt_log.specs.Places.{directory_extent}
-use Rattle.ckpt_log.proofs.BesideHeaders.{next_follows}
-use Rattle.ckpt_log.proofs.Denoted.{old_denoted, new_denoted}
-use Rattle.migrator.specs.Durable.{LeavesState}
-use Rattle.migrator.specs.Saving.{MaySave, SavesOnly}
+use Rattle.migrator.proofs.Names.{◌≡◌, ◌⊎◌, ℕ, ◌+◌, Result, Ok, Err, List, refl, sym, subst, ◌∙◌, inl, inr, ⊎_elim, OnOk, OnErr, Image, Disk, Elsewhere, Only}
+use Rattle.migrator.proofs.Names.{LeavesOnly, agrees_is, leaves_weaker, leaves_on, Entry, CheckpointHeader, directory_bytes, IsFrameOf, IsHeader, Encodes}
+use Rattle.migrator.proofs.Names.{SavedState, frame_in, directory_in, directory_sector, directory_length, AreSpelt, state_in, Plan, length_read, read_at}
+use Rattle.migrator.proofs.Names.{spelt_same, WritesAt, header_sector, CommitsOne, Precedes, HasNew, IsOld, IsReady, directory_extent, next_follows}
+use Rattle.migrator.proofs.Names.{old_denoted, new_denoted, LeavesState, MaySave, SavesOnly}
 use Rattle.migrator.proofs.Spared.{touches, frame_stays, state_stays, state_spared, sound_spared, moments_spared}
 use Rattle.migrator.proofs.PlacesApart.{homes_behind}
 

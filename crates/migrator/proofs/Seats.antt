@@ -1,20 +1,9 @@
 -- Which slot has the frame of an object, or of another in its cluster.
-use Rattle.std.proofs.Common.{◌≡◌, ℕ, zero, suc, ◌-◌, ◌<◌, ◌≤◌, Bool, true, false, not, nat_eq, Option, Some, None, List, [], ◌∷◌, length, refl, sym, ap, subst, ◌∙◌, inl, inr, arith}
-use Rattle.std.specs.Prelude.{if◌then◌else◌}
-use Rattle.std.proofs.lemmas.Bool.{cases_eq, cases_lt, eq-eqb}
-use Rattle.layout.specs.declared.directory.Entry.{Entry}
-use Rattle.layout.specs.declared.shape.Shape.TheVariants.{Packed, Page}
-use Rattle.layout.specs.Directory.{IsDirectory, AreRising, entry_at}
-use Rattle.layout.specs.Homes.{home_place, range_with, rank_in, shape_of}
-use Rattle.layout.specs.Image.{slot_in, slot_beside, seat_in}
-use Rattle.layout.specs.Spelt.{count_of}
-use Rattle.layout.specs.Shape.{node_shape}
-use Rattle.layout.specs.Superblock.{Plan, IsPlan}
-use Rattle.layout.proofs.SlotsOf.{found_slot, own_slot, rising_to}
-use Rattle.home_ranges.proofs.Places.{IsOwn, alone, lt_false}
-use Rattle.home_ranges.proofs.Seats.{beside_behind, beside_here, beside_seat, own_seat, same_some, seat_entry}
-use Rattle.home_ranges.proofs.Shared.{begins, home_between}
-use Rattle.migrator.specs.Gathered.{IsFirst}
+use Rattle.migrator.proofs.Names.{◌≡◌, ℕ, zero, suc, ◌-◌, ◌<◌, ◌≤◌, Bool, true, false, not, nat_eq, Option, Some, None, List, [], ◌∷◌, length, refl, sym, ap}
+use Rattle.migrator.proofs.Names.{subst, ◌∙◌, inl, inr, arith, if◌then◌else◌, cases_eq, cases_lt, eq-eqb, Entry, Packed, Page, IsDirectory, AreRising, entry_at}
+use Rattle.migrator.proofs.Names.{home_place, range_with, rank_in, shape_of, slot_in, slot_beside, seat_in, count_of, node_shape, Plan, IsPlan, found_slot}
+use Rattle.migrator.proofs.Names.{own_slot, rising_to, IsOwn, alone, lt_false, beside_behind, beside_here, beside_seat, own_seat, same_some, seat_entry, begins}
+use Rattle.migrator.proofs.Names.{home_between, IsFirst}
 
 -- ---- the first entry whose home is that of an object
 

@@ -1,26 +1,9 @@
 -- Writes apart from what a saved state is read from.
-use Rattle.std.proofs.Common.{◌≡◌, ℕ, ◌+◌, ◌<◌, List, refl, sym, ap, subst, ◌∙◌, ⊎_elim, arith}
-use Rattle.model.specs.declared.frame.Frame.{Frame}
-use Rattle.device.specs.Disk.{Image, Disk}
-use Rattle.device.specs.Calls.{Elsewhere, IsTorn}
-use Rattle.device.specs.Moments.{LeavesOnly}
-use Rattle.device.proofs.Images.{elsewhere_same, elsewhere_on}
-use Rattle.device.proofs.Moments.{leaves_weaker, leaves_on}
-use Rattle.layout.specs.declared.directory.Entry.{Entry}
-use Rattle.layout.specs.declared.extent.Extent.{Extent}
-use Rattle.layout.specs.declared.header.CheckpointHeader.{CheckpointHeader}
-use Rattle.layout.specs.Homes.{place_length, shape_of}
-use Rattle.layout.specs.Image.{bytes_at, frame_in, frame_sector, Encodes, directory_length}
-use Rattle.layout.specs.Spelt.{count_of, frames_read, state_in}
-use Rattle.layout.specs.Superblock.{Plan, IsApart}
-use Rattle.layout.proofs.Shapes.{same_shaped}
-use Rattle.layout.proofs.Spelling.{read_same}
-use Rattle.frame_io.specs.Calls.{ReadsOnly, WritesAt}
-use Rattle.ckpt_log.specs.Places.{directory_extent}
-use Rattle.ckpt_log.specs.SavedSectors.{SameFrom, SameWhereRead}
-use Rattle.ckpt_log.proofs.SavedStates.{same_saved}
-use Rattle.migrator.specs.Durable.{LeavesState}
-use Rattle.migrator.specs.Spared.{frame_extent, SparesFrames, Spares, Touches}
+use Rattle.migrator.proofs.Names.{◌≡◌, ℕ, ◌+◌, ◌<◌, List, refl, sym, ap, subst, ◌∙◌, ⊎_elim, arith, Frame, Image, Disk, Elsewhere, IsTorn, LeavesOnly}
+use Rattle.migrator.proofs.Names.{elsewhere_same, elsewhere_on, leaves_weaker, leaves_on, Entry, Extent, CheckpointHeader, place_length, shape_of, bytes_at}
+use Rattle.migrator.proofs.Names.{frame_in, frame_sector, Encodes, directory_length, count_of, frames_read, state_in, Plan, IsApart, same_shaped, read_same}
+use Rattle.migrator.proofs.Names.{ReadsOnly, WritesAt, directory_extent, SameFrom, SameWhereRead, same_saved, LeavesState, frame_extent, SparesFrames, Spares}
+use Rattle.migrator.proofs.Names.{Touches}
 
 -- a change of other sectors leaves these
 pub stays : (d e : Extent) (old new : Image) → IsApart d e → Elsewhere e.sector e.length old new → SameFrom d.sector d.length old new

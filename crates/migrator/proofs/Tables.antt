@@ -1,19 +1,13 @@
 -- What is known of a table of places.
 use native.Mathlib.Numerals.{unary_clauses}
-use Rattle.std.proofs.Common.{◌≡◌, ℕ, zero, suc, ◌+◌, ◌-◌, ◌<◌, ◌≤◌, Bool, true, false, Option, Some, None, List, [], ◌∷◌, ◌++◌, length, map, set, take, drop, refl, sym, ap, subst, ◌∙◌, inl, inr, arith, length-append}
-use Rattle.std.specs.Prelude.{replicate}
-use Rattle.std.proofs.lemmas.Bool.{cases_eq}
-use Rattle.std.proofs.Math.ListN.{get_or-map}
-use Rattle.std.proofs.lemmas.List.{get_or-set_same, get_or-set_other, get_or_default, take_all, drop_all, append-nil, append_assoc, nil_from_length, length-map, map-set}
-use Rattle.number_set.specs.Marks.{is_marked, IsNextMarked, HasNoneMarked}
-use Rattle.model.specs.declared.geometry.Geometry.{Geometry}
-use Rattle.layout.specs.declared.directory.Entry.{Entry}
-use Rattle.layout.specs.Directory.{entry_at, AreRising, IsEntry, IsDirectory}
-use Rattle.layout.specs.Image.{slot_in}
-use Rattle.layout.proofs.SlotsOf.{slot_here, slot_behind, own_slot, two_objects}
-use Rattle.migrator.specs.declared.table.Place.{Place}
-use Rattle.migrator.specs.declared.table.Place.TheVariants.{Nowhere, Torn, Whole}
-use Rattle.migrator.specs.Table.{place_at, slot_of, is_held, has_slot, has_frame, tally, taken_count, whole_count, slot_or, slot_for, IsTable, entry_before, entries_from, entries_of}
+use Rattle.migrator.proofs.Names.{◌≡◌, ℕ, zero, suc, ◌+◌, ◌-◌, ◌<◌, ◌≤◌, Bool, true, false, Option, Some, None, List, [], ◌∷◌, ◌++◌, length, set, take, drop}
+use Rattle.migrator.proofs.Names.{refl, sym, ap, subst, ◌∙◌, inl, inr, arith, length-append, replicate, cases_eq, get_or-map, get_or-set_same, get_or-set_other}
+use Rattle.migrator.proofs.Names.{get_or_default, take_all, drop_all, append_assoc, nil_from_length, length-map, map-set, is_marked, IsNextMarked}
+use Rattle.migrator.proofs.Names.{HasNoneMarked, Geometry, Entry, entry_at, AreRising, IsEntry, IsDirectory, slot_in, slot_here, slot_behind, own_slot}
+use Rattle.migrator.proofs.Names.{two_objects, Place, Nowhere, Torn, Whole, place_at, slot_of, is_held, has_slot, has_frame, tally, taken_count, whole_count}
+use Rattle.migrator.proofs.Names.{slot_or, slot_for, IsTable, entry_before, entries_from, entries_of}
+use Rattle.std.proofs.Common.{map}
+use Rattle.std.proofs.lemmas.List.{append-nil}
 
 -- ---- counts
 

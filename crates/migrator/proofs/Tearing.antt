@@ -1,12 +1,7 @@
 -- What was put of an object is given up: its slot stays.
-use Rattle.std.proofs.Common.{◌≡◌, ◌∙◌, inl, ℕ, ◌<◌, Option, Some, option_map, length, sym, ap, arith}
-use Rattle.std.proofs.lemmas.List.{get_or-set_same}
-use Rattle.std.proofs.lemmas.Option.{same_Some}
-use Rattle.device.specs.Disk.{Disk}
-use Rattle.layout.specs.Spelt.{count_of}
-use Rattle.migrator.specs.Put.{Absent, Broken, put_at, puts_in, HasRoom}
-use Rattle.migrator.specs.declared.books.Books.{Books}
-use Rattle.migrator.specs.Durable.{FrozenPuts, Stored, frozen_generation, frozen_of, seen_by, stored_on, with_frozen, with_put}
+use Rattle.migrator.proofs.Names.{◌≡◌, ◌∙◌, inl, ℕ, ◌<◌, Option, Some, length, sym, ap, arith, get_or-set_same, same_Some, Disk, count_of, Absent, Broken}
+use Rattle.migrator.proofs.Names.{put_at, puts_in, HasRoom, Books, FrozenPuts, Stored, frozen_generation, frozen_of, seen_by, stored_on, with_frozen, with_put}
+use Rattle.std.proofs.Common.{option_map}
 use Rattle.migrator.proofs.Freezing.{length_puts}
 
 pub torn_room : (old mid : Disk) (b c : Books) (size n : ℕ) → b.size ≡ Some size → c.size ≡ Some size → stored_on mid c ≡ with_frozen n Broken (stored_on old b) → n < count_of b.plan

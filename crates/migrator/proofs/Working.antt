@@ -1,27 +1,8 @@
 -- A working frame is put into its slot.
-use Rattle.std.proofs.Common.{◌≡◌, ℕ, ◌<◌, Option, Some, None, Result, Ok, Err, List, length, set, refl, sym, ap, subst, ◌∙◌, arith}
-use Rattle.std.specs.Prelude.{OnOk, OnErr}
-use Rattle.model.specs.declared.frame.Frame.{Frame}
-use Rattle.model.specs.Keepable.{IsKeepable}
-use Rattle.device.specs.Disk.{Image, Disk}
-use Rattle.device.specs.declared.device.Failed.{Failed}
-use Rattle.layout.specs.Frame.{IsFrameOf, frame_bytes}
-use Rattle.layout.specs.Image.{half_sector, slot_sector}
-use Rattle.layout.specs.Spelt.{count_of}
-use Rattle.layout.specs.Superblock.{IsInside, half_extent}
-use Rattle.layout.proofs.Spelling.{bytes_spelt}
-use Rattle.layout.specs.Homes.{place_length}
-use Rattle.frame_io.specs.Calls.{WritesAt}
-use Rattle.ckpt_log.specs.Places.{place_extent}
-use Rattle.migrator.specs.declared.table.Place.{Place}
-use Rattle.migrator.specs.declared.table.Place.TheVariants.{Torn, Whole}
-use Rattle.migrator.specs.Table.{slot_for}
-use Rattle.migrator.specs.Put.{Put, Broken, Kept, slot_bytes, slot_frame, puts_in, ArePut}
-use Rattle.checkpoint.specs.Saved.{most}
-use Rattle.migrator.specs.declared.books.Books.{Books}
-use Rattle.migrator.specs.Durable.{working_generation, Stored, stored_in, IsRunning, IsKept, with_working}
-use Rattle.migrator.specs.Spared.{Spares}
-use Rattle.migrator.specs.Saving.{SparesKept}
+use Rattle.migrator.proofs.Names.{◌≡◌, ℕ, ◌<◌, Option, Some, None, Result, Ok, Err, List, length, set, refl, sym, ap, subst, ◌∙◌, arith, OnOk, OnErr, Frame}
+use Rattle.migrator.proofs.Names.{IsKeepable, Image, Disk, Failed, IsFrameOf, frame_bytes, half_sector, slot_sector, count_of, IsInside, half_extent}
+use Rattle.migrator.proofs.Names.{bytes_spelt, place_length, WritesAt, place_extent, Place, Torn, Whole, slot_for, Put, Broken, Kept, slot_bytes, slot_frame}
+use Rattle.migrator.proofs.Names.{puts_in, ArePut, most, Books, working_generation, Stored, stored_in, IsRunning, IsKept, with_working, Spares, SparesKept}
 use Rattle.migrator.proofs.Kept.{stored_stays, kept_on}
 use Rattle.migrator.proofs.PlacesApart.{place_inside}
 use Rattle.migrator.proofs.GoingOn.{GoesOnSeen, goes_spared}

@@ -1,14 +1,6 @@
 -- Slots that have the frames of a whole cluster.
-use Rattle.std.specs.Prelude.{◌≡◌, ℕ, ◌*◌, ◌<◌, Option, Some, None, List, length}
-use Rattle.device.specs.Disk.{Image, Disk}
-use Rattle.device.specs.Calls.{Elsewhere}
-use Rattle.layout.specs.declared.directory.Entry.{Entry}
-use Rattle.layout.specs.Directory.{entry_at}
-use Rattle.layout.specs.Homes.{home_place, shape_of}
-use Rattle.layout.specs.Image.{bytes_at, slot_beside, slot_in, slot_sector, half_sector}
-use Rattle.layout.specs.Shape.{shape_bytes}
-use Rattle.layout.specs.Superblock.{Plan}
-use Rattle.frame_io.specs.Frames.{IsObject}
+use Rattle.migrator.specs.Names.{◌≡◌, ℕ, ◌*◌, ◌<◌, Option, Some, None, List, length, Image, Disk, Elsewhere, Entry, entry_at, home_place, shape_of, bytes_at}
+use Rattle.migrator.specs.Names.{slot_beside, slot_in, slot_sector, half_sector, shape_bytes, Plan, IsObject}
 use Rattle.migrator.specs.Gathered.{IsFirst}
 use Rattle.migrator.specs.Mended.{Unwritten, mended, IfUnwritten}
 use Rattle.migrator.specs.Put.{slot_bytes}

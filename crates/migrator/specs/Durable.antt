@@ -1,28 +1,15 @@
 -- A durable store: what it keeps in memory, and what that and the device make.
-use Rattle.std.specs.Prelude.{⊤, ◌≡◌, ◌⊎◌, ◌==◌, if◌then◌else◌, ℕ, ◌+◌, ◌-◌, ◌^◌, ◌<◌, ◌≤◌, Option, Some, None, List, length, option_map, slice_set, replicate}
-use Rattle.model.specs.declared.frame.Frame.{Frame}
+use Rattle.migrator.specs.Names.{⊤, ◌≡◌, ◌⊎◌, ◌==◌, if◌then◌else◌, ℕ, ◌+◌, ◌-◌, ◌^◌, ◌<◌, ◌≤◌, Option, Some, None, List, length, option_map, slice_set}
+use Rattle.migrator.specs.Names.{replicate, Frame, frame_at, AreKeepable, Image, Disk, Agrees, Narrows, Peeks, Entry, CheckpointHeader, IsDirectory, entry_at}
+use Rattle.migrator.specs.Names.{IsHeader, Packed, shape_of, SavedState, Encodes, slot_sector, AreSpelt, state_in, Plan, IsPlan, SavedFrames, kept_of}
+use Rattle.migrator.specs.Names.{home_saved, LeavesSaved, replaced_saved, with_words}
 use Rattle.model.specs.declared.object.Role.TheVariants as role
-use Rattle.model.specs.Frame.{frame_at}
-use Rattle.model.specs.Keepable.{AreKeepable}
-use Rattle.device.specs.Disk.{Image, Disk}
-use Rattle.device.specs.Calls.{Agrees, Narrows}
-use Rattle.device.specs.Moments.{Peeks}
-use Rattle.layout.specs.declared.directory.Entry.{Entry}
-use Rattle.layout.specs.declared.header.CheckpointHeader.{CheckpointHeader}
-use Rattle.layout.specs.Directory.{IsDirectory, entry_at}
-use Rattle.layout.specs.Header.{IsHeader}
-use Rattle.layout.specs.declared.shape.Shape.TheVariants.{Packed}
-use Rattle.layout.specs.Homes.{shape_of}
-use Rattle.layout.specs.Image.{SavedState, Encodes, slot_sector}
-use Rattle.layout.specs.Spelt.{AreSpelt, state_in}
-use Rattle.layout.specs.Superblock.{Plan, IsPlan}
 use Rattle.migrator.specs.Gathered.{IsCopied}
 use Rattle.migrator.specs.Mended.{Unwritten, mended}
 use Rattle.migrator.specs.declared.books.Books.{Books}
 use Rattle.migrator.specs.declared.table.Place.TheVariants.{Nowhere}
 use Rattle.migrator.specs.Table.{place_at, slot_of, taken_count}
 use Rattle.migrator.specs.Put.{Put, Absent, put_at, put_or, kept_count, overlaid, slot_bytes, slot_frame, puts_in, ArePut}
-use Rattle.checkpoint.specs.Saved.{SavedFrames, kept_of, home_saved, LeavesSaved, replaced_saved, with_words}
 
 -- what a read gives, of the device and of that cluster
 abbrev pub seen_by : Image → Books → Image

@@ -1,15 +1,6 @@
 -- What goes home with a saved frame.
-use Rattle.std.specs.Prelude.{◌≡◌, ℕ, ◌-◌, ◌<◌, List}
-use Rattle.device.specs.Disk.{Image}
-use Rattle.layout.specs.declared.directory.Entry.{Entry}
-use Rattle.layout.specs.declared.shape.Shape.TheVariants.{Packed}
-use Rattle.layout.specs.Directory.{entry_at}
-use Rattle.layout.specs.Homes.{home_place, shape_of}
-use Rattle.layout.specs.Image.{bytes_at, frame_in}
-use Rattle.layout.specs.Shape.{shape_bytes}
-use Rattle.layout.specs.Superblock.{Plan}
-use Rattle.frame_io.specs.Frames.{IsObject}
-use Rattle.home_ranges.specs.Home.{EndsInZeros}
+use Rattle.migrator.specs.Names.{◌≡◌, ℕ, ◌-◌, ◌<◌, List, Image, Entry, Packed, entry_at, home_place, shape_of, bytes_at, frame_in, shape_bytes, Plan, IsObject}
+use Rattle.migrator.specs.Names.{EndsInZeros}
 
 -- the bytes of a home are the saved frames of all that have it
 abbrev pub IsGathered : Image → Plan → ℕ → List Entry → ℕ → List ℕ → Type 0

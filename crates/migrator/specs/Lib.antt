@@ -1,3 +1,4 @@
+pub mod Names
 pub mod Table
 pub mod Put
 pub mod Durable

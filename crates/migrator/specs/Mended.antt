@@ -1,19 +1,6 @@
 -- A cluster that a device failed to write.
-use Rattle.std.specs.Prelude.{⊤, ◌≡◌, ℕ, ◌+◌, ◌-◌, ◌<◌, nat_le, nat_lt, ◌&&◌, if◌then◌else◌, Option, Some, None, List, length}
-use Rattle.model.specs.declared.geometry.Geometry.{Geometry}
-use Rattle.device.specs.Disk.{Image}
-use Rattle.device.specs.Calls.{image_of}
-use Rattle.layout.specs.declared.directory.Entry.{Entry}
-use Rattle.layout.specs.declared.shape.Shape.{Shape}
-use Rattle.layout.specs.declared.shape.Shape.TheVariants.{Packed}
-use Rattle.layout.specs.Directory.{entry_at}
-use Rattle.layout.specs.Homes.{shape_of}
-use Rattle.layout.specs.Frame.{IsFrameOf}
-use Rattle.layout.specs.FrameReader.{frame_from}
-use Rattle.layout.specs.Image.{slot_sector}
-use Rattle.layout.specs.Shape.{shape_bytes}
-use Rattle.checkpoint.specs.Saved.{most}
-use Rattle.layout.specs.Superblock.{Plan}
+use Rattle.migrator.specs.Names.{⊤, ◌≡◌, ℕ, ◌+◌, ◌-◌, ◌<◌, nat_le, nat_lt, ◌&&◌, if◌then◌else◌, Option, Some, None, List, length, Geometry, Image, image_of}
+use Rattle.migrator.specs.Names.{Entry, Shape, Packed, entry_at, shape_of, IsFrameOf, frame_from, slot_sector, shape_bytes, most, Plan}
 
 -- the first sector of the slot that is to have it, and its bytes
 pub record Unwritten : Type 0 where

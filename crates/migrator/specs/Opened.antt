@@ -1,24 +1,10 @@
 -- The results of opening a device.
-use Rattle.std.specs.Prelude.{◌≡◌, ℕ, None, List, length, take, replicate, ⊤}
-use Rattle.model.specs.declared.frame.Frame.{Frame}
-use Rattle.layout.specs.declared.directory.Entry.{Entry}
-use Rattle.layout.specs.declared.header.CheckpointHeader.{CheckpointHeader}
-use Rattle.layout.specs.declared.bad_image.BadImage.{BadImage}
+use Rattle.migrator.specs.Names.{◌≡◌, ℕ, None, List, length, take, replicate, ⊤, Frame, Entry, CheckpointHeader, BadImage, BadFrame, IsFrameOf, AreSpelt, Plan}
+use Rattle.migrator.specs.Names.{OpenFault, Image, Disk, Only, IsBadBy, HasHeader, HasDirectory, frame_in, ReadFault, Holds, Looks}
 use Rattle.layout.specs.declared.bad_image.BadImage.TheVariants as bad
-use Rattle.layout.specs.declared.bad_image.BadImage.TheVariants.{BadFrame}
-use Rattle.layout.specs.Frame.{IsFrameOf}
-use Rattle.layout.specs.Spelt.{AreSpelt}
-use Rattle.layout.specs.Superblock.{Plan}
-use Rattle.checkpoint.specs.declared.open_fault.OpenFault.{OpenFault}
 use Rattle.checkpoint.specs.declared.open_fault.OpenFault.TheVariants as refusal
-use Rattle.device.specs.Disk.{Image, Disk}
-use Rattle.device.specs.Calls.{Only}
-use Rattle.layout.specs.Image.{IsBadBy, HasHeader, HasDirectory, frame_in}
-use Rattle.frame_io.specs.declared.fault.ReadFault.{ReadFault}
 use Rattle.frame_io.specs.declared.fault.ReadFault.TheVariants as fault
 use Rattle.migrator.specs.Put.{Absent}
-use Rattle.checkpoint.specs.Saved.{Holds}
-use Rattle.checkpoint.specs.Opened.{Looks}
 use Rattle.migrator.specs.Durable.{DurableState, stored_of, is_sound}
 
 -- why an image has no superblock: the least of the first three reasons

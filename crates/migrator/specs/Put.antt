@@ -1,15 +1,6 @@
 -- The frames that were put into a half of the log.
-use Rattle.std.specs.Prelude.{◌≡◌, ◌≢◌, ◌⊎◌, ℕ, ◌+◌, ◌<◌, ◌≤◌, List, [], ◌∷◌, length, map, slice_index_or}
-use Rattle.std.specs.List.{range_with_len}
-use Rattle.model.specs.declared.frame.Frame.{Frame}
-use Rattle.model.specs.Frame.{frame_at}
-use Rattle.device.specs.Disk.{Image}
-use Rattle.layout.specs.Frame.{IsFrameOf}
-use Rattle.layout.specs.FrameReader.{frame_from}
-use Rattle.layout.specs.Image.{bytes_at, slot_sector}
-use Rattle.layout.specs.Spelt.{count_of}
-use Rattle.layout.specs.Superblock.{Plan}
-use Rattle.checkpoint.specs.Saved.{most}
+use Rattle.migrator.specs.Names.{◌≡◌, ◌≢◌, ◌⊎◌, ℕ, ◌+◌, ◌<◌, ◌≤◌, List, [], ◌∷◌, length, map, slice_index_or, range_with_len, Frame, frame_at, Image, IsFrameOf}
+use Rattle.migrator.specs.Names.{frame_from, bytes_at, slot_sector, count_of, Plan, most}
 use Rattle.migrator.specs.declared.table.Place.{Place}
 use Rattle.migrator.specs.declared.table.Place.TheVariants.{Nowhere, Torn, Whole}
 use Rattle.migrator.specs.Table.{place_at, IsTable, taken_count}

@@ -1,7 +1,5 @@
 -- The memory of a store.
-use Rattle.std.specs.Prelude.{◌≡◌, ◌≤◌, None, length, replicate, vec_capacity}
-use Rattle.layout.specs.Spelt.{count_of}
-use Rattle.layout.specs.Superblock.{Plan}
+use Rattle.migrator.specs.Names.{◌≡◌, ◌≤◌, None, length, replicate, vec_capacity, count_of, Plan}
 use Rattle.migrator.specs.declared.durable.open.Reserve.{Reserve}
 use Rattle.migrator.specs.declared.table.Place.TheVariants.{Nowhere}
 

@@ -1,18 +1,7 @@
 -- What is asked before a directory is written and a header published over it.
-use Rattle.std.specs.Prelude.{◌≡◌, ℕ, ◌+◌, ◌<◌, ◌≤◌, None, List, length, replicate}
-use Rattle.device.specs.Disk.{Image, Disk}
-use Rattle.device.specs.Calls.{Elsewhere}
-use Rattle.layout.specs.declared.directory.Entry.{Entry}
-use Rattle.layout.specs.declared.extent.Extent.{Extent}
-use Rattle.layout.specs.declared.header.CheckpointHeader.{CheckpointHeader}
-use Rattle.layout.specs.Directory.{IsDirectory, entry_at}
-use Rattle.layout.specs.Header.{IsHeader}
-use Rattle.layout.specs.Image.{directory_sector, directory_length}
-use Rattle.layout.specs.Spelt.{AreSpelt, count_of, state_in}
-use Rattle.layout.specs.Superblock.{Plan, IsPlan, IsApart}
-use Rattle.ckpt_log.specs.Commit.{header_sector}
-use Rattle.ckpt_log.specs.Places.{directory_extent, place_extent}
-use Rattle.home_ranges.specs.Laws.{home_extent}
+use Rattle.migrator.specs.Names.{◌≡◌, ℕ, ◌+◌, ◌<◌, ◌≤◌, None, List, length, replicate, Image, Disk, Elsewhere, Entry, Extent, CheckpointHeader, IsDirectory}
+use Rattle.migrator.specs.Names.{entry_at, IsHeader, directory_sector, directory_length, AreSpelt, count_of, state_in, Plan, IsPlan, IsApart, header_sector}
+use Rattle.migrator.specs.Names.{directory_extent, place_extent, home_extent}
 use Rattle.migrator.specs.declared.books.Books.{Books}
 use Rattle.migrator.specs.declared.table.Place.{Place}
 use Rattle.migrator.specs.declared.table.Place.TheVariants.{Nowhere, Whole}

@@ -1,16 +1,6 @@
 -- Sectors that nothing saved is read from.
-use Rattle.std.specs.Prelude.{◌≡◌, ◌⊎◌, ℕ, ◌<◌, ◌≤◌, List}
-use Rattle.device.specs.Disk.{Disk}
-use Rattle.device.specs.Calls.{Elsewhere, Tears, IsTorn}
-use Rattle.device.specs.Moments.{LeavesOnly}
-use Rattle.layout.specs.declared.directory.Entry.{Entry}
-use Rattle.layout.specs.declared.extent.Extent.{Extent}
-use Rattle.layout.specs.declared.header.CheckpointHeader.{CheckpointHeader}
-use Rattle.layout.specs.Homes.{place_length}
-use Rattle.layout.specs.Image.{frame_sector}
-use Rattle.layout.specs.Spelt.{count_of}
-use Rattle.layout.specs.Superblock.{Plan, IsApart}
-use Rattle.ckpt_log.specs.Places.{directory_extent}
+use Rattle.migrator.specs.Names.{◌≡◌, ◌⊎◌, ℕ, ◌<◌, ◌≤◌, List, Disk, Elsewhere, Tears, IsTorn, LeavesOnly, Entry, Extent, CheckpointHeader, place_length}
+use Rattle.migrator.specs.Names.{frame_sector, count_of, Plan, IsApart, directory_extent}
 
 -- the sectors of the frame of an object
 abbrev pub frame_extent : Plan → ℕ → List Entry → ℕ → Extent

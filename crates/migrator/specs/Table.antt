@@ -1,6 +1,5 @@
 -- Which slots of a half of the log objects have.
-use Rattle.std.specs.Prelude.{◌≡◌, ℕ, ◌+◌, ◌<◌, Bool, true, false, Option, Some, None, List, [], ◌∷◌, slice_index_or}
-use Rattle.layout.specs.declared.directory.Entry.{Entry}
+use Rattle.migrator.specs.Names.{◌≡◌, ℕ, ◌+◌, ◌<◌, Bool, true, false, Option, Some, None, List, [], ◌∷◌, slice_index_or, Entry}
 use Rattle.migrator.specs.declared.table.Place.{Place}
 use Rattle.migrator.specs.declared.table.Place.TheVariants.{Nowhere, Torn, Whole}
 

@@ -1,5 +1,4 @@
-use Rattle.std.specs.Prelude.{ℕ, zero, suc, ◌==◌, Bool, not, ◌&&◌, if◌then◌else◌, List, [], ◌∷◌, nat_eq}
-use Rattle.std.specs.List.{list_any, count_by, enumerate_from}
+use Rattle.model.specs.Names.{ℕ, zero, suc, ◌==◌, Bool, not, ◌&&◌, if◌then◌else◌, List, [], ◌∷◌, nat_eq, list_any, count_by, enumerate_from}
 use Rattle.model.specs.declared.object.Object.{Object}
 use Rattle.model.specs.Object.{is_free}
 use Rattle.model.specs.World.{owner_at}

@@ -1,3 +1,4 @@
+pub mod Names
 pub mod Capability
 pub mod Object
 pub mod Frame

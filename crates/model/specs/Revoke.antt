@@ -1,5 +1,4 @@
-use Rattle.std.specs.Prelude.{ℕ, ◌==◌, Bool, false, not, ◌&&◌, if◌then◌else◌, None, Some, List, map, nat_eq}
-use Rattle.std.specs.List.{list_any, enumerate_from}
+use Rattle.model.specs.Names.{ℕ, ◌==◌, Bool, false, not, ◌&&◌, if◌then◌else◌, None, Some, List, map, nat_eq, list_any, enumerate_from}
 use Rattle.model.specs.declared.capability.Capability.{Capability}
 use Rattle.model.specs.declared.capability.Capability.TheVariants.{Void, Resume}
 use Rattle.model.specs.declared.object.Object.{Object}

@@ -1,21 +1,11 @@
 -- What a bank frees or destroys, and what that leaves of the usage of each bank.
-use Rattle.std.proofs.Common.{◌≡◌, ◌≢◌, inl, inr, ℕ, zero, suc, ◌+◌, ◌-◌, ◌==◌, ◌<◌, ◌≤◌, nat_eq, Bool, true, false, not, ◌&&◌, ◌||◌, List, [], ◌∷◌, length, get_or, All, refl, sym, ap, subst, arith, ◌∙◌}
-use Rattle.std.specs.Prelude.{if◌then◌else◌, IsTrue}
-use Rattle.std.specs.List.Sorted.{IsStrictlyIncreasing}
-use Rattle.std.proofs.lemmas.Bool.{false≢true, cases_Bool, cases_eq, cases_lt, and_parts, false_from_ne_true, eq-eqb, eqb-true, not-true, or_cases, or_left, or_right}
-use Rattle.std.proofs.lemmas.List.{get_or_past}
-use Rattle.model.specs.declared.capability.Capability.{Capability}
-use Rattle.model.specs.declared.capability.Capability.TheVariants.{Page, Node, Process}
-use Rattle.model.specs.declared.geometry.Geometry.{Geometry}
-use Rattle.model.specs.declared.object.Content.{Content}
+use Rattle.model_laws.proofs.Names.{◌≡◌, ◌≢◌, inl, inr, ℕ, zero, suc, ◌+◌, ◌-◌, ◌==◌, ◌<◌, ◌≤◌, nat_eq, Bool, true, false, not, ◌&&◌, ◌||◌, List, [], ◌∷◌}
+use Rattle.model_laws.proofs.Names.{length, get_or, All, refl, sym, ap, subst, arith, ◌∙◌, if◌then◌else◌, IsTrue, IsStrictlyIncreasing, false≢true, cases_Bool}
+use Rattle.model_laws.proofs.Names.{cases_eq, cases_lt, and_parts, false_from_ne_true, eq-eqb, eqb-true, not-true, or_cases, or_left, or_right, get_or_past}
+use Rattle.model_laws.proofs.Names.{Capability, Page, Node, Process, Geometry, Content, Object, free, is_free, is_page, is_node, is_root, is_annex, is_bank}
+use Rattle.model_laws.proofs.Names.{object_at, content_at, owner_at, annex_at, is_process, chain, is_under, usage, freed_by, under, owned_by, is_member}
+use Rattle.model_laws.proofs.Names.{rescind, NamesItsKind}
 use Rattle.model.specs.declared.object.Content.TheVariants as content
-use Rattle.model.specs.declared.object.Object.{Object}
-use Rattle.model.specs.Object.{free, is_free, is_page, is_node, is_root, is_annex, is_bank}
-use Rattle.model.specs.World.{object_at, content_at, owner_at, annex_at, is_process}
-use Rattle.model.specs.Bank.{chain, is_under, usage}
-use Rattle.model.specs.Banking.{freed_by, under, owned_by}
-use Rattle.model.specs.Revoke.{is_member, rescind}
-use Rattle.model.specs.Sound.{NamesItsKind}
 use Rattle.model_laws.proofs.SoundParts.{IsFramed}
 use Rattle.model_laws.proofs.SoundOrders.{IsNow}
 use Rattle.model_laws.proofs.BankTree.{IsTree, tree_of, member_head, member_tail, chain_zero, chain_unfolds, chain_longer, chain_itself, chain_nonempty, owner_bank}

@@ -1,24 +1,12 @@
 -- A bank that is returned to its parent, and that what banks give up leaves objects sound.
-use Rattle.std.proofs.Common.{◌≡◌, ◌≢◌, inl, inr, ℕ, zero, suc, ◌+◌, ◌-◌, ◌==◌, ◌≤◌, nat_eq, Bool, true, false, not, ◌&&◌, ◌||◌, List, [], ◌∷◌, length, refl, sym, ap, subst, arith, ◌∙◌}
-use Rattle.std.specs.Prelude.{if◌then◌else◌, IsTrue}
-use Rattle.std.proofs.lemmas.Bool.{false≢true, cases_Bool, cases_eq, and_right, or_right, false_from_ne_true, eq-eqb, ne_eqb, eqb-true, eqb-false}
-use Rattle.std.proofs.lemmas.List.{length-map}
-use Rattle.std.proofs.lemmas.Map.Views.{Contains-from_any}
-use Rattle.model.specs.declared.capability.Capability.{Capability}
-use Rattle.model.specs.declared.capability.Capability.TheVariants.{Void}
-use Rattle.model.specs.declared.geometry.Geometry.{Geometry}
-use Rattle.model.specs.declared.object.Content.{Content}
+use Rattle.model_laws.proofs.Names.{◌≡◌, ◌≢◌, inl, inr, ℕ, zero, suc, ◌+◌, ◌-◌, ◌==◌, ◌≤◌, nat_eq, Bool, true, false, not, ◌&&◌, ◌||◌, List, [], ◌∷◌, length}
+use Rattle.model_laws.proofs.Names.{refl, sym, ap, subst, arith, ◌∙◌, if◌then◌else◌, IsTrue, false≢true, cases_Bool, cases_eq, and_right, or_right}
+use Rattle.model_laws.proofs.Names.{false_from_ne_true, eq-eqb, ne_eqb, eqb-true, eqb-false, length-map, Contains-from_any, Capability, Void, Geometry, Content}
+use Rattle.model_laws.proofs.Names.{Object, Arguments, free, is_free, is_root, is_annex, is_bank, role_of, root_in, limit_in, made, object_at, content_at}
+use Rattle.model_laws.proofs.Names.{owner_at, slot_at, root_at, annex_at, chain, chain_within, is_under, usage, freed_by, under, owned_by, handed_on, inherited}
+use Rattle.model_laws.proofs.Names.{freed, on_bank, is_member, rescind, IsOfKind}
 use Rattle.model.specs.declared.object.Content.TheVariants as content
-use Rattle.model.specs.declared.object.Object.{Object}
-use Rattle.model.specs.declared.order.Arguments.{Arguments}
 use Rattle.model.specs.declared.order.BankOrder.TheVariants as bank
-use Rattle.model.specs.Object.{free, is_free, is_root, is_annex, is_bank, role_of, root_in, limit_in}
-use Rattle.model.specs.OrderOutcome.{made}
-use Rattle.model.specs.World.{object_at, content_at, owner_at, slot_at, root_at, annex_at}
-use Rattle.model.specs.Bank.{chain, chain_within, is_under, usage}
-use Rattle.model.specs.Banking.{freed_by, under, owned_by, handed_on, inherited, freed, on_bank}
-use Rattle.model.specs.Revoke.{is_member, rescind}
-use Rattle.model.specs.Sound.{IsOfKind}
 use Rattle.model_laws.proofs.SoundParts.{IsHeld, IsFilled, IsFramed, Waits, held_to, held_void}
 use Rattle.model_laws.proofs.Mapped.{at_map}
 use Rattle.model_laws.proofs.SoundOrders.{IsNow, IsOutcome, AreArguments, three_words, refused_keeps}

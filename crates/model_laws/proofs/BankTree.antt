@@ -1,19 +1,9 @@
 -- The tree of banks: chains and what is in them.
-use Rattle.std.proofs.Common.{◌≡◌, ◌≢◌, inl, inr, ℕ, zero, suc, ◌<◌, ◌≤◌, true, false, ◌||◌, List, [], ◌∷◌, length, refl, sym, ap, subst, arith, ◌∙◌}
-use Rattle.std.specs.Prelude.{IsTrue, slice_index_or}
-use Rattle.std.specs.List.{Contains}
-use Rattle.std.proofs.lemmas.Bool.{cases_eq, eq-eqb, ne_eqb, false_from_ne_true}
-use Rattle.std.proofs.lemmas.List.{get_or-set_same, get_or-set_other, length-set}
-use Rattle.model.specs.declared.capability.Capability.{Capability}
-use Rattle.model.specs.declared.geometry.Geometry.{Geometry}
-use Rattle.model.specs.declared.object.Content.{Content}
+use Rattle.model_laws.proofs.Names.{◌≡◌, ◌≢◌, inl, inr, ℕ, zero, suc, ◌<◌, ◌≤◌, true, false, ◌||◌, List, [], ◌∷◌, length, refl, sym, ap, subst, arith, ◌∙◌}
+use Rattle.model_laws.proofs.Names.{IsTrue, slice_index_or, Contains, cases_eq, eq-eqb, ne_eqb, false_from_ne_true, get_or-set_same, get_or-set_other}
+use Rattle.model_laws.proofs.Names.{length-set, Capability, Geometry, Content, Object, free, is_bank, is_free, object_at, content_at, owner_at, chain}
+use Rattle.model_laws.proofs.Names.{chain_within, with_new, is_member}
 use Rattle.model.specs.declared.object.Content.TheVariants as content
-use Rattle.model.specs.declared.object.Object.{Object}
-use Rattle.model.specs.Object.{free, is_bank, is_free}
-use Rattle.model.specs.World.{object_at, content_at, owner_at}
-use Rattle.model.specs.Bank.{chain, chain_within}
-use Rattle.model.specs.Banking.{with_new}
-use Rattle.model.specs.Revoke.{is_member}
 use Rattle.model_laws.proofs.SoundParts.{IsFramed}
 
 -- every object that isn't free is owned by a bank, and every bank's chain ends in the prime bank

@@ -1,26 +1,14 @@
 -- Usage after a new object, and what a bank is asked where the frame is the same.
-use Rattle.std.proofs.Common.{◌≡◌, ◌≢◌, inl, inr, ℕ, ◌+◌, ◌==◌, ◌<◌, Bool, true, false, not, ◌&&◌, ◌||◌, add-zero, zero-add, List, [], ◌∷◌, length, map, refl, sym, ap, subst, arith, ◌∙◌}
-use Rattle.std.specs.Prelude.{IsTrue, if◌then◌else◌, nat_eq, nat_le, nat_lt}
-use Rattle.std.specs.List.{filter, list_any, list_all, range_with_len}
-use Rattle.std.proofs.lemmas.Bool.{cases_eq, eq-eqb, ne_eqb, and_right, false_from_ne_true}
-use Rattle.model.specs.declared.capability.Capability.{Capability}
-use Rattle.model.specs.declared.capability.Capability.TheVariants.{Void, Page, Node, Process, Bank}
-use Rattle.model.specs.declared.geometry.Geometry.{Geometry}
-use Rattle.model.specs.declared.object.Content.{Content}
+use Rattle.model_laws.proofs.Names.{◌≡◌, ◌≢◌, inl, inr, ℕ, ◌+◌, ◌==◌, ◌<◌, Bool, true, false, not, ◌&&◌, ◌||◌, add-zero, zero-add, List, [], ◌∷◌, length, map}
+use Rattle.model_laws.proofs.Names.{refl, sym, ap, subst, arith, ◌∙◌, IsTrue, if◌then◌else◌, nat_le, nat_lt, filter, list_any, list_all, range_with_len}
+use Rattle.model_laws.proofs.Names.{cases_eq, eq-eqb, ne_eqb, and_right, false_from_ne_true, Capability, Void, Page, Node, Process, Bank, Geometry, Content}
+use Rattle.model_laws.proofs.Names.{Object, Arguments, BankOrder, ResultCode, full, free, is_bank, is_free, object_at, content_at, owner_at, chain, is_under}
+use Rattle.model_laws.proofs.Names.{usage, OrderOutcome, refused, made, are_free, free_nodes, free_pages, has_room, with_new, new_page, new_node, allocated}
+use Rattle.model_laws.proofs.Names.{process_allocated, bank_allocated, freed_by, freed, under, owned_by, left_of, least, remaining, on_bank, is_member, rescind}
+use Rattle.std.specs.Prelude.{nat_eq}
 use Rattle.model.specs.declared.object.Content.TheVariants as content
-use Rattle.model.specs.declared.object.Object.{Object}
-use Rattle.model.specs.declared.order.Arguments.{Arguments}
-use Rattle.model.specs.declared.order.BankOrder.{BankOrder}
 use Rattle.model.specs.declared.order.BankOrder.TheVariants as bank
-use Rattle.model.specs.declared.order.ResultCode.{ResultCode}
 use Rattle.model.specs.declared.order.ResultCode.TheVariants as code
-use Rattle.model.specs.Capability.{full}
-use Rattle.model.specs.Object.{free, is_bank, is_free}
-use Rattle.model.specs.World.{object_at, content_at, owner_at}
-use Rattle.model.specs.Bank.{chain, is_under, usage}
-use Rattle.model.specs.OrderOutcome.{OrderOutcome, refused, made}
-use Rattle.model.specs.Banking.{are_free, free_nodes, free_pages, has_room, with_new, new_page, new_node, allocated, process_allocated, bank_allocated, freed_by, freed, under, owned_by, left_of, least, remaining, on_bank}
-use Rattle.model.specs.Revoke.{is_member, rescind}
 use Rattle.model_laws.proofs.Counts.{count_both, count_none, count_where}
 use Rattle.model_laws.proofs.Usage.{SameFrame, tests_at, chain_same, under_same, usage_same}
 use Rattle.model_laws.proofs.BankTree.{IsTree, bank_not_free, chain_banks, chain_new, at_new, at_other, length_new}

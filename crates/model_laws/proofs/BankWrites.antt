@@ -1,24 +1,15 @@
 -- What is written by what a bank is asked, and the annex of a process that outlives it.
-use Rattle.std.proofs.Common.{◌≡◌, ◌≢◌, ℕ, ◌+◌, ◌<◌, ◌≤◌, ◌==◌, Bool, true, false, List, [], ◌∷◌, refl, sym, ap, subst, arith, ◌∙◌, if◌then◌else◌}
-use Rattle.std.specs.Prelude.{IsTrue, nat_lt, length}
-use Rattle.std.specs.List.{range_with_len, All}
-use Rattle.std.proofs.lemmas.List.Elements.{All-cons, All-filter, All-nil, filter_passes}
-use Rattle.std.proofs.lemmas.List.FromFn.{get_or-range_with_len, length-range_with_len}
-use Rattle.model.specs.declared.capability.Capability.{Capability}
-use Rattle.model.specs.declared.geometry.Geometry.{Geometry}
-use Rattle.model.specs.declared.object.Content.{Content}
+use Rattle.model_laws.proofs.Names.{◌≡◌, ◌≢◌, ℕ, ◌+◌, ◌<◌, ◌≤◌, ◌==◌, Bool, true, false, List, [], ◌∷◌, refl, sym, ap, subst, arith, ◌∙◌, IsTrue, nat_lt}
+use Rattle.model_laws.proofs.Names.{range_with_len, All-cons, All-filter, All-nil, filter_passes, get_or-range_with_len, length-range_with_len, Capability}
+use Rattle.model_laws.proofs.Names.{Geometry, Content, Object, Arguments, BankOrder, chain, allocated, are_free, bank_allocated, freed, freed_by, free_nodes}
+use Rattle.model_laws.proofs.Names.{free_pages, handed_on, has_room, inherited, new_annex, new_root, on_bank, owned_by, process_allocated, under, with_new}
+use Rattle.model_laws.proofs.Names.{free, is_bank, is_free, is_root, root_in, OrderOutcome, is_member, names_member, rescind, without, NamesItsKind, annex_at}
+use Rattle.model_laws.proofs.Names.{content_at, is_process, object_at, owner_at}
+use Rattle.std.proofs.Common.{if◌then◌else◌}
+use Rattle.std.specs.Prelude.{length}
+use Rattle.std.specs.List.{All}
 use Rattle.model.specs.declared.object.Content.TheVariants as content
-use Rattle.model.specs.declared.object.Object.{Object}
-use Rattle.model.specs.declared.order.Arguments.{Arguments}
-use Rattle.model.specs.declared.order.BankOrder.{BankOrder}
 use Rattle.model.specs.declared.order.BankOrder.TheVariants as bank
-use Rattle.model.specs.Bank.{chain}
-use Rattle.model.specs.Banking.{allocated, are_free, bank_allocated, freed, freed_by, free_nodes, free_pages, handed_on, has_room, inherited, new_annex, new_root, on_bank, owned_by, process_allocated, under, with_new}
-use Rattle.model.specs.Object.{free, is_bank, is_free, is_root, root_in}
-use Rattle.model.specs.OrderOutcome.{OrderOutcome}
-use Rattle.model.specs.Revoke.{is_member, names_member, rescind, without}
-use Rattle.model.specs.Sound.{NamesItsKind}
-use Rattle.model.specs.World.{annex_at, content_at, is_process, object_at, owner_at}
 use Rattle.model_laws.proofs.Cases.{one_of}
 use Rattle.model_laws.proofs.BankFreed.{freed_within, owned_within, under_within, used_within}
 use Rattle.model_laws.proofs.BankReturn.{handed_content}

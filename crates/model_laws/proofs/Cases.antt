@@ -1,19 +1,8 @@
 -- What holds in each case: of what is chosen, and of the objects after an invocation.
-use Rattle.std.proofs.Common.{◌≡◌, Bool, true, false, Option, None, Some, List, ℕ, refl, subst}
-use Rattle.std.specs.Prelude.{if◌then◌else◌, IsTrue}
-use Rattle.model.specs.declared.capability.Capability.{Capability}
-use Rattle.model.specs.declared.capability.Capability.TheVariants.{Resume, Start}
-use Rattle.model.specs.declared.command.Invocation.{Invocation}
-use Rattle.model.specs.declared.command.Operation.{Operation}
-use Rattle.model.specs.declared.command.Operation.TheVariants.{Call, Return, Send}
-use Rattle.model.specs.declared.geometry.Geometry.{Geometry}
-use Rattle.model.specs.declared.object.Object.{Object}
-use Rattle.model.specs.declared.object.State.{State}
-use Rattle.model.specs.declared.object.State.TheVariants.{Available, Waiting}
-use Rattle.model.specs.Invoke.{Effect, after_gate, after_order, can_start, deliver, invoke, on_kernel_object, replied, reply_of, through_gate}
-use Rattle.model.specs.OrderOutcome.{OrderOutcome}
-use Rattle.model.specs.Revoke.{consume}
-use Rattle.model.specs.World.{is_running_process, register_at, with_state}
+use Rattle.model_laws.proofs.Names.{◌≡◌, Bool, true, false, Option, None, Some, List, ℕ, refl, subst, if◌then◌else◌, IsTrue, Capability, Resume, Start}
+use Rattle.model_laws.proofs.Names.{Invocation, Operation, Call, Return, Send, Geometry, Object, State, Available, Waiting, Effect, after_gate, after_order}
+use Rattle.model_laws.proofs.Names.{can_start, deliver, invoke, on_kernel_object, replied, reply_of, through_gate, OrderOutcome, consume, is_running_process}
+use Rattle.model_laws.proofs.Names.{register_at, with_state}
 
 module _ {X : Type 0} (P : X → Type 0) where
   -- of both, or of the one that a test chooses

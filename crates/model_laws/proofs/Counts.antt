@@ -1,10 +1,7 @@
 -- Counts over numbered lists.
-use Rattle.std.proofs.Common.{◌≡◌, ℕ, suc, ◌+◌, ◌==◌, ◌<◌, ◌≤◌, Bool, true, false, ◌&&◌, cond, List, [], ◌∷◌, length, get_or, inl, inr, refl, arith, zero-add, add-zero, ◌∙◌}
-use Rattle.std.specs.Prelude.{if◌then◌else◌}
-use Rattle.std.specs.List.{count_by, enumerate_from}
-use Rattle.std.proofs.lemmas.Bool.{cases_eq, eq-eqb, ne_eqb}
-use Rattle.std.proofs.lemmas.List.Sums.{sum_by-cons}
-use Rattle.std.proofs.Math.Bool.{and-false, and-true}
+use Rattle.model_laws.proofs.Names.{◌≡◌, ℕ, suc, ◌+◌, ◌==◌, ◌<◌, ◌≤◌, Bool, true, false, ◌&&◌, cond, List, [], ◌∷◌, length, get_or, inl, inr, refl, arith}
+use Rattle.model_laws.proofs.Names.{zero-add, add-zero, ◌∙◌, if◌then◌else◌, count_by, enumerate_from, cases_eq, eq-eqb, ne_eqb, sum_by-cons, and-false}
+use Rattle.model_laws.proofs.Names.{and-true}
 
 -- two counts come to a third where they do at each number
 pub count_both : {X : Type 0} (p q r : ℕ × X → Bool) (k : ℕ) (xs ys : List X) (d : X) → length ys ≡ length xs

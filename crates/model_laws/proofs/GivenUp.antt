@@ -1,36 +1,20 @@
 -- What is given up: exactly what is rescinded.
-use Rattle.std.proofs.Common.{◌≡◌, ◌≢◌, ℕ, ◌==◌, ◌<◌, ◌&&◌, ◌||◌, Bool, true, false, not, List, [], ◌∷◌, inl, inr, refl, sym, ap, subst, arith, ◌∙◌}
-use Rattle.std.specs.Prelude.{IsTrue, if◌then◌else◌, length, map, nat_lt, slice_index_or, slice_set}
-use Rattle.std.specs.List.{range_with_len}
-use Rattle.std.proofs.lemmas.Bool.{cases_Bool, cases_eq, eqb-false}
-use Rattle.std.proofs.lemmas.List.{ext_get_or, get_or-set_other, get_or-set_same}
-use Rattle.std.proofs.lemmas.List.FromFn.{get_or-map-range_with_len, length-map-range_with_len}
-use Rattle.model.specs.declared.capability.Capability.{Capability}
-use Rattle.model.specs.declared.capability.Capability.TheVariants.{Bank, Process, Void}
-use Rattle.model.specs.declared.geometry.Geometry.{Geometry}
-use Rattle.model.specs.declared.object.Content.{Content}
+use Rattle.model_laws.proofs.Names.{◌≡◌, ◌≢◌, ℕ, ◌==◌, ◌<◌, ◌&&◌, ◌||◌, Bool, true, false, not, List, [], ◌∷◌, inl, inr, refl, sym, ap, subst, arith, ◌∙◌}
+use Rattle.model_laws.proofs.Names.{IsTrue, if◌then◌else◌, nat_lt, slice_index_or, slice_set, range_with_len, cases_Bool, cases_eq, eqb-false, ext_get_or}
+use Rattle.model_laws.proofs.Names.{get_or-set_other, get_or-set_same, get_or-map-range_with_len, length-map-range_with_len, Capability, Bank, Process, Void}
+use Rattle.model_laws.proofs.Names.{Geometry, Content, Object, Arguments, BankOrder, ResultCode, chain, allocated, bank_allocated, freed, freed_by, free_nodes}
+use Rattle.model_laws.proofs.Names.{free_pages, has_room, inherited, new_annex, new_node, new_page, new_root, on_bank, owned_by, process_allocated, under}
+use Rattle.model_laws.proofs.Names.{with_new, renewing, free, is_bank, is_free, OrderOutcome, made, refused, is_given_up, is_member, rescind, NamesItsKind}
+use Rattle.model_laws.proofs.Names.{content_at, object_at, owner_at, GivesUpNothing, GivesUpRescinded, rescinded_by, or-false}
+use Rattle.std.specs.Prelude.{length, map}
 use Rattle.model.specs.declared.object.Content.TheVariants as content
-use Rattle.model.specs.declared.object.Object.{Object}
-use Rattle.model.specs.declared.order.Arguments.{Arguments}
-use Rattle.model.specs.declared.order.BankOrder.{BankOrder}
 use Rattle.model.specs.declared.order.BankOrder.TheVariants as bank
-use Rattle.model.specs.declared.order.ResultCode.{ResultCode}
 use Rattle.model.specs.declared.order.ResultCode.TheVariants as code
-use Rattle.model.specs.Bank.{chain}
-use Rattle.model.specs.Banking.{allocated, bank_allocated, freed, freed_by, free_nodes, free_pages, has_room, inherited, new_annex, new_node, new_page, new_root, on_bank, owned_by, process_allocated, under, with_new}
-use Rattle.model.specs.Machine.{renewing}
-use Rattle.model.specs.Object.{free, is_bank, is_free}
-use Rattle.model.specs.OrderOutcome.{OrderOutcome, made, refused}
-use Rattle.model.specs.Revoke.{is_given_up, is_member, rescind}
-use Rattle.model.specs.Sound.{NamesItsKind}
-use Rattle.model.specs.World.{content_at, object_at, owner_at}
-use Rattle.model_laws.specs.Laws.{GivesUpNothing, GivesUpRescinded, rescinded_by}
 use Rattle.model_laws.proofs.BankFreed.{freed_set, under_given_up, used_within}
 use Rattle.model_laws.proofs.BankRescind.{kept_tests, used_where}
 use Rattle.model_laws.proofs.BankReturn.{inherited_content}
 use Rattle.model_laws.proofs.BankTree.{tree_of}
 use Rattle.model_laws.proofs.Cases.{chosen, one_of}
-use Rattle.std.proofs.Math.Bool.{or-false}
 use Rattle.model_laws.proofs.InvocationFrame.{invocation_frame}
 use Rattle.model_laws.proofs.NumberLists.{only_member}
 use Rattle.model_laws.proofs.Revoking.{rescinds_all}

@@ -1,36 +1,17 @@
 -- What invocations leave as it is: owners, roles, annexes, limits, and with them chains and usages.
-use Rattle.std.proofs.Common.{◌≡◌, ℕ, ◌+◌, ◌==◌, not, ◌||◌, Option, None, Some, List, [], ◌∷◌, refl, sym, ap, subst, ◌∙◌}
-use Rattle.std.specs.Prelude.{IsTrue, nat_lt, slice_index, slice_index_or}
-use Rattle.std.proofs.lemmas.Bool.{and_parts}
-use Rattle.model.specs.declared.access.Access.{Access}
-use Rattle.model.specs.declared.capability.Capability.{Capability}
-use Rattle.model.specs.declared.capability.Capability.TheVariants.{Void, Number, Page, Node, Space, Process, Bank, Discrim}
+use Rattle.model_laws.proofs.Names.{◌≡◌, ℕ, ◌+◌, ◌==◌, not, ◌||◌, Option, None, Some, List, [], ◌∷◌, refl, sym, ap, subst, ◌∙◌, IsTrue, nat_lt, slice_index}
+use Rattle.model_laws.proofs.Names.{slice_index_or, and_parts, Access, Capability, Void, Number, Page, Node, Space, Process, Bank, Discrim, Invocation, Message}
+use Rattle.model_laws.proofs.Names.{Geometry, Object, Root, State, Available, Running, Arguments, BankOrder, NodeOrder, PageOrder, ProcessOrder, is_running}
+use Rattle.model_laws.proofs.Names.{with_slot_in, with_word_in, content_at, owner_at, root_at, annex_at, register_at, is_process, is_running_process, with_word}
+use Rattle.model_laws.proofs.Names.{with_slot, with_root, with_state, with_slots_from, consume, on_bank, OrderOutcome, refused, IsNoBankOrder, bank_order}
+use Rattle.model_laws.proofs.Names.{page_order, node_order, process_order, reduces, is_space, stored, on_page, on_node, on_process, order, Effect, deliver}
+use Rattle.model_laws.proofs.Names.{sent_by, sent_to_gate, after_gate, after_order, through_gate, reply_of, replied, ordered, on_kernel_object, invoke, IsSound}
+use Rattle.model_laws.proofs.Names.{Fits}
 use Rattle.model.specs.declared.command.Command.TheVariants as command
-use Rattle.model.specs.declared.command.Invocation.{Invocation}
-use Rattle.model.specs.declared.command.Message.{Message}
-use Rattle.model.specs.declared.geometry.Geometry.{Geometry}
-use Rattle.model.specs.declared.object.Object.{Object}
-use Rattle.model.specs.declared.object.Root.{Root}
-use Rattle.model.specs.declared.object.State.{State}
-use Rattle.model.specs.declared.object.State.TheVariants.{Available, Running}
-use Rattle.model.specs.declared.order.Arguments.{Arguments}
-use Rattle.model.specs.declared.order.BankOrder.{BankOrder}
-use Rattle.model.specs.declared.order.NodeOrder.{NodeOrder}
 use Rattle.model.specs.declared.order.NodeOrder.TheVariants as node
-use Rattle.model.specs.declared.order.PageOrder.{PageOrder}
 use Rattle.model.specs.declared.order.PageOrder.TheVariants as page
-use Rattle.model.specs.declared.order.ProcessOrder.{ProcessOrder}
 use Rattle.model.specs.declared.order.ProcessOrder.TheVariants as process
 use Rattle.model.specs.declared.order.ResultCode.TheVariants as code
-use Rattle.model.specs.Object.{is_running, with_slot_in, with_word_in}
-use Rattle.model.specs.World.{content_at, owner_at, root_at, annex_at, register_at, is_process, is_running_process, with_word, with_slot, with_root, with_state, with_slots_from}
-use Rattle.model.specs.Revoke.{consume}
-use Rattle.model.specs.Banking.{on_bank}
-use Rattle.model.specs.OrderOutcome.{OrderOutcome, refused}
-use Rattle.model.specs.Order.{IsNoBankOrder, bank_order, page_order, node_order, process_order, reduces, is_space, stored, on_page, on_node, on_process, order}
-use Rattle.model.specs.Invoke.{Effect, deliver, sent_by, sent_to_gate, after_gate, after_order, through_gate, reply_of, replied, ordered, on_kernel_object, invoke}
-use Rattle.model.specs.Sound.{IsSound}
-use Rattle.model.specs.Text.{Fits}
 use Rattle.model_laws.proofs.Cases.{after_gate_by, after_order_by, found_or, invoked_by, one_of, replied_by}
 use Rattle.model_laws.proofs.Usage.{SameFrame, frame_refl, frame_trans, tests_at}
 use Rattle.model_laws.proofs.SoundParts.{IsHeld, Waits, state_at, held_on, nearly_from, nearly_to}

@@ -1,20 +1,9 @@
 -- A saved world stays sound where a page of it has other words.
-use Rattle.std.proofs.Common.{◌≡◌, ℕ, ◌+◌, ◌^◌, ◌<◌, ◌≤◌, Bool, true, false, Option, None, List, length, refl, sym, ap, ◌∙◌, subst, arith}
-use Rattle.std.proofs.lemmas.Bool.{and_parts, not-true}
-use Rattle.std.specs.Prelude.{slice_index, slice_index_or}
-use Rattle.model.specs.declared.answer.Refusal.{Refusal}
-use Rattle.model.specs.declared.capability.Capability.{Capability}
-use Rattle.model.specs.declared.geometry.Geometry.{Geometry}
-use Rattle.model.specs.declared.object.Content.{Content}
-use Rattle.model.specs.declared.object.Content.TheVariants as content
-use Rattle.model.specs.declared.object.Object.{Object}
-use Rattle.model.specs.declared.object.State.TheVariants.{Available}
+use Rattle.model_laws.proofs.Names.{◌≡◌, ℕ, ◌+◌, ◌^◌, ◌<◌, ◌≤◌, Bool, true, false, Option, None, List, length, refl, sym, ap, ◌∙◌, subst, arith, and_parts}
+use Rattle.model_laws.proofs.Names.{not-true, slice_index, slice_index_or, Refusal, Capability, Geometry, Content, Object, Available, is_page, is_waiting}
+use Rattle.model_laws.proofs.Names.{root_in, words_in, HasShape, IsSound, unjournaled, unless, World, content_at, owner_at, with_content, JournalKeepsSound}
 use Rattle.model.specs.Machine.{Running}
-use Rattle.model.specs.Object.{is_page, is_waiting, root_in, words_in}
-use Rattle.model.specs.Sound.{HasShape, IsSound}
-use Rattle.model.specs.Step.{unjournaled, unless}
-use Rattle.model.specs.World.{World, content_at, owner_at, with_content}
-use Rattle.model_laws.specs.Laws.{JournalKeepsSound}
+use Rattle.model.specs.declared.object.Content.TheVariants as content
 use Rattle.model_laws.proofs.SoundEdits.{IsEdited, at_content, frame_content, nearly_content}
 use Rattle.model_laws.proofs.SoundParts.{IsFilled, IsNearlySound, Waits, held_void, nearly_from, nearly_to, nearly_weaken, state_at}
 use Rattle.model_laws.proofs.Usage.{AreAlike}

@@ -1,12 +1,8 @@
 -- Lists of numbers: their members, and the numbers of a range that pass a test.
-use Rattle.std.proofs.Common.{◌≡◌, ◌≢◌, ◌⊎◌, inl, inr, ℕ, zero, suc, ◌+◌, ◌<◌, ◌≤◌, nat_eq, Bool, true, false, cond, List, [], ◌∷◌, get_or, All, refl, sym, ap, arith, ◌∙◌}
-use Rattle.std.specs.List.{filter, range_with_len}
-use Rattle.std.specs.List.Sorted.{IsStrictlyIncreasing}
-use Rattle.std.proofs.lemmas.Bool.{false≢true, cases_eq, false_from_ne_true, eq-eqb, ne_eqb, eqb-true, or_cases, or_from, or_right}
-use Rattle.std.proofs.lemmas.List.Folds.{list_any_at}
-use Rattle.std.proofs.lemmas.List.FromFn.{length-range_with_len, get_or-range_with_len}
-use Rattle.std.proofs.lemmas.List.Kept.{IsStrictlyIncreasing-filter}
-use Rattle.model.specs.Revoke.{is_member}
+use Rattle.model_laws.proofs.Names.{◌≡◌, ◌≢◌, ◌⊎◌, inl, inr, ℕ, zero, suc, ◌+◌, ◌<◌, ◌≤◌, nat_eq, Bool, true, false, cond, List, [], ◌∷◌, get_or, All, refl}
+use Rattle.model_laws.proofs.Names.{sym, ap, arith, ◌∙◌, filter, range_with_len, IsStrictlyIncreasing, false≢true, cases_eq, false_from_ne_true, eq-eqb, ne_eqb}
+use Rattle.model_laws.proofs.Names.{eqb-true, or_cases, or_from, or_right, list_any_at, length-range_with_len, get_or-range_with_len}
+use Rattle.model_laws.proofs.Names.{IsStrictlyIncreasing-filter, is_member}
 use Rattle.model_laws.proofs.BankTree.{member_head}
 
 -- no number is twice in a list

@@ -1,13 +1,8 @@
 -- What is rescinded or consumed is named nowhere any more.
-use Rattle.std.proofs.Common.{◌≡◌, ℕ, zero, suc, ◌+◌, Bool, true, false, if◌then◌else◌, List, [], ◌∷◌, map, slice_index_or, refl, sym, ap, ◌∙◌, subst, arith, add-zero, zero-add}
-use Rattle.std.specs.List.{enumerate_from}
-use Rattle.model.specs.declared.capability.Capability.{Capability}
-use Rattle.model.specs.declared.capability.Capability.TheVariants.{Void}
-use Rattle.model.specs.declared.object.Object.{Object}
-use Rattle.model.specs.Object.{free, is_free, slots_in, root_in}
-use Rattle.model.specs.World.{object_at}
-use Rattle.model.specs.Revoke.{void_where, without, is_member, names_member, resumes, rescind}
-use Rattle.model_laws.specs.Laws.{RescindsAll, ConsumesAll}
+use Rattle.model_laws.proofs.Names.{◌≡◌, ℕ, zero, suc, ◌+◌, Bool, true, false, List, [], ◌∷◌, map, refl, sym, ap, ◌∙◌, subst, arith, add-zero, zero-add}
+use Rattle.model_laws.proofs.Names.{enumerate_from, Capability, Void, Object, free, is_free, slots_in, root_in, object_at, void_where, without, is_member}
+use Rattle.model_laws.proofs.Names.{names_member, resumes, rescind, RescindsAll, ConsumesAll}
+use Rattle.std.proofs.Common.{if◌then◌else◌, slice_index_or}
 use Rattle.model_laws.proofs.Mapped.{void_void, without_mapped}
 use Rattle.model_laws.proofs.Cases.{chosen, one_of}
 use Rattle.model_laws.proofs.SoundEdits.{object_consume}

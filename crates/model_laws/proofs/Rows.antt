@@ -1,27 +1,15 @@
 -- A worked row is proved by computing it: where it is wrong, the error shows the line.
-use Rattle.std.proofs.Common.{◌≡◌, ℕ, ◌<◌, ◌^◌, Bool, true, false, ◌&&◌, List, [], ◌∷◌, nat_eq, nat_lt, length, codes, All, bytes_eq, refl, ap₂, arith}
-use Rattle.std.specs.Fmt.{digits}
-use Rattle.std.specs.List.{list_all}
-use Rattle.std.proofs.lemmas.Bool.{and_parts, eqb-true, ltb-true}
-use Rattle.std.proofs.lemmas.List.Elements.{All-nil, All-cons, All-weaker}
-use Rattle.std.proofs.lemmas.List.Sums.{AllPass-from_list_all}
-use Rattle.std.proofs.lemmas.Slice.Eq.{bytes_eq-Decides}
-use Rattle.model.specs.Object.{all_slots, zero_words}
-use Rattle.model.specs.World.{with_content, with_word, with_slot, with_root, with_state}
-use Rattle.model.specs.Bank.{chain, usage}
-use Rattle.model.specs.Banking.{on_bank, has_room, free_nodes, free_pages, with_new, owned_by, inherited, under}
-use Rattle.model.specs.Revoke.{rescind, consume}
-use Rattle.model.specs.Walk.{walk}
-use Rattle.model.specs.Order.{on_page, on_node, on_process, order}
-use Rattle.model.specs.Invoke.{deliver, through_gate, on_kernel_object, invoke}
-use Rattle.model.specs.Machine.{Running as Machine, renewing, untouched}
-use Rattle.model.specs.Step.{refusal_of, carried_out}
-use Rattle.model.specs.Worlds.{f0, i0}
-use Rattle.model.specs.declared.command.Command.{Command}
+use Rattle.model_laws.proofs.Names.{◌≡◌, ℕ, ◌<◌, ◌^◌, Bool, true, false, ◌&&◌, List, [], ◌∷◌, nat_eq, length, codes, All, bytes_eq, refl, ap₂, arith, digits}
+use Rattle.model_laws.proofs.Names.{list_all, and_parts, eqb-true, ltb-true, All-nil, All-cons, All-weaker, AllPass-from_list_all, bytes_eq-Decides, all_slots}
+use Rattle.model_laws.proofs.Names.{zero_words, with_content, with_word, with_slot, with_root, with_state, chain, usage, on_bank, has_room, free_nodes}
+use Rattle.model_laws.proofs.Names.{free_pages, with_new, owned_by, inherited, under, rescind, consume, walk, on_page, on_node, on_process, order, deliver}
+use Rattle.model_laws.proofs.Names.{through_gate, on_kernel_object, invoke, renewing, untouched, refusal_of, carried_out, f0, i0, Command, Fits, command_words}
+use Rattle.model_laws.proofs.Names.{spelling, capability_text, word_lines, capability_lines, object_text, printed, bad_line, line_of, Row, IsRow, answered, row}
+use Rattle.model_laws.proofs.Names.{s0, b0}
+use Rattle.std.proofs.Common.{nat_lt}
+use Rattle.model.specs.Machine.{Running as Machine}
 use Rattle.model.specs.declared.command.Command.TheVariants as command
 use Rattle.model_laws.proofs.Spelling.{split, command_of}
-use Rattle.model.specs.Text.{Fits, command_words, spelling, capability_text, word_lines, capability_lines, object_text, printed, bad_line, line_of}
-use Rattle.model_laws.specs.Worked.{Row, IsRow, answered, row, s0, b0}
 use Prim.Native.String.{String}
 
 -- `unfolding machine` lets `refl` compute what the machine answers

@@ -1,29 +1,17 @@
 -- What a bank is asked keeps sound objects sound.
-use Rattle.std.proofs.Common.{◌≡◌, ◌≢◌, inl, inr, ℕ, ◌+◌, ◌^◌, ◌<◌, ◌≤◌, Bool, true, false, Some, List, [], ◌∷◌, length, map, min, refl, sym, ap, subst, arith, ◌∙◌}
-use Rattle.std.specs.Prelude.{IsTrue, if◌then◌else◌, nat_le, nat_lt, slice_index, slice_index_or}
-use Rattle.std.specs.List.{All, AllPairs, list_all, range_with_len}
-use Rattle.std.proofs.lemmas.Bool.{cases_eq, cases_Bool, and_parts, leb-true, ltb-true}
-use Rattle.std.proofs.lemmas.List.Elements.{All-filter, All-head, All-get_or, All-from_get_or, filter_passes}
-use Rattle.std.proofs.lemmas.List.FromFn.{length-range_with_len, get_or-range_with_len}
-use Rattle.std.proofs.lemmas.List.Kept.{AllPairs-filter}
-use Rattle.model.specs.declared.capability.Capability.{Capability}
-use Rattle.model.specs.declared.capability.Capability.TheVariants.{Void, Page, Node, Space, Process, Start, Resume, Bank}
-use Rattle.model.specs.declared.geometry.Geometry.{Geometry}
-use Rattle.model.specs.declared.object.Content.{Content}
+use Rattle.model_laws.proofs.Names.{◌≡◌, ◌≢◌, inl, inr, ℕ, ◌+◌, ◌^◌, ◌<◌, ◌≤◌, Bool, true, false, Some, List, [], ◌∷◌, length, map, min, refl, sym, ap, subst}
+use Rattle.model_laws.proofs.Names.{arith, ◌∙◌, IsTrue, if◌then◌else◌, nat_le, nat_lt, slice_index, slice_index_or, AllPairs, list_all, range_with_len}
+use Rattle.model_laws.proofs.Names.{cases_eq, cases_Bool, and_parts, ltb-true, All-filter, All-head, All-get_or, All-from_get_or, filter_passes}
+use Rattle.model_laws.proofs.Names.{length-range_with_len, get_or-range_with_len, AllPairs-filter, Capability, Void, Page, Node, Space, Process, Start, Resume}
+use Rattle.model_laws.proofs.Names.{Bank, Geometry, Content, Object, Arguments, BankOrder, full, named, is_free, is_page, is_node, is_root, is_annex, is_bank}
+use Rattle.model_laws.proofs.Names.{role_of, words_in, slots_in, limit_in, root_in, object_at, content_at, owner_at, annex_at, root_at, is_process, chain}
+use Rattle.model_laws.proofs.Names.{usage, made, are_free, free_nodes, free_pages, has_room, with_new, new_page, new_node, new_root, new_annex, allocated}
+use Rattle.model_laws.proofs.Names.{process_allocated, bank_allocated, left_of, least, remaining, on_bank, is_member, IsOfKind, HasShape}
+use Rattle.std.specs.List.{All}
+use Rattle.std.proofs.lemmas.Bool.{leb-true}
 use Rattle.model.specs.declared.object.Content.TheVariants as content
-use Rattle.model.specs.declared.object.Object.{Object}
-use Rattle.model.specs.declared.order.Arguments.{Arguments}
-use Rattle.model.specs.declared.order.BankOrder.{BankOrder}
 use Rattle.model.specs.declared.order.BankOrder.TheVariants as bank
 use Rattle.model.specs.declared.order.ResultCode.TheVariants as code
-use Rattle.model.specs.Capability.{full, named}
-use Rattle.model.specs.Object.{is_free, is_page, is_node, is_root, is_annex, is_bank, role_of, words_in, slots_in, limit_in, root_in}
-use Rattle.model.specs.World.{object_at, content_at, owner_at, annex_at, root_at, is_process}
-use Rattle.model.specs.Bank.{chain, usage}
-use Rattle.model.specs.OrderOutcome.{made}
-use Rattle.model.specs.Banking.{are_free, free_nodes, free_pages, has_room, with_new, new_page, new_node, new_root, new_annex, allocated, process_allocated, bank_allocated, left_of, least, remaining, on_bank}
-use Rattle.model.specs.Revoke.{is_member}
-use Rattle.model.specs.Sound.{IsOfKind, HasShape}
 use Rattle.model_laws.proofs.SoundParts.{IsHeld, IsFilled, Waits, held_void}
 use Rattle.model_laws.proofs.SoundOrders.{IsNow, IsOutcome, AreArguments, three_words, refused_keeps, given_keeps}
 use Rattle.model_laws.proofs.Cases.{chosen}

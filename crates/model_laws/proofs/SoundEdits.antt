@@ -1,19 +1,9 @@
-use Rattle.std.proofs.Common.{◌≡◌, ◌≢◌, inl, inr, ℕ, ◌^◌, ◌==◌, ◌<◌, true, false, List, map, length, get_or, set, refl, sym, ap, subst, arith, ◌∙◌}
-use Rattle.std.specs.Prelude.{IsTrue, slice_index}
-use Rattle.std.proofs.lemmas.Bool.{cases_eq, cases_lt, eqb-false}
-use Rattle.std.proofs.lemmas.List.{get_or-set_same, get_or-set_other, set_past, length-set, length-map, get_or_past}
-use Rattle.model.specs.declared.capability.Capability.{Capability}
-use Rattle.model.specs.declared.capability.Capability.TheVariants.{Void, Resume}
-use Rattle.model.specs.declared.geometry.Geometry.{Geometry}
-use Rattle.model.specs.declared.object.Content.{Content}
+use Rattle.model_laws.proofs.Names.{◌≡◌, ◌≢◌, inl, inr, ℕ, ◌^◌, ◌==◌, ◌<◌, true, false, List, map, length, get_or, set, refl, sym, ap, subst, arith, ◌∙◌}
+use Rattle.model_laws.proofs.Names.{IsTrue, slice_index, cases_eq, cases_lt, eqb-false, get_or-set_same, get_or-set_other, set_past, length-set, length-map}
+use Rattle.model_laws.proofs.Names.{get_or_past, Capability, Void, Resume, Geometry, Content, Object, Root, State, free, is_root, is_annex, root_in}
+use Rattle.model_laws.proofs.Names.{with_word_in, with_slot_in, map_content, object_at, content_at, owner_at, root_at, annex_at, is_process, with_content}
+use Rattle.model_laws.proofs.Names.{with_word, with_slot, with_root, with_state, void_where, without, resumes, consume, IsSpace}
 use Rattle.model.specs.declared.object.Content.TheVariants as content
-use Rattle.model.specs.declared.object.Object.{Object}
-use Rattle.model.specs.declared.object.Root.{Root}
-use Rattle.model.specs.declared.object.State.{State}
-use Rattle.model.specs.Object.{free, is_root, is_annex, root_in, with_word_in, with_slot_in, map_content}
-use Rattle.model.specs.World.{object_at, content_at, owner_at, root_at, annex_at, is_process, with_content, with_word, with_slot, with_root, with_state}
-use Rattle.model.specs.Revoke.{void_where, without, resumes, consume}
-use Rattle.model.specs.Sound.{IsSpace}
 use Rattle.model_laws.proofs.Cases.{chosen}
 use Rattle.model_laws.proofs.Usage.{AreAlike, SameFrame, alike_refl, frame_trans}
 use Rattle.model_laws.proofs.Mapped.{alike_without, at_map, mapped}

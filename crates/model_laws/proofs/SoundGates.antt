@@ -1,29 +1,13 @@
-use Rattle.std.proofs.Common.{◌≡◌, ◌≢◌, inl, inr, ℕ, zero, suc, ◌+◌, ◌^◌, ◌==◌, ◌<◌, ◌≤◌, true, false, ◌&&◌, ◌||◌, Some, List, [], ◌∷◌, map, length, get_or, refl, sym, ap, subst, arith, ◌∙◌}
-use Rattle.std.specs.Prelude.{IsTrue, slice_index, slice_index_or, slice_set}
+use Rattle.model_laws.proofs.Names.{◌≡◌, ◌≢◌, inl, inr, ℕ, zero, suc, ◌+◌, ◌^◌, ◌==◌, ◌<◌, ◌≤◌, true, false, ◌&&◌, ◌||◌, Some, List, [], ◌∷◌, map, length}
+use Rattle.model_laws.proofs.Names.{get_or, refl, sym, ap, subst, arith, ◌∙◌, IsTrue, slice_index, slice_index_or, slice_set, cases_eq, cases_lt, eqb-true}
+use Rattle.model_laws.proofs.Names.{and_parts, or_cases, get_or_past, Capability, Void, Resume, Invocation, Operation, Call, Return, Send, Geometry, Object}
+use Rattle.model_laws.proofs.Names.{Root, State, Available, Running, Waiting, ResultCode, is_available, is_running, is_waiting, root_at, annex_at, register_at}
+use Rattle.model_laws.proofs.Names.{is_process, is_running_process, with_slot, with_root, with_state, with_slots_from, consume, OrderOutcome, code_number}
+use Rattle.model_laws.proofs.Names.{Message, Effect, deliver, sent_by, is_return, sent_to_gate, after_gate, after_order, through_gate, reply_of, replied}
+use Rattle.model_laws.proofs.Names.{ordered, on_kernel_object, can_start, invoke, Fits, InvocationKeepsSound}
 use Rattle.std.specs.List.{All}
-use Rattle.std.proofs.lemmas.Bool.{cases_eq, cases_lt, eqb-true, and_parts, or_cases}
-use Rattle.std.proofs.lemmas.List.{get_or_past}
-use Rattle.model.specs.declared.capability.Capability.{Capability}
-use Rattle.model.specs.declared.capability.Capability.TheVariants.{Void, Resume}
 use Rattle.model.specs.declared.command.Command.TheVariants as command
-use Rattle.model.specs.declared.command.Invocation.{Invocation}
-use Rattle.model.specs.declared.command.Operation.{Operation}
-use Rattle.model.specs.declared.command.Operation.TheVariants.{Call, Return, Send}
-use Rattle.model.specs.declared.geometry.Geometry.{Geometry}
-use Rattle.model.specs.declared.object.Object.{Object}
-use Rattle.model.specs.declared.object.Root.{Root}
-use Rattle.model.specs.declared.object.State.{State}
-use Rattle.model.specs.declared.object.State.TheVariants.{Available, Running, Waiting}
-use Rattle.model.specs.declared.order.ResultCode.{ResultCode}
 use Rattle.model.specs.declared.order.ResultCode.TheVariants as code
-use Rattle.model.specs.Object.{is_available, is_running, is_waiting}
-use Rattle.model.specs.World.{root_at, annex_at, register_at, is_process, is_running_process, with_slot, with_root, with_state, with_slots_from}
-use Rattle.model.specs.Revoke.{consume}
-use Rattle.model.specs.OrderOutcome.{OrderOutcome, code_number}
-use Rattle.model.specs.declared.command.Message.{Message}
-use Rattle.model.specs.Invoke.{Effect, deliver, sent_by, is_return, sent_to_gate, after_gate, after_order, through_gate, reply_of, replied, ordered, on_kernel_object, can_start, invoke}
-use Rattle.model.specs.Text.{Fits}
-use Rattle.model_laws.specs.Laws.{InvocationKeepsSound}
 use Rattle.model_laws.proofs.Cases.{after_gate_by, after_order_by, invoked_by, replied_by}
 use Rattle.model_laws.proofs.Usage.{SameFrame, frame_refl, tests_at}
 use Rattle.model_laws.proofs.SoundParts.{IsHeld, IsNearlySound, Waits, state_at, held_on, held_void, nearly_weaken, nearly_from, nearly_to}

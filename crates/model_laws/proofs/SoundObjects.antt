@@ -1,13 +1,7 @@
 -- Orders on any kernel object keep sound objects sound.
-use Rattle.std.proofs.Common.{ℕ, ◌^◌, ◌==◌, ◌<◌, List, arith}
-use Rattle.model.specs.declared.capability.Capability.{Capability}
-use Rattle.model.specs.declared.capability.Capability.TheVariants.{Void, Number, Page, Node, Space, Process, Bank, Discrim}
-use Rattle.model.specs.declared.geometry.Geometry.{Geometry}
-use Rattle.model.specs.declared.object.Object.{Object}
-use Rattle.model.specs.declared.order.Arguments.{Arguments}
-use Rattle.model.specs.Banking.{on_bank}
-use Rattle.model.specs.Capability.{IsWellFormed, union, access_bits, tag_of}
-use Rattle.model.specs.Order.{bank_order, page_order, node_order, process_order, reduces, on_page, on_node, on_process, order}
+use Rattle.model_laws.proofs.Names.{ℕ, ◌^◌, ◌==◌, ◌<◌, List, arith, Capability, Void, Number, Page, Node, Space, Process, Bank, Discrim, Geometry, Object}
+use Rattle.model_laws.proofs.Names.{Arguments, on_bank, IsWellFormed, union, access_bits, tag_of, bank_order, page_order, node_order, process_order, reduces}
+use Rattle.model_laws.proofs.Names.{on_page, on_node, on_process, order}
 use Rattle.model_laws.proofs.Cases.{chosen, found_or}
 use Rattle.model_laws.proofs.SoundBanks.{on_bank_keeps}
 use Rattle.model_laws.proofs.SoundOrders.{IsNow, IsOutcome, AreArguments, access_fits, access_union, given_keeps, on_node_keeps, on_page_keeps, on_process_keeps, refused_keeps, told_keeps}

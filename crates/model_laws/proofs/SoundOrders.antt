@@ -1,32 +1,14 @@
-use Rattle.std.proofs.Common.{◌≡◌, ◌≢◌, ◌⊎◌, inl, inr, ℕ, zero, suc, ◌^◌, ◌==◌, ◌<◌, ◌≤◌, true, false, not, ◌||◌, List, [], ◌∷◌, length, refl, ap, arith, ◌∙◌}
-use Rattle.std.specs.Prelude.{IsTrue, nat_lt, slice_index, bit_or}
-use Rattle.std.proofs.lemmas.Bool.{eqb-true, eqb-false, ltb-true, or_parts, or_cases, not-false}
-use Rattle.std.proofs.lemmas.List.{length-set}
-use Rattle.model.specs.declared.access.Access.{Access}
-use Rattle.model.specs.declared.capability.Capability.{Capability}
-use Rattle.model.specs.declared.capability.Capability.TheVariants.{Void, Number, Page, Node, Space, Start}
-use Rattle.model.specs.declared.geometry.Geometry.{Geometry}
-use Rattle.model.specs.declared.object.Content.{Content}
+use Rattle.model_laws.proofs.Names.{◌≡◌, ◌≢◌, ◌⊎◌, inl, inr, ℕ, zero, suc, ◌^◌, ◌==◌, ◌<◌, ◌≤◌, true, false, not, ◌||◌, List, [], ◌∷◌, length, refl, ap, arith}
+use Rattle.model_laws.proofs.Names.{◌∙◌, IsTrue, nat_lt, slice_index, bit_or, eqb-true, eqb-false, ltb-true, or_parts, or_cases, not-false, length-set, Access}
+use Rattle.model_laws.proofs.Names.{Capability, Void, Number, Page, Node, Space, Start, Geometry, Content, Object, Root, State, Available, Running, ResultCode}
+use Rattle.model_laws.proofs.Names.{PageOrder, NodeOrder, ProcessOrder, IsAccess, union, diminished, weak, is_root, is_node, is_annex, is_waiting, root_in}
+use Rattle.model_laws.proofs.Names.{state_number, content_at, word_at, slot_at, root_at, annex_at, register_at, is_process, with_state, consume, HasShape}
+use Rattle.model_laws.proofs.Names.{IsSpace, Arguments, OrderOutcome, refused, told, given, wrote, reduces, fetched, stored, is_space, with_root_word}
+use Rattle.model_laws.proofs.Names.{with_space, on_page, on_node, on_process}
 use Rattle.model.specs.declared.object.Content.TheVariants as content
-use Rattle.model.specs.declared.object.Object.{Object}
-use Rattle.model.specs.declared.object.Root.{Root}
-use Rattle.model.specs.declared.object.State.{State}
-use Rattle.model.specs.declared.object.State.TheVariants.{Available, Running}
-use Rattle.model.specs.declared.order.ResultCode.{ResultCode}
-use Rattle.model.specs.declared.order.PageOrder.{PageOrder}
 use Rattle.model.specs.declared.order.PageOrder.TheVariants as page
-use Rattle.model.specs.declared.order.NodeOrder.{NodeOrder}
 use Rattle.model.specs.declared.order.NodeOrder.TheVariants as node
-use Rattle.model.specs.declared.order.ProcessOrder.{ProcessOrder}
 use Rattle.model.specs.declared.order.ProcessOrder.TheVariants as process
-use Rattle.model.specs.Capability.{IsAccess, union, diminished, weak}
-use Rattle.model.specs.Object.{is_root, is_node, is_annex, is_waiting, root_in, state_number}
-use Rattle.model.specs.World.{content_at, word_at, slot_at, root_at, annex_at, register_at, is_process, with_state}
-use Rattle.model.specs.Revoke.{consume}
-use Rattle.model.specs.Sound.{HasShape, IsSpace}
-use Rattle.model.specs.declared.order.Arguments.{Arguments}
-use Rattle.model.specs.OrderOutcome.{OrderOutcome, refused, told, given, wrote}
-use Rattle.model.specs.Order.{reduces, fetched, stored, is_space, with_root_word, with_space, on_page, on_node, on_process}
 use Rattle.model_laws.proofs.Cases.{chosen, one_of}
 use Rattle.model_laws.proofs.SoundParts.{IsHeld, IsNearlySound, Waits, state_at, held_void, nearly_weaken}
 use Rattle.model_laws.proofs.SoundEdits.{IsEdited, IsRootOf, But, at_set, edited_slot, edited_word, edited_root, nearly_root, nearly_consume, root_other, state_consume}

@@ -1,17 +1,7 @@
-use Rattle.std.proofs.Common.{◌≡◌, ◌≢◌, ℕ, ◌^◌, ◌<◌, ◌≤◌, true, Some, List, length, refl, sym, ◌∙◌}
-use Rattle.std.specs.Prelude.{IsTrue, slice_index, slice_index_or}
-use Rattle.std.specs.List.{Contains}
-use Rattle.model.specs.declared.capability.Capability.{Capability}
-use Rattle.model.specs.declared.capability.Capability.TheVariants.{Void, Page, Node, Space, Process, Start, Resume, Bank}
-use Rattle.model.specs.declared.geometry.Geometry.{Geometry}
-use Rattle.model.specs.declared.object.Content.{Content}
-use Rattle.model.specs.declared.object.Object.{Object}
-use Rattle.model.specs.declared.object.State.{State}
-use Rattle.model.specs.Capability.{IsWellFormed, named}
-use Rattle.model.specs.Object.{is_free, is_annex, is_bank, is_waiting, role_of, words_in, slots_in, limit_in, root_in}
-use Rattle.model.specs.World.{World, content_at, owner_at, root_at, annex_at, is_process}
-use Rattle.model.specs.Bank.{chain, usage}
-use Rattle.model.specs.Sound.{IsOfKind, HasShape, IsSpace, NamesItsKind, MayBeHeld, IsSound, object_count}
+use Rattle.model_laws.proofs.Names.{◌≡◌, ◌≢◌, ℕ, ◌^◌, ◌<◌, ◌≤◌, true, Some, List, length, refl, sym, ◌∙◌, IsTrue, slice_index, slice_index_or, Contains}
+use Rattle.model_laws.proofs.Names.{Capability, Void, Page, Node, Space, Process, Start, Resume, Bank, Geometry, Content, Object, State, IsWellFormed, named}
+use Rattle.model_laws.proofs.Names.{is_free, is_annex, is_bank, is_waiting, role_of, words_in, slots_in, limit_in, root_in, World, content_at, owner_at}
+use Rattle.model_laws.proofs.Names.{root_at, annex_at, is_process, chain, usage, IsOfKind, HasShape, IsSpace, NamesItsKind, MayBeHeld, IsSound, object_count}
 use Rattle.model_laws.proofs.Usage.{SameFrame, same_tests, tests_at, frame_refl, chain_same, usage_same}
 
 -- what a process does

@@ -1,23 +1,12 @@
 -- The worlds that scripts begin with are sound: each object is in its place.
-use Rattle.std.proofs.Common.{◌≡◌, ◌≢◌, ◌⊎◌, ℕ, false, zero, suc, ◌+◌, ◌^◌, ◌<◌, ◌≤◌, true, List, [], ◌∷◌, ◌++◌, length, replicate, refl, sym, ◌∙◌, subst, inl, inr, arith}
-use Rattle.std.proofs.lemmas.Bool.{false≢true}
-use Rattle.std.specs.Prelude.{IsTrue, slice_index, slice_index_or, slice_set}
-use Rattle.std.specs.List.{Contains}
-use Rattle.model.specs.declared.capability.Capability.{Capability}
-use Rattle.model.specs.declared.capability.Capability.TheVariants.{Void, Page, Node, Process, Start, Bank}
-use Rattle.model.specs.declared.geometry.Geometry.{Geometry}
-use Rattle.model.specs.declared.object.Content.{Content}
+use Rattle.model_laws.proofs.Names.{◌≡◌, ◌≢◌, ◌⊎◌, ℕ, false, zero, suc, ◌+◌, ◌^◌, ◌<◌, ◌≤◌, true, List, [], ◌∷◌, ◌++◌, length, replicate, refl, sym, ◌∙◌, subst}
+use Rattle.model_laws.proofs.Names.{inl, inr, arith, false≢true, IsTrue, slice_index, slice_index_or, slice_set, Contains, Capability, Void, Page, Node}
+use Rattle.model_laws.proofs.Names.{Process, Start, Bank, Geometry, Content, Object, State, Available, Running, full, free, all_slots, zero_words, is_free}
+use Rattle.model_laws.proofs.Names.{is_root, is_annex, is_bank, words_in, slots_in, limit_in, root_in, World, object_at, content_at, owner_at, slot_at}
+use Rattle.model_laws.proofs.Names.{annex_at, is_process, chain, usage, IsOfKind, HasShape, IsSpace, MayBeHeld, IsSound, object_count, small, of_prime_bank}
+use Rattle.model_laws.proofs.Names.{fresh_root, prime_bank, f0, i0}
 use Rattle.model.specs.declared.object.Content.TheVariants as content
-use Rattle.model.specs.declared.object.Object.{Object}
-use Rattle.model.specs.declared.object.State.{State}
-use Rattle.model.specs.declared.object.State.TheVariants.{Available, Running}
-use Rattle.model.specs.Capability.{full}
-use Rattle.model.specs.Object.{free, all_slots, zero_words, is_free, is_root, is_annex, is_bank, words_in, slots_in, limit_in, root_in}
-use Rattle.model.specs.World.{World, object_at, content_at, owner_at, slot_at, annex_at, is_process}
-use Rattle.model.specs.Bank.{chain, usage}
-use Rattle.model.specs.Sound.{IsOfKind, HasShape, IsSpace, MayBeHeld, IsSound, object_count}
 use Rattle.model_laws.proofs.SoundEdits.{at_set}
-use Rattle.model.specs.Worlds.{small, of_prime_bank, fresh_root, prime_bank, f0, i0}
 
 -- what is true of the elements of a list, and of what isn't there, stays so where a new one is put
 pub holds_set : {C : Type 0} (P : C → Type 0) (xs : List C) (i : ℕ) (c d : C) → P c → ((j : ℕ) → P (slice_index_or xs j d))

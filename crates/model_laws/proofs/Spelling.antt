@@ -1,19 +1,13 @@
 -- The words of a line tell its command.
-use Rattle.std.proofs.Common.{◌≡◌, ◌↔◌, ℕ, ◌+◌, ◌*◌, ◌<◌, ◌≤◌, ◌^◌, ◌==◌, nat_le, Bool, true, false, ◌||◌, if◌then◌else◌, List, [], ◌∷◌, ◌++◌, map, length, take, drop, slice_index_or, All, codes, decimal, bytes_eq, inl, inr, refl, sym, ap, ap₂, ◌∙◌, subst, arith, ne_eqb, leb-true, length-append, ◌%◌}
-use Rattle.std.specs.List.{slice_split, list_any}
-use Rattle.std.specs.Str.Parse.{digits_value}
-use Rattle.std.proofs.lemmas.List.{length-map}
-use Rattle.std.proofs.lemmas.List.Elements.{All-nil, All-cons, All-head, All-tail, All-append, All-push, All-map, All-weaker}
-use Rattle.std.proofs.lemmas.List.Splits.{slice_split_none, slice_split_at, join_with_byte-slice_split}
-use Rattle.std.proofs.lemmas.Fmt.{decimal_by_steps, decimal_is_IsNumeral, length-decimal-le}
-use Rattle.std.proofs.Math.Seq.{take-append_seam, drop-append_seam}
-use Rattle.model.specs.declared.command.Command.{Command}
+use Rattle.model_laws.proofs.Names.{◌≡◌, ◌↔◌, ℕ, ◌+◌, ◌*◌, ◌<◌, ◌≤◌, ◌^◌, ◌==◌, Bool, true, false, ◌||◌, List, [], ◌∷◌, ◌++◌, map, length, take, drop, All}
+use Rattle.model_laws.proofs.Names.{codes, decimal, bytes_eq, inl, inr, refl, sym, ap, ap₂, ◌∙◌, subst, arith, leb-true, length-append, ◌%◌, slice_split}
+use Rattle.model_laws.proofs.Names.{list_any, digits_value, length-map, All-nil, All-cons, All-head, All-tail, All-append, All-push, All-map, All-weaker}
+use Rattle.model_laws.proofs.Names.{slice_split_none, slice_split_at, join_with_byte-slice_split, decimal_by_steps, decimal_is_IsNumeral, length-decimal-le}
+use Rattle.model_laws.proofs.Names.{take-append_seam, drop-append_seam, Command, Operation, Call, Return, Send, spaced, operation_name, command_words, spelling}
+use Rattle.model_laws.proofs.Names.{Fits, IsSkipped, Says, SpellsOne, SaysOne}
+use Rattle.std.proofs.Common.{nat_le, if◌then◌else◌, slice_index_or, ne_eqb}
 use Rattle.model.specs.declared.command.Command.TheVariants as command
-use Rattle.model.specs.declared.command.Operation.{Operation}
-use Rattle.model.specs.declared.command.Operation.TheVariants.{Call, Return, Send}
 use Rattle.model.specs.declared.line.Line.TheVariants as line
-use Rattle.model.specs.Text.{spaced, operation_name, command_words, spelling, Fits, IsSkipped, Says}
-use Rattle.model_laws.specs.Laws.{SpellsOne, SaysOne}
 
 -- Words
 

@@ -1,18 +1,12 @@
 -- The numbers touched, and when an invocation or a store is refused since the log is full.
-use Rattle.std.proofs.Common.{◌≡◌, ◌⊎◌, ◌↔◌, ℕ, zero, suc, ◌<◌, ◌^◌, Bool, true, false, not, ◌&&◌, List, [], ◌∷◌, length, slice_get, slice_set, slice_index_or, Some, None, Ok, Err, Option, Result, IsTrue, inl, inr, refl, sym, ap, ◌∙◌, subst, arith, length-set, ltb-true, lt-ltb, zero-lt-suc}
-use Rattle.std.specs.List.{Contains}
-use Rattle.std.proofs.lemmas.List.Elements.{Contains-append_right}
-use Rattle.model.specs.declared.answer.MemoryFault.{MemoryFault}
-use Rattle.model.specs.declared.answer.Refusal.{Refusal}
+use Rattle.model_laws.proofs.Names.{◌≡◌, ◌⊎◌, ◌↔◌, ℕ, zero, suc, ◌<◌, ◌^◌, Bool, true, false, not, ◌&&◌, List, [], ◌∷◌, length, slice_get, Some, None, Ok, Err}
+use Rattle.model_laws.proofs.Names.{Option, Result, inl, inr, refl, sym, ap, ◌∙◌, subst, arith, lt-ltb, zero-lt-suc, Contains, Contains-append_right}
+use Rattle.model_laws.proofs.Names.{MemoryFault, Refusal, Invocation, Geometry, is_running_process, Effect, invoke, touching, overfills, reached, refusal_of}
+use Rattle.model_laws.proofs.Names.{unless, writable, TouchesWritten, LogFullIsExact, StoreLogFullIsExact}
+use Rattle.std.proofs.Common.{slice_set, slice_index_or, IsTrue, length-set, ltb-true}
+use Rattle.model.specs.Machine.{Running}
 use Rattle.model.specs.declared.answer.Refusal.TheVariants as refusal
 use Rattle.model.specs.declared.command.Command.TheVariants as command
-use Rattle.model.specs.declared.command.Invocation.{Invocation}
-use Rattle.model.specs.declared.geometry.Geometry.{Geometry}
-use Rattle.model.specs.World.{is_running_process}
-use Rattle.model.specs.Invoke.{Effect, invoke}
-use Rattle.model.specs.Machine.{Running, touching}
-use Rattle.model.specs.Step.{overfills, reached, refusal_of, unless, writable}
-use Rattle.model_laws.specs.Laws.{TouchesWritten, LogFullIsExact, StoreLogFullIsExact}
 
 -- a mark is read where it was made, and what was marked stays so
 marked : (xs : List Bool) (m n : ℕ) → slice_get (slice_set xs m true) n ≡ Some true → (slice_get xs n ≡ Some true) ⊎ (m ≡ n)

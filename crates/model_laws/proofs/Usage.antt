@@ -1,13 +1,7 @@
-use Rattle.std.proofs.Common.{◌≡◌, ℕ, zero, suc, ◌==◌, Bool, not, ◌&&◌, List, length, refl, ap}
-use Rattle.model.specs.declared.capability.Capability.{Capability}
-use Rattle.model.specs.declared.geometry.Geometry.{Geometry}
-use Rattle.model.specs.declared.object.Content.{Content}
+use Rattle.model_laws.proofs.Names.{◌≡◌, ℕ, zero, suc, ◌==◌, Bool, not, ◌&&◌, List, length, refl, ap, Capability, Geometry, Content, Object, free, is_free}
+use Rattle.model_laws.proofs.Names.{is_page, is_node, is_root, is_annex, is_bank, role_of, limit_in, root_in, object_at, content_at, owner_at, chain_within}
+use Rattle.model_laws.proofs.Names.{chain, is_under, usage, IsOfKind}
 use Rattle.model.specs.declared.object.Content.TheVariants as content
-use Rattle.model.specs.declared.object.Object.{Object}
-use Rattle.model.specs.Object.{free, is_free, is_page, is_node, is_root, is_annex, is_bank, role_of, limit_in, root_in}
-use Rattle.model.specs.World.{object_at, content_at, owner_at}
-use Rattle.model.specs.Bank.{chain_within, chain, is_under, usage}
-use Rattle.model.specs.Sound.{IsOfKind}
 use Rattle.model_laws.proofs.Counts.{count_alike}
 
 -- two objects that differ in no more than words, slots, a state, a key or an address space

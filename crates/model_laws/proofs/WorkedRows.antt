@@ -1,28 +1,15 @@
 -- Proofs of the worked rows: the definitions are computed.
-use Rattle.std.proofs.Common.{◌≡◌, ◌≢◌, ℕ, true, false, Option, None, Some, List, [], ◌∷◌, ◌++◌, codes, All, bytes_eq, inl, inr, refl, sym, ap, ◌∙◌, subst, arith}
-use Rattle.std.proofs.lemmas.List.Elements.{All-from_recursion}
-use Rattle.std.proofs.lemmas.Slice.Eq.{bytes_eq-Decides}
-use Rattle.model.specs.Machine.{Running as Machine, Machine as UpOrDown, Up}
-use Rattle.model.specs.declared.answer.Answer.{Answer}
+use Rattle.model_laws.proofs.Names.{◌≡◌, ◌≢◌, ℕ, true, false, Option, None, Some, List, [], ◌∷◌, ◌++◌, codes, All, bytes_eq, inl, inr, refl, sym, ap, ◌∙◌}
+use Rattle.model_laws.proofs.Names.{subst, arith, All-from_recursion, bytes_eq-Decides, Up, Answer, Outcome, outcome, refusal_of, carried_out, shown, small, i0}
+use Rattle.model_laws.proofs.Names.{Refusal, Command, Return, Fits, spelling, IsRow, references, objects, processes, refusals, saving, invokes, AnswersBySteps}
+use Rattle.model_laws.proofs.Names.{FailsBetween, OpensAgain, WantsMemory, RescindsProcess, ChainsBanks, RevokesOnly, SaysCommands, SaysNothing, SaysBad}
+use Rattle.model_laws.proofs.Names.{CutsLines, RunsScript, PrintsRefusals}
+use Rattle.model.specs.Machine.{Running as Machine, Machine as UpOrDown}
 use Rattle.model.specs.declared.answer.Answer.TheVariants as answer
-use Rattle.model.specs.Step.{Outcome, outcome, refusal_of, carried_out, shown}
-use Rattle.model.specs.Worlds.{small, i0}
-use Rattle.model.specs.declared.answer.Refusal.{Refusal}
-use Rattle.model.specs.declared.command.Command.{Command}
 use Rattle.model.specs.declared.command.Command.TheVariants as command
-use Rattle.model.specs.declared.command.Operation.TheVariants.{Return}
 use Rattle.model.specs.declared.line.Line.TheVariants as line
 use Rattle.model_laws.proofs.Spelling.{split, command_of, reads_spelling}
-use Rattle.model.specs.Text.{Fits, spelling}
 use Rattle.model_laws.proofs.Rows.{IsRight, fits_holds, machine, rows_hold}
-use Rattle.model_laws.specs.Worked.{IsRow}
-use Rattle.model_laws.specs.WorkedMemory.{references}
-use Rattle.model_laws.specs.WorkedObjects.{objects}
-use Rattle.model_laws.specs.WorkedProcesses.{processes}
-use Rattle.model_laws.specs.WorkedRefusals.{refusals}
-use Rattle.model_laws.specs.WorkedSaves.{saving}
-use Rattle.model_laws.specs.WorkedSteps.{invokes, AnswersBySteps, FailsBetween, OpensAgain, WantsMemory, RescindsProcess, ChainsBanks, RevokesOnly}
-use Rattle.model_laws.specs.WorkedTexts.{SaysCommands, SaysNothing, SaysBad, CutsLines, RunsScript, PrintsRefusals}
 
 pub objects_hold : All IsRow objects
 unfolding machine objects

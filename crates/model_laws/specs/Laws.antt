@@ -1,31 +1,14 @@
-use Rattle.std.specs.Prelude.{◌≡◌, ◌⊎◌, ◌↔◌, ℕ, ◌+◌, ◌^◌, ◌<◌, Bool, true, false, None, Some, Ok, Err, List, [], ◌∷◌, length, slice_get, slice_index, IsTrue}
-use Rattle.std.specs.List.{Contains}
-use Rattle.model.specs.declared.access.Access.{Access}
-use Rattle.model.specs.declared.answer.MemoryFault.{MemoryFault}
+use Rattle.model_laws.specs.Names.{◌≡◌, ◌⊎◌, ◌↔◌, ℕ, ◌+◌, ◌^◌, ◌<◌, Bool, true, false, None, Some, Ok, Err, List, [], ◌∷◌, length, slice_get, slice_index}
+use Rattle.model_laws.specs.Names.{IsTrue, Contains, Access, MemoryFault, Capability, Command, Invocation, Geometry, Line, Object, Arguments, BankOrder}
+use Rattle.model_laws.specs.Names.{freed_by, on_bank, under, IsWeak, diminished, is_bank, is_free, World, content_at, object_at, register_at, slot_at, root_at}
+use Rattle.model_laws.specs.Names.{is_running_process, IsSound, MayBeHeld, rescind, consume, is_given_up, is_member, names_member, resumes, without}
+use Rattle.model_laws.specs.Names.{IsNoBankOrder, fetched, Effect, invoke, touching, touched_count, journaled, reached, refusal_of, unjournaled, writable, Fits}
+use Rattle.model_laws.specs.Names.{spelling, Says, small, f0, i0}
+use Rattle.model.specs.Machine.{Running}
 use Rattle.model.specs.declared.answer.Refusal.TheVariants as refusal
-use Rattle.model.specs.declared.capability.Capability.{Capability}
-use Rattle.model.specs.declared.command.Command.{Command}
 use Rattle.model.specs.declared.command.Command.TheVariants as command
-use Rattle.model.specs.declared.command.Invocation.{Invocation}
-use Rattle.model.specs.declared.geometry.Geometry.{Geometry}
-use Rattle.model.specs.declared.line.Line.{Line}
-use Rattle.model.specs.declared.object.Object.{Object}
-use Rattle.model.specs.declared.order.Arguments.{Arguments}
-use Rattle.model.specs.declared.order.BankOrder.{BankOrder}
 use Rattle.model.specs.declared.order.BankOrder.TheVariants as bank
 use Rattle.model.specs.declared.order.ResultCode.TheVariants as code
-use Rattle.model.specs.Banking.{freed_by, on_bank, under}
-use Rattle.model.specs.Capability.{IsWeak, diminished}
-use Rattle.model.specs.Object.{is_bank, is_free}
-use Rattle.model.specs.World.{World, content_at, object_at, register_at, slot_at, root_at, is_running_process}
-use Rattle.model.specs.Sound.{IsSound, MayBeHeld}
-use Rattle.model.specs.Revoke.{rescind, consume, is_given_up, is_member, names_member, resumes, without}
-use Rattle.model.specs.Order.{IsNoBankOrder, fetched}
-use Rattle.model.specs.Invoke.{Effect, invoke}
-use Rattle.model.specs.Machine.{Running, touching, touched_count}
-use Rattle.model.specs.Step.{journaled, reached, refusal_of, unjournaled, writable}
-use Rattle.model.specs.Text.{Fits, spelling, Says}
-use Rattle.model.specs.Worlds.{small, f0, i0}
 
 -- an invocation by a running process keeps a sound world sound
 abbrev pub InvocationKeepsSound : Type 0

@@ -1,18 +1,10 @@
 -- Worked scripts: what the machine of the definitions answers to lines.
-use Rattle.std.specs.Prelude.{◌≡◌, ℕ, true, false, None, Some, List, [], ◌∷◌, ◌++◌, map, replicate, slice_set, codes}
-use Rattle.std.specs.List.{All}
+use Rattle.model_laws.specs.Names.{◌≡◌, ℕ, true, false, None, Some, List, [], ◌∷◌, ◌++◌, map, replicate, slice_set, codes, All, Void, Page, Node, Process}
+use Rattle.model_laws.specs.Names.{Start, Discrim, Command, Running, full, free, all_slots, zero_words, World, opened, Outcome, outcome, refusal_of}
+use Rattle.model_laws.specs.Names.{carried_out, Fits, spelling, printed, line_of, small, of_prime_bank, fresh_root, prime_bank, i0}
 use Rattle.model.specs.declared.answer.Answer.TheVariants as answer
-use Rattle.model.specs.declared.capability.Capability.TheVariants.{Void, Page, Node, Process, Start, Discrim}
-use Rattle.model.specs.declared.command.Command.{Command}
 use Rattle.model.specs.declared.object.Content.TheVariants as content
-use Rattle.model.specs.declared.object.State.TheVariants.{Running}
-use Rattle.model.specs.Capability.{full}
-use Rattle.model.specs.Object.{free, all_slots, zero_words}
-use Rattle.model.specs.World.{World}
-use Rattle.model.specs.Machine.{Running as Machine, opened}
-use Rattle.model.specs.Step.{Outcome, outcome, refusal_of, carried_out}
-use Rattle.model.specs.Text.{Fits, spelling, printed, line_of}
-use Rattle.model.specs.Worlds.{small, of_prime_bank, fresh_root, prime_bank, i0}
+use Rattle.model.specs.Machine.{Running as Machine}
 use Prim.Native.String.{String}
 
 -- a machine that was just opened at a world, and one where all nodes were written since

@@ -1,6 +1,5 @@
 -- Worked rows: processes that start, answer and wait, and the orders on them.
-use Rattle.std.specs.Prelude.{List, [], ◌∷◌}
-use Rattle.model.specs.Worlds.{i0}
+use Rattle.model_laws.specs.Names.{List, [], ◌∷◌, i0}
 use Rattle.model_laws.specs.Shown.{i0_registers, process_1, process_3}
 use Rattle.model_laws.specs.Worked.{Row, at_world, row}
 use Prim.Native.String.{◌++◌}

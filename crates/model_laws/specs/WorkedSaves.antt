@@ -1,6 +1,5 @@
 -- Worked rows: checkpoints and journals.
-use Rattle.std.specs.Prelude.{List, [], ◌∷◌}
-use Rattle.model.specs.Worlds.{f0, i0}
+use Rattle.model_laws.specs.Names.{List, [], ◌∷◌, f0, i0}
 use Rattle.model_laws.specs.Worked.{Row, at_world, row, s0}
 use Prim.Native.String.{String}
 

@@ -1,24 +1,11 @@
-use Rattle.model.specs.declared.object.Object.{Object}
-use Rattle.std.specs.Prelude.{◌≡◌, ℕ, List, [], ◌∷◌, ◌++◌, map, replicate, slice_set}
-use Rattle.model.specs.declared.answer.Answer.{Answer}
+use Rattle.model_laws.specs.Names.{Object, ◌≡◌, ℕ, List, [], ◌∷◌, ◌++◌, map, replicate, slice_set, Answer, Capability, Void, Number, Page, Node, Space, Process}
+use Rattle.model_laws.specs.Names.{Start, Resume, Bank, Discrim, Command, Operation, Call, Send, Running, full, weak, free, all_slots, owner_at, chain, Saved}
+use Rattle.model_laws.specs.Names.{Up, Down, candidates, opened, rescind, consume, Proceeds, Step, second, small, of_prime_bank, fresh_root, prime_bank, f0, i0}
 use Rattle.model.specs.declared.answer.Answer.TheVariants as answer
-use Rattle.model.specs.declared.capability.Capability.{Capability}
-use Rattle.model.specs.declared.capability.Capability.TheVariants.{Void, Number, Page, Node, Space, Process, Start, Resume, Bank, Discrim}
-use Rattle.model.specs.declared.command.Command.{Command}
 use Rattle.model.specs.declared.command.Command.TheVariants as command
-use Rattle.model.specs.declared.command.Operation.{Operation}
-use Rattle.model.specs.declared.command.Operation.TheVariants.{Call, Send}
 use Rattle.model.specs.declared.answer.Refusal.TheVariants as refusal
 use Rattle.model.specs.declared.object.Content.TheVariants as content
-use Rattle.model.specs.declared.object.State.TheVariants.{Running}
-use Rattle.model.specs.Capability.{full, weak}
-use Rattle.model.specs.Object.{free, all_slots}
-use Rattle.model.specs.World.{owner_at}
-use Rattle.model.specs.Bank.{chain}
-use Rattle.model.specs.Machine.{Saved, Running as Machine, Machine as UpOrDown, Up, Down, candidates, opened}
-use Rattle.model.specs.Revoke.{rescind, consume}
-use Rattle.model.specs.Step.{Proceeds, Step, second}
-use Rattle.model.specs.Worlds.{small, of_prime_bank, fresh_root, prime_bank, f0, i0}
+use Rattle.model.specs.Machine.{Running as Machine, Machine as UpOrDown}
 use Rattle.model_laws.specs.Worked.{at_world, answered, b0}
 
 -- an invocation with words and registers

@@ -1,16 +1,9 @@
-use Rattle.std.specs.Prelude.{◌≡◌, ℕ, ◌^◌, ◌-◌, List, [], ◌∷◌, ◌++◌, map, replicate, codes}
-use Rattle.std.specs.List.{flat_map}
+use Rattle.model_laws.specs.Names.{◌≡◌, ℕ, ◌^◌, ◌-◌, List, [], ◌∷◌, ◌++◌, map, replicate, codes, flat_map, Return, NotPage, Renewed, Up, Turn, Reply, BadLine}
+use Rattle.model_laws.specs.Names.{Told, IsRun, output_of, lines_of, shown, Says, printed, line_of, small, i0}
 use Rattle.model.specs.declared.answer.Answer.TheVariants as answer
 use Rattle.model.specs.declared.command.Command.TheVariants as command
-use Rattle.model.specs.declared.command.Operation.TheVariants.{Return}
 use Rattle.model.specs.declared.answer.Refusal.TheVariants as refusal
-use Rattle.model.specs.declared.answer.Unjournaled.TheVariants.{NotPage, Renewed}
 use Rattle.model.specs.declared.line.Line.TheVariants as line
-use Rattle.model.specs.Machine.{Up}
-use Rattle.model.specs.Run.{Turn, Reply, BadLine, Told, IsRun, output_of, lines_of}
-use Rattle.model.specs.Step.{shown}
-use Rattle.model.specs.Text.{Says, printed, line_of}
-use Rattle.model.specs.Worlds.{small, i0}
 use Rattle.model_laws.specs.Worked.{at_world}
 use Rattle.model_laws.specs.WorkedSteps.{invokes}
 

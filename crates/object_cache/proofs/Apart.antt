@@ -1,18 +1,9 @@
 -- What an object was frozen as is kept apart from what it holds.
-use Rattle.std.proofs.Common.{◌≡◌, inr, ℕ, ◌<◌, Bool, true, false, List, length, map, set, Option, Some, None, option_map, refl, sym, ap, ◌∙◌, arith, length-set}
-use Rattle.std.proofs.Math.ListN.{get_or-map}
-use Rattle.std.proofs.lemmas.List.{get_or-set_same, get_or-set_other, map-set, set-get_or}
-use Rattle.std.proofs.lemmas.Option.{none-some, same_Some}
-use Rattle.model.specs.declared.capability.Cap.{Cap}
-use Rattle.model.specs.declared.object.Content.{Content}
-use Rattle.model.specs.Frame.{header_at}
-use Rattle.device.specs.Disk.{Disk}
-use Rattle.migrator.specs.Durable.{DurableState, Stored, below_at, stored_of}
-use Rattle.cache_entries.specs.declared.entry.Entry.{Entry}
-use Rattle.cache_entries.specs.Entries.{entry_at, with_entry, keeping, present_of, room_of}
-use Rattle.object_cache.specs.Memory.{Memory, Shared, Apart, mark_at, present_body, newest_body, below_body, apart_body, frozen_body, frozen_frame, owed_of, owed_body, owed_in_memory, owed_in}
-use Rattle.object_cache.specs.StoreState.{StoreState, IsCache, IsFetchedIn, cache_of, owed_at, seats_in}
-use Rattle.cache_entries.proofs.Arenas.{some_of}
+use Rattle.object_cache.proofs.Names.{◌≡◌, inr, ℕ, ◌<◌, Bool, true, false, List, length, map, set, Option, Some, None, option_map, refl, sym, ap, ◌∙◌, arith}
+use Rattle.object_cache.proofs.Names.{length-set, get_or-map, get_or-set_same, get_or-set_other, map-set, set-get_or, none-some, same_Some, Cap, Content}
+use Rattle.object_cache.proofs.Names.{header_at, Disk, DurableState, Stored, below_at, stored_of, Entry, entry_at, with_entry, keeping, present_of, room_of}
+use Rattle.object_cache.proofs.Names.{Memory, Shared, Apart, mark_at, present_body, newest_body, below_body, apart_body, frozen_body, frozen_frame, owed_of}
+use Rattle.object_cache.proofs.Names.{owed_body, owed_in_memory, owed_in, StoreState, IsCache, IsFetchedIn, cache_of, owed_at, seats_in, some_of}
 use Rattle.object_cache.proofs.Changing.{with_objects}
 use Rattle.object_cache.proofs.Objects.{has_entry, fetched_known}
 use Rattle.object_cache.proofs.Seating.{Reseats, seated_cache, owed_changed, seen_seated, owed_entry}

@@ -1,31 +1,15 @@
 -- Objects are brought into memory: those used last stay there.
-use Rattle.std.proofs.Common.{◌≡◌, ◌↔◌, inl, inr, ℕ, zero, suc, ◌+◌, ◌<◌, ◌≤◌, nat_eq, Bool, true, false, ◌||◌, true≢false, List, [], ◌∷◌, length, set, take, Option, Some, None, IsSome, is_some, Result, Ok, Err, refl, sym, ap, subst, ◌∙◌, arith}
-use Rattle.std.specs.Prelude.{IsErrOf, OnOk, OnErr, option_map, slice_index_or}
-use Rattle.std.specs.List.{Contains}
-use Rattle.std.proofs.lemmas.Bool.{cases_eq, cases_lt, eq-eqb}
-use Rattle.std.proofs.lemmas.List.{get_or_past, get_or_default, get_or-set_same, get_or-set_other, length-map}
-use Rattle.model.specs.declared.capability.Cap.{Cap}
-use Rattle.model.specs.declared.geometry.Geometry.{Geometry}
-use Rattle.model.specs.declared.object.Content.{Content}
+use Rattle.object_cache.proofs.Names.{◌≡◌, ◌↔◌, inl, inr, ℕ, zero, suc, ◌+◌, ◌<◌, ◌≤◌, nat_eq, Bool, true, false, ◌||◌, true≢false, List, [], ◌∷◌, length, set}
+use Rattle.object_cache.proofs.Names.{take, Option, Some, None, IsSome, is_some, Result, Ok, Err, refl, sym, ap, subst, ◌∙◌, arith, IsErrOf, OnOk, OnErr}
+use Rattle.object_cache.proofs.Names.{slice_index_or, Contains, cases_eq, cases_lt, eq-eqb, get_or_past, get_or_default, get_or-set_same, get_or-set_other}
+use Rattle.object_cache.proofs.Names.{length-map, Cap, Geometry, Content, AreKeepable, is_member, Image, Disk, most, DurableState, stored_of, frames_of, Aside}
+use Rattle.object_cache.proofs.Names.{Entry, room_of, Memory, without, StoreState, IsCache, IsFetchedIn, GoesOnIn, cache_of, parts_of, seat_at, seats_in}
+use Rattle.object_cache.proofs.Names.{with_seat, IsRecentIn, on_device_with, goes_on_same, front_without}
+use Rattle.std.specs.Prelude.{option_map}
 use Rattle.model.specs.declared.object.Content.TheVariants as content
-use Rattle.model.specs.Keepable.{AreKeepable}
-use Rattle.model.specs.Revoke.{is_member}
-use Rattle.device.specs.Disk.{Image, Disk}
-use Rattle.checkpoint.specs.Saved.{most}
-use Rattle.migrator.specs.Durable.{DurableState, stored_of}
-use Rattle.capability.specs.Parts.{frames_of}
 use Rattle.capability.specs.declared.present.PrepareFault.TheVariants as fault
-use Rattle.object_store.specs.Store.{Aside}
-use Rattle.cache_entries.specs.declared.entry.Entry.{Entry}
-use Rattle.cache_entries.specs.Entries.{room_of}
-use Rattle.object_cache.specs.Memory.{Memory}
 use Rattle.object_cache.proofs.Objects.{contents_count}
-use Rattle.cache_entries.specs.Order.{without}
-use Rattle.object_cache.specs.StoreState.{StoreState, IsCache, IsFetchedIn, GoesOnIn, cache_of, parts_of, seat_at, seats_in, with_seat}
-use Rattle.object_cache.specs.Prepared.{IsRecentIn, on_device_with}
-use Rattle.object_cache.specs.PresentLaws.{goes_on_same}
 use Rattle.object_cache.proofs.Leading.{leads_seats}
-use Rattle.cache_entries.proofs.Recent.{front_without}
 
 -- ---- the front of an order
 

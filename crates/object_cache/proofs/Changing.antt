@@ -1,23 +1,10 @@
 -- One object is changed that is to be put: no frozen frame is another, and what always holds still does.
-use Rattle.std.proofs.Common.{◌≡◌, ◌≢◌, ◌⊎◌, inl, inr, ℕ, ◌<◌, Bool, true, false, true≢false, List, length, map, set, Option, Some, None, option_map, refl, sym, ap, subst, ◌∙◌, arith}
-use Rattle.std.specs.List.{range_with_len}
-use Rattle.std.proofs.lemmas.Bool.{cases_eq}
-use Rattle.std.proofs.lemmas.Option.{none-some, same_Some}
-use Rattle.model.specs.declared.capability.Cap.{Cap}
-use Rattle.model.specs.declared.frame.ObjectHeader.{ObjectHeader}
-use Rattle.model.specs.declared.object.Content.{Content}
+use Rattle.object_cache.proofs.Names.{◌≡◌, ◌≢◌, ◌⊎◌, inl, inr, ℕ, ◌<◌, Bool, true, false, true≢false, List, length, map, set, Option, Some, None, option_map}
+use Rattle.object_cache.proofs.Names.{refl, sym, ap, subst, ◌∙◌, arith, range_with_len, cases_eq, none-some, same_Some, Cap, ObjectHeader, Content, header_at}
+use Rattle.object_cache.proofs.Names.{AreKeepable, Kept, most, Stored, below_at, maps_same, map_set, Entry, entry_at, Memory, mark_at, present_body, content_at}
+use Rattle.object_cache.proofs.Names.{present_at, newest_body, below_body, apart_body, frozen_body, frozen_frame, frozen_at, owed_of, owed_body, owed_in_memory}
+use Rattle.object_cache.proofs.Names.{contents_in, frozen_in, owed_in, IsCache}
 use Rattle.model.specs.declared.object.Role.TheVariants as role
-use Rattle.model.specs.Frame.{header_at}
-use Rattle.model.specs.Keepable.{AreKeepable}
-use Rattle.migrator.specs.Put.{Kept}
-use Rattle.checkpoint.specs.Saved.{most}
-use Rattle.migrator.specs.Durable.{Stored, below_at}
-use Rattle.checkpoint.proofs.Lists.{maps_same}
-use Rattle.migrator.proofs.Kept.{map_set}
-use Rattle.cache_entries.specs.declared.entry.Entry.{Entry}
-use Rattle.cache_entries.specs.Entries.{entry_at}
-use Rattle.object_cache.specs.Memory.{Memory, mark_at, present_body, content_at, present_at, newest_body, below_body, apart_body, frozen_body, frozen_frame, frozen_at, owed_of, owed_body, owed_in_memory, contents_in, frozen_in, owed_in}
-use Rattle.object_cache.specs.StoreState.{IsCache}
 
 abbrev pub kept_of : Entry → Option (Content Cap)
 kept_of e = e.kept

@@ -1,27 +1,12 @@
 -- A free number becomes an object, in the room that lies aside in its entry.
-use Rattle.std.proofs.Common.{◌≡◌, ◌≢◌, ℕ, ◌<◌, Bool, true≢false, cond, List, length, set, Option, Some, None, IsSome, is_some, option_map, refl, sym, ap, ◌∙◌, arith, length-set}
-use Rattle.std.proofs.lemmas.Bool.{lt-ltb, le-ltb}
-use Rattle.std.proofs.lemmas.List.{get_or-set_same, get_or-set_other}
-use Rattle.std.proofs.lemmas.Option.{none-some, same_Some}
-use Rattle.model.specs.declared.capability.Cap.{Cap}
-use Rattle.model.specs.declared.frame.ObjectHeader.{ObjectHeader}
-use Rattle.model.specs.declared.geometry.Geometry.{Geometry}
-use Rattle.model.specs.declared.object.Content.{Content}
+use Rattle.object_cache.proofs.Names.{◌≡◌, ◌≢◌, ℕ, ◌<◌, Bool, true≢false, cond, List, length, set, Option, Some, None, IsSome, is_some, option_map, refl, sym}
+use Rattle.object_cache.proofs.Names.{ap, ◌∙◌, arith, length-set, lt-ltb, le-ltb, get_or-set_same, get_or-set_other, none-some, same_Some, Cap, ObjectHeader}
+use Rattle.object_cache.proofs.Names.{Geometry, Content, Role, blank_header, header_at, void_held, all_slots, zero_words, Disk, DurableState, stored_of, Fresh}
+use Rattle.object_cache.proofs.Names.{IsFreshAt, room_at, room_for, Entry, entry_at, with_entry, holding, reserving, room_of, Memory, present_body, newest_body}
+use Rattle.object_cache.proofs.Names.{contents_in, StoreState, IsCache, IsFetchedIn, IsAnnouncedIn, cache_of, seat_at, seats_in}
 use Rattle.model.specs.declared.object.Content.TheVariants as content
-use Rattle.model.specs.declared.object.Role.{Role}
 use Rattle.model.specs.declared.object.Role.TheVariants as role
-use Rattle.model.specs.Frame.{blank_header, header_at, void_held}
-use Rattle.model.specs.Object.{all_slots, zero_words}
-use Rattle.device.specs.Disk.{Disk}
-use Rattle.migrator.specs.Durable.{DurableState, stored_of}
-use Rattle.capability.specs.declared.present.Fresh.{Fresh}
 use Rattle.capability.specs.declared.present.Fresh.TheVariants as fresh
-use Rattle.capability.specs.Parts.{IsFreshAt}
-use Rattle.capability.specs.Plain.{room_at, room_for}
-use Rattle.cache_entries.specs.declared.entry.Entry.{Entry}
-use Rattle.cache_entries.specs.Entries.{entry_at, with_entry, holding, reserving, room_of}
-use Rattle.object_cache.specs.Memory.{Memory, present_body, newest_body, contents_in}
-use Rattle.object_cache.specs.StoreState.{StoreState, IsCache, IsFetchedIn, IsAnnouncedIn, cache_of, seat_at, seats_in}
 use Rattle.object_cache.proofs.Changing.{Changes, kept_of, with_objects, still_cache, contents_changed}
 use Rattle.object_cache.proofs.Objects.{has_entry, known, seat_in, seats_stay, seen_changed}
 use Rattle.object_cache.proofs.Seating.{seats_set}

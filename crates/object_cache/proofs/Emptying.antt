@@ -1,17 +1,8 @@
 -- Bodies are taken out of their entries, by number.
-use Rattle.std.proofs.Common.{◌≡◌, inl, inr, ℕ, ◌+◌, ◌<◌, ◌≤◌, List, [], ◌∷◌, ◌++◌, length, set, Option, Some, None, option_map, sym, ap, subst, ◌∙◌, arith, length-set}
-use Rattle.std.proofs.lemmas.Bool.{cases_lt}
-use Rattle.std.proofs.lemmas.List.{ext_get_or, get_or-set_other, get_or_append_left, get_or_at, length-append}
-use Rattle.model.specs.declared.capability.Cap.{Cap}
-use Rattle.model.specs.declared.object.Content.{Content}
+use Rattle.object_cache.proofs.Names.{◌≡◌, inl, inr, ℕ, ◌+◌, ◌<◌, ◌≤◌, List, [], ◌∷◌, ◌++◌, length, set, Option, Some, None, option_map, sym, ap, subst, ◌∙◌}
+use Rattle.object_cache.proofs.Names.{arith, length-set, cases_lt, ext_get_or, get_or-set_other, get_or_append_left, get_or_at, length-append, Cap, Content}
+use Rattle.object_cache.proofs.Names.{held_at, Disk, DurableState, stored_of, Entry, entry_at, present_of, Memory, StoreState, IsWhole, cache_of}
 use Rattle.model.specs.declared.object.Content.TheVariants as content
-use Rattle.model.specs.Frame.{held_at}
-use Rattle.device.specs.Disk.{Disk}
-use Rattle.migrator.specs.Durable.{DurableState, stored_of}
-use Rattle.cache_entries.specs.declared.entry.Entry.{Entry}
-use Rattle.cache_entries.specs.Entries.{entry_at, present_of}
-use Rattle.object_cache.specs.Memory.{Memory}
-use Rattle.object_cache.specs.StoreState.{StoreState, IsWhole, cache_of}
 use Rattle.object_cache.proofs.Objects.{contents_count, entry_holds}
 
 -- the body of one more number was taken out: the entries of the numbers after it stay

@@ -1,14 +1,7 @@
 -- What an object without an entry holds is read: nothing that is seen is another.
-use Rattle.std.proofs.Common.{◌≡◌, ℕ, ◌<◌, ◌≤◌, List, length, Option, None, refl, sym, ap, subst, ◌∙◌, arith}
-use Rattle.model.specs.Frame.{header_at, held_at}
-use Rattle.model.specs.Sound.{object_count}
-use Rattle.device.specs.Disk.{Disk}
-use Rattle.migrator.specs.Put.{put_at}
-use Rattle.migrator.specs.Durable.{DurableState, Stored, ReadsStore, below_at, newest, stored_of}
-use Rattle.cache_entries.specs.declared.entry.Entry.{Entry}
-use Rattle.object_cache.specs.declared.held.Held.{Held}
-use Rattle.object_cache.specs.Memory.{Memory, masked, in_hand, put_body, present_body, newest_body, contents_in}
-use Rattle.object_cache.specs.StoreState.{StoreState, IsCache, GoesOnIn, cache_of, frozen_seen, seat_at}
+use Rattle.object_cache.proofs.Names.{◌≡◌, ℕ, ◌<◌, ◌≤◌, List, length, Option, None, refl, sym, ap, subst, ◌∙◌, arith, header_at, held_at, object_count, Disk}
+use Rattle.object_cache.proofs.Names.{put_at, DurableState, Stored, ReadsStore, below_at, newest, stored_of, Entry, Held, Memory, masked, in_hand, put_body}
+use Rattle.object_cache.proofs.Names.{present_body, newest_body, contents_in, StoreState, IsCache, GoesOnIn, cache_of, frozen_seen, seat_at}
 use Rattle.object_cache.proofs.Freezing.{put_or_body}
 use Rattle.object_cache.proofs.Objects.{content_in}
 use Rattle.object_cache.proofs.Seating.{no_entry}

@@ -1,12 +1,7 @@
 -- The bodies of all objects are put in the cache, by number.
-use Rattle.std.proofs.Common.{◌≡◌, inl, inr, ℕ, ◌+◌, ◌<◌, ◌≤◌, List, ◌∷◌, length, set, Some, None, refl, sym, ap, subst, ◌∙◌, arith, length-set}
-use Rattle.std.proofs.lemmas.Bool.{cases_lt}
-use Rattle.std.proofs.lemmas.List.{get_or-set_other}
-use Rattle.model.specs.declared.capability.Cap.{Cap}
-use Rattle.model.specs.declared.object.Content.{Content}
+use Rattle.object_cache.proofs.Names.{◌≡◌, inl, inr, ℕ, ◌+◌, ◌<◌, ◌≤◌, List, ◌∷◌, length, set, Some, None, refl, sym, ap, subst, ◌∙◌, arith, length-set}
+use Rattle.object_cache.proofs.Names.{cases_lt, get_or-set_other, Cap, Content, held_at, StoreState, IsFetchedIn, seat_at, with_seat}
 use Rattle.model.specs.declared.object.Content.TheVariants as content
-use Rattle.model.specs.Frame.{held_at}
-use Rattle.object_cache.specs.StoreState.{StoreState, IsFetchedIn, seat_at, with_seat}
 use Rattle.object_cache.proofs.Bringing.{still_seated}
 
 -- as many bodies were put in as this number says: the rest is still where it was

@@ -1,34 +1,15 @@
 -- A checkpoint begins: all objects are frozen as they are.
-use Rattle.std.proofs.Common.{◌≡◌, inl, inr, ℕ, zero, suc, ◌<◌, ◌≤◌, Bool, true, false, true≢false, cond, ◌||◌, List, [], ◌∷◌, length, map, replicate, Option, Some, None, option_map, refl, sym, ap, subst, ◌∙◌, arith}
-use Rattle.std.specs.Prelude.{count_by, slice_index_or}
-use Rattle.std.specs.List.{range_with_len}
-use Rattle.std.proofs.lemmas.Bool.{cases_lt}
-use Rattle.std.proofs.lemmas.List.{length-replicate, get_or-replicate, get_or_past, same_lists, ext_get_or}
-use Rattle.std.proofs.lemmas.List.FromFn.{length-map-range_with_len, get_or-map-range_with_len}
-use Rattle.std.proofs.lemmas.List.Sums.{sum_by-cons}
-use Rattle.std.proofs.lemmas.Option.{none-some, same_Some}
-use Rattle.model.specs.declared.capability.Cap.{Cap}
-use Rattle.model.specs.declared.frame.Frame.{Frame}
-use Rattle.model.specs.declared.frame.ObjectHeader.{ObjectHeader}
-use Rattle.model.specs.declared.object.Content.{Content}
+use Rattle.object_cache.proofs.Names.{◌≡◌, inl, inr, ℕ, zero, suc, ◌<◌, ◌≤◌, Bool, true, false, true≢false, cond, ◌||◌, List, [], ◌∷◌, length, map, replicate}
+use Rattle.object_cache.proofs.Names.{Option, Some, None, option_map, refl, sym, ap, subst, ◌∙◌, arith, count_by, slice_index_or, range_with_len, cases_lt}
+use Rattle.object_cache.proofs.Names.{length-replicate, get_or-replicate, get_or_past, same_lists, ext_get_or, length-map-range_with_len}
+use Rattle.object_cache.proofs.Names.{get_or-map-range_with_len, sum_by-cons, none-some, same_Some, Cap, Frame, ObjectHeader, Content, Role, blank_frame}
+use Rattle.object_cache.proofs.Names.{frame_at, frames_in, header_at, AreKeepable, touched_count, untouched, object_count, Disk, role_of, Put, Absent, Broken}
+use Rattle.object_cache.proofs.Names.{Kept, put_at, put_or, held_slot, sum_of, most, DurableState, FrozenPuts, Stored, below_at, freezing, frozen_put}
+use Rattle.object_cache.proofs.Names.{stored_of, maps_same, frame_in, length_in, Entry, entry_at, Memory, mark_at, masked, in_hand, put_body, present_body}
+use Rattle.object_cache.proofs.Names.{content_at, present_at, newest_body, below_body, apart_body, frozen_body, frozen_frame, frozen_at, contents_in, frozen_in}
+use Rattle.object_cache.proofs.Names.{StoreState, IsCache, AreFrozen, aside_of, cache_of, frozen_seen, is_kept}
 use Rattle.model.specs.declared.object.Content.TheVariants as content
-use Rattle.model.specs.declared.object.Role.{Role}
-use Rattle.model.specs.Frame.{blank_frame, frame_at, frames_in, header_at}
-use Rattle.model.specs.Keepable.{AreKeepable}
-use Rattle.model.specs.Machine.{touched_count, untouched}
-use Rattle.model.specs.Sound.{object_count}
-use Rattle.device.specs.Disk.{Disk}
-use Rattle.model.specs.Object.{role_of}
-use Rattle.migrator.specs.Put.{Put, Absent, Broken, Kept, put_at, put_or, held_slot, sum_of}
-use Rattle.checkpoint.specs.Saved.{most}
-use Rattle.migrator.specs.Durable.{DurableState, FrozenPuts, Stored, below_at, freezing, frozen_put, stored_of}
-use Rattle.checkpoint.proofs.Lists.{maps_same}
-use Rattle.capability.proofs.Frames.{frame_in, length_in}
-use Rattle.cache_entries.specs.declared.entry.Entry.{Entry}
-use Rattle.cache_entries.specs.Entries.{entry_at}
-use Rattle.object_cache.specs.Memory.{Memory, mark_at, masked, in_hand, put_body, present_body, content_at, present_at, newest_body, below_body, apart_body, frozen_body, frozen_frame, frozen_at, contents_in, frozen_in}
 use Rattle.object_store.specs.Store as store
-use Rattle.object_cache.specs.StoreState.{StoreState, IsCache, AreFrozen, aside_of, cache_of, frozen_seen, is_kept}
 use Rattle.object_cache.proofs.Objects.{content_in}
 use Rattle.object_cache.proofs.Puts.{held_touched}
 use Rattle.object_cache.proofs.Seating.{no_hand}

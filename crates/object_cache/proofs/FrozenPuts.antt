@@ -1,26 +1,11 @@
 -- The frozen frame of an object is put, or was to be.
-use Rattle.std.proofs.Common.{◌≡◌, ◌≢◌, inl, inr, ℕ, zero, suc, ◌<◌, ◌≤◌, Bool, true, false, true≢false, cond, ◌||◌, List, [], ◌∷◌, length, map, set, Option, Some, None, option_map, refl, sym, ap, subst, ◌∙◌, arith, length-set}
-use Rattle.std.specs.Prelude.{count_by}
-use Rattle.std.specs.List.{range_with_len}
-use Rattle.std.proofs.lemmas.Bool.{cases_eq}
-use Rattle.std.proofs.lemmas.List.{get_or-set_same, get_or-set_other}
-use Rattle.std.proofs.lemmas.List.Sums.{sum_by-cons}
-use Rattle.std.proofs.lemmas.Option.{none-some, same_Some}
-use Rattle.model.specs.declared.capability.Cap.{Cap}
-use Rattle.model.specs.declared.frame.Frame.{Frame}
-use Rattle.model.specs.declared.object.Content.{Content}
-use Rattle.model.specs.Frame.{frame_at, header_at}
-use Rattle.model.specs.Keepable.{AreKeepable}
-use Rattle.migrator.specs.Put.{Put, Absent, Broken, Kept, put_at, put_or}
-use Rattle.checkpoint.specs.Saved.{most}
-use Rattle.migrator.specs.Durable.{FrozenPuts, Stored, below_at, frozen_put, with_frozen, with_put}
-use Rattle.checkpoint.proofs.Lists.{maps_same}
-use Rattle.migrator.proofs.Kept.{map_set}
-use Rattle.cache_entries.specs.declared.entry.Entry.{Entry}
-use Rattle.object_cache.specs.declared.held.Held.{Held}
-use Rattle.cache_entries.specs.Entries.{entry_at}
-use Rattle.object_cache.specs.Memory.{Memory, Nothing, owed_of, owed_in_memory, owed_in, mark_at, in_hand, put_body, present_body, content_at, present_at, newest_body, below_body, frozen_body, frozen_frame, frozen_at, contents_in, frozen_in}
-use Rattle.object_cache.specs.StoreState.{IsCache, AreFrozen, is_kept, frozen_seen}
+use Rattle.object_cache.proofs.Names.{◌≡◌, ◌≢◌, inl, inr, ℕ, zero, suc, ◌<◌, ◌≤◌, Bool, true, false, true≢false, cond, ◌||◌, List, [], ◌∷◌, length, map, set}
+use Rattle.object_cache.proofs.Names.{Option, Some, None, option_map, refl, sym, ap, subst, ◌∙◌, arith, length-set, count_by, range_with_len, cases_eq}
+use Rattle.object_cache.proofs.Names.{get_or-set_same, get_or-set_other, sum_by-cons, none-some, same_Some, Cap, Frame, Content, frame_at, header_at}
+use Rattle.object_cache.proofs.Names.{AreKeepable, Put, Absent, Broken, Kept, put_at, put_or, most, FrozenPuts, Stored, below_at, frozen_put, with_frozen}
+use Rattle.object_cache.proofs.Names.{with_put, maps_same, map_set, Entry, Held, entry_at, Memory, Nothing, owed_of, owed_in_memory, owed_in, mark_at, in_hand}
+use Rattle.object_cache.proofs.Names.{put_body, present_body, content_at, present_at, newest_body, below_body, frozen_body, frozen_frame, frozen_at}
+use Rattle.object_cache.proofs.Names.{contents_in, frozen_in, IsCache, AreFrozen, is_kept, frozen_seen}
 
 -- one mark less
 fewer_marked : (ts : List Bool) (n : ℕ) → count_by (λ b. b) (set ts n false) ≤ count_by (λ b. b) ts

@@ -1,21 +1,9 @@
 -- The slot of a frozen frame is torn, of which the body is in memory.
-use Rattle.std.proofs.Common.{◌≡◌, ◌≢◌, inl, inr, ℕ, ◌<◌, Bool, true, ◌||◌, List, length, set, Option, Some, option_map, sym, ap, subst, ◌∙◌, arith, length-set}
-use Rattle.std.specs.Prelude.{count_by}
-use Rattle.std.proofs.lemmas.Bool.{cases_eq}
-use Rattle.std.proofs.lemmas.List.{get_or-set_other}
-use Rattle.std.proofs.lemmas.Option.{none-some, same_Some}
-use Rattle.model.specs.declared.capability.Cap.{Cap}
-use Rattle.model.specs.declared.frame.Frame.{Frame}
-use Rattle.model.specs.declared.object.Content.{Content}
-use Rattle.model.specs.Frame.{frame_at, header_at}
-use Rattle.model.specs.Keepable.{AreKeepable}
-use Rattle.migrator.specs.Put.{Put, Absent, Broken, Kept, put_at, put_or}
-use Rattle.checkpoint.specs.Saved.{most}
-use Rattle.migrator.specs.Durable.{FrozenPuts, Stored, below_at, frozen_put, with_frozen, with_put}
-use Rattle.checkpoint.proofs.Lists.{maps_same}
-use Rattle.cache_entries.specs.Entries.{entry_at}
-use Rattle.object_cache.specs.Memory.{Memory, mark_at, in_hand, put_body, present_body, content_at, present_at, frozen_body, frozen_frame, frozen_at, contents_in, frozen_in}
-use Rattle.object_cache.specs.StoreState.{IsCache, AreFrozen, is_kept, frozen_seen}
+use Rattle.object_cache.proofs.Names.{◌≡◌, ◌≢◌, inl, inr, ℕ, ◌<◌, Bool, true, ◌||◌, List, length, set, Option, Some, option_map, sym, ap, subst, ◌∙◌, arith}
+use Rattle.object_cache.proofs.Names.{length-set, count_by, cases_eq, get_or-set_other, none-some, same_Some, Cap, Frame, Content, frame_at, header_at}
+use Rattle.object_cache.proofs.Names.{AreKeepable, Put, Absent, Broken, Kept, put_at, put_or, most, FrozenPuts, Stored, below_at, frozen_put, with_frozen}
+use Rattle.object_cache.proofs.Names.{with_put, maps_same, entry_at, Memory, mark_at, in_hand, put_body, present_body, content_at, present_at, frozen_body}
+use Rattle.object_cache.proofs.Names.{frozen_frame, frozen_at, contents_in, frozen_in, IsCache, AreFrozen, is_kept, frozen_seen}
 
 module _ (s : Stored) (m : Memory) (left count : ℕ) (is : IsCache s m left count) (n : ℕ) (within : n < length m.headers)
     (f : FrozenPuts) (f_is : s.frozen ≡ Some f) (pending : mark_at m.pending n ≡ true)

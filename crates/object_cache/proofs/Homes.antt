@@ -1,28 +1,15 @@
 -- What is saved goes home, or what is frozen is saved: no object is another.
-use Rattle.std.proofs.Common.{◌≡◌, inl, inr, ℕ, zero, suc, ◌+◌, ◌-◌, ◌≤◌, ◌<◌, Bool, true, false, cond, ◌||◌, List, [], ◌∷◌, length, map, Option, Some, None, option_map, Result, Ok, Err, OnOk, OnErr, refl, sym, ap, subst, ◌∙◌, arith}
-use Rattle.std.specs.Prelude.{◌==◌, count_by, slice_index_or}
-use Rattle.std.specs.List.{range_with_len}
-use Rattle.std.proofs.lemmas.Bool.{cases_lt}
-use Rattle.std.proofs.lemmas.List.{length-map, same_lists, get_or_past}
-use Rattle.std.proofs.lemmas.List.FromFn.{length-map-range_with_len, get_or-map-range_with_len}
-use Rattle.std.proofs.lemmas.List.Sums.{sum_by-cons}
-use Rattle.std.proofs.lemmas.Option.{none-some, same_Some}
-use Rattle.model.specs.declared.capability.Cap.{Cap}
-use Rattle.model.specs.declared.frame.Frame.{Frame}
-use Rattle.model.specs.declared.object.Content.{Content}
-use Rattle.model.specs.Frame.{blank_frame, frame_at, header_at}
-use Rattle.model.specs.Keepable.{AreKeepable}
-use Rattle.device.specs.Disk.{Disk}
-use Rattle.migrator.specs.Put.{Put, Absent, Broken, Kept, put_at, put_or, overlaid, kept_count, sum_of}
-use Rattle.checkpoint.specs.Saved.{SavedFrames, LeavesEither, LeavesOneOf, home_saved}
+use Rattle.object_cache.proofs.Names.{◌≡◌, inl, inr, ℕ, zero, suc, ◌+◌, ◌-◌, ◌≤◌, ◌<◌, Bool, true, false, cond, ◌||◌, List, [], ◌∷◌, length, map, Option, Some}
+use Rattle.object_cache.proofs.Names.{None, option_map, Result, Ok, Err, refl, sym, ap, subst, ◌∙◌, arith, ◌==◌, count_by, slice_index_or, range_with_len}
+use Rattle.object_cache.proofs.Names.{cases_lt, length-map, same_lists, get_or_past, length-map-range_with_len, get_or-map-range_with_len, sum_by-cons}
+use Rattle.object_cache.proofs.Names.{none-some, same_Some, Cap, Frame, Content, blank_frame, frame_at, header_at, AreKeepable, Disk, Put, Absent, Broken, Kept}
+use Rattle.object_cache.proofs.Names.{put_at, put_or, overlaid, kept_count, sum_of, SavedFrames, LeavesEither, LeavesOneOf, home_saved, DurableState}
+use Rattle.object_cache.proofs.Names.{FrozenPuts, Stored, below_at, frozen_put, left_of, moved, stored_after_commit, stored_of, maps_same, FrozenFrames}
+use Rattle.object_cache.proofs.Names.{entry_at, Memory, mark_at, in_hand, put_body, present_body, content_at, present_at, frozen_body, frozen_frame, frozen_at}
+use Rattle.object_cache.proofs.Names.{contents_in, frozen_in, StoreState, IsCache, aside_of, cache_of, frozen_seen, is_kept}
+use Rattle.std.proofs.Common.{OnOk, OnErr}
 use Rattle.migrator.specs.Durable as durable
-use Rattle.migrator.specs.Durable.{DurableState, FrozenPuts, Stored, below_at, frozen_put, left_of, moved, stored_after_commit, stored_of}
-use Rattle.checkpoint.proofs.Lists.{maps_same}
-use Rattle.object_store.specs.Store.{FrozenFrames}
 use Rattle.object_store.specs.Store as store
-use Rattle.cache_entries.specs.Entries.{entry_at}
-use Rattle.object_cache.specs.Memory.{Memory, mark_at, in_hand, put_body, present_body, content_at, present_at, frozen_body, frozen_frame, frozen_at, contents_in, frozen_in}
-use Rattle.object_cache.specs.StoreState.{StoreState, IsCache, aside_of, cache_of, frozen_seen, is_kept}
 use Rattle.object_cache.proofs.Puts.{some_touched}
 
 -- ---- what is saved goes home

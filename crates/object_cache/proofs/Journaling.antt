@@ -1,41 +1,19 @@
 -- A page is journaled: no object is another, and what is saved of the page has the words that it has now.
-use Rattle.std.proofs.Common.{◌≡◌, ◌≢◌, ◌⊎◌, inl, inr, ℕ, ◌<◌, Bool, true, false, List, length, set, length-set, Option, Some, None, option_map, Result, Ok, Err, OnOk, OnErr, refl, sym, ap, subst, ◌∙◌, arith}
-use Rattle.std.proofs.lemmas.Bool.{cases_eq}
-use Rattle.std.proofs.lemmas.List.{get_or-set_same, get_or-set_other}
-use Rattle.std.proofs.lemmas.Option.{none-some}
-use Rattle.model.specs.declared.capability.Cap.{Cap}
-use Rattle.model.specs.declared.frame.Frame.{Frame}
-use Rattle.model.specs.declared.frame.ObjectHeader.{ObjectHeader}
-use Rattle.model.specs.declared.object.Content.{Content}
-use Rattle.model.specs.declared.object.Role.{Role}
+use Rattle.object_cache.proofs.Names.{◌≡◌, ◌≢◌, ◌⊎◌, inl, inr, ℕ, ◌<◌, Bool, true, false, List, length, set, length-set, Option, Some, None, option_map, Result}
+use Rattle.object_cache.proofs.Names.{Ok, Err, refl, sym, ap, subst, ◌∙◌, arith, cases_eq, get_or-set_same, get_or-set_other, none-some, Cap, Frame}
+use Rattle.object_cache.proofs.Names.{ObjectHeader, Content, Role, blank_frame, frame_at, frames_in, header_at, held_at, AreKeepable, is_page, role_of}
+use Rattle.object_cache.proofs.Names.{words_in, object_count, Image, Disk, LeavesOnly, leaves_on, leaves_weaker, Body, Room, content_of, frame_of, Put, Absent}
+use Rattle.object_cache.proofs.Names.{Broken, Kept, put_at, put_or, most, SavedFrames, Holds, LeavesEither, LeavesOneOf, journaled_saved, with_words}
+use Rattle.object_cache.proofs.Names.{DurableState, FrozenPuts, Stored, below_at, ReadsStore, frozen_put, is_sound, left_of, stored_after_journal, stored_of}
+use Rattle.object_cache.proofs.Names.{maps_same, frame_in, JournalFault, is_page_role, next_journaled, Aside, FrozenFrames, page_is, role_is_page}
+use Rattle.object_cache.proofs.Names.{content_is_page, known_page, next_same, Entry, entry_at, entry_body, held_now, Memory, mark_at, masked, in_hand, put_body}
+use Rattle.object_cache.proofs.Names.{newest_body, below_body, present_body, content_at, present_at, frozen_body, frozen_frame, frozen_at, contents_in}
+use Rattle.object_cache.proofs.Names.{frozen_in, StoreState, IsCache, aside_of, cache_of, frozen_seen}
+use Rattle.std.proofs.Common.{OnOk, OnErr}
 use Rattle.model.specs.declared.object.Role.TheVariants as role
-use Rattle.model.specs.Frame.{blank_frame, frame_at, frames_in, header_at, held_at}
-use Rattle.model.specs.Keepable.{AreKeepable}
-use Rattle.model.specs.Object.{is_page, role_of, words_in}
-use Rattle.model.specs.Sound.{object_count}
-use Rattle.device.specs.Disk.{Image, Disk}
-use Rattle.device.specs.Moments.{LeavesOnly}
-use Rattle.device.proofs.Moments.{leaves_on, leaves_weaker}
-use Rattle.layout.specs.declared.body.Body.{Body}
 use Rattle.layout.specs.declared.body.Body.TheVariants as body
-use Rattle.layout.specs.declared.body.Room.{Room}
-use Rattle.layout.specs.Frame.{content_of, frame_of}
-use Rattle.migrator.specs.Put.{Put, Absent, Broken, Kept, put_at, put_or}
-use Rattle.checkpoint.specs.Saved.{most, SavedFrames, Holds, LeavesEither, LeavesOneOf, journaled_saved, with_words}
-use Rattle.migrator.specs.Durable.{DurableState, FrozenPuts, Stored, below_at, ReadsStore, frozen_put, is_sound, left_of, stored_after_journal, stored_of}
-use Rattle.checkpoint.proofs.Lists.{maps_same}
-use Rattle.capability.proofs.Frames.{frame_in}
-use Rattle.object_store.specs.declared.journal_fault.JournalFault.{JournalFault}
 use Rattle.object_store.specs.declared.journal_fault.JournalFault.TheVariants as fault
 use Rattle.object_store.specs.Journal as journal
-use Rattle.object_store.specs.Journal.{is_page_role, next_journaled}
-use Rattle.object_store.specs.Store.{Aside, FrozenFrames}
-use Rattle.object_store.proofs.Journaling.{page_is, role_is_page, content_is_page, known_page, next_same}
-use Rattle.cache_entries.specs.declared.entry.Entry.{Entry}
-use Rattle.cache_entries.specs.Entries.{entry_at}
-use Rattle.object_cache.specs.Journaled.{entry_body, held_now}
-use Rattle.object_cache.specs.Memory.{Memory, mark_at, masked, in_hand, put_body, newest_body, below_body, present_body, content_at, present_at, frozen_body, frozen_frame, frozen_at, contents_in, frozen_in}
-use Rattle.object_cache.specs.StoreState.{StoreState, IsCache, aside_of, cache_of, frozen_seen}
 use Rattle.object_cache.proofs.Freezing.{put_or_body}
 use Rattle.object_cache.proofs.Objects.{content_in}
 use Rattle.object_cache.proofs.Seating.{no_hand}

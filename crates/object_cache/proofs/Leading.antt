@@ -1,13 +1,6 @@
 -- What leads from one value of a cache to another, and on.
-use Rattle.std.proofs.Common.{◌≡◌, ℕ, Bool, List, Option, sym, ap, ◌∙◌}
-use Rattle.model.specs.declared.capability.Cap.{Cap}
-use Rattle.model.specs.declared.object.Content.{Content}
-use Rattle.device.specs.Disk.{Disk}
-use Rattle.migrator.specs.Durable.{stored_of}
-use Rattle.object_store.specs.Store.{Aside}
-use Rattle.object_cache.specs.declared.held.Held.{Held}
-use Rattle.object_cache.specs.Memory.{Owed}
-use Rattle.object_cache.specs.StoreState.{StoreState, GoesOnIn, on_device}
+use Rattle.object_cache.proofs.Names.{◌≡◌, ℕ, Bool, List, Option, sym, ap, ◌∙◌, Cap, Content, Disk, stored_of, Aside, Held, Owed, StoreState, GoesOnIn}
+use Rattle.object_cache.proofs.Names.{on_device}
 
 module _ {D : Type 0} where
   -- what was put is on the device

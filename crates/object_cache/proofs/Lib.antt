@@ -1,3 +1,4 @@
+mod Names
 mod Outcomes
 mod Changing
 mod Objects

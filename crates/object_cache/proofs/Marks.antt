@@ -1,25 +1,10 @@
 -- Numbers are marked that are to be written: no object and no frozen frame is another.
-use Rattle.std.proofs.Common.{◌≡◌, ◌≢◌, ◌⊎◌, inl, inr, ℕ, zero, suc, ◌<◌, ◌≤◌, Bool, true, false, true≢false, List, [], ◌∷◌, length, set, Option, Some, None, option_map, refl, sym, ap, subst, ◌∙◌, arith, length-set}
-use Rattle.std.specs.Prelude.{slice_index_or}
-use Rattle.std.specs.List.{Contains}
-use Rattle.std.proofs.lemmas.Bool.{cases_eq}
-use Rattle.std.proofs.lemmas.List.{get_or-set_other, get_or_past}
-use Rattle.model.specs.declared.capability.Cap.{Cap}
-use Rattle.model.specs.declared.frame.Frame.{Frame}
-use Rattle.model.specs.declared.frame.ObjectHeader.{ObjectHeader}
-use Rattle.model.specs.declared.object.Content.{Content}
-use Rattle.model.specs.Frame.{header_at}
-use Rattle.model.specs.Keepable.{AreKeepable}
-use Rattle.model.specs.Machine.{touched_count, touching}
-use Rattle.device.specs.Disk.{Disk}
-use Rattle.checkpoint.specs.Saved.{most}
-use Rattle.migrator.specs.Durable.{DurableState, FrozenPuts, Stored, below_at, stored_of}
-use Rattle.checkpoint.proofs.Lists.{maps_same}
-use Rattle.capability.proofs.Touched.{length-touching, set-marked}
-use Rattle.cache_entries.specs.declared.entry.Entry.{Entry}
-use Rattle.cache_entries.specs.Entries.{entry_at}
-use Rattle.object_cache.specs.Memory.{Memory, Owed, Shared, mark_at, apart_body, below_body, frozen_body, frozen_frame, frozen_at, owed_of, owed_body, owed_in_memory, contents_in, frozen_in, owed_in}
-use Rattle.object_cache.specs.StoreState.{StoreState, IsCache, cache_of, owed_at}
+use Rattle.object_cache.proofs.Names.{◌≡◌, ◌≢◌, ◌⊎◌, inl, inr, ℕ, zero, suc, ◌<◌, ◌≤◌, Bool, true, false, true≢false, List, [], ◌∷◌, length, set, Option, Some}
+use Rattle.object_cache.proofs.Names.{None, option_map, refl, sym, ap, subst, ◌∙◌, arith, length-set, slice_index_or, Contains, cases_eq, get_or-set_other}
+use Rattle.object_cache.proofs.Names.{get_or_past, Cap, Frame, ObjectHeader, Content, header_at, AreKeepable, touched_count, touching, Disk, most, DurableState}
+use Rattle.object_cache.proofs.Names.{FrozenPuts, Stored, below_at, stored_of, maps_same, length-touching, set-marked, Entry, entry_at, Memory, Owed, Shared}
+use Rattle.object_cache.proofs.Names.{mark_at, apart_body, below_body, frozen_body, frozen_frame, frozen_at, owed_of, owed_body, owed_in_memory, contents_in}
+use Rattle.object_cache.proofs.Names.{frozen_in, owed_in, StoreState, IsCache, cache_of, owed_at}
 use Rattle.object_cache.proofs.Seating.{owed_entry}
 
 -- a mark is as it was, or is of a number that was listed

@@ -1,24 +1,12 @@
 -- What is seen of a cache of which one object was changed.
-use Rattle.std.proofs.Common.{◌≡◌, inl, inr, ℕ, ◌<◌, true, List, length, set, map, Option, Some, None, IsSome, is_some, option_map, true≢false, refl, sym, ap, subst, ◌∙◌, arith, length-set}
-use Rattle.std.proofs.lemmas.Option.{none-some, same_Some}
-use Rattle.std.proofs.lemmas.List.FromFn.{get_or-map-range_with_len, length-map-range_with_len}
-use Rattle.std.proofs.Math.ListN.{get_or-map}
-use Rattle.std.proofs.lemmas.List.{get_or-set_same, get_or-set_other, map-set, set-get_or}
-use Rattle.model.specs.declared.capability.Cap.{Cap}
-use Rattle.model.specs.declared.frame.Frame.{Frame}
-use Rattle.model.specs.declared.frame.ObjectHeader.{ObjectHeader}
-use Rattle.model.specs.declared.object.Content.{Content}
+use Rattle.object_cache.proofs.Names.{◌≡◌, inl, inr, ℕ, ◌<◌, true, List, length, set, map, Option, Some, None, IsSome, is_some, option_map, true≢false, refl}
+use Rattle.object_cache.proofs.Names.{sym, ap, subst, ◌∙◌, arith, length-set, none-some, same_Some, get_or-map-range_with_len, length-map-range_with_len}
+use Rattle.object_cache.proofs.Names.{get_or-map, get_or-set_same, get_or-set_other, map-set, set-get_or, Cap, Frame, ObjectHeader, Content, Role, blank_header}
+use Rattle.object_cache.proofs.Names.{header_at, held_at, Disk, DurableState, FrozenPuts, Stored, stored_of, Entry, entry_at, with_entry, holding, present_of}
+use Rattle.object_cache.proofs.Names.{room_of, AreOrdered, Memory, Owed, mark_at, present_body, content_at, newest_body, contents_in, owed_in, StoreState}
+use Rattle.object_cache.proofs.Names.{IsBounded, IsCache, IsAnnouncedIn, IsFetchedIn, cache_of, seats_in, seat_at, with_content_in}
 use Rattle.model.specs.declared.object.Content.TheVariants as content
-use Rattle.model.specs.declared.object.Role.{Role}
 use Rattle.model.specs.declared.object.Role.TheVariants as role
-use Rattle.model.specs.Frame.{blank_header, header_at, held_at}
-use Rattle.device.specs.Disk.{Disk}
-use Rattle.migrator.specs.Durable.{DurableState, FrozenPuts, Stored, stored_of}
-use Rattle.cache_entries.specs.declared.entry.Entry.{Entry}
-use Rattle.cache_entries.specs.Entries.{entry_at, with_entry, holding, present_of, room_of}
-use Rattle.cache_entries.specs.Order.{AreOrdered}
-use Rattle.object_cache.specs.Memory.{Memory, Owed, mark_at, present_body, content_at, newest_body, contents_in, owed_in}
-use Rattle.object_cache.specs.StoreState.{StoreState, IsBounded, IsCache, IsAnnouncedIn, IsFetchedIn, cache_of, seats_in, seat_at, with_content_in}
 use Rattle.object_cache.proofs.Changing.{Changes, kept_of, with_objects, still_cache, contents_changed, contents_same, frozen_same, owed_same}
 
 -- another header in its place, of the same role

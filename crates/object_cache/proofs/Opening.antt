@@ -1,32 +1,13 @@
 -- A store is made over a device that was opened: all objects are as they are saved.
-use Rattle.std.proofs.Common.{◌≡◌, inl, inr, ℕ, ◌<◌, Bool, false, true≢false, List, [], ◌∷◌, length, replicate, Option, None, option_map, refl, sym, ap, subst, ◌∙◌, arith}
-use Rattle.std.proofs.Math.ListN.{get_or-map}
-use Rattle.std.proofs.lemmas.Bool.{cases_lt}
-use Rattle.std.proofs.lemmas.List.{ext_get_or, get_or-replicate, get_or_past, length-map, length-replicate}
-use Rattle.std.proofs.lemmas.Option.{none-some}
-use Rattle.model.specs.declared.capability.Cap.{Cap}
-use Rattle.model.specs.declared.frame.Frame.{Frame}
-use Rattle.model.specs.declared.frame.ObjectHeader.{ObjectHeader}
-use Rattle.model.specs.declared.object.Content.{Content}
+use Rattle.object_cache.proofs.Names.{◌≡◌, inl, inr, ℕ, ◌<◌, Bool, false, true≢false, List, [], ◌∷◌, length, replicate, Option, None, option_map, refl, sym, ap}
+use Rattle.object_cache.proofs.Names.{subst, ◌∙◌, arith, get_or-map, cases_lt, ext_get_or, get_or-replicate, get_or_past, length-map, length-replicate}
+use Rattle.object_cache.proofs.Names.{none-some, Cap, Frame, ObjectHeader, Content, blank_frame, frame_at, frames_in, header_at, headers, untouched, role_of}
+use Rattle.object_cache.proofs.Names.{object_count, Image, Disk, Only, Looks, Put, Absent, put_at, put_or, SavedFrames, Holds, OpensDurable, DurableState}
+use Rattle.object_cache.proofs.Names.{FrozenPuts, Stored, below_at, frozen_put, is_sound, stored_of, HaveTheirRoles, frame_in, length_in, OpensStore, Entry}
+use Rattle.object_cache.proofs.Names.{entry_at, room_of, Memory, memory_of, mark_at, masked, put_body, newest_body, below_body, present_body, content_at}
+use Rattle.object_cache.proofs.Names.{present_at, frozen_body, frozen_frame, frozen_at, contents_in, frozen_in, StoreState, IsCache, IsFetchedIn, IsJustOpened}
+use Rattle.object_cache.proofs.Names.{IsMadeOver, IsOpenOver, IsWhole, bodies_of, cache_of, frozen_seen, parts_of, seat_at, seats_in, view_of}
 use Rattle.model.specs.declared.object.Content.TheVariants as content
-use Rattle.model.specs.Frame.{blank_frame, frame_at, frames_in, header_at, headers}
-use Rattle.model.specs.Machine.{untouched}
-use Rattle.model.specs.Object.{role_of}
-use Rattle.model.specs.Sound.{object_count}
-use Rattle.device.specs.Disk.{Image, Disk}
-use Rattle.device.specs.Calls.{Only}
-use Rattle.checkpoint.specs.Opened.{Looks}
-use Rattle.migrator.specs.Put.{Put, Absent, put_at, put_or}
-use Rattle.checkpoint.specs.Saved.{SavedFrames, Holds}
-use Rattle.migrator.specs.Opened.{OpensDurable}
-use Rattle.migrator.specs.Durable.{DurableState, FrozenPuts, Stored, below_at, frozen_put, is_sound, stored_of}
-use Rattle.capability.specs.Parts.{HaveTheirRoles}
-use Rattle.capability.proofs.Frames.{frame_in, length_in}
-use Rattle.object_store.specs.Store.{OpensStore}
-use Rattle.cache_entries.specs.declared.entry.Entry.{Entry}
-use Rattle.cache_entries.specs.Entries.{entry_at, room_of}
-use Rattle.object_cache.specs.Memory.{Memory, memory_of, mark_at, masked, put_body, newest_body, below_body, present_body, content_at, present_at, frozen_body, frozen_frame, frozen_at, contents_in, frozen_in}
-use Rattle.object_cache.specs.StoreState.{StoreState, IsCache, IsFetchedIn, IsJustOpened, IsMadeOver, IsOpenOver, IsWhole, bodies_of, cache_of, frozen_seen, parts_of, seat_at, seats_in, view_of}
 use Rattle.object_cache.proofs.Freezing.{masked_same, none_counted, none_marked, none_put}
 use Rattle.object_cache.proofs.Objects.{content_in, contents_count}
 

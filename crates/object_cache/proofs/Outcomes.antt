@@ -1,6 +1,5 @@
 -- What a call that may fail leaves, told for each outcome.
-use Rattle.std.proofs.Common.{◌≡◌, Bool, true, false, Result, Ok, Err, refl, sym, subst}
-use Rattle.std.specs.Prelude.{OnOk, OnErr}
+use Rattle.object_cache.proofs.Names.{◌≡◌, Bool, true, false, Result, Ok, Err, refl, sym, subst, OnOk, OnErr}
 
 -- what holds of both
 pub either_way : {T E X : Type 0} (r : Result T E) (P : X → Type 0) (x a b : X) → OnOk r (x ≡ a) → OnErr r (x ≡ b) → P a → P b → P x

@@ -1,24 +1,11 @@
 -- What entries owe, and which numbers have one, by what is seen.
-use Rattle.std.proofs.Common.{◌≡◌, ◌≢◌, inl, inr, ℕ, zero, suc, ◌-◌, ◌<◌, ◌≤◌, Bool, true, false, true≢false, List, [], ◌∷◌, length, set, take, Option, Some, None, IsSome, is_some, option_map, refl, sym, ap, subst, ◌∙◌, arith, length-set}
-use Rattle.std.specs.List.{slice_get}
-use Rattle.std.proofs.lemmas.List.{get_or_past, get_or-set_same, get_or-set_other}
-use Rattle.std.proofs.lemmas.List.FromFn.{length-map-range_with_len}
-use Rattle.std.proofs.lemmas.Bool.{cases_eq, cases_lt}
-use Rattle.std.proofs.lemmas.Option.{none-some}
-use Rattle.model.specs.declared.capability.Cap.{Cap}
-use Rattle.model.specs.declared.object.Content.{Content}
-use Rattle.model.specs.Revoke.{is_member}
-use Rattle.device.specs.Disk.{Disk}
-use Rattle.migrator.specs.Durable.{DurableState, stored_of}
-use Rattle.cache_entries.specs.declared.entry.Entry.{Entry}
-use Rattle.cache_entries.specs.Entries.{entry_at, room_of}
-use Rattle.object_cache.specs.Memory.{Memory, Owed, Nothing, Shared, Apart, mark_at, is_owing, is_shared, owed_of, content_at, contents_in}
-use Rattle.cache_entries.specs.Order.{AreOrdered, used_longest_ago, without}
-use Rattle.object_cache.specs.StoreState.{StoreState, IsCache, IsFetchedIn, cache_of, owed_at, seat_at}
-use Rattle.cache_entries.proofs.Arenas.{some_within}
+use Rattle.object_cache.proofs.Names.{◌≡◌, ◌≢◌, inl, inr, ℕ, zero, suc, ◌-◌, ◌<◌, ◌≤◌, Bool, true, false, true≢false, List, [], ◌∷◌, length, set, take, Option}
+use Rattle.object_cache.proofs.Names.{Some, None, IsSome, is_some, option_map, refl, sym, ap, subst, ◌∙◌, arith, length-set, slice_get, get_or_past}
+use Rattle.object_cache.proofs.Names.{get_or-set_same, get_or-set_other, length-map-range_with_len, cases_eq, cases_lt, none-some, Cap, Content, is_member}
+use Rattle.object_cache.proofs.Names.{Disk, DurableState, stored_of, Entry, entry_at, room_of, Memory, Owed, Nothing, Shared, Apart, mark_at, is_owing}
+use Rattle.object_cache.proofs.Names.{is_shared, owed_of, content_at, contents_in, AreOrdered, used_longest_ago, without, StoreState, IsCache, IsFetchedIn}
+use Rattle.object_cache.proofs.Names.{cache_of, owed_at, seat_at, some_within, length_without, listed_member, front_stays, front_apart}
 use Rattle.object_cache.proofs.Objects.{seat_in}
-use Rattle.cache_entries.proofs.Orders.{length_without}
-use Rattle.cache_entries.proofs.Recent.{listed_member, front_stays, front_apart}
 use Rattle.object_cache.proofs.Seating.{owed_entry}
 
 pub owing_yes : (o : Owed) (b : Bool) → b ≡ is_owing o → b ≡ true → o ≢ Nothing

@@ -1,18 +1,8 @@
 -- What an entry owes is paid, its body is put, and it is dropped: what that comes to, call by call.
-use Rattle.std.proofs.Common.{◌≡◌, ◌∙◌, inl, inr, ℕ, Bool, false, cond, List, Result, Ok, Err, Some, None, length, set, refl, sym, ap, subst, arith, length-set}
-use Rattle.std.specs.Prelude.{OnOk, OnErr}
-use Rattle.std.proofs.lemmas.Bool.{cases_lt, eq-eqb}
-use Rattle.std.proofs.lemmas.List.{get_or_past, get_or-set_same}
-use Rattle.model.specs.Frame.{header_at, held_at}
-use Rattle.model.specs.Keepable.{IsKeepable}
-use Rattle.device.specs.Disk.{Disk}
-use Rattle.device.specs.Calls.{Counts}
-use Rattle.checkpoint.specs.Saved.{most}
-use Rattle.migrator.specs.Durable.{stored_of}
-use Rattle.cache_entries.specs.Order.{without}
-use Rattle.object_cache.specs.declared.held.Held.{Held}
-use Rattle.object_cache.specs.Memory.{Owed, Nothing, let_go, mark_at, masked}
-use Rattle.object_cache.specs.StoreState.{StoreState, GoesOnIn, IsFetchedIn, on_device, owed_at, without_seat}
+use Rattle.object_cache.proofs.Names.{◌≡◌, ◌∙◌, inl, inr, ℕ, Bool, false, cond, List, Result, Ok, Err, Some, None, length, set, refl, sym, ap, subst, arith}
+use Rattle.object_cache.proofs.Names.{length-set, OnOk, OnErr, cases_lt, eq-eqb, get_or_past, get_or-set_same, header_at, held_at, IsKeepable, Disk, Counts}
+use Rattle.object_cache.proofs.Names.{most, stored_of, without, Held, Owed, Nothing, let_go, mark_at, masked, StoreState, GoesOnIn, IsFetchedIn, on_device}
+use Rattle.object_cache.proofs.Names.{owed_at, without_seat}
 use Rattle.object_cache.proofs.Freezing.{masked_same}
 use Rattle.object_cache.proofs.Leading.{same_put, geometry_stays}
 

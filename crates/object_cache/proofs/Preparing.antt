@@ -1,13 +1,6 @@
 -- The parts of preparing, one after the other.
-use Rattle.std.proofs.Common.{◌≡◌, ◌∙◌, inl, inr, ℕ, ◌+◌, ◌<◌, ◌≤◌, Bool, List, Result, Ok, Err, sym, ap, subst, arith}
-use Rattle.std.specs.Prelude.{OnOk, OnErr, slice_index_or}
-use Rattle.std.proofs.lemmas.Bool.{cases_lt}
-use Rattle.model.specs.Machine.{touched_count}
-use Rattle.device.specs.Disk.{Disk, Image}
-use Rattle.migrator.specs.Durable.{stored_of}
-use Rattle.object_cache.specs.StoreState.{StoreState, GoesOnIn}
-use Rattle.object_cache.specs.Prepared.{on_device_with, readied}
-use Rattle.object_cache.specs.PresentLaws.{goes_on_same}
+use Rattle.object_cache.proofs.Names.{◌≡◌, ◌∙◌, inl, inr, ℕ, ◌+◌, ◌<◌, ◌≤◌, Bool, List, Result, Ok, Err, sym, ap, subst, arith, OnOk, OnErr, slice_index_or}
+use Rattle.object_cache.proofs.Names.{cases_lt, touched_count, Disk, Image, stored_of, StoreState, GoesOnIn, on_device_with, readied, goes_on_same}
 use Rattle.object_cache.proofs.Leading.{geometry_stays, leads_seats}
 
 -- what holds of the items before one holds of those before the next

@@ -1,20 +1,9 @@
 -- What is fetched and announced stays so while present objects change.
-use Rattle.std.proofs.Common.{◌≡◌, ◌≢◌, inl, inr, ℕ, ◌<◌, List, length, set, Option, Some, None, is_some, refl, sym, ap, ◌∙◌, arith, length-set}
-use Rattle.std.proofs.lemmas.Bool.{cases_eq}
-use Rattle.std.proofs.lemmas.List.{get_or-set_same, get_or-set_other}
-use Rattle.model.specs.declared.capability.Cap.{Cap}
-use Rattle.model.specs.declared.frame.ObjectHeader.{ObjectHeader}
-use Rattle.model.specs.declared.object.Content.{Content}
+use Rattle.object_cache.proofs.Names.{◌≡◌, ◌≢◌, inl, inr, ℕ, ◌<◌, List, length, set, Option, Some, None, is_some, refl, sym, ap, ◌∙◌, arith, length-set}
+use Rattle.object_cache.proofs.Names.{cases_eq, get_or-set_same, get_or-set_other, Cap, ObjectHeader, Content, blank_header, header_at, void_held, role_of}
+use Rattle.object_cache.proofs.Names.{Image, Disk, peeks_started, goes_none, Fresh, fresh_content, StoreState, IsFetchedIn, IsAnnouncedIn, GoesOnIn}
 use Rattle.model.specs.declared.object.Role.TheVariants as role
-use Rattle.model.specs.Frame.{blank_header, header_at, void_held}
-use Rattle.model.specs.Object.{role_of}
-use Rattle.device.specs.Disk.{Image, Disk}
-use Rattle.device.proofs.Moments.{peeks_started}
-use Rattle.migrator.proofs.Moving.{goes_none}
-use Rattle.capability.specs.declared.present.Fresh.{Fresh}
 use Rattle.capability.specs.declared.present.Fresh.TheVariants as fresh
-use Rattle.capability.specs.Parts.{fresh_content}
-use Rattle.object_cache.specs.StoreState.{StoreState, IsFetchedIn, IsAnnouncedIn, GoesOnIn}
 use Rattle.object_cache.proofs.Bringing.{still_seated}
 
 -- a header of the same role leaves all roles

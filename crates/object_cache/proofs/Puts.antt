@@ -1,26 +1,11 @@
 -- The present body of an object in an entry is put, or was to be.
-use Rattle.std.proofs.Common.{◌≡◌, ◌≢◌, ◌⊎◌, inl, inr, ℕ, zero, suc, ◌<◌, ◌≤◌, Bool, true, false, true≢false, cond, List, [], ◌∷◌, length, set, Option, Some, option_map, refl, sym, ap, subst, ◌∙◌, arith, length-set}
-use Rattle.std.proofs.lemmas.Bool.{cases_eq}
-use Rattle.std.proofs.lemmas.List.{get_or-set_same, get_or-set_other, get_or_past}
-use Rattle.std.proofs.lemmas.List.Sums.{sum_by-cons}
-use Rattle.std.proofs.lemmas.Option.{none-some}
-use Rattle.model.specs.declared.capability.Cap.{Cap}
-use Rattle.model.specs.declared.frame.Frame.{Frame}
-use Rattle.model.specs.declared.frame.ObjectHeader.{ObjectHeader}
-use Rattle.model.specs.declared.object.Content.{Content}
-use Rattle.model.specs.Frame.{header_at, held_at}
-use Rattle.model.specs.Keepable.{IsKeepable}
-use Rattle.model.specs.Machine.{touched_count}
-use Rattle.device.specs.Disk.{Disk}
-use Rattle.migrator.specs.Put.{Put, Absent, Broken, Kept, put_at, held_slot, sum_of, HasRoom}
-use Rattle.checkpoint.specs.Saved.{most}
-use Rattle.migrator.specs.Durable.{DurableState, Stored, GoesOn, stored_of, with_working}
-use Rattle.checkpoint.proofs.Lists.{maps_same}
-use Rattle.cache_entries.specs.declared.entry.Entry.{Entry}
-use Rattle.cache_entries.specs.Entries.{entry_at, present_of}
-use Rattle.object_cache.specs.Memory.{Memory, mark_at, put_body, present_body, content_at, present_at, newest_body, below_body, contents_in, frozen_in, owed_in}
-use Rattle.object_cache.specs.StoreState.{StoreState, IsCache, IsFetchedIn, GoesOnIn, cache_of, is_kept, frozen_seen}
-use Rattle.cache_entries.proofs.Arenas.{some_of}
+use Rattle.object_cache.proofs.Names.{◌≡◌, ◌≢◌, ◌⊎◌, inl, inr, ℕ, zero, suc, ◌<◌, ◌≤◌, Bool, true, false, true≢false, cond, List, [], ◌∷◌, length, set, Option}
+use Rattle.object_cache.proofs.Names.{Some, option_map, refl, sym, ap, subst, ◌∙◌, arith, length-set, cases_eq, get_or-set_same, get_or-set_other, get_or_past}
+use Rattle.object_cache.proofs.Names.{sum_by-cons, none-some, Cap, Frame, ObjectHeader, Content, header_at, held_at, IsKeepable, touched_count, Disk, Put}
+use Rattle.object_cache.proofs.Names.{Absent, Broken, Kept, put_at, held_slot, sum_of, HasRoom, most, DurableState, Stored, GoesOn, stored_of, with_working}
+use Rattle.object_cache.proofs.Names.{maps_same, Entry, entry_at, present_of, Memory, mark_at, put_body, present_body, content_at, present_at, newest_body}
+use Rattle.object_cache.proofs.Names.{below_body, contents_in, frozen_in, owed_in, StoreState, IsCache, IsFetchedIn, GoesOnIn, cache_of, is_kept, frozen_seen}
+use Rattle.object_cache.proofs.Names.{some_of}
 use Rattle.object_cache.proofs.Objects.{has_entry, fetched_known, content_in, present_is}
 
 -- ---- slots

@@ -1,27 +1,13 @@
 -- The frozen frame of an object is put of which an entry has the frozen body, or was to be.
-use Rattle.std.proofs.Common.{◌≡◌, ◌≢◌, inl, inr, ℕ, ◌<◌, ◌≤◌, Bool, true, false, true≢false, cond, ◌||◌, List, length, map, set, Option, Some, None, option_map, refl, sym, ap, subst, ◌∙◌, arith, length-set}
-use Rattle.std.specs.Prelude.{count_by}
-use Rattle.std.specs.List.{range_with_len}
-use Rattle.std.proofs.lemmas.Bool.{cases_eq, cases_lt, eq-eqb, ne_eqb}
-use Rattle.std.proofs.lemmas.List.{get_or-set_same, get_or-set_other, get_or_past}
-use Rattle.std.proofs.lemmas.List.FromFn.{length-map-range_with_len, get_or-map-range_with_len}
-use Rattle.std.proofs.lemmas.Option.{none-some, same_Some}
-use Rattle.model.specs.declared.capability.Cap.{Cap}
-use Rattle.model.specs.declared.frame.Frame.{Frame}
-use Rattle.model.specs.declared.frame.ObjectHeader.{ObjectHeader}
-use Rattle.model.specs.declared.object.Content.{Content}
-use Rattle.model.specs.Frame.{blank_frame, header_at}
-use Rattle.model.specs.Keepable.{IsKeepable}
-use Rattle.device.specs.Disk.{Disk}
-use Rattle.migrator.specs.Put.{Put, Absent, Broken, Kept, put_at, HasRoom}
-use Rattle.checkpoint.specs.Saved.{most}
-use Rattle.migrator.specs.Durable.{DurableState, FrozenPuts, Stored, GoesOn, below_at, stored_of, with_frozen}
-use Rattle.object_store.specs.Store.{FrozenFrames}
-use Rattle.cache_entries.specs.declared.entry.Entry.{Entry}
-use Rattle.object_cache.specs.declared.held.Held.{Held}
-use Rattle.cache_entries.specs.Entries.{entry_at, with_entry, keeping}
-use Rattle.object_cache.specs.Memory.{Memory, Owed, Nothing, mark_at, in_hand, let_go, own_body, own_frame, present_body, content_at, newest_body, below_body, apart_body, frozen_body, frozen_frame, frozen_at, owed_of, owed_body, owed_in_memory, contents_in, frozen_in, owed_in}
-use Rattle.object_cache.specs.StoreState.{StoreState, IsCache, IsFetchedIn, GoesOnIn, cache_of, frozen_seen, is_kept, owed_at, seats_in}
+use Rattle.object_cache.proofs.Names.{◌≡◌, ◌≢◌, inl, inr, ℕ, ◌<◌, ◌≤◌, Bool, true, false, true≢false, cond, ◌||◌, List, length, map, set, Option, Some, None}
+use Rattle.object_cache.proofs.Names.{option_map, refl, sym, ap, subst, ◌∙◌, arith, length-set, count_by, range_with_len, cases_eq, cases_lt, eq-eqb, ne_eqb}
+use Rattle.object_cache.proofs.Names.{get_or-set_same, get_or-set_other, get_or_past, length-map-range_with_len, get_or-map-range_with_len, none-some}
+use Rattle.object_cache.proofs.Names.{same_Some, Cap, Frame, ObjectHeader, Content, blank_frame, header_at, IsKeepable, Disk, Put, Absent, Broken, Kept, put_at}
+use Rattle.object_cache.proofs.Names.{HasRoom, most, DurableState, FrozenPuts, Stored, GoesOn, below_at, stored_of, with_frozen, FrozenFrames, Entry, Held}
+use Rattle.object_cache.proofs.Names.{entry_at, with_entry, keeping, Memory, Owed, Nothing, mark_at, in_hand, let_go, own_body, own_frame, present_body}
+use Rattle.object_cache.proofs.Names.{content_at, newest_body, below_body, apart_body, frozen_body, frozen_frame, frozen_at, owed_of, owed_body, owed_in_memory}
+use Rattle.object_cache.proofs.Names.{contents_in, frozen_in, owed_in, StoreState, IsCache, IsFetchedIn, GoesOnIn, cache_of, frozen_seen, is_kept, owed_at}
+use Rattle.object_cache.proofs.Names.{seats_in}
 use Rattle.object_cache.proofs.Apart.{seats_keep}
 use Rattle.object_cache.proofs.FrozenPuts.{Releases, one_fewer, with_frame, without_pending, frozen_put_cache, contents_same, frozen_seen_same, owed_now}
 use Rattle.object_cache.proofs.FrozenTorn.{torn_cache, torn_contents_same, torn_seen_same}

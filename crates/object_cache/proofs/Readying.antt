@@ -1,24 +1,11 @@
 -- Numbers are made ready to be written: room, and what was frozen, are put aside, and marks come last.
-use Rattle.std.proofs.Common.{◌≡◌, ◌≢◌, inl, inr, ℕ, ◌<◌, ◌≤◌, Bool, List, length, set, Option, Some, None, IsSome, is_some, true, true≢false, refl, sym, ap, subst, ◌∙◌, arith}
-use Rattle.std.specs.List.{Contains}
-use Rattle.std.proofs.lemmas.Bool.{cases_eq}
-use Rattle.std.proofs.lemmas.List.{get_or-set_same, get_or-set_other}
-use Rattle.std.proofs.lemmas.List.FromFn.{length-map-range_with_len}
-use Rattle.model.specs.declared.capability.Cap.{Cap}
-use Rattle.model.specs.declared.object.Content.{Content}
+use Rattle.object_cache.proofs.Names.{◌≡◌, ◌≢◌, inl, inr, ℕ, ◌<◌, ◌≤◌, Bool, List, length, set, Option, Some, None, IsSome, is_some, true, true≢false, refl}
+use Rattle.object_cache.proofs.Names.{sym, ap, subst, ◌∙◌, arith, Contains, cases_eq, get_or-set_same, get_or-set_other, length-map-range_with_len, Cap}
+use Rattle.object_cache.proofs.Names.{Content, header_at, touched_count, touching, Image, Disk, peeks_started, DurableState, stored_of, goes_none, room_at}
+use Rattle.object_cache.proofs.Names.{Memory, content_at, contents_in, mark_at, StoreState, IsCache, IsFetchedIn, IsAnnouncedIn, GoesOnIn, cache_of, on_device}
+use Rattle.object_cache.proofs.Names.{seat_at, HasRoomIn, on_device_with, goes_on_same}
 use Rattle.model.specs.declared.object.Role.TheVariants as role
-use Rattle.model.specs.Frame.{header_at}
-use Rattle.model.specs.Machine.{touched_count, touching}
-use Rattle.device.specs.Disk.{Image, Disk}
-use Rattle.device.proofs.Moments.{peeks_started}
-use Rattle.migrator.specs.Durable.{DurableState, stored_of}
-use Rattle.migrator.proofs.Moving.{goes_none}
-use Rattle.capability.specs.Plain.{room_at}
-use Rattle.object_cache.specs.Memory.{Memory, content_at, contents_in, mark_at}
-use Rattle.object_cache.specs.StoreState.{StoreState, IsCache, IsFetchedIn, IsAnnouncedIn, GoesOnIn, cache_of, on_device, seat_at}
-use Rattle.object_cache.specs.Prepared.{HasRoomIn, on_device_with}
 use Rattle.object_cache.proofs.Bringing.{seat_within, still_seated}
-use Rattle.object_cache.specs.PresentLaws.{goes_on_same}
 use Rattle.object_cache.proofs.Leading.{leads_seats}
 use Rattle.object_cache.proofs.Marks.{all_marked, listed_is_marked}
 

@@ -1,17 +1,9 @@
 -- Another room lies aside for a number that has an entry.
-use Rattle.std.proofs.Common.{◌≡◌, inl, inr, ℕ, ◌<◌, Bool, true, false, List, length, set, Option, Some, None, option_map, refl, sym, ap, ◌∙◌, arith, length-set}
-use Rattle.std.proofs.lemmas.List.{get_or-set_same, get_or-set_other}
-use Rattle.std.proofs.lemmas.Option.{none-some, same_Some}
-use Rattle.model.specs.declared.capability.Cap.{Cap}
-use Rattle.model.specs.declared.object.Content.{Content}
-use Rattle.model.specs.Frame.{header_at}
-use Rattle.device.specs.Disk.{Disk}
-use Rattle.migrator.specs.Durable.{DurableState, Stored, below_at, stored_of}
-use Rattle.cache_entries.specs.declared.entry.Entry.{Entry}
-use Rattle.cache_entries.specs.Entries.{entry_at, with_entry, reserving, room_of}
-use Rattle.object_cache.specs.Memory.{Memory, mark_at, present_body, newest_body, below_body, frozen_body, frozen_frame, owed_of, owed_in_memory, owed_in}
-use Rattle.object_cache.specs.StoreState.{StoreState, IsCache, IsFetchedIn, cache_of, seats_in}
-use Rattle.cache_entries.proofs.Arenas.{some_of}
+use Rattle.object_cache.proofs.Names.{◌≡◌, inl, inr, ℕ, ◌<◌, Bool, true, false, List, length, set, Option, Some, None, option_map, refl, sym, ap, ◌∙◌, arith}
+use Rattle.object_cache.proofs.Names.{length-set, get_or-set_same, get_or-set_other, none-some, same_Some, Cap, Content, header_at, Disk, DurableState, Stored}
+use Rattle.object_cache.proofs.Names.{below_at, stored_of, Entry, entry_at, with_entry, reserving, room_of, Memory, mark_at, present_body, newest_body}
+use Rattle.object_cache.proofs.Names.{below_body, frozen_body, frozen_frame, owed_of, owed_in_memory, owed_in, StoreState, IsCache, IsFetchedIn, cache_of}
+use Rattle.object_cache.proofs.Names.{seats_in, some_of}
 use Rattle.object_cache.proofs.Changing.{with_objects}
 use Rattle.object_cache.proofs.Objects.{has_entry, fetched_known}
 use Rattle.object_cache.proofs.Seating.{Reseats, seated_cache, owed_stay, seen_seated, seats_set}

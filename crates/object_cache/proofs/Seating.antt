@@ -1,29 +1,13 @@
 -- A number gets an entry, or has one no more: no object and no frozen frame is another.
-use Rattle.std.proofs.Common.{◌≡◌, ◌≢◌, ◌⊎◌, inl, inr, ℕ, ◌<◌, Bool, true, false, true≢false, cond, List, ◌∷◌, length, set, Option, Some, None, option_map, refl, sym, ap, subst, ◌∙◌, arith, length-set}
-use Rattle.std.proofs.lemmas.Bool.{cases_eq, ne_eqb}
-use Rattle.std.proofs.lemmas.List.{get_or-set_same, get_or-set_other, map-set}
-use Rattle.std.proofs.lemmas.List.FromFn.{get_or-map-range_with_len}
-use Rattle.std.proofs.lemmas.Option.{none-some, same_Some}
-use Rattle.model.specs.declared.capability.Cap.{Cap}
-use Rattle.model.specs.declared.frame.Frame.{Frame}
-use Rattle.model.specs.declared.object.Content.{Content}
+use Rattle.object_cache.proofs.Names.{◌≡◌, ◌≢◌, ◌⊎◌, inl, inr, ℕ, ◌<◌, Bool, true, false, true≢false, cond, List, ◌∷◌, length, set, Option, Some, None}
+use Rattle.object_cache.proofs.Names.{option_map, refl, sym, ap, subst, ◌∙◌, arith, length-set, cases_eq, ne_eqb, get_or-set_same, get_or-set_other, map-set}
+use Rattle.object_cache.proofs.Names.{get_or-map-range_with_len, none-some, same_Some, Cap, Frame, Content, Role, header_at, held_at, AreKeepable, Disk, Put}
+use Rattle.object_cache.proofs.Names.{Kept, put_at, most, DurableState, FrozenPuts, Stored, below_at, stored_of, maps_same, map_set, Entry, Held, entry_at}
+use Rattle.object_cache.proofs.Names.{room_of, Memory, Owed, Nothing, mark_at, masked, in_hand, put_body, present_body, content_at, present_at, newest_body}
+use Rattle.object_cache.proofs.Names.{below_body, apart_body, frozen_body, frozen_frame, frozen_at, owed_of, owed_body, owed_in_memory, contents_in, frozen_in}
+use Rattle.object_cache.proofs.Names.{owed_in, StoreState, IsCache, IsFetchedIn, cache_of, is_kept, newly_owed, owed_at, seat_at, seats_in, with_seat, without}
 use Rattle.model.specs.declared.object.Content.TheVariants as content
-use Rattle.model.specs.declared.object.Role.{Role}
 use Rattle.model.specs.declared.object.Role.TheVariants as role
-use Rattle.model.specs.Frame.{header_at, held_at}
-use Rattle.model.specs.Keepable.{AreKeepable}
-use Rattle.device.specs.Disk.{Disk}
-use Rattle.migrator.specs.Put.{Put, Kept, put_at}
-use Rattle.checkpoint.specs.Saved.{most}
-use Rattle.migrator.specs.Durable.{DurableState, FrozenPuts, Stored, below_at, stored_of}
-use Rattle.checkpoint.proofs.Lists.{maps_same}
-use Rattle.migrator.proofs.Kept.{map_set}
-use Rattle.cache_entries.specs.declared.entry.Entry.{Entry}
-use Rattle.object_cache.specs.declared.held.Held.{Held}
-use Rattle.cache_entries.specs.Entries.{entry_at, room_of}
-use Rattle.object_cache.specs.Memory.{Memory, Owed, Nothing, mark_at, masked, in_hand, put_body, present_body, content_at, present_at, newest_body, below_body, apart_body, frozen_body, frozen_frame, frozen_at, owed_of, owed_body, owed_in_memory, contents_in, frozen_in, owed_in}
-use Rattle.object_cache.specs.StoreState.{StoreState, IsCache, IsFetchedIn, cache_of, is_kept, newly_owed, owed_at, seat_at, seats_in, with_seat}
-use Rattle.cache_entries.specs.Order.{without}
 use Rattle.object_cache.proofs.Changing.{with_objects}
 use Rattle.object_cache.proofs.Objects.{content_in, seat_in}
 

@@ -1,28 +1,13 @@
 -- The frozen frame of the body in the hand is put, or was to be.
-use Rattle.std.proofs.Common.{◌≡◌, ◌⊎◌, inl, inr, ℕ, ◌<◌, ◌≤◌, Bool, true, false, true≢false, cond, List, length, set, Option, Some, None, option_map, refl, sym, ap, subst, ◌∙◌, arith}
-use Rattle.std.specs.Prelude.{count_by}
-use Rattle.std.proofs.lemmas.Bool.{cases_lt, eq-eqb, ne_eqb}
-use Rattle.std.proofs.lemmas.List.{get_or-set_same, get_or_past}
-use Rattle.std.proofs.lemmas.Option.{none-some, same_Some}
-use Rattle.model.specs.declared.capability.Cap.{Cap}
-use Rattle.model.specs.declared.frame.Frame.{Frame}
-use Rattle.model.specs.declared.frame.ObjectHeader.{ObjectHeader}
-use Rattle.model.specs.declared.object.Content.{Content}
+use Rattle.object_cache.proofs.Names.{◌≡◌, ◌⊎◌, inl, inr, ℕ, ◌<◌, ◌≤◌, Bool, true, false, true≢false, cond, List, length, set, Option, Some, None, option_map}
+use Rattle.object_cache.proofs.Names.{refl, sym, ap, subst, ◌∙◌, arith, count_by, cases_lt, eq-eqb, ne_eqb, get_or-set_same, get_or_past, none-some, same_Some}
+use Rattle.object_cache.proofs.Names.{Cap, Frame, ObjectHeader, Content, Role, frame_at, header_at, IsKeepable, Disk, Put, Absent, Broken, Kept, put_at, put_or}
+use Rattle.object_cache.proofs.Names.{HasRoom, most, DurableState, FrozenPuts, Stored, GoesOn, below_at, frozen_put, stored_of, with_frozen, with_put}
+use Rattle.object_cache.proofs.Names.{FrozenFrames, Entry, Held, entry_at, Memory, Owed, Nothing, mark_at, masked, in_hand, put_body, present_body, content_at}
+use Rattle.object_cache.proofs.Names.{newest_body, below_body, apart_body, frozen_body, frozen_frame, frozen_at, owed_of, owed_in_memory, contents_in, owed_in}
+use Rattle.object_cache.proofs.Names.{StoreState, IsCache, GoesOnIn, cache_of, frozen_seen, is_kept, on_device, owed_at}
 use Rattle.model.specs.declared.object.Content.TheVariants as content
-use Rattle.model.specs.declared.object.Role.{Role}
 use Rattle.model.specs.declared.object.Role.TheVariants as role
-use Rattle.model.specs.Frame.{frame_at, header_at}
-use Rattle.model.specs.Keepable.{IsKeepable}
-use Rattle.device.specs.Disk.{Disk}
-use Rattle.migrator.specs.Put.{Put, Absent, Broken, Kept, put_at, put_or, HasRoom}
-use Rattle.checkpoint.specs.Saved.{most}
-use Rattle.migrator.specs.Durable.{DurableState, FrozenPuts, Stored, GoesOn, below_at, frozen_put, stored_of, with_frozen, with_put}
-use Rattle.object_store.specs.Store.{FrozenFrames}
-use Rattle.cache_entries.specs.declared.entry.Entry.{Entry}
-use Rattle.object_cache.specs.declared.held.Held.{Held}
-use Rattle.cache_entries.specs.Entries.{entry_at}
-use Rattle.object_cache.specs.Memory.{Memory, Owed, Nothing, mark_at, masked, in_hand, put_body, present_body, content_at, newest_body, below_body, apart_body, frozen_body, frozen_frame, frozen_at, owed_of, owed_in_memory, contents_in, owed_in}
-use Rattle.object_cache.specs.StoreState.{StoreState, IsCache, GoesOnIn, cache_of, frozen_seen, is_kept, on_device, owed_at}
 use Rattle.object_cache.proofs.FrozenPuts.{Releases, one_fewer, with_frame, without_pending, frozen_put_cache, contents_same, frozen_seen_same, owed_now}
 use Rattle.object_cache.proofs.FrozenTorn.{torn_cache, torn_contents_same, torn_seen_same}
 use Rattle.object_cache.proofs.Leading.{same_put}

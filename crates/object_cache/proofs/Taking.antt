@@ -1,22 +1,9 @@
 -- The frozen body of an object is taken up from below the entries: nothing that is seen is another but the hand.
-use Rattle.std.proofs.Common.{◌≡◌, inl, inr, ℕ, ◌<◌, ◌≤◌, Bool, true, cond, List, length, Option, Some, None, option_map, refl, sym, ap, subst, ◌∙◌, arith}
-use Rattle.std.proofs.lemmas.Bool.{cases_eq, eq-eqb, ne_eqb}
-use Rattle.std.proofs.lemmas.Option.{same_Some}
-use Rattle.model.specs.declared.capability.Cap.{Cap}
-use Rattle.model.specs.declared.frame.Frame.{Frame}
-use Rattle.model.specs.declared.object.Content.{Content}
-use Rattle.model.specs.Frame.{header_at}
-use Rattle.model.specs.Keepable.{AreKeepable}
-use Rattle.model.specs.Sound.{object_count}
-use Rattle.device.specs.Disk.{Disk}
-use Rattle.migrator.specs.Put.{Kept, put_at}
-use Rattle.checkpoint.specs.Saved.{most}
-use Rattle.migrator.specs.Durable.{DurableState, FrozenPuts, Stored, ReadsStore, below_at, stored_of}
-use Rattle.checkpoint.proofs.Lists.{maps_same}
-use Rattle.object_cache.specs.declared.held.Held.{Held}
-use Rattle.cache_entries.specs.Entries.{entry_at}
-use Rattle.object_cache.specs.Memory.{Memory, Owed, mark_at, in_hand, put_body, below_body, present_body, content_at, present_at, frozen_body, frozen_frame, frozen_at, contents_in, frozen_in, owed_in}
-use Rattle.object_cache.specs.StoreState.{StoreState, IsCache, GoesOnIn, cache_of, frozen_seen}
+use Rattle.object_cache.proofs.Names.{◌≡◌, inl, inr, ℕ, ◌<◌, ◌≤◌, Bool, true, cond, List, length, Option, Some, None, option_map, refl, sym, ap, subst, ◌∙◌}
+use Rattle.object_cache.proofs.Names.{arith, cases_eq, eq-eqb, ne_eqb, same_Some, Cap, Frame, Content, header_at, AreKeepable, object_count, Disk, Kept, put_at}
+use Rattle.object_cache.proofs.Names.{most, DurableState, FrozenPuts, Stored, ReadsStore, below_at, stored_of, maps_same, Held, entry_at, Memory, Owed, mark_at}
+use Rattle.object_cache.proofs.Names.{in_hand, put_body, below_body, present_body, content_at, present_at, frozen_body, frozen_frame, frozen_at, contents_in}
+use Rattle.object_cache.proofs.Names.{frozen_in, owed_in, StoreState, IsCache, GoesOnIn, cache_of, frozen_seen}
 use Rattle.object_cache.proofs.Fetched.{read_seen, read_leads}
 use Rattle.object_cache.proofs.Leading.{leads_hand}
 use Rattle.object_cache.proofs.Settling.{marked_within}

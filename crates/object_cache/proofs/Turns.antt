@@ -1,17 +1,8 @@
 -- Frozen frames are put in turn, and as many fewer are said to be left.
-use Rattle.std.proofs.Common.{◌≡◌, ℕ, ◌+◌, ◌-◌, ◌<◌, ◌≤◌, Bool, false, true≢false, List, [], Option, Some, None, option_map, is_some, refl, sym, ap, subst, ◌∙◌, arith}
-use Rattle.std.specs.Prelude.{count_by}
-use Rattle.std.proofs.lemmas.Option.{none-some, same_Some}
-use Rattle.number_set.specs.Marks.{HasNoneMarked}
-use Rattle.model.specs.declared.frame.Frame.{Frame}
-use Rattle.device.specs.Disk.{Image, Disk}
-use Rattle.migrator.specs.Durable.{DurableState, FrozenPuts, stored_of}
-use Rattle.migrator.proofs.Moving.{goes_trans}
-use Rattle.object_store.specs.Store.{FrozenFrames, Aside, stabilized}
-use Rattle.object_cache.specs.declared.held.Held.{Held}
-use Rattle.object_cache.specs.Memory.{Memory, frozen_in}
-use Rattle.object_cache.specs.StoreState.{StoreState, IsCache, AreFrozen, GoesOnIn, PutsBy, aside_of, cache_of, on_device, on_device_frozen, pending_count}
-use Rattle.object_cache.specs.PresentLaws.{goes_on_same}
+use Rattle.object_cache.proofs.Names.{◌≡◌, ℕ, ◌+◌, ◌-◌, ◌<◌, ◌≤◌, Bool, false, true≢false, List, [], Option, Some, None, option_map, is_some, refl, sym, ap}
+use Rattle.object_cache.proofs.Names.{subst, ◌∙◌, arith, count_by, none-some, same_Some, HasNoneMarked, Frame, Image, Disk, DurableState, FrozenPuts, stored_of}
+use Rattle.object_cache.proofs.Names.{goes_trans, FrozenFrames, Aside, stabilized, Held, Memory, frozen_in, StoreState, IsCache, AreFrozen, GoesOnIn, PutsBy}
+use Rattle.object_cache.proofs.Names.{aside_of, cache_of, on_device, on_device_frozen, pending_count, goes_on_same}
 use Rattle.object_cache.proofs.Freezing.{fewer_of}
 
 pub empty_of : (o : Option Held) → is_some o ≡ false → o ≡ None

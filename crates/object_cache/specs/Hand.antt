@@ -1,7 +1,5 @@
 -- The body in the hand, and the room that is spare beside it.
-use Rattle.std.specs.Prelude.{◌≡◌, ℕ, Bool, true, false, Option, Some, None, List, is_some}
-use Rattle.model.specs.declared.capability.Cap.{Cap}
-use Rattle.model.specs.declared.object.Content.{Content}
+use Rattle.object_cache.specs.Names.{◌≡◌, ℕ, Bool, true, false, Option, Some, None, List, is_some, Cap, Content}
 use Rattle.model.specs.declared.object.Content.TheVariants as content
 use Rattle.object_cache.specs.declared.held.Held.{Held}
 

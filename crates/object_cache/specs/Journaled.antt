@@ -1,10 +1,5 @@
 -- What a page holds now that is to be journaled.
-use Rattle.std.specs.Prelude.{ℕ, Option, Some, None, List}
-use Rattle.model.specs.declared.capability.Cap.{Cap}
-use Rattle.model.specs.declared.object.Content.{Content}
-use Rattle.migrator.specs.Durable.{Stored, newest}
-use Rattle.cache_entries.specs.declared.entry.Entry.{Entry}
-use Rattle.cache_entries.specs.Entries.{entry_at}
+use Rattle.object_cache.specs.Names.{ℕ, Option, Some, None, List, Cap, Content, Stored, newest, Entry, entry_at}
 
 -- what its entry holds or, where it has none, the newest body on the device
 abbrev pub entry_body : Option Entry → Content Cap → Content Cap

@@ -1,6 +1,7 @@
 pub use Rattle.cache_entries.specs.Entries
 pub use Rattle.cache_entries.specs.Order
 pub use Rattle.object_store.specs.Store
+pub mod Names
 pub mod Memory
 pub mod Hand
 pub mod StoreState

@@ -1,19 +1,9 @@
 -- Where the bodies of objects are: in an entry, in the hand, or on the device.
-use Rattle.std.specs.Prelude.{◌==◌, if◌then◌else◌, ℕ, Bool, true, false, Option, Some, None, List, length, map, slice_index_or}
-use Rattle.std.specs.List.{range_with_len}
-use Rattle.model.specs.declared.capability.Cap.{Cap}
-use Rattle.model.specs.declared.frame.Frame.{Frame}
-use Rattle.model.specs.declared.frame.ObjectHeader.{ObjectHeader}
-use Rattle.model.specs.declared.object.Content.{Content}
+use Rattle.object_cache.specs.Names.{◌==◌, if◌then◌else◌, ℕ, Bool, true, false, Option, Some, None, List, length, map, slice_index_or, range_with_len, Cap}
+use Rattle.object_cache.specs.Names.{Frame, ObjectHeader, Content, Role, header_at, Put, Absent, Broken, Kept, put_at, Stored, below_at, Entry, entry_at}
 use Rattle.model.specs.declared.object.Content.TheVariants as content
-use Rattle.model.specs.declared.object.Role.{Role}
 use Rattle.model.specs.declared.object.Role.TheVariants as role
-use Rattle.model.specs.Frame.{header_at}
-use Rattle.migrator.specs.Put.{Put, Absent, Broken, Kept, put_at}
-use Rattle.migrator.specs.Durable.{Stored, below_at}
-use Rattle.cache_entries.specs.declared.entry.Entry.{Entry}
 use Rattle.object_cache.specs.declared.held.Held.{Held}
-use Rattle.cache_entries.specs.Entries.{entry_at}
 
 -- What a bounded cache has in memory beside the durable store: headers, and those that were frozen; which numbers were
 -- written since the last checkpoint began, which of them weren't put since they were, and which have a frozen frame that

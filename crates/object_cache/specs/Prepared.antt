@@ -1,11 +1,6 @@
 -- What numbers have once they are prepared.
-use Rattle.std.specs.Prelude.{◌≡◌, ℕ, true, Some, IsSome, take}
+use Rattle.object_cache.specs.Names.{◌≡◌, ℕ, true, Some, IsSome, take, header_at, is_member, Disk, stored_of, room_at}
 use Rattle.model.specs.declared.object.Role.TheVariants as role
-use Rattle.model.specs.Frame.{header_at}
-use Rattle.model.specs.Revoke.{is_member}
-use Rattle.device.specs.Disk.{Disk}
-use Rattle.migrator.specs.Durable.{stored_of}
-use Rattle.capability.specs.Plain.{room_at}
 use Rattle.object_cache.specs.StoreState.{StoreState, IsFetchedIn, on_device, seat_at}
 
 -- a number has an entry, and is among the `k` numbers used last

@@ -1,11 +1,7 @@
 -- What is seen of a store goes on while its objects change.
-use Rattle.std.proofs.Common.{ℕ, Bool, ◌≤◌, refl, ap, ◌∙◌, arith, length-set}
-use Rattle.model.specs.declared.capability.Cap.{Cap}
-use Rattle.model.specs.declared.object.Content.{Content}
-use Rattle.device.specs.Disk.{Image, Disk}
-use Rattle.device.proofs.Moments.{ends, leaves_on, leaves_weaker, peeks_started}
-use Rattle.migrator.proofs.Moving.{goes_trans, goes_none}
-use Rattle.object_store.specs.Store.{Aside}
+use Rattle.object_cache.specs.Names.{◌≤◌, refl, ap, ◌∙◌, arith, length-set, Cap, Content, Image, Disk, ends, leaves_on, leaves_weaker, peeks_started}
+use Rattle.object_cache.specs.Names.{goes_trans, goes_none, Aside}
+use Rattle.std.proofs.Common.{ℕ, Bool}
 use Rattle.object_cache.specs.StoreState.{StoreState, GoesOnIn, LeadsIn, IsFetchedIn, IsAnnouncedIn, with_content_in}
 
 module _ {D : Type 0} where

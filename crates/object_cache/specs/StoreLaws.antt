@@ -1,9 +1,5 @@
 -- What a store promises of its device while its present objects change.
-use Rattle.std.proofs.Common.{refl}
-use Rattle.device.specs.Disk.{Image, Disk}
-use Rattle.migrator.specs.Durable.{saved_state, seen_of, stored_of, is_sound}
-use Rattle.checkpoint.specs.Saved.{Holds}
-use Rattle.object_store.specs.Store.{Leads}
+use Rattle.object_cache.specs.Names.{refl, Image, Disk, saved_state, seen_of, stored_of, is_sound, Holds, Leads}
 use Rattle.object_cache.specs.StoreState.{StoreState, GoesOnIn, view_of}
 
 module _ {D : Type 0} (disk : D → Disk) where

@@ -1,31 +1,14 @@
 -- The store of objects: what is seen of it, and what always holds.
-use Rattle.std.specs.Prelude.{◌≡◌, ◌⊎◌, ℕ, ◌<◌, ◌≤◌, Bool, true, false, Option, Some, None, IsSome, is_some, option_map, count_by, List, [], ◌∷◌, length, map, replicate, slice_index_or, slice_set, ◌||◌}
-use Rattle.std.specs.List.{range_with_len}
-use Rattle.model.specs.declared.capability.Cap.{Cap}
-use Rattle.model.specs.declared.frame.ObjectHeader.{ObjectHeader}
-use Rattle.model.specs.declared.object.Content.{Content}
+use Rattle.object_cache.specs.Names.{◌≡◌, ◌⊎◌, ℕ, ◌<◌, Bool, true, false, Option, Some, None, IsSome, is_some, option_map, count_by, List, [], ◌∷◌, length, map}
+use Rattle.object_cache.specs.Names.{replicate, slice_index_or, slice_set, ◌||◌, range_with_len, Cap, ObjectHeader, Content, Frame, header_at, headers}
+use Rattle.object_cache.specs.Names.{AreKeepable, touched_count, untouched, is_member, object_count, Disk, Peeks, Put, Absent, Broken, Kept, put_at, most}
+use Rattle.object_cache.specs.Names.{DurableState, FrozenPuts, Stored, GoesOn, saved_state, seen_of, stored_of, is_sound, SavedState, Parts, HaveTheirRoles}
+use Rattle.object_cache.specs.Names.{room_at, FrozenFrames, Aside, View, stabilized, Entry, entry_at, room_of, AllDiffer, without}
+use Rattle.std.specs.Prelude.{◌≤◌}
 use Rattle.model.specs.declared.object.Content.TheVariants as content
 use Rattle.model.specs.declared.object.Role.TheVariants as role
-use Rattle.model.specs.declared.frame.Frame.{Frame}
-use Rattle.model.specs.Frame.{header_at, headers}
-use Rattle.model.specs.Keepable.{AreKeepable}
-use Rattle.model.specs.Machine.{touched_count, untouched}
-use Rattle.model.specs.Revoke.{is_member}
-use Rattle.model.specs.Sound.{object_count}
-use Rattle.device.specs.Disk.{Disk}
-use Rattle.device.specs.Moments.{Peeks}
-use Rattle.migrator.specs.Put.{Put, Absent, Broken, Kept, put_at}
-use Rattle.checkpoint.specs.Saved.{most}
-use Rattle.migrator.specs.Durable.{DurableState, FrozenPuts, Stored, GoesOn, saved_state, seen_of, stored_of, is_sound}
-use Rattle.layout.specs.Image.{SavedState}
-use Rattle.capability.specs.Parts.{Parts, HaveTheirRoles}
-use Rattle.capability.specs.Plain.{room_at}
-use Rattle.object_store.specs.Store.{FrozenFrames, Aside, View, stabilized}
-use Rattle.cache_entries.specs.declared.entry.Entry.{Entry}
 use Rattle.object_cache.specs.declared.held.Held.{Held}
 use Rattle.object_cache.specs.declared.all_objects.AllObjects.{AllObjects}
-use Rattle.cache_entries.specs.Entries.{entry_at, room_of}
-use Rattle.cache_entries.specs.Order.{AllDiffer, without}
 use Rattle.object_cache.specs.Memory.{Memory, Owed, Nothing, owed_body, mark_at, present_at, frozen_at, contents_in, frozen_in, owed_in}
 
 -- ---- what is seen of it

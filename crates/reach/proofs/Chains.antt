@@ -1,27 +1,12 @@
 -- Chains lead to what was found, and nowhere else; closed sets are those that no step leaves.
-use Rattle.std.proofs.Common.{◌≡◌, ℕ, ◌+◌, ◌<◌, ◌≤◌, Bool, true, false, is_some, Option, None, Some, List, [], ◌∷◌, ◌++◌, length, reverse, slice_index_or, option_and_then, inl, inr, ⊎_elim, refl, sym, ap, ◌∙◌, subst, arith}
-use Rattle.std.specs.Prelude.{IsTrue}
-use Rattle.std.specs.List.{All}
-use Rattle.std.proofs.lemmas.Bool.{cases_eq}
-use Rattle.std.proofs.lemmas.List.{length-reverse, length_push, reverse-append}
-use Rattle.std.proofs.lemmas.Option.{same_Some}
-use Rattle.model.specs.declared.capability.Capability.{Capability}
-use Rattle.model.specs.declared.capability.Capability.TheVariants.{Void, Number, Page, Node, Space, Process, Start, Resume, Bank, Discrim}
-use Rattle.model.specs.declared.object.Content.{Content}
+use Rattle.reach.proofs.Names.{◌≡◌, ℕ, ◌+◌, ◌<◌, ◌≤◌, Bool, true, false, is_some, Option, None, Some, List, [], ◌∷◌, ◌++◌, length, reverse, option_and_then}
+use Rattle.reach.proofs.Names.{inl, inr, ⊎_elim, refl, sym, ap, ◌∙◌, subst, arith, IsTrue, All, cases_eq, length-reverse, length_push, reverse-append}
+use Rattle.reach.proofs.Names.{same_Some, Capability, Void, Number, Page, Node, Space, Process, Start, Resume, Bank, Discrim, Content, Object, IsClosed}
+use Rattle.reach.proofs.Names.{StaysInside, is_root, root_in, slots_in, annex_at, content_at, root_at, Found, Levels, Step, Way, Conveys, IsChain, IsPath}
+use Rattle.reach.proofs.Names.{IsShortest, IsStep, IsWay, held_by, StepsAreAuthority, IsAfter, IsFoundIn, IsFrom, IsSearched, found_at, IsReach}
+use Rattle.std.proofs.Common.{slice_index_or}
 use Rattle.model.specs.declared.object.Content.TheVariants as content
-use Rattle.model.specs.declared.object.Object.{Object}
-use Rattle.model.specs.Closed.{IsClosed, StaysInside}
-use Rattle.model.specs.Object.{is_root, root_in, slots_in}
-use Rattle.model.specs.World.{annex_at, content_at, root_at}
-use Rattle.reach.specs.declared.levels.Found.{Found}
-use Rattle.reach.specs.declared.levels.Levels.{Levels}
-use Rattle.reach.specs.declared.step.Step.{Step}
-use Rattle.reach.specs.declared.step.Way.{Way}
 use Rattle.reach.specs.declared.step.Way.TheVariants as way
-use Rattle.reach.specs.Chain.{Conveys, IsChain, IsPath, IsShortest, IsStep, IsWay, held_by}
-use Rattle.reach.specs.Laws.{StepsAreAuthority}
-use Rattle.reach.specs.Levels.{IsAfter, IsFoundIn, IsFrom, IsSearched, found_at}
-use Rattle.reach.specs.Reached.{IsReach}
 use Rattle.reach.proofs.Finding.{some_of}
 use Rattle.reach.proofs.Growing.{named_inside}
 

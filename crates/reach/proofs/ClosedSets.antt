@@ -1,17 +1,7 @@
 -- A set that was followed whole is closed, and the least.
-use Rattle.std.proofs.Common.{◌≡◌, ℕ, ◌<◌, ◌≤◌, ◌+◌, zero, suc, nat_eq, Bool, true, false, List, length, replicate, refl, sym, ap, ◌∙◌, subst, arith}
-use Rattle.std.specs.Prelude.{IsTrue, slice_index_or}
-use Rattle.std.specs.List.{All}
-use Rattle.std.proofs.lemmas.Bool.Decides.{nat_tests}
-use Rattle.number_set.specs.Marks.{is_marked}
-use Rattle.model.specs.declared.object.Object.{Object}
-use Rattle.model.specs.Closed.{IsClosed}
-use Rattle.model.specs.World.{object_at, root_at, slot_at}
-use Rattle.confinement.specs.Confinement.{AreBy, IsKept, with_free}
-use Rattle.confinement.proofs.Runs.{run_confined}
-use Rattle.reach.specs.declared.frontier.Frontier.{Frontier}
-use Rattle.reach.specs.Frontier.{Grows, HasNoneLeft, IsDone, IsWithin, Takes}
-use Rattle.reach.specs.Reached.{BoundsRuns, IsClosedAt, IsReach}
+use Rattle.reach.proofs.Names.{◌≡◌, ℕ, ◌<◌, ◌≤◌, ◌+◌, zero, suc, nat_eq, Bool, true, false, List, length, replicate, refl, sym, ap, ◌∙◌, subst, arith, IsTrue}
+use Rattle.reach.proofs.Names.{slice_index_or, All, nat_tests, is_marked, Object, IsClosed, object_at, root_at, slot_at, AreBy, IsKept, with_free, run_confined}
+use Rattle.reach.proofs.Names.{Frontier, Grows, HasNoneLeft, IsDone, IsWithin, Takes, BoundsRuns, IsClosedAt, IsReach}
 use Rattle.reach.proofs.Growing.{stays_more}
 
 -- a closed set is so at each member

@@ -1,22 +1,10 @@
 -- What holds as numbers are found by steps.
-use Rattle.std.proofs.Common.{◌≡◌, ◌≢◌, ◌⊎◌, ℕ, ◌+◌, ◌<◌, ◌≤◌, max, zero, suc, true, false, is_some, Option, None, Some, List, [], ◌∷◌, length, length-set, slice_index_or, slice_set, inl, inr, ⊎_elim, refl, sym, ap, ◌∙◌, subst, arith}
-use Rattle.std.proofs.lemmas.Bool.{cases_eq, cases_lt}
-use Rattle.std.proofs.lemmas.List.{get_or-set_same, get_or-set_other}
-use Rattle.std.proofs.lemmas.Option.{same_Some}
-use Rattle.model.specs.declared.capability.Capability.{Capability}
-use Rattle.model.specs.declared.capability.Capability.TheVariants.{Void}
-use Rattle.model.specs.declared.object.Object.{Object}
-use Rattle.model.specs.Capability.{IsWeak, named}
-use Rattle.model.specs.Object.{is_free}
-use Rattle.model.specs.World.{content_at, owner_at}
-use Rattle.reach.specs.declared.levels.Found.{Found}
-use Rattle.reach.specs.declared.levels.Levels.{Levels}
-use Rattle.reach.specs.declared.step.Step.{Step}
-use Rattle.reach.specs.declared.step.Way.{Way}
+use Rattle.reach.proofs.Names.{◌≡◌, ◌≢◌, ◌⊎◌, ℕ, ◌+◌, ◌<◌, ◌≤◌, max, zero, suc, true, false, is_some, Option, None, Some, List, [], ◌∷◌, length, length-set}
+use Rattle.reach.proofs.Names.{slice_set, inl, inr, ⊎_elim, refl, sym, ap, ◌∙◌, subst, arith, cases_eq, cases_lt, get_or-set_same, get_or-set_other, same_Some}
+use Rattle.reach.proofs.Names.{Capability, Void, Object, IsWeak, named, is_free, content_at, owner_at, Found, Levels, Step, Way, Conveys, Begins, FindsBy, IsBy}
+use Rattle.reach.proofs.Names.{IsFirst, IsFoundBy, IsHeldIn, IsOwnedBelow, IsTheStep, found_at, missing}
+use Rattle.std.proofs.Common.{slice_index_or}
 use Rattle.reach.specs.declared.step.Way.TheVariants as way
-use Rattle.reach.specs.Chain.{Conveys}
-use Rattle.reach.specs.Levels.{Begins, FindsBy, IsBy, IsFirst, IsFoundBy, IsHeldIn, IsOwnedBelow, IsTheStep, found_at}
-use Rattle.reach.specs.Missing.{missing}
 
 -- no number is missing more often than there are numbers
 pub missing_most : {X : Type 0} (xs : List (Option X)) → missing xs ≤ length xs

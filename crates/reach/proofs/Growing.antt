@@ -1,15 +1,6 @@
 -- What holds as more numbers are found.
-use Rattle.std.proofs.Common.{◌≡◌, ℕ, ◌<◌, ◌+◌, Bool, true, false, Option, None, Some, List, nat_lt, refl, sym, ◌∙◌, subst, ⊎_elim, inl, inr, arith}
-use Rattle.std.specs.Prelude.{IsTrue, slice_index_or}
-use Rattle.std.proofs.lemmas.Bool.Decides.{nat_tests}
-use Rattle.model.specs.declared.capability.Capability.{Capability}
-use Rattle.model.specs.Capability.{IsWeak, named}
-use Rattle.model.specs.Closed.{StaysInside}
-use Rattle.model.specs.declared.object.Object.{Object}
-use Rattle.model.specs.Object.{is_free}
-use Rattle.model.specs.World.{content_at, owner_at}
-use Rattle.reach.specs.declared.frontier.Frontier.{Frontier}
-use Rattle.reach.specs.Frontier.{Grows}
+use Rattle.reach.proofs.Names.{◌≡◌, ℕ, ◌<◌, ◌+◌, Bool, true, false, Option, None, Some, List, nat_lt, refl, sym, ◌∙◌, subst, ⊎_elim, inl, inr, arith, IsTrue}
+use Rattle.reach.proofs.Names.{slice_index_or, nat_tests, Capability, IsWeak, named, StaysInside, Object, is_free, content_at, owner_at, Frontier, Grows}
 
 -- a number that is named is in a set
 abbrev pub IsIn : (ℕ → Bool) → Option ℕ → Type 0

@@ -1,3 +1,4 @@
+mod Names
 mod Chains
 mod ClosedSets
 mod Finding

@@ -1,19 +1,9 @@
 -- Frames that were looked at.
-use Rattle.std.proofs.Common.{◌≡◌, inl, inr, ℕ, ◌^◌, ◌-◌, List, [], ◌∷◌, ap, ◌∙◌, subst, sym, arith}
-use Rattle.std.specs.Prelude.{Err, IsErrOf, Ok, Result}
-use Rattle.std.specs.List.{All}
-use Rattle.std.proofs.lemmas.Bool.{cases_lt}
-use Rattle.std.proofs.lemmas.List.Elements.{All-cons, All-nil}
-use Rattle.model.specs.declared.frame.Frame.{Frame}
-use Rattle.model.specs.declared.frame.ObjectHeader.{ObjectHeader}
-use Rattle.model.specs.declared.geometry.Geometry.{Geometry}
-use Rattle.model.specs.Frame.{frames_in, objects_of}
-use Rattle.model.specs.Keepable.{AreKeepable, IsSoundFrames}
-use Rattle.capability.specs.Parts.{AreSound, HaveTheirRoles, Looks, LooksUp, Parts, frames_of, objects_in}
-use Rattle.capability.specs.declared.present.PrepareFault.{PrepareFault}
+use Rattle.reach.proofs.Names.{◌≡◌, inl, inr, ℕ, ◌^◌, ◌-◌, List, [], ◌∷◌, ap, ◌∙◌, subst, sym, arith, IsErrOf, Ok, Result, All, cases_lt, All-cons, All-nil}
+use Rattle.reach.proofs.Names.{Frame, ObjectHeader, Geometry, frames_in, objects_of, AreKeepable, IsSoundFrames, AreSound, HaveTheirRoles, Looks, LooksUp}
+use Rattle.reach.proofs.Names.{Parts, frames_of, objects_in, PrepareFault, looks_twice, keepable_later, keepable_roles}
+use Rattle.std.specs.Prelude.{Err}
 use Rattle.capability.specs.declared.present.PrepareFault.TheVariants as prepare
-use Rattle.capability.proofs.Asides.{looks_twice}
-use Rattle.capability.proofs.Keeping.{keepable_later, keepable_roles}
 
 module _ {S : Type 0} (parts : S → Parts) (Leads : S → S → Type 0) where
   -- frames were looked at, and the device didn't fail

@@ -1,20 +1,9 @@
 -- What a member of a closed set holds, in a sound world.
-use Rattle.std.proofs.Common.{◌≡◌, ℕ, ◌<◌, zero, suc, Bool, false, List, [], ◌∷◌, length, refl, sym, ap, ◌∙◌, subst, arith}
-use Rattle.std.specs.Prelude.{IsTrue, slice_index_or}
-use Rattle.std.specs.List.{All}
-use Rattle.std.proofs.lemmas.List.{get_or_default}
-use Rattle.model.specs.declared.capability.Capability.{Capability}
-use Rattle.model.specs.declared.capability.Capability.TheVariants.{Void, Number, Page, Node, Space, Process, Start, Resume, Bank, Discrim}
-use Rattle.model.specs.declared.object.Content.{Content}
+use Rattle.reach.proofs.Names.{◌≡◌, ℕ, ◌<◌, zero, suc, Bool, false, List, [], ◌∷◌, length, refl, sym, ap, ◌∙◌, subst, arith, IsTrue, slice_index_or, All}
+use Rattle.reach.proofs.Names.{get_or_default, Capability, Void, Number, Page, Node, Space, Process, Start, Resume, Bank, Discrim, Content, Object, Root}
+use Rattle.reach.proofs.Names.{StaysInside, free, is_bank, is_node, is_page, is_root, root_in, slots_in, NamesItsKind, content_at, slot_at, NamesWithin}
+use Rattle.reach.proofs.Names.{AreSoundObjects, IsClosedAt}
 use Rattle.model.specs.declared.object.Content.TheVariants as content
-use Rattle.model.specs.declared.object.Object.{Object}
-use Rattle.model.specs.declared.object.Root.{Root}
-use Rattle.model.specs.Closed.{StaysInside}
-use Rattle.model.specs.Object.{free, is_bank, is_node, is_page, is_root, root_in, slots_in}
-use Rattle.model.specs.Sound.{NamesItsKind}
-use Rattle.model.specs.World.{content_at, slot_at}
-use Rattle.reach.specs.Frontier.{NamesWithin}
-use Rattle.reach.specs.Reached.{AreSoundObjects, IsClosedAt}
 
 -- what isn't free is there
 pub known : (os : List Object) (n : ℕ) (test : Content Capability → Bool) → test content.Free ≡ false → IsTrue (test (content_at os n)) → n < length os

@@ -1,15 +1,8 @@
 -- What holds as levels are followed.
-use Rattle.std.proofs.Common.{◌≡◌, ◌==◌, ℕ, ◌+◌, ◌<◌, ◌≤◌, zero, suc, true, false, Option, None, Some, List, [], ◌∷◌, length, replicate, slice_index_or, inl, inr, ⊎_elim, refl, sym, ap, ◌∙◌, subst, arith}
-use Rattle.std.specs.List.{Contains}
-use Rattle.std.proofs.lemmas.Bool.{cases_lt}
-use Rattle.std.proofs.lemmas.Bool.Decides.{nat_tests}
-use Rattle.std.proofs.lemmas.List.{get_or_default, length-replicate}
-use Rattle.model.specs.declared.object.Object.{Object}
-use Rattle.reach.specs.declared.levels.Found.{Found}
-use Rattle.reach.specs.declared.levels.Levels.{Levels}
-use Rattle.reach.specs.declared.step.Step.{Step}
-use Rattle.reach.specs.Levels.{Begins, FindsBy, IsAfter, IsAt, IsFirst, IsFoundBy, IsFoundIn, IsFrom, IsFromLevel, IsSearched, found_at, has_level}
-use Rattle.reach.specs.Missing.{missing}
+use Rattle.reach.proofs.Names.{◌≡◌, ◌==◌, ℕ, ◌+◌, ◌<◌, ◌≤◌, zero, suc, true, false, Option, None, Some, List, [], ◌∷◌, length, replicate, inl, inr, ⊎_elim}
+use Rattle.reach.proofs.Names.{refl, sym, ap, ◌∙◌, subst, arith, Contains, cases_lt, nat_tests, get_or_default, length-replicate, Object, Found, Levels, Step}
+use Rattle.reach.proofs.Names.{Begins, FindsBy, IsAfter, IsAt, IsFirst, IsFoundBy, IsFoundIn, IsFrom, IsFromLevel, IsSearched, found_at, has_level, missing}
+use Rattle.std.proofs.Common.{slice_index_or}
 use Rattle.reach.proofs.Finding.{finds_both, finds_same, missing_most}
 
 -- the level of what was found

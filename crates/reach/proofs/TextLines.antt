@@ -1,9 +1,6 @@
 -- Lines, one for each of the items of a list.
-use Rattle.std.proofs.Common.{◌≡◌, ℕ, suc, add-one, length-take-le, ◌+◌, ◌<◌, ◌≤◌, List, [], ◌∷◌, ◌++◌, length, get_or, take, drop, refl, sym, ap, ◌∙◌, append-nil, arith}
-use Rattle.std.specs.List.{flat_map, enumerate_from}
-use Rattle.std.proofs.lemmas.Grind.{flat_map-append}
-use Rattle.std.proofs.lemmas.List.{take-append-drop, take_all}
-use Rattle.std.proofs.Math.Seq.{take-suc}
+use Rattle.reach.proofs.Names.{◌≡◌, ℕ, suc, add-one, length-take-le, ◌+◌, ◌<◌, ◌≤◌, List, [], ◌∷◌, ◌++◌, length, get_or, take, drop, refl, sym, ap, ◌∙◌}
+use Rattle.reach.proofs.Names.{append-nil, arith, flat_map, enumerate_from, flat_map-append, take-append-drop, take_all, take-suc}
 
 enumerate_append : {A : Type 0} (n : ℕ) (xs ys : List A) → enumerate_from n (xs ++ ys) ≡ enumerate_from n xs ++ enumerate_from (n + length xs) ys
 enumerate_append n [] ys = let same : n + 0 ≡ n = omega arith in rw same refl

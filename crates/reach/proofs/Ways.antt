@@ -1,20 +1,10 @@
 -- The ways from an object, by what it holds.
-use Rattle.std.proofs.Common.{◌≡◌, ◌⊎◌, ℕ, ◌<◌, zero, suc, false, not, List, [], ◌∷◌, length, slice_index_or, inl, inr, refl, sym, ap, ◌∙◌, subst, arith}
-use Rattle.model.specs.declared.capability.Capability.{Capability}
-use Rattle.model.specs.declared.capability.Capability.TheVariants.{Void}
-use Rattle.model.specs.declared.object.Content.{Content}
+use Rattle.reach.proofs.Names.{◌≡◌, ◌⊎◌, ℕ, ◌<◌, zero, suc, false, not, List, [], ◌∷◌, length, inl, inr, refl, sym, ap, ◌∙◌, subst, arith, Capability, Void}
+use Rattle.reach.proofs.Names.{Content, Object, Root, IsWeak, is_free, slots_in, content_at, owner_at, Levels, Step, Way, Conveys, IsWay, FindsBy, IsBy, IsFrom}
+use Rattle.reach.proofs.Names.{IsHeldIn, IsOwnedBelow, IsTheStep}
+use Rattle.std.proofs.Common.{slice_index_or}
 use Rattle.model.specs.declared.object.Content.TheVariants as content
-use Rattle.model.specs.declared.object.Object.{Object}
-use Rattle.model.specs.declared.object.Root.{Root}
-use Rattle.model.specs.Capability.{IsWeak}
-use Rattle.model.specs.Object.{is_free, slots_in}
-use Rattle.model.specs.World.{content_at, owner_at}
-use Rattle.reach.specs.declared.levels.Levels.{Levels}
-use Rattle.reach.specs.declared.step.Step.{Step}
-use Rattle.reach.specs.declared.step.Way.{Way}
 use Rattle.reach.specs.declared.step.Way.TheVariants as way
-use Rattle.reach.specs.Chain.{Conveys, IsWay}
-use Rattle.reach.specs.Levels.{FindsBy, IsBy, IsFrom, IsHeldIn, IsOwnedBelow, IsTheStep}
 use Rattle.reach.proofs.Finding.{finds_both, finds_none, finds_same}
 use Rattle.reach.proofs.Members.{known}
 

@@ -1,15 +1,7 @@
 -- Chains of steps: by each step one object has authority over another.
-use Rattle.std.specs.Prelude.{◌≡◌, ℕ, ◌≤◌, false, Option, None, Some, List, [], ◌∷◌, Vec, length, slice_index_or, IsTrue}
-use Rattle.std.specs.List.{Contains}
-use Rattle.std.specs.declared.alloc.Global.{Global}
-use Rattle.model.specs.declared.capability.Capability.{Capability}
-use Rattle.model.specs.declared.capability.Capability.TheVariants.{Void}
-use Rattle.model.specs.declared.object.Content.{Content}
+use Rattle.reach.specs.Names.{◌≡◌, ℕ, ◌≤◌, false, Option, None, Some, List, [], ◌∷◌, Vec, length, slice_index_or, IsTrue, Contains, Global, Capability, Void}
+use Rattle.reach.specs.Names.{Content, Object, IsWeak, named, is_bank, is_free, is_root, root_in, slots_in, content_at, owner_at}
 use Rattle.model.specs.declared.object.Content.TheVariants as content
-use Rattle.model.specs.declared.object.Object.{Object}
-use Rattle.model.specs.Capability.{IsWeak, named}
-use Rattle.model.specs.Object.{is_bank, is_free, is_root, root_in, slots_in}
-use Rattle.model.specs.World.{content_at, owner_at}
 use Rattle.reach.specs.declared.step.Step.{Step}
 use Rattle.reach.specs.declared.step.Way.{Way}
 use Rattle.reach.specs.declared.step.Way.TheVariants as way

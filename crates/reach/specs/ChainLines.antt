@@ -1,13 +1,7 @@
 -- The lines that tell a chain.
-use Rattle.std.specs.Prelude.{ℕ, Option, None, Some, List, [], ◌∷◌, ◌++◌, Vec, codes, decimal}
-use Rattle.std.specs.List.{flat_map}
-use Rattle.std.specs.declared.alloc.Global.{Global}
-use Rattle.model.specs.declared.capability.Capability.{Capability}
-use Rattle.model.specs.declared.object.Content.{Content}
+use Rattle.reach.specs.Names.{ℕ, Option, None, Some, List, [], ◌∷◌, ◌++◌, Vec, codes, decimal, flat_map, Global, Capability, Content, Object, capability_text}
+use Rattle.reach.specs.Names.{line_of, spaced, content_at, object_at}
 use Rattle.model.specs.declared.object.Content.TheVariants as content
-use Rattle.model.specs.declared.object.Object.{Object}
-use Rattle.model.specs.Text.{capability_text, line_of, spaced}
-use Rattle.model.specs.World.{content_at, object_at}
 use Rattle.reach.specs.declared.step.Step.{Step}
 use Rattle.reach.specs.declared.step.Way.{Way}
 use Rattle.reach.specs.declared.step.Way.TheVariants as way

@@ -1,9 +1,5 @@
 -- Numbers that were found, and those that are still to be followed. No public clause cites this.
-use Rattle.std.specs.Prelude.{◌≡◌, ℕ, ◌+◌, ◌-◌, ◌<◌, ◌≤◌, Bool, true, false, None, Some, length, IsTrue}
-use Rattle.number_set.specs.Marks.{is_marked}
-use Rattle.model.specs.declared.capability.Capability.{Capability}
-use Rattle.model.specs.Capability.{named}
-use Rattle.model.specs.Machine.{touched_count}
+use Rattle.reach.specs.Names.{◌≡◌, ℕ, ◌+◌, ◌-◌, ◌<◌, ◌≤◌, Bool, true, false, None, Some, length, IsTrue, is_marked, Capability, named, touched_count}
 use Rattle.reach.specs.declared.frontier.Frontier.{Frontier}
 
 -- a number was followed

@@ -1,7 +1,5 @@
 -- What the definitions of chains say.
-use Rattle.std.specs.Prelude.{ℕ, ◌↔◌, Bool, List, IsTrue}
-use Rattle.model.specs.declared.object.Object.{Object}
-use Rattle.model.specs.Closed.{IsClosed}
+use Rattle.reach.specs.Names.{ℕ, ◌↔◌, Bool, List, IsTrue, Object, IsClosed}
 use Rattle.reach.specs.declared.step.Step.{Step}
 use Rattle.reach.specs.Chain.{IsStep}
 

@@ -1,11 +1,6 @@
 -- Numbers that were found, level by level. No public clause cites this.
-use Rattle.std.specs.Prelude.{◌≡◌, ◌⊎◌, ℕ, ◌==◌, ◌+◌, ◌<◌, ◌≤◌, Bool, false, Option, None, Some, List, length, slice_index_or}
-use Rattle.std.specs.List.{All, Contains}
-use Rattle.model.specs.declared.capability.Capability.{Capability}
-use Rattle.model.specs.declared.capability.Capability.TheVariants.{Void}
-use Rattle.model.specs.declared.object.Object.{Object}
-use Rattle.model.specs.Object.{is_free}
-use Rattle.model.specs.World.{content_at, owner_at}
+use Rattle.reach.specs.Names.{◌≡◌, ◌⊎◌, ℕ, ◌==◌, ◌+◌, ◌<◌, ◌≤◌, Bool, false, Option, None, Some, List, length, slice_index_or, All, Contains, Capability, Void}
+use Rattle.reach.specs.Names.{Object, is_free, content_at, owner_at}
 use Rattle.reach.specs.declared.levels.Found.{Found}
 use Rattle.reach.specs.declared.levels.Levels.{Levels}
 use Rattle.reach.specs.declared.step.Step.{Step}

@@ -1,3 +1,4 @@
+pub mod Names
 pub mod Chain
 pub mod ChainLines
 pub mod Frontier

@@ -1,14 +1,7 @@
 -- The lines that tell a closed set, and why it is what it is.
-use Rattle.std.specs.Prelude.{ℕ, ◌==◌, Bool, false, not, if◌then◌else◌, List, [], ◌∷◌, ◌++◌, codes, decimal}
-use Rattle.std.specs.List.{count_by, enumerate_from, flat_map}
-use Rattle.number_set.specs.Marks.{is_marked}
-use Rattle.model.specs.declared.capability.Capability.{Capability}
-use Rattle.model.specs.declared.capability.Capability.TheVariants.{Process, Start, Resume, Bank}
+use Rattle.reach.specs.Names.{ℕ, ◌==◌, Bool, false, not, if◌then◌else◌, List, [], ◌∷◌, ◌++◌, codes, decimal, count_by, enumerate_from, flat_map, is_marked}
+use Rattle.reach.specs.Names.{Capability, Process, Start, Resume, Bank, Object, slots_in, capability_text, line_of, spaced, content_at}
 use Rattle.model.specs.declared.object.Content.TheVariants as content
-use Rattle.model.specs.declared.object.Object.{Object}
-use Rattle.model.specs.Object.{slots_in}
-use Rattle.model.specs.Text.{capability_text, line_of, spaced}
-use Rattle.model.specs.World.{content_at}
 
 -- the words with which `show` begins an object
 abbrev pub words_of : ℕ → Object → List (List ℕ)

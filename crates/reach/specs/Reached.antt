@@ -1,15 +1,6 @@
 -- What is in reach of processes.
-use Rattle.std.specs.Prelude.{◌≡◌, ℕ, Bool, false, List, IsTrue}
-use Rattle.std.specs.List.{All}
-use Rattle.model.specs.declared.geometry.Geometry.{Geometry}
-use Rattle.model.specs.declared.object.Object.{Object}
-use Rattle.model.specs.Closed.{IsClosed, StaysInside}
-use Rattle.model.specs.Machine.{Running, Up}
-use Rattle.model.specs.Object.{is_bank, is_free}
-use Rattle.model.specs.Run.{IsRun, Turn}
-use Rattle.model.specs.Sound.{IsSound}
-use Rattle.model.specs.World.{annex_at, content_at, is_process, object_at, owner_at, root_at, slot_at}
-use Rattle.confinement.specs.Confinement.{AreBy, IsKept, with_free}
+use Rattle.reach.specs.Names.{◌≡◌, ℕ, Bool, false, List, IsTrue, All, Geometry, Object, IsClosed, StaysInside, Running, Up, is_bank, is_free, IsRun, Turn}
+use Rattle.reach.specs.Names.{IsSound, annex_at, content_at, is_process, object_at, owner_at, root_at, slot_at, AreBy, IsKept, with_free}
 
 -- objects of a sound world
 abbrev pub AreSoundObjects : List Object → Type 0

@@ -1,11 +1,5 @@
 -- What an image denotes, whole: none of the ten reasons to refuse it holds.
-use Rattle.std.specs.Prelude.{◌≡◌, ◌⊎◌, ℕ, List, [], ◌∷◌}
-use Rattle.model.specs.declared.geometry.Geometry.{Geometry}
-use Rattle.model.specs.Keepable.{IsSoundFrames, world_at}
-use Rattle.model.specs.Machine.{Saved}
-use Rattle.device.specs.Disk.{Image, Disk}
-use Rattle.device.specs.Moments.{LeavesOnly}
-use Rattle.checkpoint.specs.Saved.{SavedFrames, Holds}
+use Rattle.recovery.specs.Names.{◌≡◌, ◌⊎◌, ℕ, List, [], ◌∷◌, Geometry, IsSoundFrames, world_at, Saved, Image, Disk, LeavesOnly, SavedFrames, Holds}
 
 -- the saved part that saved frames stand for
 abbrev pub saved_of : SavedFrames → Saved

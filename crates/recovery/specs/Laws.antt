@@ -1,11 +1,5 @@
 -- An image denotes at most one saved part, whose world is sound, and is then refused for no reason.
-use Rattle.std.specs.Prelude.{◌≡◌, ℕ, List}
-use Rattle.std.specs.List.{Contains}
-use Rattle.model.specs.declared.geometry.Geometry.{Geometry}
-use Rattle.model.specs.Machine.{Saved}
-use Rattle.model.specs.Sound.{IsSound}
-use Rattle.device.specs.Disk.{Image}
-use Rattle.layout.specs.declared.bad_image.BadImage.{BadImage}
+use Rattle.recovery.specs.Names.{◌≡◌, ℕ, List, Contains, Geometry, Saved, IsSound, Image, BadImage}
 use Rattle.recovery.specs.Denotes.{Denotes, DenotesOne}
 use Rattle.recovery.specs.Recovered.{IsBad}
 

@@ -1,3 +1,4 @@
+pub mod Names
 pub mod Denotes
 pub mod Live
 pub mod Recovered

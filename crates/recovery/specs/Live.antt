@@ -1,15 +1,7 @@
 -- The machine that an open store stands for.
-use Rattle.std.specs.Prelude.{◌≡◌, ℕ, ◌<◌, ◌≤◌, ◌==◌, Bool, not, Option, None, Some, List, [], ◌∷◌, length, map}
-use Rattle.std.specs.List.{range_with_len}
-use Rattle.model.specs.declared.frame.Frame.{Frame}
-use Rattle.model.specs.declared.geometry.Geometry.{Geometry}
-use Rattle.model.specs.Frame.{frame_at}
-use Rattle.model.specs.Keepable.{IsSoundFrames, world_at}
-use Rattle.model.specs.Machine.{Frozen, Running}
-use Rattle.device.specs.Disk.{Disk}
-use Rattle.capability.specs.Parts.{Parts, frames_of, objects_in}
-use Rattle.object_store.specs.Store.{Aside, FrozenFrames, View}
-use Rattle.space_bank.specs.Banks.{AreCounted, BanksState}
+use Rattle.recovery.specs.Names.{◌≡◌, ℕ, ◌<◌, ◌≤◌, ◌==◌, Bool, not, Option, None, Some, List, [], ◌∷◌, length, map, range_with_len, Frame, Geometry, frame_at}
+use Rattle.recovery.specs.Names.{IsSoundFrames, world_at, Frozen, Running, Disk, Parts, frames_of, objects_in, Aside, FrozenFrames, View, AreCounted}
+use Rattle.recovery.specs.Names.{BanksState}
 use Rattle.recovery.specs.declared.live.Live.{Live}
 use Rattle.recovery.specs.Denotes.{saved_of, IsSoundSaved, Leaves}
 

@@ -1,23 +1,9 @@
 -- The outcomes of opening a device.
-use Rattle.std.specs.Prelude.{◌≡◌, ◌⊎◌, ℕ, ◌<◌, List}
-use Rattle.model.specs.declared.frame.Frame.{Frame}
-use Rattle.model.specs.Machine.{opened}
-use Rattle.device.specs.Calls.{Only}
-use Rattle.device.specs.Disk.{Image, Disk}
-use Rattle.layout.specs.declared.bad_image.BadImage.{BadImage}
+use Rattle.recovery.specs.Names.{◌≡◌, ◌⊎◌, ℕ, ◌<◌, List, Frame, opened, Only, Image, Disk, BadImage, IsBadBy, OpenFault, Looks, SavedFrames, Holds, Parts}
+use Rattle.recovery.specs.Names.{frames_of, View, CheckFault, Inconsistency, BadCapability, BadProcess, BadBank, IsInconsistent}
 use Rattle.layout.specs.declared.bad_image.BadImage.TheVariants as bad
-use Rattle.layout.specs.Image.{IsBadBy}
-use Rattle.checkpoint.specs.declared.open_fault.OpenFault.{OpenFault}
 use Rattle.checkpoint.specs.declared.open_fault.OpenFault.TheVariants as fault
-use Rattle.checkpoint.specs.Opened.{Looks}
-use Rattle.checkpoint.specs.Saved.{SavedFrames, Holds}
-use Rattle.capability.specs.Parts.{Parts, frames_of}
-use Rattle.object_store.specs.Store.{View}
-use Rattle.consistency.specs.declared.reason.CheckFault.{CheckFault}
 use Rattle.consistency.specs.declared.reason.CheckFault.TheVariants as check
-use Rattle.consistency.specs.declared.reason.Inconsistency.{Inconsistency}
-use Rattle.consistency.specs.declared.reason.Inconsistency.TheVariants.{BadCapability, BadProcess, BadBank}
-use Rattle.consistency.specs.Consistency.{IsInconsistent}
 use Rattle.recovery.specs.declared.live.Live.{Live}
 use Rattle.recovery.specs.Denotes.{saved_of}
 use Rattle.recovery.specs.Live.{IsUp, disk_at, running}

@@ -1,25 +1,10 @@
 -- What a run over a kernel changes, where its lines are by processes of a closed set.
-use Rattle.std.proofs.Common.{◌≡◌, ℕ, Bool, List, [], ◌∷◌, ◌++◌, Option, Ok, Err, ap, sym, subst, ◌∙◌, ⊎_elim, append-nil}
-use Rattle.std.specs.Prelude.{Result}
-use Rattle.std.specs.Io.KnownBytes.{Consumes}
-use Rattle.std.proofs.lemmas.List.Elements.{All-cons, All-head, All-nil, All-tail}
-use Rattle.model.specs.declared.geometry.Geometry.{Geometry}
-use Rattle.model.specs.declared.line.Line.{Line}
-use Rattle.model.specs.Machine.{Machine, Running, Up, Down}
-use Rattle.model.specs.Run.{IsRun, Turn, lines_of}
-use Rattle.model.specs.Sound.{IsSound}
-use Rattle.model.specs.Text.{Says}
-use Rattle.device.specs.Disk.{Disk}
-use Rattle.confinement.specs.Confinement.{AreBy, IsLineBy, with_free}
-use Rattle.confinement.proofs.Runs.{run_confined}
-use Rattle.capability.specs.Parts.{Parts}
-use Rattle.object_store.specs.Store.{View}
-use Rattle.kernel.specs.Power.{Power}
+use Rattle.runs.proofs.Names.{◌≡◌, ℕ, Bool, List, [], ◌∷◌, ◌++◌, Option, Ok, Err, ap, sym, subst, ◌∙◌, ⊎_elim, append-nil, Result, Consumes, All-cons, All-head}
+use Rattle.runs.proofs.Names.{All-nil, All-tail, Geometry, Line, Machine, Running, Up, Down, IsRun, Turn, lines_of, IsSound, Says, Disk, AreBy, IsLineBy}
+use Rattle.runs.proofs.Names.{with_free, run_confined, Parts, View, Power, Stands, RunFault, AreAll, AreFirst, AreLines, AreLinesBy, BeginsWith, Does}
+use Rattle.runs.proofs.Names.{IsConfined, RunsOver, lines_in}
 use Rattle.kernel.specs.Power as power
-use Rattle.kernel.specs.Standing.{Stands}
-use Rattle.script.specs.declared.fault.RunFault.{RunFault}
 use Rattle.script.specs.declared.fault.RunFault.TheVariants as fault
-use Rattle.runs.specs.KernelRuns.{AreAll, AreFirst, AreLines, AreLinesBy, BeginsWith, Does, IsConfined, RunsOver, lines_in}
 use Rattle.runs.proofs.ScriptLines.{lines_before}
 
 -- lines are the first of a text

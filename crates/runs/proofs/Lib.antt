@@ -1,3 +1,4 @@
+mod Names
 pub mod Confining
 mod Newlines
 mod ScriptLines

@@ -1,10 +1,6 @@
 -- The first newline.
-use Rattle.std.proofs.Common.{◌≡◌, ℕ, ◌<◌, List, None, Some, Option, length, take, get_or, ◌∙◌, sym, subst, arith}
-use Rattle.std.specs.Prelude.{slice_index_or, IfNone, IfSome}
-use Rattle.std.proofs.lemmas.Bool.Decides.{nat_tests}
-use Rattle.std.proofs.lemmas.List.{get_or-take, get_or_default, length-take, take_all}
-use Rattle.memchr.specs.Find.{IsFirstByte, Nowhere, Passes, is_byte}
-use Rattle.script.specs.Lines.{IsOneLine}
+use Rattle.runs.proofs.Names.{◌≡◌, ℕ, ◌<◌, List, None, Some, Option, length, take, get_or, ◌∙◌, sym, subst, arith, slice_index_or, IfNone, IfSome, nat_tests}
+use Rattle.runs.proofs.Names.{get_or-take, get_or_default, length-take, take_all, IsFirstByte, Nowhere, Passes, is_byte, IsOneLine}
 
 -- where it is not found there is none before
 one_line : (bytes : List ℕ) (end : ℕ) → Nowhere (Passes (is_byte 10) bytes) 0 end → IsOneLine (take end bytes)

@@ -1,15 +1,7 @@
 -- The lines of a text that is read piece by piece.
-use Rattle.std.proofs.Common.{◌≡◌, ◌≢◌, ◌<◌, ◌+◌, ◌-◌, zero, suc, ◌==◌, false, ℕ, List, [], ◌∷◌, ◌++◌, length, take, drop, refl, sym, ap, ◌∙◌, append_assoc, append-nil, arith}
-use Rattle.std.specs.Prelude.{slice_index_or}
-use Rattle.std.proofs.lemmas.Bool.Decides.{nat_tests}
-use Rattle.std.proofs.lemmas.List.{length-drop, take_all}
-use Rattle.std.proofs.lemmas.List.Concat.{flat_map-append}
-use Rattle.std.proofs.lemmas.List.Elements.{All-append, All-cons, All-head, All-nil, All-tail}
-use Rattle.std.specs.List.{All, flat_map}
-use Rattle.model.specs.Run.{lines_of}
-use Rattle.model.specs.Text.{line_of}
-use Rattle.script.specs.Lines.{IsOneLine}
-use Rattle.runs.specs.KernelRuns.{AreLines, BeginsWith}
+use Rattle.runs.proofs.Names.{◌≡◌, ◌≢◌, ◌<◌, ◌+◌, ◌-◌, zero, suc, ◌==◌, false, ℕ, List, [], ◌∷◌, ◌++◌, length, take, drop, refl, sym, ap, ◌∙◌, append_assoc}
+use Rattle.runs.proofs.Names.{append-nil, arith, slice_index_or, nat_tests, length-drop, take_all, flat_map-append, All-append, All-cons, All-head, All-nil}
+use Rattle.runs.proofs.Names.{All-tail, All, flat_map, lines_of, line_of, IsOneLine, AreLines, BeginsWith}
 
 -- a line that ends at its newline is the first, and what follows it the others
 first_line : (text rest : List ℕ) → IsOneLine text → lines_of (line_of text ++ rest) ≡ text ∷ lines_of rest

@@ -1,23 +1,10 @@
 -- What a tracer makes of a turn.
-use Rattle.std.proofs.Common.{◌≡◌, ℕ, ◌+◌, ◌-◌, ◌^◌, min, Bool, true, false, not, Option, None, Some, List, [], ◌∷◌, ◌++◌, codes, refl, sym, ap, ◌∙◌, subst}
-use Rattle.std.specs.Prelude.{IfNone, IfSome}
-use Rattle.model.specs.declared.answer.Answer.{Answer}
-use Rattle.model.specs.declared.command.Command.{Command}
-use Rattle.model.specs.declared.geometry.Geometry.{Geometry}
+use Rattle.runs.proofs.Names.{◌≡◌, ℕ, ◌+◌, ◌-◌, ◌^◌, min, Bool, true, false, not, Option, None, Some, List, [], ◌∷◌, ◌++◌, codes, refl, sym, ap, ◌∙◌, subst}
+use Rattle.runs.proofs.Names.{IfNone, IfSome, Answer, Command, Geometry, ResultCode, Reply, Nothing, BadLine, Told, Turn, Says, line_of, spaced, says_one}
+use Rattle.runs.proofs.Names.{LineFault, command_name, IsFaultOf, Cause, Stop, Tracer, told_code, Ends, EndsIf, IsCauseIn, IsCauseOf, IsOutcome, IsTrace}
+use Rattle.runs.proofs.Names.{IsTraced, Notes, Sees, cause_text, place_text}
 use Rattle.model.specs.declared.line.Line.TheVariants as line
-use Rattle.model.specs.declared.order.ResultCode.{ResultCode}
-use Rattle.model.specs.Run.{Reply, Nothing, BadLine, Told, Turn}
-use Rattle.model.specs.Text.{Says, line_of, spaced}
-use Rattle.model_laws.proofs.Spelling.{says_one}
-use Rattle.script.specs.declared.line_fault.LineFault.{LineFault}
-use Rattle.script.specs.Keywords.{command_name}
-use Rattle.script.specs.LineFaults.{IsFaultOf}
-use Rattle.runs.specs.declared.cause.Cause.{Cause}
 use Rattle.runs.specs.declared.cause.Cause.TheVariants as cause
-use Rattle.runs.specs.declared.cause.Stop.{Stop}
-use Rattle.runs.specs.declared.tracer.Tracer.{Tracer}
-use Rattle.kernel.specs.Standing.{told_code}
-use Rattle.runs.specs.Tracing.{Ends, EndsIf, IsCauseIn, IsCauseOf, IsOutcome, IsTrace, IsTraced, Notes, Sees, cause_text, place_text}
 use Rattle.runs.proofs.TurnLists.{appends_none}
 
 -- ---- where a strict run ends

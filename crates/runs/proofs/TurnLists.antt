@@ -1,11 +1,6 @@
 -- Turns of a run, one after another, and what they write.
-use Rattle.std.proofs.Common.{◌≡◌, ℕ, List, [], ◌∷◌, ◌++◌, Option, None, Some, refl, sym, ap, ◌∙◌, append_assoc, append-nil}
-use Rattle.std.specs.Io.KnownBytes.{Appends, Keeps}
-use Rattle.std.proofs.lemmas.List.Concat.{flat_map-append}
-use Rattle.model.specs.declared.geometry.Geometry.{Geometry}
-use Rattle.model.specs.Machine.{Machine}
-use Rattle.model.specs.Run.{Turn, IsTurn, IsRun, reply_text, output_of}
-use Rattle.runs.specs.KernelRuns.{lines_in}
+use Rattle.runs.proofs.Names.{◌≡◌, ℕ, List, [], ◌∷◌, ◌++◌, Option, None, Some, refl, sym, ap, ◌∙◌, append_assoc, append-nil, Appends, Keeps, flat_map-append}
+use Rattle.runs.proofs.Names.{Geometry, Machine, Turn, IsTurn, IsRun, reply_text, output_of, lines_in}
 
 -- one more turn
 pub run_more : (g : Geometry) (m : Machine) (ts : List Turn) (mid : Machine) (t : Turn) →

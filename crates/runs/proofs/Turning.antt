@@ -1,37 +1,17 @@
 -- Turns of a kernel, one after another.
-use Rattle.std.proofs.Common.{◌≡◌, ◌≢◌, ◌⊎◌, ℕ, ◌<◌, suc, take, drop, length, Bool, true, false, List, [], ◌∷◌, ◌++◌, Option, None, Some, Ok, Err, refl, sym, ap, ◌∙◌, subst, ⊎_elim, inl, inr, append_assoc, append-nil, arith}
-use Rattle.std.specs.Prelude.{◌↔◌, slice_index_or, IfErr, IsTrue, Result}
-use Rattle.std.proofs.KnownBytes.{Consumes-trans}
-use Rattle.std.specs.Io.KnownBytes.{Appends, Consumes, IsAtEnd, Keeps}
-use Rattle.model.specs.declared.answer.Answer.{Answer}
+use Rattle.runs.proofs.Names.{◌≡◌, ◌≢◌, ◌⊎◌, ℕ, ◌<◌, suc, take, drop, length, Bool, true, false, List, [], ◌∷◌, ◌++◌, Option, None, Some, Ok, Err, refl, sym}
+use Rattle.runs.proofs.Names.{ap, ◌∙◌, subst, ⊎_elim, inl, inr, append_assoc, append-nil, arith, ◌↔◌, slice_index_or, IfErr, IsTrue, Result, Consumes-trans}
+use Rattle.runs.proofs.Names.{Appends, Consumes, IsAtEnd, Keeps, Answer, Command, Geometry, Line, ResultCode, Machine, Running, Saved, Up, Down, candidates}
+use Rattle.runs.proofs.Names.{Reply, Nothing, BadLine, Told, Turn, Replies, lines_of, reply_text, output_of, second, Says, bad_line, Image, Disk, LeavesOnly}
+use Rattle.runs.proofs.Names.{leaves_weaker, started, Parts, View, Power, DenotesOne, saved_of, IsCaused, Serves, Stands, disk_of, RunFault, LineBuffer, Holds}
+use Rattle.runs.proofs.Names.{IsOneLine, AppendsFront, AreFirst, AreLines, AreSeen, AreTurnsOf, BeginsWith, Does, IsCutShort, IsLeftIn, IsRunOf, IsToldBy}
+use Rattle.runs.proofs.Names.{IsTurnOf, EndsBy, RunsOver, RunsSeen, lines_in, tells_fault, told_code, Ended, IsWritten, SoFar, Stopped, StopsBy, TakesLine}
+use Rattle.runs.proofs.Names.{TakesTurn}
 use Rattle.model.specs.declared.answer.Answer.TheVariants as answer
 use Rattle.model.specs.declared.answer.Refusal.TheVariants as refusal
-use Rattle.model.specs.declared.command.Command.{Command}
-use Rattle.model.specs.declared.geometry.Geometry.{Geometry}
-use Rattle.model.specs.declared.line.Line.{Line}
-use Rattle.model.specs.declared.order.ResultCode.{ResultCode}
 use Rattle.model.specs.declared.line.Line.TheVariants as line
-use Rattle.model.specs.Machine.{Machine, Running, Saved, Up, Down, candidates}
-use Rattle.model.specs.Run.{Reply, Nothing, BadLine, Told, Turn, Replies, lines_of, reply_text, output_of}
-use Rattle.model.specs.Step.{second}
-use Rattle.model.specs.Text.{Says, bad_line}
-use Rattle.device.specs.Disk.{Image, Disk}
-use Rattle.device.specs.Moments.{LeavesOnly}
-use Rattle.device.proofs.Moments.{leaves_weaker, started}
-use Rattle.capability.specs.Parts.{Parts}
-use Rattle.object_store.specs.Store.{View}
-use Rattle.kernel.specs.Power.{Power}
 use Rattle.kernel.specs.Power as power
-use Rattle.recovery.specs.Denotes.{DenotesOne, saved_of}
-use Rattle.kernel.specs.Standing.{IsCaused, Serves, Stands, disk_of}
-use Rattle.script.specs.declared.fault.RunFault.{RunFault}
 use Rattle.script.specs.declared.fault.RunFault.TheVariants as fault
-use Rattle.script.specs.declared.lines.LineBuffer.{LineBuffer}
-use Rattle.script.specs.Lines.{Holds, IsOneLine}
-use Rattle.script.specs.Writing.{AppendsFront}
-use Rattle.runs.specs.KernelRuns.{AreFirst, AreLines, AreSeen, AreTurnsOf, BeginsWith, Does, IsCutShort, IsLeftIn, IsRunOf, IsToldBy, IsTurnOf, EndsBy, RunsOver, RunsSeen, lines_in, tells_fault}
-use Rattle.kernel.specs.Standing.{told_code}
-use Rattle.runs.specs.Taking.{Ended, IsWritten, SoFar, Stopped, StopsBy, TakesLine, TakesTurn}
 use Rattle.runs.proofs.ScriptLines.{begins_with, bytes_more, line_more, line_taken, lines_whole, lines_with_rest, no_lines}
 use Rattle.runs.proofs.TurnLists.{appends_kept, appends_more, appends_none, lines_more, output_more, run_more}
 

@@ -1,30 +1,12 @@
 -- Runs of a script over a kernel.
-use Rattle.std.specs.Prelude.{◌≡◌, ◌⊎◌, ◌↔◌, ℕ, ◌<◌, ◌≤◌, Bool, true, false, List, [], ◌∷◌, ◌++◌, map, Option, Result, Ok, Err}
-use Rattle.std.specs.List.{All, flat_map}
-use Rattle.std.specs.Io.KnownBytes.{Appends, Consumes, IsAtEnd}
+use Rattle.runs.specs.Names.{◌≡◌, ◌⊎◌, ◌↔◌, ℕ, ◌<◌, ◌≤◌, Bool, true, false, List, [], ◌∷◌, ◌++◌, map, Option, Result, Ok, Err, All, flat_map, Appends, Consumes}
+use Rattle.runs.specs.Names.{IsAtEnd, Command, Geometry, Line, IsClosed, Machine, Running, Up, candidates, Reply, Told, Turn, IsRun, lines_of, reply_text}
+use Rattle.runs.specs.Names.{output_of, second, Says, line_of, object_at, Image, Disk, LeavesOnly, IsKept, IsLineBy, with_free, Parts, View, Power, DenotesOne}
+use Rattle.runs.specs.Names.{Stands, disk_of, RunFault, IsOneLine}
 use Rattle.model.specs.declared.answer.Answer.TheVariants as answer
 use Rattle.model.specs.declared.answer.Refusal.TheVariants as refusal
-use Rattle.model.specs.declared.command.Command.{Command}
-use Rattle.model.specs.declared.geometry.Geometry.{Geometry}
-use Rattle.model.specs.declared.line.Line.{Line}
 use Rattle.model.specs.declared.line.Line.TheVariants as line
-use Rattle.model.specs.Closed.{IsClosed}
-use Rattle.model.specs.Machine.{Machine, Running, Up, candidates}
-use Rattle.model.specs.Run.{Reply, Told, Turn, IsRun, lines_of, reply_text, output_of}
-use Rattle.model.specs.Step.{second}
-use Rattle.model.specs.Text.{Says, line_of}
-use Rattle.model.specs.World.{object_at}
-use Rattle.device.specs.Disk.{Image, Disk}
-use Rattle.device.specs.Moments.{LeavesOnly}
-use Rattle.confinement.specs.Confinement.{IsKept, IsLineBy, with_free}
-use Rattle.capability.specs.Parts.{Parts}
-use Rattle.object_store.specs.Store.{View}
-use Rattle.kernel.specs.Power.{Power}
-use Rattle.recovery.specs.Denotes.{DenotesOne}
-use Rattle.kernel.specs.Standing.{Stands, disk_of}
-use Rattle.script.specs.declared.fault.RunFault.{RunFault}
 use Rattle.script.specs.declared.fault.RunFault.TheVariants as fault
-use Rattle.script.specs.Lines.{IsOneLine}
 
 -- whether a line was answered `fault`
 abbrev pub tells_fault : Reply → Bool

@@ -1,4 +1,5 @@
 pub use Rattle.kernel.specs.Standing
+pub mod Names
 pub mod KernelRuns
 pub mod Taking
 pub mod Tracing

@@ -1,26 +1,9 @@
 -- A run of a script in its course.
-use Rattle.std.specs.Prelude.{◌≡◌, ◌⊎◌, ℕ, ◌≤◌, Bool, true, false, List, [], length, take, Option, Result, Ok, Err}
-use Rattle.std.specs.Io.KnownBytes.{Appends, Consumes, IsAtEnd}
-use Rattle.model.specs.declared.command.Command.{Command}
-use Rattle.model.specs.declared.geometry.Geometry.{Geometry}
-use Rattle.model.specs.declared.line.Line.{Line}
+use Rattle.runs.specs.Names.{◌≡◌, ◌⊎◌, ℕ, ◌≤◌, Bool, true, false, List, [], length, take, Option, Result, Ok, Err, Appends, Consumes, IsAtEnd, Command}
+use Rattle.runs.specs.Names.{Geometry, Line, Machine, candidates, Reply, Turn, Replies, lines_of, reply_text, output_of, second, Says, Disk, LeavesOnly, Parts}
+use Rattle.runs.specs.Names.{View, Power, DenotesOne, Stands, disk_of, RunFault, LineBuffer, Holds, AppendsFront}
 use Rattle.model.specs.declared.line.Line.TheVariants as line
-use Rattle.model.specs.Machine.{Machine, candidates}
-use Rattle.model.specs.Run.{Reply, Turn, Replies, lines_of, reply_text, output_of}
-use Rattle.model.specs.Step.{second}
-use Rattle.model.specs.Text.{Says}
-use Rattle.device.specs.Disk.{Disk}
-use Rattle.device.specs.Moments.{LeavesOnly}
-use Rattle.capability.specs.Parts.{Parts}
-use Rattle.object_store.specs.Store.{View}
-use Rattle.kernel.specs.Power.{Power}
-use Rattle.recovery.specs.Denotes.{DenotesOne}
-use Rattle.kernel.specs.Standing.{Stands, disk_of}
-use Rattle.script.specs.declared.fault.RunFault.{RunFault}
 use Rattle.script.specs.declared.fault.RunFault.TheVariants as fault
-use Rattle.script.specs.declared.lines.LineBuffer.{LineBuffer}
-use Rattle.script.specs.Lines.{Holds}
-use Rattle.script.specs.Writing.{AppendsFront}
 use Rattle.runs.specs.declared.script_pieces.Piece.{Piece}
 use Rattle.runs.specs.declared.script_pieces.Piece.TheVariants as piece
 use Rattle.runs.specs.KernelRuns.{AreLines, AreSeen, IsCutShort, IsRunOf, IsToldBy, lines_in}

@@ -1,27 +1,15 @@
 -- What a trace says of a run, and where a strict run ends.
-use Rattle.std.specs.Prelude.{◌≡◌, ◌≢◌, ℕ, ◌+◌, ◌-◌, ◌^◌, min, Bool, true, false, Option, None, Some, List, [], ◌∷◌, ◌++◌, codes, decimal}
-use Rattle.std.specs.Io.KnownBytes.{Appends}
-use Rattle.model.specs.declared.answer.Answer.{Answer}
+use Rattle.runs.specs.Names.{◌≡◌, ◌≢◌, ℕ, ◌+◌, ◌-◌, ◌^◌, min, Bool, true, false, Option, None, Some, List, [], ◌∷◌, ◌++◌, codes, decimal, Appends, Answer}
+use Rattle.runs.specs.Names.{Command, Geometry, ResultCode, code_number, Reply, Nothing, BadLine, Told, Turn, Says, line_of, refusal_text, spaced, LineFault}
+use Rattle.runs.specs.Names.{IsAnswerText, command_name, IsFaultOf, line_fault_text, AppendsFront, told_code}
 use Rattle.model.specs.declared.answer.Answer.TheVariants as answer
-use Rattle.model.specs.declared.command.Command.{Command}
-use Rattle.model.specs.declared.geometry.Geometry.{Geometry}
 use Rattle.model.specs.declared.line.Line.TheVariants as line
-use Rattle.model.specs.declared.order.ResultCode.{ResultCode}
 use Rattle.model.specs.declared.order.ResultCode.TheVariants as code
-use Rattle.model.specs.OrderOutcome.{code_number}
-use Rattle.model.specs.Run.{Reply, Nothing, BadLine, Told, Turn}
-use Rattle.model.specs.Text.{Says, line_of, refusal_text, spaced}
-use Rattle.script.specs.declared.line_fault.LineFault.{LineFault}
-use Rattle.script.specs.Answers.{IsAnswerText}
-use Rattle.script.specs.Keywords.{command_name}
-use Rattle.script.specs.LineFaults.{IsFaultOf, line_fault_text}
-use Rattle.script.specs.Writing.{AppendsFront}
 use Rattle.runs.specs.declared.cause.Cause.{Cause}
 use Rattle.runs.specs.declared.cause.Cause.TheVariants as cause
 use Rattle.runs.specs.declared.cause.Stop.{Stop}
 use Rattle.runs.specs.declared.tracer.TraceOptions.{TraceOptions}
 use Rattle.runs.specs.declared.tracer.Tracer.{Tracer}
-use Rattle.kernel.specs.Standing.{told_code}
 
 -- Texts
 

@@ -1,13 +1,8 @@
 -- What a run did that isn't committed.
-use Rattle.std.specs.Prelude.{◌≡◌, Bool, true, false}
-use Rattle.model.specs.declared.answer.Answer.{Answer}
+use Rattle.runs.specs.Names.{◌≡◌, Bool, true, false, Answer, Command, Geometry, Reply, Told, Turn, Says}
 use Rattle.model.specs.declared.answer.Answer.TheVariants as answer
-use Rattle.model.specs.declared.command.Command.{Command}
 use Rattle.model.specs.declared.command.Command.TheVariants as command
-use Rattle.model.specs.declared.geometry.Geometry.{Geometry}
 use Rattle.model.specs.declared.line.Line.TheVariants as line
-use Rattle.model.specs.Run.{Reply, Told, Turn}
-use Rattle.model.specs.Text.{Says}
 use Rattle.runs.specs.declared.unsaved.Unsaved.{Unsaved}
 
 abbrev pub nothing_unsaved : Unsaved

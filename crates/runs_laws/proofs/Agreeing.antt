@@ -1,21 +1,10 @@
 -- Two runs of one machine on the same lines.
-use Rattle.std.proofs.Common.{◌≡◌, ℕ, true, List, [], ◌∷◌, ◌++◌, Option, None, Some, refl, sym, ap, ◌∙◌, subst, append-nil, inl, inr}
-use Rattle.std.proofs.lemmas.List.Concat.{flat_map-append}
-use Rattle.model.specs.declared.answer.Answer.{Answer}
+use Rattle.runs_laws.proofs.Names.{◌≡◌, ℕ, true, List, [], ◌∷◌, ◌++◌, Option, None, Some, refl, sym, ap, ◌∙◌, subst, append-nil, inl, inr, flat_map-append}
+use Rattle.runs_laws.proofs.Names.{Answer, Refusal, Command, Geometry, Line, Machine, Running, Up, Reply, Told, Turn, IsRun, Replies, reply_text, output_of}
+use Rattle.runs_laws.proofs.Names.{Answers, Outcome, Step, carried_out, refusal_of, Says, says_one, lines_in, SteadyRunsAgree, is_steady}
 use Rattle.model.specs.declared.answer.Answer.TheVariants as answer
-use Rattle.model.specs.declared.answer.Refusal.{Refusal}
 use Rattle.model.specs.declared.answer.Refusal.TheVariants as refusal
-use Rattle.model.specs.declared.command.Command.{Command}
-use Rattle.model.specs.declared.geometry.Geometry.{Geometry}
-use Rattle.model.specs.declared.line.Line.{Line}
 use Rattle.model.specs.declared.line.Line.TheVariants as line
-use Rattle.model.specs.Machine.{Machine, Running, Up}
-use Rattle.model.specs.Run.{Reply, Told, Turn, IsRun, Replies, reply_text, output_of}
-use Rattle.model.specs.Step.{Answers, Outcome, Step, carried_out, refusal_of}
-use Rattle.model.specs.Text.{Says}
-use Rattle.model_laws.proofs.Spelling.{says_one}
-use Rattle.runs.specs.KernelRuns.{lines_in}
-use Rattle.runs_laws.specs.Laws.{SteadyRunsAgree, is_steady}
 
 -- two answers of a machine that is up, which stays up
 record Agree (x y : Answer) (a b : Machine) : Type 0 where

@@ -1,13 +1,5 @@
 -- A run over a kernel is a run of the machine, and so it is confined.
-use Rattle.std.proofs.Common.{subst}
-use Rattle.model.specs.Machine.{Machine, Up}
-use Rattle.model.specs.Run.{IsRun}
-use Rattle.device.specs.Disk.{Disk}
-use Rattle.confinement.proofs.Runs.{run_confined}
-use Rattle.capability.specs.Parts.{Parts}
-use Rattle.object_store.specs.Store.{View}
-use Rattle.runs.proofs.Confining.{one_machine, sound_world}
-use Rattle.runs_laws.specs.Laws.{RunsAreConfined}
+use Rattle.runs_laws.proofs.Names.{subst, Machine, Up, IsRun, Disk, run_confined, Parts, View, one_machine, sound_world, RunsAreConfined}
 
 module _ {D S : Type 0} (disk : D → Disk) (view : S → View D) (parts : S → Parts) where
   pub runs_confined : RunsAreConfined disk view parts

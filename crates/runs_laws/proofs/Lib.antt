@@ -1,3 +1,4 @@
+mod Names
 mod Agreeing
 mod Confining
 mod Surviving

@@ -1,26 +1,10 @@
 -- What a crash leaves in the course of a run, and that it is opened.
-use Rattle.std.proofs.Common.{ℕ, zero, suc, List, [], ◌∷◌, refl, sym, subst, ⊎_elim, inl, inr, arith}
-use Rattle.std.specs.List.{Contains}
-use Rattle.model.specs.declared.geometry.Geometry.{Geometry}
-use Rattle.model.specs.Machine.{Machine, Running, Saved, Up, Down, candidates, opened}
-use Rattle.model.specs.Run.{Turn, IsRun}
-use Rattle.model.specs.Step.{second}
-use Rattle.device.specs.Disk.{Image, Disk}
-use Rattle.device.specs.Moments.{LeavesOnly}
-use Rattle.device.proofs.Moments.{leaves_on, leaves_weaker, started}
-use Rattle.checkpoint.specs.declared.open_fault.OpenFault.{OpenFault}
+use Rattle.runs_laws.proofs.Names.{ℕ, zero, suc, List, [], ◌∷◌, refl, sym, subst, ⊎_elim, inl, inr, arith, Contains, Geometry, Machine, Running, Saved, Up}
+use Rattle.runs_laws.proofs.Names.{Down, candidates, opened, Turn, IsRun, second, Image, Disk, LeavesOnly, leaves_on, leaves_weaker, started, OpenFault, Parts}
+use Rattle.runs_laws.proofs.Names.{View, Power, Denotes, DenotesOne, RefusesToOpen, IsNoReason, Opens, Stands, disk_of, denotes_one, denoted_not_bad}
+use Rattle.runs_laws.proofs.Names.{AreTurnsOf, IsLeftIn, CrashesAreSurvived, IsOpenedAt, MaySave}
 use Rattle.checkpoint.specs.declared.open_fault.OpenFault.TheVariants as fault
-use Rattle.capability.specs.Parts.{Parts}
-use Rattle.object_store.specs.Store.{View}
-use Rattle.kernel.specs.Power.{Power}
 use Rattle.kernel.specs.Power as power
-use Rattle.recovery.specs.Denotes.{Denotes, DenotesOne}
-use Rattle.recovery.specs.Recovered.{RefusesToOpen}
-use Rattle.kernel.specs.Opening.{IsNoReason, Opens}
-use Rattle.kernel.specs.Standing.{Stands, disk_of}
-use Rattle.recovery.proofs.Denoted.{denotes_one, denoted_not_bad}
-use Rattle.runs.specs.KernelRuns.{AreTurnsOf, IsLeftIn}
-use Rattle.runs_laws.specs.Laws.{CrashesAreSurvived, IsOpenedAt, MaySave}
 
 -- what denotes one of several denotes this one
 denotes_this : (g : Geometry) (size : ℕ) (c : Image) (ss : List Saved) → DenotesOne g size ss c → (s : Saved) × Contains ss s × Denotes g size c s

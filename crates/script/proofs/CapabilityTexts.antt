@@ -1,17 +1,10 @@
 -- A text is a capability's where its pieces are the capability's words.
-use Rattle.std.proofs.Common.{◌≡◌, ◌≢◌, ℕ, ◌<◌, ◌^◌, ◌==◌, not, Bool, true, false, if◌then◌else◌, List, [], ◌∷◌, ◌++◌, length, codes, decimal, All, refl, sym, ap, ◌∙◌, arith}
-use Rattle.std.specs.List.{flat_map, list_all}
-use Rattle.std.proofs.lemmas.Option.{same_Some}
-use Rattle.std.proofs.lemmas.List.Elements.{All-nil, All-cons, All-weaker}
-use Rattle.std.proofs.lemmas.List.Sums.{AllPass-from_list_all}
-use Rattle.std.proofs.lemmas.List.Splits.{join_with_byte-slice_split}
-use Rattle.model.specs.declared.access.Access.{Access}
-use Rattle.model.specs.declared.capability.Capability.{Capability}
+use Rattle.script.proofs.Names.{◌≡◌, ◌≢◌, ℕ, ◌<◌, ◌^◌, ◌==◌, not, Bool, true, false, if◌then◌else◌, List, [], ◌∷◌, ◌++◌, length, codes, decimal, refl, sym, ap}
+use Rattle.script.proofs.Names.{◌∙◌, arith, flat_map, list_all, same_Some, All-nil, All-cons, All-weaker, AllPass-from_list_all, join_with_byte-slice_split}
+use Rattle.script.proofs.Names.{Access, Capability, spaced, access_text, capability_text, IsSpaceless, split_spaced, decimal_is_word, access_words}
+use Rattle.script.proofs.Names.{capability_words, kind_name, words_of}
+use Rattle.std.proofs.Common.{All}
 use Rattle.model.specs.declared.capability.Capability.TheVariants as capability
-use Rattle.model.specs.Text.{spaced, access_text, capability_text}
-use Rattle.model_laws.proofs.Spelling.{IsSpaceless, split_spaced, decimal_is_word}
-use Rattle.script.specs.Named.{access_words, capability_words, kind_name}
-use Rattle.script.specs.Reading.{words_of}
 use Rattle.script.proofs.CapabilityWords.{HasText, arguments_are, capability_again, kind_for}
 use Rattle.script.proofs.Texts.{spaced_more}
 

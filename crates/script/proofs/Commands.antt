@@ -1,20 +1,11 @@
 -- A command is read from its words, and from no others.
-use Rattle.std.proofs.Common.{◌≡◌, ◌≢◌, ℕ, ◌<◌, ◌^◌, ◌&&◌, Bool, true, false, cond, if◌then◌else◌, List, [], ◌∷◌, ◌++◌, map, Option, None, Some, length, decimal, codes, zero, suc, append-nil, append_assoc, refl, sym, ap, ◌∙◌, subst, arith, nat_lt}
-use Rattle.std.specs.Prelude.{IfSome, IfNone}
-use Rattle.std.specs.List.{All}
-use Rattle.std.specs.Str.{bytes_eq}
-use Rattle.std.specs.Str.Parse.{digits_value}
-use Rattle.std.proofs.lemmas.Slice.Eq.{bytes_eq-Decides}
-use Rattle.std.proofs.lemmas.Bool.{lt-ltb, ltb-true}
-use Rattle.model.specs.declared.command.Command.{Command}
+use Rattle.script.proofs.Names.{◌≡◌, ◌≢◌, ℕ, ◌<◌, ◌^◌, ◌&&◌, Bool, true, false, cond, if◌then◌else◌, List, [], ◌∷◌, ◌++◌, map, Option, None, Some, length}
+use Rattle.script.proofs.Names.{decimal, codes, zero, suc, append-nil, append_assoc, refl, sym, ap, ◌∙◌, subst, arith, nat_lt, IfSome, IfNone, All, bytes_eq}
+use Rattle.script.proofs.Names.{digits_value, bytes_eq-Decides, lt-ltb, ltb-true, Command, Operation, Call, Return, Send, Fits, command_words, operation_name}
+use Rattle.script.proofs.Names.{Keyword, keyword_name, ◌>>=◌, Words, Gives, number_in, number_at, register_at, numbers_at, registers_at, invocation_at, one_at}
+use Rattle.script.proofs.Names.{arguments_at}
 use Rattle.model.specs.declared.command.Command.TheVariants as command
-use Rattle.model.specs.declared.command.Operation.{Operation}
-use Rattle.model.specs.declared.command.Operation.TheVariants.{Call, Return, Send}
-use Rattle.model.specs.Text.{Fits, command_words, operation_name}
-use Rattle.script.specs.declared.keyword.Keyword.{Keyword}
 use Rattle.script.specs.declared.keyword.Keyword.TheVariants as keyword
-use Rattle.script.specs.Keywords.{keyword_name}
-use Rattle.script.specs.Reading.{◌>>=◌, Words, Gives, number_in, number_at, register_at, numbers_at, registers_at, invocation_at, one_at, arguments_at}
 use Rattle.script.proofs.Numbers.{decimal_is_digits}
 
 -- the value of a step that did not fail

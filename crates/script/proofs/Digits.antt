@@ -1,11 +1,6 @@
 -- A word of one digit, with a space behind it or at the end.
-use Rattle.std.proofs.Common.{◌≡◌, ℕ, ◌<◌, ◌≤◌, ◌-◌, ◌==◌, List, [], ◌∷◌, Some, length, get_or, take, drop, decimal, sym, ap, ◌∙◌, arith}
-use Rattle.std.specs.Int.{IsInRange}
-use Rattle.std.proofs.lemmas.Bool.Decides.{nat_tests}
-use Rattle.std.proofs.lemmas.Fmt.{decimal_digit}
-use Rattle.std.proofs.lemmas.List.{take_more}
-use Rattle.std.proofs.lemmas.List.Sums.{position_or_len_is}
-use Rattle.script.specs.Reading.{first_end, first_word, number_at, words_of}
+use Rattle.script.proofs.Names.{◌≡◌, ℕ, ◌<◌, ◌≤◌, ◌-◌, ◌==◌, List, [], ◌∷◌, Some, length, get_or, take, drop, decimal, sym, ap, ◌∙◌, arith, IsInRange}
+use Rattle.script.proofs.Names.{nat_tests, decimal_digit, take_more, position_or_len_is, first_end, first_word, number_at, words_of}
 use Rattle.script.proofs.Commands.{number_gives}
 use Rattle.script.proofs.Split.{word_alone, word_and_more}
 

@@ -1,10 +1,6 @@
 -- The first word of a text, up to a space or the end.
-use Rattle.std.proofs.Common.{◌≡◌, ◌≢◌, ℕ, ◌<◌, ◌≤◌, ◌==◌, Bool, List, length, get_or, take, inl, inr, arith}
-use Rattle.std.proofs.lemmas.Bool.{cases_lt}
-use Rattle.std.proofs.lemmas.Bool.Decides.{nat_tests}
-use Rattle.std.proofs.lemmas.List.{get_or-take, length-take-le, take-take}
-use Rattle.std.proofs.lemmas.List.Sums.{fails_before_first, passes_at_first, prefix_len-le-length}
-use Rattle.script.specs.Reading.{first_end, first_word}
+use Rattle.script.proofs.Names.{◌≡◌, ◌≢◌, ℕ, ◌<◌, ◌≤◌, ◌==◌, Bool, List, length, get_or, take, inl, inr, arith, cases_lt, nat_tests, get_or-take}
+use Rattle.script.proofs.Names.{length-take-le, take-take, fails_before_first, passes_at_first, prefix_len-le-length, first_end, first_word}
 
 abbrev is_space : ℕ → Bool
 is_space b = b == 32

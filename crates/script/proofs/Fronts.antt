@@ -1,12 +1,7 @@
 -- What a writer is left with, put together.
-use Rattle.std.proofs.Common.{◌≡◌, ℕ, ◌+◌, ◌-◌, List, [], ◌++◌, Option, None, Some, Result, Ok, Err, length, take, drop, sym, ap, ◌∙◌, subst, append_assoc, append-nil, arith}
-use Rattle.std.proofs.lemmas.List.{take-append-drop, take_all, length-drop}
-use Rattle.std.proofs.Math.Seq.{take-add}
-use Rattle.std.proofs.KnownBytes.{Appends-trans, Appends-kept}
-use Rattle.std.specs.Io.KnownBytes.{Appends, Keeps}
-use Rattle.model.specs.Text.{line_of}
-use Rattle.script.specs.declared.fault.RunFault.{RunFault}
-use Rattle.script.specs.Writing.{AppendsFront, Writes}
+use Rattle.script.proofs.Names.{◌≡◌, ℕ, ◌+◌, ◌-◌, List, [], ◌++◌, Option, None, Some, Result, Ok, Err, length, take, drop, sym, ap, ◌∙◌, subst, append_assoc}
+use Rattle.script.proofs.Names.{append-nil, arith, take-append-drop, take_all, length-drop, take-add, Appends-trans, Appends-kept, Appends, Keeps, line_of}
+use Rattle.script.proofs.Names.{RunFault, AppendsFront, Writes}
 
 -- the first n bytes are a beginning
 pub front_at : (a b : Option (List ℕ)) (bytes : List ℕ) (n : ℕ) → Appends a b (take n bytes) → AppendsFront a b bytes

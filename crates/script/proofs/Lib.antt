@@ -1,3 +1,4 @@
+mod Names
 pub mod CapabilityTexts
 pub mod CapabilityWords
 mod Commands

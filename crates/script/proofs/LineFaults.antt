@@ -1,27 +1,13 @@
 -- Words that can't stand at their places, and lines whose words can.
-use Rattle.std.proofs.Common.{◌≡◌, ◌≢◌, ℕ, ◌+◌, ◌<◌, ◌≤◌, ◌^◌, zero, suc, Bool, true, false, if◌then◌else◌, ◌==◌, List, [], ◌∷◌, ◌++◌, None, Some, length, take, get_or, decimal, codes, refl, sym, ap, ◌∙◌, subst, inl, inr, arith, append_assoc, append-nil, map, ⊎_elim}
-use Rattle.std.specs.Prelude.{slice_get}
-use Rattle.std.specs.List.{All}
-use Rattle.std.proofs.lemmas.Bool.{cases_lt}
-use Rattle.std.proofs.lemmas.Bool.Decides.{nat_tests}
-use Rattle.std.proofs.lemmas.List.{take_all}
-use Rattle.std.specs.Int.{IsInRange}
-use Rattle.std.proofs.lemmas.Fmt.{decimal_digit}
-use Rattle.std.proofs.lemmas.Int.Digits.{digits_more}
-use Rattle.std.proofs.lemmas.Str.{digit_value_digit}
-use Rattle.std.specs.Str.Parse.{AllDigits, digits_value}
-use Rattle.model.specs.declared.command.Command.{Command}
+use Rattle.script.proofs.Names.{◌≡◌, ◌≢◌, ℕ, ◌+◌, ◌<◌, ◌≤◌, ◌^◌, zero, suc, Bool, true, false, if◌then◌else◌, ◌==◌, List, [], ◌∷◌, ◌++◌, None, Some, length}
+use Rattle.script.proofs.Names.{take, get_or, decimal, codes, refl, sym, ap, ◌∙◌, subst, inl, inr, arith, append_assoc, append-nil, map, ⊎_elim, slice_get, All}
+use Rattle.script.proofs.Names.{cases_lt, nat_tests, take_all, IsInRange, decimal_digit, digits_more, digit_value_digit, AllDigits, digits_value, Command, Fits}
+use Rattle.script.proofs.Names.{Says, command_words, operation_name, spelling_from_words, Keyword, LineFault, keyword_name, AreOperands, HasWord, IsFaultOf}
+use Rattle.script.proofs.Names.{IsOperand, IsWordFault, Names, are_registers, Words, number_at}
 use Rattle.model.specs.declared.command.Command.TheVariants as command
 use Rattle.model.specs.declared.line.Line.TheVariants as line
-use Rattle.model.specs.Text.{Fits, Says, command_words, operation_name}
-use Rattle.model_laws.proofs.Spelling.{spelling_from_words}
-use Rattle.script.specs.declared.keyword.Keyword.{Keyword}
 use Rattle.script.specs.declared.keyword.Keyword.TheVariants as keyword
-use Rattle.script.specs.declared.line_fault.LineFault.{LineFault}
 use Rattle.script.specs.declared.line_fault.LineFault.TheVariants as fault
-use Rattle.script.specs.Keywords.{keyword_name}
-use Rattle.script.specs.LineFaults.{AreOperands, HasWord, IsFaultOf, IsOperand, IsWordFault, Names, are_registers}
-use Rattle.script.specs.Reading.{Words, number_at}
 use Rattle.script.proofs.Commands.{all_four, number_again, number_takes}
 use Rattle.script.proofs.Numbers.{digits_are_decimal}
 

@@ -1,13 +1,8 @@
 -- The decimal text of a number, and the words that are one.
-use Rattle.std.proofs.Common.{◌≡◌, ◌≢◌, ℕ, zero, suc, ◌<◌, ◌≤◌, ◌^◌, ◌+◌, ◌-◌, ◌*◌, List, Option, None, Some, length, get_or, take, decimal, sym, ap, subst, ◌∙◌, arith}
-use Rattle.std.specs.Prelude.{IfSome, IfNone}
-use Rattle.std.specs.Int.{IsInRange}
-use Rattle.std.proofs.lemmas.Str.{digit_value_digit}
-use Rattle.std.specs.Str.Parse.{AllDigits, digits_value}
-use Rattle.std.proofs.lemmas.Fmt.{decimal_nonempty, first_decimal, decimal_digit, digits_decimal, digits_value-decimal, decimal-digits_value}
-use Rattle.std.proofs.lemmas.Int.Digits.{digits_value_more, digits_more}
-use Rattle.std.proofs.lemmas.Str.Parse.{IsNumeralModel, numerals_by_value, tells_digits, digits_value-take-le}
-use Rattle.script.specs.Reading.{first_end, first_word}
+use Rattle.script.proofs.Names.{◌≡◌, ◌≢◌, ℕ, zero, suc, ◌<◌, ◌≤◌, ◌^◌, ◌+◌, ◌-◌, ◌*◌, List, Option, None, Some, length, get_or, take, decimal, sym, ap, subst}
+use Rattle.script.proofs.Names.{◌∙◌, arith, IfSome, IfNone, IsInRange, digit_value_digit, AllDigits, digits_value, decimal_nonempty, first_decimal}
+use Rattle.script.proofs.Names.{decimal_digit, digits_decimal, digits_value-decimal, decimal-digits_value, digits_value_more, digits_more, IsNumeralModel}
+use Rattle.script.proofs.Names.{numerals_by_value, tells_digits, digits_value-take-le, first_end, first_word}
 use Rattle.script.proofs.FirstWords.{word_reads}
 
 own : IsNumeralModel (AllDigits 10) (digits_value 10)

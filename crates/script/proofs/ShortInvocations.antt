@@ -1,15 +1,9 @@
 -- The command that numbers say which are read one after the other.
-use Rattle.std.proofs.Common.{◌≡◌, ℕ, ◌<◌, ◌+◌, ◌*◌, List, [], ◌∷◌, Option, None, Some, length, get_or, drop, refl, ap, ◌∙◌, arith}
-use Rattle.std.specs.Prelude.{IfSome, IsSome}
-use Rattle.std.proofs.lemmas.Bool.{lt-ltb}
-use Rattle.model.specs.declared.command.Command.{Command}
+use Rattle.script.proofs.Names.{◌≡◌, ℕ, ◌<◌, ◌+◌, ◌*◌, List, [], ◌∷◌, Option, None, Some, length, get_or, drop, refl, ap, ◌∙◌, arith, IfSome, IsSome, lt-ltb}
+use Rattle.script.proofs.Names.{Command, Operation, Fits, command_words, operation_name, Keyword, keyword_name, Words, arguments_at, invocation_at, number_at}
+use Rattle.script.proofs.Names.{numbers_at, register_at, registers_at, words_of}
 use Rattle.model.specs.declared.command.Command.TheVariants as command
-use Rattle.model.specs.declared.command.Operation.{Operation}
-use Rattle.model.specs.Text.{Fits, command_words, operation_name}
-use Rattle.script.specs.declared.keyword.Keyword.{Keyword}
 use Rattle.script.specs.declared.keyword.Keyword.TheVariants as keyword
-use Rattle.script.specs.Keywords.{keyword_name}
-use Rattle.script.specs.Reading.{Words, arguments_at, invocation_at, number_at, numbers_at, register_at, registers_at, words_of}
 use Rattle.script.proofs.Commands.{command_found}
 use Rattle.script.proofs.ShortNumbers.{last_one, one_digit}
 

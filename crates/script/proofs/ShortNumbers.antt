@@ -1,12 +1,7 @@
 -- A number of one to three digits at a place of a text, with a space behind it or at the end.
-use Rattle.std.proofs.Common.{◌≡◌, ℕ, ◌<◌, ◌≤◌, ◌^◌, ◌+◌, ◌*◌, ◌-◌, ◌==◌, List, [], Some, length, get_or, take, drop, decimal, refl, sym, ap, subst, ◌∙◌, arith}
-use Rattle.std.specs.Int.{IsInRange}
-use Rattle.std.specs.Str.Parse.{AllDigits, digits_value}
-use Rattle.std.proofs.lemmas.Bool.Decides.{nat_tests}
-use Rattle.std.proofs.lemmas.List.{get_or-take, get_or-drop, take_all, length-drop, drop-drop, length-take-le}
-use Rattle.std.proofs.lemmas.List.Sums.{position_or_len_is}
-use Rattle.std.proofs.lemmas.Str.Parse.{digit_at}
-use Rattle.script.specs.Reading.{first_end, first_word, number_at, words_of}
+use Rattle.script.proofs.Names.{◌≡◌, ℕ, ◌<◌, ◌≤◌, ◌^◌, ◌+◌, ◌*◌, ◌-◌, ◌==◌, List, [], Some, length, get_or, take, drop, decimal, refl, sym, ap, subst, ◌∙◌}
+use Rattle.script.proofs.Names.{arith, IsInRange, AllDigits, digits_value, nat_tests, get_or-take, get_or-drop, take_all, length-drop, drop-drop}
+use Rattle.script.proofs.Names.{length-take-le, position_or_len_is, digit_at, first_end, first_word, number_at, words_of}
 use Rattle.script.proofs.Commands.{number_gives}
 use Rattle.script.proofs.Numbers.{digits_are_decimal, value_more}
 use Rattle.script.proofs.Split.{word_alone, word_and_more}

@@ -1,9 +1,6 @@
 -- A line is a command's spelling where its pieces are the command's words.
-use Rattle.std.proofs.Common.{◌≡◌, ◌≢◌, ℕ, List, refl, sym, ap, ◌∙◌}
-use Rattle.model.specs.declared.command.Command.{Command}
-use Rattle.model.specs.Text.{Fits, IsSkipped, command_words, spelling}
-use Rattle.model_laws.proofs.Spelling.{length-spelling, skip_is_no_command, spelling_from_words, spells_one, split_spelling}
-use Rattle.script.specs.Reading.{words_of}
+use Rattle.script.proofs.Names.{◌≡◌, ◌≢◌, ℕ, List, refl, sym, ap, ◌∙◌, Command, Fits, IsSkipped, command_words, spelling, length-spelling, skip_is_no_command}
+use Rattle.script.proofs.Names.{spelling_from_words, spells_one, split_spelling, words_of}
 
 -- a spelling is neither empty nor a comment
 pub spelling_said : (c : Command) → Fits c → IsSkipped (spelling c) → ⊥

@@ -1,13 +1,7 @@
 -- The pieces of a line between its spaces.
-use Rattle.std.proofs.Common.{◌≡◌, ℕ, ◌+◌, ◌-◌, ◌==◌, Bool, false, List, [], ◌∷◌, None, Some, length, take, drop, refl, ap, subst, inl, inr, arith, ◌≤◌, ◌<◌}
-use Rattle.std.specs.List.{position, position_or_len}
-use Rattle.std.proofs.lemmas.Bool.{cases_lt, lt-ltb}
-use Rattle.std.proofs.lemmas.List.{take_all, length-drop}
-use Rattle.std.proofs.lemmas.List.Elements.{All-from_get_or}
-use Rattle.std.proofs.lemmas.List.Quantifiers.{position-Some}
-use Rattle.std.proofs.lemmas.List.Splits.{slice_split_none, slice_split_first, length-slice_split}
-use Rattle.std.proofs.lemmas.List.Sums.{position_or_len_is, fails_before_first}
-use Rattle.script.specs.Reading.{first_end, first_word, words_of}
+use Rattle.script.proofs.Names.{◌≡◌, ℕ, ◌+◌, ◌-◌, ◌==◌, Bool, false, List, [], ◌∷◌, None, Some, length, take, drop, refl, ap, subst, inl, inr, arith, ◌≤◌, ◌<◌}
+use Rattle.script.proofs.Names.{position, position_or_len, cases_lt, lt-ltb, take_all, length-drop, All-from_get_or, position-Some, slice_split_none}
+use Rattle.script.proofs.Names.{slice_split_first, length-slice_split, position_or_len_is, fails_before_first, first_end, first_word, words_of}
 
 abbrev is_space : ℕ → Bool
 is_space b = b == 32

@@ -1,15 +1,8 @@
 -- Every keyword, every kind and every state has a place in the table that the words are looked up in.
-use Rattle.std.proofs.Common.{◌≢◌, ℕ, ◌<◌, List, [], ◌∷◌, get_or, arith}
-use Rattle.model.specs.declared.command.Operation.TheVariants.{Call, Return, Send}
-use Rattle.model.specs.declared.object.State.{State}
-use Rattle.model.specs.declared.object.State.TheVariants.{Available, Running, Waiting}
-use Rattle.model.specs.Text.{state_text}
-use Rattle.script.specs.declared.keyword.Keyword.{Keyword}
+use Rattle.script.proofs.Names.{◌≢◌, ℕ, ◌<◌, List, [], ◌∷◌, get_or, arith, Call, Return, Send, State, Available, Running, Waiting, state_text, Keyword, Kind}
+use Rattle.script.proofs.Names.{Discrim, keyword_name, kind_name}
+use Rattle.script.specs.declared.named.Kind.TheVariants.{Void, Number, Page, Node, Space, Process, Start, Resume, Bank}
 use Rattle.script.specs.declared.keyword.Keyword.TheVariants as keyword
-use Rattle.script.specs.declared.named.Kind.{Kind}
-use Rattle.script.specs.declared.named.Kind.TheVariants.{Void, Number, Page, Node, Space, Process, Start, Resume, Bank, Discrim}
-use Rattle.script.specs.Keywords.{keyword_name}
-use Rattle.script.specs.Named.{kind_name}
 
 abbrev pub every_keyword : List Keyword
 every_keyword =

@@ -1,18 +1,12 @@
 -- The lines of an object, one for each of its parts.
-use Rattle.std.proofs.Common.{Option, ◌≡◌, ◌≢◌, ℕ, suc, add-one, length-take-le, ◌+◌, ◌/◌, ◌%◌, ◌<◌, ◌≤◌, List, [], ◌∷◌, ◌++◌, map, length, get_or, take, drop, codes, decimal, refl, sym, ap, ◌∙◌, append_assoc, append-nil, arith}
-use Rattle.std.specs.List.{flat_map, enumerate_from}
-use Rattle.std.proofs.lemmas.Fmt.{decimal_digit, decimal_step}
-use Rattle.std.proofs.lemmas.Grind.{flat_map-append}
-use Rattle.std.proofs.lemmas.List.{take-append-drop, take_all}
-use Rattle.std.proofs.lemmas.Nat.{div_below}
-use Rattle.std.proofs.lemmas.List.Folds.{flat_map-map}
-use Rattle.std.proofs.Math.Seq.{take-suc}
-use Rattle.model.specs.declared.capability.Capability.{Capability}
-use Rattle.model.specs.declared.capability.Capability.TheVariants.{Void, Number, Page, Node, Space, Process, Start, Resume, Bank, Discrim}
+use Rattle.script.proofs.Names.{Option, ◌≡◌, ◌≢◌, ℕ, suc, add-one, ◌+◌, ◌/◌, ◌%◌, ◌<◌, ◌≤◌, List, [], ◌∷◌, ◌++◌, map, length, get_or, take, drop, codes}
+use Rattle.script.proofs.Names.{decimal, refl, sym, ap, ◌∙◌, append_assoc, append-nil, arith, flat_map, enumerate_from, decimal_digit, decimal_step}
+use Rattle.script.proofs.Names.{flat_map-append, take-append-drop, take_all, div_below, flat_map-map, take-suc, Capability, Void, Number, Page, Node, Space}
+use Rattle.script.proofs.Names.{Process, Start, Resume, Bank, Object, Root, spaced, headed, line_of, word_lines, state_text, registers_of, object_text}
+use Rattle.script.proofs.Names.{capability_text, capability_line, capability_lines}
+use Rattle.std.proofs.Common.{length-take-le}
+use Rattle.model.specs.declared.capability.Capability.TheVariants.{Discrim}
 use Rattle.model.specs.declared.object.Content.TheVariants as content
-use Rattle.model.specs.declared.object.Object.{Object}
-use Rattle.model.specs.declared.object.Root.{Root}
-use Rattle.model.specs.Text.{spaced, headed, line_of, word_lines, state_text, registers_of, object_text, capability_text, capability_line, capability_lines}
 
 enumerate_append : {A : Type 0} (n : ℕ) (xs ys : List A) → enumerate_from n (xs ++ ys) ≡ enumerate_from n xs ++ enumerate_from (n + length xs) ys
 enumerate_append n [] ys = let same : n + 0 ≡ n = omega arith in rw same refl

@@ -1,9 +1,6 @@
 -- Sectors in a copy of an image.
-use Rattle.std.proofs.Common.{◌≡◌, ℕ, zero, suc, ◌+◌, ◌-◌, ◌*◌, ◌≤◌, List, [], ◌++◌, length, take, drop, refl, ap, ◌∙◌, arith, append-nil, take-add}
-use Rattle.std.proofs.lemmas.List.{drop-drop}
-use Rattle.device.specs.Disk.{Image}
-use Rattle.layout.specs.Image.{sectors_from}
-use Rattle.sector_faults.specs.Finding.{IsCopy}
+use Rattle.sector_faults.proofs.Names.{◌≡◌, ℕ, zero, suc, ◌+◌, ◌-◌, ◌*◌, ◌≤◌, List, [], ◌++◌, length, take, drop, refl, ap, ◌∙◌, arith, append-nil, take-add}
+use Rattle.sector_faults.proofs.Names.{drop-drop, Image, sectors_from, IsCopy}
 
 -- the sector of an image at a place of its copy
 copied : (image : Image) (bytes : List ℕ) (i : ℕ) → IsCopy image bytes → 512 * (i + 1) ≤ length bytes → take 512 (drop (512 * i) bytes) ≡ image i

@@ -1,14 +1,7 @@
 -- Entries that are each as they must be are a directory.
-use Rattle.std.proofs.Common.{◌≡◌, ℕ, ◌+◌, ◌-◌, ◌<◌, List, length, subst, sym, ◌∙◌, arith}
-use Rattle.model.specs.declared.geometry.Geometry.{Geometry}
-use Rattle.layout.specs.declared.directory.Entry.{Entry}
-use Rattle.layout.specs.Directory.{AllFitting, IsDirectory, IsEntry, directory_bytes, entry_at}
-use Rattle.layout.proofs.Directories.{directory_fits, one_directory}
-use Rattle.std.proofs.lemmas.List.{get_or_default}
-use Rattle.sector_faults.specs.declared.fault.DirectoryPart.{DirectoryPart}
+use Rattle.sector_faults.proofs.Names.{◌≡◌, ℕ, ◌+◌, ◌-◌, ◌<◌, List, length, subst, sym, ◌∙◌, arith, Geometry, Entry, AllFitting, IsDirectory, IsEntry}
+use Rattle.sector_faults.proofs.Names.{directory_bytes, entry_at, directory_fits, one_directory, get_or_default, DirectoryPart, BreaksDirectory, IsAmong}
 use Rattle.sector_faults.specs.declared.fault.DirectoryPart.TheVariants as entry
-use Rattle.sector_faults.specs.Breaking.{BreaksDirectory}
-use Rattle.sector_faults.specs.Finding.{IsAmong}
 
 module _ (g : Geometry) (es : List Entry) where
   pub all_among : ((k : ℕ) → k < length es → IsAmong g es k) → IsDirectory g es

@@ -1,25 +1,10 @@
 -- Slots and frames.
-use Rattle.std.proofs.Common.{◌≡◌, ℕ, ◌+◌, ◌-◌, ◌*◌, ◌<◌, nat_le, List, Option, None, Some, take, drop, refl, sym, ap, subst, ◌∙◌, inl, inr, arith}
-use Rattle.std.proofs.lemmas.Bool.{cases_lt}
-use Rattle.device.specs.Disk.{Image}
-use Rattle.model.specs.declared.capability.Cap.{Cap}
-use Rattle.model.specs.declared.frame.Frame.{Frame}
-use Rattle.model.specs.declared.geometry.Geometry.{Geometry}
-use Rattle.model.specs.Keepable.{IsKeptCap}
-use Rattle.layout.specs.declared.directory.Entry.{Entry}
-use Rattle.layout.specs.declared.header.CheckpointHeader.{CheckpointHeader}
-use Rattle.layout.specs.declared.shape.Shape.{Shape}
+use Rattle.sector_faults.proofs.Names.{◌≡◌, ℕ, ◌+◌, ◌-◌, ◌*◌, ◌<◌, nat_le, List, Option, None, Some, take, drop, refl, sym, ap, subst, ◌∙◌, inl, inr, arith}
+use Rattle.sector_faults.proofs.Names.{cases_lt, Image, Cap, Frame, Geometry, IsKeptCap, Entry, CheckpointHeader, Shape, capability_bytes, IsFrameOf, shape_of}
+use Rattle.sector_faults.proofs.Names.{HasDirectory, HasHeader, HasPlan, frame_in, frame_sector, sectors_from, shaped_at, shape_bytes, Plan, FramePart}
+use Rattle.sector_faults.proofs.Names.{HoldsCap, IsFault, FitsOr, IsWholeFrame}
 use Rattle.layout.specs.declared.shape.Shape.TheVariants as shape
-use Rattle.layout.specs.Capability.{capability_bytes}
-use Rattle.layout.specs.Frame.{IsFrameOf}
-use Rattle.layout.specs.Homes.{shape_of}
-use Rattle.layout.specs.Image.{HasDirectory, HasHeader, HasPlan, frame_in, frame_sector, sectors_from, shaped_at}
-use Rattle.layout.specs.Shape.{shape_bytes}
-use Rattle.layout.specs.Superblock.{Plan}
-use Rattle.sector_faults.specs.declared.fault.FramePart.{FramePart}
 use Rattle.sector_faults.specs.declared.fault.SectorFault.TheVariants as fault
-use Rattle.sector_faults.specs.Breaking.{HoldsCap, IsFault}
-use Rattle.sector_faults.specs.Finding.{FitsOr, IsWholeFrame}
 
 -- a slot more has a capability
 pub slots_more : (g : Geometry) (age : ℕ) (bytes : List ℕ) (k : ℕ) → ((j : ℕ) → j < k → HoldsCap g age bytes j) → HoldsCap g age bytes k → (j : ℕ) → j < k + 1 → HoldsCap g age bytes j

@@ -1,16 +1,9 @@
 -- Which header is committed, and what is wrong with it.
-use Rattle.std.proofs.Common.{◌≡◌, ℕ, zero, suc, ◌+◌, ◌*◌, ◌<◌, Bool, true, false, List, Option, None, Some, Result, Ok, Err, refl, sym, ap, subst, ◌∙◌, arith}
-use Rattle.std.specs.Prelude.{IfErr, IfNone, IfOk, if◌then◌else◌}
-use Rattle.std.proofs.lemmas.Bool.{lt-ltb}
-use Rattle.device.specs.Disk.{Image}
-use Rattle.layout.specs.declared.header.CheckpointHeader.{CheckpointHeader}
-use Rattle.layout.specs.Header.{IsHeader, header_bytes}
-use Rattle.layout.specs.Image.{HasHeader, HasPlan, committed_of, committed_bytes, committed_slot, option_at}
-use Rattle.layout.specs.Superblock.{Plan}
-use Rattle.sector_faults.specs.declared.fault.SectorFault.{SectorFault}
+use Rattle.sector_faults.proofs.Names.{◌≡◌, ℕ, zero, suc, ◌+◌, ◌*◌, ◌<◌, Bool, true, false, List, Option, None, Some, Result, Ok, Err, refl, sym, ap, subst}
+use Rattle.sector_faults.proofs.Names.{◌∙◌, arith, IfErr, IfNone, IfOk, if◌then◌else◌, lt-ltb, Image, CheckpointHeader, IsHeader, header_bytes, HasHeader}
+use Rattle.sector_faults.proofs.Names.{HasPlan, committed_of, committed_bytes, committed_slot, option_at, Plan, SectorFault, IsFault, HasHeaderIn, HasNoneIn}
+use Rattle.sector_faults.proofs.Names.{RefusesHeader, picked, slot_of}
 use Rattle.sector_faults.specs.declared.fault.SectorFault.TheVariants as fault
-use Rattle.sector_faults.specs.Breaking.{IsFault}
-use Rattle.sector_faults.specs.Finding.{HasHeaderIn, HasNoneIn, RefusesHeader, picked, slot_of}
 
 -- the second counts, and the first doesn't or has a smaller number
 pub second_wins : (first second : Bool) (m n : ℕ) → second ≡ true → (first ≡ true → m < n) → committed_of first m second n ≡ Some 1

@@ -1,3 +1,4 @@
+mod Names
 mod Numbers
 mod Copies
 mod Directories

@@ -1,13 +1,8 @@
 -- A superblock has its mark, and an image with one is large enough.
-use Rattle.std.proofs.Common.{◌≡◌, ℕ, ◌+◌, ◌-◌, ◌*◌, List, [], ◌∷◌, ◌++◌, length, replicate, take, drop, refl, sym, ap, subst, ◌∙◌, ⊎_elim, append_assoc, length-append, take_at, drop_at, arith}
-use Rattle.std.specs.Prelude.{codes}
-use Rattle.std.proofs.lemmas.List.{length-replicate}
-use Rattle.device.specs.Disk.{Image}
-use Rattle.layout.specs.declared.extent.HomeRange.{HomeRange}
-use Rattle.layout.specs.Bytes.{half_number, number, zeros}
-use Rattle.layout.specs.Image.{HasPlan, IsTooSmall, total_in}
-use Rattle.layout.specs.Superblock.{HasMark, IsPlan, Plan, ranges_bytes, superblock_bytes, unused, version_number}
-use Rattle.layout.proofs.Totals.{total_told}
+use Rattle.sector_faults.proofs.Names.{◌≡◌, ℕ, ◌+◌, ◌-◌, ◌*◌, List, [], ◌∷◌, ◌++◌, length, replicate, take, drop, refl, sym, ap, subst, ◌∙◌, ⊎_elim}
+use Rattle.sector_faults.proofs.Names.{append_assoc, length-append, take_at, drop_at, arith, codes, length-replicate, Image, HomeRange, half_number, number}
+use Rattle.sector_faults.proofs.Names.{zeros, HasPlan, IsTooSmall, total_in, HasMark, IsPlan, Plan, ranges_bytes, superblock_bytes, unused, version_number}
+use Rattle.sector_faults.proofs.Names.{total_told}
 
 long : (n : ℕ) → length (number n) ≡ 8
 unfolding number

@@ -1,12 +1,7 @@
 -- Numbers in bytes.
-use Rattle.std.proofs.Common.{◌≡◌, ℕ, ◌+◌, ◌<◌, ◌≤◌, List, ◌++◌, length, get_or, take, drop, sym, ap, ◌∙◌, inl, inr, arith}
-use Rattle.std.specs.Int.{w64, from_le_bytes}
-use Rattle.std.proofs.lemmas.Nat.{le_bytes_8}
-use Rattle.std.proofs.lemmas.List.{take-append-drop, length-take, length-drop, drop-drop, get_or-take, get_or-drop, get_or_past}
-use Rattle.std.proofs.lemmas.Bool.{cases_lt}
-use Rattle.byteorder.specs.Endian.{little_number}
-use Rattle.byteorder.specs.Numbers.{little_from-take}
-use Rattle.layout.specs.Bytes.{number}
+use Rattle.sector_faults.proofs.Names.{◌≡◌, ℕ, ◌+◌, ◌<◌, ◌≤◌, List, ◌++◌, length, get_or, take, drop, sym, ap, ◌∙◌, inl, inr, arith, w64, from_le_bytes}
+use Rattle.sector_faults.proofs.Names.{le_bytes_8, take-append-drop, length-take, length-drop, drop-drop, get_or-take, get_or-drop, get_or_past, cases_lt}
+use Rattle.sector_faults.proofs.Names.{little_number, little_from-take, number}
 
 as_le : (xs : List ℕ) → little_number 8 xs ≡ from_le_bytes w64 xs
 as_le xs = omega arith

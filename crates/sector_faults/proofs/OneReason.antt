@@ -1,15 +1,8 @@
 -- Sectors are bad for one reason.
-use Rattle.std.proofs.Common.{◌≡◌, ℕ, ◌+◌, ◌<◌, Some, None, List, refl, sym, ap, subst, ◌∙◌}
-use Rattle.device.specs.Disk.{Image}
-use Rattle.layout.specs.declared.bad_image.BadImage.{BadImage}
+use Rattle.sector_faults.proofs.Names.{◌≡◌, ℕ, ◌+◌, ◌<◌, Some, None, List, refl, sym, ap, subst, ◌∙◌, Image, BadImage, Entry, CheckpointHeader, header_bytes}
+use Rattle.sector_faults.proofs.Names.{HasBadDirectory, HasBadHeader, HasDirectory, HasHeader, HasNoHeader, HasPlan, IsBadBy, option_at, Plan, same_directory}
+use Rattle.sector_faults.proofs.Names.{same_header, same_plan, IsWhole, IsWholeFrame}
 use Rattle.layout.specs.declared.bad_image.BadImage.TheVariants as bad
-use Rattle.layout.specs.declared.directory.Entry.{Entry}
-use Rattle.layout.specs.declared.header.CheckpointHeader.{CheckpointHeader}
-use Rattle.layout.specs.Header.{header_bytes}
-use Rattle.layout.specs.Image.{HasBadDirectory, HasBadHeader, HasDirectory, HasHeader, HasNoHeader, HasPlan, IsBadBy, option_at}
-use Rattle.layout.specs.Superblock.{Plan}
-use Rattle.layout.proofs.Images.{same_directory, same_header, same_plan}
-use Rattle.sector_faults.specs.Finding.{IsWhole, IsWholeFrame}
 use Rattle.sector_faults.proofs.Marks.{has_mark, not_small}
 
 module _ (size : ℕ) (image : Image) where

@@ -1,13 +1,6 @@
 -- The searches for the slot of an object in a directory.
-use Rattle.std.proofs.Common.{◌≡◌, ℕ, ◌+◌, ◌<◌, ◌≤◌, Option, Some, None, Bool, true, false, List, ◌∷◌, length, drop, sym, ap, ◌∙◌}
-use Rattle.std.specs.Prelude.{◌==◌, if◌then◌else◌}
-use Rattle.std.proofs.lemmas.Bool.{eq-eqb, ne_eqb}
-use Rattle.std.proofs.lemmas.List.{drop_more, drop_all}
-use Rattle.layout.specs.declared.directory.Entry.{Entry}
-use Rattle.layout.specs.Directory.{entry_at}
-use Rattle.layout.specs.Homes.{home_place}
-use Rattle.layout.specs.Image.{slot_beside, slot_in}
-use Rattle.layout.specs.Superblock.{Plan}
+use Rattle.sector_faults.proofs.Names.{◌≡◌, ℕ, ◌+◌, ◌<◌, ◌≤◌, Option, Some, None, Bool, true, false, List, ◌∷◌, length, drop, sym, ap, ◌∙◌, ◌==◌, if◌then◌else◌}
+use Rattle.sector_faults.proofs.Names.{eq-eqb, ne_eqb, drop_more, drop_all, Entry, entry_at, home_place, slot_beside, slot_in, Plan}
 
 if_true : (test : Bool) (x y : Option ℕ) → test ≡ true → (if test then x else y) ≡ x
 if_true test x y e = rw e

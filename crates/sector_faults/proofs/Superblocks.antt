@@ -1,15 +1,8 @@
 -- What is wrong with the size of an image or with its superblock.
-use Rattle.std.proofs.Common.{◌≡◌, ℕ, ◌<◌, ◌≤◌, Bool, List, Result, Ok, Err, refl, sym, ap, subst, ◌∙◌, inl, inr, ⊎_elim, arith}
-use Rattle.std.specs.Prelude.{IfErr, IfOk, if◌then◌else◌}
-use Rattle.std.proofs.lemmas.Bool.{lt-ltb, le-ltb}
-use Rattle.device.specs.Disk.{Image}
-use Rattle.layout.specs.Image.{HasPlan, IsTooSmall, total_in}
-use Rattle.layout.specs.Superblock.{IsPlan, Plan, superblock_bytes}
-use Rattle.layout.proofs.Totals.{total_told}
-use Rattle.sector_faults.specs.declared.fault.SectorFault.{SectorFault}
+use Rattle.sector_faults.proofs.Names.{◌≡◌, ℕ, ◌<◌, ◌≤◌, Bool, List, Result, Ok, Err, refl, sym, ap, subst, ◌∙◌, inl, inr, ⊎_elim, arith, IfErr, IfOk}
+use Rattle.sector_faults.proofs.Names.{if◌then◌else◌, lt-ltb, le-ltb, Image, HasPlan, IsTooSmall, total_in, IsPlan, Plan, superblock_bytes, total_told}
+use Rattle.sector_faults.proofs.Names.{SectorFault, IsFault, BreaksSector}
 use Rattle.sector_faults.specs.declared.fault.SectorFault.TheVariants as fault
-use Rattle.sector_faults.specs.Breaking.{IsFault}
-use Rattle.sector_faults.specs.Finding.{BreaksSector}
 
 pub few_sectors : (size : ℕ) (image : Image) → size < 5 → IsFault size image (fault.Small size 5)
 few_sectors size image few = (inl few, (refl, ap (λ (t : Bool). if t then 5 else total_in (image 0)) (sym (lt-ltb size 5 few)), few))

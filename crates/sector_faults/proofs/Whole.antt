@@ -1,16 +1,9 @@
 -- Where the directory lies, and images with nothing wrong in their sectors.
-use Rattle.std.proofs.Common.{◌≡◌, ℕ, ◌+◌, ◌-◌, ◌*◌, ◌/◌, ◌≤◌, List, Result, Ok, Err, length, take, sym, ap, ◌∙◌, arith}
-use Rattle.std.specs.Prelude.{OnOk}
-use Rattle.device.specs.Disk.{Image}
-use Rattle.layout.specs.declared.directory.Entry.{Entry}
-use Rattle.layout.specs.declared.header.CheckpointHeader.{CheckpointHeader}
-use Rattle.layout.specs.Directory.{AllFitting, IsDirectory, directory_bytes}
-use Rattle.layout.specs.Image.{HasDirectory, HasHeader, HasPlan, directory_in, directory_length, directory_sector, sectors_from, slot_sector}
-use Rattle.layout.specs.Superblock.{IsPlan, Plan}
-use Rattle.layout.proofs.Halves.{half_within}
-use Rattle.sector_faults.specs.declared.fault.DirectoryPart.{DirectoryPart}
+use Rattle.sector_faults.proofs.Names.{◌≡◌, ℕ, ◌+◌, ◌-◌, ◌*◌, ◌/◌, ◌≤◌, List, Result, Ok, Err, length, take, sym, ap, ◌∙◌, arith, OnOk, Image, Entry}
+use Rattle.sector_faults.proofs.Names.{CheckpointHeader, AllFitting, IsDirectory, directory_bytes, HasDirectory, HasHeader, HasPlan, directory_in}
+use Rattle.sector_faults.proofs.Names.{directory_length, directory_sector, sectors_from, slot_sector, IsPlan, Plan, half_within, DirectoryPart, BreaksDirectory}
+use Rattle.sector_faults.proofs.Names.{IsFault}
 use Rattle.sector_faults.specs.declared.fault.SectorFault.TheVariants as fault
-use Rattle.sector_faults.specs.Breaking.{BreaksDirectory, IsFault}
 use Rattle.sector_faults.proofs.Directories.{no_spelling}
 
 -- the directory lies behind the last slot

@@ -1,28 +1,11 @@
 -- What new objects of a bank leave.
-use Rattle.std.proofs.Common.{◌≡◌, ◌≢◌, ℕ, ◌+◌, ◌<◌, Bool, false, List, length, refl, sym, ap, subst, arith, ◌∙◌}
-use Rattle.std.specs.Prelude.{IsTrue, slice_set}
-use Rattle.model.specs.declared.capability.Capability.{Capability}
-use Rattle.model.specs.declared.capability.Capability.TheVariants.{Void}
-use Rattle.model.specs.declared.geometry.Geometry.{Geometry}
-use Rattle.model.specs.declared.object.Content.{Content}
+use Rattle.space_bank.proofs.Names.{◌≡◌, ◌≢◌, ℕ, ◌+◌, ◌<◌, Bool, false, List, length, refl, sym, ap, subst, arith, ◌∙◌, IsTrue, slice_set, Capability, Void}
+use Rattle.space_bank.proofs.Names.{Geometry, Content, Object, chain, new_annex, new_root, with_new, header_at, AreCurrent, AreKeepable, is_bank, is_free}
+use Rattle.space_bank.proofs.Names.{is_root, content_at, at_other, Fresh, FreshFits, Parts, frames_of, fresh_content, objects_in, length_objects}
+use Rattle.space_bank.proofs.Names.{keepable_later, AreCounted, BanksState, CarriesOut, IsAlone, IsMadeUnder, MayServe, marks_of, IsRaised}
 use Rattle.model.specs.declared.object.Content.TheVariants as content
-use Rattle.model.specs.declared.object.Object.{Object}
 use Rattle.model.specs.declared.object.Role.TheVariants as role
-use Rattle.model.specs.Bank.{chain}
-use Rattle.model.specs.Banking.{new_annex, new_root, with_new}
-use Rattle.model.specs.Frame.{header_at}
-use Rattle.model.specs.Keepable.{AreCurrent, AreKeepable}
-use Rattle.model.specs.Object.{is_bank, is_free, is_root}
-use Rattle.model.specs.World.{content_at}
-use Rattle.model_laws.proofs.BankTree.{at_other}
-use Rattle.capability.specs.declared.present.Fresh.{Fresh}
 use Rattle.capability.specs.declared.present.Fresh.TheVariants as fresh
-use Rattle.capability.specs.Parts.{FreshFits, Parts, frames_of, fresh_content, objects_in}
-use Rattle.capability.proofs.Frames.{length_objects}
-use Rattle.capability.proofs.Keeping.{keepable_later}
-use Rattle.space_bank.specs.Banks.{AreCounted, BanksState}
-use Rattle.space_bank.specs.Carrying.{CarriesOut, IsAlone, IsMadeUnder, MayServe, marks_of}
-use Rattle.space_bank.specs.Chains.{IsRaised}
 use Rattle.space_bank.proofs.Standing.{free_header, serve_framed, serve_tree}
 use Rattle.space_bank.proofs.Tallies.{IsTaken, counted_alone, counted_bank, counted_process}
 

@@ -1,15 +1,8 @@
 -- A walk along the chain of a bank, from owner to owner.
-use Rattle.std.proofs.Common.{◌≡◌, ◌≢◌, inl, inr, ℕ, ◌+◌, ◌-◌, ◌<◌, ◌≤◌, true, false, List, [], length, refl, sym, ap, subst, arith, ◌∙◌}
-use Rattle.std.specs.Prelude.{IsTrue, if◌then◌else◌, slice_index, slice_set}
-use Rattle.std.proofs.lemmas.Bool.{cases_eq}
-use Rattle.std.proofs.lemmas.List.{get_or-set_other, get_or-set_same, length-set}
-use Rattle.model.specs.declared.object.Object.{Object}
-use Rattle.model.specs.Object.{is_bank}
-use Rattle.model.specs.World.{content_at, owner_at}
-use Rattle.model.specs.Bank.{chain}
-use Rattle.model.specs.Revoke.{is_member}
-use Rattle.model_laws.proofs.BankTree.{IsTree, chain_itself, chain_length, chain_longer, chain_nonempty, chain_once, chain_unfolds, chain_zero, member_tail, owner_bank}
-use Rattle.space_bank.specs.Chains.{IsRaised}
+use Rattle.space_bank.proofs.Names.{◌≡◌, ◌≢◌, inl, inr, ℕ, ◌+◌, ◌-◌, ◌<◌, ◌≤◌, true, false, List, [], length, refl, sym, ap, subst, arith, ◌∙◌, IsTrue}
+use Rattle.space_bank.proofs.Names.{if◌then◌else◌, slice_index, slice_set, cases_eq, get_or-set_other, get_or-set_same, length-set, Object, is_bank, content_at}
+use Rattle.space_bank.proofs.Names.{owner_at, chain, is_member, IsTree, chain_itself, chain_length, chain_longer, chain_nonempty, chain_once, chain_unfolds}
+use Rattle.space_bank.proofs.Names.{chain_zero, member_tail, owner_bank, IsRaised}
 
 -- what a bank adds to each in its chain
 abbrev pub share : List Object → ℕ → ℕ → ℕ → ℕ

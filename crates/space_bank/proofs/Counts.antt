@@ -1,30 +1,12 @@
 -- What is counted, a number at a time.
-use Rattle.std.proofs.Common.{◌≡◌, ◌+◌, ◌<◌, ◌≤◌, ◌^◌, ◌++◌, ◌∙◌, ℕ, false, List, [], ◌∷◌, length, map, inl, inr, refl, sym, ap, subst, zero-add, arith}
-use Rattle.std.specs.Prelude.{IsTrue, Some, slice_index}
-use Rattle.std.specs.Option.{SomeIff}
-use Rattle.std.specs.List.{range_with_len}
-use Rattle.std.proofs.lemmas.Bool.{cases_lt}
-use Rattle.std.proofs.lemmas.List.FromFn.{get_or-map-range_with_len, length-map-range_with_len, map-range_with_len_more}
-use Rattle.model.specs.declared.capability.Cap.{Cap}
-use Rattle.model.specs.declared.capability.Capability.{Capability}
-use Rattle.model.specs.declared.frame.Frame.{Frame}
-use Rattle.model.specs.declared.frame.ObjectHeader.{ObjectHeader}
-use Rattle.model.specs.declared.geometry.Geometry.{Geometry}
-use Rattle.model.specs.declared.object.Content.{Content}
+use Rattle.space_bank.proofs.Names.{◌≡◌, ◌+◌, ◌<◌, ◌≤◌, ◌^◌, ◌++◌, ◌∙◌, ℕ, false, List, [], ◌∷◌, length, map, inl, inr, refl, sym, ap, subst, zero-add, arith}
+use Rattle.space_bank.proofs.Names.{IsTrue, slice_index, SomeIff, range_with_len, cases_lt, get_or-map-range_with_len, length-map-range_with_len}
+use Rattle.space_bank.proofs.Names.{map-range_with_len_more, Cap, Capability, Frame, ObjectHeader, Geometry, Content, Object, usage, conveyed, frames_in}
+use Rattle.space_bank.proofs.Names.{held_at, objects_of, Role, is_bank, is_free, is_root, limit_in, root_in, object_count, content_at, Parts, objects_in}
+use Rattle.space_bank.proofs.Names.{content_there, mapped, AreCounted, BanksState, AreKept, AreMarked, kept_number}
+use Rattle.std.specs.Prelude.{Some}
 use Rattle.model.specs.declared.object.Content.TheVariants as content
-use Rattle.model.specs.declared.object.Object.{Object}
-use Rattle.model.specs.Bank.{usage}
-use Rattle.model.specs.Frame.{conveyed, frames_in, held_at, objects_of}
-use Rattle.model.specs.declared.object.Role.{Role}
 use Rattle.model.specs.declared.object.Role.TheVariants as role
-use Rattle.model.specs.Object.{is_bank, is_free, is_root, limit_in, root_in}
-use Rattle.model.specs.Sound.{object_count}
-use Rattle.model.specs.World.{content_at}
-use Rattle.capability.specs.Parts.{Parts, objects_in}
-use Rattle.capability.proofs.Frames.{content_there}
-use Rattle.capability.proofs.Mapped.{mapped}
-use Rattle.space_bank.specs.Banks.{AreCounted, BanksState}
-use Rattle.space_bank.specs.Counting.{AreKept, AreMarked, kept_number}
 
 -- what is no process has no annex, and what is no bank no limit
 pub annex_of_other : (c : Content Capability) → is_root c ≡ false → (root_in c).annex ≡ 0

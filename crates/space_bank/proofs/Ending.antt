@@ -1,30 +1,12 @@
 -- What is left of what is counted, where objects are given up.
-use Rattle.std.proofs.Common.{◌≡◌, ℕ, zero, suc, ◌+◌, ◌-◌, ◌^◌, ◌<◌, ◌≤◌, ◌++◌, Bool, true, false, List, [], ◌∷◌, drop, take, length, refl, sym, ap, subst, arith, ◌∙◌}
-use Rattle.std.specs.Prelude.{IsTrue, if◌then◌else◌, nat_eq, slice_index, slice_index_or}
-use Rattle.std.specs.List.{All}
-use Rattle.std.proofs.lemmas.Bool.{eq-eqb, false_from_ne_true, false≢true}
-use Rattle.std.proofs.lemmas.List.{take_rest}
-use Rattle.std.proofs.lemmas.List.Folds.{list_any_at}
-use Rattle.model.specs.declared.capability.Capability.{Capability}
-use Rattle.model.specs.declared.geometry.Geometry.{Geometry}
-use Rattle.model.specs.declared.object.Content.{Content}
-use Rattle.model.specs.declared.object.Object.{Object}
-use Rattle.model.specs.Bank.{chain, usage}
-use Rattle.model.specs.Frame.{header_at}
-use Rattle.model.specs.Keepable.{AreCurrent, AreKeepable}
-use Rattle.model.specs.Object.{free, is_bank, is_free, is_root, limit_in}
-use Rattle.model.specs.Revoke.{is_member, names_member, rescind, void_where, without}
-use Rattle.model.specs.World.{content_at, object_at}
-use Rattle.model_laws.proofs.NumberLists.{AllDiffer}
-use Rattle.model_laws.proofs.BankTree.{chain_banks, member_tail}
-use Rattle.model_laws.proofs.GivenUp.{free_rescinded}
-use Rattle.model_laws.proofs.Revoking.{at_rescind}
-use Rattle.capability.specs.Parts.{AreGivenUp, IsOnce, KeepsAside, Parts, frames_of, objects_in}
-use Rattle.model_laws.proofs.Mapped.{IsMapped, without_mapped}
-use Rattle.space_bank.specs.Banks.{AreCounted, BanksState, KeepsObjects}
-use Rattle.space_bank.specs.Carrying.{CarriesOut, MayGiveUp, MayServe, marks_of}
-use Rattle.space_bank.specs.Chains.{IsRaised}
-use Rattle.number_set.specs.Marks.{is_marked}
+use Rattle.space_bank.proofs.Names.{◌≡◌, ℕ, zero, suc, ◌+◌, ◌-◌, ◌^◌, ◌<◌, ◌≤◌, ◌++◌, Bool, true, false, List, [], ◌∷◌, drop, take, length, refl, sym, ap}
+use Rattle.space_bank.proofs.Names.{subst, arith, ◌∙◌, IsTrue, if◌then◌else◌, slice_index, slice_index_or, All, eq-eqb, false_from_ne_true, false≢true}
+use Rattle.space_bank.proofs.Names.{take_rest, list_any_at, Capability, Geometry, Content, Object, chain, usage, header_at, AreCurrent, AreKeepable, free}
+use Rattle.space_bank.proofs.Names.{is_bank, is_free, is_root, limit_in, is_member, names_member, rescind, void_where, without, content_at, object_at}
+use Rattle.space_bank.proofs.Names.{AllDiffer, chain_banks, member_tail, free_rescinded, at_rescind, AreGivenUp, IsOnce, KeepsAside, Parts, frames_of}
+use Rattle.space_bank.proofs.Names.{objects_in, IsMapped, without_mapped, AreCounted, BanksState, KeepsObjects, CarriesOut, MayGiveUp, MayServe, marks_of}
+use Rattle.space_bank.proofs.Names.{IsRaised, is_marked}
+use Rattle.std.specs.Prelude.{nat_eq}
 use Rattle.space_bank.proofs.Renewing.{SameFree, renews_after, renews_none, renews_rescinded}
 use Rattle.space_bank.proofs.Standing.{few_allocations, few_calls, serve_count, serve_tree}
 use Rattle.space_bank.proofs.Tallies.{annex_in, counted_from, marks_counted}

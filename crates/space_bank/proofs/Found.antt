@@ -1,19 +1,8 @@
 -- The least free numbers, found by their marks.
-use Rattle.std.proofs.Common.{◌≡◌, ◌+◌, ◌-◌, ◌<◌, ◌≤◌, ◌∙◌, ℕ, zero, suc, Option, None, Some, Bool, cond, List, [], ◌∷◌, length, ⊎_elim, refl, sym, ap, subst, zero-add, arith}
-use Rattle.std.proofs.lemmas.Bool.{cases_lt}
-use Rattle.std.specs.List.{range_with_len}
-use Rattle.std.specs.Prelude.{IfSome}
-use Rattle.model.specs.declared.geometry.Geometry.{Geometry}
-use Rattle.model.specs.declared.object.Object.{Object}
-use Rattle.model.specs.Banking.{are_free, free_nodes, free_pages}
-use Rattle.model.specs.Object.{is_free}
-use Rattle.model.specs.World.{content_at}
-use Rattle.capability.specs.declared.order.BankChange.{BankChange}
-use Rattle.capability.specs.declared.order.BankChange.TheVariants.{MakeProcess}
-use Rattle.space_bank.specs.Allocating.{numbers_of, process_at}
-use Rattle.space_bank.specs.Banks.{AreCounted, BanksState}
-use Rattle.space_bank.specs.Counting.{AreMarked}
-use Rattle.number_set.specs.Marks.{HasNoneMarked, IsNextMarked, is_marked}
+use Rattle.space_bank.proofs.Names.{◌≡◌, ◌+◌, ◌-◌, ◌<◌, ◌≤◌, ◌∙◌, ℕ, zero, suc, Option, None, Some, Bool, cond, List, [], ◌∷◌, length, ⊎_elim, refl, sym, ap}
+use Rattle.space_bank.proofs.Names.{subst, zero-add, arith, cases_lt, range_with_len, IfSome, Geometry, Object, are_free, free_nodes, free_pages, is_free}
+use Rattle.space_bank.proofs.Names.{content_at, BankChange, MakeProcess, numbers_of, process_at, AreCounted, BanksState, AreMarked, HasNoneMarked, IsNextMarked}
+use Rattle.space_bank.proofs.Names.{is_marked}
 
 -- marks of the numbers from a base on
 module _ (os : List Object) (base : ℕ) (marks : List Bool) (same : (n : ℕ) → n < length marks → is_marked marks n ≡ is_free (content_at os (base + n))) where

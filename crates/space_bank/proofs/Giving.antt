@@ -1,25 +1,12 @@
 -- What orders give up may be given up.
-use Rattle.std.proofs.Common.{◌≡◌, ◌≢◌, inl, inr, ℕ, ◌<◌, ◌≤◌, ◌==◌, true, false, not, List, [], ◌∷◌, drop, length, refl, sym, ap, arith, ◌∙◌}
-use Rattle.std.specs.Prelude.{IsTrue, nat_eq, slice_index}
-use Rattle.std.specs.List.{list_any}
-use Rattle.std.proofs.lemmas.Bool.{and_parts, cases_eq, eq-eqb, eqb-true, false_from_ne_true, false≢true, or_cases, or_left}
-use Rattle.std.proofs.lemmas.List.{length-drop}
-use Rattle.model.specs.declared.capability.Capability.{Capability}
-use Rattle.model.specs.declared.geometry.Geometry.{Geometry}
-use Rattle.model.specs.declared.object.Object.{Object}
-use Rattle.model.specs.Bank.{chain, is_under}
-use Rattle.model.specs.Banking.{freed_by, under}
-use Rattle.model.specs.Object.{is_bank, is_free}
-use Rattle.model.specs.Revoke.{is_member}
-use Rattle.model.specs.Sound.{NamesItsKind}
-use Rattle.model.specs.World.{content_at, object_at, owner_at}
-use Rattle.model_laws.proofs.BankFreed.{destroyed_fits, freed_fits, freed_set, under_found, under_given_up, under_once, under_stands, usage_destroyed, usage_freed, used_within}
-use Rattle.model_laws.proofs.BankRescind.{used_where}
-use Rattle.model_laws.proofs.BankTree.{IsTree, chain_banks, chain_longer, chain_nonempty, chain_once, chain_shorter, chain_zero, owner_bank, tree_of}
-use Rattle.model_laws.proofs.SoundOrders.{IsNow}
-use Rattle.capability.specs.Parts.{Parts, objects_in}
-use Rattle.space_bank.specs.Banks.{BanksState}
-use Rattle.space_bank.specs.Carrying.{IsFreedOf, MayGiveUp, MayServe}
+use Rattle.space_bank.proofs.Names.{◌≡◌, ◌≢◌, inl, inr, ℕ, ◌<◌, ◌≤◌, ◌==◌, true, false, not, List, [], ◌∷◌, drop, length, refl, sym, ap, arith, ◌∙◌, IsTrue}
+use Rattle.space_bank.proofs.Names.{slice_index, list_any, and_parts, cases_eq, eq-eqb, eqb-true, false_from_ne_true, false≢true, or_cases, or_left}
+use Rattle.space_bank.proofs.Names.{length-drop, Capability, Geometry, Object, chain, is_under, freed_by, under, is_bank, is_free, is_member, NamesItsKind}
+use Rattle.space_bank.proofs.Names.{content_at, object_at, owner_at, destroyed_fits, freed_fits, freed_set, under_found, under_given_up, under_once}
+use Rattle.space_bank.proofs.Names.{under_stands, usage_destroyed, usage_freed, used_within, used_where, IsTree, chain_banks, chain_longer, chain_nonempty}
+use Rattle.space_bank.proofs.Names.{chain_once, chain_shorter, chain_zero, owner_bank, tree_of, IsNow, Parts, objects_in, BanksState, IsFreedOf, MayGiveUp}
+use Rattle.space_bank.proofs.Names.{MayServe}
+use Rattle.std.specs.Prelude.{nat_eq}
 use Rattle.space_bank.proofs.Ending.{once_of_differ}
 use Rattle.space_bank.proofs.Standing.{serve_tree}
 

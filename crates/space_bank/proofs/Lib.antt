@@ -1,3 +1,4 @@
+mod Names
 mod Carried
 mod Climbs
 mod Counts

@@ -1,32 +1,13 @@
 -- What orders plan may be made.
-use Rattle.std.proofs.Common.{◌≡◌, ◌≢◌, ℕ, ◌+◌, ◌<◌, ◌≤◌, Bool, true, false, not, List, [], ◌∷◌, Some, length, refl, sym, ap, subst, arith, ◌∙◌}
-use Rattle.std.specs.Prelude.{IsTrue, nat_lt}
-use Rattle.std.specs.List.{range_with_len}
-use Rattle.std.proofs.lemmas.Bool.{false≢true, ltb-true}
-use Rattle.model.specs.declared.capability.Capability.{Capability}
-use Rattle.model.specs.declared.capability.Capability.TheVariants.{Void, Number, Page, Node, Space, Process, Start, Resume, Bank, Discrim}
-use Rattle.model.specs.declared.geometry.Geometry.{Geometry}
-use Rattle.model.specs.declared.object.Object.{Object}
-use Rattle.model.specs.Bank.{chain}
-use Rattle.model.specs.Banking.{are_free, free_nodes, free_pages, freed_by, has_room, owned_by, under}
-use Rattle.model.specs.Object.{is_bank, is_free}
-use Rattle.model.specs.Revoke.{is_member}
-use Rattle.model.specs.Sound.{NamesItsKind}
-use Rattle.model.specs.World.{content_at, owner_at}
-use Rattle.model_laws.proofs.BankTree.{member_head, member_tail, owner_bank, tree_of}
-use Rattle.model_laws.proofs.BankUsage.{freed_alike, owned_alike, room_alike, under_alike}
-use Rattle.model_laws.proofs.NumberLists.{AllDiffer, filter_once, found_in}
-use Rattle.model_laws.proofs.SoundOrders.{IsNow}
-use Rattle.model_laws.proofs.Usage.{SameFrame, tests_at}
-use Rattle.capability.specs.declared.order.BankChange.{BankChange}
-use Rattle.capability.specs.declared.order.BankChange.TheVariants.{Make, MakeProcess}
-use Rattle.capability.specs.declared.present.Fresh.{Fresh}
+use Rattle.space_bank.proofs.Names.{◌≡◌, ◌≢◌, ℕ, ◌+◌, ◌<◌, ◌≤◌, Bool, true, false, not, List, [], ◌∷◌, Some, length, refl, sym, ap, subst, arith, ◌∙◌, IsTrue}
+use Rattle.space_bank.proofs.Names.{nat_lt, range_with_len, false≢true, ltb-true, Capability, Void, Number, Page, Node, Space, Process, Start, Resume, Bank}
+use Rattle.space_bank.proofs.Names.{Discrim, Geometry, Object, chain, are_free, free_nodes, free_pages, freed_by, has_room, owned_by, under, is_bank, is_free}
+use Rattle.space_bank.proofs.Names.{is_member, NamesItsKind, content_at, owner_at, member_head, member_tail, owner_bank, tree_of, freed_alike, owned_alike}
+use Rattle.space_bank.proofs.Names.{room_alike, under_alike, AllDiffer, filter_once, found_in, IsNow, SameFrame, tests_at, BankChange, Make, MakeProcess, Fresh}
+use Rattle.space_bank.proofs.Names.{IsFreshAt, New, count_of, is_deep, made_for, new_at, numbers_of, process_at, GivesUp, HandsOn, IsMadeUnder, MayGiveUp}
+use Rattle.space_bank.proofs.Names.{MayMake}
 use Rattle.capability.specs.declared.present.Fresh.TheVariants as fresh
-use Rattle.capability.specs.Parts.{IsFreshAt}
-use Rattle.space_bank.specs.declared.planning_new.New.{New}
 use Rattle.space_bank.specs.declared.planning_new.New.TheVariants as new
-use Rattle.space_bank.specs.Allocating.{count_of, is_deep, made_for, new_at, numbers_of, process_at}
-use Rattle.space_bank.specs.Carrying.{GivesUp, HandsOn, IsMadeUnder, MayGiveUp, MayMake}
 use Rattle.space_bank.proofs.Giving.{destroyed_gives, freed_list}
 use Rattle.space_bank.proofs.Plans.{deep_alike, made_alike}
 

@@ -1,17 +1,8 @@
 -- Numbers that aren't free, found by the marks of nodes and of pages.
-use Rattle.std.proofs.Common.{◌≡◌, ◌≢◌, ◌+◌, ◌-◌, ◌<◌, ◌≤◌, ◌++◌, ◌∙◌, ℕ, zero, suc, Bool, true, false, List, length, inl, inr, refl, sym, ap, subst, arith}
-use Rattle.std.specs.List.{filter, range_with_len}
-use Rattle.std.proofs.lemmas.Bool.{cases_lt, ne_eqb}
-use Rattle.std.proofs.lemmas.List.{get_or-append_right, get_or_append_left}
-use Rattle.model.specs.declared.object.Object.{Object}
-use Rattle.model.specs.Object.{is_free}
-use Rattle.model.specs.World.{content_at}
-use Rattle.capability.specs.Parts.{Parts, objects_in}
-use Rattle.capability.proofs.Frames.{length_objects}
-use Rattle.capability.proofs.Keeping.{keepable_count}
-use Rattle.number_set.specs.Marks.{is_marked, IsNextUnmarked, HasAllMarked}
-use Rattle.space_bank.specs.Banks.{BanksState}
-use Rattle.space_bank.specs.Planning.{AreFree, HasNoneUsed, IsBankOf, IsNextUsed}
+use Rattle.space_bank.proofs.Names.{◌≡◌, ◌≢◌, ◌+◌, ◌-◌, ◌<◌, ◌≤◌, ◌++◌, ◌∙◌, ℕ, zero, suc, Bool, true, false, List, length, inl, inr, refl, sym, ap, subst}
+use Rattle.space_bank.proofs.Names.{arith, filter, range_with_len, cases_lt, ne_eqb, get_or-append_right, get_or_append_left, Object, is_free, content_at}
+use Rattle.space_bank.proofs.Names.{Parts, objects_in, length_objects, keepable_count, is_marked, IsNextUnmarked, HasAllMarked, BanksState, AreFree}
+use Rattle.space_bank.proofs.Names.{HasNoneUsed, IsBankOf, IsNextUsed}
 use Rattle.space_bank.proofs.Lists.{is_listed_owned, is_listed_under, listed_same}
 use Rattle.space_bank.proofs.Tallies.{marks_counted}
 

@@ -1,16 +1,8 @@
 -- Objects that are handed on to another bank, one after another.
-use Rattle.std.proofs.Common.{◌≡◌, inl, inr, ℕ, ◌+◌, ◌<◌, ◌||◌, Bool, true, false, List, take, length, refl, sym, ap, ◌∙◌}
-use Rattle.std.specs.Prelude.{if◌then◌else◌, nat_eq, slice_index, slice_set}
-use Rattle.std.proofs.lemmas.Bool.{cases_eq, eq-eqb, ne_eqb}
-use Rattle.std.proofs.lemmas.List.{get_or-set_other, get_or-set_same, length-set}
-use Rattle.std.proofs.lemmas.List.Folds.{list_any_more}
-use Rattle.model.specs.declared.capability.Capability.{Capability}
-use Rattle.model.specs.declared.object.Content.{Content}
-use Rattle.model.specs.declared.object.Object.{Object}
-use Rattle.model.specs.Object.{free, is_free}
-use Rattle.model.specs.Revoke.{is_member}
-use Rattle.model.specs.World.{content_at, object_at}
-use Rattle.space_bank.specs.Carrying.{AreHandedOn}
+use Rattle.space_bank.proofs.Names.{◌≡◌, inl, inr, ℕ, ◌+◌, ◌<◌, ◌||◌, Bool, true, false, List, take, length, refl, sym, ap, ◌∙◌, if◌then◌else◌, slice_index}
+use Rattle.space_bank.proofs.Names.{slice_set, cases_eq, eq-eqb, ne_eqb, get_or-set_other, get_or-set_same, length-set, list_any_more, Capability, Content}
+use Rattle.space_bank.proofs.Names.{Object, free, is_free, is_member, content_at, object_at, AreHandedOn}
+use Rattle.std.specs.Prelude.{nat_eq}
 
 -- an object with another owner, where it is handed on
 abbrev pub handed : Bool → ℕ → Object → Object

@@ -1,45 +1,21 @@
 -- What is planned is what an order comes to.
-use Rattle.std.proofs.Common.{◌≡◌, ◌+◌, ◌<◌, ◌≤◌, ◌++◌, ◌∙◌, ℕ, Bool, true, false, List, [], ◌∷◌, None, Some, length, refl, sym, ap, subst, arith}
-use Rattle.std.specs.Prelude.{IsTrue, if◌then◌else◌, nat_lt, not}
-use Rattle.std.proofs.lemmas.Bool.{eq-eqb, ne_eqb}
-use Rattle.std.proofs.lemmas.List.{append-nil, length-append}
-use Rattle.model.specs.declared.capability.Capability.{Capability}
-use Rattle.model.specs.declared.capability.Capability.TheVariants.{Void, Number, Page, Node, Space, Process, Start, Resume, Bank, Discrim}
-use Rattle.model.specs.declared.geometry.Geometry.{Geometry}
-use Rattle.model.specs.declared.object.Content.{Content}
+use Rattle.space_bank.proofs.Names.{◌≡◌, ◌+◌, ◌<◌, ◌≤◌, ◌++◌, ◌∙◌, ℕ, Bool, true, false, List, [], ◌∷◌, None, Some, length, refl, sym, ap, subst, arith, IsTrue}
+use Rattle.space_bank.proofs.Names.{if◌then◌else◌, nat_lt, eq-eqb, ne_eqb, append-nil, length-append, Capability, Void, Number, Page, Node, Space, Process}
+use Rattle.space_bank.proofs.Names.{Start, Resume, Bank, Discrim, Geometry, Content, Object, Arguments, BankOrder, ResultCode, chain, usage, allocated}
+use Rattle.space_bank.proofs.Names.{bank_allocated, free_nodes, free_pages, freed, freed_by, has_room, inherited, on_bank, owned_by, process_allocated}
+use Rattle.space_bank.proofs.Names.{remaining, under, with_new, full, OrderOutcome, made, refused, told_three, is_bank, is_root, limit_in, rescind, MayBeHeld}
+use Rattle.space_bank.proofs.Names.{content_at, owner_at, BankChange, OrderPlan, Fresh, bank_changed, reply_of_code, HaveTheirRoles, Parts, frames_of}
+use Rattle.space_bank.proofs.Names.{fresh_content, objects_in, freed_alike, nodes_alike, owned_alike, pages_alike, remaining_alike, room_alike, under_alike}
+use Rattle.space_bank.proofs.Names.{IsNow, SameFrame, chain_same, frame_refl, usage_same, keepable_count, keepable_roles, root_number, New, allocated_by}
+use Rattle.space_bank.proofs.Names.{allocating, count_of, given_by, given_for, is_deep, made_for, new_at, new_of, numbers_of, process_at, BanksState, MayAsk}
+use Rattle.space_bank.proofs.Names.{IsPlanned, MayMake, PlansAs, IsBankOf, annex_among, annex_of}
+use Rattle.std.specs.Prelude.{not}
 use Rattle.model.specs.declared.object.Content.TheVariants as content
-use Rattle.model.specs.declared.object.Object.{Object}
-use Rattle.model.specs.declared.order.Arguments.{Arguments}
-use Rattle.model.specs.declared.order.BankOrder.{BankOrder}
 use Rattle.model.specs.declared.order.BankOrder.TheVariants as bank
-use Rattle.model.specs.declared.order.ResultCode.{ResultCode}
 use Rattle.model.specs.declared.order.ResultCode.TheVariants as code
-use Rattle.model.specs.Bank.{chain, usage}
-use Rattle.model.specs.Banking.{allocated, bank_allocated, free_nodes, free_pages, freed, freed_by, has_room, inherited, on_bank, owned_by, process_allocated, remaining, under, with_new}
-use Rattle.model.specs.Capability.{full}
-use Rattle.model.specs.OrderOutcome.{OrderOutcome, made, refused, told_three}
-use Rattle.model.specs.Object.{is_bank, is_root, limit_in}
-use Rattle.model.specs.Revoke.{rescind}
-use Rattle.model.specs.Sound.{MayBeHeld}
-use Rattle.model.specs.World.{content_at, owner_at}
-use Rattle.capability.specs.declared.order.BankChange.{BankChange}
 use Rattle.capability.specs.declared.order.Change.TheVariants as change
-use Rattle.capability.specs.declared.order.OrderPlan.{OrderPlan}
-use Rattle.capability.specs.declared.present.Fresh.{Fresh}
 use Rattle.capability.specs.declared.present.Fresh.TheVariants as fresh
-use Rattle.capability.specs.Changes.{bank_changed, reply_of_code}
-use Rattle.capability.specs.Parts.{HaveTheirRoles, Parts, frames_of, fresh_content, objects_in}
-use Rattle.model_laws.proofs.BankUsage.{freed_alike, nodes_alike, owned_alike, pages_alike, remaining_alike, room_alike, under_alike}
-use Rattle.model_laws.proofs.SoundOrders.{IsNow}
-use Rattle.model_laws.proofs.Usage.{SameFrame, chain_same, frame_refl, usage_same}
-use Rattle.capability.proofs.Keeping.{keepable_count, keepable_roles}
-use Rattle.capability.proofs.KindNumbers.{root_number}
-use Rattle.space_bank.specs.declared.planning_new.New.{New}
 use Rattle.space_bank.specs.declared.planning_new.New.TheVariants as new
-use Rattle.space_bank.specs.Allocating.{allocated_by, allocating, count_of, given_by, given_for, is_deep, made_for, new_at, new_of, numbers_of, process_at}
-use Rattle.space_bank.specs.Banks.{BanksState, MayAsk}
-use Rattle.space_bank.specs.Carrying.{IsPlanned, MayMake, PlansAs}
-use Rattle.space_bank.specs.Planning.{IsBankOf, annex_among, annex_of}
 use Rattle.space_bank.proofs.Walks.{node_of_bank}
 
 -- a plan that tells no, one that makes a change of a bank, and one that tells three words

@@ -1,17 +1,7 @@
 -- Counts of allocations where objects are given up, and where none is.
-use Rattle.std.proofs.Common.{◌≡◌, ℕ, ◌+◌, ◌&&◌, Bool, true, false, not, List, sym, ap, arith, ◌∙◌}
-use Rattle.std.specs.Prelude.{if◌then◌else◌}
-use Rattle.model.specs.declared.capability.Capability.{Capability}
-use Rattle.model.specs.declared.frame.ObjectHeader.{ObjectHeader}
-use Rattle.model.specs.declared.object.Content.{Content}
-use Rattle.model.specs.declared.object.Object.{Object}
-use Rattle.model.specs.Banking.{with_new}
-use Rattle.model.specs.Frame.{given_up, header_at}
-use Rattle.model.specs.Object.{is_free}
-use Rattle.model.specs.Revoke.{is_given_up, is_member, rescind}
-use Rattle.model.specs.World.{content_at}
-use Rattle.model_laws.proofs.GivenUp.{new_used, none_given_up, rescinded_given_up}
-use Rattle.capability.specs.Parts.{AreGivenUp, Parts, Renews, objects_in}
+use Rattle.space_bank.proofs.Names.{◌≡◌, ℕ, ◌+◌, ◌&&◌, Bool, true, false, not, List, sym, ap, arith, ◌∙◌, if◌then◌else◌, Capability, ObjectHeader, Content}
+use Rattle.space_bank.proofs.Names.{Object, with_new, given_up, header_at, is_free, is_given_up, is_member, rescind, content_at, new_used, none_given_up}
+use Rattle.space_bank.proofs.Names.{rescinded_given_up, AreGivenUp, Parts, Renews, objects_in}
 
 -- the same counts of allocations, and the same numbers free
 abbrev pub SameAllocations : Parts → Parts → Type 0

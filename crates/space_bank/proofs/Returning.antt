@@ -1,27 +1,11 @@
 -- A bank that is returned to its parent.
-use Rattle.std.proofs.Common.{◌≡◌, ◌≢◌, inl, inr, ℕ, zero, suc, ◌+◌, ◌-◌, ◌^◌, ◌<◌, ◌≤◌, ◌==◌, ◌&&◌, Bool, true, false, not, List, [], ◌∷◌, drop, length, refl, sym, ap, subst, add-one, arith, ◌∙◌}
-use Rattle.std.specs.Prelude.{IsTrue, if◌then◌else◌, slice_index, slice_set}
-use Rattle.std.specs.List.{All}
-use Rattle.std.proofs.lemmas.Bool.{cases_Bool, cases_eq, false_from_ne_true, false≢true}
-use Rattle.std.proofs.lemmas.List.{ext_get_or, get_or-set_other, get_or-set_same, length-map}
-use Rattle.model.specs.declared.object.Object.{Object}
-use Rattle.model.specs.Bank.{chain, usage}
-use Rattle.model.specs.Banking.{handed_on, inherited, owned_by}
-use Rattle.model.specs.Frame.{header_at}
-use Rattle.model.specs.Keepable.{AreCurrent, AreKeepable}
-use Rattle.model.specs.Object.{free, is_bank, is_free}
-use Rattle.model.specs.Revoke.{is_member, rescind}
-use Rattle.model.specs.World.{content_at, object_at, owner_at}
-use Rattle.model_laws.proofs.BankFreed.{owned_found}
-use Rattle.model_laws.proofs.BankRescind.{used_where}
-use Rattle.model_laws.proofs.BankReturn.{returned_fits, usage_returned}
-use Rattle.model_laws.proofs.BankTree.{chain_banks, chain_once, member_head, member_tail, owner_bank}
-use Rattle.model_laws.proofs.NumberLists.{all_members, found_in, only_member, stands_in}
-use Rattle.model_laws.proofs.Mapped.{at_map}
-use Rattle.capability.specs.Parts.{Parts, frames_of, objects_in}
-use Rattle.space_bank.specs.Banks.{AreCounted, BanksState}
-use Rattle.space_bank.specs.Carrying.{AreHandedOn, CarriesOut, MayServe}
-use Rattle.number_set.specs.Marks.{is_marked}
+use Rattle.space_bank.proofs.Names.{◌≡◌, ◌≢◌, inl, inr, ℕ, zero, suc, ◌+◌, ◌-◌, ◌^◌, ◌<◌, ◌≤◌, ◌==◌, ◌&&◌, Bool, true, false, not, List, [], ◌∷◌, drop, length}
+use Rattle.space_bank.proofs.Names.{refl, sym, ap, subst, add-one, arith, ◌∙◌, IsTrue, if◌then◌else◌, slice_index, slice_set, All, cases_Bool, cases_eq}
+use Rattle.space_bank.proofs.Names.{false_from_ne_true, false≢true, ext_get_or, get_or-set_other, get_or-set_same, length-map, Object, chain, usage, handed_on}
+use Rattle.space_bank.proofs.Names.{inherited, owned_by, header_at, AreCurrent, AreKeepable, free, is_bank, is_free, is_member, rescind, content_at, object_at}
+use Rattle.space_bank.proofs.Names.{owner_at, owned_found, used_where, returned_fits, usage_returned, chain_banks, chain_once, member_head, member_tail}
+use Rattle.space_bank.proofs.Names.{owner_bank, all_members, found_in, only_member, stands_in, at_map, Parts, frames_of, objects_in, AreCounted, BanksState}
+use Rattle.space_bank.proofs.Names.{AreHandedOn, CarriesOut, MayServe, is_marked}
 use Rattle.space_bank.proofs.Ending.{IsReleased, counted_gone}
 use Rattle.space_bank.proofs.Owners.{handed_same}
 use Rattle.space_bank.proofs.Standing.{few_allocations, few_calls, serve_now, serve_tree}

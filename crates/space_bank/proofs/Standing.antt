@@ -1,32 +1,11 @@
 -- What sound frames that are counted tell of their objects.
-use Rattle.std.proofs.Common.{◌≡◌, ◌≢◌, ℕ, ◌+◌, ◌^◌, ◌<◌, ◌≤◌, true, false, List, length, refl, sym, ap, arith, ◌∙◌}
-use Rattle.std.specs.Prelude.{IsTrue, nat_le, slice_index}
-use Rattle.std.proofs.lemmas.Bool.{leb-true}
-use Rattle.model.specs.declared.capability.Cap.{Cap}
-use Rattle.model.specs.declared.capability.Capability.{Capability}
-use Rattle.model.specs.declared.frame.Frame.{Frame}
-use Rattle.model.specs.declared.geometry.Geometry.{Geometry}
-use Rattle.model.specs.declared.object.Content.{Content}
+use Rattle.space_bank.proofs.Names.{◌≡◌, ◌≢◌, ℕ, ◌+◌, ◌^◌, ◌<◌, ◌≤◌, true, false, List, length, refl, sym, ap, arith, ◌∙◌, IsTrue, nat_le, slice_index}
+use Rattle.space_bank.proofs.Names.{leb-true, Cap, Capability, Frame, Geometry, Content, Object, chain, usage, has_room, conveyed, header_at, held_at}
+use Rattle.space_bank.proofs.Names.{objects_of, AreKeepable, IsSoundFrames, world_at, is_bank, is_free, limit_in, map_content, role_of, is_member, HasShape}
+use Rattle.space_bank.proofs.Names.{IsOfKind, object_count, content_at, IsTree, chain_banks, tree_of, member_passes, IsNow, IsFramed, nearly_from, Parts}
+use Rattle.space_bank.proofs.Names.{frames_of, objects_in, content_there, keepable_at, keepable_count, BanksState, MayServe}
 use Rattle.model.specs.declared.object.Content.TheVariants as content
-use Rattle.model.specs.declared.object.Object.{Object}
 use Rattle.model.specs.declared.object.Role.TheVariants as role
-use Rattle.model.specs.Bank.{chain, usage}
-use Rattle.model.specs.Banking.{has_room}
-use Rattle.model.specs.Frame.{conveyed, header_at, held_at, objects_of}
-use Rattle.model.specs.Keepable.{AreKeepable, IsSoundFrames, world_at}
-use Rattle.model.specs.Object.{is_bank, is_free, limit_in, map_content, role_of}
-use Rattle.model.specs.Revoke.{is_member}
-use Rattle.model.specs.Sound.{HasShape, IsOfKind, object_count}
-use Rattle.model.specs.World.{content_at}
-use Rattle.model_laws.proofs.BankTree.{IsTree, chain_banks, tree_of}
-use Rattle.model_laws.proofs.SoundBanks.{member_passes}
-use Rattle.model_laws.proofs.SoundOrders.{IsNow}
-use Rattle.model_laws.proofs.SoundParts.{IsFramed, nearly_from}
-use Rattle.capability.specs.Parts.{Parts, frames_of, objects_in}
-use Rattle.capability.proofs.Frames.{content_there}
-use Rattle.capability.proofs.Keeping.{keepable_at, keepable_count}
-use Rattle.space_bank.specs.Banks.{BanksState}
-use Rattle.space_bank.specs.Carrying.{MayServe}
 
 pub sound_now : (g : Geometry) (age : ℕ) (fs : List Frame) → IsSoundFrames g age fs → IsNow g (objects_of fs)
 sound_now g age fs h = nearly_from g (world_at age fs) h.sound

@@ -1,26 +1,12 @@
 -- What is counted, where objects come and go.
-use Rattle.std.proofs.Common.{◌≡◌, ◌≢◌, inl, inr, ℕ, ◌+◌, ◌-◌, ◌<◌, ◌||◌, Bool, true, false, List, take, length, refl, sym, ap, subst, arith, ◌∙◌}
-use Rattle.std.specs.Prelude.{IsTrue, if◌then◌else◌, nat_eq, slice_index, slice_index_or, slice_set}
-use Rattle.std.proofs.lemmas.Bool.{cases_eq, cases_lt, eq-eqb, ne_eqb}
-use Rattle.std.proofs.lemmas.List.{get_or-append_right, get_or_append_left, get_or-set_other, get_or-set_same, length-append, length-set}
-use Rattle.std.proofs.lemmas.List.Folds.{list_any_more}
-use Rattle.model.specs.declared.capability.Capability.{Capability}
-use Rattle.model.specs.declared.geometry.Geometry.{Geometry}
-use Rattle.model.specs.declared.object.Content.{Content}
+use Rattle.space_bank.proofs.Names.{◌≡◌, ◌≢◌, inl, inr, ℕ, ◌+◌, ◌-◌, ◌<◌, ◌||◌, Bool, true, false, List, take, length, refl, sym, ap, subst, arith, ◌∙◌, IsTrue}
+use Rattle.space_bank.proofs.Names.{if◌then◌else◌, slice_index, slice_index_or, slice_set, cases_eq, cases_lt, eq-eqb, ne_eqb, get_or-append_right}
+use Rattle.space_bank.proofs.Names.{get_or_append_left, get_or-set_other, get_or-set_same, length-append, length-set, list_any_more, Capability, Geometry}
+use Rattle.space_bank.proofs.Names.{Content, Object, chain, usage, new_annex, new_root, with_new, is_bank, is_free, is_root, limit_in, root_in, is_member}
+use Rattle.space_bank.proofs.Names.{object_count, content_at, IsTree, at_new, at_other, chain_new, length_new, new_bank_kept, tree_new, usage_new}
+use Rattle.space_bank.proofs.Names.{usage_new_bank, AreCounted, BanksState, marks_of, IsRaised, is_marked}
+use Rattle.std.specs.Prelude.{nat_eq}
 use Rattle.model.specs.declared.object.Content.TheVariants as content
-use Rattle.model.specs.declared.object.Object.{Object}
-use Rattle.model.specs.Bank.{chain, usage}
-use Rattle.model.specs.Banking.{new_annex, new_root, with_new}
-use Rattle.model.specs.Object.{is_bank, is_free, is_root, limit_in, root_in}
-use Rattle.model.specs.Revoke.{is_member}
-use Rattle.model.specs.Sound.{object_count}
-use Rattle.model.specs.World.{content_at}
-use Rattle.model_laws.proofs.BankTree.{IsTree, at_new, at_other, chain_new, length_new, new_bank_kept, tree_new}
-use Rattle.model_laws.proofs.BankUsage.{usage_new, usage_new_bank}
-use Rattle.space_bank.specs.Banks.{AreCounted, BanksState}
-use Rattle.space_bank.specs.Carrying.{marks_of}
-use Rattle.space_bank.specs.Chains.{IsRaised}
-use Rattle.number_set.specs.Marks.{is_marked}
 
 -- one more of a list was marked as free
 pub marked_more : (before now next : List Bool) (list : List ℕ) (i : ℕ) → i < length list → slice_index list i < length now

@@ -1,18 +1,10 @@
 -- Usages, added up over the numbers.
-use Rattle.std.proofs.Common.{◌≡◌, ◌+◌, ◌<◌, ◌≤◌, ◌^◌, ◌∙◌, ◌==◌, ◌&&◌, ℕ, Bool, true, false, not, cond, nat_eq, take, List, length, get_or, slice_index, inl, inr, refl, sym, ap, subst, zero-add, arith}
-use Rattle.std.specs.Prelude.{IsTrue}
-use Rattle.std.specs.List.{count_by, enumerate_from, list_any}
-use Rattle.std.proofs.lemmas.Bool.{cases_eq, cases_lt, eq-eqb, ne_eqb}
-use Rattle.std.proofs.lemmas.List.{get_or_past, length-take, take_all}
-use Rattle.std.proofs.lemmas.List.FromFn.{length-enumerate_from, get_or-enumerate_from}
-use Rattle.std.proofs.lemmas.List.Sums.{count_by-le-length, count_by_more_no, count_by_more_yes}
-use Rattle.model.specs.declared.object.Object.{Object}
-use Rattle.model.specs.Bank.{chain, is_under, usage}
-use Rattle.model.specs.Object.{free, is_bank, is_free}
-use Rattle.model.specs.Revoke.{is_member}
-use Rattle.model.specs.World.{content_at, object_at, owner_at}
-use Rattle.model_laws.proofs.BankTree.{IsTree, chain_once, chain_prime}
-use Rattle.space_bank.specs.Chains.{IsRaised}
+use Rattle.space_bank.proofs.Names.{◌≡◌, ◌+◌, ◌<◌, ◌≤◌, ◌^◌, ◌∙◌, ◌==◌, ◌&&◌, ℕ, Bool, true, false, not, cond, nat_eq, take, List, length, get_or, inl, inr}
+use Rattle.space_bank.proofs.Names.{refl, sym, ap, subst, zero-add, arith, IsTrue, count_by, enumerate_from, list_any, cases_eq, cases_lt, eq-eqb, ne_eqb}
+use Rattle.space_bank.proofs.Names.{get_or_past, length-take, take_all, length-enumerate_from, get_or-enumerate_from, count_by-le-length, count_by_more_no}
+use Rattle.space_bank.proofs.Names.{count_by_more_yes, Object, chain, is_under, usage, free, is_bank, is_free, is_member, content_at, object_at, owner_at}
+use Rattle.space_bank.proofs.Names.{IsTree, chain_once, chain_prime, IsRaised}
+use Rattle.std.proofs.Common.{slice_index}
 
 -- how many of the objects below a number a bank accounts for
 abbrev pub is_used : List Object → ℕ → ℕ × Object → Bool

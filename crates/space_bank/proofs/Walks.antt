@@ -1,19 +1,8 @@
 -- Chains of banks, walked from owner to owner.
-use Rattle.std.proofs.Common.{◌≡◌, ◌+◌, ◌-◌, ◌<◌, ◌≤◌, ◌∙◌, ℕ, suc, Bool, true, false, List, [], ◌∷◌, length, map, min, nat_eq, refl, sym, ap, subst, arith}
-use Rattle.std.specs.Prelude.{IsTrue, nat_le, slice_index}
-use Rattle.std.specs.List.{list_all, list_any}
-use Rattle.std.proofs.lemmas.Bool.{eq-eqb, le-leb, lt-leb, ne_eqb}
-use Rattle.model.specs.declared.frame.ObjectHeader.{ObjectHeader}
-use Rattle.model.specs.declared.object.Object.{Object}
-use Rattle.model.specs.Bank.{chain, chain_within, usage}
-use Rattle.model.specs.Banking.{has_room, least, left_of, remaining}
-use Rattle.model.specs.Object.{is_bank, limit_in}
-use Rattle.model.specs.World.{content_at, owner_at}
-use Rattle.capability.specs.Parts.{Parts, objects_in}
-use Rattle.capability.proofs.Frames.{bank_used, length_objects}
-use Rattle.capability.proofs.KindNumbers.{bank_number}
-use Rattle.space_bank.specs.Banks.{BanksState}
-use Rattle.space_bank.specs.Planning.{IsBankOf}
+use Rattle.space_bank.proofs.Names.{◌≡◌, ◌+◌, ◌-◌, ◌<◌, ◌≤◌, ◌∙◌, ℕ, suc, Bool, true, false, List, [], ◌∷◌, length, map, min, nat_eq, refl, sym, ap, subst}
+use Rattle.space_bank.proofs.Names.{arith, IsTrue, nat_le, slice_index, list_all, list_any, eq-eqb, le-leb, lt-leb, ne_eqb, ObjectHeader, Object, chain}
+use Rattle.space_bank.proofs.Names.{chain_within, usage, has_room, least, left_of, remaining, is_bank, limit_in, content_at, owner_at, Parts, objects_in}
+use Rattle.space_bank.proofs.Names.{bank_used, length_objects, bank_number, BanksState, IsBankOf}
 
 -- a number past which the table has none, and before which it has all
 pub count_read : (p : Parts) (hs : List ObjectHeader) (count n : ℕ) → hs ≡ p.headers → count ≡ length hs → n ≤ count → count ≤ n →

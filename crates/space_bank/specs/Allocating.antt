@@ -1,22 +1,11 @@
 -- The four orders that allocate, as one.
-use Rattle.std.specs.Prelude.{ℕ, nat_lt, Bool, false, not, if◌then◌else◌, Option, None, Some, List, [], ◌∷◌, length}
-use Rattle.model.specs.declared.capability.Capability.{Capability}
-use Rattle.model.specs.declared.capability.Capability.TheVariants.{Void, Page, Node, Process, Bank}
-use Rattle.model.specs.declared.geometry.Geometry.{Geometry}
-use Rattle.model.specs.declared.object.Object.{Object}
-use Rattle.model.specs.declared.order.Arguments.{Arguments}
-use Rattle.model.specs.declared.order.BankOrder.{BankOrder}
+use Rattle.space_bank.specs.Names.{ℕ, nat_lt, Bool, false, not, if◌then◌else◌, Option, None, Some, List, [], ◌∷◌, length, Capability, Void, Page, Node, Process}
+use Rattle.space_bank.specs.Names.{Bank, Geometry, Object, Arguments, BankOrder, chain, free_nodes, free_pages, has_room, full, OrderOutcome, made, refused}
+use Rattle.space_bank.specs.Names.{BankChange, Fresh, bank_changed}
 use Rattle.model.specs.declared.order.BankOrder.TheVariants as order
 use Rattle.model.specs.declared.order.ResultCode.TheVariants as code
-use Rattle.model.specs.Bank.{chain}
-use Rattle.model.specs.Banking.{free_nodes, free_pages, has_room}
-use Rattle.model.specs.Capability.{full}
-use Rattle.model.specs.OrderOutcome.{OrderOutcome, made, refused}
-use Rattle.capability.specs.declared.order.BankChange.{BankChange}
 use Rattle.capability.specs.declared.order.BankChange.TheVariants as bank
-use Rattle.capability.specs.declared.present.Fresh.{Fresh}
 use Rattle.capability.specs.declared.present.Fresh.TheVariants as fresh
-use Rattle.capability.specs.Changes.{bank_changed}
 use Rattle.space_bank.specs.declared.planning_new.New.{New}
 use Rattle.space_bank.specs.declared.planning_new.New.TheVariants as new
 

@@ -1,28 +1,11 @@
 -- What the orders of a bank ask, and what they leave.
-use Rattle.std.specs.Prelude.{◌≡◌, ◌≢◌, [], ◌∷◌, ℕ, ◌+◌, ◌^◌, ◌<◌, ◌++◌, Bool, true, false, List, length, slice_index, if◌then◌else◌, IsTrue}
-use Rattle.model.specs.declared.capability.Capability.{Capability}
-use Rattle.model.specs.declared.geometry.Geometry.{Geometry}
-use Rattle.model.specs.declared.object.Object.{Object}
-use Rattle.model.specs.declared.order.Arguments.{Arguments}
-use Rattle.model.specs.declared.order.BankOrder.{BankOrder}
-use Rattle.model.specs.Bank.{chain, usage}
-use Rattle.model.specs.Banking.{freed_by, has_room, on_bank, owned_by}
-use Rattle.model.specs.Keepable.{AreCurrent, AreKeepable}
-use Rattle.model.specs.Object.{is_bank, is_free}
-use Rattle.model.specs.Revoke.{is_member, rescind}
-use Rattle.model.specs.Sound.{MayBeHeld}
-use Rattle.model.specs.World.{content_at, object_at, owner_at}
-use Rattle.model_laws.proofs.SoundOrders.{IsNow}
-use Rattle.model_laws.proofs.Usage.{SameFrame}
-use Rattle.capability.specs.declared.order.BankChange.{BankChange}
+use Rattle.space_bank.specs.Names.{◌≡◌, ◌≢◌, [], ◌∷◌, ℕ, ◌+◌, ◌^◌, ◌<◌, ◌++◌, Bool, true, false, List, length, slice_index, if◌then◌else◌, IsTrue, Capability}
+use Rattle.space_bank.specs.Names.{Geometry, Object, Arguments, BankOrder, chain, usage, freed_by, has_room, on_bank, owned_by, AreCurrent, AreKeepable}
+use Rattle.space_bank.specs.Names.{is_bank, is_free, is_member, rescind, MayBeHeld, content_at, object_at, owner_at, IsNow, SameFrame, BankChange, Change}
+use Rattle.space_bank.specs.Names.{OrderPlan, Fresh, outcome_by, AreSound, IsFreshAt, IsOnce, Parts, frames_of, objects_in}
 use Rattle.capability.specs.declared.order.BankChange.TheVariants as bank
-use Rattle.capability.specs.declared.order.Change.{Change}
 use Rattle.capability.specs.declared.order.Change.TheVariants as change
-use Rattle.capability.specs.declared.order.OrderPlan.{OrderPlan}
-use Rattle.capability.specs.declared.present.Fresh.{Fresh}
 use Rattle.capability.specs.declared.present.Fresh.TheVariants as fresh
-use Rattle.capability.specs.Changes.{outcome_by}
-use Rattle.capability.specs.Parts.{AreSound, IsFreshAt, IsOnce, Parts, frames_of, objects_in}
 use Rattle.space_bank.specs.Banks.{AreCounted, BanksState}
 
 -- which numbers are marked as free, those of nodes and then those of pages

@@ -1,6 +1,5 @@
 -- What the banks of a chain account for.
-use Rattle.std.specs.Prelude.{◌≡◌, ℕ, ◌+◌, if◌then◌else◌, List, length, slice_index}
-use Rattle.model.specs.Revoke.{is_member}
+use Rattle.space_bank.specs.Names.{◌≡◌, ℕ, ◌+◌, if◌then◌else◌, List, length, slice_index, is_member}
 
 -- `count` more at each bank of a chain, and the same as before at all others
 pub record IsRaised (banks : List ℕ) (count : ℕ) (old new : List ℕ) : Type 0 where

@@ -1,14 +1,7 @@
 -- What is counted, part by part.
-use Rattle.std.specs.Prelude.{◌≡◌, ℕ, ◌+◌, ◌<◌, Bool, List, length, map}
-use Rattle.std.specs.List.{range_with_len}
-use Rattle.model.specs.declared.capability.Capability.{Capability}
-use Rattle.model.specs.declared.object.Content.{Content}
-use Rattle.model.specs.declared.object.Object.{Object}
-use Rattle.model.specs.declared.object.Role.{Role}
+use Rattle.space_bank.specs.Names.{◌≡◌, ℕ, ◌+◌, ◌<◌, Bool, List, length, map, range_with_len, Capability, Content, Object, Role, is_free, limit_in, root_in}
+use Rattle.space_bank.specs.Names.{content_at, is_marked}
 use Rattle.model.specs.declared.object.Role.TheVariants as role
-use Rattle.model.specs.Object.{is_free, limit_in, root_in}
-use Rattle.model.specs.World.{content_at}
-use Rattle.number_set.specs.Marks.{is_marked}
 
 -- `count` marks: each tells whether a number is free, from the number `first` on
 pub record AreMarked (os : List Object) (first count : ℕ) (marks : List Bool) : Type 0 where

@@ -1,5 +1,6 @@
 pub use Rattle.capability.specs.Parts
 pub use Rattle.model.specs.Banking
+pub mod Names
 pub mod Allocating
 pub mod Banks
 pub mod Chains

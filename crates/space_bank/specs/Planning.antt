@@ -1,14 +1,6 @@
 -- What planning reads of a bank.
-use Rattle.std.specs.Prelude.{◌≡◌, ℕ, ◌+◌, ◌<◌, ◌≤◌, ◌++◌, Bool, true, false, IsTrue, List, [], ◌∷◌, length, slice_index}
-use Rattle.model.specs.declared.capability.Capability.{Capability}
-use Rattle.model.specs.declared.capability.Capability.TheVariants.{Process}
-use Rattle.model.specs.declared.command.Operation.{Operation}
-use Rattle.model.specs.declared.command.Operation.TheVariants.{Call, Return, Send}
-use Rattle.model.specs.declared.object.Object.{Object}
-use Rattle.model.specs.Object.{is_bank, is_free}
-use Rattle.model.specs.World.{annex_at, content_at}
-use Rattle.capability.specs.Parts.{AreSound, Parts, objects_in}
-use Rattle.number_set.specs.Marks.{is_marked}
+use Rattle.space_bank.specs.Names.{◌≡◌, ℕ, ◌+◌, ◌<◌, ◌≤◌, ◌++◌, Bool, true, false, IsTrue, List, [], ◌∷◌, length, slice_index, Capability, Process, Operation}
+use Rattle.space_bank.specs.Names.{Call, Return, Send, Object, is_bank, is_free, annex_at, content_at, AreSound, Parts, objects_in, is_marked}
 use Rattle.space_bank.specs.Banks.{AreCounted, BanksState}
 
 -- a bank of frames that are sound and counted

@@ -1,10 +1,8 @@
 -- What a call does to a handle, by the session before and after it.
-use Rattle.std.proofs.Common.{◌≡◌, ◌↔◌, ℕ, Bool, true, false, List, Option, Some, None, Err, refl, sym, ◌∙◌, subst}
-use Rattle.std.specs.Prelude.{IsSome}
-use Rattle.vezhnake.specs.declared.session.Session.{Session}
-use Rattle.vezhnake.specs.declared.status.Status.{Status}
+use Rattle.vezhnake.proofs.Names.{◌≡◌, ◌↔◌, ℕ, Bool, true, false, List, Some, Err, refl, sym, ◌∙◌, subst, IsSome, Session, Status, ClosesHandle, OnSession}
+use Rattle.vezhnake.proofs.Names.{OpensHandle, OpensKernel, OpensSession}
+use Rattle.std.proofs.Common.{Option, None}
 use Rattle.vezhnake.specs.declared.status.Status.TheVariants as status
-use Rattle.vezhnake.specs.Sessions.{ClosesHandle, OnSession, OpensHandle, OpensKernel, OpensSession}
 
 module _ (P : Session → Session → Type 0) (old new : Option Session) where
   pub on_none : old ≡ None → new ≡ None → OnSession old new status.NotOpen P

@@ -1,3 +1,4 @@
+mod Names
 mod AsBox
 pub mod Handles
 pub mod Opening

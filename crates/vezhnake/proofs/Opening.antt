@@ -1,17 +1,9 @@
 -- Opening a kernel on the host's storage.
-use Rattle.std.proofs.Common.{◌≡◌, ℕ, ◌/◌, ◌%◌, ◌≤◌, Bool, true, false, List, length, Result, Ok, Err, sym, subst, arith}
-use Rattle.device.specs.Calls.{Agrees, image_of, sectors_of}
-use Rattle.vezhnake.specs.Steps.{fresh}
-use Rattle.checkpoint.specs.declared.open_fault.OpenFault.{OpenFault}
+use Rattle.vezhnake.proofs.Names.{◌≡◌, ℕ, ◌/◌, ◌%◌, ◌≤◌, Bool, true, false, List, length, Result, Ok, Err, sym, subst, arith, Agrees, image_of, sectors_of}
+use Rattle.vezhnake.proofs.Names.{fresh, OpenFault, RefusesToOpen, HostKernel, Status, HostDevice, IsFresh, host_disk, OpensFrom, OpensKernel, status_by}
 use Rattle.checkpoint.specs.declared.open_fault.OpenFault.TheVariants as fault
-use Rattle.recovery.specs.Recovered.{RefusesToOpen}
-use Rattle.vezhnake.specs.declared.host_kernel.HostKernel.{HostKernel}
 use Rattle.vezhnake.specs.declared.host_kernel.HostKernel.TheVariants as store
-use Rattle.vezhnake.specs.declared.status.Status.{Status}
 use Rattle.vezhnake.specs.declared.status.Status.TheVariants as status
-use Rattle.vezhnake.specs.Hosting.{HostDevice, IsFresh, host_disk}
-use Rattle.vezhnake.specs.Sessions.{OpensFrom, OpensKernel}
-use Rattle.vezhnake.specs.Statuses.{status_by}
 
 pub refused_from : (d back : HostDevice) (kind : Bool) (why : OpenFault) → RefusesToOpen host_disk d back why → OpensFrom d kind (Err (status_by why))
 refused_from d back kind fault.Failed refuses = (back, refuses.is_why)

@@ -1,25 +1,10 @@
 -- What a crash leaves of storage that carried out some of the calls of a run.
-use Rattle.std.proofs.Common.{◌≡◌, ℕ, ◌+◌, ◌≤◌, List, ◌++◌, length, take, drop, sym, ap, ◌∙◌, subst, append_assoc, arith, length-append}
-use Rattle.std.proofs.Math.Seq.{take-append_seam}
-use Rattle.std.proofs.lemmas.List.{take-append-drop}
-use Rattle.std.proofs.lemmas.List.Concat.{flat_map-append}
-use Rattle.device.specs.Disk.{Image}
-use Rattle.device.specs.Calls.{image_of}
-use Rattle.memory_device.specs.Past.{Event, MayLeave, at_first, replay}
-use Rattle.capability.specs.Parts.{Parts}
-use Rattle.object_store.specs.Store.{View}
-use Rattle.kernel.specs.Power.{Power}
+use Rattle.vezhnake.proofs.Names.{◌≡◌, ℕ, ◌+◌, ◌≤◌, List, ◌++◌, length, take, drop, sym, ap, ◌∙◌, subst, append_assoc, arith, length-append, take-append_seam}
+use Rattle.vezhnake.proofs.Names.{take-append-drop, flat_map-append, Image, image_of, Event, MayLeave, at_first, replay, Parts, View, Power, IsDeviceOf, Stands}
+use Rattle.vezhnake.proofs.Names.{disk_of, Geometry, Machine, Turn, IsConfined, IsRunOf, RunsOver, CrashesAreSurvived, RunFault, Option, HostCall}
+use Rattle.vezhnake.proofs.Names.{StorageLeaves, events_by, events_of, HostDevice, RunsText, Survives, calls_beneath, host_disk, start_beneath}
+use Rattle.std.specs.Prelude.{Some, Result}
 use Rattle.kernel.specs.Power as power
-use Rattle.kernel.specs.Standing.{IsDeviceOf, Stands, disk_of}
-use Rattle.model.specs.declared.geometry.Geometry.{Geometry}
-use Rattle.model.specs.Machine.{Machine}
-use Rattle.model.specs.Run.{Turn}
-use Rattle.runs.specs.KernelRuns.{IsConfined, IsRunOf, RunsOver}
-use Rattle.runs_laws.specs.Laws.{CrashesAreSurvived}
-use Rattle.script.specs.declared.fault.RunFault.{RunFault}
-use Rattle.std.specs.Prelude.{Option, Some, Result}
-use Rattle.vezhnake.specs.HostCalls.{HostCall, StorageLeaves, events_by, events_of}
-use Rattle.vezhnake.specs.Hosting.{HostDevice, RunsText, Survives, calls_beneath, host_disk, start_beneath}
 
 -- the events of the first k calls are the first events
 front_of : (k : ℕ) (calls : List HostCall) (lost : List Event) → events_of calls ++ lost ≡ events_of (take k calls) ++ (events_of (drop k calls) ++ lost)

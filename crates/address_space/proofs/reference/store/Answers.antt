@@ -1,5 +1,4 @@
-use Rattle.std.proofs.Common.{rules}
-use Rattle.capability.specs.Parts.{frames_of}
+use Rattle.address_space.proofs.Names.{rules, frames_of}
 use Rattle.address_space.proofs.Known.{sound_onward}
 use Rattle.address_space.proofs.reference.store.Goals as goal
 

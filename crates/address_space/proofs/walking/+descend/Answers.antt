@@ -1,7 +1,4 @@
-use Rattle.std.proofs.Common.{rules, ◌≡◌, Ok, Err, sym, arith}
-use Rattle.model.specs.declared.capability.Capability.TheVariants.{Space}
-use Rattle.model.specs.Walk.{path, walk_along}
-use Rattle.capability.specs.Parts.{objects_in}
+use Rattle.address_space.proofs.Names.{rules, ◌≡◌, Ok, Err, sym, arith, Space, path, walk_along, objects_in}
 use Rattle.address_space.proofs.Paths.{at_early_page, at_fault, at_found, at_other_tree}
 use Rattle.address_space.proofs.walking.+descend.Goals as goal
 

@@ -1,8 +1,4 @@
-use Rattle.std.proofs.Common.{rules, ◌≡◌, ◌-◌, ◌^◌, ◌/◌, ◌%◌, sym, subst}
-use Rattle.model.specs.declared.capability.Capability.{Capability}
-use Rattle.model.specs.Sound.{MayBeHeld}
-use Rattle.model.specs.World.{slot_at}
-use Rattle.capability.specs.Parts.{objects_in}
+use Rattle.address_space.proofs.Names.{rules, ◌≡◌, ◌-◌, ◌^◌, ◌/◌, ◌%◌, sym, subst, Capability, MayBeHeld, slot_at, objects_in}
 use Rattle.address_space.proofs.Known.{space_known}
 use Rattle.address_space.proofs.walking.next_slot.Goals as goal
 

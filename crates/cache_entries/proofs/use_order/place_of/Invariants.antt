@@ -1,5 +1,4 @@
-use Rattle.std.proofs.Common.{◌≡◌, false, drop}
-use Rattle.model.specs.Revoke.{is_member}
+use Rattle.cache_entries.proofs.Names.{◌≡◌, false, drop, is_member}
 use Rattle.cache_entries.proofs.use_order.place_of.Given as goal
 
 abbrev pub invariant-loop-place : goal.invariant-loop-place

@@ -1,6 +1,4 @@
-use Rattle.std.proofs.Common.{◌≡◌, ◌+◌, ◌≤◌, length, vec_capacity}
-use Rattle.std.specs.Map.{keys_of}
-use Rattle.cache_entries.specs.Order.{AreLatest, used_in_turn}
+use Rattle.cache_entries.proofs.Names.{◌≡◌, ◌+◌, ◌≤◌, length, vec_capacity, keys_of, AreLatest, used_in_turn}
 use Rattle.cache_entries.proofs.use_order.settle.Given as goal
 
 abbrev pub invariant-loop : goal.invariant-loop

@@ -1,6 +1,4 @@
-use Rattle.std.proofs.Common.{ℕ, ap, ◌∙◌}
-use Rattle.std.specs.Map.{keys_of}
-use Rattle.lru.specs.LruCache.{LruCache}
+use Rattle.cache_entries.proofs.Names.{ℕ, ap, ◌∙◌, keys_of, LruCache}
 use Rattle.cache_entries.proofs.Orders.{used_keys}
 use Rattle.cache_entries.proofs.Turns.{Settles, settles}
 use Rattle.cache_entries.proofs.use_order.settle_first.Goals as goal

@@ -1,6 +1,4 @@
-use Rattle.std.proofs.Common.{◌≡◌, ◌∷◌, ◌++◌, [], ◌+◌, ◌<◌, ◌-◌, length, set, subst, arith}
-use Rattle.std.proofs.lemmas.Option.{slice_get_within}
-use Rattle.cache_entries.specs.Order.{without}
+use Rattle.cache_entries.proofs.Names.{◌≡◌, ◌∷◌, ◌++◌, [], ◌+◌, ◌<◌, ◌-◌, length, set, subst, arith, slice_get_within, without}
 use Rattle.cache_entries.proofs.Turns.{move_begun, moved_up, moved_last}
 use Rattle.cache_entries.proofs.use_order.shift_to_end.Goals as goal
 

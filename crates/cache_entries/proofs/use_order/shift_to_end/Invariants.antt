@@ -1,5 +1,4 @@
-use Rattle.std.proofs.Common.{◌≡◌, ◌++◌, take, drop}
-use Rattle.cache_entries.specs.Order.{without}
+use Rattle.cache_entries.proofs.Names.{◌≡◌, ◌++◌, take, drop, without}
 use Rattle.cache_entries.proofs.use_order.shift_to_end.Given as goal
 
 abbrev pub invariant-loop-i : goal.invariant-loop-i

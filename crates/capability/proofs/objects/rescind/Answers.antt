@@ -1,6 +1,4 @@
-use Rattle.std.proofs.Common.{ℕ, List, subst}
-use Rattle.std.proofs.lemmas.List.{take_all}
-use Rattle.capability.specs.Parts.{AreGivenUp}
+use Rattle.capability.proofs.Names.{ℕ, List, subst, take_all, AreGivenUp}
 use Rattle.capability.proofs.Counts.{current_given_up, keepable_given_up, objects_given_up}
 use Rattle.capability.proofs.objects.rescind.Goals as goal
 

@@ -1,6 +1,4 @@
-use Rattle.std.proofs.Common.{◌≡◌, ℕ, false, take}
-use Rattle.model.specs.Revoke.{is_member}
-use Rattle.capability.specs.Parts.{AreGivenUp}
+use Rattle.capability.proofs.Names.{◌≡◌, ℕ, false, take, is_member, AreGivenUp}
 use Rattle.capability.proofs.objects.rescind.Given as goal
 
 abbrev pub invariant-loop-number : goal.invariant-loop-number

@@ -1,9 +1,4 @@
-use Rattle.std.proofs.Common.{refl}
-use Rattle.model.specs.declared.capability.Cap.{Cap}
-use Rattle.model.specs.declared.capability.Capability.{Capability}
-use Rattle.model.specs.declared.object.Root.{Root}
-use Rattle.model.specs.declared.object.State.TheVariants.{Running}
-use Rattle.capability.specs.Objects.{with_root_in}
+use Rattle.capability.proofs.Names.{refl, Cap, Capability, Root, Running, with_root_in}
 use Rattle.capability.proofs.Edited.{edited, root_edit}
 use Rattle.capability.proofs.Edits.{put}
 use Rattle.capability.proofs.objects.set_message.Goals as goal

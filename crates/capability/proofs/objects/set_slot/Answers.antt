@@ -1,11 +1,4 @@
-use Rattle.std.proofs.Common.{List, ap, ◌∙◌}
-use Rattle.model.specs.declared.capability.Cap.{Cap}
-use Rattle.model.specs.declared.frame.ObjectHeader.{ObjectHeader}
-use Rattle.model.specs.declared.object.Content.{Content}
-use Rattle.model.specs.Frame.{held_at}
-use Rattle.model.specs.Object.{with_slot_in}
-use Rattle.capability.specs.Objects.{live_cap}
-use Rattle.capability.specs.Parts.{with_held}
+use Rattle.capability.proofs.Names.{List, ap, ◌∙◌, Cap, ObjectHeader, Content, held_at, with_slot_in, live_cap, with_held}
 use Rattle.capability.proofs.Edited.{edited, slot_edit}
 use Rattle.capability.proofs.Edits.{put}
 use Rattle.capability.proofs.objects.set_slot.Goals as goal

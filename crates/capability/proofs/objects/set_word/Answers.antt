@@ -1,6 +1,4 @@
-use Rattle.model.specs.declared.capability.Cap.{Cap}
-use Rattle.model.specs.declared.object.Content.{Content}
-use Rattle.model.specs.Object.{with_word_in}
+use Rattle.capability.proofs.Names.{Cap, Content, with_word_in}
 use Rattle.capability.proofs.Edited.{edited, word_edit}
 use Rattle.capability.proofs.Edits.{put}
 use Rattle.capability.proofs.objects.set_word.Goals as goal

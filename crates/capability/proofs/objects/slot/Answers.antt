@@ -1,7 +1,5 @@
-use Rattle.std.proofs.Common.{List, sym, ap, ◌∙◌, ⊎_elim}
-use Rattle.model.specs.declared.frame.ObjectHeader.{ObjectHeader}
+use Rattle.capability.proofs.Names.{List, sym, ap, ◌∙◌, ⊎_elim, ObjectHeader, conveyed}
 use Rattle.model.specs.declared.object.Content.TheVariants as content
-use Rattle.model.specs.Frame.{conveyed}
 use Rattle.capability.proofs.Frames.{slot_there, no_slot_there}
 use Rattle.capability.proofs.objects.slot.Goals as goal
 

@@ -1,13 +1,5 @@
-use Rattle.std.proofs.Common.{List, ap, arith, subst, sym, ◌∙◌}
-use Rattle.model.specs.declared.capability.Cap.{Cap}
-use Rattle.model.specs.declared.capability.Capability.{Capability}
-use Rattle.model.specs.declared.frame.ObjectHeader.{ObjectHeader}
-use Rattle.model.specs.Keepable.{IsCurrent, IsKeptCap}
-use Rattle.model.specs.Order.{with_space}
-use Rattle.model.specs.Sound.{IsSpace}
-use Rattle.capability.specs.Objects.{live_cap}
-use Rattle.model.specs.declared.object.Root.{Root}
-use Rattle.capability.specs.Objects.{with_root_in}
+use Rattle.capability.proofs.Names.{List, ap, arith, subst, sym, ◌∙◌, Cap, Capability, ObjectHeader, IsCurrent, IsKeptCap, with_space, IsSpace, live_cap, Root}
+use Rattle.capability.proofs.Names.{with_root_in}
 use Rattle.capability.proofs.Edited.{edited, root_edit}
 use Rattle.capability.proofs.Edits.{put}
 use Rattle.capability.proofs.RootEdits.{space_kept, space_through}

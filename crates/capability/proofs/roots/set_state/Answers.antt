@@ -1,10 +1,4 @@
-use Rattle.std.proofs.Common.{List, refl, subst, sym}
-use Rattle.model.specs.declared.capability.Cap.{Cap}
-use Rattle.model.specs.declared.capability.Capability.{Capability}
-use Rattle.model.specs.declared.object.Object.{Object}
-use Rattle.model.specs.declared.object.Root.{Root}
-use Rattle.capability.specs.Objects.{with_root_in}
-use Rattle.capability.specs.Parts.{objects_in}
+use Rattle.capability.proofs.Names.{List, refl, subst, sym, Cap, Capability, Object, Root, with_root_in, objects_in}
 use Rattle.capability.proofs.Edited.{IsEdit, edited, root_edit}
 use Rattle.capability.proofs.Edits.{put}
 use Rattle.capability.proofs.RootEdits.{state_is}

@@ -1,9 +1,4 @@
-use Rattle.std.proofs.Common.{refl, slice_set}
-use Rattle.model.specs.declared.capability.Cap.{Cap}
-use Rattle.model.specs.declared.capability.Capability.{Capability}
-use Rattle.model.specs.Order.{with_root_word}
-use Rattle.model.specs.declared.object.Root.{Root}
-use Rattle.capability.specs.Objects.{with_root_in}
+use Rattle.capability.proofs.Names.{refl, slice_set, Cap, Capability, with_root_word, Root, with_root_in}
 use Rattle.capability.proofs.Edited.{edited, root_edit}
 use Rattle.capability.proofs.Edits.{put}
 use Rattle.capability.proofs.RootEdits.{word_kept}

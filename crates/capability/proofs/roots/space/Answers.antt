@@ -1,10 +1,5 @@
-use Rattle.std.proofs.Common.{sym, ap, ◌∙◌, List}
-use Rattle.model.specs.declared.capability.Capability.{Capability}
-use Rattle.model.specs.declared.object.Content.{Content}
+use Rattle.capability.proofs.Names.{sym, ap, ◌∙◌, List, Capability, Content, ObjectHeader, conveyed, root_in}
 use Rattle.model.specs.declared.object.Content.TheVariants as content
-use Rattle.model.specs.declared.frame.ObjectHeader.{ObjectHeader}
-use Rattle.model.specs.Frame.{conveyed}
-use Rattle.model.specs.Object.{root_in}
 use Rattle.capability.proofs.Frames.{content_there, no_root_there}
 use Rattle.capability.proofs.roots.space.Goals as goal
 

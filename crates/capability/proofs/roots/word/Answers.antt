@@ -1,9 +1,6 @@
-use Rattle.std.proofs.Common.{sym, ap, ◌∙◌}
-use Rattle.model.specs.declared.capability.Capability.{Capability}
-use Rattle.model.specs.declared.object.Content.{Content}
-use Rattle.model.specs.declared.object.Content.TheVariants as content
+use Rattle.capability.proofs.Names.{sym, ap, ◌∙◌, Capability, Content, root_in}
 use Rattle.std.specs.Prelude.{slice_index}
-use Rattle.model.specs.Object.{root_in}
+use Rattle.model.specs.declared.object.Content.TheVariants as content
 use Rattle.capability.proofs.Frames.{content_there, no_root_there}
 use Rattle.capability.proofs.roots.word.Goals as goal
 

@@ -1,5 +1,4 @@
-use Rattle.std.proofs.Common.{◌≡◌, length, map, take}
-use Rattle.model.specs.Frame.{conveyed}
+use Rattle.capability.proofs.Names.{◌≡◌, length, map, take, conveyed}
 use Rattle.capability.proofs.view.conveyed_slots.Given as goal
 
 abbrev pub invariant-loop-i : goal.invariant-loop-i

@@ -1,13 +1,5 @@
-use Rattle.std.proofs.Common.{◌≡◌, List, map, sym, ap, ◌∙◌}
-use Rattle.std.proofs.lemmas.Result.{IfOk-weaker}
-use Rattle.model.specs.declared.capability.Capability.{Capability}
-use Rattle.model.specs.declared.frame.ObjectHeader.{ObjectHeader}
-use Rattle.model.specs.declared.object.Content.{Content}
+use Rattle.capability.proofs.Names.{◌≡◌, List, map, sym, ap, ◌∙◌, IfOk-weaker, Capability, ObjectHeader, Content, conveyed, slots_in, content_at, objects_in}
 use Rattle.model.specs.declared.object.Content.TheVariants as content
-use Rattle.model.specs.Frame.{conveyed}
-use Rattle.model.specs.Object.{slots_in}
-use Rattle.model.specs.World.{content_at}
-use Rattle.capability.specs.Parts.{objects_in}
 use Rattle.capability.proofs.Frames.{content_there, no_annex_there}
 use Rattle.capability.proofs.view.registers.Goals as goal
 

@@ -1,6 +1,4 @@
-use Rattle.std.proofs.Common.{rules}
-use Rattle.device.specs.Calls.{Agrees}
-use Rattle.device.specs.Moments.{Peeks}
+use Rattle.ckpt_log.proofs.Names.{rules, Agrees, Peeks}
 use Rattle.ckpt_log.proofs.Closings.{closing_run, peek_run}
 use Rattle.ckpt_log.proofs.closing.close_gates.Goals as goal
 

@@ -1,5 +1,4 @@
-use Rattle.std.proofs.Common.{◌∙◌, ap}
-use Rattle.layout.specs.Gate.{is_open}
+use Rattle.ckpt_log.proofs.Names.{◌∙◌, ap, is_open}
 use Rattle.ckpt_log.proofs.Closings.{first_run, is_shut, second_run}
 use Rattle.ckpt_log.proofs.closing.close_in_turn.Goals as goal
 

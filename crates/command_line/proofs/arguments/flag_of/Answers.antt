@@ -1,5 +1,4 @@
-use Rattle.std.proofs.Common.{rules}
-use Rattle.clap.specs.Words.{found_of, rows_of}
+use Rattle.command_line.proofs.Names.{rules, found_of, rows_of}
 use Rattle.command_line.proofs.Getters.{flagged, given, missing, unflagged}
 use Rattle.command_line.proofs.arguments.flag_of.Goals as goal
 

@@ -1,6 +1,4 @@
-use Rattle.std.proofs.Common.{rules, arith, get_or}
-use Rattle.command_line.specs.Arguments.{IsNumber}
-use Rattle.command_line.specs.Commands.{greatest_number}
+use Rattle.command_line.proofs.Names.{rules, arith, get_or, IsNumber, greatest_number}
 use Rattle.command_line.proofs.Getters.{held}
 use Rattle.command_line.proofs.Numbers.{no_word, numbers_all, numbers_bad, numbers_next}
 use Rattle.command_line.proofs.arguments.numbers_in.Goals as goal

@@ -1,6 +1,4 @@
-use Rattle.std.proofs.Common.{rules}
-use Rattle.clap.specs.Words.{found_of}
-use Rattle.command_line.specs.Arguments.{IsNumber}
+use Rattle.command_line.proofs.Names.{rules, found_of, IsNumber}
 use Rattle.command_line.proofs.Getters.{given, held, missing}
 use Rattle.command_line.proofs.arguments.option_of.Goals as goal
 

@@ -1,6 +1,4 @@
-use Rattle.std.proofs.Common.{rules, IfOk, IsNone, subst, sym}
-use Rattle.clap.specs.Words.{found_of, rows_of}
-use Rattle.command_line.specs.Jobs.{NamesNone}
+use Rattle.command_line.proofs.Names.{rules, IfOk, IsNone, subst, sym, found_of, rows_of, NamesNone}
 use Rattle.command_line.proofs.Getters.{met}
 use Rattle.command_line.proofs.asked.asked.Goals as goal
 

@@ -1,5 +1,4 @@
-use Rattle.std.proofs.Common.{rules, codes, refl}
-use Rattle.clap.specs.Words.{found_of, rows_of}
+use Rattle.command_line.proofs.Names.{rules, codes, refl, found_of, rows_of}
 use Rattle.command_line.proofs.Getters.{given, missing}
 use Rattle.command_line.proofs.Lacking.{lacks}
 use Rattle.command_line.proofs.asked.check_of.Goals as goal

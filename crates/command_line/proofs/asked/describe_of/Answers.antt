@@ -1,6 +1,4 @@
-use Rattle.std.proofs.Common.{rules, codes, refl}
-use Rattle.clap.specs.Words.{found_of, rows_of}
-use Rattle.command_line.specs.Jobs.{AreSizes}
+use Rattle.command_line.proofs.Names.{rules, codes, refl, found_of, rows_of, AreSizes}
 use Rattle.command_line.proofs.Getters.{given, held, missing}
 use Rattle.command_line.proofs.Lacking.{lacks}
 use Rattle.command_line.proofs.asked.describe_of.Goals as goal

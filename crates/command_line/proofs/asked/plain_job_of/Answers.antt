@@ -1,5 +1,4 @@
-use Rattle.std.proofs.Common.{rules}
-use Rattle.clap.specs.Words.{found_of, rows_of}
+use Rattle.command_line.proofs.Names.{rules, found_of, rows_of}
 use Rattle.command_line.proofs.Lacking.{unknown}
 use Rattle.command_line.proofs.asked.plain_job_of.Goals as goal
 

@@ -1,8 +1,4 @@
-use Rattle.std.proofs.Common.{rules, ◌≡◌, codes, map, refl}
-use Rattle.std.specs.List.{All}
-use Rattle.clap.specs.Words.{IsUnsignedIn, found_of, rows_of}
-use Rattle.command_line.specs.Arguments.{number_of, texts_of}
-use Rattle.command_line.specs.Commands.{greatest_number}
+use Rattle.command_line.proofs.Names.{rules, ◌≡◌, codes, map, refl, All, IsUnsignedIn, found_of, rows_of, number_of, texts_of, greatest_number}
 use Rattle.command_line.proofs.Getters.{given_all, held, missing_all}
 use Rattle.command_line.proofs.Lacking.{lacks_all, wrong_all}
 use Rattle.command_line.proofs.asked.reach_of.Goals as goal

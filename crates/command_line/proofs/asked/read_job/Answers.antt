@@ -1,7 +1,4 @@
-use Rattle.std.proofs.Common.{rules, map}
-use Rattle.std.proofs.lemmas.Result.{err_from_is_err_and}
-use Rattle.clap.specs.Words.{subcommand_rows_of}
-use Rattle.command_line.specs.Jobs.{NamesJob}
+use Rattle.command_line.proofs.Names.{rules, map, err_from_is_err_and, subcommand_rows_of, NamesJob}
 use Rattle.command_line.proofs.Answered.{named_by, unnamed}
 use Rattle.command_line.proofs.Getters.{held}
 use Rattle.command_line.proofs.Refused.{parse_refused, value_refused}

@@ -1,7 +1,4 @@
-use Rattle.std.proofs.Common.{rules, codes, refl}
-use Rattle.clap.specs.Words.{found_of, rows_of}
-use Rattle.command_line.specs.Arguments.{IsNumberOption}
-use Rattle.command_line.specs.Jobs.{IsCache}
+use Rattle.command_line.proofs.Names.{rules, codes, refl, found_of, rows_of, IsNumberOption, IsCache}
 use Rattle.command_line.proofs.Getters.{given, held, missing}
 use Rattle.command_line.proofs.Lacking.{lacks, wrong}
 use Rattle.command_line.proofs.asked.run_of.Goals as goal

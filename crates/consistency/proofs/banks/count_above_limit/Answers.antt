@@ -1,10 +1,6 @@
-use Rattle.std.proofs.Common.{◌≡◌, ◌≤◌, ◌^◌, ◌-◌, ◌∙◌, ℕ, List, ap, length, slice_index, subst, sym}
-use Rattle.std.specs.Prelude.{MatchOption}
-use Rattle.model.specs.declared.frame.Frame.{Frame}
-use Rattle.model.specs.declared.frame.ObjectHeader.{ObjectHeader}
+use Rattle.consistency.proofs.Names.{◌≡◌, ◌≤◌, ◌^◌, ◌-◌, ◌∙◌, ℕ, List, ap, length, slice_index, subst, sym, MatchOption, Frame, ObjectHeader, frames_of}
+use Rattle.consistency.proofs.Names.{IsAboveLimit, role_at}
 use Rattle.model.specs.declared.object.Role.TheVariants as role
-use Rattle.capability.specs.Parts.{frames_of}
-use Rattle.consistency.specs.Consistency.{IsAboveLimit, role_at}
 use Rattle.consistency.proofs.Tables.{frames_looked}
 use Rattle.consistency.proofs.Trees.{bank_counted, count_all, limited, limits_count, owned_tree}
 use Rattle.consistency.proofs.banks.count_above_limit.Goals as goal

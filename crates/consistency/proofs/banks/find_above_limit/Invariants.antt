@@ -1,7 +1,5 @@
-use Rattle.std.proofs.Common.{◌≡◌, ℕ, ◌<◌, ◌≤◌, slice_index}
+use Rattle.consistency.proofs.Names.{◌≡◌, ℕ, ◌<◌, ◌≤◌, slice_index, frames_of, role_at}
 use Rattle.model.specs.declared.object.Role.TheVariants as role
-use Rattle.capability.specs.Parts.{frames_of}
-use Rattle.consistency.specs.Consistency.{role_at}
 use Rattle.consistency.proofs.banks.find_above_limit.Given as goal
 
 abbrev pub invariant-loop-number : goal.invariant-loop-number

@@ -1,10 +1,5 @@
-use Rattle.std.proofs.Common.{◌≡◌, ◌≢◌, ℕ, ◌<◌}
-use Rattle.std.specs.List.{Contains}
+use Rattle.consistency.proofs.Names.{◌≡◌, ◌≢◌, ℕ, ◌<◌, Contains, chain, objects_of, frames_of, owner_of, role_at}
 use Rattle.model.specs.declared.object.Role.TheVariants as role
-use Rattle.model.specs.Bank.{chain}
-use Rattle.model.specs.Frame.{objects_of}
-use Rattle.capability.specs.Parts.{frames_of}
-use Rattle.consistency.specs.Consistency.{owner_of, role_at}
 use Rattle.consistency.proofs.banks.find_unowned.Given as goal
 
 abbrev pub invariant-loop-number : goal.invariant-loop-number

@@ -1,9 +1,5 @@
-use Rattle.std.proofs.Common.{◌≡◌}
+use Rattle.consistency.proofs.Names.{◌≡◌, chain, objects_of, frames_of, role_at}
 use Rattle.model.specs.declared.object.Role.TheVariants as role
-use Rattle.model.specs.Bank.{chain}
-use Rattle.model.specs.Frame.{objects_of}
-use Rattle.capability.specs.Parts.{frames_of}
-use Rattle.consistency.specs.Consistency.{role_at}
 use Rattle.consistency.proofs.Trees.{reaches}
 use Rattle.consistency.proofs.banks.is_reaching.Goals as goal
 

@@ -1,9 +1,4 @@
-use Rattle.std.proofs.Common.{ℕ, ◌<◌}
-use Rattle.std.specs.List.{All}
-use Rattle.model.specs.Frame.{frame_at}
-use Rattle.model.specs.Keepable.{caps_in}
-use Rattle.capability.specs.Parts.{frames_of}
-use Rattle.consistency.specs.Consistency.{IsNamed}
+use Rattle.consistency.proofs.Names.{ℕ, ◌<◌, All, frame_at, caps_in, frames_of, IsNamed}
 use Rattle.consistency.proofs.Looking.{HasLooked}
 use Rattle.consistency.proofs.capabilities.are_named.Given as goal
 

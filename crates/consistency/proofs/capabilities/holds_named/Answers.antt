@@ -1,8 +1,4 @@
-use Rattle.std.proofs.Common.{ap}
-use Rattle.model.specs.declared.capability.Cap.{Cap}
-use Rattle.model.specs.declared.object.Content.{Content}
-use Rattle.model.specs.Keepable.{caps_in}
-use Rattle.capability.specs.Parts.{frames_of}
+use Rattle.consistency.proofs.Names.{ap, Cap, Content, caps_in, frames_of}
 use Rattle.consistency.proofs.Named.{held_named, holds_none, other_named, space_named}
 use Rattle.consistency.proofs.Tables.{content_read}
 use Rattle.consistency.proofs.capabilities.holds_named.Goals as goal

@@ -1,7 +1,4 @@
-use Rattle.std.proofs.Common.{ap, ◌∙◌}
-use Rattle.model.specs.declared.frame.ObjectHeader.{ObjectHeader}
-use Rattle.model.specs.Frame.{frame_at}
-use Rattle.capability.specs.Parts.{frames_of}
+use Rattle.consistency.proofs.Names.{ap, ◌∙◌, ObjectHeader, frame_at, frames_of}
 use Rattle.consistency.proofs.Named.{role_holds_none}
 use Rattle.consistency.proofs.Tables.{header_read}
 use Rattle.consistency.proofs.capabilities.may_hold.Goals as goal

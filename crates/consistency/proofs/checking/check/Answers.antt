@@ -1,7 +1,4 @@
-use Rattle.std.proofs.Common.{Option, subst}
-use Rattle.capability.specs.Parts.{frames_of}
-use Rattle.consistency.specs.declared.reason.Inconsistency.{Inconsistency}
-use Rattle.consistency.specs.Consistency.{Tells}
+use Rattle.consistency.proofs.Names.{Option, subst, frames_of, Inconsistency, Tells}
 use Rattle.consistency.proofs.Sound.{consistent_is_sound}
 use Rattle.consistency.proofs.checking.check.Goals as goal
 

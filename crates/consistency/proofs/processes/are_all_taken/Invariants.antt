@@ -1,8 +1,5 @@
-use Rattle.std.proofs.Common.{◌≡◌, ℕ, ◌<◌, true}
+use Rattle.consistency.proofs.Names.{◌≡◌, ℕ, ◌<◌, true, frames_of, role_at, is_taken}
 use Rattle.model.specs.declared.object.Role.TheVariants as role
-use Rattle.capability.specs.Parts.{frames_of}
-use Rattle.consistency.specs.Consistency.{role_at}
-use Rattle.consistency.specs.Noted.{is_taken}
 use Rattle.consistency.proofs.processes.are_all_taken.Given as goal
 
 abbrev pub invariant-loop-number : goal.invariant-loop-number

@@ -1,8 +1,4 @@
-use Rattle.std.proofs.Common.{sym, ap, ◌∙◌, Bool, Option, Some}
-use Rattle.model.specs.declared.capability.Cap.{Cap}
-use Rattle.model.specs.declared.object.Content.{Content}
-use Rattle.consistency.specs.declared.processes.Noted.{Noted}
-use Rattle.consistency.specs.Noted.{noted_in}
+use Rattle.consistency.proofs.Names.{sym, ap, ◌∙◌, Bool, Option, Some, Cap, Content, Noted, noted_in}
 use Rattle.consistency.proofs.Notes.{unnoted}
 use Rattle.consistency.proofs.Tables.{content_read}
 use Rattle.consistency.proofs.processes.note_there.Goals as goal

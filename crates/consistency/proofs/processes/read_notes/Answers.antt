@@ -1,7 +1,4 @@
-use Rattle.std.proofs.Common.{rules, ◌≡◌, ap, arith, length, List}
-use Rattle.model.specs.declared.frame.ObjectHeader.{ObjectHeader}
-use Rattle.capability.specs.Parts.{frames_of}
-use Rattle.capability.proofs.Frames.{length_in}
+use Rattle.consistency.proofs.Names.{rules, ◌≡◌, ap, arith, length, List, ObjectHeader, frames_of, length_in}
 use Rattle.consistency.proofs.Notes.{noted_whole}
 use Rattle.consistency.proofs.processes.read_notes.Goals as goal
 

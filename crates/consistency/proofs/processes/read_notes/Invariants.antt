@@ -1,8 +1,4 @@
-use Rattle.std.proofs.Common.{◌≡◌, ℕ, ◌<◌, ◌≤◌, vec_len}
-use Rattle.std.specs.Vec.{vec_capacity}
-use Rattle.model.specs.Frame.{frame_at}
-use Rattle.capability.specs.Parts.{frames_of}
-use Rattle.consistency.specs.Noted.{note_at, noted_in}
+use Rattle.consistency.proofs.Names.{◌≡◌, ℕ, ◌<◌, ◌≤◌, vec_len, vec_capacity, frame_at, frames_of, note_at, noted_in}
 use Rattle.consistency.proofs.Looking.{HasLooked}
 use Rattle.consistency.proofs.processes.read_notes.Given as goal
 

@@ -1,7 +1,4 @@
-use Rattle.std.proofs.Common.{◌≡◌, ◌+◌, ◌<◌, ◌∙◌, List, Bool, arith, length, subst, sym, ℕ}
-use Rattle.capability.specs.Parts.{frames_of}
-use Rattle.capability.proofs.Frames.{length_in}
-use Rattle.consistency.specs.Noted.{AreTaken}
+use Rattle.consistency.proofs.Names.{◌≡◌, ◌+◌, ◌<◌, ◌∙◌, List, Bool, arith, length, subst, sym, ℕ, frames_of, length_in, AreTaken}
 use Rattle.consistency.proofs.Notes.{none_noted, root_noted}
 use Rattle.consistency.proofs.Tables.{annex_known}
 use Rattle.consistency.proofs.Taking.{taken_more, taken_same}

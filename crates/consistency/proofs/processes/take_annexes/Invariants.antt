@@ -1,6 +1,4 @@
-use Rattle.std.proofs.Common.{◌≡◌, length}
-use Rattle.capability.specs.Parts.{frames_of}
-use Rattle.consistency.specs.Noted.{AreTaken}
+use Rattle.consistency.proofs.Names.{◌≡◌, length, frames_of, AreTaken}
 use Rattle.consistency.proofs.processes.take_annexes.Given as goal
 
 abbrev pub invariant-loop-root : goal.invariant-loop-root

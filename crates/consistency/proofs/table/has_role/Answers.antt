@@ -1,7 +1,5 @@
-use Rattle.std.proofs.Common.{rules, sym, ap, ◌∙◌}
+use Rattle.consistency.proofs.Names.{rules, sym, ap, ◌∙◌, ObjectHeader, the_type}
 use denote.Enum.Bare.{same_true, true_same}
-use Rattle.model.specs.declared.frame.ObjectHeader.{ObjectHeader}
-use Rattle.model.specs.contracts.object.Role.{the_type}
 use Rattle.consistency.proofs.Tables.{header_read}
 use Rattle.consistency.proofs.table.has_role.Goals as goal
 

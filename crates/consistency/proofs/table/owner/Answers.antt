@@ -1,5 +1,4 @@
-use Rattle.std.proofs.Common.{ap}
-use Rattle.model.specs.declared.frame.ObjectHeader.{ObjectHeader}
+use Rattle.consistency.proofs.Names.{ap, ObjectHeader}
 use Rattle.consistency.proofs.Tables.{header_read}
 use Rattle.consistency.proofs.table.owner.Goals as goal
 

@@ -1,6 +1,4 @@
-use Rattle.std.proofs.Common.{drop, map}
-use Rattle.std.specs.Prelude.{◌↔◌}
-use Rattle.described_world.specs.Described.{AreDistinct}
+use Rattle.described_world.proofs.Names.{drop, map, ◌↔◌, AreDistinct}
 use Rattle.described_world.proofs.fields.are_distinct_words.Given as goal
 
 abbrev pub invariant-loop-i : goal.invariant-loop-i

@@ -1,5 +1,4 @@
-use Rattle.std.proofs.Common.{◌∙◌, ap}
-use Rattle.described_world.specs.Laid.{OfBank, OfRoot, OfAnnex, OfNode, OfPage, entries, laid}
+use Rattle.described_world.proofs.Names.{◌∙◌, ap, OfBank, OfRoot, OfAnnex, OfNode, OfPage, entries, laid}
 use Rattle.described_world.proofs.KeptFrames.{all_within, laid_five}
 use Rattle.described_world.proofs.laying.lay.Goals as goal
 

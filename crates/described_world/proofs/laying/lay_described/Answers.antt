@@ -1,6 +1,4 @@
-use Rattle.std.proofs.Common.{subst, sym}
-use Rattle.model.specs.Keepable.{AreKeepable}
-use Rattle.described_world.specs.Described.{IsDescribed}
+use Rattle.described_world.proofs.Names.{subst, sym, AreKeepable, IsDescribed}
 use Rattle.described_world.proofs.KeptFrames.{laid_described, laid_keepable}
 use Rattle.described_world.proofs.laying.lay_described.Goals as goal
 

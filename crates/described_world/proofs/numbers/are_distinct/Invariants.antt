@@ -1,6 +1,4 @@
-use Rattle.std.proofs.Common.{drop}
-use Rattle.std.specs.Prelude.{◌↔◌}
-use Rattle.described_world.specs.Described.{AreDistinct}
+use Rattle.described_world.proofs.Names.{drop, ◌↔◌, AreDistinct}
 use Rattle.described_world.proofs.numbers.are_distinct.Given as goal
 
 abbrev pub invariant-loop-i : goal.invariant-loop-i

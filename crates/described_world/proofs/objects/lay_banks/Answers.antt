@@ -1,7 +1,4 @@
-use Rattle.std.proofs.Common.{◌∙◌, ◌<◌, ◌^◌, rules, sym}
-use Rattle.std.proofs.Common.{slice_index_or}
-use Rattle.std.proofs.lemmas.List.{drop_more}
-use Rattle.described_world.specs.Laid.{OfBank}
+use Rattle.described_world.proofs.Names.{◌∙◌, ◌<◌, ◌^◌, rules, sym, slice_index_or, drop_more, OfBank}
 use Rattle.described_world.proofs.LaidFrames.{all_laid, more_laid, none_laid, put_same, still_within}
 use Rattle.described_world.proofs.objects.lay_banks.Goals as goal
 

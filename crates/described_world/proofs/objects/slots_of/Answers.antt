@@ -1,5 +1,4 @@
-use Rattle.std.proofs.Common.{None}
-use Rattle.described_world.specs.Laid.{slot_held, slots_of}
+use Rattle.described_world.proofs.Names.{None, slot_held, slots_of}
 use Rattle.described_world.proofs.Lists.{each_done, each_wrote}
 use Rattle.described_world.proofs.objects.slots_of.Goals as goal
 

@@ -1,6 +1,4 @@
-use Rattle.std.proofs.Common.{◌≡◌, drop, replicate}
-use Rattle.model.specs.Frame.{void_held}
-use Rattle.described_world.specs.Laid.{set_each, slot_held}
+use Rattle.described_world.proofs.Names.{◌≡◌, drop, replicate, void_held, set_each, slot_held}
 use Rattle.described_world.proofs.objects.slots_of.Given as goal
 
 abbrev pub invariant-loop-entry : goal.invariant-loop-entry

@@ -1,7 +1,4 @@
-use Rattle.std.proofs.Common.{◌<◌, ◌^◌, ap, arith, refl, rules, slice_index_or, subst, sym}
-use Rattle.std.specs.List.{All}
-use Rattle.std.proofs.lemmas.List.Elements.{All-replicate, All-set}
-use Rattle.described_world.specs.Laid.{set_each, words_of}
+use Rattle.described_world.proofs.Names.{◌<◌, ◌^◌, ap, arith, refl, rules, slice_index_or, subst, sym, All, All-replicate, All-set, set_each, words_of}
 use Rattle.described_world.proofs.Lists.{each_done, each_wrote}
 use Rattle.described_world.proofs.objects.words_of.Goals as goal
 

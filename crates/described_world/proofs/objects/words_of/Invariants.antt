@@ -1,6 +1,4 @@
-use Rattle.std.proofs.Common.{◌≡◌, ◌<◌, ◌^◌, drop, replicate}
-use Rattle.std.specs.List.{All}
-use Rattle.described_world.specs.Laid.{set_each}
+use Rattle.described_world.proofs.Names.{◌≡◌, ◌<◌, ◌^◌, drop, replicate, All, set_each}
 use Rattle.described_world.proofs.objects.words_of.Given as goal
 
 abbrev pub invariant-loop-entry : goal.invariant-loop-entry

@@ -1,5 +1,4 @@
-use Rattle.std.proofs.Common.{◌≡◌, replicate}
-use Rattle.model.specs.Frame.{blank_header}
+use Rattle.described_world.proofs.Names.{◌≡◌, replicate, blank_header}
 use Rattle.described_world.proofs.world.free_headers.Given as goal
 
 abbrev pub invariant-loop : goal.invariant-loop

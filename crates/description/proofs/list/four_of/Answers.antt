@@ -1,7 +1,4 @@
-use Rattle.std.proofs.Common.{◌≢◌, ◌∙◌, length, arith}
-use Rattle.std.proofs.lemmas.Grind.{common_steps}
-use Rattle.toml.specs.View.{view}
-use Rattle.description.specs.Reading.{AreFour, IsList, IsWideNumber}
+use Rattle.description.proofs.Names.{◌≢◌, ◌∙◌, length, arith, common_steps, view, AreFour, IsList, IsWideNumber}
 use Rattle.description.proofs.Elements.{same_length}
 use Rattle.description.proofs.Parts.{failed}
 use Rattle.description.proofs.list.four_of.Goals as goal

@@ -1,8 +1,4 @@
-use Rattle.std.proofs.Common.{◌≡◌, ◌<◌, true, length, get_or, arith}
-use Rattle.std.specs.Result.{is_ok}
-use Rattle.std.proofs.lemmas.Grind.{common_steps}
-use Rattle.toml.specs.View.{view}
-use Rattle.description.specs.Reading.{IsList}
+use Rattle.description.proofs.Names.{◌≡◌, ◌<◌, true, length, get_or, arith, is_ok, common_steps, view, IsList}
 use Rattle.description.proofs.Elements.{each_read, one_more}
 use Rattle.description.proofs.Parts.{failed_list}
 use Rattle.description.proofs.list.list_of.Goals as goal

@@ -1,6 +1,4 @@
-use Rattle.std.proofs.Common.{take}
-use Rattle.toml.specs.View.{items_view}
-use Rattle.description.specs.Reading.{AreItems}
+use Rattle.description.proofs.Names.{take, items_view, AreItems}
 use Rattle.description.proofs.list.list_of.Given as goal
 
 -- the values so far are read

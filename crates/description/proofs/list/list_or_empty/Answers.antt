@@ -1,6 +1,4 @@
-use Rattle.std.proofs.Common.{[]}
-use Rattle.toml.specs.View.{view}
-use Rattle.description.specs.Reading.{IsList}
+use Rattle.description.proofs.Names.{[], view, IsList}
 use Rattle.description.proofs.Keyed.{list_held}
 use Rattle.description.proofs.list.list_or_empty.Goals as goal
 

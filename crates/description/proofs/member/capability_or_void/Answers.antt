@@ -1,6 +1,4 @@
-use Rattle.std.proofs.Common.{Some}
-use Rattle.model.specs.declared.capability.Capability.TheVariants.{Void}
-use Rattle.description.specs.Reading.{IsCapability}
+use Rattle.description.proofs.Names.{Some, Void, IsCapability}
 use Rattle.description.proofs.Keyed.{defaulted}
 use Rattle.description.proofs.member.capability_or_void.Goals as goal
 

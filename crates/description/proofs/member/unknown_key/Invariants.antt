@@ -1,7 +1,4 @@
-use Rattle.std.proofs.Common.{◌≡◌, ℕ, List, map}
-use Rattle.std.specs.Prelude.{IsTrue}
-use Rattle.toml.specs.View.{members_view}
-use Rattle.description.specs.Reading.{has_key, has_only}
+use Rattle.description.proofs.Names.{◌≡◌, ℕ, List, map, IsTrue, members_view, has_key, has_only}
 use Rattle.description.proofs.member.unknown_key.Given as goal
 
 -- the keys left are known where all are, and each is a key of the table

@@ -1,5 +1,4 @@
-use Rattle.toml.specs.View.{table_view}
-use Rattle.description.specs.Reading.{IsBank}
+use Rattle.description.proofs.Names.{table_view, IsBank}
 use Rattle.description.proofs.Parts.{failed}
 use Rattle.description.proofs.object.read_bank.Goals as goal
 

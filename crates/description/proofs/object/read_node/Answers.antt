@@ -1,5 +1,4 @@
-use Rattle.toml.specs.View.{table_view}
-use Rattle.description.specs.Reading.{IsNode}
+use Rattle.description.proofs.Names.{table_view, IsNode}
 use Rattle.description.proofs.Parts.{failed}
 use Rattle.description.proofs.object.read_node.Goals as goal
 

@@ -1,5 +1,4 @@
-use Rattle.toml.specs.View.{table_view}
-use Rattle.description.specs.Reading.{IsPage}
+use Rattle.description.proofs.Names.{table_view, IsPage}
 use Rattle.description.proofs.Parts.{failed}
 use Rattle.description.proofs.object.read_page.Goals as goal
 

@@ -1,5 +1,4 @@
-use Rattle.toml.specs.View.{table_view}
-use Rattle.description.specs.Reading.{IsProcess}
+use Rattle.description.proofs.Names.{table_view, IsProcess}
 use Rattle.description.proofs.Parts.{failed}
 use Rattle.description.proofs.object.read_process.Goals as goal
 

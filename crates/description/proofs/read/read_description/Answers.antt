@@ -1,8 +1,5 @@
-use Rattle.toml.specs.View.{table_view}
-use Rattle.description.specs.Reading.{AtOr, IsDescription, IsList, IsRange, whole_ranges}
+use Rattle.description.proofs.Names.{table_view, AtOr, IsDescription, IsList, IsRange, whole_ranges, NumberRange, List, codes}
 use Rattle.description.proofs.Keyed.{at_either}
-use Rattle.image_writer.specs.declared.number_range.NumberRange.{NumberRange}
-use Rattle.std.proofs.Common.{List, codes}
 use Rattle.description.proofs.Parts.{failed}
 use Rattle.description.proofs.read.read_description.Goals as goal
 

@@ -1,5 +1,4 @@
-use Rattle.toml.specs.View.{table_view}
-use Rattle.description.specs.Reading.{IsGeometry}
+use Rattle.description.proofs.Names.{table_view, IsGeometry}
 use Rattle.description.proofs.Parts.{failed}
 use Rattle.description.proofs.read.read_geometry.Goals as goal
 

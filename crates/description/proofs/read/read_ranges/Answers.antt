@@ -1,5 +1,4 @@
-use Rattle.toml.specs.View.{view}
-use Rattle.description.specs.Reading.{IsList, IsRange, whole_ranges}
+use Rattle.description.proofs.Names.{view, IsList, IsRange, whole_ranges}
 use Rattle.description.proofs.Keyed.{list_held}
 use Rattle.description.proofs.read.read_ranges.Goals as goal
 

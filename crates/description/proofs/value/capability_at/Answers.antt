@@ -1,5 +1,4 @@
-use Rattle.std.proofs.Common.{Some, ap, ◌∙◌}
-use Rattle.toml.specs.View.{view}
+use Rattle.description.proofs.Names.{Some, ap, ◌∙◌, view}
 use Rattle.description.proofs.Types.{capability_told, no_capability}
 use Rattle.description.proofs.value.capability_at.Goals as goal
 

@@ -1,7 +1,4 @@
-use Rattle.std.proofs.Common.{Option, subst}
-use Rattle.model.specs.declared.capability.Capability.{Capability}
-use Rattle.toml.specs.View.{view}
-use Rattle.description.specs.Reading.{IsCapability}
+use Rattle.description.proofs.Names.{Option, subst, Capability, view, IsCapability}
 use Rattle.description.proofs.Types.{no_number, other_text, wide_text}
 use Rattle.description.proofs.value.number_in_text.Goals as goal
 

@@ -1,8 +1,4 @@
-use Rattle.std.proofs.Common.{◌≡◌, ◌<◌, ◌^◌, true, false, arith}
-use Rattle.std.proofs.lemmas.Int.{to_z-of_z}
-use Rattle.std.specs.Int.{is_negative}
-use Rattle.std.specs.Prelude.{unsigned_abs}
-use Rattle.toml.specs.View.{view}
+use Rattle.description.proofs.Names.{◌≡◌, ◌<◌, ◌^◌, true, false, arith, to_z-of_z, is_negative, unsigned_abs, view}
 use Rattle.description.proofs.Types.{natural, negative, not_integer}
 use Rattle.description.proofs.value.number_of.Goals as goal
 

@@ -1,6 +1,4 @@
-use Rattle.std.proofs.Common.{◌≢◌, length, refl, arith}
-use Rattle.std.proofs.lemmas.Grind.{common_steps}
-use Rattle.toml.specs.View.{view}
+use Rattle.description.proofs.Names.{◌≢◌, length, refl, arith, common_steps, view}
 use Rattle.description.proofs.Elements.{pair_length}
 use Rattle.description.proofs.value.pair_of.Goals as goal
 

@@ -1,5 +1,4 @@
-use Rattle.std.proofs.Common.{Some, ap, ◌∙◌}
-use Rattle.toml.specs.View.{view}
+use Rattle.description.proofs.Names.{Some, ap, ◌∙◌, view}
 use Rattle.description.proofs.Types.{state_told, no_state}
 use Rattle.description.proofs.value.state_at.Goals as goal
 

@@ -1,5 +1,4 @@
-use Rattle.std.proofs.Common.{◌∙◌, sym}
-use Rattle.toml.specs.View.{view}
+use Rattle.description.proofs.Names.{◌∙◌, sym, view}
 use Rattle.description.proofs.Types.{wide_read}
 use Rattle.description.proofs.value.wide_number_of.Goals as goal
 

@@ -1,5 +1,4 @@
-use Rattle.std.proofs.Common.{subst}
-use Rattle.description_explainer.specs.Explained.{ExplainsDescription}
+use Rattle.description_explainer.proofs.Names.{subst, ExplainsDescription}
 use Rattle.description_explainer.proofs.Explanations.{refused_rule}
 use Rattle.description_explainer.proofs.explaining.explain_description.Goals as goal
 

@@ -1,6 +1,4 @@
-use Rattle.std.proofs.Common.{subst}
-use Rattle.described_world.specs.Laid.{IsTarget}
-use Rattle.description_faults.specs.Outcomes.{OneLacks}
+use Rattle.description_explainer.proofs.Names.{subst, IsTarget, OneLacks}
 use Rattle.description_explainer.proofs.Explanations.{explains_kind}
 use Rattle.description_explainer.proofs.explaining.explain_targets.Goals as goal
 

@@ -1,8 +1,4 @@
-use Rattle.std.proofs.Common.{◌≡◌, arith}
-use Rattle.std.specs.Prelude.{vec_len}
-use Rattle.model.specs.Frame.{frames_in}
-use Rattle.model.specs.Sound.{object_count}
-use Rattle.capability.proofs.Keeping.{keepable_later}
+use Rattle.description_explainer.proofs.Names.{◌≡◌, arith, vec_len, frames_in, object_count, keepable_later}
 use Rattle.description_explainer.proofs.explaining.lay_whole.Goals as goal
 
 pub returns-in-Ok : goal.returns-in-Ok

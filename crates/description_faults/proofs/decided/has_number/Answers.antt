@@ -1,5 +1,4 @@
-use Rattle.toml.specs.View.{table_view}
-use Rattle.description.specs.Reading.{At, IsNumber}
+use Rattle.description_faults.proofs.Names.{table_view, At, IsNumber}
 use Rattle.description_faults.proofs.Decisions.{reads_decided}
 use Rattle.description_faults.proofs.decided.has_number.Goals as goal
 

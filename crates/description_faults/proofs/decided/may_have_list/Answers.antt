@@ -1,6 +1,4 @@
-use Rattle.std.proofs.Common.{[]}
-use Rattle.toml.specs.View.{table_view}
-use Rattle.description.specs.Reading.{AtOr, IsList}
+use Rattle.description_faults.proofs.Names.{[], table_view, AtOr, IsList}
 use Rattle.description_faults.proofs.Decisions.{list_decided}
 use Rattle.description_faults.proofs.decided.may_have_list.Goals as goal
 

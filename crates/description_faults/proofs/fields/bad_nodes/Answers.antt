@@ -1,6 +1,4 @@
-use Rattle.std.proofs.Common.{subst}
-use Rattle.std.proofs.lemmas.List.Elements.{All-more}
-use Rattle.described_world.specs.Described.{AreSlots}
+use Rattle.description_faults.proofs.Names.{subst, All-more, AreSlots}
 use Rattle.description_faults.proofs.Decisions.{at_none}
 use Rattle.description_faults.proofs.Elements.{all_taken}
 use Rattle.description_faults.proofs.fields.bad_nodes.Goals as goal

@@ -1,5 +1,4 @@
-use Rattle.std.proofs.Common.{sym, subst}
-use Rattle.described_world.specs.Described.{IsProcessEntry}
+use Rattle.description_faults.proofs.Names.{sym, subst, IsProcessEntry}
 use Rattle.description_faults.proofs.Decisions.{at_none}
 use Rattle.description_faults.proofs.Elements.{all_taken, one_more}
 use Rattle.description_faults.proofs.fields.bad_processes.Goals as goal

@@ -1,6 +1,4 @@
-use Rattle.std.proofs.Common.{None}
-use Rattle.std.proofs.lemmas.List.Elements.{All-more}
-use Rattle.described_world.specs.Described.{IsSomeCapability}
+use Rattle.description_faults.proofs.Names.{None, All-more, IsSomeCapability}
 use Rattle.description_faults.proofs.Elements.{all_taken}
 use Rattle.description_faults.proofs.fields.first_text.Goals as goal
 

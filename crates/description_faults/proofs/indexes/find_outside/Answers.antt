@@ -1,5 +1,4 @@
-use Rattle.std.proofs.Common.{◌<◌, ◌≤◌}
-use Rattle.std.proofs.lemmas.List.Elements.{All-more}
+use Rattle.description_faults.proofs.Names.{◌<◌, ◌≤◌, All-more}
 use Rattle.description_faults.proofs.Elements.{all_taken}
 use Rattle.description_faults.proofs.indexes.find_outside.Goals as goal
 

@@ -1,5 +1,4 @@
-use Rattle.std.proofs.Common.{◌<◌, ◌≤◌, take}
-use Rattle.std.specs.List.{All}
+use Rattle.description_faults.proofs.Names.{◌<◌, ◌≤◌, take, All}
 use Rattle.description_faults.proofs.indexes.find_outside.Given as goal
 
 abbrev pub invariant-loop-i : goal.invariant-loop-i

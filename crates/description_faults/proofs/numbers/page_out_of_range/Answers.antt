@@ -1,5 +1,4 @@
-use Rattle.std.proofs.Common.{refl}
-use Rattle.model.specs.Sound.{object_count}
+use Rattle.description_faults.proofs.Names.{refl, object_count}
 use Rattle.description_faults.proofs.NumberPlaces.{page_outside}
 use Rattle.description_faults.proofs.numbers.page_out_of_range.Goals as goal
 

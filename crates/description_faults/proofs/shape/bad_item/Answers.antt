@@ -1,5 +1,4 @@
-use Rattle.toml.specs.Data.{get_member}
-use Rattle.toml.specs.View.{table_view, view}
+use Rattle.description_faults.proofs.Names.{get_member, table_view, view}
 use Rattle.description_faults.proofs.Decisions.{not_listed, unsaid_at}
 use Rattle.description_faults.proofs.Flaws.{bad_found}
 use Rattle.description_faults.proofs.shape.bad_item.Goals as goal

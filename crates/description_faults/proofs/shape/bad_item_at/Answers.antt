@@ -1,9 +1,6 @@
+use Rattle.description_faults.proofs.Names.{table_view, IsBank, IsNode, IsPage, IsProcess, IsRange, IsSlot, IsTable, IsWord, Ranges, Banks, Processes, NodeList}
+use Rattle.description_faults.proofs.Names.{PageList, ProcessRegisters, NodeSlots, PageWords, IsWholeItem, IsUnlisted}
 use Rattle.std.specs.Prelude.{codes}
-use Rattle.toml.specs.View.{table_view}
-use Rattle.description.specs.Reading.{IsBank, IsNode, IsPage, IsProcess, IsRange, IsSlot, IsTable, IsWord}
-use Rattle.description_faults.specs.declared.key.Key.TheVariants.{Ranges, Banks, Processes, NodeList, PageList, ProcessRegisters, NodeSlots, PageWords}
-use Rattle.description_faults.specs.Outcomes.{IsWholeItem}
-use Rattle.description_faults.specs.Shapes.{IsUnlisted}
 use Rattle.description_faults.proofs.Flaws.{item_found}
 use Rattle.description_faults.proofs.shape.bad_item_at.Goals as goal
 

@@ -1,9 +1,5 @@
-use Rattle.std.proofs.Common.{◌≡◌, ◌<◌, ◌≤◌, ◌^◌, ◌++◌, [], ◌∷◌, length, get_or, sym, subst, arith}
-use Rattle.std.proofs.lemmas.Grind.{common_steps}
-use Rattle.std.proofs.lemmas.List.{length-append, take_all}
-use Rattle.toml.specs.View.{items_view, view}
-use Rattle.description.specs.Reading.{AreItems, IsList}
-use Rattle.description.proofs.Elements.{one_more}
+use Rattle.description_faults.proofs.Names.{◌≡◌, ◌<◌, ◌≤◌, ◌^◌, ◌++◌, [], ◌∷◌, length, get_or, sym, subst, arith, common_steps, length-append, take_all}
+use Rattle.description_faults.proofs.Names.{items_view, view, AreItems, IsList, one_more}
 use Rattle.description_faults.proofs.Decisions.{item_viewed, vec_of}
 use Rattle.description_faults.proofs.shape.first_bad.Goals as goal
 

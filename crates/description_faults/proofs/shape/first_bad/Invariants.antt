@@ -1,6 +1,4 @@
-use Rattle.std.proofs.Common.{◌≡◌, List, length, take}
-use Rattle.toml.specs.View.{items_view}
-use Rattle.description.specs.Reading.{AreItems}
+use Rattle.description_faults.proofs.Names.{◌≡◌, List, length, take, items_view, AreItems}
 use Rattle.description_faults.proofs.shape.first_bad.Given as goal
 
 -- the values so far are read

@@ -1,7 +1,4 @@
-use Rattle.std.proofs.lemmas.List.Elements.{All-more}
-use Rattle.toml.specs.View.{table_view}
-use Rattle.description_faults.specs.declared.key.Key.TheVariants.{Nodes}
-use Rattle.description_faults.specs.Shapes.{Fits}
+use Rattle.description_faults.proofs.Names.{All-more, table_view, Nodes, Fits}
 use Rattle.description_faults.proofs.Elements.{all_taken}
 use Rattle.description_faults.proofs.shape.first_misfit.Goals as goal
 

@@ -1,7 +1,4 @@
-use Rattle.std.proofs.Common.{take}
-use Rattle.std.specs.List.{All}
-use Rattle.toml.specs.View.{table_view}
-use Rattle.description_faults.specs.Shapes.{Fits}
+use Rattle.description_faults.proofs.Names.{take, All, table_view, Fits}
 use Rattle.description_faults.proofs.shape.first_misfit.Given as goal
 
 -- the keys so far fit

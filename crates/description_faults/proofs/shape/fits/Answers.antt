@@ -1,7 +1,4 @@
-use Rattle.std.proofs.Common.{[], ◌∷◌, Some, codes}
-use Rattle.model.specs.declared.capability.Capability.TheVariants.{Void}
-use Rattle.toml.specs.View.{table_view}
-use Rattle.description.specs.Reading.{AreFour, At, AtOr, IsCapability, IsState, IsWideNumber}
+use Rattle.description_faults.proofs.Names.{[], ◌∷◌, Some, codes, Void, table_view, AreFour, At, AtOr, IsCapability, IsState, IsWideNumber}
 use Rattle.description_faults.proofs.Decisions.{reads_decided}
 use Rattle.description_faults.proofs.shape.fits.Goals as goal
 

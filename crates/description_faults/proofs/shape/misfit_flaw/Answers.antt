@@ -1,6 +1,4 @@
-use Rattle.std.specs.List.{All, Contains}
-use Rattle.toml.specs.View.{table_view}
-use Rattle.description_faults.specs.Shapes.{Fits, keys_of}
+use Rattle.description_faults.proofs.Names.{All, Contains, table_view, Fits, keys_of}
 use Rattle.description_faults.proofs.Decisions.{at_none, at_some}
 use Rattle.description_faults.proofs.Flaws.{all_fit, flaw_passed}
 use Rattle.description_faults.proofs.shape.misfit_flaw.Goals as goal

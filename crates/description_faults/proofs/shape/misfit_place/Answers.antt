@@ -1,7 +1,5 @@
-use Rattle.std.specs.List.{All, Contains}
-use Rattle.toml.specs.View.{table_view}
+use Rattle.description_faults.proofs.Names.{All, Contains, table_view, Fits, keys_of}
 use Rattle.description_faults.specs.declared.place.TableName.TheVariants as name
-use Rattle.description_faults.specs.Shapes.{Fits, keys_of}
 use Rattle.description_faults.proofs.Decisions.{at_none}
 use Rattle.description_faults.proofs.Flaws.{all_fit}
 use Rattle.description_faults.proofs.shape.misfit_place.Goals as goal

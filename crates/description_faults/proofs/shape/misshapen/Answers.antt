@@ -1,5 +1,4 @@
-use Rattle.std.proofs.Common.{refl}
-use Rattle.toml.specs.View.{table_view}
+use Rattle.description_faults.proofs.Names.{refl, table_view}
 use Rattle.description_faults.proofs.shape.misshapen.Goals as goal
 
 pub returns-in-Some : goal.returns-in-Some

@@ -1,7 +1,4 @@
-use Rattle.std.proofs.Common.{refl}
-use Rattle.toml.specs.View.{table_view, view}
-use Rattle.description_faults.specs.Outcomes.{HasItemAs}
-use Rattle.description_faults.specs.Shapes.{IsUnlisted}
+use Rattle.description_faults.proofs.Names.{refl, table_view, view, HasItemAs, IsUnlisted}
 use Rattle.description_faults.proofs.Decisions.{at_none}
 use Rattle.description_faults.proofs.shape.place_at_key.Goals as goal
 

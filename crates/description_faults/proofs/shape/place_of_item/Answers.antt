@@ -1,5 +1,4 @@
-use Rattle.std.proofs.Common.{sym}
-use Rattle.toml.specs.View.{table_view, view}
+use Rattle.description_faults.proofs.Names.{sym, table_view, view}
 use Rattle.description_faults.proofs.Flaws.{item_place, not_table, object_place, plain_item, table_refused}
 use Rattle.description_faults.proofs.shape.place_of_item.Goals as goal
 

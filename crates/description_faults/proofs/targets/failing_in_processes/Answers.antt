@@ -1,5 +1,4 @@
-use Rattle.std.proofs.Common.{sym, subst}
-use Rattle.description_faults.specs.Outcomes.{AllOfProcess}
+use Rattle.description_faults.proofs.Names.{sym, subst, AllOfProcess}
 use Rattle.description_faults.proofs.Decisions.{at_none}
 use Rattle.description_faults.proofs.Elements.{all_taken, one_more}
 use Rattle.description_faults.proofs.targets.failing_in_processes.Goals as goal

@@ -1,6 +1,4 @@
-use Rattle.std.proofs.Common.{take}
-use Rattle.std.specs.List.{All}
-use Rattle.description_faults.specs.Outcomes.{AllOfProcess}
+use Rattle.description_faults.proofs.Names.{take, All, AllOfProcess}
 use Rattle.description_faults.proofs.targets.failing_in_processes.Given as goal
 
 abbrev pub invariant-loop-k : goal.invariant-loop-k

@@ -1,6 +1,4 @@
-use Rattle.std.proofs.Common.{take}
-use Rattle.std.specs.List.{All}
-use Rattle.description_faults.specs.Outcomes.{AllIn}
+use Rattle.description_faults.proofs.Names.{take, All, AllIn}
 use Rattle.description_faults.proofs.targets.first_failing.Given as goal
 
 abbrev pub invariant-loop-i : goal.invariant-loop-i

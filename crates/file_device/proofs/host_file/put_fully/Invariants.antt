@@ -1,5 +1,4 @@
-use Rattle.std.proofs.Common.{◌≤◌, length, take}
-use Rattle.file_device.specs.RawCalls.{Takes}
+use Rattle.file_device.proofs.Names.{◌≤◌, length, take, Takes}
 use Rattle.file_device.proofs.host_file.put_fully.Given as goal
 
 abbrev pub invariant-loop : goal.invariant-loop

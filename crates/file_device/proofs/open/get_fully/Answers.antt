@@ -1,5 +1,4 @@
-use Rattle.std.proofs.Common.{◌-◌, ◌∙◌, rules, arith, length, option_map, refl, ap}
-use Rattle.file_device.specs.OpeningCalls.{resizes}
+use Rattle.file_device.proofs.Names.{◌-◌, ◌∙◌, rules, arith, length, option_map, refl, ap, resizes}
 use Rattle.file_device.proofs.Openings.{gets_none, gets_on, gets_kept, keeps_length}
 use Rattle.file_device.proofs.open.get_fully.Goals as goal
 use Rattle.file_device.proofs.open.get_fully.Goals.{in-Ok, in-Err+else-ne}

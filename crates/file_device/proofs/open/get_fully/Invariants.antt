@@ -1,5 +1,4 @@
-use Rattle.std.proofs.Common.{◌≡◌, ◌≤◌, length, take}
-use Rattle.file_device.specs.OpeningCalls.{Gets, KeepsLength}
+use Rattle.file_device.proofs.Names.{◌≡◌, ◌≤◌, length, take, Gets, KeepsLength}
 use Rattle.file_device.proofs.open.get_fully.Given as goal
 
 abbrev pub invariant-loop : goal.invariant-loop

@@ -1,19 +1,6 @@
-use Rattle.std.proofs.Common.{◌≡◌, ◌+◌, true, List, ap, arith, drop, refl, subst, sym, ◌∙◌, ℕ}
-use Rattle.std.proofs.lemmas.List.Elements.{All-drop}
-use Rattle.model.specs.declared.geometry.Geometry.{Geometry}
-use Rattle.model.specs.declared.object.Object.{Object}
-use Rattle.model.specs.Object.{is_annex}
-use Rattle.model.specs.World.{annex_at, content_at, is_process}
-use Rattle.model_laws.proofs.Usage.{tests_at}
-use Rattle.capability.specs.Changes.{changed}
-use Rattle.capability.specs.Parts.{AreSound, frames_of, objects_in}
-use Rattle.capability.proofs.Frames.{annex_used, root_used}
-use Rattle.capability.proofs.Keeping.{keepable_roles}
-use Rattle.space_bank.specs.Banks.{AreCounted}
-use Rattle.space_bank.specs.Planning.{writer_count}
-use Rattle.space_bank.proofs.Renewing.{renews_after, renews_then}
-use Rattle.gate.specs.Ordering.{answered, state_before}
-use Rattle.gate.specs.Plan.{FitsCap}
+use Rattle.gate.proofs.Names.{◌≡◌, ◌+◌, true, List, ap, arith, drop, refl, subst, sym, ◌∙◌, ℕ, All-drop, Geometry, Object, is_annex, annex_at, content_at}
+use Rattle.gate.proofs.Names.{is_process, tests_at, changed, AreSound, frames_of, objects_in, annex_used, root_used, keepable_roles, AreCounted, writer_count}
+use Rattle.gate.proofs.Names.{renews_after, renews_then, answered, state_before, FitsCap}
 use Rattle.gate.proofs.BankStates.{annex_listed, answered_frame, before_counted, before_frame, before_may, before_sound, counted_on, no_send, process_listed, writers_within}
 use Rattle.gate.proofs.Effects.{frame_before}
 use Rattle.gate.proofs.Fits.{in_geometry}

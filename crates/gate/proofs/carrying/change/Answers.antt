@@ -1,15 +1,5 @@
-use Rattle.std.proofs.Common.{List, ap, drop, subst, sym, ◌∙◌, ℕ}
-use Rattle.std.specs.List.{All}
-use Rattle.model.specs.declared.object.Object.{Object}
-use Rattle.model.specs.Object.{is_free}
-use Rattle.model.specs.World.{content_at}
-use Rattle.model_laws.proofs.Usage.{tests_at}
-use Rattle.capability.specs.declared.order.Change.{Change}
-use Rattle.capability.specs.Changes.{target_of}
-use Rattle.capability.specs.Parts.{objects_in}
-use Rattle.space_bank.specs.Banks.{AreCounted}
-use Rattle.space_bank.proofs.Ending.{aside_alone}
-use Rattle.gate.specs.Plan.{MayChange, MayEdit, fetched_of}
+use Rattle.gate.proofs.Names.{List, ap, drop, subst, sym, ◌∙◌, ℕ, All, Object, is_free, content_at, tests_at, Change, target_of, objects_in, AreCounted}
+use Rattle.gate.proofs.Names.{aside_alone, MayChange, MayEdit, fetched_of}
 use Rattle.gate.proofs.BankStates.{counted_on}
 use Rattle.gate.proofs.Plans.{change_edit, edit_fetched, target_all}
 use Rattle.gate.proofs.Roles.{changed_any, changed_frame}

@@ -1,6 +1,4 @@
-use Rattle.std.proofs.Common.{refl}
-use Rattle.model.specs.declared.capability.Capability.TheVariants.{Void}
-use Rattle.gate.specs.Plan.{FitsCap}
+use Rattle.gate.proofs.Names.{refl, Void, FitsCap}
 use Rattle.gate.proofs.Listed.{all_four}
 use Rattle.gate.proofs.carrying.deliver_reply.Goals as goal
 

@@ -1,7 +1,4 @@
-use Rattle.std.proofs.Common.{◌+◌, arith, subst, sym}
-use Rattle.capability.specs.Parts.{frames_of, objects_in}
-use Rattle.capability.proofs.Keeping.{keepable_later}
-use Rattle.gate.specs.Plan.{IsWithinObject, MayHold}
+use Rattle.gate.proofs.Names.{◌+◌, arith, subst, sym, frames_of, objects_in, keepable_later, IsWithinObject, MayHold}
 use Rattle.gate.proofs.Fits.{fits_kept, in_geometry, node_is_no_annex}
 use Rattle.gate.proofs.change.make.Goals as goal
 

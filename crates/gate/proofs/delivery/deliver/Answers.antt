@@ -1,9 +1,4 @@
-use Rattle.std.proofs.Common.{◌<◌, ◌≤◌, length, get_or, rules, arith, subst, sym, ◌∙◌}
-use Rattle.model.specs.declared.capability.Capability.TheVariants.{Void}
-use Rattle.model.specs.declared.geometry.Geometry.{Geometry}
-use Rattle.gate.specs.Plan.{FitsCap}
-use Rattle.capability.specs.Parts.{frames_of}
-use Rattle.capability.proofs.Asides.{keeps_twice}
+use Rattle.gate.proofs.Names.{◌<◌, ◌≤◌, length, get_or, rules, arith, subst, sym, ◌∙◌, Void, Geometry, FitsCap, frames_of, keeps_twice}
 use Rattle.gate.proofs.Fits.{fits_kept, in_geometry}
 use Rattle.gate.proofs.Messages.{delivered_more, delivered_all}
 use Rattle.gate.proofs.delivery.deliver.Goals as goal

@@ -1,10 +1,4 @@
-use Rattle.std.proofs.Common.{◌≡◌, ℕ, take}
-use Rattle.std.specs.List.{All}
-use Rattle.model.specs.Keepable.{AreCurrent, AreKeepable}
-use Rattle.model.specs.World.{with_slots_from, annex_at}
-use Rattle.capability.specs.Objects.{with_message}
-use Rattle.capability.specs.Parts.{KeepsAside, frames_of, objects_in}
-use Rattle.gate.specs.Plan.{FitsCap}
+use Rattle.gate.proofs.Names.{◌≡◌, ℕ, take, All, AreCurrent, AreKeepable, with_slots_from, annex_at, with_message, KeepsAside, frames_of, objects_in, FitsCap}
 use Rattle.gate.proofs.delivery.deliver.Given as goal
 
 abbrev pub invariant-loop-i : goal.invariant-loop-i

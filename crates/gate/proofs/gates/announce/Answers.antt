@@ -1,6 +1,4 @@
-use Rattle.std.proofs.Common.{ℕ, List, ◌<◌, length, sym, subst, ◌∙◌}
-use Rattle.std.specs.List.{All, Contains}
-use Rattle.capability.specs.Parts.{Prepares}
+use Rattle.gate.proofs.Names.{ℕ, List, ◌<◌, length, sym, subst, ◌∙◌, All, Contains, Prepares}
 use Rattle.gate.proofs.Listed.{all_through, announced_through, on_ok}
 use Rattle.gate.proofs.gates.announce.Goals as goal
 

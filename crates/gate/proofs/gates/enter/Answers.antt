@@ -1,13 +1,5 @@
-use Rattle.std.proofs.Common.{◌+◌, ◌-◌, ◌^◌, ◌<◌, List, arith, sym, ap, subst, ◌∙◌}
-use Rattle.std.specs.List.{All}
-use Rattle.model.specs.declared.capability.Capability.{Capability}
-use Rattle.model.specs.declared.frame.ObjectHeader.{ObjectHeader}
-use Rattle.model.specs.declared.object.Object.{Object}
-use Rattle.model.specs.Frame.{header_at}
-use Rattle.model.specs.World.{annex_at, is_process}
-use Rattle.capability.specs.Parts.{frames_of, objects_in}
-use Rattle.capability.proofs.Keeping.{keepable_later}
-use Rattle.gate.specs.Plan.{FitsCap}
+use Rattle.gate.proofs.Names.{◌+◌, ◌-◌, ◌^◌, ◌<◌, List, arith, sym, ap, subst, ◌∙◌, All, Capability, ObjectHeader, Object, header_at, annex_at, is_process}
+use Rattle.gate.proofs.Names.{frames_of, objects_in, keepable_later, FitsCap}
 use Rattle.gate.proofs.Fits.{in_geometry}
 use Rattle.gate.proofs.Roles.{after_annex, after_process}
 use Rattle.gate.proofs.gates.enter.Goals as goal

@@ -1,18 +1,6 @@
-use Rattle.std.proofs.Common.{◌≡◌, true, ◌||◌, List, None, sym, ap, subst, ◌∙◌}
-use Rattle.std.specs.List.{All}
-use Rattle.std.specs.Prelude.{slice_index}
-use Rattle.std.proofs.lemmas.Result.{err_from_is_err_and}
-use Rattle.model.specs.declared.capability.Capability.{Capability}
-use Rattle.model.specs.declared.geometry.Geometry.{Geometry}
-use Rattle.model.specs.declared.object.Object.{Object}
-use Rattle.model.specs.Invoke.{can_start}
-use Rattle.model.specs.Order.{IsNoBankOrder}
-use Rattle.model.specs.World.{is_process}
-use Rattle.capability.specs.Parts.{objects_in}
-use Rattle.gate.specs.Invoke.{entered, received, written_through}
-use Rattle.gate.specs.Plan.{FitsCap}
+use Rattle.gate.proofs.Names.{◌≡◌, true, ◌||◌, List, None, sym, ap, subst, ◌∙◌, All, slice_index, err_from_is_err_and, Capability, Geometry, Object, can_start}
+use Rattle.gate.proofs.Names.{IsNoBankOrder, is_process, objects_in, entered, received, written_through, FitsCap, process_known}
 use Rattle.gate.proofs.Entering.{effect_through, gate_code, gate_invoked, gate_process, gate_stalled, received_fits}
-use Rattle.capability.proofs.Frames.{process_known}
 use Rattle.gate.proofs.Known.{running_process}
 use Rattle.gate.proofs.Invoking.{carried_out, found_stalled, unannounced}
 use Rattle.gate.proofs.Renewing.{gate_no_bank, renews_invoked}

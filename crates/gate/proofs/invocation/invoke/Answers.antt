@@ -1,9 +1,4 @@
-use Rattle.std.proofs.Common.{◌≡◌, true, List, sym, subst, ◌∙◌}
-use Rattle.std.specs.Prelude.{slice_index}
-use Rattle.model.specs.declared.capability.Capability.{Capability}
-use Rattle.model.specs.declared.object.Object.{Object}
-use Rattle.model.specs.Order.{IsNoBankOrder}
-use Rattle.model.specs.World.{is_running_process}
+use Rattle.gate.proofs.Names.{◌≡◌, true, List, sym, subst, ◌∙◌, slice_index, Capability, Object, IsNoBankOrder, is_running_process}
 use Rattle.gate.proofs.BankStates.{counted_after}
 use Rattle.gate.proofs.Invoking.{invoked_looked}
 use Rattle.gate.proofs.Renewing.{gate_no_bank}

@@ -1,7 +1,4 @@
-use Rattle.std.proofs.Common.{◌<◌, subst, sym}
-use Rattle.std.specs.List.{All, Contains}
-use Rattle.capability.specs.declared.order.Change.{Change}
-use Rattle.gate.specs.Plan.{fetched_of}
+use Rattle.gate.proofs.Names.{◌<◌, subst, sym, All, Contains, Change, fetched_of}
 use Rattle.gate.proofs.kernel_object.fetched_by.Goals as goal
 
 pub returns-in-Bank-clause-new : goal.returns-in-Bank-clause-new

@@ -1,17 +1,5 @@
-use Rattle.std.proofs.Common.{ℕ, ◌<◌, List, Some, drop, length, sym, ap, subst, ◌∙◌}
-use Rattle.std.specs.Prelude.{IsTrue}
-use Rattle.std.specs.List.{All}
-use Rattle.std.proofs.lemmas.Result.{err_from_is_err_and}
-use Rattle.model.specs.declared.geometry.Geometry.{Geometry}
-use Rattle.model.specs.declared.object.Object.{Object}
-use Rattle.model.specs.Invoke.{on_kernel_object}
-use Rattle.model.specs.World.{is_running_process}
-use Rattle.model_laws.proofs.SoundOrders.{IsNow}
-use Rattle.capability.specs.Parts.{objects_in}
-use Rattle.capability.proofs.Frames.{process_known}
-use Rattle.space_bank.specs.Planning.{writer_count}
-use Rattle.gate.specs.Ordering.{IsPlanned, finished, ordered_by}
-use Rattle.gate.specs.Plan.{FitsCap}
+use Rattle.gate.proofs.Names.{ℕ, ◌<◌, List, Some, drop, length, sym, ap, subst, ◌∙◌, IsTrue, All, err_from_is_err_and, Geometry, Object, on_kernel_object}
+use Rattle.gate.proofs.Names.{is_running_process, IsNow, objects_in, process_known, writer_count, IsPlanned, finished, ordered_by, FitsCap}
 use Rattle.gate.proofs.BankStates.{annex_asked, counted_listed, counted_looked, planned_same}
 use Rattle.gate.proofs.Effects.{fetched_known, listed_known, object_invoked, order_after, order_code, order_fits, order_objects, order_written}
 use Rattle.gate.proofs.Known.{running_process}

@@ -1,8 +1,4 @@
-use Rattle.std.proofs.Common.{◌≡◌, true, List, ap, subst, sym}
-use Rattle.model.specs.declared.object.Object.{Object}
-use Rattle.model.specs.World.{is_process}
-use Rattle.capability.specs.Parts.{objects_in}
-use Rattle.space_bank.specs.Banks.{BanksState}
+use Rattle.gate.proofs.Names.{◌≡◌, true, List, ap, subst, sym, Object, is_process, objects_in, BanksState}
 use Rattle.gate.proofs.Plans.{object_planned, process_there}
 use Rattle.gate.proofs.Standing.{LooksAs, few_objects, keepable_most, looked_as, looked_objects, now_sound, register_kind}
 use Rattle.gate.proofs.kernel_object.plan_object_order.Goals as goal

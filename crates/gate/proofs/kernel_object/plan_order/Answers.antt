@@ -1,6 +1,4 @@
-use Rattle.std.proofs.Common.{ap}
-use Rattle.capability.specs.Parts.{objects_in}
-use Rattle.space_bank.specs.Banks.{BanksState}
+use Rattle.gate.proofs.Names.{ap, objects_in, BanksState}
 use Rattle.gate.proofs.BankStates.{bank_may_ask, counted_listed}
 use Rattle.gate.proofs.Plans.{bank_planned}
 use Rattle.gate.proofs.Standing.{now_sound}

@@ -1,7 +1,4 @@
-use Rattle.std.proofs.Common.{[], ◌∷◌, List, ℕ, arith, refl, subst, sym}
-use Rattle.std.specs.List.{All, Contains}
-use Rattle.capability.specs.declared.order.BankChange.{BankChange}
-use Rattle.space_bank.specs.Allocating.{numbers_of}
+use Rattle.gate.proofs.Names.{[], ◌∷◌, List, ℕ, arith, refl, subst, sym, All, Contains, BankChange, numbers_of}
 use Rattle.gate.proofs.Known.{both_known}
 use Rattle.gate.proofs.Listed.{contained}
 use Rattle.gate.proofs.kernel_object.with_new.Goals as goal

@@ -1,5 +1,4 @@
-use Rattle.std.proofs.Common.{ℕ, ◌<◌, length, sym, subst, ◌∙◌}
-use Rattle.capability.proofs.Frames.{process_known}
+use Rattle.gate.proofs.Names.{ℕ, ◌<◌, length, sym, subst, ◌∙◌, process_known}
 use Rattle.gate.proofs.Known.{annex_known, both_known}
 use Rattle.gate.proofs.looking.look_at_process.Goals as goal
 

@@ -1,6 +1,4 @@
-use Rattle.std.proofs.Common.{subst, sym, List, ◌≡◌, ◌++◌, ◌+◌, drop}
-use Rattle.layout.specs.declared.directory.Entry.{Entry}
-use Rattle.image_builder.specs.Upgraded.{numbered}
+use Rattle.image_builder.proofs.Names.{subst, sym, List, ◌≡◌, ◌++◌, ◌+◌, drop, Entry, numbered}
 use Rattle.image_builder.proofs.Numbered.{all_numbered, numbered_more}
 use Rattle.image_builder.proofs.upgrading.in_order.Goals as goal
 

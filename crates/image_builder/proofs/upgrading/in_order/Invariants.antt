@@ -1,5 +1,4 @@
-use Rattle.std.proofs.Common.{◌≡◌, ◌++◌, drop}
-use Rattle.image_builder.specs.Upgraded.{numbered}
+use Rattle.image_builder.proofs.Names.{◌≡◌, ◌++◌, drop, numbered}
 use Rattle.image_builder.proofs.upgrading.in_order.Given as goal
 
 abbrev pub invariant-loop-slot : goal.invariant-loop-slot

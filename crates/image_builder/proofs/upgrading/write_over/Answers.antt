@@ -1,17 +1,5 @@
-use Rattle.std.proofs.Common.{rules, ◌≡◌, List, length, ap, subst, sym, ◌∙◌}
-use Rattle.model.specs.declared.geometry.Geometry.{Geometry}
-use Rattle.model.specs.Frame.{frames_in}
-use Rattle.device.specs.Moments.{LeavesOnly}
-use Rattle.layout.specs.declared.directory.Entry.{Entry}
-use Rattle.layout.specs.declared.version.Version.TheVariants.{Two}
-use Rattle.layout.specs.Directory.{IsDirectory}
-use Rattle.layout.specs.Image.{Encodes, SavedState}
-use Rattle.layout.specs.Superblock.{Plan}
-use Rattle.checkpoint.specs.Saved.{SavedFrames, kept_of}
-use Rattle.image_writer.specs.Laid.{laid_again}
-use Rattle.image_writer.specs.Written.{IsLeftWriting}
-use Rattle.migrator.specs.Durable.{saved_state, seen_of}
-use Rattle.image_builder.specs.Upgraded.{numbered}
+use Rattle.image_builder.proofs.Names.{rules, ◌≡◌, List, length, ap, subst, sym, ◌∙◌, Geometry, frames_in, LeavesOnly, Entry, Two, IsDirectory, Encodes}
+use Rattle.image_builder.proofs.Names.{SavedState, Plan, SavedFrames, kept_of, laid_again, IsLeftWriting, saved_state, seen_of, numbered}
 use Rattle.image_builder.proofs.Upgrades.{directory_count, directory_fits, same_state}
 use Rattle.image_builder.proofs.upgrading.write_over.Goals as goal
 

@@ -1,16 +1,6 @@
-use Rattle.std.proofs.Common.{◌≡◌, ◌<◌, IfOk, subst}
-use Rattle.std.specs.Prelude.{IsErrOf, OnOk}
-use Rattle.device.specs.Calls.{Elsewhere}
-use Rattle.device.specs.Disk.{Image}
-use Rattle.device.specs.Moments.{LeavesOnly}
-use Rattle.layout.specs.declared.version.Version.TheVariants.{Two}
-use Rattle.layout.specs.Image.{Encodes}
-use Rattle.checkpoint.specs.Saved.{kept_of}
-use Rattle.image_writer.specs.Laid.{laid_again}
-use Rattle.image_writer.specs.Written.{IsLeftWriting}
-use Rattle.migrator.specs.Durable.{DurableState, saved_state, seen_of}
+use Rattle.image_builder.proofs.Names.{◌≡◌, ◌<◌, IfOk, subst, IsErrOf, OnOk, Elsewhere, Image, LeavesOnly, Two, Encodes, kept_of, laid_again, IsLeftWriting}
+use Rattle.image_builder.proofs.Names.{DurableState, saved_state, seen_of, upgraded}
 use Rattle.image_builder.specs.declared.upgrade_fault.UpgradeFault.TheVariants as fault
-use Rattle.image_builder.specs.Upgraded.{upgraded}
 use Rattle.image_builder.proofs.upgrading.write_store.Goals as goal
 
 pub returns-in-Ok-in_order-clause-total : goal.returns-in-Ok-in_order-clause-total

@@ -1,5 +1,4 @@
-use Rattle.std.proofs.Common.{refl}
-use Rattle.model.specs.Frame.{frames_in}
+use Rattle.image_builder.proofs.Names.{refl, frames_in}
 use Rattle.image_builder.proofs.Refusals.{reason_refused}
 use Rattle.image_builder.proofs.worlds.check_frames.Goals as goal
 

@@ -1,10 +1,4 @@
-use Rattle.std.proofs.Common.{◌≡◌, arith, subst}
-use Rattle.std.specs.Prelude.{vec_len}
-use Rattle.model.specs.Sound.{object_count}
-use Rattle.model.specs.Frame.{frames_in}
-use Rattle.capability.proofs.Keeping.{keepable_later}
-use Rattle.described_world.specs.declared.fault.WorldFault.{WorldFault}
-use Rattle.described_world.specs.Described.{IsWorldFault}
+use Rattle.image_builder.proofs.Names.{◌≡◌, arith, subst, vec_len, object_count, frames_in, keepable_later, WorldFault, IsWorldFault}
 use Rattle.image_builder.proofs.Refusals.{field_refused, number_refused, target_refused}
 use Rattle.image_builder.proofs.worlds.lay.Goals as goal
 

@@ -1,6 +1,4 @@
-use Rattle.std.proofs.Common.{ap, arith}
-use Rattle.std.proofs.lemmas.Result.{err_from_is_err_and}
-use Rattle.layout.specs.Superblock.{Plan}
+use Rattle.image_builder.proofs.Names.{ap, arith, err_from_is_err_and, Plan}
 use Rattle.image_builder.proofs.Images.{nothing_written}
 use Rattle.image_builder.proofs.Refusals.{accepted, failed_refused, small_refused}
 use Rattle.image_builder.proofs.writing.build_described.Goals as goal

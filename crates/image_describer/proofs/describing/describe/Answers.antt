@@ -1,6 +1,4 @@
-use Rattle.std.proofs.Common.{◌∙◌}
-use Rattle.model.specs.Keepable.{world_at}
-use Rattle.capability.specs.Parts.{frames_of}
+use Rattle.image_describer.proofs.Names.{◌∙◌, world_at, frames_of}
 use Rattle.image_describer.proofs.Assembled.{brief, described}
 use Rattle.image_describer.proofs.Looking.{looks_err, looks_ok}
 use Rattle.image_describer.proofs.describing.describe.Goals as goal

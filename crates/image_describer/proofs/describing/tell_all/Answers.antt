@@ -1,7 +1,4 @@
-use Rattle.std.proofs.Common.{List, arith, rules, subst, sym}
-use Rattle.model.specs.declared.object.Object.{Object}
-use Rattle.capability.specs.Parts.{objects_in}
-use Rattle.image_describer.specs.Told.{MayTell}
+use Rattle.image_describer.proofs.Names.{List, arith, rules, subst, sym, Object, objects_in, MayTell}
 use Rattle.image_describer.proofs.Looking.{looked_objects, looked_ok, looked_sound}
 use Rattle.image_describer.proofs.Telling.{TellBelow, role_past, tell_all, tell_next, tell_none}
 use Rattle.image_describer.proofs.describing.tell_all.Goals as goal

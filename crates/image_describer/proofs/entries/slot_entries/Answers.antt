@@ -1,7 +1,5 @@
-use Rattle.std.proofs.Common.{refl}
+use Rattle.image_describer.proofs.Names.{refl, Void, SlotEntry}
 use Rattle.std.specs.Prelude.{unwrap_or}
-use Rattle.model.specs.declared.capability.Capability.TheVariants.{Void}
-use Rattle.description.specs.declared.entry.SlotEntry.{SlotEntry}
 use Rattle.image_describer.proofs.Naming.{names_all, names_next}
 use Rattle.image_describer.proofs.entries.slot_entries.Goals as goal
 

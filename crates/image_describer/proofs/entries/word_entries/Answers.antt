@@ -1,5 +1,4 @@
-use Rattle.std.proofs.Common.{refl}
-use Rattle.description.specs.declared.entry.WordEntry.{WordEntry}
+use Rattle.image_describer.proofs.Names.{refl, WordEntry}
 use Rattle.image_describer.proofs.Naming.{names_all, names_next}
 use Rattle.image_describer.proofs.entries.word_entries.Goals as goal
 

@@ -1,5 +1,4 @@
-use Rattle.std.proofs.Common.{arith}
-use Rattle.image_describer.specs.Grown.{IsMovedPage, moved}
+use Rattle.image_describer.proofs.Names.{arith, IsMovedPage, moved}
 use Rattle.image_describer.proofs.Pairs.{zip_set, zip_whole}
 use Rattle.image_describer.proofs.growing.move_pages.Goals as goal
 

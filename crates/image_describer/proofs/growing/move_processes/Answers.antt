@@ -1,5 +1,4 @@
-use Rattle.std.proofs.Common.{arith}
-use Rattle.image_describer.specs.Grown.{IsMovedProcess, moved}
+use Rattle.image_describer.proofs.Names.{arith, IsMovedProcess, moved}
 use Rattle.image_describer.proofs.Pairs.{zip_set, zip_whole}
 use Rattle.image_describer.proofs.growing.move_processes.Goals as goal
 

@@ -1,7 +1,4 @@
-use Rattle.std.proofs.Common.{◌≡◌, None, Option, ap, arith, slice_index_or}
-use Rattle.model.specs.declared.capability.Capability.{Capability}
-use Rattle.description.specs.declared.entry.SlotEntry.{SlotEntry}
-use Rattle.image_describer.specs.Grown.{moved, moved_slot}
+use Rattle.image_describer.proofs.Names.{◌≡◌, None, Option, ap, arith, slice_index_or, Capability, SlotEntry, moved, moved_slot}
 use Rattle.image_describer.proofs.Pairs.{zip_mapped, zip_set, zip_whole}
 use Rattle.image_describer.proofs.growing.move_slots.Goals as goal
 

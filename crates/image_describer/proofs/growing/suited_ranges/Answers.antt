@@ -1,7 +1,4 @@
-use Rattle.std.proofs.Common.{◌≡◌, List, ap, subst, sym, ◌∙◌}
-use Rattle.image_writer.specs.declared.number_range.NumberRange.{NumberRange}
-use Rattle.image_writer.specs.Laid.{MayBeLaid}
-use Rattle.image_describer.specs.Grown.{grown_ranges}
+use Rattle.image_describer.proofs.Names.{◌≡◌, List, ap, subst, sym, ◌∙◌, NumberRange, MayBeLaid, grown_ranges}
 use Rattle.image_describer.proofs.GrownRanges.{ranges_suit}
 use Rattle.image_describer.proofs.growing.suited_ranges.Goals as goal
 

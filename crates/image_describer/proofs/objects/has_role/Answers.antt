@@ -1,7 +1,5 @@
-use Rattle.std.proofs.Common.{rules, sym, ◌∙◌}
+use Rattle.image_describer.proofs.Names.{rules, sym, ◌∙◌, the_type, role_read}
 use denote.Enum.Bare.{same_true, true_same}
-use Rattle.model.specs.contracts.object.Role.{the_type}
-use Rattle.capability.proofs.Roles.{role_read}
 use Rattle.image_describer.proofs.objects.has_role.Goals as goal
 
 pub returns : goal.returns

@@ -1,10 +1,6 @@
-use Rattle.std.proofs.Common.{ℕ, ◌<◌, [], length}
-use Rattle.capability.proofs.Frames.{annex_used, known_used}
-use Rattle.model.specs.World.{content_at}
-use Rattle.capability.specs.Parts.{objects_in}
+use Rattle.image_describer.proofs.Names.{ℕ, ◌<◌, [], length, annex_used, known_used, content_at, objects_in, Contains-push}
 use Rattle.image_describer.proofs.Looking.{keepable_most, known_one}
 use Rattle.image_describer.proofs.objects.registers.Goals as goal
-use Rattle.std.proofs.lemmas.List.Elements.{Contains-push}
 
 pub fetch-requires-clause-known : goal.fetch-requires-clause-known
 fetch-requires-clause-known g c =

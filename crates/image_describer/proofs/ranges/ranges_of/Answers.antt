@@ -1,6 +1,4 @@
-use Rattle.std.proofs.Common.{List, ap, map, ◌∙◌}
-use Rattle.layout.specs.declared.extent.HomeRange.{HomeRange}
-use Rattle.image_writer.specs.Laid.{numbers_of}
+use Rattle.image_describer.proofs.Names.{List, ap, map, ◌∙◌, HomeRange, numbers_of}
 use Rattle.image_describer.proofs.Covers.{may_be_laid}
 use Rattle.image_describer.proofs.ranges.ranges_of.Goals as goal
 

@@ -1,5 +1,4 @@
-use Rattle.std.proofs.Common.{◌≡◌, ◌++◌, take, string_bytes}
-use Rattle.std.specs.List.{flat_map}
+use Rattle.image_describer.proofs.Names.{◌≡◌, ◌++◌, take, string_bytes, flat_map}
 use Rattle.image_describer.proofs.text.put_all.Given as goal
 
 -- those so far are written

@@ -1,5 +1,4 @@
-use Rattle.std.proofs.Common.{◌≡◌, rules, string_bytes}
-use Rattle.image_describer.specs.Text.{description_text}
+use Rattle.image_describer.proofs.Names.{◌≡◌, rules, string_bytes, description_text}
 use Rattle.image_describer.proofs.ReadBack.{read_again}
 use Rattle.image_describer.proofs.text.text_of.Goals as goal
 

@@ -1,5 +1,4 @@
-use Rattle.std.proofs.Common.{◌≡◌, ◌++◌, codes, take, string_bytes}
-use Rattle.std.specs.List.{flat_map}
+use Rattle.image_describer.proofs.Names.{◌≡◌, ◌++◌, codes, take, string_bytes, flat_map}
 use Rattle.image_describer.proofs.values.put_others.Given as goal
 
 -- those so far are written

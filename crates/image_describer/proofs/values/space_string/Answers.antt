@@ -1,7 +1,5 @@
-use Rattle.std.proofs.Common.{◌≡◌, ◌∙◌, String, Global, string_bytes}
-use Rattle.std.proofs.lemmas.Result.{IfOk-weaker}
-use Rattle.model.specs.Text.{capability_text}
-use Rattle.model.specs.declared.capability.Capability.TheVariants.{Space}
+use Rattle.image_describer.proofs.Names.{◌≡◌, ◌∙◌, String, string_bytes, IfOk-weaker, capability_text, Space}
+use Rattle.std.proofs.Common.{Global}
 use Rattle.image_describer.proofs.Spaces.{space_text}
 use Rattle.image_describer.proofs.values.space_string.Goals as goal
 

@@ -1,8 +1,4 @@
-use Rattle.std.specs.List.{flat_map}
-use Rattle.std.proofs.lemmas.Grind.{flat_map-append}
-use Rattle.std.proofs.lemmas.Result.{err_from_is_err_and}
-use Rattle.script.proofs.Fronts.{text_fails}
-use Rattle.image_drawer.specs.Graph.{arrow_line, node_arrows, process_arrows}
+use Rattle.image_drawer.proofs.Names.{flat_map, flat_map-append, err_from_is_err_and, text_fails, arrow_line, node_arrows, process_arrows}
 use Rattle.image_drawer.proofs.Texts.{two_written}
 use Rattle.image_drawer.proofs.drawing.draw_all_arrows.Goals as goal
 

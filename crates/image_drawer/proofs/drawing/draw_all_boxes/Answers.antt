@@ -1,7 +1,4 @@
-use Rattle.std.proofs.Common.{refl}
-use Rattle.std.specs.List.{flat_map}
-use Rattle.image_drawer.specs.Graph.{bank_box, node_box, page_box, process_box}
-use Rattle.std.proofs.lemmas.Result.{err_from_is_err_and}
+use Rattle.image_drawer.proofs.Names.{refl, flat_map, bank_box, node_box, page_box, process_box, err_from_is_err_and}
 use Rattle.image_drawer.proofs.Texts.{first_fails, fourth_written, second_fails, third_fails}
 use Rattle.image_drawer.proofs.drawing.draw_all_boxes.Goals as goal
 

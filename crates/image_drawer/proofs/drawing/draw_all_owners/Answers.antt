@@ -1,6 +1,4 @@
-use Rattle.std.specs.List.{flat_map}
-use Rattle.image_drawer.specs.Graph.{joined, owner_line}
-use Rattle.std.proofs.lemmas.Result.{err_from_is_err_and}
+use Rattle.image_drawer.proofs.Names.{flat_map, joined, owner_line, err_from_is_err_and}
 use Rattle.image_drawer.proofs.Texts.{flat_map-four, first_fails, fourth_written, second_fails, third_fails}
 use Rattle.image_drawer.proofs.drawing.draw_all_owners.Goals as goal
 

@@ -1,5 +1,4 @@
-use Rattle.std.proofs.Common.{refl}
-use Rattle.std.proofs.lemmas.Result.{err_from_is_err_and}
+use Rattle.image_drawer.proofs.Names.{refl, err_from_is_err_and}
 use Rattle.image_drawer.proofs.Texts.{item_fails}
 use Rattle.image_drawer.proofs.drawing.draw_boxes.Goals as goal
 

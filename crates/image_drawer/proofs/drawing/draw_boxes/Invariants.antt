@@ -1,6 +1,4 @@
-use Rattle.std.proofs.Common.{take}
-use Rattle.std.specs.List.{flat_map}
-use Rattle.std.specs.Io.KnownBytes.{Appends}
+use Rattle.image_drawer.proofs.Names.{take, flat_map, Appends}
 use Rattle.image_drawer.proofs.drawing.draw_boxes.Given as goal
 
 abbrev pub invariant-loop-part : goal.invariant-loop-part

@@ -1,6 +1,4 @@
-use Rattle.std.proofs.lemmas.Result.{err_from_is_err_and}
-use Rattle.std.specs.List.{flat_map}
-use Rattle.image_drawer.specs.Graph.{owner_line}
+use Rattle.image_drawer.proofs.Names.{err_from_is_err_and, flat_map, owner_line}
 use Rattle.image_drawer.proofs.Texts.{flat_map-flat_map, all_written, item_fails}
 use Rattle.image_drawer.proofs.drawing.draw_owners.Goals as goal
 

@@ -1,6 +1,4 @@
-use Rattle.std.proofs.Common.{ℕ, List, ◌<◌, subst, sym, ◌∙◌}
-use Rattle.std.specs.List.{All}
-use Rattle.model.specs.Sound.{object_count}
+use Rattle.image_drawer.proofs.Names.{ℕ, List, ◌<◌, subst, sym, ◌∙◌, All, object_count}
 use Rattle.image_drawer.proofs.Listed.{holders_below}
 use Rattle.image_drawer.proofs.holding.holders.Goals as goal
 

@@ -1,6 +1,4 @@
-use Rattle.std.proofs.Common.{◌≡◌, map, take}
-use Rattle.std.specs.List.{filter}
-use Rattle.image_drawer.specs.Part.{holds_in}
+use Rattle.image_drawer.proofs.Names.{◌≡◌, map, take, filter, holds_in}
 use Rattle.image_drawer.proofs.holding.node_holders.Given as goal
 
 abbrev pub invariant-loop-node : goal.invariant-loop-node

@@ -1,7 +1,4 @@
-use Rattle.std.proofs.Common.{◌≡◌, map, take}
-use Rattle.std.specs.Prelude.{◌||◌}
-use Rattle.std.specs.List.{filter}
-use Rattle.image_drawer.specs.Part.{holds_in, names}
+use Rattle.image_drawer.proofs.Names.{◌≡◌, map, take, ◌||◌, filter, holds_in, names}
 use Rattle.image_drawer.proofs.holding.process_holders.Given as goal
 
 abbrev pub invariant-loop-process : goal.invariant-loop-process

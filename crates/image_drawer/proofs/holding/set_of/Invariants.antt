@@ -1,6 +1,4 @@
-use Rattle.std.proofs.Common.{◌≡◌, ℕ, length, take}
-use Rattle.number_set.specs.Marks.{is_marked}
-use Rattle.image_drawer.specs.Part.{is_listed}
+use Rattle.image_drawer.proofs.Names.{◌≡◌, ℕ, length, take, is_marked, is_listed}
 use Rattle.image_drawer.proofs.holding.set_of.Given as goal
 
 abbrev pub invariant-loop-number : goal.invariant-loop-number

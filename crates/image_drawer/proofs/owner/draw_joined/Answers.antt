@@ -1,7 +1,4 @@
-use Rattle.std.proofs.Common.{ap}
-use Rattle.model.specs.Text.{line_of}
-use Rattle.script.proofs.Fronts.{writes_same}
-use Rattle.image_drawer.specs.Graph.{owner_line}
+use Rattle.image_drawer.proofs.Names.{ap, line_of, writes_same, owner_line}
 use Rattle.image_drawer.proofs.Texts.{cluster_put}
 use Rattle.image_drawer.proofs.owner.draw_joined.Goals as goal
 

@@ -1,7 +1,4 @@
-use Rattle.std.proofs.Common.{arith}
-use Rattle.number_set.specs.Marks.{is_marked}
-use Rattle.image_describer.proofs.Pairs.{zip_set, zip_whole}
-use Rattle.image_drawer.specs.Part.{IsPartOfNode}
+use Rattle.image_drawer.proofs.Names.{arith, is_marked, zip_set, zip_whole, IsPartOfNode}
 use Rattle.image_drawer.proofs.restricting.restrict_nodes.Goals as goal
 
 pub loop-node-preserved : goal.loop-node-preserved

@@ -1,6 +1,4 @@
-use Rattle.number_set.specs.Marks.{is_marked}
-use Rattle.image_describer.proofs.Pairs.{ZipBelow}
-use Rattle.image_drawer.specs.Part.{IsPartOfNode}
+use Rattle.image_drawer.proofs.Names.{is_marked, ZipBelow, IsPartOfNode}
 use Rattle.image_drawer.proofs.restricting.restrict_nodes.Given as goal
 
 abbrev pub invariant-loop-node : goal.invariant-loop-node

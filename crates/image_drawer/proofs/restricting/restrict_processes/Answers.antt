@@ -1,7 +1,4 @@
-use Rattle.std.proofs.Common.{arith}
-use Rattle.number_set.specs.Marks.{is_marked}
-use Rattle.image_describer.proofs.Pairs.{zip_set, zip_whole}
-use Rattle.image_drawer.specs.Part.{IsPartOfProcess}
+use Rattle.image_drawer.proofs.Names.{arith, is_marked, zip_set, zip_whole, IsPartOfProcess}
 use Rattle.image_drawer.proofs.restricting.restrict_processes.Goals as goal
 
 pub loop-process-preserved : goal.loop-process-preserved

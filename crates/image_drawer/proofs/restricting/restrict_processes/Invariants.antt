@@ -1,6 +1,4 @@
-use Rattle.number_set.specs.Marks.{is_marked}
-use Rattle.image_describer.proofs.Pairs.{ZipBelow}
-use Rattle.image_drawer.specs.Part.{IsPartOfProcess}
+use Rattle.image_drawer.proofs.Names.{is_marked, ZipBelow, IsPartOfProcess}
 use Rattle.image_drawer.proofs.restricting.restrict_processes.Given as goal
 
 abbrev pub invariant-loop-process : goal.invariant-loop-process

@@ -1,5 +1,4 @@
-use Rattle.std.proofs.Common.{rules}
-use Rattle.std.proofs.lemmas.Fn.{filter_same}
+use Rattle.image_drawer.proofs.Names.{rules, filter_same}
 use Rattle.image_drawer.proofs.restricting.restrict_slots.Goals as goal
 
 pub returns : goal.returns

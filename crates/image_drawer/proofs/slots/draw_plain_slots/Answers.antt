@@ -1,8 +1,4 @@
-use Rattle.std.proofs.Common.{refl}
-use Rattle.std.proofs.lemmas.Result.{err_from_is_err_and}
-use Rattle.std.specs.Prelude.{unwrap_or}
-use Rattle.model.specs.declared.capability.Capability.TheVariants.{Void}
-use Rattle.image_drawer.specs.Graph.{plain_line}
+use Rattle.image_drawer.proofs.Names.{refl, err_from_is_err_and, unwrap_or, Void, plain_line}
 use Rattle.image_drawer.proofs.Texts.{place_fails}
 use Rattle.image_drawer.proofs.slots.draw_plain_slots.Goals as goal
 

@@ -1,9 +1,4 @@
-use Rattle.std.proofs.Common.{take}
-use Rattle.std.specs.List.{flat_map}
-use Rattle.std.specs.Io.KnownBytes.{Appends}
-use Rattle.std.specs.Prelude.{unwrap_or}
-use Rattle.model.specs.declared.capability.Capability.TheVariants.{Void}
-use Rattle.image_drawer.specs.Graph.{plain_line}
+use Rattle.image_drawer.proofs.Names.{take, flat_map, Appends, unwrap_or, Void, plain_line}
 use Rattle.image_drawer.proofs.slots.draw_plain_slots.Given as goal
 
 abbrev pub invariant-loop-slot : goal.invariant-loop-slot

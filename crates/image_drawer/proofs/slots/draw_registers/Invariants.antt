@@ -1,9 +1,4 @@
-use Rattle.std.proofs.Common.{take}
-use Rattle.std.specs.List.{flat_map}
-use Rattle.std.specs.Io.KnownBytes.{Appends}
-use Rattle.std.specs.Prelude.{unwrap_or}
-use Rattle.model.specs.declared.capability.Capability.TheVariants.{Void}
-use Rattle.image_drawer.specs.Graph.{arrow_line, arrow_of}
+use Rattle.image_drawer.proofs.Names.{take, flat_map, Appends, unwrap_or, Void, arrow_line, arrow_of}
 use Rattle.image_drawer.specs.declared.arrow.Place.TheVariants as place
 use Rattle.image_drawer.proofs.slots.draw_registers.Given as goal
 

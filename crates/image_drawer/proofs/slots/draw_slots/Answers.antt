@@ -1,8 +1,4 @@
-use Rattle.std.proofs.lemmas.Result.{err_from_is_err_and}
-use Rattle.std.specs.Prelude.{unwrap_or}
-use Rattle.std.specs.List.{flat_map}
-use Rattle.model.specs.declared.capability.Capability.TheVariants.{Void}
-use Rattle.image_drawer.specs.Graph.{arrow_line, arrow_of}
+use Rattle.image_drawer.proofs.Names.{err_from_is_err_and, unwrap_or, flat_map, Void, arrow_line, arrow_of}
 use Rattle.image_drawer.specs.declared.arrow.Place.TheVariants as place
 use Rattle.image_drawer.proofs.Texts.{flat_map-flat_map, all_written, place_fails}
 use Rattle.image_drawer.proofs.slots.draw_slots.Goals as goal

@@ -1,6 +1,4 @@
-use Rattle.capability.specs.Parts.{frames_of}
-use Rattle.consistency.proofs.BankFaults.{refuted}
-use Rattle.consistency.proofs.Named.{named_more}
+use Rattle.image_explainer.proofs.Names.{frames_of, refuted, named_more}
 use Rattle.image_explainer.proofs.Naming.{misnamed_here}
 use Rattle.image_explainer.proofs.capabilities.find_in.Goals as goal
 

@@ -1,7 +1,4 @@
-use Rattle.std.proofs.Common.{ℕ, ◌<◌, slice_index_or}
-use Rattle.model.specs.declared.capability.Cap.{Cap}
-use Rattle.capability.specs.Parts.{frames_of}
-use Rattle.consistency.specs.Consistency.{IsNamed}
+use Rattle.image_explainer.proofs.Names.{ℕ, ◌<◌, slice_index_or, Cap, frames_of, IsNamed}
 use Rattle.image_explainer.proofs.capabilities.find_in.Given as goal
 
 abbrev pub invariant-loop-index : goal.invariant-loop-index

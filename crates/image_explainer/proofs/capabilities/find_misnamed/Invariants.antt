@@ -1,10 +1,4 @@
-use Rattle.std.proofs.Common.{ℕ, ◌<◌}
-use Rattle.std.specs.List.{All}
-use Rattle.model.specs.Frame.{frame_at}
-use Rattle.model.specs.Keepable.{caps_in}
-use Rattle.capability.specs.Parts.{frames_of}
-use Rattle.consistency.specs.Consistency.{IsNamed}
-use Rattle.consistency.proofs.Looking.{HasLooked}
+use Rattle.image_explainer.proofs.Names.{ℕ, ◌<◌, All, frame_at, caps_in, frames_of, IsNamed, HasLooked}
 use Rattle.image_explainer.proofs.capabilities.find_misnamed.Given as goal
 
 abbrev pub invariant-loop-number : goal.invariant-loop-number

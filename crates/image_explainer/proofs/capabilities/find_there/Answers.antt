@@ -1,10 +1,4 @@
-use Rattle.std.proofs.Common.{◌∷◌, [], ap, refl}
-use Rattle.model.specs.declared.capability.Cap.{Cap}
-use Rattle.model.specs.declared.object.Content.{Content}
-use Rattle.model.specs.Keepable.{caps_in}
-use Rattle.capability.specs.Parts.{frames_of}
-use Rattle.consistency.proofs.Named.{holds_none}
-use Rattle.consistency.proofs.Tables.{content_read}
+use Rattle.image_explainer.proofs.Names.{◌∷◌, [], ap, refl, Cap, Content, caps_in, frames_of, holds_none, content_read}
 use Rattle.image_explainer.proofs.Naming.{held_there, none_there, nothing_there}
 use Rattle.image_explainer.proofs.capabilities.find_there.Goals as goal
 

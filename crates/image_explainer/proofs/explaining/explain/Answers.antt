@@ -1,6 +1,4 @@
-use Rattle.std.proofs.Common.{subst}
-use Rattle.checkpoint.specs.declared.open_fault.OpenFault.{OpenFault}
-use Rattle.checkpoint.specs.Opened.{Refuses}
+use Rattle.image_explainer.proofs.Names.{subst, OpenFault, Refuses}
 use Rattle.image_explainer.proofs.Refused.{bad_still}
 use Rattle.image_explainer.proofs.explaining.explain.Goals as goal
 

@@ -1,5 +1,4 @@
-use Rattle.std.proofs.Common.{ap, refl, ◌∙◌}
-use Rattle.migrator.specs.Durable.{DurableState}
+use Rattle.image_explainer.proofs.Names.{ap, refl, ◌∙◌, DurableState}
 use Rattle.image_explainer.proofs.Reasons.{explains_found}
 use Rattle.image_explainer.proofs.explaining.explain_objects.Goals as goal
 

@@ -1,9 +1,4 @@
-use Rattle.std.proofs.Common.{ℕ, subst}
-use Rattle.device.specs.Calls.{AreSectors}
-use Rattle.device.specs.Disk.{Image}
-use Rattle.sector_faults.specs.Breaking.{IsFault}
-use Rattle.sector_faults.specs.Finding.{IsWhole}
-use Rattle.sector_faults.proofs.OneReason.{whole_not_bad}
+use Rattle.image_explainer.proofs.Names.{ℕ, subst, AreSectors, Image, IsFault, IsWhole, whole_not_bad}
 use Rattle.image_explainer.proofs.Copies.{copied_before}
 use Rattle.image_explainer.proofs.explaining.find_in_copy.Goals as goal
 

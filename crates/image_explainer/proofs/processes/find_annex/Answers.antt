@@ -1,7 +1,4 @@
-use Rattle.std.proofs.Common.{List, ap, arith, length}
-use Rattle.model.specs.declared.frame.ObjectHeader.{ObjectHeader}
-use Rattle.capability.specs.Parts.{frames_of}
-use Rattle.consistency.proofs.Tables.{annex_known}
+use Rattle.image_explainer.proofs.Names.{List, ap, arith, length, ObjectHeader, frames_of, annex_known}
 use Rattle.image_explainer.proofs.Matching.{rooted_more}
 use Rattle.image_explainer.proofs.processes.find_annex.Goals as goal
 

@@ -1,6 +1,4 @@
-use Rattle.std.proofs.Common.{ℕ, ◌<◌}
-use Rattle.capability.specs.Parts.{frames_of}
-use Rattle.image_explainer.specs.Finding.{HasRoot}
+use Rattle.image_explainer.proofs.Names.{ℕ, ◌<◌, frames_of, HasRoot}
 use Rattle.image_explainer.proofs.processes.find_annex.Given as goal
 
 abbrev pub invariant-loop-annex : goal.invariant-loop-annex

@@ -1,5 +1,4 @@
-use Rattle.std.proofs.Common.{arith}
-use Rattle.capability.specs.Parts.{frames_of}
+use Rattle.image_explainer.proofs.Names.{arith, frames_of}
 use Rattle.image_explainer.proofs.Matching.{all_matched, matched_more}
 use Rattle.image_explainer.proofs.processes.find_root.Goals as goal
 

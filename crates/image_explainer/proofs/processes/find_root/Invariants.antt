@@ -1,6 +1,4 @@
-use Rattle.std.proofs.Common.{ℕ, ◌<◌}
-use Rattle.capability.specs.Parts.{frames_of}
-use Rattle.image_explainer.specs.Finding.{IsMatched}
+use Rattle.image_explainer.proofs.Names.{ℕ, ◌<◌, frames_of, IsMatched}
 use Rattle.image_explainer.proofs.processes.find_root.Given as goal
 
 abbrev pub invariant-loop-root : goal.invariant-loop-root

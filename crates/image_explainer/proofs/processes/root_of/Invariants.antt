@@ -1,5 +1,4 @@
-use Rattle.std.proofs.Common.{◌≡◌, ℕ, ◌<◌, ◌≤◌, Some}
-use Rattle.image_explainer.specs.Finding.{annex_noted}
+use Rattle.image_explainer.proofs.Names.{◌≡◌, ℕ, ◌<◌, ◌≤◌, Some, annex_noted}
 use Rattle.image_explainer.proofs.processes.root_of.Given as goal
 
 abbrev pub invariant-loop-root : goal.invariant-loop-root

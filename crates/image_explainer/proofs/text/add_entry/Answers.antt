@@ -1,6 +1,4 @@
-use Rattle.std.proofs.Common.{◌++◌, ap, sym, ◌∙◌}
-use Rattle.sector_faults.specs.declared.fault.DirectoryPart.{DirectoryPart}
-use Rattle.image_explainer.specs.Text.{directory_part_text}
+use Rattle.image_explainer.proofs.Names.{◌++◌, ap, sym, ◌∙◌, DirectoryPart, directory_part_text}
 use Rattle.image_explainer.proofs.Joined.{joined_6}
 use Rattle.image_explainer.proofs.text.add_entry.Goals as goal
 

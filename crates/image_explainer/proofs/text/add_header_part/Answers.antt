@@ -1,6 +1,4 @@
-use Rattle.std.proofs.Common.{◌++◌, ap, sym, ◌∙◌}
-use Rattle.sector_faults.specs.declared.fault.HeaderPart.{HeaderPart}
-use Rattle.image_explainer.specs.Text.{header_part_text}
+use Rattle.image_explainer.proofs.Names.{◌++◌, ap, sym, ◌∙◌, HeaderPart, header_part_text}
 use Rattle.image_explainer.proofs.Joined.{joined_3, joined_4}
 use Rattle.image_explainer.proofs.text.add_header_part.Goals as goal
 

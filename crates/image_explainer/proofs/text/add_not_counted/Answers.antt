@@ -1,6 +1,4 @@
-use Rattle.std.proofs.Common.{◌++◌, ap, sym, ◌∙◌}
-use Rattle.sector_faults.specs.declared.fault.NotCounted.{NotCounted}
-use Rattle.image_explainer.specs.Text.{not_counted_text}
+use Rattle.image_explainer.proofs.Names.{◌++◌, ap, sym, ◌∙◌, NotCounted, not_counted_text}
 use Rattle.image_explainer.proofs.Joined.{joined_3}
 use Rattle.image_explainer.proofs.text.add_not_counted.Goals as goal
 

@@ -1,6 +1,4 @@
-use Rattle.std.proofs.Common.{◌++◌, ap, sym, ◌∙◌}
-use Rattle.sector_faults.specs.declared.fault.FramePart.{FramePart}
-use Rattle.image_explainer.specs.Text.{frame_part_text}
+use Rattle.image_explainer.proofs.Names.{◌++◌, ap, sym, ◌∙◌, FramePart, frame_part_text}
 use Rattle.image_explainer.proofs.Joined.{joined_3, joined_4}
 use Rattle.image_explainer.proofs.text.add_part.Goals as goal
 

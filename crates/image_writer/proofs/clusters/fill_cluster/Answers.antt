@@ -1,6 +1,4 @@
-use Rattle.std.proofs.Common.{◌+◌, ◌∙◌, sym, ap, arith}
-use Rattle.model.specs.Frame.{frames_in}
-use Rattle.layout.specs.Frame.{frame_bytes}
+use Rattle.image_writer.proofs.Names.{◌+◌, ◌∙◌, sym, ap, arith, frames_in, frame_bytes}
 use Rattle.image_writer.proofs.HomeFrames.{frame_there}
 use Rattle.image_writer.proofs.Ranks.{all_in, blank_in, one_more, shares_node}
 use Rattle.image_writer.proofs.clusters.fill_cluster.Goals as goal

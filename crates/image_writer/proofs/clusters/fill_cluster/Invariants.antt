@@ -1,5 +1,4 @@
-use Rattle.std.proofs.Common.{◌≡◌, length}
-use Rattle.model.specs.Frame.{frames_in}
+use Rattle.image_writer.proofs.Names.{◌≡◌, length, frames_in}
 use Rattle.image_writer.proofs.Ranks.{AreIn}
 use Rattle.image_writer.proofs.clusters.fill_cluster.Given as goal
 

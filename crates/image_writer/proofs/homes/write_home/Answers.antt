@@ -1,6 +1,4 @@
-use Rattle.std.proofs.Common.{◌≡◌, ℕ, ◌∙◌, ap, sym, subst}
-use Rattle.layout.specs.declared.shape.Shape.TheVariants.{Packed}
-use Rattle.home_ranges.proofs.Places.{IsOwn}
+use Rattle.image_writer.proofs.Names.{◌≡◌, ℕ, ◌∙◌, ap, sym, subst, Packed, IsOwn}
 use Rattle.image_writer.proofs.HomeFrames.{own_written}
 use Rattle.image_writer.proofs.homes.write_home.Goals as goal
 

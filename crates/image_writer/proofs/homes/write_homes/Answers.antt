@@ -1,8 +1,4 @@
-use Rattle.std.proofs.Common.{rules, ◌≡◌, ◌<◌, ◌∙◌, inr}
-use Rattle.layout.specs.Homes.{home_place, place_length, shape_of}
-use Rattle.model.specs.Frame.{frames_in}
-use Rattle.home_ranges.proofs.Places.{places_within}
-use Rattle.image_writer.specs.Homes.{frames_before}
+use Rattle.image_writer.proofs.Names.{rules, ◌≡◌, ◌<◌, ◌∙◌, inr, home_place, place_length, shape_of, frames_in, places_within, frames_before}
 use Rattle.image_writer.proofs.ClosedGates.{closed_on, leaves_closed}
 use Rattle.image_writer.proofs.HomeFrames.{is_there, later, one_more, stays_between}
 use Rattle.image_writer.proofs.homes.write_homes.Goals as goal

@@ -1,9 +1,4 @@
-use Rattle.std.proofs.Common.{◌≡◌, ◌-◌}
-use Rattle.device.specs.Calls.{Elsewhere}
-use Rattle.model.specs.Frame.{frames_in}
-use Rattle.device.specs.Moments.{LeavesOnly}
-use Rattle.ckpt_log.specs.Closing.{AreClosed}
-use Rattle.image_writer.specs.Written.{LeavesClosed}
+use Rattle.image_writer.proofs.Names.{◌≡◌, ◌-◌, Elsewhere, frames_in, LeavesOnly, AreClosed, LeavesClosed}
 use Rattle.image_writer.proofs.HomeFrames.{AreHomeTo}
 use Rattle.image_writer.proofs.homes.write_homes.Given as goal
 

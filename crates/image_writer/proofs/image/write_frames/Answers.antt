@@ -1,7 +1,4 @@
-use Rattle.std.proofs.Common.{◌-◌}
-use Rattle.model.specs.Frame.{frames_in}
-use Rattle.model.specs.Sound.{object_count}
-use Rattle.image_writer.specs.Written.{AreHome}
+use Rattle.image_writer.proofs.Names.{◌-◌, frames_in, object_count, AreHome}
 use Rattle.image_writer.proofs.FreshImages.{on_ok}
 use Rattle.image_writer.proofs.SlotFrames.{all_seated, log_between}
 use Rattle.image_writer.proofs.image.write_frames.Goals as goal

@@ -1,6 +1,4 @@
-use Rattle.std.proofs.Common.{refl}
-use Rattle.model.specs.Frame.{frames_in}
-use Rattle.image_writer.specs.Written.{first_state}
+use Rattle.image_writer.proofs.Names.{refl, frames_in, first_state}
 use Rattle.image_writer.proofs.FreshImages.{header_fits, no_directory, on_ok}
 use Rattle.image_writer.proofs.image.write_image.Goals as goal
 

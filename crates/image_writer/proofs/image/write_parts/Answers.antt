@@ -1,9 +1,4 @@
-use Rattle.std.proofs.Common.{rules, ◌-◌, ◌∙◌, ap, arith, sym}
-use Rattle.device.proofs.Images.{elsewhere_on, elsewhere_same}
-use Rattle.device.proofs.Moments.{leaves_on, narrowed}
-use Rattle.model.specs.Frame.{frames_in}
-use Rattle.model.specs.Sound.{object_count}
-use Rattle.capability.proofs.Frames.{length_in}
+use Rattle.image_writer.proofs.Names.{rules, ◌-◌, ◌∙◌, ap, arith, sym, elsewhere_on, elsewhere_same, leaves_on, narrowed, frames_in, object_count, length_in}
 use Rattle.image_writer.proofs.ClosedGates.{after_closing, closing, gates_within}
 use Rattle.image_writer.proofs.FreshImages.{all_written, five, on_ok, widened}
 use Rattle.image_writer.proofs.image.write_parts.Goals as goal

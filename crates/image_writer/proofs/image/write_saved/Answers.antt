@@ -1,11 +1,4 @@
-use Rattle.std.proofs.Common.{◌∙◌, ap, arith}
-use Rattle.device.specs.Disk.{Image}
-use Rattle.device.proofs.Images.{elsewhere_on}
-use Rattle.layout.specs.Gate.{is_open}
-use Rattle.layout.specs.Image.{Encodes}
-use Rattle.model.specs.Frame.{frames_in}
-use Rattle.checkpoint.specs.Saved.{kept_of}
-use Rattle.image_writer.specs.Written.{state_of}
+use Rattle.image_writer.proofs.Names.{◌∙◌, ap, arith, Image, elsewhere_on, is_open, Encodes, frames_in, kept_of, state_of}
 use Rattle.image_writer.proofs.FreshImages.{denotes, durable_is, five, not_yet, on_ok, opening_run, widened}
 use Rattle.image_writer.proofs.image.write_saved.Goals as goal
 

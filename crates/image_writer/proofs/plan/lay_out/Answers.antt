@@ -1,6 +1,4 @@
-use Rattle.std.proofs.Common.{◌∙◌, arith, subst, sym}
-use Rattle.std.proofs.lemmas.Bool.{false≢true}
-use Rattle.layout.specs.Superblock.{IsPlan}
+use Rattle.image_writer.proofs.Names.{◌∙◌, arith, subst, sym, false≢true, IsPlan}
 use Rattle.image_writer.proofs.LaidPlans.{is_plan, may_be, few_counts}
 use Rattle.image_writer.proofs.plan.lay_out.Goals as goal
 use Rattle.image_writer.proofs.plan.lay_out.Goals.{then-geometry-via-then-geometry, then-geometry-via-else-geometry+then-ranges-gt-MAX_RANGES, then-geometry-via-else-geometry+else-ranges-gt-MAX_RANGES+then-not-are_few}

@@ -1,8 +1,4 @@
-use Rattle.std.proofs.Common.{List, map, subst, sym, ◌∙◌, ap}
-use Rattle.model.specs.declared.geometry.Geometry.{Geometry}
-use Rattle.layout.specs.declared.extent.HomeRange.{HomeRange}
-use Rattle.image_writer.specs.declared.number_range.NumberRange.{NumberRange}
-use Rattle.image_writer.specs.Laid.{MayBeLaid, numbers_of}
+use Rattle.image_writer.proofs.Names.{List, map, subst, sym, ◌∙◌, ap, Geometry, HomeRange, NumberRange, MayBeLaid, numbers_of}
 use Rattle.image_writer.proofs.LaidAgain.{may_be_laid}
 use Rattle.image_writer.proofs.plan.lay_out_again.Goals as goal
 

@@ -1,7 +1,4 @@
-use Rattle.std.proofs.Common.{◌-◌}
-use Rattle.home_ranges.proofs.Places.{zeros_in}
-use Rattle.home_ranges.proofs.Shared.{begins}
-use Rattle.model.specs.Frame.{frames_in}
+use Rattle.image_writer.proofs.Names.{◌-◌, zeros_in, begins, frames_in}
 use Rattle.image_writer.proofs.SlotFrames.{packed_written}
 use Rattle.image_writer.proofs.slots.write_cluster.Goals as goal
 

@@ -1,10 +1,4 @@
-use Rattle.std.proofs.Common.{◌≡◌, subst}
-use Rattle.std.specs.Prelude.{OnOk}
-use Rattle.layout.specs.Frame.{frame_bytes}
-use Rattle.layout.specs.Image.{bytes_at, slot_sector}
-use Rattle.layout.specs.Superblock.{Plan}
-use Rattle.model.specs.Frame.{header_at}
-use Rattle.home_ranges.proofs.Places.{IsOwn}
+use Rattle.image_writer.proofs.Names.{◌≡◌, subst, OnOk, frame_bytes, bytes_at, slot_sector, Plan, header_at, IsOwn}
 use Rattle.image_writer.proofs.SlotFrames.{own_written_at}
 use Rattle.image_writer.proofs.slots.write_entry.Goals as goal
 

@@ -1,6 +1,4 @@
-use Rattle.std.proofs.Common.{length, refl}
-use Rattle.layout.specs.Image.{directory_length, directory_sector}
-use Rattle.model.specs.Frame.{frames_in}
+use Rattle.image_writer.proofs.Names.{length, refl, directory_length, directory_sector, frames_in}
 use Rattle.image_writer.proofs.FreshImages.{on_ok}
 use Rattle.image_writer.proofs.SlotFrames.{slots_stay}
 use Rattle.image_writer.proofs.slots.write_log.Goals as goal

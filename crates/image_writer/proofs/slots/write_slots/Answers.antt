@@ -1,8 +1,4 @@
-use Rattle.std.proofs.Common.{rules, ◌≡◌, ◌<◌, ◌∙◌, length, inr}
-use Rattle.layout.specs.Directory.{entry_at}
-use Rattle.layout.specs.Homes.{place_length}
-use Rattle.layout.specs.Image.{slot_sector}
-use Rattle.model.specs.Frame.{frames_in}
+use Rattle.image_writer.proofs.Names.{rules, ◌≡◌, ◌<◌, ◌∙◌, length, inr, entry_at, place_length, slot_sector, frames_in}
 use Rattle.image_writer.proofs.ClosedGates.{closed_on, leaves_closed}
 use Rattle.image_writer.proofs.SlotFrames.{one_more_slot, slot_behind, stays_in_half}
 use Rattle.image_writer.proofs.slots.write_slots.Goals as goal

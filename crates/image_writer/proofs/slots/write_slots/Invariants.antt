@@ -1,10 +1,4 @@
-use Rattle.std.proofs.Common.{◌≡◌, ◌*◌}
-use Rattle.device.specs.Calls.{Elsewhere}
-use Rattle.device.specs.Moments.{LeavesOnly}
-use Rattle.layout.specs.Image.{half_sector}
-use Rattle.model.specs.Frame.{frames_in}
-use Rattle.ckpt_log.specs.Closing.{AreClosed}
-use Rattle.image_writer.specs.Written.{AreInSlots, LeavesClosed}
+use Rattle.image_writer.proofs.Names.{◌≡◌, ◌*◌, Elsewhere, LeavesOnly, half_sector, frames_in, AreClosed, AreInSlots, LeavesClosed}
 use Rattle.image_writer.proofs.slots.write_slots.Given as goal
 
 abbrev pub invariant-loop-index : goal.invariant-loop-index

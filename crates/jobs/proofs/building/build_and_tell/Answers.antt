@@ -1,7 +1,4 @@
-use Rattle.std.proofs.Common.{refl, subst, ◌++◌, ◌∷◌, ℕ, List, ap, codes, ◌∙◌}
-use Rattle.std.specs.Io.KnownBytes.{Appends}
-use Rattle.model.specs.Text.{line_of}
-use Rattle.script.specs.Writing.{AppendsFront}
+use Rattle.jobs.proofs.Names.{refl, subst, ◌++◌, ◌∷◌, ℕ, List, ap, codes, ◌∙◌, Appends, line_of, AppendsFront}
 use Rattle.jobs.proofs.BuiltImages.{built_told, built_untold, refused_cause}
 use Rattle.jobs.proofs.building.build_and_tell.Goals as goal
 

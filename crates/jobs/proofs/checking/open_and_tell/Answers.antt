@@ -1,7 +1,4 @@
-use Rattle.std.proofs.Common.{ℕ, List, subst}
-use Rattle.std.specs.Io.KnownBytes.{Appends}
-use Rattle.model.specs.Text.{line_of}
-use Rattle.script.specs.Writing.{AppendsFront}
+use Rattle.jobs.proofs.Names.{ℕ, List, subst, Appends, line_of, AppendsFront}
 use Rattle.jobs.proofs.RunImages.{checked, checked_untold}
 use Rattle.jobs.proofs.checking.open_and_tell.Goals as goal
 

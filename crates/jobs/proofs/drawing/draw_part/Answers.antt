@@ -1,6 +1,4 @@
-use Rattle.std.proofs.Common.{List, subst}
-use Rattle.model.specs.declared.object.Object.{Object}
-use Rattle.jobs.specs.Drawing.{IsFocus}
+use Rattle.jobs.proofs.Names.{List, subst, Object, IsFocus}
 use Rattle.jobs.proofs.drawing.draw_part.Goals as goal
 
 pub returns-in-Ok-draw_whole : goal.returns-in-Ok-draw_whole

@@ -1,8 +1,4 @@
-use Rattle.std.proofs.Common.{refl}
-use Rattle.std.proofs.lemmas.Result.{err_from_is_err_and}
-use Rattle.model.specs.Text.{line_of}
-use Rattle.image_drawer.proofs.Texts.{place_fails}
-use Rattle.jobs.specs.Info.{info_line}
+use Rattle.jobs.proofs.Names.{refl, err_from_is_err_and, line_of, place_fails, info_line}
 use Rattle.jobs.proofs.info.print_lines.Goals as goal
 
 pub returns-in_err-print : goal.returns-in_err-print

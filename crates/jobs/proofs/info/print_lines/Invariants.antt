@@ -1,6 +1,4 @@
-use Rattle.std.proofs.Common.{take}
-use Rattle.std.specs.Io.KnownBytes.{Appends}
-use Rattle.jobs.specs.Info.{info_text}
+use Rattle.jobs.proofs.Names.{take, Appends, info_text}
 use Rattle.jobs.proofs.info.print_lines.Given as goal
 
 abbrev pub invariant-loop-line : goal.invariant-loop-line

@@ -1,5 +1,4 @@
-use Rattle.std.proofs.Common.{◌≡◌, ◌++◌, map, take}
-use Rattle.jobs.specs.Info.{range_line}
+use Rattle.jobs.proofs.Names.{◌≡◌, ◌++◌, map, take, range_line}
 use Rattle.jobs.proofs.info.push_ranges.Given as goal
 
 abbrev pub invariant-loop-range : goal.invariant-loop-range

@@ -1,7 +1,4 @@
-use Rattle.std.proofs.Common.{List, ◌≡◌, IfOk, ap, subst, ◌∙◌}
-use Rattle.migrator.specs.Durable.{DurableState, stored_of}
-use Rattle.object_cache.specs.StoreState.{saved_by}
-use Rattle.jobs.specs.declared.info.InfoLine.{InfoLine}
+use Rattle.jobs.proofs.Names.{List, ◌≡◌, IfOk, ap, subst, ◌∙◌, DurableState, stored_of, saved_by, InfoLine}
 use Rattle.jobs.proofs.InfoImages.{lines_saved, objects_found}
 use Rattle.jobs.proofs.inspecting.lines_in.Goals as goal
 

@@ -1,7 +1,4 @@
-use Rattle.recovery.specs.Denotes.{saved_of}
-use Rattle.checkpoint.specs.Saved.{kept_of}
-use Rattle.object_cache.specs.StoreState.{saved_by}
-use Rattle.jobs.specs.Info.{info_lines}
+use Rattle.jobs.proofs.Names.{saved_of, kept_of, saved_by, info_lines}
 use Rattle.jobs.proofs.InfoImages.{informed, lines_found}
 use Rattle.jobs.proofs.inspecting.read_info.Goals as goal
 

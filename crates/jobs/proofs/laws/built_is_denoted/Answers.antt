@@ -1,5 +1,4 @@
-use Rattle.std.proofs.Common.{refl}
-use Rattle.image_writer.specs.Written.{first_saved}
+use Rattle.jobs.proofs.Names.{refl, first_saved}
 use Rattle.jobs.proofs.laws.built_is_denoted.Goals as goal
 
 pub returns : goal.returns

@@ -1,7 +1,4 @@
-use Rattle.std.proofs.Common.{List, subst, sym}
-use Rattle.model.specs.declared.object.Object.{Object}
-use Rattle.reach.specs.Reached.{AreSoundObjects}
-use Rattle.jobs.specs.Reaching.{TellsReach}
+use Rattle.jobs.proofs.Names.{List, subst, sym, Object, AreSoundObjects, TellsReach}
 use Rattle.jobs.proofs.ReachedImages.{objects_read, objects_sound, reaches_image}
 use Rattle.jobs.proofs.reaching.open_and_reach.Goals as goal
 

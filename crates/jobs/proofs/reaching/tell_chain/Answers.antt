@@ -1,6 +1,4 @@
-use Rattle.std.proofs.Common.{refl}
-use Rattle.reach.specs.ChainLines.{chain_text}
-use Rattle.reach.proofs.Members.{processes_known}
+use Rattle.jobs.proofs.Names.{refl, chain_text, processes_known}
 use Rattle.jobs.proofs.reaching.tell_chain.Goals as goal
 
 pub shortest_chain-requires-clause-known : goal.shortest_chain-requires-clause-known

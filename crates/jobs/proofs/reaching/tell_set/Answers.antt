@@ -1,6 +1,4 @@
-use Rattle.std.proofs.Common.{refl}
-use Rattle.reach.specs.Lines.{reach_text}
-use Rattle.reach.proofs.Members.{processes_known}
+use Rattle.jobs.proofs.Names.{refl, reach_text, processes_known}
 use Rattle.jobs.proofs.reaching.tell_set.Goals as goal
 
 pub reach-requires-clause-known : goal.reach-requires-clause-known

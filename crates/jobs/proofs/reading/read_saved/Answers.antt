@@ -1,5 +1,4 @@
-use Rattle.std.proofs.Common.{ap, ◌∙◌}
-use Rattle.migrator.specs.Durable.{DurableState}
+use Rattle.jobs.proofs.Names.{ap, ◌∙◌, DurableState}
 use Rattle.jobs.proofs.DescribedImages.{are_sound, read}
 use Rattle.jobs.proofs.reading.read_saved.Goals as goal
 

@@ -1,6 +1,4 @@
-use Rattle.std.proofs.Common.{Option, sym, subst}
-use Rattle.runs.specs.declared.cause.Stop.{Stop}
-use Rattle.jobs.specs.Faults.{HasStop, IsRunEnd}
+use Rattle.jobs.proofs.Names.{Option, sym, subst, Stop, HasStop, IsRunEnd}
 use Rattle.jobs.proofs.Observed.{tracer_has_stop}
 use Rattle.jobs.proofs.running.run_traced.Goals as goal
 

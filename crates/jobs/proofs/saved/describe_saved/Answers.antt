@@ -1,5 +1,4 @@
-use Rattle.std.proofs.Common.{ap, ◌∙◌}
-use Rattle.migrator.specs.Durable.{DurableState}
+use Rattle.jobs.proofs.Names.{ap, ◌∙◌, DurableState}
 use Rattle.jobs.proofs.DescribedImages.{saved}
 use Rattle.jobs.proofs.saved.describe_saved.Goals as goal
 

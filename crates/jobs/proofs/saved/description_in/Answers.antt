@@ -1,10 +1,4 @@
-use Rattle.std.proofs.Common.{ap, map, ◌∙◌}
-use Rattle.std.specs.Prelude.{Vec}
-use Rattle.std.specs.declared.alloc.Global.{Global}
-use Rattle.layout.specs.Superblock.{Plan, version_number}
-use Rattle.layout.specs.declared.version.Version.{Version}
-use Rattle.image_writer.specs.declared.number_range.NumberRange.{NumberRange}
-use Rattle.image_writer.specs.Laid.{numbers_of}
+use Rattle.jobs.proofs.Names.{ap, map, ◌∙◌, Vec, Global, Plan, version_number, Version, NumberRange, numbers_of}
 use Rattle.jobs.proofs.saved.description_in.Goals as goal
 
 pub returns-in-Ok-clause-told : goal.returns-in-Ok-clause-told

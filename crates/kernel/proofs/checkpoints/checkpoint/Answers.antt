@@ -1,10 +1,6 @@
-use Rattle.std.proofs.Common.{ap, sym, subst}
-use Rattle.model.specs.declared.answer.Answer.{Answer}
+use Rattle.kernel.proofs.Names.{ap, sym, subst, Answer, left_in, running, IsCaused, ServesUp}
 use Rattle.model.specs.declared.answer.Refusal.TheVariants as refusal
 use Rattle.model.specs.declared.command.Command.TheVariants as command
-use Rattle.object_store.specs.Store.{left_in}
-use Rattle.recovery.specs.Live.{running}
-use Rattle.kernel.specs.Standing.{IsCaused, ServesUp}
 use Rattle.kernel.proofs.Acts.{begun, freeze_cause, freeze_refused, refused, with_store}
 use Rattle.kernel.proofs.Stages.{frames_again, keepable_most, none_there}
 use Rattle.kernel.proofs.Steps.{worn}

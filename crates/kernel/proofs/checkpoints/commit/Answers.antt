@@ -1,9 +1,6 @@
-use Rattle.std.proofs.Common.{sym, subst}
-use Rattle.model.specs.declared.answer.Answer.{Answer}
+use Rattle.kernel.proofs.Names.{sym, subst, Answer, left_in, IsCaused, ServesUp}
 use Rattle.model.specs.declared.command.Command.TheVariants as command
 use Rattle.kernel.proofs.Performing.{AreSame}
-use Rattle.object_store.specs.Store.{left_in}
-use Rattle.kernel.specs.Standing.{IsCaused, ServesUp}
 use Rattle.kernel.proofs.Acts.{commit_cause, commit_refused, commit_went, may_commit, with_store}
 use Rattle.kernel.proofs.Stages.{some_left}
 use Rattle.kernel.proofs.checkpoints.commit.Goals as goal

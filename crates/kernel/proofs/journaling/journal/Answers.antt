@@ -1,13 +1,7 @@
-use Rattle.std.proofs.Common.{ℕ, ◌≡◌, ◌+◌, ◌∙◌, ap, length, sym, subst}
-use Rattle.std.specs.Prelude.{nat_lt}
-use Rattle.model.specs.declared.answer.Answer.{Answer}
+use Rattle.kernel.proofs.Names.{ℕ, ◌≡◌, ◌+◌, ◌∙◌, ap, length, sym, subst, nat_lt, Answer, LeavesOneOf, IsUnlooked, left_in, is_page_now, is_still_saved}
+use Rattle.kernel.proofs.Names.{aside_after_journal, next_journaled, words_now, IsCaused, ServesUp}
 use Rattle.model.specs.declared.command.Command.TheVariants as command
-use Rattle.checkpoint.specs.Saved.{LeavesOneOf}
-use Rattle.kernel.specs.Machine.{IsUnlooked}
 use Rattle.kernel.proofs.Performing.{AreSame}
-use Rattle.object_store.specs.Store.{left_in}
-use Rattle.object_store.specs.Journal.{is_page_now, is_still_saved, aside_after_journal, next_journaled, words_now}
-use Rattle.kernel.specs.Standing.{IsCaused, ServesUp}
 use Rattle.kernel.proofs.Acts.{with_store}
 use Rattle.kernel.proofs.Journals.{journal_cause, journal_refused, journal_went, lies_past, lies_within, sound_done, too_old, unlooked_same}
 use Rattle.kernel.proofs.Stages.{keepable_most, none_there}

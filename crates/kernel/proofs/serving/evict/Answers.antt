@@ -1,8 +1,6 @@
-use Rattle.std.proofs.Common.{length, ap, arith, subst, sym}
-use Rattle.model.specs.declared.answer.Answer.{Answer}
+use Rattle.kernel.proofs.Names.{length, ap, arith, subst, sym, Answer, ServesUp}
 use Rattle.model.specs.declared.command.Command.TheVariants as command
 use Rattle.kernel.proofs.Performing.{AreSame}
-use Rattle.kernel.specs.Standing.{ServesUp}
 use Rattle.kernel.proofs.Acts.{bad_number, err_answer, evict_failed, evicted, with_store}
 use Rattle.kernel.proofs.Stages.{keepable_most}
 use Rattle.kernel.proofs.serving.evict.Goals as goal

@@ -1,8 +1,5 @@
-use Rattle.std.proofs.Common.{subst, sym}
-use Rattle.model.specs.declared.command.Command.{Command}
+use Rattle.kernel.proofs.Names.{subst, sym, Command, answer_with, ServesUp}
 use Rattle.model.specs.declared.command.Command.TheVariants as command
-use Rattle.kernel.specs.Machine.{answer_with}
-use Rattle.kernel.specs.Standing.{ServesUp}
 use Rattle.kernel.proofs.Acts.{acted, caused, with_act}
 use Rattle.kernel.proofs.Codes.{other_code, up_code}
 use Rattle.kernel.proofs.serving.serve.Goals as goal

@@ -1,8 +1,5 @@
-use Rattle.std.proofs.Common.{arith, subst, sym}
-use Rattle.model.specs.declared.command.Command.{Command}
+use Rattle.kernel.proofs.Names.{arith, subst, sym, Command, answer_of, ServesUp}
 use Rattle.model.specs.declared.command.Command.TheVariants as command
-use Rattle.kernel.specs.Machine.{answer_of}
-use Rattle.kernel.specs.Standing.{ServesUp}
 use Rattle.kernel.proofs.Acts.{acted, caused, still_counted, up_counted, with_act}
 use Rattle.kernel.proofs.serving.serve_other.Goals as goal
 

@@ -1,5 +1,4 @@
-use Rattle.model.specs.Worlds.{f0}
-use Rattle.model_laws.proofs.SoundWorlds.{f0_sound}
+use Rattle.kernel_tests.proofs.Names.{f0, f0_sound}
 use Rattle.kernel_tests.proofs.MadeWorlds.{made_sound, made_keepable}
 use Rattle.kernel_tests.proofs.images.first_world.Goals as goal
 

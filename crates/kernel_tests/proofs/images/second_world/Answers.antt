@@ -1,5 +1,4 @@
-use Rattle.model.specs.Worlds.{i0}
-use Rattle.model_laws.proofs.SoundWorlds.{i0_sound}
+use Rattle.kernel_tests.proofs.Names.{i0, i0_sound}
 use Rattle.kernel_tests.proofs.MadeWorlds.{made_sound, made_keepable}
 use Rattle.kernel_tests.proofs.images.second_world.Goals as goal
 

@@ -1,12 +1,6 @@
-use Rattle.std.proofs.Common.{◌≡◌, ◌∙◌, ap, length, map, replicate}
-use Rattle.std.proofs.lemmas.Result.{IfOk-weaker}
+use Rattle.kernel_tests.proofs.Names.{◌≡◌, ◌∙◌, ap, length, map, replicate, IfOk-weaker, world_at, untouched, f0, small, frames_of, PlainState, parts_of}
+use Rattle.kernel_tests.proofs.Names.{fresh_header, prime_header}
 use Rattle.model.specs.declared.object.Content.TheVariants as content
-use Rattle.model.specs.Keepable.{world_at}
-use Rattle.model.specs.Machine.{untouched}
-use Rattle.model.specs.Worlds.{f0, small}
-use Rattle.capability.specs.Parts.{frames_of}
-use Rattle.capability.specs.Plain.{PlainState, parts_of}
-use Rattle.kernel_tests.specs.Fresh.{fresh_header, prime_header}
 use Rattle.kernel_tests.proofs.FreshWorlds.{f0_count, f0_headers, f0_of_fresh}
 use Rattle.kernel_tests.proofs.worlds.f0.Goals as goal
 

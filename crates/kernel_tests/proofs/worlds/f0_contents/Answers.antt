@@ -1,6 +1,4 @@
-use Rattle.std.proofs.Common.{refl}
-use Rattle.model.specs.Worlds.{f0}
-use Rattle.model.specs.Object.{zero_words}
+use Rattle.kernel_tests.proofs.Names.{refl, f0, zero_words}
 use Rattle.kernel_tests.proofs.worlds.f0_contents.Goals as goal
 
 pub returns : goal.returns

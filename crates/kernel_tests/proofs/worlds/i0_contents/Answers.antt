@@ -1,5 +1,4 @@
-use Rattle.std.proofs.Common.{refl}
-use Rattle.model.specs.Worlds.{i0}
+use Rattle.kernel_tests.proofs.Names.{refl, i0}
 use Rattle.kernel_tests.proofs.worlds.i0_contents.Goals as goal
 
 pub returns : goal.returns

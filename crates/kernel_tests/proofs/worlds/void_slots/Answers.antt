@@ -1,9 +1,4 @@
-use Rattle.std.proofs.Common.{◌≡◌, ◌∙◌, map, replicate, ap}
-use Rattle.std.proofs.lemmas.Result.{IfOk-weaker}
-use Rattle.model.specs.declared.capability.Cap.{Cap}
-use Rattle.model.specs.declared.capability.Capability.TheVariants.{Void}
-use Rattle.model.specs.Object.{all_slots}
-use Rattle.capability.specs.Plain.{fresh_cap}
+use Rattle.kernel_tests.proofs.Names.{◌≡◌, ◌∙◌, map, replicate, ap, IfOk-weaker, Cap, Void, all_slots, fresh_cap}
 use Rattle.kernel_tests.proofs.worlds.void_slots.Goals as goal
 
 pub returns : goal.returns

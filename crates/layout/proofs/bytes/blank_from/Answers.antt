@@ -1,6 +1,4 @@
-use Rattle.std.proofs.Common.{◌++◌, ℕ, List, length, take, ap, ◌∙◌}
-use Rattle.std.proofs.lemmas.List.{take_rest, length-drop}
-use Rattle.layout.specs.Bytes.{zeros}
+use Rattle.layout.proofs.Names.{◌++◌, ℕ, List, length, take, ap, ◌∙◌, take_rest, length-drop, zeros}
 use Rattle.layout.proofs.Pages.{put_last}
 use Rattle.layout.proofs.bytes.blank_from.Goals as goal
 

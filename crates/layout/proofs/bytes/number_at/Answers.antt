@@ -1,6 +1,4 @@
-use Rattle.std.proofs.Common.{ap, ◌∙◌, arith}
-use Rattle.std.proofs.lemmas.List.{take_rest}
-use Rattle.byteorder.specs.Endian.{little_number}
+use Rattle.layout.proofs.Names.{ap, ◌∙◌, arith, take_rest, little_number}
 use Rattle.layout.proofs.Numbers.{number_read}
 use Rattle.layout.proofs.bytes.number_at.Goals as goal
 

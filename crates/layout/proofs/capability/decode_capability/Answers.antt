@@ -1,5 +1,4 @@
-use Rattle.std.proofs.Common.{refl, sym, ◌∙◌, arith}
-use Rattle.std.proofs.lemmas.Bool.{false≢true}
+use Rattle.layout.proofs.Names.{refl, sym, ◌∙◌, arith, false≢true}
 use Rattle.layout.proofs.Capabilities.{as_numbers, three_read, none_spelt}
 use Rattle.layout.proofs.capability.decode_capability.Goals as goal
 

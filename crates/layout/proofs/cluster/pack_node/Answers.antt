@@ -1,7 +1,5 @@
-use Rattle.std.proofs.Common.{◌≡◌, ◌+◌, ◌-◌, ◌*◌, ℕ, List, length, sym, ap, ◌∙◌, arith}
+use Rattle.layout.proofs.Names.{◌≡◌, ◌+◌, ◌-◌, ◌*◌, ℕ, List, length, sym, ap, ◌∙◌, arith, Packed, shape_bytes}
 use borrow.Rule.Slice.PartMut.{put_mid}
-use Rattle.layout.specs.declared.shape.Shape.TheVariants.{Packed}
-use Rattle.layout.specs.Shape.{shape_bytes}
 use Rattle.layout.proofs.Clusters.{front_long, part_long, other_part, packed}
 use Rattle.layout.proofs.cluster.pack_node.Goals as goal
 

@@ -1,6 +1,4 @@
-use Rattle.std.proofs.Common.{refl, sym, ◌∙◌, subst}
-use Rattle.std.proofs.lemmas.Bool.{false≢true}
-use Rattle.layout.specs.Directory.{IsDirectory}
+use Rattle.layout.proofs.Names.{refl, sym, ◌∙◌, subst, false≢true, IsDirectory}
 use Rattle.layout.proofs.Directories.{one_directory, directory_fits}
 use Rattle.layout.proofs.directory.decode_directory.Goals as goal
 

@@ -1,6 +1,4 @@
-use Rattle.std.proofs.Common.{sym}
-use Rattle.std.proofs.lemmas.List.{get_or_default}
-use Rattle.layout.specs.Directory.{entry_at}
+use Rattle.layout.proofs.Names.{sym, get_or_default, entry_at}
 use Rattle.layout.proofs.Directories.{no_entry, entry_written}
 use Rattle.layout.proofs.directory.encode_directory.Goals as goal
 

@@ -1,5 +1,4 @@
-use Rattle.std.proofs.Common.{◌≡◌, ◌*◌, take}
-use Rattle.layout.specs.Directory.{directory_bytes}
+use Rattle.layout.proofs.Names.{◌≡◌, ◌*◌, take, directory_bytes}
 use Rattle.layout.proofs.directory.encode_directory.Given as goal
 
 abbrev pub invariant-loop-i : goal.invariant-loop-i

@@ -1,6 +1,4 @@
-use Rattle.std.proofs.Common.{refl, sym, ◌∙◌}
-use Rattle.std.proofs.lemmas.Bool.{false≢true}
-use Rattle.layout.specs.Superblock.{extent_at}
+use Rattle.layout.proofs.Names.{refl, sym, ◌∙◌, false≢true, extent_at}
 use Rattle.layout.proofs.Extents.{apart_more, not_apart}
 use Rattle.layout.proofs.extent.are_apart.Goals as goal
 

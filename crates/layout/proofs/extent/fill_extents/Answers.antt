@@ -1,8 +1,5 @@
-use Rattle.std.proofs.Common.{◌≡◌, ◌++◌, ◌∷◌, [], ℕ, List, length, take, map, sym, ap, ◌∙◌, arith}
-use Rattle.std.proofs.lemmas.List.{take_all}
-use Rattle.layout.specs.declared.extent.Extent.{Extent}
-use Rattle.layout.specs.declared.extent.HomeRange.{HomeRange}
-use Rattle.layout.specs.Superblock.{range_extent, half_extent}
+use Rattle.layout.proofs.Names.{◌≡◌, ◌++◌, ◌∷◌, [], ℕ, List, length, take, sym, ap, ◌∙◌, arith, take_all, Extent, HomeRange, range_extent, half_extent}
+use Rattle.std.proofs.Common.{map}
 use Rattle.layout.proofs.Extents.{two_set}
 use Rattle.layout.proofs.extent.fill_extents.Goals as goal
 

@@ -1,6 +1,4 @@
-use Rattle.std.proofs.Common.{ℕ, ◌<◌, get_or}
-use Rattle.layout.specs.declared.extent.Extent.{Extent}
-use Rattle.layout.specs.Superblock.{IsApart}
+use Rattle.layout.proofs.Names.{ℕ, ◌<◌, get_or, Extent, IsApart}
 use Rattle.layout.proofs.extent.is_apart_from_all.Given as goal
 
 abbrev pub invariant-loop-other : goal.invariant-loop-other

@@ -1,13 +1,5 @@
-use Rattle.std.proofs.Common.{◌≡◌, ℕ, List, arith}
-use Rattle.std.proofs.lemmas.Result.{IfOk-weaker, IfErr-weaker}
-use Rattle.model.specs.declared.frame.Frame.{Frame}
-use Rattle.model.specs.declared.frame.ObjectHeader.{ObjectHeader}
-use Rattle.model.specs.declared.geometry.Geometry.{Geometry}
-use Rattle.layout.specs.declared.bad_image.BadImage.{BadImage}
-use Rattle.layout.specs.declared.bad_image.BadImage.TheVariants.{BadFrame}
-use Rattle.layout.specs.declared.body.Body.{Body}
-use Rattle.layout.specs.declared.body.Room.{Room}
-use Rattle.layout.specs.Frame.{frame_of, node_frame_bytes, page_frame_bytes, IsFrameOf, IsNodeFrame, IsPageFrame}
+use Rattle.layout.proofs.Names.{◌≡◌, ℕ, List, arith, IfOk-weaker, IfErr-weaker, Frame, ObjectHeader, Geometry, BadImage, BadFrame, Body, Room, frame_of}
+use Rattle.layout.proofs.Names.{node_frame_bytes, page_frame_bytes, IsFrameOf, IsNodeFrame, IsPageFrame}
 use Rattle.layout.proofs.Keepables.{frame_of_node, node_of_frame, frame_of_page, page_of_frame}
 use Rattle.layout.proofs.frame.decode_frame.Goals as goal
 

@@ -1,8 +1,4 @@
-use Rattle.std.proofs.Common.{◌≡◌, ℕ, List, ◌∷◌, set, refl, ap, ◌∙◌}
-use Rattle.layout.specs.declared.gate.Gate.{Gate}
-use Rattle.layout.specs.declared.gate.Gate.TheVariants.{Closed, Open}
-use Rattle.layout.specs.Bytes.{zeros}
-use Rattle.layout.specs.Gate.{gate_bytes}
+use Rattle.layout.proofs.Names.{◌≡◌, ℕ, List, ◌∷◌, set, refl, ap, ◌∙◌, Gate, Closed, Open, zeros, gate_bytes}
 use Rattle.layout.proofs.gate.encode_gate.Goals as goal
 
 one_zero : zeros 512 ≡ 0 ∷ zeros 511

@@ -1,8 +1,4 @@
-use Rattle.std.proofs.Common.{◌∷◌, drop, refl, sym, ap, subst, ◌∙◌, ◌-◌, ℕ, List, arith, rules}
-use Rattle.std.proofs.lemmas.Bool.{false≢true}
-use Rattle.layout.specs.declared.header.CheckpointHeader.{CheckpointHeader}
-use Rattle.layout.specs.Bytes.{zeros}
-use Rattle.layout.specs.Header.{IsHeader}
+use Rattle.layout.proofs.Names.{◌∷◌, drop, refl, sym, ap, subst, ◌∙◌, ◌-◌, ℕ, List, arith, rules, false≢true, CheckpointHeader, zeros, IsHeader}
 use Rattle.layout.proofs.Numbers.{stream}
 use Rattle.layout.proofs.Headers.{five_read, header_stream, spelt_header, fields}
 use Rattle.layout.proofs.header.decode_header.Goals as goal

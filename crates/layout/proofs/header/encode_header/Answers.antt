@@ -1,5 +1,4 @@
-use Rattle.std.proofs.Common.{ap, ◌∙◌}
-use Rattle.layout.specs.Bytes.{zeros}
+use Rattle.layout.proofs.Names.{ap, ◌∙◌, zeros}
 use Rattle.layout.proofs.Numbers.{written_none, written_more}
 use Rattle.layout.proofs.Headers.{header_written}
 use Rattle.layout.proofs.header.encode_header.Goals as goal

@@ -1,5 +1,4 @@
-use Rattle.std.proofs.Common.{◌≡◌, drop}
-use Rattle.layout.specs.Homes.{range_with}
+use Rattle.layout.proofs.Names.{◌≡◌, drop, range_with}
 use Rattle.layout.proofs.homes.range_with.Given as goal
 
 abbrev pub invariant-loop-range : goal.invariant-loop-range

@@ -1,12 +1,5 @@
-use Rattle.std.proofs.Common.{◌≡◌, ◌-◌, ℕ, List, [], refl, sym, ap, subst, ◌∙◌, arith}
-use Rattle.std.proofs.lemmas.Bool.{false≢true}
-use Rattle.std.proofs.lemmas.Result.{err_from_is_err_and}
-use Rattle.model.specs.declared.capability.Cap.{Cap}
-use Rattle.model.specs.declared.frame.ObjectHeader.{ObjectHeader}
-use Rattle.model.specs.Keepable.{IsCount}
-use Rattle.layout.specs.Bytes.{zeros}
-use Rattle.layout.specs.declared.body.Body.{Body}
-use Rattle.layout.specs.Frame.{IsBody, slots_of, content_of, body_in}
+use Rattle.layout.proofs.Names.{◌≡◌, ◌-◌, ℕ, List, [], refl, sym, ap, subst, ◌∙◌, arith, false≢true, err_from_is_err_and, Cap, ObjectHeader, IsCount, zeros}
+use Rattle.layout.proofs.Names.{Body, IsBody, slots_of, content_of, body_in}
 use Rattle.layout.proofs.Numbers.{AllFit}
 use Rattle.layout.proofs.Frames.{front_list, node_parts, node_told, body_told, node_found, any_words}
 use Rattle.layout.proofs.node_frame.decode_node_frame.Goals as goal

@@ -1,9 +1,4 @@
-use Rattle.std.proofs.Common.{◌++◌, ◌∷◌, [], List, length, refl, sym, ap, ◌∙◌, arith}
-use Rattle.std.specs.Prelude.{replicate}
-use Rattle.std.proofs.lemmas.List.{append-nil}
-use Rattle.model.specs.declared.capability.Cap.{Cap}
-use Rattle.model.specs.Frame.{void_held}
-use Rattle.layout.specs.Frame.{slots_of}
+use Rattle.layout.proofs.Names.{◌++◌, ◌∷◌, [], List, length, refl, sym, ap, ◌∙◌, arith, replicate, append-nil, Cap, void_held, slots_of}
 use Rattle.layout.proofs.Frames.{node_written, root_count}
 use Rattle.layout.proofs.node_frame.encode_node_frame.Goals as goal
 

@@ -1,6 +1,5 @@
-use Rattle.std.proofs.Common.{◌≡◌, ◌+◌, ◌-◌, ◌*◌, ◌++◌, ℕ, List, length, take, ap, ◌∙◌, arith}
+use Rattle.layout.proofs.Names.{◌≡◌, ◌+◌, ◌-◌, ◌*◌, ◌++◌, ℕ, List, length, take, ap, ◌∙◌, arith, zeros}
 use borrow.Rule.Slice.PartMut.{put_mid}
-use Rattle.layout.specs.Bytes.{zeros}
 use Rattle.layout.proofs.Frames.{slots_put}
 use Rattle.layout.proofs.node_frame.put_slots.Goals as goal
 

@@ -1,6 +1,4 @@
-use Rattle.std.proofs.Common.{◌≡◌, rules}
-use Rattle.std.specs.Prelude.{IsTrue, ◌↔◌}
-use Rattle.std.specs.List.{All}
+use Rattle.layout.proofs.Names.{◌≡◌, rules, IsTrue, ◌↔◌, All}
 use Rattle.layout.proofs.Pages.{zero_words_are, are_zero_words}
 use Rattle.layout.proofs.page_frame.are_zeros.Goals as goal
 

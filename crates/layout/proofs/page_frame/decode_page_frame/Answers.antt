@@ -1,9 +1,4 @@
-use Rattle.std.proofs.Common.{ℕ, List, drop, refl, sym, subst, ◌∙◌, arith}
-use Rattle.std.proofs.lemmas.Bool.{false≢true}
-use Rattle.std.proofs.lemmas.List.{take_rest}
-use Rattle.model.specs.declared.frame.ObjectHeader.{ObjectHeader}
-use Rattle.model.specs.Keepable.{IsCount}
-use Rattle.layout.specs.Frame.{IsPageBody}
+use Rattle.layout.proofs.Names.{ℕ, List, drop, refl, sym, subst, ◌∙◌, arith, false≢true, take_rest, ObjectHeader, IsCount, IsPageBody}
 use Rattle.layout.proofs.Numbers.{AllFit}
 use Rattle.layout.proofs.Frames.{front_list}
 use Rattle.layout.proofs.Pages.{page_parts, page_told, page_body_told, page_found}

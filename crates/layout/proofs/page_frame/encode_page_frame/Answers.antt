@@ -1,5 +1,4 @@
-use Rattle.std.proofs.Common.{◌≡◌, ◌++◌, ◌-◌, ℕ, length, take, ap, ◌∙◌, arith}
-use Rattle.layout.specs.Bytes.{zeros}
+use Rattle.layout.proofs.Names.{◌≡◌, ◌++◌, ◌-◌, ℕ, length, take, ap, ◌∙◌, arith, zeros}
 use Rattle.layout.proofs.Pages.{default_written, not_page}
 use Rattle.layout.proofs.page_frame.encode_page_frame.Goals as goal
 

@@ -1,5 +1,4 @@
-use Rattle.layout.specs.Bytes.{number}
-use Rattle.layout.specs.Frame.{words_bytes}
+use Rattle.layout.proofs.Names.{number, words_bytes}
 use Rattle.layout.proofs.page_frame.encode_words.Goals as goal
 
 pub returns : goal.returns

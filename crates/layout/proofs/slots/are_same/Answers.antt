@@ -1,5 +1,4 @@
-use Rattle.std.proofs.Common.{rules}
-use Rattle.std.proofs.lemmas.Slice.Eq.{slice_eq-Decides}
+use Rattle.layout.proofs.Names.{rules, slice_eq-Decides}
 use Rattle.layout.proofs.slots.are_same.Goals as goal
 
 pub returns : goal.returns

@@ -1,5 +1,4 @@
-use Rattle.std.proofs.Common.{◌*◌, length, sym, ap, ◌∙◌, arith}
-use Rattle.std.proofs.lemmas.Result.{err_from_is_err_and}
+use Rattle.layout.proofs.Names.{◌*◌, length, sym, ap, ◌∙◌, arith, err_from_is_err_and}
 use Rattle.layout.proofs.SlotLists.{none_read, slot_read, all_read, none_spelt, piece_is}
 use Rattle.layout.proofs.slots.decode_slots.Goals as goal
 

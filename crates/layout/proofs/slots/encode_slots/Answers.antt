@@ -1,5 +1,4 @@
-use Rattle.std.proofs.Common.{◌≡◌, ◌*◌, length, sym, arith}
-use Rattle.model.specs.Frame.{void_held}
+use Rattle.layout.proofs.Names.{◌≡◌, ◌*◌, length, sym, arith, void_held}
 use Rattle.layout.proofs.SlotLists.{slots_bytes-nil, slot_written}
 use Rattle.layout.proofs.slots.encode_slots.Goals as goal
 

@@ -1,5 +1,4 @@
-use Rattle.std.proofs.Common.{◌≡◌, ◌*◌, take}
-use Rattle.layout.specs.Frame.{slots_bytes}
+use Rattle.layout.proofs.Names.{◌≡◌, ◌*◌, take, slots_bytes}
 use Rattle.layout.proofs.slots.encode_slots.Given as goal
 
 abbrev pub invariant-loop-i : goal.invariant-loop-i

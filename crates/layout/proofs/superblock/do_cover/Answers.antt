@@ -1,5 +1,4 @@
-use Rattle.std.proofs.Common.{sym, ◌∙◌, arith}
-use Rattle.std.proofs.lemmas.Bool.{false≢true}
+use Rattle.layout.proofs.Names.{sym, ◌∙◌, arith, false≢true}
 use Rattle.layout.proofs.Extents.{not_covered}
 use Rattle.layout.proofs.superblock.do_cover.Goals as goal
 use Rattle.layout.proofs.superblock.do_cover.Goals.{then-not-is_next-via-then-not-is_next, then-not-is_next-via-else-not-is_next+then-range-end}

@@ -1,8 +1,5 @@
-use Rattle.std.proofs.Common.{◌≡◌, ◌+◌, ◌-◌, ◌*◌, ℕ, List, length, ap, subst, ◌∙◌, arith}
+use Rattle.layout.proofs.Names.{◌≡◌, ◌+◌, ◌-◌, ◌*◌, ℕ, List, length, ap, subst, ◌∙◌, arith, Geometry, zeros, Plan, IsPlan, version_number, ranges_bytes}
 use borrow.Rule.Slice.PartMut.{put_mid}
-use Rattle.model.specs.declared.geometry.Geometry.{Geometry}
-use Rattle.layout.specs.Bytes.{zeros}
-use Rattle.layout.specs.Superblock.{Plan, IsPlan, version_number, ranges_bytes}
 use Rattle.layout.proofs.Numbers.{IsWritten, written_none, written_more}
 use Rattle.layout.proofs.Superblocks.{front_same, plan_written, second_of}
 use Rattle.layout.proofs.superblock.encode_superblock.Goals as goal

@@ -1,9 +1,4 @@
-use Rattle.std.proofs.Common.{◌≡◌, ◌/◌, ℕ, List, length, drop, take, refl, sym, subst, ◌∙◌, arith}
-use Rattle.std.specs.List.{All}
-use Rattle.std.proofs.lemmas.Bool.{false≢true}
-use Rattle.model.specs.declared.geometry.Geometry.{Geometry}
-use Rattle.layout.specs.declared.extent.HomeRange.{HomeRange}
-use Rattle.layout.specs.Superblock.{plan_of, unused}
+use Rattle.layout.proofs.Names.{◌≡◌, ◌/◌, ℕ, List, length, drop, take, refl, sym, subst, ◌∙◌, arith, All, false≢true, Geometry, HomeRange, plan_of, unused}
 use Rattle.layout.proofs.Superblocks.{magic, magic_read, version_from, plan_told, others_are, plan_found, plan_read, none_read_of, eight_read, last_ranges, plan_same}
 use Rattle.layout.proofs.superblock.read_plan.Goals as goal
 use Rattle.layout.proofs.superblock.read_plan.Goals.{then-used-gt-MAX_RANGES-via-then-used-gt-MAX_RANGES, then-used-gt-MAX_RANGES-via-else-used-gt-MAX_RANGES+then-not-are_unused}

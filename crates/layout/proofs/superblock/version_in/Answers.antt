@@ -1,6 +1,4 @@
-use Rattle.std.proofs.Common.{◌≡◌, ◌-◌, ℕ, drop, sym, ap, ◌∙◌, arith}
-use Rattle.std.proofs.lemmas.Bool.{false≢true}
-use Rattle.layout.specs.Bytes.{zeros}
+use Rattle.layout.proofs.Names.{◌≡◌, ◌-◌, ℕ, drop, sym, ap, ◌∙◌, arith, false≢true, zeros}
 use Rattle.layout.proofs.Superblocks.{magic_from, marked, versions_told, unmarked}
 use Rattle.layout.proofs.superblock.version_in.Goals as goal
 use Rattle.layout.proofs.superblock.version_in.Goals.{then-magic-ne-SUPERBLOCK_MAGIC-via-then-magic-ne-SUPERBLOCK_MAGIC, then-magic-ne-SUPERBLOCK_MAGIC-via-else-magic-ne-SUPERBLOCK_MAGIC+then-not-is_blank_from}

@@ -1,7 +1,4 @@
-use Rattle.std.proofs.Common.{get_or, sym}
-use Rattle.std.proofs.lemmas.List.{get_or_default}
-use Rattle.layout.specs.declared.extent.HomeRange.{HomeRange}
-use Rattle.layout.specs.Superblock.{unused}
+use Rattle.layout.proofs.Names.{get_or, sym, get_or_default, HomeRange, unused}
 use Rattle.layout.proofs.Superblocks.{no_range, range_written}
 use Rattle.layout.proofs.superblock.write_ranges.Goals as goal
 

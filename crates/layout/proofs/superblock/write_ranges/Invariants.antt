@@ -1,5 +1,4 @@
-use Rattle.std.proofs.Common.{◌≡◌, ◌*◌, take}
-use Rattle.layout.specs.Superblock.{ranges_bytes}
+use Rattle.layout.proofs.Names.{◌≡◌, ◌*◌, take, ranges_bytes}
 use Rattle.layout.proofs.superblock.write_ranges.Given as goal
 
 abbrev pub invariant-loop-i : goal.invariant-loop-i

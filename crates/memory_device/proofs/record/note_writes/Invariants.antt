@@ -1,5 +1,4 @@
-use Rattle.std.proofs.Common.{◌≡◌, ◌≤◌, ◌++◌, vec_capacity}
-use Rattle.memory_device.specs.Record.{entries_of}
+use Rattle.memory_device.proofs.Names.{◌≡◌, ◌≤◌, ◌++◌, vec_capacity, entries_of}
 use Rattle.memory_device.proofs.record.note_writes.Given as goal
 
 abbrev pub invariant-loop-i : goal.invariant-loop-i

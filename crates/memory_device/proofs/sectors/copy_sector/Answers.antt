@@ -1,6 +1,5 @@
-use Rattle.std.proofs.Common.{rules, arith}
+use Rattle.memory_device.proofs.Names.{rules, arith, image_of}
 use Rattle.memory_device.proofs.Patches.{wrote_here, patches_one, part_is, part_size}
-use Rattle.device.specs.Calls.{image_of}
 use Rattle.memory_device.proofs.sectors.copy_sector.Goals as goal
 
 pub overflow_mul-start : goal.overflow_mul-start

@@ -1,6 +1,4 @@
-use Rattle.std.proofs.Common.{◌<◌, take, All}
-use Rattle.device.specs.Calls.{image_of, Patches}
-use Rattle.memory_device.specs.Record.{names}
+use Rattle.memory_device.proofs.Names.{◌<◌, take, All, image_of, Patches, names}
 use Rattle.memory_device.proofs.sectors.copy_written.Given as goal
 
 abbrev pub invariant-loop-entry : goal.invariant-loop-entry

@@ -1,5 +1,4 @@
-use Rattle.std.proofs.Common.{replicate}
-use Rattle.std.proofs.lemmas.List.{length-replicate}
+use Rattle.memory_device.proofs.Names.{replicate, length-replicate}
 use Rattle.memory_device.proofs.Patches.{wrote_here, patches_one, filled_is}
 use Rattle.memory_device.proofs.sectors.fill_sector.Goals as goal
 

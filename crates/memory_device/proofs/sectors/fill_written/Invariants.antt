@@ -1,6 +1,4 @@
-use Rattle.std.proofs.Common.{◌<◌, take, replicate, All}
-use Rattle.device.specs.Calls.{image_of, Patches}
-use Rattle.memory_device.specs.Record.{names}
+use Rattle.memory_device.proofs.Names.{◌<◌, take, replicate, All, image_of, Patches, names}
 use Rattle.memory_device.proofs.sectors.fill_written.Given as goal
 
 abbrev pub invariant-loop-entry : goal.invariant-loop-entry

@@ -1,5 +1,4 @@
-use Rattle.std.proofs.Common.{arith}
-use Rattle.device.proofs.Flat.{put_written, put_elsewhere}
+use Rattle.memory_device.proofs.Names.{arith, put_written, put_elsewhere}
 use Rattle.memory_device.proofs.sectors.put.Goals as goal
 
 pub returns-clause-written : goal.returns-clause-written

@@ -1,7 +1,4 @@
-use Rattle.std.proofs.Common.{◌∙◌, ap, ℕ, List}
-use Rattle.std.specs.Prelude.{slice_set}
-use Rattle.migrator.specs.declared.table.Place.{Place}
-use Rattle.migrator.specs.declared.table.Place.TheVariants.{Torn, Whole}
+use Rattle.migrator.proofs.Names.{◌∙◌, ap, ℕ, List, slice_set, Place, Torn, Whole}
 use Rattle.migrator.proofs.Putting.{set_twice}
 use Rattle.migrator.proofs.books.put_frame.Goals as goal
 

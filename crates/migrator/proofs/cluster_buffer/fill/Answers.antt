@@ -1,9 +1,4 @@
-use Rattle.std.proofs.Common.{◌≡◌, ◌∙◌, ◌-◌, refl, sym, subst, arith}
-use Rattle.device.specs.Disk.{Image}
-use Rattle.device.proofs.Images.{agrees_is}
-use Rattle.layout.specs.declared.shape.Shape.TheVariants.{Packed}
-use Rattle.layout.specs.Image.{sectors_from, shaped_at}
-use Rattle.home_ranges.proofs.Shared.{begins}
+use Rattle.migrator.proofs.Names.{◌≡◌, ◌∙◌, ◌-◌, refl, sym, subst, arith, Image, agrees_is, Packed, sectors_from, shaped_at, begins}
 use Rattle.migrator.proofs.Completing.{filled, filled_on}
 use Rattle.migrator.proofs.Gathering.{packed_end, zeros_at}
 use Rattle.migrator.proofs.cluster_buffer.fill.Goals as goal

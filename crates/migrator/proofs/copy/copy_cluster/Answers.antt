@@ -1,5 +1,4 @@
-use Rattle.std.proofs.Common.{◌≡◌, rules}
-use Rattle.home_ranges.proofs.Places.{zeros_home}
+use Rattle.migrator.proofs.Names.{◌≡◌, rules, zeros_home}
 use Rattle.migrator.proofs.Gathering.{copied_blank, counts_on, cluster_touched}
 use Rattle.migrator.proofs.copy.copy_cluster.Goals as goal
 

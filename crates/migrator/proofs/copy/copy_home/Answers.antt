@@ -1,9 +1,4 @@
-use Rattle.std.proofs.Common.{◌∙◌, ℕ, ap, sym, subst}
-use Rattle.layout.specs.Homes.{home_place}
-use Rattle.layout.specs.Shape.{shape_length}
-use Rattle.home_ranges.proofs.Shared.{begins}
-use Rattle.migrator.specs.Spared.{Touches}
-use Rattle.layout.specs.declared.shape.Shape.TheVariants.{Node, Page}
+use Rattle.migrator.proofs.Names.{◌∙◌, ℕ, ap, sym, subst, home_place, shape_length, begins, Touches, Node, Page}
 use Rattle.migrator.proofs.Gathering.{on_ok, copied_own, no_cluster, zeros_there}
 use Rattle.migrator.proofs.copy.copy_home.Goals as goal
 

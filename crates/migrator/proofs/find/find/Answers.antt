@@ -1,5 +1,4 @@
-use Rattle.std.proofs.Common.{refl, sym, arith}
-use Rattle.layout.specs.Directory.{entry_at}
+use Rattle.migrator.proofs.Names.{refl, sym, arith, entry_at}
 use Rattle.migrator.proofs.Opening.{found_at, none_at}
 use Rattle.migrator.proofs.find.find.Goals as goal
 use Rattle.migrator.proofs.find.find.Goals.{else-at-entries-via-then-at-entries+else-entries-at, else-at-entries-via-else-at-entries}

@@ -1,5 +1,4 @@
-use Rattle.std.proofs.Common.{◌<◌, ◌≤◌, ◌-◌, ℕ, length}
-use Rattle.layout.specs.Directory.{entry_at}
+use Rattle.migrator.proofs.Names.{◌<◌, ◌≤◌, ◌-◌, ℕ, length, entry_at}
 use Rattle.migrator.proofs.find.first_from.Given as goal
 
 abbrev pub invariant-loop-low : goal.invariant-loop-low

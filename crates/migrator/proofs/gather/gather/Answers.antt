@@ -1,9 +1,4 @@
-use Rattle.std.proofs.Common.{◌≡◌, ◌∙◌, ◌+◌, subst, arith, rules}
-use Rattle.device.specs.Disk.{Image}
-use Rattle.device.proofs.Images.{agrees_is}
-use Rattle.layout.specs.Image.{frame_in}
-use Rattle.layout.specs.Superblock.{Plan, IsPlan}
-use Rattle.home_ranges.specs.Home.{HaveHome}
+use Rattle.migrator.proofs.Names.{◌≡◌, ◌∙◌, ◌+◌, subst, arith, rules, Image, agrees_is, frame_in, Plan, IsPlan, HaveHome}
 use Rattle.migrator.proofs.Gathering.{frame_end, one_more, rank_there, all_in}
 use Rattle.migrator.proofs.Reading.{reads_more}
 use Rattle.migrator.proofs.gather.gather.Goals as goal

@@ -1,5 +1,4 @@
-use Rattle.std.proofs.Common.{◌≡◌, length}
-use Rattle.frame_io.specs.Calls.{ReadsOnly}
+use Rattle.migrator.proofs.Names.{◌≡◌, length, ReadsOnly}
 use Rattle.migrator.proofs.Gathering.{AreIn}
 use Rattle.migrator.proofs.gather.gather.Given as goal
 

@@ -1,9 +1,4 @@
-use Rattle.std.proofs.Common.{◌≡◌, ◌∙◌, Some, None, ap, sym, subst}
-use Rattle.device.specs.Disk.{Image}
-use Rattle.device.proofs.Images.{agrees_is}
-use Rattle.layout.specs.Homes.{home_place}
-use Rattle.layout.specs.Image.{frame_in, slot_sector}
-use Rattle.layout.specs.Superblock.{Plan}
+use Rattle.migrator.proofs.Names.{◌≡◌, ◌∙◌, Some, None, ap, sym, subst, Image, agrees_is, home_place, frame_in, slot_sector, Plan}
 use Rattle.migrator.proofs.Gathering.{seat_bytes}
 use Rattle.migrator.proofs.Seats.{seat_fits}
 use Rattle.migrator.proofs.gather.read_node.Goals as goal

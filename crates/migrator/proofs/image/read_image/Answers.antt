@@ -1,8 +1,4 @@
-use Rattle.std.proofs.Common.{◌≤◌, ℕ, take, sym, subst}
-use Rattle.device.specs.Disk.{Image}
-use Rattle.device.proofs.Images.{agrees_is}
-use Rattle.layout.specs.Spelt.{AreSpelt, frames_read}
-use Rattle.migrator.specs.Opened.{IsBadAt}
+use Rattle.migrator.proofs.Names.{◌≤◌, ℕ, take, sym, subst, Image, agrees_is, AreSpelt, frames_read, IsBadAt}
 use Rattle.migrator.proofs.Reading.{bad_frame, reads_more}
 use Rattle.migrator.proofs.image.read_image.Goals as goal
 

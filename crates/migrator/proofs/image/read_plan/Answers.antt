@@ -1,9 +1,4 @@
-use Rattle.std.proofs.Common.{subst, ℕ}
-use Rattle.std.specs.Prelude.{IfErr}
-use Rattle.device.specs.Disk.{Image}
-use Rattle.device.proofs.Images.{agrees_is}
-use Rattle.checkpoint.specs.declared.open_fault.OpenFault.{OpenFault}
-use Rattle.checkpoint.specs.Opened.{IsBadFor}
+use Rattle.migrator.proofs.Names.{subst, ℕ, IfErr, Image, agrees_is, OpenFault, IsBadFor}
 use Rattle.migrator.proofs.Opening.{refused_plan}
 use Rattle.migrator.proofs.image.read_plan.Goals as goal
 

@@ -1,10 +1,4 @@
-use Rattle.std.proofs.Common.{◌++◌, ◌∷◌, [], sym, subst}
-use Rattle.model.specs.declared.frame.Frame.{Frame}
-use Rattle.device.specs.Disk.{Image}
-use Rattle.device.proofs.Images.{agrees_is}
-use Rattle.layout.specs.Frame.{IsFrameOf, frame_of}
-use Rattle.layout.specs.Image.{frame_in}
-use Rattle.layout.proofs.Spelling.{spelt_read}
+use Rattle.migrator.proofs.Names.{◌++◌, ◌∷◌, [], sym, subst, Frame, Image, agrees_is, IsFrameOf, frame_of, frame_in, spelt_read}
 use Rattle.migrator.proofs.image.take_frame.Goals as goal
 
 pub returns-in-Ok-take-clause-spelt : goal.returns-in-Ok-take-clause-spelt

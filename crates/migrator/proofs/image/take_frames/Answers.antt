@@ -1,10 +1,5 @@
-use Rattle.std.proofs.Common.{◌≡◌, ◌≤◌, ℕ, refl, sym, arith, ◌∙◌, ◌+◌, ◌<◌, ◌++◌, ◌∷◌, [], ap, subst, rules}
-use Rattle.std.proofs.lemmas.Result.{err_from_is_err_and}
-use Rattle.model.specs.declared.geometry.Geometry.{Geometry}
-use Rattle.device.specs.Disk.{Image}
-use Rattle.device.proofs.Images.{agrees_is}
-use Rattle.layout.specs.Spelt.{IsSpelt, frame_read}
-use Rattle.migrator.specs.Opened.{IsBadAt}
+use Rattle.migrator.proofs.Names.{◌≡◌, ◌≤◌, ℕ, refl, sym, arith, ◌∙◌, ◌+◌, ◌<◌, ◌++◌, ◌∷◌, [], ap, subst, rules, err_from_is_err_and, Geometry, Image}
+use Rattle.migrator.proofs.Names.{agrees_is, IsSpelt, frame_read, IsBadAt}
 use Rattle.migrator.proofs.Reading.{reads_more, reads_none, frames_until, frames_more, frames_all, spelt_more}
 use Rattle.migrator.proofs.image.take_frames.Goals as goal
 

@@ -1,6 +1,4 @@
-use Rattle.std.proofs.Common.{◌≡◌, ◌<◌, ℕ}
-use Rattle.layout.specs.Spelt.{IsSpelt}
-use Rattle.frame_io.specs.Calls.{ReadsOnly}
+use Rattle.migrator.proofs.Names.{◌≡◌, ◌<◌, ℕ, IsSpelt, ReadsOnly}
 use Rattle.migrator.proofs.Reading.{frames_until}
 use Rattle.migrator.proofs.image.take_frames.Given as goal
 

@@ -1,6 +1,4 @@
-use Rattle.layout.specs.Frame.{frame_of}
-use Rattle.layout.specs.Image.{frame_in}
-use Rattle.layout.specs.Spelt.{frame_read}
+use Rattle.migrator.proofs.Names.{frame_of, frame_in, frame_read}
 use Rattle.migrator.proofs.Fetching.{read_is, only_failed, failure_counts}
 use Rattle.migrator.proofs.read.read_again.Goals as goal
 

@@ -1,6 +1,4 @@
-use Rattle.layout.specs.Frame.{frame_of}
-use Rattle.migrator.specs.Put.{slot_bytes, slot_frame}
-use Rattle.checkpoint.specs.Saved.{most}
+use Rattle.migrator.proofs.Names.{frame_of, slot_bytes, slot_frame, most}
 use Rattle.migrator.proofs.Fetching.{read_is, only_failed, failure_counts}
 use Rattle.migrator.proofs.read.read_put.Goals as goal
 

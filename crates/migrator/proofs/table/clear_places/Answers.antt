@@ -1,7 +1,5 @@
-use Rattle.std.proofs.Common.{ℕ, arith, ap, sym, ◌∙◌, replicate}
-use Rattle.std.proofs.lemmas.List.{map-set}
-use Rattle.migrator.specs.declared.table.Place.TheVariants.{Nowhere}
-use Rattle.migrator.specs.Table.{is_held}
+use Rattle.migrator.proofs.Names.{ℕ, arith, ap, sym, ◌∙◌, map-set, Nowhere, is_held}
+use Rattle.std.proofs.Common.{replicate}
 use Rattle.migrator.proofs.Tables.{none_taken, one_less, all_nowhere}
 use Rattle.migrator.proofs.table.clear_places.Goals as goal
 

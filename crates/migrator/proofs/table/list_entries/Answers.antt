@@ -1,5 +1,4 @@
-use Rattle.std.proofs.Common.{◌≡◌, ◌<◌, ◌∙◌, ap, arith, drop, length, rules}
-use Rattle.migrator.specs.Table.{entries_from}
+use Rattle.migrator.proofs.Names.{◌≡◌, ◌<◌, ◌∙◌, ap, arith, drop, length, rules, entries_from}
 use Rattle.migrator.proofs.Tables.{entries_done, entries_left}
 use Rattle.migrator.proofs.table.list_entries.Goals as goal
 

@@ -1,6 +1,4 @@
-use Rattle.std.proofs.Common.{◌≡◌, ◌++◌, drop, length}
-use Rattle.std.specs.Vec.{vec_capacity}
-use Rattle.migrator.specs.Table.{entries_from, entries_of}
+use Rattle.migrator.proofs.Names.{◌≡◌, ◌++◌, drop, length, vec_capacity, entries_from, entries_of}
 use Rattle.migrator.proofs.table.list_entries.Given as goal
 
 abbrev pub invariant-loop : goal.invariant-loop

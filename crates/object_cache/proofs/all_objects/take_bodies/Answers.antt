@@ -1,5 +1,4 @@
-use Rattle.std.proofs.Common.{[], ◌∷◌, ◌+◌, ◌∙◌, None, ap, length-set}
-use Rattle.std.proofs.lemmas.List.{length-append}
+use Rattle.object_cache.proofs.Names.{[], ◌∷◌, ◌+◌, ◌∙◌, None, ap, length-set, length-append}
 use Rattle.object_cache.proofs.Emptying.{later_stays, one_taken}
 use Rattle.object_cache.proofs.all_objects.take_bodies.Goals as goal
 

@@ -1,6 +1,4 @@
-use Rattle.std.proofs.Common.{◌≡◌, ℕ, ◌<◌, ◌≤◌, Some, length, option_map}
-use Rattle.cache_entries.specs.Entries.{entry_at, present_of}
-use Rattle.model.specs.Frame.{held_at}
+use Rattle.object_cache.proofs.Names.{◌≡◌, ℕ, ◌<◌, ◌≤◌, Some, length, option_map, entry_at, present_of, held_at}
 use Rattle.object_cache.proofs.all_objects.take_bodies.Given as goal
 
 abbrev pub invariant-loop-number : goal.invariant-loop-number

@@ -1,6 +1,4 @@
-use Rattle.std.proofs.Common.{◌≡◌, ℕ, ◌-◌, ◌<◌, true, length}
-use Rattle.model.specs.Frame.{header_at}
-use Rattle.object_cache.specs.Memory.{mark_at}
+use Rattle.object_cache.proofs.Names.{◌≡◌, ℕ, ◌-◌, ◌<◌, true, length, header_at, mark_at}
 use Rattle.object_cache.proofs.headers.copy_marked.Given as goal
 
 abbrev pub invariant-loop-number : goal.invariant-loop-number

@@ -1,6 +1,4 @@
-use Rattle.std.proofs.Common.{◌≡◌, List, reverse, refl, rules, subst, sym}
-use Rattle.reach.specs.declared.step.Step.{Step}
-use Rattle.reach.specs.Chain.{IsShortest}
+use Rattle.reach.proofs.Names.{◌≡◌, List, reverse, refl, rules, subst, sym, Step, IsShortest}
 use Rattle.reach.proofs.Chains.{IsBack, back_first, back_level, back_next, back_shortest, chain_inside, no_chain, not_reached}
 use Rattle.reach.proofs.chaining.shortest_chain.Invariants.{level_of}
 use Rattle.reach.proofs.chaining.shortest_chain.Goals as goal

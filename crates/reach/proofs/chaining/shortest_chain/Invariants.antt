@@ -1,6 +1,4 @@
-use Rattle.std.proofs.Common.{ℕ, Option, Some, None}
-use Rattle.reach.specs.declared.levels.Found.{Found}
-use Rattle.reach.specs.Levels.{found_at}
+use Rattle.reach.proofs.Names.{ℕ, Option, Some, None, Found, found_at}
 use Rattle.reach.proofs.Chains.{IsBack}
 use Rattle.reach.proofs.chaining.shortest_chain.Given as goal
 

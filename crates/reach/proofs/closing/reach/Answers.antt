@@ -1,9 +1,4 @@
-use Rattle.std.proofs.Common.{ℕ, Bool, List, ap, arith, length, refl, subst, sym, ◌∙◌}
-use Rattle.std.specs.Prelude.{IsTrue}
-use Rattle.std.proofs.lemmas.List.{get_or_default}
-use Rattle.number_set.specs.Marks.{is_marked}
-use Rattle.reach.specs.declared.frontier.Frontier.{Frontier}
-use Rattle.reach.specs.Reached.{IsReach}
+use Rattle.reach.proofs.Names.{ℕ, Bool, List, ap, arith, length, refl, subst, sym, ◌∙◌, IsTrue, get_or_default, is_marked, Frontier, IsReach}
 use Rattle.reach.proofs.ClosedSets.{all_begun, all_followed, bounds_runs, one_begun, one_followed}
 use Rattle.reach.proofs.closing.reach.Goals as goal
 

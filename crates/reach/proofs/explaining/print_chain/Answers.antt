@@ -1,9 +1,4 @@
-use Rattle.std.proofs.Common.{ℕ, List, Option, Vec, subst, sym}
-use Rattle.std.specs.declared.alloc.Global.{Global}
-use Rattle.model.specs.Text.{line_of}
-use Rattle.script.specs.Writing.{Writes}
-use Rattle.reach.specs.declared.step.Step.{Step}
-use Rattle.reach.specs.ChainLines.{chain_text, steps_text}
+use Rattle.reach.proofs.Names.{ℕ, List, Option, Vec, subst, sym, Global, line_of, Writes, Step, chain_text, steps_text}
 use Rattle.reach.proofs.explaining.print_chain.Goals as goal
 
 pub returns-in-Some : goal.returns-in-Some

@@ -1,12 +1,5 @@
-use Rattle.std.proofs.Common.{ℕ, List, Err, subst, sym}
-use Rattle.std.proofs.KnownBytes.{Appends-trans}
-use Rattle.std.proofs.lemmas.Result.{err_from_is_err_and}
-use Rattle.std.specs.Io.KnownBytes.{Appends}
-use Rattle.model.specs.Text.{line_of}
-use Rattle.script.specs.Writing.{Writes}
-use Rattle.script.proofs.Fronts.{writes_fail}
+use Rattle.reach.proofs.Names.{ℕ, List, Err, subst, sym, Appends-trans, err_from_is_err_and, Appends, line_of, Writes, writes_fail, step_line}
 use Rattle.reach.specs.declared.step.Way.TheVariants as way
-use Rattle.reach.specs.ChainLines.{step_line}
 use Rattle.reach.proofs.TextLines.{plain_all, plain_more, plain_split}
 use Rattle.reach.proofs.explaining.print_steps.Goals as goal
 

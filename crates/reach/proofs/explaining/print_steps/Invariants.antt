@@ -1,7 +1,4 @@
-use Rattle.std.proofs.Common.{take}
-use Rattle.std.specs.List.{flat_map}
-use Rattle.std.specs.Io.KnownBytes.{Appends}
-use Rattle.reach.specs.ChainLines.{step_line}
+use Rattle.reach.proofs.Names.{take, flat_map, Appends, step_line}
 use Rattle.reach.proofs.explaining.print_steps.Given as goal
 
 abbrev pub invariant-loop-step : goal.invariant-loop-step

@@ -1,11 +1,4 @@
-use Rattle.std.proofs.Common.{refl}
-use Rattle.std.proofs.lemmas.Result.{err_from_is_err_and}
-use Rattle.script.proofs.Fronts.{text_fails, writes_after}
-use Rattle.model.specs.Text.{line_of, spaced}
-use Rattle.model.specs.World.{object_at}
-use Rattle.std.specs.List.{flat_map}
-use Rattle.reach.specs.ChainLines.{step_line}
-use Rattle.reach.specs.Lines.{words_of}
+use Rattle.reach.proofs.Names.{refl, err_from_is_err_and, text_fails, writes_after, line_of, spaced, object_at, flat_map, step_line, words_of}
 use Rattle.reach.proofs.explaining.print_to.Goals as goal
 
 pub returns-in_err-print_steps : goal.returns-in_err-print_steps

@@ -1,8 +1,4 @@
-use Rattle.std.proofs.Common.{subst}
-use Rattle.std.proofs.lemmas.List.{get_or_default}
-use Rattle.number_set.specs.Marks.{is_marked}
-use Rattle.model.specs.declared.capability.Capability.TheVariants.{Void}
-use Rattle.model.specs.Closed.{StaysInside}
+use Rattle.reach.proofs.Names.{subst, get_or_default, is_marked, Void, StaysInside}
 use Rattle.reach.proofs.Growing.{grows_more, stay_one}
 use Rattle.reach.proofs.following.follow_all.Goals as goal
 

@@ -1,10 +1,4 @@
-use Rattle.std.proofs.Common.{ℕ, ◌<◌, Bool}
-use Rattle.std.specs.Prelude.{slice_index_or}
-use Rattle.std.specs.List.{All}
-use Rattle.number_set.specs.Marks.{is_marked}
-use Rattle.model.specs.declared.capability.Capability.{Capability}
-use Rattle.model.specs.Closed.{StaysInside}
-use Rattle.reach.specs.Frontier.{Grows, IsWithin}
+use Rattle.reach.proofs.Names.{ℕ, ◌<◌, Bool, slice_index_or, All, is_marked, Capability, StaysInside, Grows, IsWithin}
 use Rattle.reach.proofs.following.follow_all.Given as goal
 
 abbrev pub invariant-loop-capability : goal.invariant-loop-capability

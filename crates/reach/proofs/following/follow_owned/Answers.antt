@@ -1,9 +1,4 @@
-use Rattle.std.proofs.Common.{◌≡◌, ap, sym, ◌∙◌}
-use Rattle.std.proofs.lemmas.List.{get_or_default}
-use Rattle.number_set.specs.Marks.{is_marked}
-use Rattle.model.specs.declared.object.Object.{Object}
-use Rattle.model.specs.Object.{free, is_free}
-use Rattle.model.specs.World.{object_at}
+use Rattle.reach.proofs.Names.{◌≡◌, ap, sym, ◌∙◌, get_or_default, is_marked, Object, free, is_free, object_at}
 use Rattle.reach.proofs.Growing.{grows_more, owned_next}
 use Rattle.reach.proofs.following.follow_owned.Goals as goal
 use Rattle.reach.proofs.following.follow_owned.Goals.{then-is_owned, else-is_owned}

@@ -1,9 +1,4 @@
-use Rattle.std.proofs.Common.{◌≡◌, ℕ, ◌<◌, Bool, false}
-use Rattle.std.specs.Prelude.{IsTrue}
-use Rattle.number_set.specs.Marks.{is_marked}
-use Rattle.model.specs.Object.{is_free}
-use Rattle.model.specs.World.{content_at, owner_at}
-use Rattle.reach.specs.Frontier.{Grows, IsWithin}
+use Rattle.reach.proofs.Names.{◌≡◌, ℕ, ◌<◌, Bool, false, IsTrue, is_marked, is_free, content_at, owner_at, Grows, IsWithin}
 use Rattle.reach.proofs.following.follow_owned.Given as goal
 
 abbrev pub invariant-loop-number : goal.invariant-loop-number

@@ -1,5 +1,4 @@
-use Rattle.std.proofs.Common.{◌≡◌, take}
-use Rattle.std.specs.List.{count_by}
+use Rattle.reach.proofs.Names.{◌≡◌, take, count_by}
 use Rattle.reach.proofs.printing.count_members.Given as goal
 
 abbrev pub invariant-loop-number : goal.invariant-loop-number

@@ -1,11 +1,4 @@
-use Rattle.std.proofs.Common.{Err, subst, sym, arith}
-use Rattle.std.proofs.KnownBytes.{Appends-trans}
-use Rattle.std.proofs.lemmas.Result.{err_from_is_err_and}
-use Rattle.std.specs.Io.KnownBytes.{Appends}
-use Rattle.model.specs.declared.object.Object.{Object}
-use Rattle.script.specs.Writing.{Writes}
-use Rattle.reach.specs.Lines.{member_pulls}
-use Rattle.script.proofs.Fronts.{writes_fail}
+use Rattle.reach.proofs.Names.{Err, subst, sym, arith, Appends-trans, err_from_is_err_and, Appends, Object, Writes, member_pulls, writes_fail}
 use Rattle.reach.proofs.TextLines.{lines_split, lines_more, lines_all}
 use Rattle.reach.proofs.printing.print_all_pulls.Goals as goal
 

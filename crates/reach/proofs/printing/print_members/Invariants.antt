@@ -1,7 +1,4 @@
-use Rattle.std.proofs.Common.{take}
-use Rattle.std.specs.List.{flat_map, enumerate_from}
-use Rattle.std.specs.Io.KnownBytes.{Appends}
-use Rattle.reach.specs.Lines.{member_line}
+use Rattle.reach.proofs.Names.{take, flat_map, enumerate_from, Appends, member_line}
 use Rattle.reach.proofs.printing.print_members.Given as goal
 
 abbrev pub invariant-loop-number : goal.invariant-loop-number

@@ -1,10 +1,4 @@
-use Rattle.std.proofs.Common.{subst, sym, arith}
-use Rattle.std.proofs.KnownBytes.{Appends-trans}
-use Rattle.std.proofs.lemmas.Result.{err_from_is_err_and}
-use Rattle.std.specs.Io.KnownBytes.{Appends}
-use Rattle.model.specs.declared.capability.Capability.TheVariants.{Void}
-use Rattle.reach.specs.Lines.{pull_line}
-use Rattle.script.proofs.Fronts.{writes_fail}
+use Rattle.reach.proofs.Names.{subst, sym, arith, Appends-trans, err_from_is_err_and, Appends, Void, pull_line, writes_fail}
 use Rattle.reach.proofs.TextLines.{lines_split, lines_more, lines_all}
 use Rattle.reach.proofs.printing.print_pulls.Goals as goal
 

@@ -1,13 +1,6 @@
-use Rattle.std.proofs.Common.{◌≡◌, ◌++◌, ◌∷◌, [], ℕ, Bool, List, Err, ap, append_assoc, codes, decimal, refl, subst, ◌∙◌}
-use Rattle.std.proofs.KnownBytes.{Appends-trans}
-use Rattle.std.proofs.lemmas.Result.{err_from_is_err_and}
-use Rattle.std.specs.Io.KnownBytes.{Appends}
-use Rattle.std.specs.List.{count_by, enumerate_from, flat_map}
-use Rattle.model.specs.declared.object.Object.{Object}
-use Rattle.model.specs.Text.{line_of, spaced}
-use Rattle.script.specs.Writing.{Writes}
-use Rattle.script.proofs.Fronts.{text_fails, writes_after, writes_fail}
-use Rattle.reach.specs.Lines.{member_line, member_pulls, reach_text}
+use Rattle.reach.proofs.Names.{◌≡◌, ◌++◌, ◌∷◌, [], ℕ, Bool, List, Err, ap, append_assoc, codes, decimal, refl, subst, ◌∙◌, Appends-trans, err_from_is_err_and}
+use Rattle.reach.proofs.Names.{Appends, count_by, enumerate_from, flat_map, Object, line_of, spaced, Writes, text_fails, writes_after, writes_fail, member_line}
+use Rattle.reach.proofs.Names.{member_pulls, reach_text}
 use Rattle.reach.proofs.printing.print_reach.Goals as goal
 
 abbrev members : List Object → List Bool → List ℕ

@@ -1,10 +1,6 @@
-use Rattle.std.proofs.Common.{◌≡◌, ℕ, ◌<◌, zero, suc, true, false, not, List, [], ◌∷◌, length, Some, None, slice_index_or, inl, inr, refl, sym, ap, subst, arith}
-use Rattle.std.specs.Prelude.{IsTrue}
-use Rattle.std.specs.List.{find}
-use Rattle.std.proofs.lemmas.Bool.{cases_lt}
-use Rattle.std.proofs.lemmas.List.{get_or_default}
-use Rattle.model.specs.declared.object.Object.{Object}
-use Rattle.model.specs.World.{is_process}
+use Rattle.reach.proofs.Names.{◌≡◌, ℕ, ◌<◌, zero, suc, true, false, not, List, [], ◌∷◌, length, Some, None, inl, inr, refl, sym, ap, subst, arith, IsTrue, find}
+use Rattle.reach.proofs.Names.{cases_lt, get_or_default, Object, is_process}
+use Rattle.std.proofs.Common.{slice_index_or}
 use Rattle.reach.proofs.process.missing_process.Goals as goal
 
 module _ (os : List Object) where

@@ -1,6 +1,4 @@
-use Rattle.std.proofs.Common.{ℕ, ◌<◌}
-use Rattle.std.specs.Prelude.{IsTrue, slice_index_or}
-use Rattle.model.specs.World.{is_process}
+use Rattle.reach.proofs.Names.{ℕ, ◌<◌, IsTrue, slice_index_or, is_process}
 use Rattle.reach.proofs.process.missing_process.Given as goal
 
 abbrev pub invariant-loop-number : goal.invariant-loop-number

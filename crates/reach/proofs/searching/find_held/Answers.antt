@@ -1,8 +1,4 @@
-use Rattle.std.proofs.Common.{ℕ, arith, subst, sym}
-use Rattle.std.specs.Prelude.{slice_index_or}
-use Rattle.model.specs.declared.capability.Capability.TheVariants.{Void}
-use Rattle.reach.specs.Frontier.{NamesWithin}
-use Rattle.reach.specs.Levels.{FindsBy, IsHeldIn}
+use Rattle.reach.proofs.Names.{ℕ, arith, subst, sym, slice_index_or, Void, NamesWithin, FindsBy, IsHeldIn}
 use Rattle.reach.proofs.Finding.{finds_none, held_next}
 use Rattle.reach.proofs.searching.find_held.Goals as goal
 

@@ -1,8 +1,5 @@
-use Rattle.std.proofs.Common.{ap, sym, ◌∙◌}
-use Rattle.model.specs.declared.capability.Capability.{Capability}
-use Rattle.model.specs.declared.object.Content.{Content}
+use Rattle.reach.proofs.Names.{ap, sym, ◌∙◌, Capability, Content, slots_in}
 use Rattle.model.specs.declared.object.Content.TheVariants as content
-use Rattle.model.specs.Object.{slots_in}
 use Rattle.reach.proofs.Members.{content_is, slots_known}
 use Rattle.reach.proofs.Ways.{finds_of_bank, finds_of_registers, finds_of_slots}
 use Rattle.reach.proofs.searching.find_of_object.Goals as goal

@@ -1,10 +1,5 @@
-use Rattle.std.proofs.Common.{◌≡◌, ℕ, arith, ap, refl, subst, sym, ◌∙◌}
-use Rattle.std.proofs.lemmas.List.{get_or_default}
-use Rattle.model.specs.declared.object.Object.{Object}
-use Rattle.model.specs.Object.{free, is_free}
-use Rattle.model.specs.World.{object_at}
+use Rattle.reach.proofs.Names.{◌≡◌, ℕ, arith, ap, refl, subst, sym, ◌∙◌, get_or_default, Object, free, is_free, object_at, FindsBy, IsOwnedBelow}
 use Rattle.reach.specs.declared.step.Way.TheVariants as way
-use Rattle.reach.specs.Levels.{FindsBy, IsOwnedBelow}
 use Rattle.reach.proofs.Finding.{finds_none, owned_next_step, owned_skip}
 use Rattle.reach.proofs.searching.find_owned.Goals as goal
 use Rattle.reach.proofs.searching.find_owned.Goals.{then-is_owned, else-is_owned}

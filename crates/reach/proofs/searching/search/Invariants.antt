@@ -1,6 +1,4 @@
-use Rattle.std.proofs.Common.{◌+◌, ◌-◌}
-use Rattle.reach.specs.Levels.{IsSearched}
-use Rattle.reach.specs.Missing.{missing}
+use Rattle.reach.proofs.Names.{◌+◌, ◌-◌, IsSearched, missing}
 use Rattle.reach.proofs.Searches.{Begun}
 use Rattle.reach.proofs.searching.search.Given as goal
 

@@ -1,11 +1,5 @@
-use Rattle.std.proofs.Common.{◌≡◌, ◌<◌, ◌++◌, ◌∷◌, [], List, ap, arith, length, rules, sym, take, ◌∙◌}
-use Rattle.std.proofs.lemmas.List.{take_all, take_more}
-use Rattle.model.specs.declared.frame.ObjectHeader.{ObjectHeader}
-use Rattle.model.specs.declared.object.Object.{Object}
-use Rattle.model.specs.Object.{free}
-use Rattle.model.specs.World.{object_at}
-use Rattle.capability.specs.Parts.{objects_in}
-use Rattle.capability.proofs.Frames.{length_objects}
+use Rattle.reach.proofs.Names.{◌≡◌, ◌<◌, ◌++◌, ◌∷◌, [], List, ap, arith, length, rules, sym, take, ◌∙◌, take_all, take_more, ObjectHeader, Object, free}
+use Rattle.reach.proofs.Names.{object_at, objects_in, length_objects}
 use Rattle.reach.proofs.Looking.{looked_objects, looked_ok}
 use Rattle.reach.proofs.world.read_objects.Goals as goal
 

@@ -1,5 +1,4 @@
-use Rattle.std.proofs.Common.{◌≡◌, take}
-use Rattle.capability.specs.Parts.{objects_in}
+use Rattle.reach.proofs.Names.{◌≡◌, take, objects_in}
 use Rattle.reach.proofs.Looking.{HasLooked}
 use Rattle.reach.proofs.world.read_objects.Given as goal
 

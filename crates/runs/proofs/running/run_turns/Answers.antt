@@ -1,7 +1,4 @@
-use Rattle.std.proofs.Common.{Ok, refl, rules, subst, ◌∙◌, take}
-use Rattle.std.proofs.lemmas.Result.{err_from_is_err_and}
-use Rattle.runs.specs.declared.script_pieces.Piece.{Piece}
-use Rattle.runs.specs.Taking.{ReadsPiece}
+use Rattle.runs.proofs.Names.{Ok, refl, rules, subst, ◌∙◌, take, err_from_is_err_and, Piece, ReadsPiece}
 use Rattle.runs.proofs.Turning.{end_passed_on, nothing_read, passed_on, piece_on, piece_stops, rest_stops_run}
 use Rattle.runs.proofs.running.run_turns.Goals as goal
 

@@ -1,6 +1,4 @@
-use Rattle.std.proofs.Common.{Err, Ok, option_map, refl, sym, subst}
-use Rattle.std.proofs.lemmas.Result.{err_from_is_err_and}
-use Rattle.script.specs.Lines.{IsTextOf}
+use Rattle.runs.proofs.Names.{Err, Ok, option_map, refl, sym, subst, err_from_is_err_and, IsTextOf}
 use Rattle.runs.proofs.Turning.{answered, is_bad, skipped}
 use Rattle.runs.proofs.running.take.Goals as goal
 

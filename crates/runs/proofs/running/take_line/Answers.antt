@@ -1,6 +1,4 @@
-use Rattle.std.proofs.Common.{List, ℕ, ◌++◌, refl, sym, subst}
-use Rattle.script.specs.Lines.{Holds}
-use Rattle.runs.specs.Taking.{TakesLine}
+use Rattle.runs.proofs.Names.{List, ℕ, ◌++◌, refl, sym, subst, Holds, TakesLine}
 use Rattle.runs.proofs.running.take_line.Goals as goal
 
 pub returns-then-is_empty-clause-turn : goal.returns-then-is_empty-clause-turn

@@ -1,5 +1,4 @@
-use Rattle.std.proofs.Common.{[], Err, Ok, refl}
-use Rattle.std.proofs.lemmas.Result.{err_from_is_err_and}
+use Rattle.runs.proofs.Names.{[], Err, Ok, refl, err_from_is_err_and}
 use Rattle.script.specs.declared.fault.RunFault.TheVariants as fault
 use Rattle.runs.proofs.ScriptLines.{rest_of}
 use Rattle.runs.proofs.Turning.{goes_to_end, goes_to_next, none_read, not_read, not_stopped, stops_in_piece}

@@ -1,5 +1,4 @@
-use Rattle.std.proofs.Common.{Err, Ok, refl}
-use Rattle.std.proofs.lemmas.Result.{err_from_is_err_and}
+use Rattle.runs.proofs.Names.{Err, Ok, refl, err_from_is_err_and}
 use Rattle.script.specs.declared.fault.RunFault.TheVariants as fault
 use Rattle.runs.proofs.Turning.{ended, not_read, not_stopped, rest_ends, rest_stops}
 use Rattle.runs.proofs.running.take_rest.Goals as goal

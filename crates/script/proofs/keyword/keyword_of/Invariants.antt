@@ -1,7 +1,4 @@
-use Rattle.std.proofs.Common.{◌≢◌, ℕ, ◌<◌, get_or}
-use Rattle.model.specs.declared.command.Operation.TheVariants.{Send}
-use Rattle.script.specs.declared.keyword.Keyword.TheVariants.{Invoke}
-use Rattle.script.specs.Keywords.{keyword_name}
+use Rattle.script.proofs.Names.{◌≢◌, ℕ, ◌<◌, get_or, Send, Invoke, keyword_name}
 use Rattle.script.proofs.keyword.keyword_of.Given as goal
 
 abbrev pub invariant-loop-keyword : goal.invariant-loop-keyword

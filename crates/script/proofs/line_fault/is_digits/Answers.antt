@@ -1,5 +1,4 @@
-use Rattle.std.proofs.Common.{arith}
-use Rattle.std.proofs.lemmas.Str.Parse.{digit_at}
+use Rattle.script.proofs.Names.{arith, digit_at}
 use Rattle.script.proofs.LineFaults.{digits_on}
 use Rattle.script.proofs.line_fault.is_digits.Goals as goal
 

@@ -1,5 +1,4 @@
-use Rattle.std.proofs.Common.{take}
-use Rattle.std.specs.Str.Parse.{AllDigits}
+use Rattle.script.proofs.Names.{take, AllDigits}
 use Rattle.script.proofs.line_fault.is_digits.Given as goal
 
 abbrev pub invariant-loop-index : goal.invariant-loop-index

@@ -1,5 +1,4 @@
-use Rattle.std.proofs.Common.{◌<◌, length, refl, rules}
-use Rattle.std.specs.Str.Parse.{AllDigits}
+use Rattle.script.proofs.Names.{◌<◌, length, refl, rules, AllDigits}
 use Rattle.script.proofs.LineFaults.{too_great, zero_longer}
 use Rattle.script.proofs.line_fault.number_fault.Goals as goal
 

@@ -1,6 +1,4 @@
-use Rattle.std.proofs.Common.{◌≢◌, ℕ, ◌<◌, get_or}
-use Rattle.script.specs.declared.named.Kind.TheVariants.{Discrim}
-use Rattle.script.specs.Named.{kind_name}
+use Rattle.script.proofs.Names.{◌≢◌, ℕ, ◌<◌, get_or, Discrim, kind_name}
 use Rattle.script.proofs.named.kind_of.Given as goal
 
 abbrev pub invariant-loop-kind : goal.invariant-loop-kind

@@ -1,6 +1,4 @@
-use Rattle.std.proofs.Common.{◌≢◌, ℕ, ◌<◌, get_or}
-use Rattle.model.specs.declared.object.State.TheVariants.{Waiting}
-use Rattle.model.specs.Text.{state_text}
+use Rattle.script.proofs.Names.{◌≢◌, ℕ, ◌<◌, get_or, Waiting, state_text}
 use Rattle.script.proofs.named.state_of.Given as goal
 
 abbrev pub invariant-loop-state : goal.invariant-loop-state

@@ -1,6 +1,4 @@
-use Rattle.std.proofs.Common.{sym, arith}
-use Rattle.std.proofs.lemmas.Str.Parse.{digit_at}
-use Rattle.script.specs.Reading.{first_word}
+use Rattle.script.proofs.Names.{sym, arith, digit_at, first_word}
 use Rattle.script.proofs.FirstWords.{ends_here, first_end_within, goes_on, word_reads}
 use Rattle.script.proofs.Numbers.{value_more, word_great}
 use Rattle.script.proofs.number.value_in_front.Goals as goal

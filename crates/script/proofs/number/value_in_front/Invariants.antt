@@ -1,6 +1,4 @@
-use Rattle.std.proofs.Common.{◌≡◌, ◌<◌, ◌≤◌, ◌^◌, take}
-use Rattle.std.specs.Str.Parse.{AllDigits, digits_value}
-use Rattle.script.specs.Reading.{first_end}
+use Rattle.script.proofs.Names.{◌≡◌, ◌<◌, ◌≤◌, ◌^◌, take, AllDigits, digits_value, first_end}
 use Rattle.script.proofs.number.value_in_front.Given as goal
 
 abbrev pub invariant-loop-size : goal.invariant-loop-size

@@ -1,8 +1,6 @@
-use Rattle.std.proofs.Common.{ap, inr, arith, subst, length}
-use Rattle.model.specs.Text.{IsSkipped}
+use Rattle.script.proofs.Names.{ap, inr, arith, subst, length, IsSkipped, length-spelling, spelling_from_words}
 use Rattle.model.specs.declared.command.Command.TheVariants as command
 use Rattle.model.specs.declared.line.Line.TheVariants as line
-use Rattle.model_laws.proofs.Spelling.{length-spelling, spelling_from_words}
 use Rattle.script.proofs.Spellings.{spelling_said, one_spelling, no_spelling}
 use Rattle.script.proofs.parse.parse_line.Goals as goal
 

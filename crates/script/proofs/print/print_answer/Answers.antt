@@ -1,9 +1,6 @@
-use Rattle.std.proofs.Common.{◌≡◌, ℕ, ◌+◌, [], ◌∷◌, codes, refl, ap, decimal}
-use Rattle.model.specs.declared.answer.MemoryFault.{MemoryFault}
+use Rattle.script.proofs.Names.{◌≡◌, ℕ, ◌+◌, [], ◌∷◌, codes, refl, ap, decimal, MemoryFault, printed, line_of, spaced, fault_number, the_type}
 use Rattle.model.specs.declared.answer.MemoryFault.TheVariants as fault
-use Rattle.model.specs.Text.{printed, line_of, spaced, fault_number}
 use denote.Enum.Declared.{tag_of}
-use Rattle.model.specs.contracts.answer.MemoryFault.{the_type}
 use Rattle.script.proofs.Fronts.{writes_same}
 use Rattle.script.proofs.print.print_answer.Goals as goal
 

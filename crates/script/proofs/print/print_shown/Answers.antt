@@ -1,6 +1,4 @@
-use Rattle.std.proofs.Common.{refl, codes}
-use Rattle.std.proofs.lemmas.Result.{err_from_is_err_and}
-use Rattle.model.specs.Text.{line_of}
+use Rattle.script.proofs.Names.{refl, codes, err_from_is_err_and, line_of}
 use Rattle.script.proofs.Fronts.{text_fails}
 use Rattle.script.proofs.print.print_shown.Goals as goal
 

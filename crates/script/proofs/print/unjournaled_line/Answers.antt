@@ -1,7 +1,4 @@
-use Rattle.std.specs.Fmt.{digits}
-use Rattle.std.proofs.Common.{◌++◌, ◌∙◌, ap, sym, codes, decimal}
-use Rattle.model.specs.declared.answer.Unjournaled.{Unjournaled}
-use Rattle.model.specs.Text.{unjournaled_number}
+use Rattle.script.proofs.Names.{digits, ◌++◌, ◌∙◌, ap, sym, codes, decimal, Unjournaled, unjournaled_number}
 use Rattle.script.proofs.print.unjournaled_line.Goals as goal
 
 pub returns-in-NotPage-clause-text : goal.returns-in-NotPage-clause-text

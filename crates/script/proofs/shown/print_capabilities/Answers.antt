@@ -1,9 +1,4 @@
-use Rattle.std.proofs.Common.{subst, sym, arith}
-use Rattle.std.proofs.KnownBytes.{Appends-trans}
-use Rattle.std.proofs.lemmas.Result.{err_from_is_err_and}
-use Rattle.std.specs.Io.KnownBytes.{Appends}
-use Rattle.model.specs.declared.capability.Capability.TheVariants.{Void}
-use Rattle.model.specs.Text.{capability_line, capability_lines}
+use Rattle.script.proofs.Names.{subst, sym, arith, Appends-trans, err_from_is_err_and, Appends, Void, capability_line, capability_lines}
 use Rattle.script.proofs.Fronts.{writes_fail}
 use Rattle.script.proofs.Texts.{lines_split, lines_more, lines_all}
 use Rattle.script.proofs.shown.print_capabilities.Goals as goal

@@ -1,5 +1,4 @@
-use Rattle.std.proofs.Common.{◌≡◌, ◌==◌, false, append_assoc, arith}
-use Rattle.std.proofs.lemmas.Bool.Decides.{nat_tests}
+use Rattle.script.proofs.Names.{◌≡◌, ◌==◌, false, append_assoc, arith, nat_tests}
 use Rattle.script.proofs.Fronts.{writes_same}
 use Rattle.script.proofs.shown.print_word.Goals as goal
 

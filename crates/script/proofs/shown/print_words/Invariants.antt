@@ -1,7 +1,4 @@
-use Rattle.std.proofs.Common.{take}
-use Rattle.std.specs.List.{flat_map, enumerate_from}
-use Rattle.std.specs.Io.KnownBytes.{Appends}
-use Rattle.model.specs.Text.{word_line}
+use Rattle.script.proofs.Names.{take, flat_map, enumerate_from, Appends, word_line}
 use Rattle.script.proofs.shown.print_words.Given as goal
 
 abbrev pub invariant-loop-index : goal.invariant-loop-index

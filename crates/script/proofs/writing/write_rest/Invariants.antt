@@ -1,5 +1,4 @@
-use Rattle.std.proofs.Common.{◌≤◌, length, take}
-use Rattle.std.specs.Io.KnownBytes.{Appends}
+use Rattle.script.proofs.Names.{◌≤◌, length, take, Appends}
 use Rattle.script.proofs.writing.write_rest.Given as goal
 
 abbrev pub invariant-loop : goal.invariant-loop

@@ -1,5 +1,4 @@
-use Rattle.std.proofs.Common.{ℕ, ◌<◌}
-use Rattle.sector_faults.specs.Finding.{IsAmong}
+use Rattle.sector_faults.proofs.Names.{ℕ, ◌<◌, IsAmong}
 use Rattle.sector_faults.proofs.directory.find_entry.Given as goal
 
 abbrev pub invariant-loop-index : goal.invariant-loop-index

@@ -1,5 +1,4 @@
-use Rattle.std.proofs.Common.{arith}
-use Rattle.layout.proofs.Directories.{none_read, entry_read}
+use Rattle.sector_faults.proofs.Names.{arith, none_read, entry_read}
 use Rattle.sector_faults.proofs.directory.read_entries.Goals as goal
 
 pub loop-i-init : goal.loop-i-init

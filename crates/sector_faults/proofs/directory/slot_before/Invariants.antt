@@ -1,5 +1,4 @@
-use Rattle.std.proofs.Common.{◌≡◌, ℕ, ◌<◌}
-use Rattle.layout.specs.Directory.{entry_at}
+use Rattle.sector_faults.proofs.Names.{◌≡◌, ℕ, ◌<◌, entry_at}
 use Rattle.sector_faults.proofs.directory.slot_before.Given as goal
 
 abbrev pub invariant-loop-j : goal.invariant-loop-j

@@ -1,5 +1,4 @@
-use Rattle.std.proofs.Common.{ℕ, ◌<◌}
-use Rattle.sector_faults.specs.Breaking.{HoldsCap}
+use Rattle.sector_faults.proofs.Names.{ℕ, ◌<◌, HoldsCap}
 use Rattle.sector_faults.proofs.frame.find_slot.Given as goal
 
 abbrev pub invariant-loop-k : goal.invariant-loop-k

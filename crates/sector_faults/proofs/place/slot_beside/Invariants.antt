@@ -1,5 +1,4 @@
-use Rattle.std.proofs.Common.{◌≡◌, drop}
-use Rattle.layout.specs.Image.{slot_beside}
+use Rattle.sector_faults.proofs.Names.{◌≡◌, drop, slot_beside}
 use Rattle.sector_faults.proofs.place.slot_beside.Given as goal
 
 abbrev pub invariant-loop-entry : goal.invariant-loop-entry

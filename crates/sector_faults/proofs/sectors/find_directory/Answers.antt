@@ -1,8 +1,4 @@
-use Rattle.std.proofs.Common.{◌≡◌, ◌+◌, ◌-◌, ap, length, refl, subst, arith, ◌∙◌}
-use Rattle.model.specs.declared.geometry.Geometry.{Geometry}
-use Rattle.layout.specs.Image.{slot_sector}
-use Rattle.layout.specs.Superblock.{Plan}
-use Rattle.sector_faults.specs.Breaking.{BreaksDirectory}
+use Rattle.sector_faults.proofs.Names.{◌≡◌, ◌+◌, ◌-◌, ap, length, refl, subst, arith, ◌∙◌, Geometry, slot_sector, Plan, BreaksDirectory}
 use Rattle.sector_faults.proofs.Whole.{directory_fault, directory_inside}
 use Rattle.sector_faults.proofs.sectors.find_directory.Goals as goal
 

@@ -1,10 +1,5 @@
-use Rattle.std.proofs.Common.{nat_le, Some, subst, sym}
-use Rattle.model.specs.declared.geometry.Geometry.{Geometry}
-use Rattle.layout.specs.Image.{shaped_at}
-use Rattle.layout.specs.Superblock.{Plan}
+use Rattle.sector_faults.proofs.Names.{nat_le, Some, subst, sym, Geometry, shaped_at, Plan, IsFault, FitsOr}
 use Rattle.sector_faults.specs.declared.fault.SectorFault.TheVariants as fault
-use Rattle.sector_faults.specs.Breaking.{IsFault}
-use Rattle.sector_faults.specs.Finding.{FitsOr}
 use Rattle.sector_faults.proofs.Frames.{frame_fault}
 use Rattle.sector_faults.proofs.sectors.find_frame.Goals as goal
 

@@ -1,6 +1,4 @@
-use Rattle.std.proofs.Common.{ℕ, ◌<◌}
-use Rattle.device.specs.Disk.{Image}
-use Rattle.sector_faults.specs.Finding.{IsCopy, IsWholeFrame}
+use Rattle.sector_faults.proofs.Names.{ℕ, ◌<◌, Image, IsCopy, IsWholeFrame}
 use Rattle.sector_faults.proofs.sectors.find_frames.Given as goal
 
 abbrev pub invariant-loop-number : goal.invariant-loop-number

@@ -1,5 +1,4 @@
-use Rattle.std.proofs.Common.{ap}
-use Rattle.model.specs.declared.geometry.Geometry.{Geometry}
+use Rattle.sector_faults.proofs.Names.{ap, Geometry}
 use Rattle.sector_faults.proofs.Copies.{one_sector}
 use Rattle.sector_faults.proofs.Headers.{header_found, header_refused}
 use Rattle.sector_faults.proofs.sectors.find_header.Goals as goal

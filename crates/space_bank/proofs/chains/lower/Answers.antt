@@ -1,7 +1,4 @@
-use Rattle.std.proofs.Common.{◌≡◌, ◌<◌, arith, length}
-use Rattle.model.specs.World.{owner_at}
-use Rattle.capability.specs.Parts.{objects_in}
-use Rattle.capability.proofs.Frames.{owner_read}
+use Rattle.space_bank.proofs.Names.{◌≡◌, ◌<◌, arith, length, owner_at, objects_in, owner_read}
 use Rattle.space_bank.proofs.Climbs.{climb_ended, climb_itself, climb_starts, climbs_on, lowered_last, lowering_here, lowers_on, raising_starts}
 use Rattle.space_bank.proofs.chains.lower.Goals as goal
 

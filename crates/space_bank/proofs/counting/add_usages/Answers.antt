@@ -1,8 +1,5 @@
-use Rattle.std.proofs.Common.{◌≡◌, ◌∙◌, ◌<◌, ℕ, true, false, List, length, slice_index, refl, sym, ap, arith}
-use Rattle.model.specs.Object.{is_free}
-use Rattle.model.specs.World.{content_at}
-use Rattle.model_laws.proofs.BankTree.{chain_banks}
-use Rattle.capability.specs.Parts.{objects_in}
+use Rattle.space_bank.proofs.Names.{◌≡◌, ◌∙◌, ◌<◌, ℕ, true, false, List, length, refl, sym, ap, arith, is_free, content_at, chain_banks, objects_in}
+use Rattle.std.proofs.Common.{slice_index}
 use Rattle.space_bank.proofs.Used.{owner_of_used, raise_fits, used_first, used_free, used_raised, used_whole}
 use Rattle.space_bank.proofs.Walks.{inside_read, past_read}
 use Rattle.space_bank.proofs.counting.add_usages.Goals as goal

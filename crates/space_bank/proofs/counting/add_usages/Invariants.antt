@@ -1,8 +1,5 @@
-use Rattle.std.proofs.Common.{◌≡◌, ℕ, length, slice_index}
-use Rattle.std.specs.Prelude.{IsTrue}
-use Rattle.model.specs.Object.{is_bank}
-use Rattle.model.specs.World.{content_at}
-use Rattle.capability.specs.Parts.{objects_in}
+use Rattle.space_bank.proofs.Names.{◌≡◌, ℕ, length, IsTrue, is_bank, content_at, objects_in}
+use Rattle.std.proofs.Common.{slice_index}
 use Rattle.space_bank.proofs.Used.{used_below}
 use Rattle.space_bank.proofs.counting.add_usages.Given as goal
 

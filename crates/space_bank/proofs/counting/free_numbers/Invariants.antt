@@ -1,8 +1,4 @@
-use Rattle.std.proofs.Common.{◌≡◌, ◌+◌, ◌<◌, ℕ, length}
-use Rattle.model.specs.Object.{is_free}
-use Rattle.model.specs.World.{content_at}
-use Rattle.capability.specs.Parts.{objects_in}
-use Rattle.number_set.specs.Marks.{is_marked}
+use Rattle.space_bank.proofs.Names.{◌≡◌, ◌+◌, ◌<◌, ℕ, length, is_free, content_at, objects_in, is_marked}
 use Rattle.space_bank.proofs.counting.free_numbers.Given as goal
 
 abbrev pub invariant-loop-number : goal.invariant-loop-number

@@ -1,7 +1,4 @@
-use Rattle.std.proofs.Common.{sym}
-use Rattle.model.specs.World.{content_at}
-use Rattle.capability.specs.Parts.{objects_in}
-use Rattle.capability.proofs.Roles.{role_bank, role_no_bank, role_read}
+use Rattle.space_bank.proofs.Names.{sym, content_at, objects_in, role_bank, role_no_bank, role_read}
 use Rattle.space_bank.proofs.counting.is_bank.Goals as goal
 
 pub returns-in-Bank : goal.returns-in-Bank

@@ -1,8 +1,4 @@
-use Rattle.std.proofs.Common.{◌≡◌, ◌∙◌, subst, sym}
-use Rattle.model.specs.declared.object.Role.{Role}
-use Rattle.model.specs.World.{content_at}
-use Rattle.capability.specs.Parts.{objects_in}
-use Rattle.space_bank.specs.Counting.{kept_number}
+use Rattle.space_bank.proofs.Names.{◌≡◌, ◌∙◌, subst, sym, Role, content_at, objects_in, kept_number}
 use Rattle.space_bank.proofs.Counts.{annex_of_other, limit_of_other}
 use Rattle.space_bank.proofs.counting.is_kept.Goals as goal
 

@@ -1,7 +1,4 @@
-use Rattle.std.proofs.Common.{◌∙◌, sym, ap}
-use Rattle.model.specs.declared.capability.Cap.{Cap}
-use Rattle.model.specs.declared.object.Content.{Content}
-use Rattle.model.specs.Object.{limit_in}
+use Rattle.space_bank.proofs.Names.{◌∙◌, sym, ap, Cap, Content, limit_in}
 use Rattle.space_bank.proofs.Counts.{limit_held, no_limit}
 use Rattle.space_bank.proofs.counting.limit_there.Goals as goal
 

@@ -1,6 +1,4 @@
-use Rattle.std.proofs.Common.{◌^◌, ◌-◌}
-use Rattle.capability.specs.Parts.{frames_of}
-use Rattle.capability.proofs.Keeping.{keepable_roles}
+use Rattle.space_bank.proofs.Names.{◌^◌, ◌-◌, frames_of, keepable_roles}
 use Rattle.space_bank.proofs.counting.read_number.Goals as goal
 
 pub is_kept-requires : goal.is_kept-requires

@@ -1,5 +1,4 @@
-use Rattle.std.proofs.Common.{arith}
-use Rattle.capability.proofs.Asides.{looks_twice}
+use Rattle.space_bank.proofs.Names.{arith, looks_twice}
 use Rattle.space_bank.proofs.Counts.{never_failed, numbers_more}
 use Rattle.space_bank.proofs.counting.read_numbers.Goals as goal
 

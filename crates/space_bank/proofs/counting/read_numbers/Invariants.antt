@@ -1,9 +1,4 @@
-use Rattle.std.proofs.Common.{◌≡◌, ◌≤◌, map, vec_len}
-use Rattle.std.specs.List.{range_with_len}
-use Rattle.std.specs.Vec.{vec_capacity}
-use Rattle.model.specs.World.{content_at}
-use Rattle.capability.specs.Parts.{LooksUp, objects_in}
-use Rattle.space_bank.specs.Counting.{kept_number}
+use Rattle.space_bank.proofs.Names.{◌≡◌, ◌≤◌, map, vec_len, range_with_len, vec_capacity, content_at, LooksUp, objects_in, kept_number}
 use Rattle.space_bank.proofs.counting.read_numbers.Given as goal
 
 abbrev pub invariant-loop-number : goal.invariant-loop-number

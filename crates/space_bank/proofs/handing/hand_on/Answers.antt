@@ -1,12 +1,5 @@
-use Rattle.std.proofs.Common.{◌≡◌, ◌<◌, arith, false, length, subst, sym, take}
-use Rattle.std.specs.Prelude.{slice_index}
-use Rattle.model.specs.declared.geometry.Geometry.{Geometry}
-use Rattle.model.specs.Keepable.{AreKeepable}
-use Rattle.model.specs.Object.{is_free}
-use Rattle.model.specs.World.{content_at}
-use Rattle.capability.specs.Parts.{frames_of, objects_in}
-use Rattle.capability.proofs.Asides.{keeps_twice}
-use Rattle.capability.proofs.Frames.{length_objects}
+use Rattle.space_bank.proofs.Names.{◌≡◌, ◌<◌, arith, false, length, subst, sym, take, slice_index, Geometry, AreKeepable, is_free, content_at, frames_of}
+use Rattle.space_bank.proofs.Names.{objects_in, keeps_twice, length_objects}
 use Rattle.space_bank.proofs.Owners.{handed_more, handed_used}
 use Rattle.space_bank.proofs.Standing.{used_header}
 use Rattle.space_bank.proofs.handing.hand_on.Goals as goal

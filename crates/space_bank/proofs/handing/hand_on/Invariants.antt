@@ -1,7 +1,4 @@
-use Rattle.std.proofs.Common.{ℕ, take}
-use Rattle.model.specs.Keepable.{AreCurrent, AreKeepable}
-use Rattle.capability.specs.Parts.{KeepsAside, frames_of, objects_in}
-use Rattle.space_bank.specs.Carrying.{AreHandedOn}
+use Rattle.space_bank.proofs.Names.{ℕ, take, AreCurrent, AreKeepable, KeepsAside, frames_of, objects_in, AreHandedOn}
 use Rattle.space_bank.proofs.handing.hand_on.Given as goal
 
 abbrev pub invariant-loop-number : goal.invariant-loop-number

@@ -1,7 +1,4 @@
-use Rattle.std.proofs.Common.{◌≡◌, ◌≤◌, ◌+◌, ◌-◌, ◌++◌, length, vec_len}
-use Rattle.std.specs.List.{filter, range_with_len}
-use Rattle.std.specs.Vec.{vec_capacity}
-use Rattle.capability.specs.Parts.{objects_in}
+use Rattle.space_bank.proofs.Names.{◌≡◌, ◌≤◌, ◌+◌, ◌-◌, ◌++◌, length, vec_len, filter, range_with_len, vec_capacity, objects_in}
 use Rattle.space_bank.proofs.Lists.{is_listed_owned}
 use Rattle.space_bank.proofs.listing.list_owned.Given as goal
 

@@ -1,11 +1,5 @@
-use Rattle.std.proofs.Common.{◌≡◌, ◌∙◌, ◌++◌, ℕ, List, length, Vec, Global, true, false, vec_len, ap, sym, refl, arith}
-use Rattle.std.proofs.lemmas.Bool.{eq-eqb, ne_eqb}
-use Rattle.std.specs.Vec.{vec_capacity}
-use Rattle.model.specs.Bank.{is_under}
-use Rattle.model.specs.World.{object_at}
-use Rattle.capability.specs.Parts.{objects_in}
-use Rattle.capability.proofs.Frames.{length_objects}
-use Rattle.space_bank.specs.Planning.{HasNoneUsed, IsNextUsed}
+use Rattle.space_bank.proofs.Names.{◌≡◌, ◌∙◌, ◌++◌, ℕ, List, length, Vec, Global, true, false, vec_len, ap, sym, refl, arith, eq-eqb, ne_eqb, vec_capacity}
+use Rattle.space_bank.proofs.Names.{is_under, object_at, objects_in, length_objects, HasNoneUsed, IsNextUsed}
 use Rattle.space_bank.proofs.Lists.{is_listed_under, listed_more, listed_same, under_whole}
 use Rattle.space_bank.proofs.Missing.{free_not_under, listed_up_to}
 use Rattle.space_bank.proofs.listing.list_under.Goals as goal

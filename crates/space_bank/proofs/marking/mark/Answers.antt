@@ -1,6 +1,5 @@
-use Rattle.std.proofs.Common.{◌<◌, ◌++◌, ◌∙◌, ap, arith, length, sym}
+use Rattle.space_bank.proofs.Names.{◌<◌, ◌++◌, ◌∙◌, ap, arith, length, sym, set-append_left, set-append_right}
 use Rattle.std.specs.Prelude.{Bool, List}
-use Rattle.std.proofs.lemmas.List.{set-append_left, set-append_right}
 use Rattle.space_bank.proofs.marking.mark.Goals as goal
 
 pub returns-then-number-first_page-clause-marks : goal.returns-then-number-first_page-clause-marks

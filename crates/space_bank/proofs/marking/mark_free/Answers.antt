@@ -1,6 +1,4 @@
-use Rattle.std.proofs.Common.{◌<◌, ◌++◌, ◌∙◌, arith, length}
-use Rattle.std.specs.Prelude.{slice_index}
-use Rattle.std.proofs.lemmas.List.{length-append}
+use Rattle.space_bank.proofs.Names.{◌<◌, ◌++◌, ◌∙◌, arith, length, slice_index, length-append}
 use Rattle.space_bank.proofs.Tallies.{marked_more}
 use Rattle.space_bank.proofs.marking.mark_free.Goals as goal
 

@@ -1,6 +1,4 @@
-use Rattle.std.proofs.Common.{◌≡◌, ℕ, ◌++◌, true, false, length, take}
-use Rattle.std.specs.Prelude.{if◌then◌else◌, slice_index_or}
-use Rattle.model.specs.Revoke.{is_member}
+use Rattle.space_bank.proofs.Names.{◌≡◌, ℕ, ◌++◌, true, false, length, take, if◌then◌else◌, slice_index_or, is_member}
 use Rattle.space_bank.proofs.marking.mark_free.Given as goal
 
 abbrev pub invariant-loop-number : goal.invariant-loop-number

@@ -1,5 +1,4 @@
-use Rattle.std.proofs.Common.{arith, ap, refl, sym}
-use Rattle.space_bank.specs.Allocating.{new_at}
+use Rattle.space_bank.proofs.Names.{arith, ap, refl, sym, new_at}
 use Rattle.space_bank.proofs.Found.{found_none, found_one}
 use Rattle.space_bank.proofs.planning_new.next_one.Goals as goal
 

@@ -1,5 +1,4 @@
-use Rattle.std.proofs.Common.{ap, refl, sym}
-use Rattle.space_bank.specs.Allocating.{process_at}
+use Rattle.space_bank.proofs.Names.{ap, refl, sym, process_at}
 use Rattle.space_bank.proofs.Found.{found_none, process_found, process_missing}
 use Rattle.space_bank.proofs.planning_new.next_process.Goals as goal
 

@@ -1,5 +1,4 @@
-use Rattle.std.proofs.Common.{ap, arith, length}
-use Rattle.capability.specs.Parts.{objects_in}
+use Rattle.space_bank.proofs.Names.{ap, arith, length, objects_in}
 use Rattle.space_bank.proofs.Walks.{chain_begun, chain_last, chain_next, chain_past}
 use Rattle.space_bank.proofs.walking.chain_length.Goals as goal
 

@@ -1,6 +1,4 @@
-use Rattle.std.proofs.Common.{◌≡◌, ◌+◌, ◌-◌, length}
-use Rattle.model.specs.Bank.{chain, chain_within}
-use Rattle.capability.specs.Parts.{objects_in}
+use Rattle.space_bank.proofs.Names.{◌≡◌, ◌+◌, ◌-◌, length, chain, chain_within, objects_in}
 use Rattle.space_bank.proofs.walking.chain_length.Given as goal
 
 abbrev pub invariant-loop-passed : goal.invariant-loop-passed

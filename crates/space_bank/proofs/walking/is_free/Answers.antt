@@ -1,7 +1,4 @@
-use Rattle.std.proofs.Common.{sym}
-use Rattle.model.specs.World.{content_at}
-use Rattle.capability.specs.Parts.{objects_in}
-use Rattle.capability.proofs.Roles.{role_free, role_read, role_used}
+use Rattle.space_bank.proofs.Names.{sym, content_at, objects_in, role_free, role_read, role_used}
 use Rattle.space_bank.proofs.walking.is_free.Goals as goal
 
 pub returns-in-Free : goal.returns-in-Free

@@ -1,6 +1,4 @@
-use Rattle.std.proofs.Common.{◌∙◌, nat_eq, sym, ap}
-use Rattle.std.specs.List.{list_any}
-use Rattle.capability.specs.Parts.{objects_in}
+use Rattle.space_bank.proofs.Names.{◌∙◌, nat_eq, sym, ap, list_any, objects_in}
 use Rattle.space_bank.proofs.Walks.{chain_begun, chain_here, chain_past, sought_last, sought_next}
 use Rattle.space_bank.proofs.walking.is_in_chain.Goals as goal
 

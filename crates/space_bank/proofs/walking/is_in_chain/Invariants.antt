@@ -1,7 +1,4 @@
-use Rattle.std.proofs.Common.{◌≡◌, ◌-◌, nat_eq}
-use Rattle.std.specs.List.{list_any}
-use Rattle.model.specs.Bank.{chain, chain_within}
-use Rattle.capability.specs.Parts.{objects_in}
+use Rattle.space_bank.proofs.Names.{◌≡◌, ◌-◌, nat_eq, list_any, chain, chain_within, objects_in}
 use Rattle.space_bank.proofs.walking.is_in_chain.Given as goal
 
 abbrev pub invariant-loop-step : goal.invariant-loop-step

@@ -1,6 +1,4 @@
-use Rattle.std.proofs.Common.{Err, sym, subst, false}
-use Rattle.vezhnake.specs.declared.status.Status.{Status}
-use Rattle.vezhnake.specs.Sessions.{OpensFrom}
+use Rattle.vezhnake.proofs.Names.{Err, sym, subst, false, Status, OpensFrom}
 use Rattle.vezhnake.proofs.Opening.{refused_from}
 use Rattle.vezhnake.proofs.host_kernel.open_bounded.Goals as goal
 

@@ -1,6 +1,4 @@
-use Rattle.std.proofs.Common.{Err, sym, subst, true}
-use Rattle.vezhnake.specs.declared.status.Status.{Status}
-use Rattle.vezhnake.specs.Sessions.{OpensFrom}
+use Rattle.vezhnake.proofs.Names.{Err, sym, subst, true, Status, OpensFrom}
 use Rattle.vezhnake.proofs.Opening.{refused_from}
 use Rattle.vezhnake.proofs.host_kernel.open_plain.Goals as goal
 

@@ -1,5 +1,4 @@
-use Rattle.std.proofs.Common.{length, refl, sym, ◌∙◌}
-use Rattle.std.proofs.lemmas.Option.{slice_get_read}
+use Rattle.cache_entries.proofs.Names.{length, refl, sym, ◌∙◌, slice_get_read}
 use Rattle.cache_entries.proofs.Arenas.{has_place, seen}
 use Rattle.cache_entries.proofs.arena.Arena.get.Goals as goal
 

@@ -1,5 +1,4 @@
-use Rattle.std.proofs.Common.{◌≡◌, ◌<◌, ◌∷◌, [], length, sym, ap, ◌∙◌, arith, length-append}
-use Rattle.cache_entries.specs.Entries.{ArenaState}
+use Rattle.cache_entries.proofs.Names.{◌≡◌, ◌<◌, ◌∷◌, [], length, sym, ap, ◌∙◌, arith, length-append, ArenaState}
 use Rattle.cache_entries.proofs.Arenas.{has_place, seen, insert_placed, more_arena}
 use Rattle.cache_entries.proofs.arena.Arena.insert.Goals as goal
 

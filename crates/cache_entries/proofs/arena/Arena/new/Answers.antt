@@ -1,5 +1,4 @@
-use Rattle.std.proofs.Common.{ℕ, List, Option, None, replicate, ap, ◌∙◌, arith}
-use Rattle.cache_entries.specs.declared.entry.Entry.{Entry}
+use Rattle.cache_entries.proofs.Names.{ℕ, List, Option, None, replicate, ap, ◌∙◌, arith, Entry}
 use Rattle.cache_entries.proofs.Arenas.{none_in}
 use Rattle.cache_entries.proofs.arena.Arena.new.Goals as goal
 

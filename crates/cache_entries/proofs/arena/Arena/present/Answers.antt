@@ -1,5 +1,4 @@
-use Rattle.std.proofs.Common.{option_map, refl, ap, arith}
-use Rattle.cache_entries.specs.Entries.{present_of}
+use Rattle.cache_entries.proofs.Names.{option_map, refl, ap, arith, present_of}
 use Rattle.cache_entries.proofs.Arenas.{there, place_within, changes}
 use Rattle.cache_entries.proofs.arena.Arena.present.Goals as goal
 

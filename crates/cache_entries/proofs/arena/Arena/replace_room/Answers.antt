@@ -1,5 +1,4 @@
-use Rattle.std.proofs.Common.{Some, option_map, refl, sym, ap, ◌∙◌, arith}
-use Rattle.cache_entries.specs.Entries.{reserving, room_of}
+use Rattle.cache_entries.proofs.Names.{Some, option_map, refl, sym, ap, ◌∙◌, arith, reserving, room_of}
 use Rattle.cache_entries.proofs.Arenas.{there, place_within, changes}
 use Rattle.cache_entries.proofs.arena.Arena.replace_room.Goals as goal
 

@@ -1,5 +1,4 @@
-use Rattle.std.proofs.Common.{refl, arith}
-use Rattle.cache_entries.specs.Entries.{keeping}
+use Rattle.cache_entries.proofs.Names.{refl, arith, keeping}
 use Rattle.cache_entries.proofs.Arenas.{there, place_within, changes}
 use Rattle.cache_entries.proofs.arena.Arena.set_kept.Goals as goal
 

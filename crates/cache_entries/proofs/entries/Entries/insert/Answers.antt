@@ -1,6 +1,5 @@
-use Rattle.std.proofs.Common.{◌≡◌, ◌<◌, Some, None, length, slice_set, ap, ◌∙◌, arith}
-use Rattle.cache_entries.specs.Entries.{ArenaState, entry_at}
-use Rattle.cache_entries.specs.Order.{EntriesState, OrderState, entries_of, with_new}
+use Rattle.cache_entries.proofs.Names.{◌≡◌, ◌<◌, Some, None, length, slice_set, ap, ◌∙◌, arith, ArenaState, entry_at, EntriesState, OrderState, entries_of}
+use Rattle.cache_entries.proofs.Names.{with_new}
 use Rattle.cache_entries.proofs.Orders.{kept_new}
 use Rattle.cache_entries.proofs.entries.Entries.insert.Goals as goal
 

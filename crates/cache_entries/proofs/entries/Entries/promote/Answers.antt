@@ -1,6 +1,4 @@
-use Rattle.std.proofs.Common.{is_some, sym, ap, ◌∙◌}
-use Rattle.cache_entries.specs.Entries.{entry_at}
-use Rattle.cache_entries.specs.Order.{EntriesState}
+use Rattle.cache_entries.proofs.Names.{is_some, sym, ap, ◌∙◌, entry_at, EntriesState}
 use Rattle.cache_entries.proofs.Orders.{kept_used}
 use Rattle.cache_entries.proofs.entries.Entries.promote.Goals as goal
 

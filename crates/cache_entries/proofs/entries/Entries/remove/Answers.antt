@@ -1,7 +1,4 @@
-use Rattle.std.proofs.Common.{ℕ, List, Option, None, slice_set, is_some, ap, ◌∙◌}
-use Rattle.cache_entries.specs.declared.entry.Entry.{Entry}
-use Rattle.cache_entries.specs.Entries.{entry_at}
-use Rattle.cache_entries.specs.Order.{EntriesState, OrderState, without, without_entry}
+use Rattle.cache_entries.proofs.Names.{ℕ, List, Option, None, slice_set, is_some, ap, ◌∙◌, Entry, entry_at, EntriesState, OrderState, without, without_entry}
 use Rattle.cache_entries.proofs.Orders.{kept_without}
 use Rattle.cache_entries.proofs.entries.Entries.remove.Goals as goal
 

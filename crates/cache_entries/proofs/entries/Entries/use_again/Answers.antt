@@ -1,8 +1,4 @@
-use Rattle.std.proofs.Common.{ℕ, List, take, is_some, sym, ap, ◌∙◌}
-use Rattle.std.proofs.lemmas.List.{take_all}
-use Rattle.model.specs.Revoke.{is_member}
-use Rattle.cache_entries.specs.Entries.{entry_at}
-use Rattle.cache_entries.specs.Order.{EntriesState, used_in_turn}
+use Rattle.cache_entries.proofs.Names.{ℕ, List, take, is_some, sym, ap, ◌∙◌, take_all, is_member, entry_at, EntriesState, used_in_turn}
 use Rattle.cache_entries.proofs.Turns.{contains_member, kept_in_turn}
 use Rattle.cache_entries.proofs.entries.Entries.use_again.Goals as goal
 

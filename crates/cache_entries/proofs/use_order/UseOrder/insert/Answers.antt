@@ -1,9 +1,5 @@
-use Rattle.std.proofs.Common.{◌≡◌, ℕ, ◌<◌, List, ◌∷◌, false, length, ap, ◌∙◌, arith}
-use Rattle.std.specs.Map.{keys_of}
-use Rattle.std.proofs.lemmas.List.{length-map}
-use Rattle.lru.specs.LruCache.{LruCache}
-use Rattle.model.specs.Revoke.{is_member}
-use Rattle.cache_entries.specs.Order.{OrderState, used_in_turn}
+use Rattle.cache_entries.proofs.Names.{◌≡◌, ℕ, ◌<◌, List, ◌∷◌, false, length, ap, ◌∙◌, arith, keys_of, length-map, LruCache, is_member, OrderState}
+use Rattle.cache_entries.proofs.Names.{used_in_turn}
 use Rattle.cache_entries.proofs.Orders.{new_keys}
 use Rattle.cache_entries.proofs.use_order.UseOrder.insert.Goals as goal
 use Rattle.cache_entries.proofs.use_order.UseOrder.insert.Goals.{in-Ok, in-Err}

@@ -1,8 +1,4 @@
-use Rattle.std.proofs.Common.{◌≡◌, ℕ, length, ap, ◌∙◌, arith}
-use Rattle.std.specs.Prelude.{nat_le}
-use Rattle.std.specs.Map.{keys_of}
-use Rattle.std.proofs.lemmas.List.{length-map}
-use Rattle.cache_entries.specs.Order.{OrderState}
+use Rattle.cache_entries.proofs.Names.{◌≡◌, ℕ, length, ap, ◌∙◌, arith, nat_le, keys_of, length-map, OrderState}
 use Rattle.cache_entries.proofs.Turns.{length_in_turn}
 use Rattle.cache_entries.proofs.use_order.UseOrder.is_full.Goals as goal
 

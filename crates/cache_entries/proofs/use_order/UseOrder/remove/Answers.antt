@@ -1,7 +1,4 @@
-use Rattle.std.proofs.Common.{ℕ, List, ap, ◌∙◌}
-use Rattle.std.specs.Map.{keys_of}
-use Rattle.lru.specs.LruCache.{LruCache}
-use Rattle.cache_entries.specs.Order.{OrderState, used_in_turn, without}
+use Rattle.cache_entries.proofs.Names.{ℕ, List, ap, ◌∙◌, keys_of, LruCache, OrderState, used_in_turn, without}
 use Rattle.cache_entries.proofs.Orders.{without_keys}
 use Rattle.cache_entries.proofs.use_order.UseOrder.remove.Goals as goal
 

@@ -1,8 +1,5 @@
-use Rattle.std.proofs.Common.{◌≡◌, ℕ, List, ◌++◌, length, take, refl, sym, ap, subst, ◌∙◌, arith}
-use Rattle.std.specs.Map.{keys_of}
-use Rattle.std.proofs.lemmas.List.{take_all}
-use Rattle.model.specs.Revoke.{is_member}
-use Rattle.cache_entries.specs.Order.{AllDiffer, OrderState, used_in_turn}
+use Rattle.cache_entries.proofs.Names.{◌≡◌, ℕ, List, ◌++◌, length, take, refl, sym, ap, subst, ◌∙◌, arith, keys_of, take_all, is_member, AllDiffer, OrderState}
+use Rattle.cache_entries.proofs.Names.{used_in_turn}
 use Rattle.cache_entries.proofs.Turns.{in_behind, listed_more, member_in_turn, one_more, used_again}
 use Rattle.cache_entries.proofs.use_order.UseOrder.use_again.Goals as goal
 

@@ -1,6 +1,4 @@
-use Rattle.std.proofs.Common.{◌≡◌, ℕ, true, take}
-use Rattle.model.specs.Revoke.{is_member}
-use Rattle.cache_entries.specs.Order.{used_in_turn}
+use Rattle.cache_entries.proofs.Names.{◌≡◌, ℕ, true, take, is_member, used_in_turn}
 use Rattle.cache_entries.proofs.use_order.UseOrder.use_again.Given as goal
 
 abbrev pub invariant-loop-number : goal.invariant-loop-number

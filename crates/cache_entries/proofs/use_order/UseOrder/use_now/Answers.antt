@@ -1,7 +1,5 @@
-use Rattle.std.proofs.Common.{◌≡◌, ℕ, List, [], ◌∷◌, true, false, length, refl, sym, ap, subst, ◌∙◌, arith, length-append}
-use Rattle.std.specs.Map.{keys_of}
-use Rattle.model.specs.Revoke.{is_member}
-use Rattle.cache_entries.specs.Order.{AreLatest, OrderState, used_in_turn, used_last, without}
+use Rattle.cache_entries.proofs.Names.{◌≡◌, ℕ, List, [], ◌∷◌, true, false, length, refl, sym, ap, subst, ◌∙◌, arith, length-append, keys_of, is_member}
+use Rattle.cache_entries.proofs.Names.{AreLatest, OrderState, used_in_turn, used_last, without}
 use Rattle.cache_entries.proofs.Orders.{length_without}
 use Rattle.cache_entries.proofs.Recent.{listed_member}
 use Rattle.cache_entries.proofs.Turns.{again_latest, member_in_turn, more_latest, used_at_end, used_once_more}

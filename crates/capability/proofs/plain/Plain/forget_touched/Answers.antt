@@ -1,7 +1,4 @@
-use Rattle.std.proofs.Common.{rules, ◌≡◌, ℕ, Bool, false, List, length, replicate, ap, ◌∙◌, subst}
-use Rattle.model.specs.Machine.{untouched}
-use Rattle.model.specs.Sound.{object_count}
-use Rattle.capability.specs.Plain.{PlainState}
+use Rattle.capability.proofs.Names.{rules, ◌≡◌, ℕ, Bool, false, List, length, replicate, ap, ◌∙◌, subst, untouched, object_count, PlainState}
 use Rattle.capability.proofs.plain.Plain.forget_touched.Goals as goal
 
 -- no number is marked

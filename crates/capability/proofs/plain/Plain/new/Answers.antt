@@ -1,12 +1,6 @@
-use Rattle.std.proofs.Common.{rules, ◌≡◌, ◌++◌, ℕ, Bool, false, List, replicate, ap, ◌∙◌}
-use Rattle.model.specs.declared.capability.Cap.{Cap}
-use Rattle.model.specs.declared.frame.ObjectHeader.{ObjectHeader}
-use Rattle.model.specs.declared.geometry.Geometry.{Geometry}
-use Rattle.model.specs.declared.object.Content.{Content}
+use Rattle.capability.proofs.Names.{rules, ◌≡◌, ◌++◌, ℕ, Bool, false, List, replicate, ap, ◌∙◌, Cap, ObjectHeader, Geometry, Content, untouched, object_count}
+use Rattle.capability.proofs.Names.{PlainState}
 use Rattle.model.specs.declared.object.Content.TheVariants as content
-use Rattle.model.specs.Machine.{untouched}
-use Rattle.model.specs.Sound.{object_count}
-use Rattle.capability.specs.Plain.{PlainState}
 use Rattle.capability.proofs.plain.Plain.new.Goals as goal
 
 abbrev made : Geometry → List ObjectHeader → List (Content Cap) → List Bool → List (Content Cap) → PlainState

@@ -1,9 +1,4 @@
-use Rattle.std.proofs.Common.{◌≡◌, inl, inr, slice_index_or, subst, sym, ◌∙◌, arith}
-use Rattle.std.proofs.lemmas.Bool.{cases_eq}
-use Rattle.std.proofs.lemmas.Grind.{get_or_default_zero}
-use Rattle.model.specs.declared.object.Role.TheVariants.{Free}
-use Rattle.model.specs.Frame.{header_at, held_at}
-use Rattle.capability.specs.Plain.{room_at}
+use Rattle.capability.proofs.Names.{◌≡◌, inl, inr, slice_index_or, subst, sym, ◌∙◌, arith, cases_eq, get_or_default_zero, Free, header_at, held_at, room_at}
 use Rattle.capability.proofs.plain.rooms.put_aside.Goals as goal
 
 pub loop-number-preserved : goal.loop-number-preserved

@@ -1,7 +1,4 @@
-use Rattle.std.proofs.Common.{◌≡◌, ℕ, ◌<◌, length, slice_index_or}
-use Rattle.model.specs.declared.object.Role.TheVariants.{Free}
-use Rattle.model.specs.Frame.{header_at, held_at}
-use Rattle.capability.specs.Plain.{room_at}
+use Rattle.capability.proofs.Names.{◌≡◌, ℕ, ◌<◌, length, slice_index_or, Free, header_at, held_at, room_at}
 use Rattle.capability.proofs.plain.rooms.put_aside.Given as goal
 
 abbrev pub invariant-loop-number : goal.invariant-loop-number

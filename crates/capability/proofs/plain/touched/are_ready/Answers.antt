@@ -1,9 +1,4 @@
-use Rattle.std.proofs.Common.{ℕ, true, inl, inr, ap, set, get_or, subst, sym, ◌∙◌, arith}
-use Rattle.std.specs.Prelude.{◌≢◌}
-use Rattle.std.proofs.lemmas.Bool.{cases_eq}
-use Rattle.std.proofs.lemmas.Grind.{get_or_default_zero}
-use Rattle.model.specs.declared.object.Role.TheVariants.{Free}
-use Rattle.model.specs.Frame.{header_at}
+use Rattle.capability.proofs.Names.{ℕ, true, inl, inr, ap, set, get_or, subst, sym, ◌∙◌, arith, ◌≢◌, cases_eq, get_or_default_zero, Free, header_at}
 use Rattle.capability.proofs.Touched.{set-marked, touching_more}
 use Rattle.capability.proofs.plain.touched.are_ready.Goals as goal
 

@@ -1,8 +1,4 @@
-use Rattle.std.proofs.Common.{◌≡◌, ◌<◌, ℕ, get_or, take}
-use Rattle.std.specs.Prelude.{◌≢◌}
-use Rattle.model.specs.declared.object.Role.TheVariants.{Free}
-use Rattle.model.specs.Frame.{header_at}
-use Rattle.model.specs.Machine.{touching}
+use Rattle.capability.proofs.Names.{◌≡◌, ◌<◌, ℕ, get_or, take, ◌≢◌, Free, header_at, touching}
 use Rattle.capability.proofs.plain.touched.are_ready.Given as goal
 
 abbrev pub invariant-loop-number : goal.invariant-loop-number

@@ -1,5 +1,4 @@
-use Rattle.std.proofs.Common.{◌≡◌, ◌+◌, ◌≤◌, take}
-use Rattle.model.specs.Machine.{touching, touched_count}
+use Rattle.capability.proofs.Names.{◌≡◌, ◌+◌, ◌≤◌, take, touching, touched_count}
 use Rattle.capability.proofs.plain.touched.fresh_count.Given as goal
 
 abbrev pub invariant-loop-i : goal.invariant-loop-i

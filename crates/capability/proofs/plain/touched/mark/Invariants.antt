@@ -1,5 +1,4 @@
-use Rattle.std.proofs.Common.{◌≡◌, length, take}
-use Rattle.model.specs.Machine.{touching}
+use Rattle.capability.proofs.Names.{◌≡◌, length, take, touching}
 use Rattle.capability.proofs.plain.touched.mark.Given as goal
 
 abbrev pub invariant-loop-number : goal.invariant-loop-number

@@ -1,6 +1,4 @@
-use Rattle.std.proofs.Common.{arith, ◌∙◌, length-take-le}
-use Rattle.std.proofs.lemmas.Result.{err_from_is_err_and}
-use Rattle.device.proofs.Images.{agrees_is}
+use Rattle.ckpt_log.proofs.Names.{arith, ◌∙◌, length-take-le, err_from_is_err_and, agrees_is}
 use Rattle.ckpt_log.proofs.Refusals.{bad_directory, has_committed}
 use Rattle.ckpt_log.proofs.log.Log.find_committed.Goals as goal
 

@@ -1,6 +1,4 @@
-use Rattle.std.proofs.Common.{arith, subst}
-use Rattle.layout.specs.Superblock.{IsPlan}
-use Rattle.layout.proofs.Halves.{half_within}
+use Rattle.ckpt_log.proofs.Names.{arith, subst, IsPlan, half_within}
 use Rattle.ckpt_log.proofs.log.Log.geometry.Goals as goal
 
 pub returns-clause-total : goal.returns-clause-total

@@ -1,6 +1,4 @@
-use Rattle.std.proofs.Common.{subst}
-use Rattle.layout.specs.Superblock.{IsPlan}
-use Rattle.layout.proofs.Halves.{half_within}
+use Rattle.ckpt_log.proofs.Names.{subst, IsPlan, half_within}
 use Rattle.ckpt_log.proofs.log.Log.half_sector.Goals as goal
 
 pub returns-clause-within : goal.returns-clause-within

@@ -1,7 +1,4 @@
-use Rattle.std.proofs.Common.{sym, subst}
-use Rattle.device.specs.Disk.{Image}
-use Rattle.device.proofs.Images.{agrees_is, elsewhere_on, elsewhere_same}
-use Rattle.ckpt_log.specs.Commit.{header_sector, HasNew, Precedes}
+use Rattle.ckpt_log.proofs.Names.{sym, subst, Image, agrees_is, elsewhere_on, elsewhere_same, header_sector, HasNew, Precedes}
 use Rattle.ckpt_log.proofs.Commits.{either_elsewhere, either_on, new_on, precedes_on}
 use Rattle.ckpt_log.proofs.Runs.{sync_run, commit_run, sync_order, commit_order, preparing_run, publishing_order, publishing_run}
 use Rattle.ckpt_log.proofs.Sectors.{on_ok}

@@ -1,5 +1,4 @@
-use Rattle.std.proofs.Common.{◌∙◌, ap, replicate}
-use Rattle.model.specs.Frame.{blank_header, frames_in}
+use Rattle.described_world.proofs.Names.{◌∙◌, ap, replicate, blank_header, frames_in}
 use Rattle.described_world.proofs.Worlds.{blank_frames}
 use Rattle.described_world.proofs.world.World.free.Goals as goal
 

@@ -1,5 +1,4 @@
-use Rattle.std.proofs.Common.{◌∙◌, ◌+◌, arith}
-use Rattle.device.proofs.Flat.{got_inside}
+use Rattle.file_device.proofs.Names.{◌∙◌, ◌+◌, arith, got_inside}
 use Rattle.file_device.proofs.file_device.CopiedFileDevice.read.Goals as goal
 
 pub returns-clause-bytes : goal.returns-clause-bytes

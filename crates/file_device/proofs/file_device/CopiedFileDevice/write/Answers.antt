@@ -1,5 +1,4 @@
-use Rattle.std.proofs.Common.{◌∙◌, ap, length}
-use Rattle.device.proofs.Flat.{rewritten}
+use Rattle.file_device.proofs.Names.{◌∙◌, ap, length, rewritten}
 use Rattle.file_device.proofs.Copies.{copy_written, copy_tears, write_elapses}
 use Rattle.file_device.proofs.file_device.CopiedFileDevice.write.Goals as goal
 

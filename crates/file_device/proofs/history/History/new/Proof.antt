@@ -1,5 +1,5 @@
 -- `new` makes the empty struct, with the bytes that its clauses name.
-use Rattle.std.proofs.Common.{[], ◌∷◌, ◌<◌, ◌^◌, length, refl}
+use Rattle.file_device.proofs.Names.{[], ◌∷◌, ◌<◌, ◌^◌, length, refl, fresh}
 use seplogic.Ra.Ura.{Ura}
 use mir.Syntax.{named}
 use mir.Val.{Val}
@@ -32,7 +32,6 @@ use Rattle.file_device.specs.contracts.history.History.new as f
 use Rattle.file_device.proofs.history.History.new.Statement as stated
 use Rattle.file_device.proofs.history.History.new.Code as code
 use Rattle.file_device.specs.contracts.history.History as history
-use Rattle.file_device.specs.Steps.{fresh}
 use Rattle.file_device.proofs.Walks.{none}
 
 abbrev stayed : Stays (f.ended).signature.params (f.ended).kept

@@ -1,5 +1,5 @@
 -- `then` makes the empty struct, with the history that its clauses name.
-use Rattle.std.proofs.Common.{List, [], ◌∷◌, ◌++◌, refl}
+use Rattle.file_device.proofs.Names.{List, [], ◌∷◌, ◌++◌, refl, stepped}
 use seplogic.Ra.Ura.{Ura}
 use mir.Syntax.{Fn}
 use mir.Val.{Val, vptr}
@@ -28,7 +28,6 @@ use denote.Triple.Walked.{says, Stays, stay_dropped, walk_of, ends_at, walk_Meet
 use Rattle.file_device.proofs.Walks.{none, none_made}
 use Rattle.file_device.specs.contracts.history.History as History
 use Rattle.file_device.specs.contracts.history.Step as Step
-use Rattle.file_device.specs.Steps.{stepped}
 use Rattle.file_device.specs.contracts.history.History.then as F
 use Rattle.file_device.specs.contracts.history.History.then.Key.{name as #self}
 use Rattle.file_device.proofs.history.History.then.Statement as stated

@@ -1,6 +1,4 @@
-use Rattle.std.proofs.Common.{◌≡◌, ◌*◌, ◌∙◌, arith}
-use Rattle.device.proofs.Flat.{zeros_are}
-use Rattle.file_device.specs.FileDevice.{file_disk}
+use Rattle.file_device.proofs.Names.{◌≡◌, ◌*◌, ◌∙◌, arith, zeros_are, file_disk}
 use Rattle.file_device.proofs.Mirrored.{made_mirrors}
 use Rattle.file_device.proofs.Openings.{makes}
 use Rattle.file_device.proofs.open.CopiedFile+HostFile+F.create.Goals as goal

@@ -1,5 +1,4 @@
-use Rattle.std.proofs.Common.{subst, sym}
-use Rattle.description.specs.Reading.{IsDescription}
+use Rattle.image_builder.proofs.Names.{subst, sym, IsDescription}
 use Rattle.image_builder.proofs.Images.{left_of}
 use Rattle.image_builder.proofs.Refusals.{built_from, refused_from}
 use Rattle.image_builder.proofs.blueprint.Blueprint.build.Goals as goal

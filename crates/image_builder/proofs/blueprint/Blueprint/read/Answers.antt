@@ -1,5 +1,4 @@
-use Rattle.std.proofs.lemmas.Result.{err_from_is_err_and}
-use Rattle.toml.specs.View.{table_view}
+use Rattle.image_builder.proofs.Names.{err_from_is_err_and, table_view}
 use Rattle.image_builder.proofs.Refusals.{size_refused}
 use Rattle.image_builder.proofs.blueprint.Blueprint.read.Goals as goal
 

@@ -1,9 +1,6 @@
-use Rattle.std.proofs.Common.{subst, sym}
-use Rattle.std.specs.Prelude.{IsErrOf}
+use Rattle.image_builder.proofs.Names.{subst, sym, IsErrOf, StoreState, saved_by, IsOnlyRead, IsOpenedFrom}
 use Rattle.checkpoint.specs.declared.open_fault.OpenFault.TheVariants as opening
-use Rattle.object_cache.specs.StoreState.{StoreState, saved_by}
 use Rattle.image_builder.specs.declared.upgrade_fault.UpgradeFault.TheVariants as fault
-use Rattle.image_builder.specs.Upgraded.{IsOnlyRead, IsOpenedFrom}
 use Rattle.image_builder.proofs.Upgrades.{counted, left_upgrading, not_upgraded, read_where_opened}
 use Rattle.image_builder.proofs.upgrading.OldImage.write_to.Goals as goal
 

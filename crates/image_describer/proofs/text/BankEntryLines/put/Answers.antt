@@ -1,6 +1,4 @@
-use Rattle.std.proofs.Common.{codes, refl, string_bytes}
-use Rattle.std.proofs.lemmas.Result.{on_ok_weaker}
-use Rattle.image_describer.specs.Text.{bank_fields}
+use Rattle.image_describer.proofs.Names.{codes, refl, string_bytes, on_ok_weaker, bank_fields}
 use Rattle.image_describer.proofs.Added.{object_added}
 use Rattle.image_describer.proofs.text.BankEntryLines.put.Goals as goal
 

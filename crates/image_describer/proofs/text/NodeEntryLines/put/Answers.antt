@@ -1,6 +1,4 @@
-use Rattle.std.proofs.Common.{codes, refl, string_bytes}
-use Rattle.std.proofs.lemmas.Result.{on_ok_weaker}
-use Rattle.image_describer.specs.Text.{node_fields, slot_text}
+use Rattle.image_describer.proofs.Names.{codes, refl, string_bytes, on_ok_weaker, node_fields, slot_text}
 use Rattle.image_describer.proofs.Added.{object_added, same_list}
 use Rattle.image_describer.proofs.text.NodeEntryLines.put.Goals as goal
 

@@ -1,6 +1,4 @@
-use Rattle.std.proofs.Common.{codes, Some, refl, string_bytes}
-use Rattle.std.proofs.lemmas.Result.{on_ok_weaker}
-use Rattle.image_describer.specs.Text.{process_fields, slot_text, state_value}
+use Rattle.image_describer.proofs.Names.{codes, Some, refl, string_bytes, on_ok_weaker, process_fields, slot_text, state_value}
 use Rattle.image_describer.proofs.Added.{object_added, same_list, same_value}
 use Rattle.image_describer.proofs.text.ProcessEntryLines.put.Goals as goal
 

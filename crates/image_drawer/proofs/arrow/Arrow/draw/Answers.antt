@@ -1,8 +1,4 @@
-use Rattle.std.proofs.Common.{ap}
-use Rattle.model.specs.Capability.{access_bits}
-use Rattle.model.specs.Text.{line_of}
-use Rattle.script.proofs.Fronts.{writes_same}
-use Rattle.image_drawer.specs.Graph.{arrow_line, kind_text, place_text, style_text}
+use Rattle.image_drawer.proofs.Names.{ap, access_bits, line_of, writes_same, arrow_line, kind_text, place_text, style_text}
 use Rattle.image_drawer.proofs.Texts.{arrow_put}
 use Rattle.image_drawer.proofs.arrow.Arrow.draw.Goals as goal
 

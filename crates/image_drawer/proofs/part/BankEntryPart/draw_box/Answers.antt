@@ -1,6 +1,4 @@
-use Rattle.std.proofs.Common.{append_assoc}
-use Rattle.script.proofs.Fronts.{writes_same}
-use Rattle.image_drawer.specs.Graph.{bank_box}
+use Rattle.image_drawer.proofs.Names.{append_assoc, writes_same, bank_box}
 use Rattle.image_drawer.proofs.part.BankEntryPart.draw_box.Goals as goal
 
 pub returns : goal.returns

@@ -1,9 +1,4 @@
-use Rattle.std.specs.Prelude.{unwrap_or}
-use Rattle.std.proofs.lemmas.Grind.{flat_map-append}
-use Rattle.std.proofs.lemmas.Result.{err_from_is_err_and}
-use Rattle.model.specs.declared.capability.Capability.TheVariants.{Void}
-use Rattle.script.proofs.Fronts.{text_fails}
-use Rattle.image_drawer.specs.Graph.{arrow_line, arrow_of, arrows_at}
+use Rattle.image_drawer.proofs.Names.{unwrap_or, flat_map-append, err_from_is_err_and, Void, text_fails, arrow_line, arrow_of, arrows_at}
 use Rattle.image_drawer.specs.declared.arrow.Place.TheVariants as place
 use Rattle.image_drawer.proofs.Texts.{two_written}
 use Rattle.image_drawer.proofs.part.ProcessEntryPart.draw_arrows.Goals as goal

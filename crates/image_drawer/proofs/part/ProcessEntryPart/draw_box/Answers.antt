@@ -1,8 +1,5 @@
-use Rattle.std.proofs.Common.{[], ◌∷◌, ◌++◌, codes, decimal}
-use Rattle.std.proofs.lemmas.Result.{err_from_is_err_and}
-use Rattle.model.specs.Text.{spaced}
-use Rattle.script.proofs.Fronts.{text_fails, writes_fail}
-use Rattle.image_drawer.specs.Graph.{next_line, plain_lines, process_box, word_of_state}
+use Rattle.image_drawer.proofs.Names.{[], ◌∷◌, ◌++◌, codes, decimal, err_from_is_err_and, spaced, text_fails, writes_fail, next_line, plain_lines, process_box}
+use Rattle.image_drawer.proofs.Names.{word_of_state}
 use Rattle.image_drawer.proofs.Texts.{box_pieces, fails_before, three_written}
 use Rattle.image_drawer.proofs.part.ProcessEntryPart.draw_box.Goals as goal
 

@@ -1,5 +1,4 @@
-use Rattle.std.proofs.Common.{◌≡◌, ◌+◌, ◌≤◌, length}
-use Rattle.runs.specs.Reader.{failed_reads, left_to_read}
+use Rattle.jobs.proofs.Names.{◌≡◌, ◌+◌, ◌≤◌, length, failed_reads, left_to_read}
 use Rattle.jobs.proofs.shell.ShellInput.read_line.Given as goal
 
 abbrev pub invariant-loop-count : goal.invariant-loop-count

@@ -1,6 +1,5 @@
-use Rattle.std.proofs.Common.{inr, refl}
+use Rattle.kernel.proofs.Names.{inr, refl, power_of}
 use Rattle.model.specs.declared.command.Command.TheVariants as command
-use Rattle.kernel.specs.Power.{power_of}
 use Rattle.kernel.proofs.Machines.{again_caused, left_cut, opened_again, risen_some, some_cut, some_down}
 use Rattle.kernel.proofs.kernel.Kernel.cut.Goals as goal
 

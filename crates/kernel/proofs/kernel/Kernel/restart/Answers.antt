@@ -1,6 +1,5 @@
-use Rattle.std.proofs.Common.{inl, refl}
+use Rattle.kernel.proofs.Names.{inl, refl, power_of}
 use Rattle.model.specs.declared.command.Command.TheVariants as command
-use Rattle.kernel.specs.Power.{power_of}
 use Rattle.kernel.proofs.Machines.{again_caused, left_alone, opened_again, risen_some, some_down}
 use Rattle.kernel.proofs.kernel.Kernel.restart.Goals as goal
 

@@ -1,7 +1,4 @@
-use Rattle.std.proofs.Common.{ℕ, ◌<◌, length, sym}
-use Rattle.capability.proofs.Frames.{process_known}
-use Rattle.gate.proofs.Known.{one_known}
-use Rattle.gate.proofs.Standing.{keepable_most}
+use Rattle.kernel.proofs.Names.{ℕ, ◌<◌, length, sym, process_known, one_known, keepable_most}
 use Rattle.kernel.proofs.processes.early.early.Goals as goal
 
 pub fetch-requires-clause-known : goal.fetch-requires-clause-known

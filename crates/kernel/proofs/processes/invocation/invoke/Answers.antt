@@ -1,9 +1,5 @@
-use Rattle.std.proofs.Common.{subst, sym, ◌∙◌}
-use Rattle.model.specs.declared.answer.Answer.{Answer}
+use Rattle.kernel.proofs.Names.{subst, sym, ◌∙◌, Answer, Performs, counted_looked, LooksAs, looked_as}
 use Rattle.model.specs.declared.command.Command.TheVariants as command
-use Rattle.kernel.specs.Machine.{Performs}
-use Rattle.gate.proofs.BankStates.{counted_looked}
-use Rattle.gate.proofs.Standing.{LooksAs, looked_as}
 use Rattle.kernel.proofs.Performing.{fault_serves, invoked_serves, no_process_serves}
 use Rattle.kernel.proofs.processes.invocation.invoke.Goals as goal
 

@@ -1,8 +1,6 @@
-use Rattle.std.proofs.Common.{subst}
+use Rattle.kernel.proofs.Names.{subst, objects_in, IsEarly}
 use Rattle.model.specs.declared.answer.Refusal.TheVariants as refusal
 use Rattle.model.specs.declared.command.Command.TheVariants as command
-use Rattle.capability.specs.Parts.{objects_in}
-use Rattle.kernel.specs.Machine.{IsEarly}
 use Rattle.kernel.proofs.MemoryServing.{looked_same}
 use Rattle.kernel.proofs.Performing.{ok_stayed, refused_serves, told_cause}
 use Rattle.kernel.proofs.ProcessSteps.{early_fine, early_step, worn_step}

@@ -1,6 +1,4 @@
-use Rattle.std.proofs.Common.{Ok, Err, subst}
-use Rattle.capability.specs.Parts.{objects_in}
-use Rattle.kernel.specs.Machine.{IsEarly, answer_of}
+use Rattle.kernel.proofs.Names.{Ok, Err, subst, objects_in, IsEarly, answer_of}
 use Rattle.kernel.proofs.Performing.{ok_stayed}
 use Rattle.kernel.proofs.ProcessSteps.{early_none}
 use Rattle.kernel.proofs.MemoryServing.{early_load, load_answers, load_is_refused}

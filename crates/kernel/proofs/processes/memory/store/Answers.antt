@@ -1,12 +1,5 @@
-use Rattle.std.proofs.Common.{Ok, Err, subst}
-use Rattle.std.proofs.Common.{List, ap}
-use Rattle.model.specs.declared.frame.Frame.{Frame}
-use Rattle.model.specs.Frame.{objects_of}
-use Rattle.gate.proofs.Known.{same_frames}
-use Rattle.gate.proofs.Standing.{LooksAs, looked_as}
+use Rattle.kernel.proofs.Names.{Ok, Err, subst, List, ap, Frame, objects_of, same_frames, LooksAs, looked_as, objects_in, IsEarly, answer_of}
 use Rattle.kernel.proofs.Counted.{looked_counted, same_counted, stored_counted}
-use Rattle.capability.specs.Parts.{objects_in}
-use Rattle.kernel.specs.Machine.{IsEarly, answer_of}
 use Rattle.kernel.proofs.Performing.{ok_stayed}
 use Rattle.kernel.proofs.ProcessSteps.{early_none}
 use Rattle.kernel.proofs.MemoryServing.{early_store, store_answers, store_is_refused}

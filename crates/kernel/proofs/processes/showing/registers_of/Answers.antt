@@ -1,5 +1,4 @@
-use Rattle.std.proofs.Common.{ℕ, ◌<◌, length}
-use Rattle.gate.proofs.Known.{annex_known, one_known}
+use Rattle.kernel.proofs.Names.{ℕ, ◌<◌, length, annex_known, one_known}
 use Rattle.kernel.proofs.processes.showing.registers_of.Goals as goal
 
 pub fetch-requires-clause-known : goal.fetch-requires-clause-known

@@ -1,7 +1,4 @@
-use Rattle.std.proofs.Common.{◌≡◌, ℕ, ◌≤◌, ◌<◌, List, length, refl, ap, ◌∙◌, subst, arith}
-use Rattle.model.specs.declared.frame.ObjectHeader.{ObjectHeader}
-use Rattle.capability.specs.Parts.{objects_in}
-use Rattle.kernel.specs.Machine.{answer_of}
+use Rattle.kernel.proofs.Names.{◌≡◌, ℕ, ◌≤◌, ◌<◌, List, length, refl, ap, ◌∙◌, subst, arith, ObjectHeader, objects_in, answer_of}
 use Rattle.kernel.proofs.Performing.{AreSame, bad_number_serves, show_refused, shown_fine, shown_serves, shown_unfailed}
 use Rattle.kernel.proofs.processes.showing.show.Goals as goal
 

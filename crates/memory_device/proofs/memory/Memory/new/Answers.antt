@@ -1,5 +1,4 @@
-use Rattle.std.proofs.Common.{◌*◌, ◌∙◌, arith}
-use Rattle.device.proofs.Flat.{zeros_are}
+use Rattle.memory_device.proofs.Names.{◌*◌, ◌∙◌, arith, zeros_are}
 use Rattle.memory_device.proofs.memory.Memory.new.Goals as goal
 
 pub returns-clause-zeros : goal.returns-clause-zeros

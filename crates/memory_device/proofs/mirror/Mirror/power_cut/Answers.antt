@@ -1,6 +1,4 @@
-use Rattle.std.proofs.Common.{◌∙◌, ap, length, arith}
-use Rattle.std.proofs.lemmas.List.{take_rest}
-use Rattle.device.proofs.Flat.{rewritten}
+use Rattle.memory_device.proofs.Names.{◌∙◌, ap, length, arith, take_rest, rewritten}
 use Rattle.memory_device.proofs.Keeps.{sound_cut, cut_left, left_sound}
 use Rattle.memory_device.proofs.Entries.{past_cut, length-marked}
 use Rattle.memory_device.proofs.mirror.Mirror.power_cut.Goals as goal

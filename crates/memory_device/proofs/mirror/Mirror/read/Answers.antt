@@ -1,5 +1,4 @@
-use Rattle.std.proofs.Common.{◌∙◌, ◌+◌, arith}
-use Rattle.device.proofs.Flat.{got_inside}
+use Rattle.memory_device.proofs.Names.{◌∙◌, ◌+◌, arith, got_inside}
 use Rattle.memory_device.proofs.mirror.Mirror.read.Goals as goal
 
 pub returns : goal.returns

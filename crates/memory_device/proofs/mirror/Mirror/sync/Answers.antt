@@ -1,6 +1,4 @@
-use Rattle.std.proofs.Common.{◌∙◌, ap, length}
-use Rattle.std.proofs.lemmas.List.{take_rest}
-use Rattle.device.proofs.Flat.{rewritten}
+use Rattle.memory_device.proofs.Names.{◌∙◌, ap, length, take_rest, rewritten}
 use Rattle.memory_device.proofs.Keeps.{sound_synced}
 use Rattle.memory_device.proofs.Entries.{past_synced}
 use Rattle.memory_device.proofs.mirror.Mirror.sync.Goals as goal

@@ -1,6 +1,4 @@
-use Rattle.std.proofs.Common.{◌∙◌, ap, length, arith}
-use Rattle.device.proofs.Flat.{rewritten}
-use Rattle.device.specs.Calls.{sectors_of}
+use Rattle.memory_device.proofs.Names.{◌∙◌, ap, length, arith, rewritten, sectors_of}
 use Rattle.memory_device.proofs.Keeps.{sound_written}
 use Rattle.memory_device.proofs.Entries.{past_written, length_written}
 use Rattle.memory_device.proofs.mirror.Mirror.write.Goals as goal

@@ -1,12 +1,10 @@
-use Rattle.std.proofs.Common.{◌∙◌, refl}
-use Rattle.std.proofs.Common.{arith}
+use Rattle.migrator.proofs.Names.{◌∙◌, refl, arith, frozen_of, next_saved, seen_by, stored_on}
 use Rattle.migrator.proofs.Buffered.{entry_of}
 use Rattle.migrator.proofs.Commits.{commit_run, commit_stored, may_commit_now, mid_durable, mid_goes_on, mid_stored}
 use Rattle.migrator.proofs.Committing.{frozen_fits}
 use Rattle.migrator.proofs.Completed.{complete_at, keeps_at}
 use Rattle.migrator.proofs.Journaling.{either_first}
 use Rattle.migrator.proofs.Saving.{err_then, ok_then, on_err}
-use Rattle.migrator.specs.Durable.{frozen_of, next_saved, seen_by, stored_on}
 use Rattle.migrator.proofs.books.Books.commit.Goals as goal
 
 pub fill-requires : goal.fill-requires

@@ -1,9 +1,4 @@
-use Rattle.std.proofs.Common.{◌∙◌, ℕ, List, ap, sym, subst}
-use Rattle.layout.specs.Frame.{IsFrameOf}
-use Rattle.layout.specs.FrameReader.{frame_from}
-use Rattle.checkpoint.specs.Saved.{most}
-use Rattle.migrator.specs.declared.table.Place.TheVariants.{Nowhere, Torn, Whole}
-use Rattle.migrator.specs.Durable.{seen_by, working_generation}
+use Rattle.migrator.proofs.Names.{◌∙◌, ℕ, List, ap, sym, subst, IsFrameOf, frame_from, most, Nowhere, Torn, Whole, seen_by, working_generation}
 use Rattle.migrator.proofs.Buffered.{working_again}
 use Rattle.migrator.proofs.Fetching.{newest_by, ok_weaker, whole_low}
 use Rattle.migrator.proofs.books.Books.fetch.Goals as goal

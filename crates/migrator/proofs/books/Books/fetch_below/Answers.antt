@@ -1,6 +1,4 @@
-use Rattle.std.proofs.Common.{◌∙◌, sym}
-use Rattle.migrator.specs.declared.table.Place.TheVariants.{Nowhere, Torn, Whole}
-use Rattle.migrator.specs.Durable.{seen_by}
+use Rattle.migrator.proofs.Names.{◌∙◌, sym, Nowhere, Torn, Whole, seen_by}
 use Rattle.migrator.proofs.Fetching.{below_by, ok_weaker}
 use Rattle.migrator.proofs.books.Books.fetch_below.Goals as goal
 

@@ -1,6 +1,4 @@
-use Rattle.std.proofs.Common.{◌∙◌, sym}
-use Rattle.layout.proofs.Spelling.{read_at}
-use Rattle.migrator.specs.Durable.{seen_by}
+use Rattle.migrator.proofs.Names.{◌∙◌, sym, read_at, seen_by}
 use Rattle.migrator.proofs.Buffered.{read_raw, spelt_raw}
 use Rattle.migrator.proofs.Fetching.{ok_weaker}
 use Rattle.migrator.proofs.books.Books.fetch_saved.Goals as goal

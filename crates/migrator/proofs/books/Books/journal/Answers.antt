@@ -1,7 +1,4 @@
-use Rattle.std.proofs.Common.{◌∙◌, arith}
-use Rattle.checkpoint.specs.Saved.{journaled_saved}
-use Rattle.device.proofs.Moments.{counted_ok, counts_on}
-use Rattle.migrator.specs.Durable.{stored_on}
+use Rattle.migrator.proofs.Names.{◌∙◌, arith, journaled_saved, counted_ok, counts_on, stored_on}
 use Rattle.migrator.proofs.Saving.{err_then, ok_then, on_err}
 use Rattle.migrator.proofs.Journaling.{either_first, either_run, found, journaled_is, object_is}
 use Rattle.migrator.proofs.books.Books.journal.Goals as goal

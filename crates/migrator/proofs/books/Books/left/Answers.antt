@@ -1,6 +1,4 @@
-use Rattle.std.proofs.Common.{◌∙◌, ◌-◌, ap, sym, subst, arith, ℕ, Some}
-use Rattle.std.specs.Prelude.{option_map}
-use Rattle.migrator.specs.Durable.{IsRunning, frozen_generation, frozen_of, left_of}
+use Rattle.migrator.proofs.Names.{◌∙◌, ◌-◌, ap, sym, subst, arith, ℕ, Some, option_map, IsRunning, frozen_generation, frozen_of, left_of}
 use Rattle.migrator.proofs.Putting.{kept_whole}
 use Rattle.migrator.proofs.Tables.{whole_taken}
 use Rattle.migrator.proofs.books.Books.left.Goals as goal

@@ -1,6 +1,4 @@
-use Rattle.std.proofs.Common.{◌≡◌, ◌⊎◌, ◌∙◌, ◌<◌, ◌+◌, ◌-◌, subst, arith}
-use Rattle.device.proofs.Moments.{counted_ok}
-use Rattle.migrator.specs.declared.books.Books.{Books}
+use Rattle.migrator.proofs.Names.{◌≡◌, ◌⊎◌, ◌∙◌, ◌<◌, ◌+◌, ◌-◌, subst, arith, counted_ok, Books}
 use Rattle.migrator.proofs.Counting.{ok_counts}
 use Rattle.migrator.proofs.Saving.{on_err}
 use Rattle.migrator.proofs.Moves.{all_moments, all_number, all_stored, left_moments, left_number, left_stored, part_moments}

@@ -1,5 +1,4 @@
-use Rattle.std.proofs.Common.{◌<◌, ◌+◌, ◌∙◌, refl, arith, rules}
-use Rattle.device.proofs.Moments.{counted_ok}
+use Rattle.migrator.proofs.Names.{◌<◌, ◌+◌, ◌∙◌, refl, arith, rules, counted_ok}
 use Rattle.migrator.proofs.Moves.{moved_more, moved_none, next_low}
 use Rattle.migrator.proofs.Saving.{on_err}
 use Rattle.migrator.proofs.books.Books.move_some.Goals as goal

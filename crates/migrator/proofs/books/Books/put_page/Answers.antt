@@ -1,9 +1,4 @@
-use Rattle.std.proofs.Common.{◌∙◌, ap, arith, subst, sym}
-use Rattle.device.proofs.Moments.{counted_ok, counts_on}
-use Rattle.model.specs.Frame.{frame_at}
-use Rattle.layout.specs.Frame.{IsFrameOf}
-use Rattle.checkpoint.specs.Saved.{with_words}
-use Rattle.migrator.specs.Durable.{Stored, first_bytes, seen_by}
+use Rattle.migrator.proofs.Names.{◌∙◌, ap, arith, subst, sym, counted_ok, counts_on, frame_at, IsFrameOf, with_words, Stored, first_bytes, seen_by}
 use Rattle.migrator.proofs.Buffered.{durable_read, goes_read, stored_read}
 use Rattle.migrator.proofs.Journaling.{page_known, words_fit}
 use Rattle.migrator.proofs.Moving.{goes_trans}

@@ -1,16 +1,9 @@
-use Rattle.std.proofs.Common.{◌∙◌, ap, sym, subst}
-use Rattle.device.proofs.Moments.{counted_ok, counts_on}
-use Rattle.migrator.specs.Put.{Broken, Kept}
-use Rattle.migrator.specs.Durable.{Stored, stored_on, with_frozen}
-use Rattle.model.specs.declared.frame.Frame.{Frame}
+use Rattle.migrator.proofs.Names.{◌∙◌, ap, sym, subst, counted_ok, counts_on, Broken, Kept, Stored, stored_on, with_frozen, Frame, Plan, IsObject, IsKeepable}
+use Rattle.migrator.proofs.Names.{most}
 use Rattle.migrator.proofs.FrozenFrames.{put_twice}
 use Rattle.migrator.proofs.Moving.{goes_trans}
 use Rattle.migrator.proofs.Saving.{err_then, ok_then, on_err}
 use Rattle.migrator.proofs.Tearing.{torn_room}
-use Rattle.layout.specs.Superblock.{Plan}
-use Rattle.frame_io.specs.Frames.{IsObject}
-use Rattle.model.specs.Keepable.{IsKeepable}
-use Rattle.checkpoint.specs.Saved.{most}
 use Rattle.migrator.proofs.books.Books.put_running.Goals as goal
 
 pub returns-clause-put : goal.returns-clause-put

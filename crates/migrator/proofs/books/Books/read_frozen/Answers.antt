@@ -1,9 +1,4 @@
-use Rattle.std.proofs.Common.{◌∙◌, ℕ, List, refl, ap, sym, subst}
-use Rattle.layout.specs.Frame.{IsFrameOf, frame_of}
-use Rattle.layout.specs.FrameReader.{frame_from}
-use Rattle.checkpoint.specs.Saved.{most}
-use Rattle.migrator.specs.Table.{place_at}
-use Rattle.migrator.specs.Durable.{frozen_generation, seen_by}
+use Rattle.migrator.proofs.Names.{◌∙◌, ℕ, List, refl, ap, sym, subst, IsFrameOf, frame_of, frame_from, most, place_at, frozen_generation, seen_by}
 use Rattle.migrator.proofs.Buffered.{frozen_raw, own_frame, own_spelt}
 use Rattle.migrator.proofs.Fetching.{ok_weaker, whole_low}
 use Rattle.migrator.proofs.books.Books.read_frozen.Goals as goal

@@ -1,6 +1,4 @@
-use Rattle.std.proofs.Common.{◌∙◌, subst}
-use Rattle.checkpoint.specs.Saved.{LeavesEither}
-use Rattle.migrator.specs.Durable.{Stored, stored_on}
+use Rattle.migrator.proofs.Names.{◌∙◌, subst, LeavesEither, Stored, stored_on}
 use Rattle.migrator.proofs.Journaling.{may_replace, replaced_on}
 use Rattle.migrator.proofs.Saving.{ok_then}
 use Rattle.migrator.proofs.books.Books.save_first.Goals as goal

@@ -1,9 +1,4 @@
-use Rattle.std.proofs.Common.{◌∙◌, ap}
-use Rattle.device.specs.Disk.{Image}
-use Rattle.device.proofs.Images.{agrees_is}
-use Rattle.layout.specs.Homes.{home_place}
-use Rattle.layout.specs.Image.{bytes_at}
-use Rattle.migrator.specs.Durable.{seen_by}
+use Rattle.migrator.proofs.Names.{◌∙◌, ap, Image, agrees_is, home_place, bytes_at, seen_by}
 use Rattle.migrator.proofs.Buffered.{home_raw}
 use Rattle.migrator.proofs.Fetching.{ok_weaker}
 use Rattle.migrator.proofs.Journaling.{header_read}

@@ -1,8 +1,5 @@
-use Rattle.std.proofs.Common.{◌≡◌, ◌∙◌, ℕ, None, Option, sym, ap, subst, inl, inr, arith, rules}
-use Rattle.std.proofs.lemmas.Bool.{cases_lt}
-use Rattle.device.proofs.Moments.{counted_ok, counts_on}
-use Rattle.migrator.specs.Completed.{IsComplete, Keeps, KeepsOne}
-use Rattle.migrator.specs.Mended.{Unwritten}
+use Rattle.migrator.proofs.Names.{◌≡◌, ◌∙◌, ℕ, None, Option, sym, ap, subst, inl, inr, arith, rules, cases_lt, counted_ok, counts_on, IsComplete, Keeps}
+use Rattle.migrator.proofs.Names.{KeepsOne, Unwritten}
 use Rattle.migrator.proofs.Completing.{all_complete, complete_stays, keeps_more, keeps_written, unwritten_inside}
 use Rattle.migrator.proofs.cluster_buffer.ClusterBuffer.complete.Goals as goal
 

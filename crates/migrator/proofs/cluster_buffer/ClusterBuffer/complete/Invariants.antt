@@ -1,5 +1,4 @@
-use Rattle.std.proofs.Common.{◌≡◌, ◌<◌, ℕ, None}
-use Rattle.migrator.specs.Completed.{IsComplete, Keeps}
+use Rattle.migrator.proofs.Names.{◌≡◌, ◌<◌, ℕ, None, IsComplete, Keeps}
 use Rattle.migrator.proofs.cluster_buffer.ClusterBuffer.complete.Given as goal
 
 abbrev pub invariant-loop-index : goal.invariant-loop-index

@@ -1,17 +1,10 @@
-use Rattle.std.proofs.Common.{◌∙◌, ◌-◌, Some, Option, refl, sym, ap, subst, arith}
-use Rattle.device.specs.Disk.{Image}
-use Rattle.device.proofs.Images.{agrees_is}
-use Rattle.layout.specs.Image.{slot_sector}
+use Rattle.migrator.proofs.Names.{◌∙◌, ◌-◌, Some, Option, refl, sym, ap, subst, arith, Image, agrees_is, slot_sector, entry_at, shape_of, own_of, KeepsOne}
+use Rattle.migrator.proofs.Names.{Unwritten, mended}
 use Rattle.migrator.proofs.Mended.{touches_on}
 use Rattle.migrator.proofs.Saving.{ok_then}
 use Rattle.migrator.proofs.Spared.{reads_touch}
 use Rattle.migrator.proofs.Tables.{rewritten}
-use Rattle.layout.specs.Directory.{entry_at}
-use Rattle.layout.specs.Homes.{shape_of}
 use Rattle.migrator.proofs.Counting.{ok_counts}
-use Rattle.home_ranges.proofs.Shared.{own_of}
-use Rattle.migrator.specs.Completed.{KeepsOne}
-use Rattle.migrator.specs.Mended.{Unwritten, mended}
 use Rattle.migrator.proofs.Completing.{either_of, kept_one, one_complete, own_complete, keeps_one_none, later_complete, zeros_written}
 use Rattle.migrator.proofs.cluster_buffer.ClusterBuffer.complete_one.Goals as goal
 

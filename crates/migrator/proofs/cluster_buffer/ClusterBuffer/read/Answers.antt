@@ -1,7 +1,4 @@
-use Rattle.std.proofs.Common.{◌∙◌, ap, sym}
-use Rattle.layout.specs.declared.shape.Shape.TheVariants.{Packed}
-use Rattle.layout.specs.Frame.{frame_of}
-use Rattle.layout.specs.Shape.{shape_bytes}
+use Rattle.migrator.proofs.Names.{◌∙◌, ap, sym, Packed, frame_of, shape_bytes}
 use Rattle.migrator.proofs.Mended.{unwritten_bytes, buffer_read}
 use Rattle.migrator.proofs.cluster_buffer.ClusterBuffer.read.Goals as goal
 

@@ -1,8 +1,5 @@
-use Rattle.std.proofs.Common.{rules, ◌≡◌, ◌∙◌, ◌-◌, ◌<◌, ap, sym, subst, refl, arith, ℕ, Some}
-use Rattle.std.specs.Prelude.{option_map}
-use Rattle.device.specs.Disk.{Image}
-use Rattle.migrator.specs.declared.books.Books.{Books}
-use Rattle.migrator.specs.Durable.{FrozenPuts, IsRunning, MayCommit, frozen_generation, frozen_of, is_sound, left_of, seen_by, stored_of}
+use Rattle.migrator.proofs.Names.{rules, ◌≡◌, ◌∙◌, ◌-◌, ◌<◌, ap, sym, subst, refl, arith, ℕ, Some, option_map, Image, Books, FrozenPuts, IsRunning, MayCommit}
+use Rattle.migrator.proofs.Names.{frozen_generation, frozen_of, is_sound, left_of, seen_by, stored_of}
 use Rattle.migrator.proofs.Putting.{kept_whole}
 use Rattle.migrator.proofs.Tables.{whole_taken}
 use Rattle.migrator.proofs.durable.Durable.commit.Goals as goal

@@ -1,7 +1,4 @@
-use Rattle.std.proofs.Common.{◌≡◌, subst}
-use Rattle.std.specs.Prelude.{IfOk}
-use Rattle.layout.specs.Frame.{frame_of}
-use Rattle.migrator.specs.Durable.{newest, stored_of, ReadsStore}
+use Rattle.migrator.proofs.Names.{◌≡◌, subst, IfOk, frame_of, newest, stored_of, ReadsStore}
 use Rattle.migrator.proofs.Buffered.{durable_read}
 use Rattle.migrator.proofs.Fetching.{reads_store}
 use Rattle.migrator.proofs.durable.Durable.fetch.Goals as goal

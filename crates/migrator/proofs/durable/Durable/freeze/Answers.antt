@@ -1,6 +1,4 @@
-use Rattle.std.proofs.Common.{◌≡◌, ◌≤◌, None, rules, sym, subst}
-use Rattle.migrator.specs.Durable.{freezing, seen_by, stored_of, stored_on}
-use Rattle.migrator.specs.Put.{held_slot, sum_of}
+use Rattle.migrator.proofs.Names.{◌≡◌, ◌≤◌, None, rules, sym, subst, freezing, seen_by, stored_of, stored_on, held_slot, sum_of}
 use Rattle.migrator.proofs.Buffered.{none_idle, without}
 use Rattle.migrator.proofs.Freezing.{freeze_kept, freeze_stored, frozen_books}
 use Rattle.migrator.proofs.durable.Durable.freeze.Goals as goal

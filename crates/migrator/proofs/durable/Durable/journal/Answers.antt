@@ -1,5 +1,4 @@
-use Rattle.checkpoint.specs.Saved.{journaled_saved}
-use Rattle.migrator.specs.Durable.{stored_of}
+use Rattle.migrator.proofs.Names.{journaled_saved, stored_of}
 use Rattle.migrator.proofs.Journaling.{either_first}
 use Rattle.migrator.proofs.Moving.{goes_none}
 use Rattle.migrator.proofs.durable.Durable.journal.Goals as goal

@@ -1,6 +1,4 @@
-use Rattle.std.proofs.Common.{◌≡◌, subst}
-use Rattle.std.specs.Prelude.{option_map}
-use Rattle.migrator.specs.Durable.{left_of, seen_by, stored_of}
+use Rattle.migrator.proofs.Names.{◌≡◌, subst, option_map, left_of, seen_by, stored_of}
 use Rattle.migrator.proofs.durable.Durable.left.Goals as goal
 
 pub left-requires : goal.left-requires

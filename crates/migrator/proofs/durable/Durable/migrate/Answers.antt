@@ -1,7 +1,4 @@
-use Rattle.std.proofs.Common.{◌≡◌, ◌-◌, ◌≤◌, ℕ, sym, subst}
-use Rattle.std.specs.Prelude.{IfOk, OnErr, OnOk}
-use Rattle.checkpoint.specs.Saved.{LeavesEither}
-use Rattle.migrator.specs.Durable.{is_sound, moved, moved_saved, stored_of}
+use Rattle.migrator.proofs.Names.{◌≡◌, ◌-◌, ◌≤◌, ℕ, sym, subst, IfOk, OnErr, OnOk, LeavesEither, is_sound, moved, moved_saved, stored_of}
 use Rattle.migrator.proofs.durable.Durable.migrate.Goals as goal
 
 pub migrate-requires-clause-stands : goal.migrate-requires-clause-stands

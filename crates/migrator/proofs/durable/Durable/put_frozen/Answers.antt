@@ -1,7 +1,4 @@
-use Rattle.std.proofs.Common.{◌≡◌, Some, ap, sym, subst}
-use Rattle.std.specs.Prelude.{option_map}
-use Rattle.migrator.specs.Durable.{FrozenPuts, frozen_of, seen_by, stored_of}
-use Rattle.migrator.specs.Put.{HasRoom}
+use Rattle.migrator.proofs.Names.{◌≡◌, Some, ap, sym, subst, option_map, FrozenPuts, frozen_of, seen_by, stored_of, HasRoom}
 use Rattle.migrator.proofs.durable.Durable.put_frozen.Goals as goal
 
 pub put_running-requires-clause-room : goal.put_running-requires-clause-room

@@ -1,11 +1,4 @@
-use Rattle.std.proofs.Common.{◌≡◌, sym, subst}
-use Rattle.std.specs.Prelude.{OnErr, OnOk}
-use Rattle.model.specs.Keepable.{IsKeepable}
-use Rattle.model.specs.declared.frame.Frame.{Frame}
-use Rattle.frame_io.specs.Frames.{IsObject}
-use Rattle.checkpoint.specs.Saved.{most}
-use Rattle.migrator.specs.Durable.{GoesOn, stored_of, with_working}
-use Rattle.migrator.specs.Put.{Broken, HasRoom, Kept}
+use Rattle.migrator.proofs.Names.{◌≡◌, sym, subst, OnErr, OnOk, IsKeepable, Frame, IsObject, most, GoesOn, stored_of, with_working, Broken, HasRoom, Kept}
 use Rattle.migrator.proofs.durable.Durable.put_working.Goals as goal
 
 pub put_working-requires-clause-stands : goal.put_working-requires-clause-stands

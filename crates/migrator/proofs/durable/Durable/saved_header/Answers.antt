@@ -1,7 +1,4 @@
-use Rattle.std.proofs.Common.{◌≡◌, subst}
-use Rattle.std.specs.Prelude.{IfOk}
-use Rattle.model.specs.Frame.{frame_at}
-use Rattle.migrator.specs.Durable.{stored_of, ReadsStore}
+use Rattle.migrator.proofs.Names.{◌≡◌, subst, IfOk, frame_at, stored_of, ReadsStore}
 use Rattle.migrator.proofs.Buffered.{durable_read}
 use Rattle.migrator.proofs.Fetching.{reads_store}
 use Rattle.migrator.proofs.durable.Durable.saved_header.Goals as goal

@@ -1,10 +1,4 @@
-use Rattle.std.proofs.Common.{sym, subst, take, ℕ}
-use Rattle.device.specs.Disk.{Image}
-use Rattle.device.proofs.Images.{agrees_is}
-use Rattle.layout.specs.Spelt.{frames_read}
-use Rattle.layout.specs.Superblock.{Plan}
-use Rattle.migrator.specs.Opened.{IsRead}
-use Rattle.checkpoint.specs.Opened.{IsBadFor}
+use Rattle.migrator.proofs.Names.{sym, subst, take, ℕ, Image, agrees_is, frames_read, Plan, IsRead, IsBadFor}
 use Rattle.migrator.proofs.Reading.{if_both, err_weaker}
 use Rattle.migrator.proofs.durable.open.read_parts.Goals as goal
 

@@ -1,11 +1,7 @@
-use Rattle.std.proofs.Common.{rules, ◌≡◌, ◌+◌, ◌<◌, ◌≤◌, arith, length, refl, sym, ap, subst}
-use Rattle.std.proofs.lemmas.List.Elements.{All-contains}
-use Rattle.model.specs.Machine.{touched_count, touching}
-use Rattle.migrator.specs.Durable.{stored_of}
+use Rattle.object_cache.proofs.Names.{rules, ◌≡◌, ◌+◌, ◌<◌, ◌≤◌, arith, length, refl, sym, ap, subst, All-contains, touched_count, touching, stored_of}
+use Rattle.object_cache.proofs.Names.{StoreState, GoesOnIn, IsAnnouncedIn, IsFetchedIn, memory_of}
 use Rattle.object_cache.proofs.Marks.{mark_stands, mark_seen}
 use Rattle.object_cache.proofs.Readying.{fetched_same, marked_announced, mark_leads}
-use Rattle.object_cache.specs.StoreState.{StoreState, GoesOnIn, IsAnnouncedIn, IsFetchedIn}
-use Rattle.object_cache.specs.Memory.{memory_of}
 use Rattle.object_cache.proofs.cache.Cache.announce.Goals as goal
 
 pub invariant_of-self : goal.invariant_of-self

@@ -1,8 +1,5 @@
-use Rattle.std.proofs.Common.{◌∙◌, ◌<◌, length, sym, ap, subst}
-use Rattle.model.specs.Frame.{held_at}
-use Rattle.object_cache.specs.StoreState.{StoreState, seat_at}
+use Rattle.object_cache.proofs.Names.{◌∙◌, ◌<◌, length, sym, ap, subst, held_at, StoreState, seat_at, goes_on_twice}
 use Rattle.object_cache.proofs.Bringing.{read_recent, rest_on, rest_read, seat_first, seat_hand, seat_leads, seat_recent, seat_rest}
-use Rattle.object_cache.specs.PresentLaws.{goes_on_twice}
 use Rattle.object_cache.proofs.Outcomes.{ok_then, ok_both}
 use Rattle.object_cache.proofs.cache.Cache.bring.Goals as goal
 

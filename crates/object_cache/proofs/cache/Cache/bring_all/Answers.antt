@@ -1,8 +1,5 @@
-use Rattle.std.proofs.Common.{◌<◌, sym, subst, length}
-use Rattle.std.specs.List.{All}
-use Rattle.object_cache.specs.StoreState.{StoreState}
+use Rattle.object_cache.proofs.Names.{◌<◌, sym, subst, length, All, StoreState, goes_on_twice}
 use Rattle.object_cache.proofs.Bringing.{keepable_on, rest_on}
-use Rattle.object_cache.specs.PresentLaws.{goes_on_twice}
 use Rattle.object_cache.proofs.cache.Cache.bring_all.Goals as goal
 
 pub returns-clause-leads : goal.returns-clause-leads

@@ -1,11 +1,5 @@
-use Rattle.std.proofs.Common.{List, set, Some, ap, ◌∙◌}
-use Rattle.model.specs.declared.frame.ObjectHeader.{ObjectHeader}
+use Rattle.object_cache.proofs.Names.{List, set, Some, ap, ◌∙◌, ObjectHeader, claimed, header_at, void_held, role_of, fresh_content, memory_of, StoreState}
 use Rattle.model.specs.declared.object.Content.TheVariants as content
-use Rattle.model.specs.Frame.{claimed, header_at, void_held}
-use Rattle.model.specs.Object.{role_of}
-use Rattle.capability.specs.Parts.{fresh_content}
-use Rattle.object_cache.specs.Memory.{memory_of}
-use Rattle.object_cache.specs.StoreState.{StoreState}
 use Rattle.object_cache.proofs.Objects.{has_entry}
 use Rattle.object_cache.proofs.Claims.{room_taken, claim_stands, claim_seen}
 use Rattle.object_cache.proofs.cache.Cache.claim.Goals as goal

@@ -1,5 +1,4 @@
-use Rattle.std.proofs.Common.{rules, ◌≡◌, ◌∙◌, sym}
-use Rattle.migrator.specs.Durable.{stored_of}
+use Rattle.object_cache.proofs.Names.{rules, ◌≡◌, ◌∙◌, sym, stored_of}
 use Rattle.object_cache.proofs.Homes.{ready_of}
 use Rattle.object_cache.proofs.cache.Cache.commit.Goals as goal
 

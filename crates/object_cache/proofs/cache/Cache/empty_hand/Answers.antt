@@ -1,10 +1,5 @@
-use Rattle.std.proofs.Common.{◌≤◌, refl, sym, ap, subst, ◌∙◌, arith}
-use Rattle.std.specs.Prelude.{option_copied}
-use Rattle.model.specs.Machine.{touched_count}
-use Rattle.migrator.specs.Durable.{stored_of}
-use Rattle.object_cache.specs.Memory.{let_go, memory_of}
-use Rattle.object_cache.specs.StoreState.{StoreState}
-use Rattle.object_cache.specs.PresentLaws.{goes_on_same}
+use Rattle.object_cache.proofs.Names.{◌≤◌, refl, sym, ap, subst, ◌∙◌, arith, option_copied, touched_count, stored_of, let_go, memory_of, StoreState}
+use Rattle.object_cache.proofs.Names.{goes_on_same}
 use Rattle.object_cache.proofs.Outcomes.{ok_then}
 use Rattle.object_cache.proofs.Paying.{let_go_own, ok_counts, paid_put}
 use Rattle.object_cache.proofs.Settling.{held_number}

@@ -1,13 +1,7 @@
-use Rattle.std.proofs.Common.{refl, sym, ap, ◌∙◌}
-use Rattle.checkpoint.specs.Saved.{most}
-use Rattle.migrator.specs.Durable.{stored_of}
-use Rattle.capability.proofs.Keeping.{keepable_at}
-use Rattle.object_cache.specs.StoreState.{StoreState, parts_of, seat_at}
+use Rattle.object_cache.proofs.Names.{refl, sym, ap, ◌∙◌, most, stored_of, keepable_at, StoreState, parts_of, seat_at, goes_on_same, memory_of}
 use Rattle.object_cache.proofs.Outcomes.{ok_then}
 use Rattle.object_cache.proofs.Owing.{fetched_by, unseated_by, seat_gone}
 use Rattle.object_cache.proofs.Paying.{away_rest, ok_counts}
-use Rattle.object_cache.specs.PresentLaws.{goes_on_same}
-use Rattle.object_cache.specs.Memory.{memory_of}
 use Rattle.object_cache.proofs.cache.Cache.evict.Goals as goal
 
 pub put_away-requires-clause-fetched : goal.put_away-requires-clause-fetched

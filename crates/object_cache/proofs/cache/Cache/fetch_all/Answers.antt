@@ -1,7 +1,5 @@
-use Rattle.std.proofs.Common.{◌∙◌, refl, arith}
-use Rattle.object_cache.specs.StoreState.{IsFetchedIn}
+use Rattle.object_cache.proofs.Names.{◌∙◌, refl, arith, IsFetchedIn, goes_on_same, goes_on_twice}
 use Rattle.object_cache.proofs.Bringing.{keepable_on, rest_on, no_failure, all_listed, recent_on}
-use Rattle.object_cache.specs.PresentLaws.{goes_on_same, goes_on_twice}
 use Rattle.object_cache.proofs.cache.Cache.fetch_all.Goals as goal
 
 pub returns-in_err-fetch_one-clause-leads : goal.returns-in_err-fetch_one-clause-leads

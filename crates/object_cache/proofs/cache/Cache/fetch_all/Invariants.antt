@@ -1,6 +1,5 @@
-use Rattle.std.proofs.Common.{◌≡◌, ℕ, ◌<◌, None, slice_index_or}
-use Rattle.object_cache.specs.StoreState.{GoesOnIn}
-use Rattle.object_cache.specs.Prepared.{IsRecentIn, on_device_with}
+use Rattle.object_cache.proofs.Names.{◌≡◌, ℕ, ◌<◌, None, GoesOnIn, IsRecentIn, on_device_with}
+use Rattle.std.proofs.Common.{slice_index_or}
 use Rattle.object_cache.proofs.cache.Cache.fetch_all.Given as goal
 
 abbrev pub invariant-loop-number : goal.invariant-loop-number

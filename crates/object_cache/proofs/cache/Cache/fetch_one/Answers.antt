@@ -1,9 +1,5 @@
-use Rattle.std.proofs.Common.{◌∷◌, sym, ap, subst, ◌∙◌}
-use Rattle.cache_entries.specs.Order.{without}
-use Rattle.object_cache.specs.StoreState.{StoreState, GoesOnIn, seat_at}
-use Rattle.object_cache.specs.Prepared.{IsRecentIn}
+use Rattle.object_cache.proofs.Names.{◌∷◌, sym, ap, subst, ◌∙◌, without, StoreState, GoesOnIn, seat_at, IsRecentIn, goes_on_same}
 use Rattle.object_cache.proofs.Bringing.{use_first, use_recent}
-use Rattle.object_cache.specs.PresentLaws.{goes_on_same}
 use Rattle.object_cache.proofs.Leading.{leads_seats}
 use Rattle.object_cache.proofs.Outcomes.{ok_then}
 use Rattle.object_cache.proofs.cache.Cache.fetch_one.Goals as goal

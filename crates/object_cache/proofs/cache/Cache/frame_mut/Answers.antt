@@ -1,7 +1,4 @@
-use Rattle.std.proofs.Common.{refl, ap, ◌∙◌}
-use Rattle.migrator.specs.Durable.{stored_of}
-use Rattle.object_cache.specs.Memory.{memory_of}
-use Rattle.object_cache.specs.StoreState.{StoreState, with_content_in}
+use Rattle.object_cache.proofs.Names.{refl, ap, ◌∙◌, stored_of, memory_of, StoreState, with_content_in}
 use Rattle.object_cache.proofs.Objects.{known, has_entry, entry_holds, body_stands, seen_body}
 use Rattle.object_cache.proofs.cache.Cache.frame_mut.Goals as goal
 

@@ -1,8 +1,5 @@
-use Rattle.std.proofs.Common.{sym, subst}
-use Rattle.migrator.specs.Durable.{is_sound, left_of, stored_of}
-use Rattle.object_cache.specs.StoreState.{StoreState}
+use Rattle.object_cache.proofs.Names.{sym, subst, is_sound, left_of, stored_of, StoreState, memory_of}
 use Rattle.object_cache.proofs.Freezing.{none_of, freeze_enough, freeze_stands, freeze_contents, freeze_touched, freeze_aside}
-use Rattle.object_cache.specs.Memory.{memory_of}
 use Rattle.object_cache.proofs.cache.Cache.freeze.Goals as goal
 
 pub freeze-requires-clause-enough : goal.freeze-requires-clause-enough

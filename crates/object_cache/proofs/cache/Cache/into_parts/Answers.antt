@@ -1,6 +1,4 @@
-use Rattle.std.proofs.Common.{◌≡◌, ◌∙◌, ap, length, arith}
-use Rattle.object_cache.specs.Memory.{memory_of}
-use Rattle.object_cache.specs.StoreState.{StoreState}
+use Rattle.object_cache.proofs.Names.{◌≡◌, ◌∙◌, ap, length, arith, memory_of, StoreState}
 use Rattle.object_cache.proofs.Emptying.{contents_each, taken_are}
 use Rattle.object_cache.proofs.Objects.{has_entry}
 use Rattle.object_cache.proofs.cache.Cache.into_parts.Goals as goal

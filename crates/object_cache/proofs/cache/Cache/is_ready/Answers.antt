@@ -1,8 +1,5 @@
-use Rattle.std.proofs.Common.{◌≢◌, ◌<◌, length}
-use Rattle.std.proofs.lemmas.List.Elements.{All-contains}
+use Rattle.object_cache.proofs.Names.{◌≢◌, ◌<◌, length, All-contains, header_at, memory_of}
 use Rattle.model.specs.declared.object.Role.TheVariants as role
-use Rattle.model.specs.Frame.{header_at}
-use Rattle.object_cache.specs.Memory.{memory_of}
 use Rattle.object_cache.proofs.Readying.{count_within, ready_announced, ready_touched}
 use Rattle.object_cache.proofs.cache.Cache.is_ready.Goals as goal
 

@@ -1,7 +1,5 @@
-use Rattle.migrator.specs.Durable.{stored_of}
-use Rattle.object_store.proofs.Journaling.{journal_there}
+use Rattle.object_cache.proofs.Names.{stored_of, journal_there, memory_of}
 use Rattle.object_cache.proofs.Journaling.{journal_known, journal_object, journal_page, stands_after, seen_after, aside_after, aside_stays, answer_seen, moments_seen}
-use Rattle.object_cache.specs.Memory.{memory_of}
 use Rattle.object_cache.proofs.cache.Cache.journal.Goals as goal
 
 pub journal_page-requires-clause-known : goal.journal_page-requires-clause-known

@@ -1,6 +1,4 @@
-use Rattle.std.proofs.Common.{refl, sym}
-use Rattle.model.specs.Machine.{touching}
-use Rattle.object_cache.specs.PresentLaws.{goes_on_same, goes_on_twice}
+use Rattle.object_cache.proofs.Names.{refl, sym, touching, goes_on_same, goes_on_twice}
 use Rattle.object_cache.proofs.Preparing.{leads_ready, rest_marked, rest_ready, within_ready}
 use Rattle.object_cache.proofs.Outcomes.{ok_then}
 use Rattle.object_cache.proofs.cache.Cache.make_writable.Goals as goal

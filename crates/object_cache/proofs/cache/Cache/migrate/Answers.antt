@@ -1,7 +1,4 @@
-use Rattle.std.proofs.Common.{sym, subst}
-use Rattle.migrator.specs.Durable.{is_sound}
-use Rattle.object_cache.specs.Memory.{memory_of}
-use Rattle.object_cache.specs.StoreState.{StoreState}
+use Rattle.object_cache.proofs.Names.{sym, subst, is_sound, memory_of, StoreState}
 use Rattle.object_cache.proofs.Homes.{moved_stands, moved_seen, moved_then}
 use Rattle.object_cache.proofs.cache.Cache.migrate.Goals as goal
 

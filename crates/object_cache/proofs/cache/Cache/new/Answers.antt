@@ -1,5 +1,4 @@
-use Rattle.std.proofs.Common.{refl}
-use Rattle.migrator.specs.Durable.{stored_of}
+use Rattle.object_cache.proofs.Names.{refl, stored_of}
 use Rattle.object_cache.proofs.Opening.{made_over, open_cache}
 use Rattle.object_cache.proofs.cache.Cache.new.Goals as goal
 

@@ -1,7 +1,4 @@
-use Rattle.std.proofs.Common.{sym, ap, ◌∙◌, is_some}
-use Rattle.std.specs.Prelude.{option_copied}
-use Rattle.object_cache.specs.Memory.{memory_of, is_owing}
-use Rattle.object_cache.specs.StoreState.{owed_at}
+use Rattle.object_cache.proofs.Names.{sym, ap, ◌∙◌, is_some, option_copied, memory_of, is_owing, owed_at}
 use Rattle.object_cache.proofs.Owing.{owing_yes, owing_none, owed_by, owed_without, fetched_by}
 use Rattle.object_cache.proofs.cache.Cache.owes.Goals as goal
 

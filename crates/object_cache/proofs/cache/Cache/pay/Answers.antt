@@ -1,5 +1,4 @@
-use Rattle.std.proofs.Common.{refl}
-use Rattle.object_cache.specs.PresentLaws.{goes_on_same}
+use Rattle.object_cache.proofs.Names.{refl, goes_on_same}
 use Rattle.object_cache.proofs.Paying.{ok_counts, paid, paid_empty, paid_put}
 use Rattle.object_cache.proofs.cache.Cache.pay.Goals as goal
 

@@ -1,7 +1,4 @@
-use Rattle.std.proofs.Common.{◌<◌, sym, subst, length}
-use Rattle.std.specs.List.{All}
-use Rattle.object_cache.specs.StoreState.{StoreState}
-use Rattle.object_cache.specs.PresentLaws.{goes_on_twice}
+use Rattle.object_cache.proofs.Names.{◌<◌, sym, subst, length, All, StoreState, goes_on_twice}
 use Rattle.object_cache.proofs.Preparing.{rest_alone, rest_on_ready, within_on}
 use Rattle.object_cache.proofs.Outcomes.{on_ok}
 use Rattle.object_cache.proofs.cache.Cache.prepare.Goals as goal

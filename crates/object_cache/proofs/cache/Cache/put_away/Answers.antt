@@ -1,8 +1,4 @@
-use Rattle.std.proofs.Common.{◌∙◌, set, None, ap}
-use Rattle.device.proofs.Moments.{counted_ok}
-use Rattle.cache_entries.specs.Order.{without}
-use Rattle.object_cache.specs.PresentLaws.{goes_on_twice}
-use Rattle.object_cache.specs.StoreState.{StoreState, owed_at}
+use Rattle.object_cache.proofs.Names.{◌∙◌, set, None, ap, counted_ok, without, goes_on_twice, StoreState, owed_at}
 use Rattle.object_cache.proofs.Leading.{leads_seats, put_on}
 use Rattle.object_cache.proofs.Outcomes.{on_err}
 use Rattle.object_cache.proofs.Paying.{away_on, fetched_on, keepable_on, masked_on, ok_counts}

@@ -1,9 +1,6 @@
-use Rattle.std.proofs.Common.{◌<◌, ℕ, ap, subst, ◌∙◌}
-use Rattle.device.proofs.Moments.{counted_ok, counts_on}
-use Rattle.object_cache.specs.StoreState.{StoreState, owed_at, pending_count}
+use Rattle.object_cache.proofs.Names.{◌<◌, ℕ, ap, subst, ◌∙◌, counted_ok, counts_on, StoreState, owed_at, pending_count, goes_on_twice}
 use Rattle.object_cache.proofs.Leading.{put_on, same_put}
 use Rattle.object_cache.proofs.Outcomes.{ok_then}
-use Rattle.object_cache.specs.PresentLaws.{goes_on_twice}
 use Rattle.object_cache.proofs.cache.Cache.put_below.Goals as goal
 
 pub returns-clause-leads : goal.returns-clause-leads

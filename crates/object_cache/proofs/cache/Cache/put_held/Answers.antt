@@ -1,10 +1,5 @@
-use Rattle.std.proofs.Common.{sym, ap, ◌∙◌, arith}
-use Rattle.std.proofs.lemmas.Option.{none-some}
-use Rattle.device.proofs.Moments.{counted_ok}
-use Rattle.std.specs.Prelude.{option_copied}
+use Rattle.object_cache.proofs.Names.{sym, ap, ◌∙◌, arith, none-some, counted_ok, option_copied, memory_of, StoreState}
 use Rattle.object_cache.proofs.Settling.{held_frozen, held_known, held_running, held_owed, held_room, held_keepable, settled_fewer, settled_stands, settled_put, settled_leads, unsettled_stands, unsettled_put, unsettled_leads}
-use Rattle.object_cache.specs.Memory.{memory_of}
-use Rattle.object_cache.specs.StoreState.{StoreState}
 use Rattle.object_cache.proofs.Paying.{ok_counts}
 use Rattle.object_cache.proofs.cache.Cache.put_held.Goals as goal
 

@@ -1,17 +1,9 @@
-use Rattle.std.proofs.Common.{refl, sym, ap, ◌∙◌, ◌<◌, ◌≡◌, length, take, subst, None}
-use Rattle.std.specs.Prelude.{OnOk, OnErr}
-use Rattle.model.specs.Frame.{header_at, held_at}
-use Rattle.model.specs.Keepable.{IsKeepable}
-use Rattle.checkpoint.specs.Saved.{most}
-use Rattle.migrator.specs.Durable.{stored_of}
-use Rattle.capability.proofs.Keeping.{keepable_at}
-use Rattle.cache_entries.specs.Order.{EntriesState}
-use Rattle.device.specs.Calls.{Counts}
+use Rattle.object_cache.proofs.Names.{refl, sym, ap, ◌∙◌, ◌<◌, ◌≡◌, length, take, subst, None, OnOk, OnErr, header_at, held_at, IsKeepable, most, stored_of}
+use Rattle.object_cache.proofs.Names.{keepable_at, EntriesState, Counts, StoreState, GoesOnIn, IsFetchedIn, cache_of, on_device, parts_of, seat_at}
+use Rattle.object_cache.proofs.Names.{without_seat, memory_of}
 use Rattle.object_cache.proofs.Paying.{away_rest}
-use Rattle.object_cache.specs.StoreState.{StoreState, GoesOnIn, IsFetchedIn, cache_of, on_device, parts_of, seat_at, without_seat}
 use Rattle.object_cache.proofs.Outcomes.{ok_then, either_way}
 use Rattle.object_cache.proofs.Owing.{some_least, least_known, least_fetched, least_room, least_order, least_others, still_unseated}
-use Rattle.object_cache.specs.Memory.{memory_of}
 use Rattle.object_cache.proofs.cache.Cache.put_least.Goals as goal
 
 pub unreachable-requires : goal.unreachable-requires

@@ -1,8 +1,6 @@
-use Rattle.std.proofs.Common.{◌∙◌, true≢false, sym, ap, arith}
+use Rattle.object_cache.proofs.Names.{◌∙◌, true≢false, sym, ap, arith, memory_of, StoreState, pending_count}
 use Rattle.std.specs.Prelude.{is_some}
 use Rattle.object_cache.proofs.Outcomes.{ok_then}
-use Rattle.object_cache.specs.Memory.{memory_of}
-use Rattle.object_cache.specs.StoreState.{StoreState, pending_count}
 use Rattle.object_cache.proofs.Turns.{few_left, none_marked}
 use Rattle.object_cache.proofs.cache.Cache.put_next.Goals as goal
 

@@ -1,6 +1,4 @@
-use Rattle.std.proofs.Common.{◌≡◌, ◌≤◌, ◌-◌, Some, ap, ◌∙◌, arith}
-use Rattle.object_cache.specs.Memory.{memory_of}
-use Rattle.object_cache.specs.StoreState.{StoreState, pending_count}
+use Rattle.object_cache.proofs.Names.{◌≡◌, ◌≤◌, ◌-◌, Some, ap, ◌∙◌, arith, memory_of, StoreState, pending_count}
 use Rattle.object_cache.proofs.Turns.{turned_stands}
 use Rattle.object_cache.proofs.cache.Cache.put_one.Goals as goal
 

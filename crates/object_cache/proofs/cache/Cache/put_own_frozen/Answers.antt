@@ -1,11 +1,8 @@
-use Rattle.std.proofs.Common.{sym, ap, ◌∙◌}
-use Rattle.std.specs.Prelude.{option_copied}
-use Rattle.cache_entries.specs.Entries.{entry_at}
+use Rattle.object_cache.proofs.Names.{sym, ap, ◌∙◌, option_copied, entry_at, memory_of}
 use Rattle.object_cache.proofs.Objects.{has_entry}
 use Rattle.object_cache.proofs.Outcomes.{on_err}
 use Rattle.object_cache.proofs.Owing.{none_there}
 use Rattle.object_cache.proofs.PutsOut.{own_fewer, own_running, own_keepable, own_room, out_stands, out_seen, out_leads, torn_stands, torn_seen, torn_leads}
-use Rattle.object_cache.specs.Memory.{memory_of}
 use Rattle.object_cache.proofs.cache.Cache.put_own_frozen.Goals as goal
 
 pub unreachable-requires : goal.unreachable-requires

@@ -1,5 +1,4 @@
-use Rattle.std.proofs.Common.{rules, ◌∙◌, ◌<◌, ◌+◌, arith}
-use Rattle.device.proofs.Moments.{counted_ok}
+use Rattle.object_cache.proofs.Names.{rules, ◌∙◌, ◌<◌, ◌+◌, arith, counted_ok}
 use Rattle.object_cache.proofs.Outcomes.{on_err}
 use Rattle.object_cache.proofs.Turns.{next_asked, puts_more}
 use Rattle.object_cache.proofs.cache.Cache.put_some.Goals as goal

@@ -1,5 +1,4 @@
-use Rattle.std.proofs.Common.{◌≡◌}
-use Rattle.object_cache.specs.StoreState.{PutsBy}
+use Rattle.object_cache.proofs.Names.{◌≡◌, PutsBy}
 use Rattle.object_cache.proofs.cache.Cache.put_some.Given as goal
 
 abbrev pub invariant-loop : goal.invariant-loop

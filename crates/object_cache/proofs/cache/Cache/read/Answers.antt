@@ -1,8 +1,5 @@
-use Rattle.std.proofs.Common.{ap, ◌∙◌}
-use Rattle.model.specs.declared.frame.ObjectHeader.{ObjectHeader}
-use Rattle.migrator.specs.Durable.{newest, stored_of}
+use Rattle.object_cache.proofs.Names.{ap, ◌∙◌, ObjectHeader, newest, stored_of, masked, memory_of}
 use Rattle.object_cache.proofs.Fetched.{read_holds, read_leads, read_seen, read_stands}
-use Rattle.object_cache.specs.Memory.{masked, memory_of}
 use Rattle.object_cache.proofs.cache.Cache.read.Goals as goal
 
 pub returns-clause-content : goal.returns-clause-content

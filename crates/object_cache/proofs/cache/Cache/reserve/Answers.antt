@@ -1,11 +1,4 @@
-use Rattle.std.proofs.Common.{ap, ◌∙◌, set, Some}
-use Rattle.model.specs.declared.capability.Cap.{Cap}
-use Rattle.model.specs.declared.geometry.Geometry.{Geometry}
-use Rattle.model.specs.declared.object.Content.{Content}
-use Rattle.migrator.specs.Durable.{stored_of}
-use Rattle.capability.specs.Plain.{room_at}
-use Rattle.object_cache.specs.Memory.{memory_of}
-use Rattle.object_cache.specs.StoreState.{StoreState}
+use Rattle.object_cache.proofs.Names.{ap, ◌∙◌, set, Some, Cap, Geometry, Content, stored_of, room_at, memory_of, StoreState}
 use Rattle.object_cache.proofs.Objects.{has_entry}
 use Rattle.object_cache.proofs.Reserving.{reserve_stands, reserve_seen}
 use Rattle.object_cache.proofs.cache.Cache.reserve.Goals as goal

@@ -1,5 +1,4 @@
-use Rattle.std.proofs.Common.{refl, arith}
-use Rattle.object_cache.specs.Prepared.{HasRoomIn}
+use Rattle.object_cache.proofs.Names.{refl, arith, HasRoomIn}
 use Rattle.object_cache.proofs.Bringing.{all_listed}
 use Rattle.object_cache.proofs.Preparing.{items_more, seats_on}
 use Rattle.object_cache.proofs.cache.Cache.reserve_all.Goals as goal

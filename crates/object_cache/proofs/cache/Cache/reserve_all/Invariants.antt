@@ -1,6 +1,5 @@
-use Rattle.std.proofs.Common.{◌≡◌, ℕ, ◌<◌, slice_index_or}
-use Rattle.object_cache.specs.StoreState.{IsFetchedIn}
-use Rattle.object_cache.specs.Prepared.{HasRoomIn}
+use Rattle.object_cache.proofs.Names.{◌≡◌, ℕ, ◌<◌, IsFetchedIn, HasRoomIn}
+use Rattle.std.proofs.Common.{slice_index_or}
 use Rattle.object_cache.proofs.cache.Cache.reserve_all.Given as goal
 
 abbrev pub invariant-loop-number : goal.invariant-loop-number

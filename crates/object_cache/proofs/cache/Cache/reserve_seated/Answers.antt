@@ -1,7 +1,4 @@
-use Rattle.std.proofs.Common.{ℕ, sym, subst, ◌∙◌}
-use Rattle.object_cache.specs.Memory.{memory_of}
-use Rattle.object_cache.specs.StoreState.{StoreState, IsFetchedIn}
-use Rattle.object_cache.specs.Prepared.{HasRoomIn}
+use Rattle.object_cache.proofs.Names.{ℕ, sym, subst, ◌∙◌, memory_of, StoreState, IsFetchedIn, HasRoomIn}
 use Rattle.object_cache.proofs.Outcomes.{either_way, ok_then}
 use Rattle.object_cache.proofs.Owing.{fetched_by, unseated_by}
 use Rattle.object_cache.proofs.Readying.{with_room_in, reserved_room, reserved_others, reserved_fetched, no_seat}

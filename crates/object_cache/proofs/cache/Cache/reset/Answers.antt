@@ -1,9 +1,5 @@
-use Rattle.std.proofs.Common.{set, refl, ap, ◌∙◌}
+use Rattle.object_cache.proofs.Names.{set, refl, ap, ◌∙◌, header_at, given_up, stored_of, memory_of, StoreState}
 use Rattle.model.specs.declared.object.Content.TheVariants as content
-use Rattle.model.specs.Frame.{header_at, given_up}
-use Rattle.migrator.specs.Durable.{stored_of}
-use Rattle.object_cache.specs.Memory.{memory_of}
-use Rattle.object_cache.specs.StoreState.{StoreState}
 use Rattle.object_cache.proofs.Objects.{known, free_stands, seen_free}
 use Rattle.object_cache.proofs.cache.Cache.reset.Goals as goal
 

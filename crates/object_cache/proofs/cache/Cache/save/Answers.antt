@@ -1,12 +1,6 @@
-use Rattle.std.proofs.Common.{sym, subst, ap, ◌∙◌, ℕ, Option, Some}
-use Rattle.std.proofs.lemmas.Option.{same_Some}
-use Rattle.migrator.specs.Durable.{is_sound, stored_of}
-use Rattle.checkpoint.specs.Refused.{IsCommitAnswer}
-use Rattle.checkpoint.specs.Saved.{LeavesEither}
-use Rattle.object_store.specs.Store.{FrozenFrames, next_saved}
-use Rattle.object_cache.specs.StoreState.{StoreState}
+use Rattle.object_cache.proofs.Names.{sym, subst, ap, ◌∙◌, ℕ, Option, Some, same_Some, is_sound, stored_of, IsCommitAnswer, LeavesEither, FrozenFrames}
+use Rattle.object_cache.proofs.Names.{next_saved, StoreState, memory_of}
 use Rattle.object_cache.proofs.Homes.{save_left, save_ready, save_moments, save_stands, save_contents, save_rest, save_aside}
-use Rattle.object_cache.specs.Memory.{memory_of}
 use Rattle.object_cache.proofs.cache.Cache.save.Goals as goal
 
 pub commit-requires-clause-sound : goal.commit-requires-clause-sound

@@ -1,10 +1,6 @@
-use Rattle.std.proofs.Common.{◌≤◌, None, refl, sym, ap, subst, ◌∙◌}
+use Rattle.object_cache.proofs.Names.{◌≤◌, None, refl, sym, ap, subst, ◌∙◌, stored_of, Entry, EntriesState, with_new, memory_of, StoreState, IsCache}
+use Rattle.object_cache.proofs.Names.{IsFetchedIn, cache_of}
 use Rattle.model.specs.declared.object.Content.TheVariants as content
-use Rattle.migrator.specs.Durable.{stored_of}
-use Rattle.cache_entries.specs.declared.entry.Entry.{Entry}
-use Rattle.cache_entries.specs.Order.{EntriesState, with_new}
-use Rattle.object_cache.specs.Memory.{memory_of}
-use Rattle.object_cache.specs.StoreState.{StoreState, IsCache, IsFetchedIn, cache_of}
 use Rattle.object_cache.proofs.Outcomes.{either_way, ok_then}
 use Rattle.object_cache.proofs.Bringing.{seat_fetched}
 use Rattle.object_cache.proofs.Seating.{no_entry, seat_stands, seat_seen}

@@ -1,8 +1,4 @@
-use Rattle.std.proofs.Common.{set, refl, ap, ◌∙◌}
-use Rattle.model.specs.Frame.{header_at, owned_by}
-use Rattle.migrator.specs.Durable.{stored_of}
-use Rattle.object_cache.specs.Memory.{memory_of}
-use Rattle.object_cache.specs.StoreState.{StoreState}
+use Rattle.object_cache.proofs.Names.{set, refl, ap, ◌∙◌, header_at, owned_by, stored_of, memory_of, StoreState}
 use Rattle.object_cache.proofs.Objects.{known, header_stands, seen_header}
 use Rattle.object_cache.proofs.cache.Cache.set_owner.Goals as goal
 

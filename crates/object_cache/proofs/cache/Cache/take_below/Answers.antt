@@ -1,11 +1,6 @@
-use Rattle.std.proofs.Common.{◌∙◌, Option, ap, sym}
-use Rattle.object_cache.specs.declared.held.Held.{Held}
-use Rattle.object_cache.specs.StoreState.{StoreState}
-use Rattle.model.specs.declared.frame.Frame.{Frame}
-use Rattle.layout.specs.Frame.{content_of}
+use Rattle.object_cache.proofs.Names.{◌∙◌, Option, ap, sym, Held, StoreState, Frame, content_of, memory_of}
 use Rattle.object_cache.proofs.Fetched.{read_leads, read_seen, read_stands}
 use Rattle.object_cache.proofs.Taking.{taken_stands, taken_seen, taken_leads}
-use Rattle.object_cache.specs.Memory.{memory_of}
 use Rattle.object_cache.proofs.cache.Cache.take_below.Goals as goal
 
 pub invariant_of-self-2 : goal.invariant_of-self-2

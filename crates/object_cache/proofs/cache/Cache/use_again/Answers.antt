@@ -1,11 +1,5 @@
-use Rattle.std.proofs.Common.{arith, ◌≤◌, ◌<◌, length, sym, ap, subst, ◌∙◌}
-use Rattle.std.proofs.lemmas.List.Elements.{All-contains}
-use Rattle.model.specs.Machine.{touched_count}
-use Rattle.migrator.specs.Durable.{stored_of}
-use Rattle.object_cache.specs.Memory.{memory_of}
-use Rattle.cache_entries.specs.Order.{EntriesState, used_in_turn}
-use Rattle.object_cache.specs.StoreState.{StoreState, GoesOnIn, IsCache, IsFetchedIn, cache_of}
-use Rattle.object_cache.specs.PresentLaws.{goes_on_same}
+use Rattle.object_cache.proofs.Names.{arith, ◌≤◌, ◌<◌, length, sym, ap, subst, ◌∙◌, All-contains, touched_count, stored_of, memory_of, EntriesState}
+use Rattle.object_cache.proofs.Names.{used_in_turn, StoreState, GoesOnIn, IsCache, IsFetchedIn, cache_of, goes_on_same}
 use Rattle.object_cache.proofs.Leading.{leads_seats}
 use Rattle.object_cache.proofs.Owing.{fetched_by}
 use Rattle.object_cache.proofs.cache.Cache.use_again.Goals as goal

@@ -1,8 +1,4 @@
-use Rattle.std.proofs.Common.{◌∷◌, ◌≤◌, sym, ap, ◌∙◌}
-use Rattle.migrator.specs.Durable.{stored_of}
-use Rattle.object_cache.specs.Memory.{memory_of}
-use Rattle.cache_entries.specs.Order.{EntriesState, used_now, without}
-use Rattle.object_cache.specs.StoreState.{StoreState, IsCache}
+use Rattle.object_cache.proofs.Names.{◌∷◌, ◌≤◌, sym, ap, ◌∙◌, stored_of, memory_of, EntriesState, used_now, without, StoreState, IsCache}
 use Rattle.object_cache.proofs.Outcomes.{whichever}
 use Rattle.object_cache.proofs.Owing.{fetched_by, unseated_by}
 use Rattle.object_cache.proofs.cache.Cache.use_now.Goals as goal

@@ -1,6 +1,4 @@
-use Rattle.std.proofs.Common.{◌≡◌, None, refl, sym, ◌∙◌}
-use Rattle.std.proofs.lemmas.List.{get_or_default}
-use Rattle.reach.specs.Levels.{found_at}
+use Rattle.reach.proofs.Names.{◌≡◌, None, refl, sym, ◌∙◌, get_or_default, found_at}
 use Rattle.reach.proofs.Finding.{begun, begun_before, none_of, some_of}
 use Rattle.reach.proofs.levels.Levels.begin.Goals as goal
 

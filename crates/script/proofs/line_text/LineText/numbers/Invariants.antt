@@ -1,5 +1,4 @@
-use Rattle.std.proofs.Common.{◌≡◌, ◌+◌, ◌*◌, ◌≤◌, ◌∷◌, ◌++◌, length, take, decimal}
-use Rattle.std.specs.List.{flat_map}
+use Rattle.script.proofs.Names.{◌≡◌, ◌+◌, ◌*◌, ◌≤◌, ◌∷◌, ◌++◌, length, take, decimal, flat_map}
 use Rattle.script.proofs.line_text.LineText.numbers.Given as goal
 
 abbrev pub invariant-loop-number : goal.invariant-loop-number

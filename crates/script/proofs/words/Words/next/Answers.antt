@@ -1,5 +1,4 @@
-use Rattle.std.proofs.Common.{◌≡◌, sym, ◌∙◌}
-use Rattle.script.specs.Reading.{words_of}
+use Rattle.script.proofs.Names.{◌≡◌, sym, ◌∙◌, words_of}
 use Rattle.script.proofs.Split.{no_space, first_piece}
 use Rattle.script.proofs.words.Words.next.Goals as goal
 

@@ -1,11 +1,5 @@
-use Rattle.std.proofs.Common.{◌≡◌, ◌<◌, ◌+◌, ◌^◌, ◌∙◌, ℕ, List, ap, subst, sym, true}
-use Rattle.std.specs.Prelude.{slice_index}
-use Rattle.std.proofs.lemmas.List.{with_items_is}
-use Rattle.model.specs.Bank.{chain}
-use Rattle.model.specs.Revoke.{is_member}
-use Rattle.capability.specs.Parts.{objects_in}
-use Rattle.space_bank.specs.Banks.{BanksState}
-use Rattle.space_bank.specs.Chains.{IsRaised}
+use Rattle.space_bank.proofs.Names.{◌≡◌, ◌<◌, ◌+◌, ◌^◌, ◌∙◌, ℕ, List, ap, subst, sym, true, slice_index, with_items_is, chain, is_member, objects_in}
+use Rattle.space_bank.proofs.Names.{BanksState, IsRaised}
 use Rattle.space_bank.proofs.Standing.{room_fits}
 use Rattle.space_bank.proofs.banks.Banks.account.Goals as goal
 

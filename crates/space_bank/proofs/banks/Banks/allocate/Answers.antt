@@ -1,7 +1,4 @@
-use Rattle.std.proofs.Common.{◌≡◌, arith, ap, length}
-use Rattle.model.specs.Bank.{chain}
-use Rattle.capability.specs.Parts.{objects_in}
-use Rattle.space_bank.specs.Banks.{BanksState}
+use Rattle.space_bank.proofs.Names.{◌≡◌, arith, ap, length, chain, objects_in, BanksState}
 use Rattle.space_bank.proofs.Carried.{IsMade, alone_carried, taken_one}
 use Rattle.space_bank.proofs.Standing.{free_role, serve_count}
 use Rattle.space_bank.proofs.banks.Banks.allocate.Goals as goal

@@ -1,11 +1,5 @@
-use Rattle.std.proofs.Common.{List, arith, drop, refl, subst, ℕ}
-use Rattle.std.specs.List.{All}
-use Rattle.model.specs.declared.capability.Capability.TheVariants.{Void}
-use Rattle.model.specs.Banking.{new_annex, new_root, with_new}
-use Rattle.capability.specs.declared.order.BankChange.{BankChange}
-use Rattle.capability.specs.Parts.{fresh_content, objects_in}
-use Rattle.space_bank.specs.Allocating.{numbers_of}
-use Rattle.space_bank.specs.Carrying.{MayMake}
+use Rattle.space_bank.proofs.Names.{List, arith, drop, refl, subst, ℕ, All, Void, new_annex, new_root, with_new, BankChange, fresh_content, objects_in}
+use Rattle.space_bank.proofs.Names.{numbers_of, MayMake}
 use Rattle.space_bank.proofs.Carried.{fresh_used}
 use Rattle.space_bank.proofs.Ending.{aside_alone}
 use Rattle.space_bank.proofs.Renewing.{new_stays}

@@ -1,6 +1,4 @@
-use Rattle.std.proofs.Common.{ap, arith}
-use Rattle.model.specs.declared.geometry.Geometry.{Geometry}
-use Rattle.capability.proofs.Keeping.{keepable_count}
+use Rattle.space_bank.proofs.Names.{ap, arith, Geometry, keepable_count}
 use Rattle.space_bank.proofs.banks.Banks.count.Goals as goal
 
 pub read_all-requires-clause-known : goal.read_all-requires-clause-known

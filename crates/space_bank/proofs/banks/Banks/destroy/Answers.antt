@@ -1,8 +1,4 @@
-use Rattle.std.proofs.Common.{List, subst, sym, ℕ}
-use Rattle.model.specs.World.{owner_at}
-use Rattle.capability.specs.Parts.{objects_in}
-use Rattle.space_bank.specs.Carrying.{MayGiveUp}
-use Rattle.capability.proofs.Frames.{owner_read}
+use Rattle.space_bank.proofs.Names.{List, subst, sym, ℕ, owner_at, objects_in, MayGiveUp, owner_read}
 use Rattle.space_bank.proofs.Giving.{destroyed_gives, serve_parent, under_within}
 use Rattle.space_bank.proofs.Standing.{serve_now}
 use Rattle.space_bank.proofs.banks.Banks.destroy.Goals as goal

@@ -1,5 +1,4 @@
-use Rattle.std.proofs.Common.{drop}
-use Rattle.capability.specs.Parts.{objects_in}
+use Rattle.space_bank.proofs.Names.{drop, objects_in}
 use Rattle.space_bank.proofs.Giving.{freed_gives}
 use Rattle.space_bank.proofs.Standing.{serve_now}
 use Rattle.space_bank.proofs.banks.Banks.free.Goals as goal

@@ -1,14 +1,5 @@
-use Rattle.std.proofs.Common.{◌≡◌, ◌+◌, ◌-◌, ◌∙◌, ◌++◌, true, false, ℕ, List, ap, arith, drop, length, subst, sym, take}
-use Rattle.std.specs.Prelude.{if◌then◌else◌}
-use Rattle.std.proofs.lemmas.List.{length-drop}
-use Rattle.model.specs.Bank.{chain}
-use Rattle.model.specs.Object.{is_free}
-use Rattle.model.specs.Revoke.{is_member, rescind}
-use Rattle.model.specs.World.{content_at}
-use Rattle.capability.specs.Parts.{objects_in}
-use Rattle.space_bank.specs.Banks.{BanksState}
-use Rattle.space_bank.specs.Chains.{IsRaised}
-use Rattle.number_set.specs.Marks.{is_marked}
+use Rattle.space_bank.proofs.Names.{◌≡◌, ◌+◌, ◌-◌, ◌∙◌, ◌++◌, true, false, ℕ, List, ap, arith, drop, length, subst, sym, take, if◌then◌else◌, length-drop}
+use Rattle.space_bank.proofs.Names.{chain, is_free, is_member, rescind, content_at, objects_in, BanksState, IsRaised, is_marked}
 use Rattle.space_bank.proofs.Ending.{AreKnown, ended_aside, ended_carried, enough_used, list_allocations, list_calls, list_marks, released_then, rest_is}
 use Rattle.space_bank.proofs.banks.Banks.give_up.Goals as goal
 

@@ -1,7 +1,4 @@
-use Rattle.std.proofs.Common.{◌≤◌, ◌<◌, ◌∙◌, sym, ap, arith}
-use Rattle.std.specs.List.{list_all}
-use Rattle.model.specs.Banking.{left_of}
-use Rattle.capability.specs.Parts.{objects_in}
+use Rattle.space_bank.proofs.Names.{◌≤◌, ◌<◌, ◌∙◌, sym, ap, arith, list_all, left_of, objects_in}
 use Rattle.space_bank.proofs.Walks.{chain_past, fits, left_counted, limit_known, owner_is_bank, room_begun, room_last, room_next, room_refused, usage_known, usage_within, within_counted}
 use Rattle.space_bank.proofs.banks.Banks.has_room.Goals as goal
 

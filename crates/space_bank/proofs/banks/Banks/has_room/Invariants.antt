@@ -1,9 +1,4 @@
-use Rattle.std.proofs.Common.{◌≡◌, ◌-◌}
-use Rattle.std.specs.List.{list_all}
-use Rattle.model.specs.Bank.{chain_within}
-use Rattle.model.specs.Banking.{has_room}
-use Rattle.capability.specs.Parts.{objects_in}
-use Rattle.space_bank.specs.Planning.{IsBankOf}
+use Rattle.space_bank.proofs.Names.{◌≡◌, ◌-◌, list_all, chain_within, has_room, objects_in, IsBankOf}
 use Rattle.space_bank.proofs.Walks.{fits}
 use Rattle.space_bank.proofs.banks.Banks.has_room.Given as goal
 

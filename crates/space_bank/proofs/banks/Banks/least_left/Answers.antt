@@ -1,7 +1,4 @@
-use Rattle.std.proofs.Common.{◌≡◌, ◌-◌, ◌∙◌, [], sym}
-use Rattle.model.specs.Banking.{left_of}
-use Rattle.model.specs.Bank.{chain_within}
-use Rattle.capability.specs.Parts.{objects_in}
+use Rattle.space_bank.proofs.Names.{◌≡◌, ◌-◌, ◌∙◌, [], sym, left_of, chain_within, objects_in}
 use Rattle.space_bank.proofs.Walks.{chain_past, least_begun, least_last, least_next, least_on, left_counted, limit_known, owner_is_bank, usage_known, within_counted}
 use Rattle.space_bank.proofs.banks.Banks.least_left.Goals as goal
 

@@ -1,8 +1,4 @@
-use Rattle.std.proofs.Common.{◌≡◌, ◌-◌, map}
-use Rattle.model.specs.Bank.{chain_within}
-use Rattle.model.specs.Banking.{least, left_of, remaining}
-use Rattle.capability.specs.Parts.{objects_in}
-use Rattle.space_bank.specs.Planning.{IsBankOf}
+use Rattle.space_bank.proofs.Names.{◌≡◌, ◌-◌, map, chain_within, least, left_of, remaining, objects_in, IsBankOf}
 use Rattle.space_bank.proofs.banks.Banks.least_left.Given as goal
 
 abbrev pub invariant-loop-step : goal.invariant-loop-step

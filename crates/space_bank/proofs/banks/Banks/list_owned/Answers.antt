@@ -1,5 +1,4 @@
-use Rattle.std.proofs.Common.{ap}
-use Rattle.space_bank.specs.Banks.{BanksState}
+use Rattle.space_bank.proofs.Names.{ap, BanksState}
 use Rattle.space_bank.proofs.Missing.{bank_free}
 use Rattle.space_bank.proofs.banks.Banks.list_owned.Goals as goal
 

@@ -1,7 +1,4 @@
-use Rattle.std.proofs.Common.{subst}
-use Rattle.capability.specs.declared.present.Fresh.{Fresh}
-use Rattle.capability.specs.Parts.{IsFreshAt, objects_in}
-use Rattle.space_bank.specs.Carrying.{IsMadeUnder}
+use Rattle.space_bank.proofs.Names.{subst, Fresh, IsFreshAt, objects_in, IsMadeUnder}
 use Rattle.space_bank.proofs.Carried.{alone_under}
 use Rattle.space_bank.proofs.banks.Banks.make_one.Goals as goal
 

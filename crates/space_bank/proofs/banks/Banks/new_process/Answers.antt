@@ -1,13 +1,5 @@
-use Rattle.std.proofs.Common.{◌∙◌, List, ap, false, subst, sym}
-use Rattle.std.specs.Prelude.{slice_set}
-use Rattle.model.specs.declared.geometry.Geometry.{Geometry}
-use Rattle.model.specs.declared.object.Object.{Object}
-use Rattle.model.specs.Banking.{new_annex, new_root, with_new}
-use Rattle.model.specs.Keepable.{AreKeepable}
-use Rattle.space_bank.specs.Banks.{BanksState}
-use Rattle.space_bank.specs.Carrying.{marks_of}
-use Rattle.model.specs.Bank.{chain}
-use Rattle.capability.specs.Parts.{frames_of, objects_in}
+use Rattle.space_bank.proofs.Names.{◌∙◌, List, ap, false, subst, sym, slice_set, Geometry, Object, new_annex, new_root, with_new, AreKeepable, BanksState}
+use Rattle.space_bank.proofs.Names.{marks_of, chain, frames_of, objects_in}
 use Rattle.space_bank.proofs.Carried.{IsMade, process_carried, still_free, taken_one, taken_two}
 use Rattle.space_bank.proofs.Standing.{free_role}
 use Rattle.space_bank.proofs.banks.Banks.new_process.Goals as goal

@@ -1,9 +1,5 @@
-use Rattle.std.proofs.Common.{ap, sym, ◌∙◌}
-use Rattle.model.specs.declared.geometry.Geometry.{Geometry}
+use Rattle.space_bank.proofs.Names.{ap, sym, ◌∙◌, Geometry, objects_in, new_at, process_at, BanksState}
 use Rattle.capability.specs.declared.present.Fresh.TheVariants as fresh
-use Rattle.capability.specs.Parts.{objects_in}
-use Rattle.space_bank.specs.Allocating.{new_at, process_at}
-use Rattle.space_bank.specs.Banks.{BanksState}
 use Rattle.space_bank.proofs.Found.{nodes_are, nodes_marked, pages_are, pages_marked}
 use Rattle.space_bank.proofs.banks.Banks.next_free.Goals as goal
 

@@ -1,12 +1,5 @@
-use Rattle.std.proofs.Common.{ap, refl, subst, sym, ◌∙◌}
-use Rattle.model.specs.declared.order.BankOrder.{BankOrder}
+use Rattle.space_bank.proofs.Names.{ap, refl, subst, sym, ◌∙◌, BankOrder, usage, remaining, limit_in, content_at, objects_in, IsPlanned}
 use Rattle.model.specs.declared.order.BankOrder.TheVariants as bank
-use Rattle.model.specs.Bank.{usage}
-use Rattle.model.specs.Banking.{remaining}
-use Rattle.model.specs.Object.{limit_in}
-use Rattle.model.specs.World.{content_at}
-use Rattle.capability.specs.Parts.{objects_in}
-use Rattle.space_bank.specs.Carrying.{IsPlanned}
 use Rattle.space_bank.proofs.Plans.{answer, bank_asked, planned_none, remaining_there, told_as}
 use Rattle.space_bank.proofs.banks.Banks.plan.Goals as goal
 

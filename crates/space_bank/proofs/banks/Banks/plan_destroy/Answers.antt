@@ -1,11 +1,6 @@
-use Rattle.std.proofs.Common.{length, refl, ap}
-use Rattle.model.specs.declared.capability.Capability.TheVariants.{Void}
+use Rattle.space_bank.proofs.Names.{length, refl, ap, Void, under, GiveUp, objects_in, BanksState}
 use Rattle.model.specs.declared.order.BankOrder.TheVariants as bank
 use Rattle.model.specs.declared.order.ResultCode.TheVariants as code
-use Rattle.model.specs.Banking.{under}
-use Rattle.capability.specs.declared.order.BankChange.TheVariants.{GiveUp}
-use Rattle.capability.specs.Parts.{objects_in}
-use Rattle.space_bank.specs.Banks.{BanksState}
 use Rattle.space_bank.proofs.Making.{may_destroy}
 use Rattle.space_bank.proofs.Plans.{bank_room, destroy_prime, destroy_there, made_as, planned_as, planned_none, refused_as}
 use Rattle.space_bank.proofs.banks.Banks.plan_destroy.Goals as goal

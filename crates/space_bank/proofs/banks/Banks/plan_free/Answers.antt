@@ -1,11 +1,6 @@
-use Rattle.std.proofs.Common.{◌++◌, ◌∙◌, ℕ, List, [], ◌∷◌, append_assoc, refl, sym, ap}
-use Rattle.model.specs.declared.capability.Capability.TheVariants.{Void}
+use Rattle.space_bank.proofs.Names.{◌++◌, ◌∙◌, ℕ, List, [], ◌∷◌, append_assoc, refl, sym, ap, Void, GiveUp, objects_in, BanksState, annex_among, annex_of}
 use Rattle.model.specs.declared.order.BankOrder.TheVariants as bank
 use Rattle.model.specs.declared.order.ResultCode.TheVariants as code
-use Rattle.capability.specs.declared.order.BankChange.TheVariants.{GiveUp}
-use Rattle.capability.specs.Parts.{objects_in}
-use Rattle.space_bank.specs.Banks.{BanksState}
-use Rattle.space_bank.specs.Planning.{annex_among, annex_of}
 use Rattle.space_bank.proofs.Making.{may_free}
 use Rattle.space_bank.proofs.Plans.{annex_kept, frees_none_there, frees_other_there, frees_own_there, made_as, planned_as, planned_none, process_room, refused_as}
 use Rattle.space_bank.proofs.banks.Banks.plan_free.Goals as goal

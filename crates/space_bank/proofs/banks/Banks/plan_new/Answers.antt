@@ -1,10 +1,5 @@
-use Rattle.std.proofs.Common.{◌≡◌, ◌∙◌, true, false, ap, arith, refl, sym}
-use Rattle.model.specs.declared.capability.Capability.{Capability}
+use Rattle.space_bank.proofs.Names.{◌≡◌, ◌∙◌, true, false, ap, arith, refl, sym, Capability, has_room, objects_in, count_of, given_by, numbers_of, BanksState}
 use Rattle.model.specs.declared.order.ResultCode.TheVariants as code
-use Rattle.model.specs.Banking.{has_room}
-use Rattle.capability.specs.Parts.{objects_in}
-use Rattle.space_bank.specs.Allocating.{count_of, given_by, numbers_of}
-use Rattle.space_bank.specs.Banks.{BanksState}
 use Rattle.space_bank.proofs.Making.{may_new}
 use Rattle.space_bank.proofs.Plans.{making, made_as, new_deep, new_limit, new_made, new_none, planned_as, planned_none, refused_as}
 use Rattle.space_bank.proofs.banks.Banks.plan_new.Goals as goal

@@ -1,12 +1,6 @@
-use Rattle.std.proofs.Common.{◌++◌, ◌∙◌, [], ◌∷◌, length, append_assoc, refl, ap, arith}
-use Rattle.std.proofs.lemmas.List.{length-append}
-use Rattle.model.specs.declared.capability.Capability.TheVariants.{Void}
+use Rattle.space_bank.proofs.Names.{◌++◌, ◌∙◌, [], ◌∷◌, length, append_assoc, refl, ap, arith, length-append, Void, owned_by, HandOn, objects_in, BanksState}
 use Rattle.model.specs.declared.order.BankOrder.TheVariants as bank
 use Rattle.model.specs.declared.order.ResultCode.TheVariants as code
-use Rattle.model.specs.Banking.{owned_by}
-use Rattle.capability.specs.declared.order.BankChange.TheVariants.{HandOn}
-use Rattle.capability.specs.Parts.{objects_in}
-use Rattle.space_bank.specs.Banks.{BanksState}
 use Rattle.space_bank.proofs.Making.{may_return}
 use Rattle.space_bank.proofs.Missing.{bank_listing}
 use Rattle.space_bank.proofs.Plans.{bank_room, made_as, planned_as, planned_none, refused_as, return_prime, return_there}

@@ -1,9 +1,4 @@
-use Rattle.std.proofs.Common.{◌≡◌, ◌∙◌, ℕ, List, ap, subst, sym}
-use Rattle.std.proofs.lemmas.List.{with_items_is}
-use Rattle.model.specs.Bank.{chain}
-use Rattle.capability.specs.Parts.{objects_in}
-use Rattle.space_bank.specs.Banks.{BanksState}
-use Rattle.space_bank.specs.Chains.{IsRaised}
+use Rattle.space_bank.proofs.Names.{◌≡◌, ◌∙◌, ℕ, List, ap, subst, sym, with_items_is, chain, objects_in, BanksState, IsRaised}
 use Rattle.space_bank.proofs.banks.Banks.release.Goals as goal
 
 pub returns-clause-usages : goal.returns-clause-usages

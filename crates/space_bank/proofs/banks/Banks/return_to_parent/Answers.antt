@@ -1,22 +1,6 @@
-use Rattle.std.proofs.Common.{◌≡◌, ◌<◌, ◌+◌, ◌-◌, ◌^◌, ◌∙◌, ◌++◌, ◌∷◌, [], false, ℕ, List, ap, arith, drop, length, subst, sym, take}
-use Rattle.std.specs.List.{All}
-use Rattle.std.proofs.lemmas.List.{length-append}
-use Rattle.model.specs.declared.capability.Capability.{Capability}
-use Rattle.model.specs.declared.geometry.Geometry.{Geometry}
-use Rattle.model.specs.declared.object.Content.{Content}
-use Rattle.model.specs.declared.object.Object.{Object}
-use Rattle.model.specs.Bank.{chain}
-use Rattle.model.specs.Banking.{owned_by}
-use Rattle.model.specs.Frame.{header_at}
-use Rattle.model.specs.Keepable.{AreKeepable}
-use Rattle.model.specs.Object.{is_free}
-use Rattle.model.specs.Revoke.{rescind}
-use Rattle.model.specs.World.{content_at, owner_at}
-use Rattle.capability.specs.Parts.{frames_of, objects_in}
-use Rattle.space_bank.specs.Banks.{BanksState}
-use Rattle.space_bank.specs.Carrying.{AreHandedOn}
-use Rattle.space_bank.specs.Chains.{IsRaised}
-use Rattle.capability.proofs.Frames.{owner_read}
+use Rattle.space_bank.proofs.Names.{◌≡◌, ◌<◌, ◌+◌, ◌-◌, ◌^◌, ◌∙◌, ◌++◌, ◌∷◌, [], false, ℕ, List, ap, arith, drop, length, subst, sym, take, All, length-append}
+use Rattle.space_bank.proofs.Names.{Capability, Geometry, Content, Object, chain, owned_by, header_at, AreKeepable, is_free, rescind, content_at, owner_at}
+use Rattle.space_bank.proofs.Names.{frames_of, objects_in, BanksState, AreHandedOn, IsRaised, owner_read}
 use Rattle.space_bank.proofs.Ending.{aside_then_ended, ended_aside, released_then, rest_is}
 use Rattle.space_bank.proofs.Giving.{serve_parent}
 use Rattle.space_bank.proofs.Owners.{handed_same}

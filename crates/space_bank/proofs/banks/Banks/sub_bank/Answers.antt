@@ -1,8 +1,4 @@
-use Rattle.std.proofs.Common.{ap}
-use Rattle.std.specs.Prelude.{slice_set}
-use Rattle.model.specs.Bank.{chain}
-use Rattle.capability.specs.Parts.{objects_in}
-use Rattle.space_bank.specs.Banks.{BanksState}
+use Rattle.space_bank.proofs.Names.{ap, slice_set, chain, objects_in, BanksState}
 use Rattle.space_bank.proofs.Carried.{IsMade, bank_carried, taken_one}
 use Rattle.space_bank.proofs.Standing.{free_role}
 use Rattle.space_bank.proofs.banks.Banks.sub_bank.Goals as goal

@@ -1,14 +1,6 @@
-use Rattle.std.proofs.Common.{◌≡◌, ◌<◌, ◌≤◌, ◌+◌, List, length, sym, ap, subst, arith}
-use Rattle.model.specs.declared.geometry.Geometry.{Geometry}
-use Rattle.std.specs.Vec.{vec_capacity}
-use Rattle.model.specs.declared.frame.ObjectHeader.{ObjectHeader}
-use Rattle.model.specs.Sound.{object_count}
-use Rattle.model.specs.World.{content_at}
-use Rattle.capability.specs.Parts.{frames_of, objects_in}
-use Rattle.capability.proofs.Keeping.{keepable_count, keepable_roles}
-use Rattle.space_bank.specs.Banks.{BanksState}
+use Rattle.space_bank.proofs.Names.{◌≡◌, ◌<◌, ◌≤◌, ◌+◌, List, length, sym, ap, subst, arith, Geometry, vec_capacity, ObjectHeader, object_count, content_at}
+use Rattle.space_bank.proofs.Names.{frames_of, objects_in, keepable_count, keepable_roles, BanksState, bank_number, root_number}
 use Rattle.space_bank.proofs.Counts.{counted_from, numbers_fit, room_told}
-use Rattle.capability.proofs.KindNumbers.{bank_number, root_number}
 use Rattle.space_bank.proofs.banks.Banks.with_numbers.Goals as goal
 
 pub free_numbers-requires-2-clause-fits : goal.free_numbers-requires-2-clause-fits

@@ -1,5 +1,4 @@
-use Rattle.std.proofs.Common.{Some, ap, ◌∙◌, rules}
-use Rattle.vezhnake.specs.declared.session.Session.{Session}
+use Rattle.vezhnake.proofs.Names.{Some, ap, ◌∙◌, rules, Session}
 use Rattle.vezhnake.proofs.Handles.{opens_new, without}
 use Rattle.vezhnake.proofs.handle.Handle.open.Goals as goal
 

@@ -1,5 +1,5 @@
 -- `new` makes the empty struct, with the bytes that its clauses name.
-use Rattle.std.proofs.Common.{[], ◌∷◌, ◌<◌, ◌^◌, length, refl}
+use Rattle.vezhnake.proofs.Names.{[], ◌∷◌, ◌<◌, ◌^◌, length, refl, fresh}
 use seplogic.Ra.Ura.{Ura}
 use mir.Syntax.{named}
 use mir.Val.{Val}
@@ -32,7 +32,6 @@ use Rattle.vezhnake.specs.contracts.history.History.new as f
 use Rattle.vezhnake.proofs.history.History.new.Statement as stated
 use Rattle.vezhnake.proofs.history.History.new.Code as code
 use Rattle.vezhnake.specs.contracts.history.History as made_type
-use Rattle.vezhnake.specs.Steps.{fresh}
 use Rattle.vezhnake.proofs.Walks.{none}
 
 abbrev stayed : Stays (f.ended).signature.params (f.ended).kept

@@ -1,5 +1,5 @@
 -- `then` makes the empty struct, with the data that its clauses name.
-use Rattle.std.proofs.Common.{List, [], ◌∷◌, ◌++◌, refl}
+use Rattle.vezhnake.proofs.Names.{List, [], ◌∷◌, ◌++◌, refl, stepped}
 use seplogic.Ra.Ura.{Ura}
 use mir.Syntax.{Fn}
 use mir.Val.{Val, vptr}
@@ -28,7 +28,6 @@ use denote.Triple.Walked.{says, Stays, stay_dropped, walk_of, ends_at, walk_Meet
 use Rattle.vezhnake.proofs.Walks.{none, none_made}
 use Rattle.vezhnake.specs.contracts.history.History as History
 use Rattle.vezhnake.specs.contracts.history.Step as Step
-use Rattle.vezhnake.specs.Steps.{stepped}
 use Rattle.vezhnake.specs.contracts.history.History.then as F
 use Rattle.vezhnake.specs.contracts.history.History.then.Key.{name as #self}
 use Rattle.vezhnake.proofs.history.History.then.Statement as stated

@@ -1,7 +1,5 @@
-use Rattle.std.proofs.Common.{sym, subst}
-use Rattle.vezhnake.specs.declared.host_kernel.HostKernel.{HostKernel}
+use Rattle.vezhnake.proofs.Names.{sym, subst, HostKernel, RunsKernel}
 use Rattle.vezhnake.specs.declared.host_kernel.HostKernel.TheVariants as store
-use Rattle.vezhnake.specs.Sessions.{RunsKernel}
 use Rattle.vezhnake.proofs.host_kernel.HostKernel.run_text.Goals as goal
 
 pub returns-in-Plain-clause-runs : goal.returns-in-Plain-clause-runs

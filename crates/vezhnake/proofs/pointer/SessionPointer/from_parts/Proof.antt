@@ -1,5 +1,6 @@
 -- `from_parts` moves two fields, of which it casts one, and what they own goes with them.
 use mathlib.Core.Path.{refl, sym, subst}
+use Rattle.vezhnake.proofs.Names.{D, B, word, box_typed, box_out, box_in}
 use Rattle.std.specs.Prelude.{Some}
 use mathlib.Core.List.{List, [], ◌∷◌, ◌++◌}
 use seplogic.Ra.Ura.{Ura}
@@ -23,8 +24,6 @@ use denote.Steps.{nothing}
 use denote.Triple.Spec.{triple_of}
 use denote.Triple.Table.{entered}
 use denote.Triple.Walked.{says, Stays, stay_dropped, walk_of, ends_at, Goes-dropped, walk_Meets}
-use Rattle.std_alloc.proofs.BoxSteps.Form.{D, B, word, box_typed}
-use Rattle.std_alloc.proofs.BoxSteps.Steps.{box_out, box_in}
 use Rattle.vezhnake.proofs.AsBox.{E, FromParts as From}
 use Rattle.vezhnake.specs.contracts.pointer.SessionPointer.from_parts as F
 use Rattle.vezhnake.specs.contracts.pointer.SessionPointer.from_parts.Key.{name as #self}

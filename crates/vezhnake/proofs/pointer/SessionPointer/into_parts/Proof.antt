@@ -1,6 +1,7 @@
 -- `into_parts` moves two fields, of which it casts one, and what they own goes with them.
 use mathlib.Core.Path.{refl, sym, subst}
-use Rattle.std.specs.Prelude.{◌≡◌, true, false, Option, Some, None, IsSome}
+use Rattle.vezhnake.proofs.Names.{Option, None, IsSome, D, B, word, box_typed, box_out, box_in}
+use Rattle.std.specs.Prelude.{◌≡◌, true, false, Some}
 use mathlib.Core.List.{List, [], ◌∷◌, ◌++◌}
 use seplogic.Ra.Ura.{Ura}
 use mir.Val.{Val}
@@ -23,8 +24,6 @@ use denote.Steps.{heard, nothing}
 use denote.Triple.Spec.{triple_of}
 use denote.Triple.Table.{entered}
 use denote.Triple.Walked.{says, Stays, stay_dropped, walk_of, ends_at, Goes-dropped, walk_Meets}
-use Rattle.std_alloc.proofs.BoxSteps.Form.{D, B, word, box_typed}
-use Rattle.std_alloc.proofs.BoxSteps.Steps.{box_out, box_in}
 use Rattle.vezhnake.specs.contracts.session.Session as Session
 use Rattle.vezhnake.specs.contracts.pointer.SessionPointer as SessionPointer
 use Rattle.vezhnake.proofs.AsBox.{E, FromPointer as From}

@@ -2,7 +2,7 @@
 use mathlib.Core.Path.{refl, sym, subst}
 use lib.Dec.{lit<}
 use mir.Syntax.{w64}
-use Rattle.std.specs.Prelude.{None}
+use Rattle.vezhnake.proofs.Names.{None, α, handle_tells, and_tt}
 use mathlib.Core.List.{List, [], ◌∷◌, ◌++◌}
 use seplogic.Ra.Ura.{Ura}
 use mir.Val.{Val, vint, vstruct, vnil, vcons, has_ty}
@@ -29,8 +29,6 @@ use denote.Steps.{nothing}
 use denote.Triple.Spec.{triple_of}
 use denote.Triple.Table.{entered}
 use denote.Triple.Walked.{says, Stays, stay_dropped, walk_of, ends_at, Goes-dropped, walk_Meets}
-use Rattle.core.proofs.alloc.Calls.{α, handle_tells}
-use Rattle.std_alloc.proofs.ResultValues.{and_tt}
 use Rattle.std_heap.specs.contracts.Global as Heap
 use Rattle.vezhnake.specs.contracts.pointer.SessionPointer as SessionPointer
 use Rattle.vezhnake.proofs.AsBox.{E}

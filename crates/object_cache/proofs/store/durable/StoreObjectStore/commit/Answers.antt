@@ -1,6 +1,4 @@
-use Rattle.std.proofs.Common.{◌≡◌, Some, sym, subst}
-use Rattle.object_store.specs.Store.{FrozenFrames, MayCommit}
-use Rattle.object_cache.specs.StoreState.{StoreState, view_of}
+use Rattle.object_cache.proofs.Names.{◌≡◌, Some, sym, subst, FrozenFrames, MayCommit, StoreState, view_of}
 use Rattle.object_cache.proofs.store.durable.StoreObjectStore.commit.Goals as goal
 
 pub commit-requires-clause-ready : goal.commit-requires-clause-ready

@@ -1,5 +1,4 @@
-use Rattle.std.proofs.Common.{sym, subst}
-use Rattle.object_cache.specs.StoreState.{StoreState, view_of}
+use Rattle.object_cache.proofs.Names.{sym, subst, StoreState, view_of}
 use Rattle.object_cache.proofs.store.durable.StoreObjectStore.freeze.Goals as goal
 
 pub returns-clause-sound : goal.returns-clause-sound

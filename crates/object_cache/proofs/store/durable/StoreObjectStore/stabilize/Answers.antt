@@ -1,8 +1,4 @@
-use Rattle.std.proofs.Common.{◌≡◌, ◌≤◌, ℕ, Some, sym, subst}
-use Rattle.std.specs.Prelude.{OnErr}
-use Rattle.checkpoint.specs.Saved.{LeavesSaved}
-use Rattle.object_store.specs.Store.{FrozenFrames, stabilized}
-use Rattle.object_cache.specs.StoreState.{StoreState, view_of}
+use Rattle.object_cache.proofs.Names.{◌≡◌, ◌≤◌, ℕ, Some, sym, subst, OnErr, LeavesSaved, FrozenFrames, stabilized, StoreState, view_of}
 use Rattle.object_cache.proofs.store.durable.StoreObjectStore.stabilize.Goals as goal
 
 pub returns-clause-stopped : goal.returns-clause-stopped

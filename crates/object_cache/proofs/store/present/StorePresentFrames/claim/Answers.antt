@@ -1,9 +1,6 @@
-use Rattle.std.proofs.Common.{sym, subst, ap, arith, length, length-set}
+use Rattle.object_cache.proofs.Names.{sym, subst, ap, arith, length, length-set, claimed, header_at, void_held, role_of, fresh_content, StoreState}
+use Rattle.object_cache.proofs.Names.{IsAnnouncedIn, IsFetchedIn}
 use Rattle.model.specs.declared.object.Content.TheVariants as content
-use Rattle.model.specs.Frame.{claimed, header_at, void_held}
-use Rattle.model.specs.Object.{role_of}
-use Rattle.capability.specs.Parts.{fresh_content}
-use Rattle.object_cache.specs.StoreState.{StoreState, IsAnnouncedIn, IsFetchedIn}
 use Rattle.object_cache.proofs.Presenting.{announced_claim, fetched_claim, fresh_used}
 use Rattle.object_cache.proofs.store.present.StorePresentFrames.claim.Goals as goal
 

@@ -1,6 +1,4 @@
-use Rattle.std.proofs.Common.{◌∙◌, ◌<◌, length, sym, subst}
-use Rattle.std.proofs.lemmas.List.Elements.{All-contains}
-use Rattle.object_cache.specs.StoreState.{StoreState}
+use Rattle.object_cache.proofs.Names.{◌∙◌, ◌<◌, length, sym, subst, All-contains, StoreState}
 use Rattle.object_cache.proofs.Outcomes.{on_ok}
 use Rattle.object_cache.proofs.store.present.StorePresentFrames.prepare.Goals as goal
 

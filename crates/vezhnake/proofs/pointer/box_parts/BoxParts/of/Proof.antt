@@ -33,10 +33,7 @@ use denote.Triple.Spec.{triple_of}
 use denote.Triple.Statement.{Triple, Contract}
 use denote.Triple.Table.{entered}
 use denote.Triple.Walked.{says, Stays, stay_dropped, walk_of, ends_at, walk_Meets}
-use Rattle.core.proofs.alloc.Calls.{token, handle_tells, Goes-blank}
-use Rattle.std_alloc.specs.Box.Ownership.{box_owns}
-use Rattle.std_alloc.proofs.BoxSteps.Form.{Bx, D, τ, R, P, B, word, box_typed}
-use Rattle.std_alloc.proofs.BoxSteps.Steps.{box_out, box_in}
+use Rattle.vezhnake.proofs.Names.{token, handle_tells, Goes-blank, box_owns, Bx, D, τ, R, P, B, word, box_typed, box_out, box_in}
 use Rattle.vezhnake.specs.contracts.pointer.box_parts.BoxParts as parts
 use Rattle.std_alloc.specs.contracts.boxed.Box.into_raw_with_allocator as Ra
 use Rattle.std_alloc.proofs.boxed.Box.into_raw_with_allocator.Symbol as raw_sym

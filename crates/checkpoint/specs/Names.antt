@@ -1,0 +1,9 @@
+-- The names of other crates that the definitions here cite.
+pub use Rattle.device.specs.Calls.{Agrees, Narrows}
+pub use Rattle.device.specs.Disk.{Disk, Image}
+pub use Rattle.device.specs.Moments.{LeavesOnly, Peeks}
+pub use Rattle.layout.specs.Image.{Encodes, IsBadBy, SavedState}
+pub use Rattle.model.specs.Frame.{frame_at}
+pub use Rattle.model.specs.declared.frame.Frame.{Frame}
+pub use Rattle.model.specs.declared.geometry.Geometry.{Geometry}
+pub use Rattle.std.specs.Prelude.{Err, IsErrOf, List, None, Ok, Option, Result, Some, slice_set, ℕ, ⊤, ◌+◌, ◌-◌, ◌<◌, ◌^◌, ◌↔◌, ◌≡◌, ◌≢◌, ◌≤◌, ◌⊎◌}

@@ -1,0 +1,57 @@
+-- The names that the proofs here cite: of other crates, and of the definitions of this one.
+pub use Rattle.device.proofs.Images.{agrees_is, elsewhere_on, elsewhere_same}
+pub use Rattle.device.proofs.Moments.{CountsNow, OnlyNow, ends, in_one_call, leaves_on, leaves_weaker}
+pub use Rattle.device.specs.Calls.{Agrees, AreSectors, Elsewhere, Narrows, Only, sectors_of}
+pub use Rattle.device.specs.Disk.{Disk, Image}
+pub use Rattle.device.specs.Moments.{Elapses, LeavesOnly, Peeks}
+pub use Rattle.frame_io.specs.Frames.{IsRefused}
+pub use Rattle.frame_io.specs.declared.fault.ReadFault.{ReadFault}
+pub use Rattle.frame_io.specs.declared.fault.ReadFault.TheVariants.{Bad, Failed}
+pub use Rattle.layout.proofs.Directories.{directory_fits, one_directory}
+pub use Rattle.layout.proofs.Halves.{half_apart, half_within}
+pub use Rattle.layout.proofs.Headers.{six}
+pub use Rattle.layout.proofs.Images.{one_frame}
+pub use Rattle.layout.proofs.Sectors.{same_sectors}
+pub use Rattle.layout.proofs.Shapes.{few_sectors, same_shaped}
+unfoldable pub use Rattle.layout.specs.Bytes.{number, number_from, zeros}
+pub use Rattle.layout.specs.Directory.{IsDirectory}
+unfoldable pub use Rattle.layout.specs.Directory.{directory_bytes}
+pub use Rattle.layout.specs.Frame.{IsFrameOf, frame_bytes}
+pub use Rattle.layout.specs.Gate.{gate_bytes, is_open}
+pub use Rattle.layout.specs.Header.{IsHeader}
+unfoldable pub use Rattle.layout.specs.Header.{header_bytes}
+pub use Rattle.layout.specs.Homes.{home_place, place_length, shape_of}
+pub use Rattle.layout.specs.Image.{Encodes, HasDirectory, HasHeader, HasNoHeader, SavedState, committed_bytes, committed_of, committed_slot, directory_in}
+pub use Rattle.layout.specs.Image.{directory_length, directory_sector, does_count, frame_sector, half_sector, option_at, seat_in, sector_or, sequence_in}
+pub use Rattle.layout.specs.Image.{slot_sector}
+unfoldable pub use Rattle.layout.specs.Image.{sectors_from}
+pub use Rattle.layout.specs.Superblock.{IsPlan, Plan}
+pub use Rattle.layout.specs.declared.bad_image.BadImage.{BadImage}
+pub use Rattle.layout.specs.declared.directory.Entry.{Entry}
+pub use Rattle.layout.specs.declared.gate.Gate.TheVariants.{Closed, Open}
+pub use Rattle.layout.specs.declared.header.CheckpointHeader.{CheckpointHeader}
+pub use Rattle.model.specs.Frame.{frame_at}
+pub use Rattle.model.specs.declared.frame.Frame.{Frame}
+pub use Rattle.model.specs.declared.geometry.Geometry.{Geometry}
+pub use Rattle.std.proofs.Common.{Bool, Err, List, None, Ok, Option, Result, Some, [], ap, append-nil, arith, drop, false, inl, inr, length, length-take-le}
+pub use Rattle.std.proofs.Common.{refl, replicate, rules, subst, suc, sym, take, true, zero, ℕ, ⊎_elim, ◌%◌, ◌*◌, ◌++◌, ◌+◌, ◌-◌, ◌/◌, ◌<◌, ◌^◌, ◌∙◌, ◌∷◌, ◌≡◌}
+pub use Rattle.std.proofs.Common.{◌≤◌, ◌⊎◌}
+pub use Rattle.std.proofs.Math.Seq.{take-append_seam}
+pub use Rattle.std.proofs.lemmas.Bool.{and_from, and_parts, cases_lt, eq-eqb, eqb-true, le-ltb, lt-ltb}
+pub use Rattle.std.proofs.lemmas.List.{drop-replicate, take-replicate, take_all}
+pub use Rattle.std.proofs.lemmas.Nat.{from_le_bytes-to_le_bytes_8}
+pub use Rattle.std.proofs.lemmas.Result.{err_from_is_err_and}
+pub use Rattle.std.specs.Int.{from_le_bytes, w64}
+pub use Rattle.std.specs.Prelude.{OnOk, codes, cond, if◌then◌else◌, nat_lt, ◌&&◌, ◌==◌}
+pub use Rattle.ckpt_log.specs.Closing.{AreClosed, AreInTurn, KeepsOrHasNone, SparesRest, WasKeptOrHasNone}
+pub use Rattle.ckpt_log.specs.Commit.{CommitsOne, HasNew, IsInOrder, IsInOrderAfter, IsOld, IsOldOrNew, KeepsHeader, Precedes, closed_gate, gate_sector}
+pub use Rattle.ckpt_log.specs.Commit.{header_sector}
+pub use Rattle.ckpt_log.specs.CommitLaws.{FramesAreBehind, HomesAreBehind, IsReady, NewIsDenoted, OldIsDenoted}
+pub use Rattle.ckpt_log.specs.HeaderLaws.{HeadersSpareDirectories, HeadersSpareFrames, HeadersSpareSectors, HeadersSpareSlots, NextFollows, SequencesAreTold}
+pub use Rattle.ckpt_log.specs.HeaderSlot.{gate_at, header_at, slot_number}
+pub use Rattle.ckpt_log.specs.Log.{HasCommitted, HasNoCommitted}
+pub use Rattle.ckpt_log.specs.Places.{DirectoriesAreInside, FramesAreInSlots, HalvesAreApart, HalvesAreWithin, SlotsAreApart, SlotsAreInside}
+pub use Rattle.ckpt_log.specs.Places.{SlotsSpareDirectories}
+pub use Rattle.ckpt_log.specs.SavedSectors.{SameDirectory, SameFrames, SameFrom, SameHeader, SameSaved}
+pub use Rattle.ckpt_log.specs.Slot.{DirectoriesAreReadBack, IsBadDirectory, SlotsAreReadBack}
+pub use Rattle.ckpt_log.specs.declared.header_slot.HeaderSlot.{HeaderSlot}

@@ -1,0 +1,27 @@
+-- The names of other crates that the definitions here cite.
+pub use Rattle.device.specs.Calls.{Elsewhere}
+pub use Rattle.device.specs.Disk.{Disk, Image}
+pub use Rattle.frame_io.specs.Frames.{IsObject, IsRefused}
+pub use Rattle.frame_io.specs.declared.fault.ReadFault.{ReadFault}
+pub use Rattle.frame_io.specs.declared.fault.ReadFault.TheVariants.{Bad, Failed}
+pub use Rattle.layout.specs.Directory.{IsDirectory}
+unfoldable pub use Rattle.layout.specs.Directory.{directory_bytes}
+pub use Rattle.layout.specs.Frame.{IsFrameOf, frame_bytes}
+pub use Rattle.layout.specs.Gate.{gate_bytes, is_open}
+pub use Rattle.layout.specs.Header.{IsHeader}
+unfoldable pub use Rattle.layout.specs.Header.{header_bytes}
+pub use Rattle.layout.specs.Homes.{home_place, place_length}
+pub use Rattle.layout.specs.Image.{Encodes, HasBadDirectory, HasBadHeader, HasDirectory, HasHeader, HasNoHeader, HasPlan, SavedState, bytes_at, committed_bytes}
+pub use Rattle.layout.specs.Image.{committed_slot, directory_in, directory_length, directory_sector, frame_in, frame_sector, half_sector, sequence_in}
+pub use Rattle.layout.specs.Image.{slot_sector}
+pub use Rattle.layout.specs.Superblock.{IsApart, IsInside, IsPlan, IsWithin, Plan, half_extent}
+pub use Rattle.layout.specs.declared.bad_image.BadImage.{BadImage}
+pub use Rattle.layout.specs.declared.bad_image.BadImage.TheVariants.{BadDirectory}
+pub use Rattle.layout.specs.declared.directory.Entry.{Entry}
+pub use Rattle.layout.specs.declared.extent.Extent.{Extent}
+pub use Rattle.layout.specs.declared.gate.Gate.TheVariants.{Closed}
+pub use Rattle.layout.specs.declared.header.CheckpointHeader.{CheckpointHeader}
+pub use Rattle.model.specs.Frame.{frame_at}
+pub use Rattle.model.specs.declared.frame.Frame.{Frame}
+pub use Rattle.model.specs.declared.geometry.Geometry.{Geometry}
+pub use Rattle.std.specs.Prelude.{List, None, Option, Some, false, if◌then◌else◌, length, nat_lt, take, true, ℕ, ⊤, ◌%◌, ◌*◌, ◌+◌, ◌<◌, ◌^◌, ◌≡◌, ◌≤◌, ◌⊎◌}

@@ -1,0 +1,46 @@
+-- The names that the proofs here cite: of other crates, and of the definitions of this one.
+pub use Rattle.capability.proofs.Frames.{frame_in, headers_in, length_in}
+pub use Rattle.capability.proofs.Keeping.{keepable_roles}
+pub use Rattle.capability.proofs.Mapped.{kind_map, mapped}
+pub use Rattle.capability.specs.Parts.{HaveTheirRoles, LooksUp, Parts, frames_of, objects_in}
+unfoldable pub use Rattle.model.specs.Bank.{chain, usage}
+pub use Rattle.model.specs.Capability.{IsWellFormed}
+pub use Rattle.model.specs.Frame.{blank_frame, conveyed, current_count, frame_at, header_at, headers, held_at, object_of, void_held}
+unfoldable pub use Rattle.model.specs.Frame.{frames_in, objects_of}
+pub use Rattle.model.specs.Keepable.{AreKeepable, Follows, IsKeepable, IsKeptCap, IsSoundFrames, MayBeKept, caps_in}
+pub use Rattle.model.specs.Object.{is_annex, is_bank, is_free, is_node, is_page, is_root, is_waiting, limit_in, map_content, role_number, role_of, root_in}
+pub use Rattle.model.specs.Object.{slots_in}
+pub use Rattle.model.specs.Sound.{IsOfKind, IsSpace, MayBeHeld, NamesItsKind, object_count}
+pub use Rattle.model.specs.World.{annex_at, content_at, is_process, owner_at, root_at}
+pub use Rattle.model.specs.contracts.object.Role.{the_type}
+pub use Rattle.model.specs.declared.capability.Cap.{Cap}
+pub use Rattle.model.specs.declared.capability.Capability.{Capability}
+pub use Rattle.model.specs.declared.capability.Capability.TheVariants.{Bank, Discrim, Node, Number, Page, Process, Resume, Space, Start, Void}
+pub use Rattle.model.specs.declared.frame.Frame.{Frame}
+pub use Rattle.model.specs.declared.frame.ObjectHeader.{ObjectHeader}
+pub use Rattle.model.specs.declared.geometry.Geometry.{Geometry}
+pub use Rattle.model.specs.declared.object.Content.{Content}
+pub use Rattle.model.specs.declared.object.Object.{Object}
+pub use Rattle.model.specs.declared.object.Role.{Role}
+pub use Rattle.model.specs.declared.object.Root.{Root}
+pub use Rattle.model_laws.proofs.BankTree.{IsTree}
+pub use Rattle.model_laws.proofs.SoundParts.{IsFilled, IsFramed, IsHeld, Waits, held_from, held_void, nearly_to}
+pub use Rattle.std.proofs.Common.{Bool, List, None, Option, Some, [], ap, arith, false, inl, inr, length, map, refl, rules, slice_index, slice_index_or, subst}
+pub use Rattle.std.proofs.Common.{suc, sym, true, vec_len, zero, zero-add, ℕ, ◌+◌, ◌-◌, ◌<◌, ◌==◌, ◌^◌, ◌||◌, ◌↔◌, ◌∙◌, ◌∷◌, ◌≡◌, ◌≢◌, ◌≤◌}
+pub use Rattle.std.proofs.Math.ListN.{get_or-map}
+pub use Rattle.std.proofs.lemmas.Bool.{cases_eq, cases_lt, eq-eqb, eqb-true, le-ltb, lt-ltb, ltb-false, ltb-true}
+pub use Rattle.std.proofs.lemmas.List.{get_or-set_other, get_or-set_same, get_or_default, get_or_past, length-map}
+pub use Rattle.std.proofs.lemmas.List.Elements.{All-from_get_or}
+pub use Rattle.std.proofs.lemmas.List.FromFn.{get_or-map-range_with_len, length-map-range_with_len}
+pub use Rattle.std.proofs.lemmas.Map.Views.{Contains-from_any}
+pub use Rattle.std.specs.List.{All, Contains, list_any, range_with_len}
+pub use Rattle.std.specs.Prelude.{IsTrue, MatchOption, if◌then◌else◌, nat_eq, nat_lt}
+pub use Rattle.std.specs.Vec.{vec_capacity}
+pub use Rattle.consistency.specs.Consistency.{AreBanked, AreLimited, AreNamed, AreOwned, AreWholeProcesses, IsAboveLimit, IsAnnexFor, IsNamed, IsRootOf}
+pub use Rattle.consistency.specs.Consistency.{IsUnbanked, NamesItsRole, Tells, annex_in, is_waiting_root, owner_of, role_at}
+pub use Rattle.consistency.specs.Laws.{ConsistentIsSound, InconsistentIsUnsound}
+pub use Rattle.consistency.specs.Noted.{AreNoted, AreTaken, IsTaking, is_taken, note_at, noted_in}
+pub use Rattle.consistency.specs.declared.processes.Noted.{Noted}
+pub use Rattle.consistency.specs.declared.reason.Inconsistency.{Inconsistency}
+pub use Rattle.consistency.specs.declared.reason.Inconsistency.TheVariants.{BadBank, BadCapability, BadProcess}
+pub use Rattle.consistency.specs.declared.reason.Unbanked.{Unbanked}

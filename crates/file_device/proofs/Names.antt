@@ -1,0 +1,31 @@
+-- The names that the proofs here cite: of other crates, and of the definitions of this one.
+pub use Rattle.device.proofs.Flat.{got_inside, rewritten, zeros_are}
+pub use Rattle.device.specs.Calls.{Agrees, AreSectors, Elsewhere, Narrows, Only, Tears, image_of, sectors_of}
+pub use Rattle.device.specs.Disk.{Disk, IsWhole}
+pub use Rattle.device.specs.Moments.{Elapses}
+pub use Rattle.memory_device.proofs.Past.{replay-append, replay-one, written-durable}
+pub use Rattle.memory_device.specs.Past.{Event, MayLeave, State, after, at_first, cut, disk_of, writes_of}
+pub use Rattle.memory_device.specs.PastLaws.{image_whole}
+pub use Rattle.memory_device.specs.declared.record.Outcome.TheVariants.{Keep}
+pub use Rattle.std.proofs.Common.{All, Err, IfSome, List, None, Ok, OnErr, OnOk, Option, Result, Some, [], ap, append-nil, append_assoc, arith, drop, drop_at}
+pub use Rattle.std.proofs.Common.{inl, is_ok, length, length-append, length-take, length-take-le, option_map, refl, replicate, rules, subst, sym, take, true, ℕ}
+pub use Rattle.std.proofs.Common.{⊎_elim, ◌*◌, ◌++◌, ◌+◌, ◌-◌, ◌/◌, ◌<◌, ◌^◌, ◌∙◌, ◌∷◌, ◌≡◌, ◌≤◌}
+pub use Rattle.std.proofs.Math.Logic.{∥∥₁_map}
+pub use Rattle.std.proofs.Math.Seq.{take-add}
+pub use Rattle.std.proofs.lemmas.Bool.{cases_lt}
+pub use Rattle.std.proofs.lemmas.List.{drop-drop, length-replicate, take-append-le, take-replicate, take_rest}
+pub use Rattle.std.proofs.lemmas.List.Concat.{flat_map-append}
+pub use Rattle.std.proofs.lemmas.List.Folds.{concat-append}
+pub use Rattle.std.proofs.lemmas.Slice.{take-put_mid_below}
+pub use Rattle.std.specs.List.{concat}
+pub use Rattle.file_device.specs.FileDevice.{file_disk}
+pub use Rattle.file_device.specs.OpeningCalls.{Answers, Gets, IsMade, IsOpened, KeepsLength, LoadsLocked, MakesZeros, Mirrors, OpeningCall, got, listed, locked}
+pub use Rattle.file_device.specs.OpeningCalls.{measured, opened, reads, resized, resizes, synced}
+pub use Rattle.file_device.specs.RawCalls.{Adds, Call, Deed, Takes, Tells, calls_of, events_by, taken, took, writes}
+pub use Rattle.file_device.specs.Sound.{IsCopy, now_of}
+pub use Rattle.file_device.specs.SoundLaws.{present_whole, unwritten_same}
+pub use Rattle.file_device.specs.Steps.{fresh, stepped}
+pub use Rattle.file_device.specs.declared.openable.Access.{Access}
+pub use Rattle.file_device.specs.declared.openable.Access.TheVariants.{Create}
+pub use Rattle.file_device.specs.declared.openable.Lock.{Lock}
+pub use Rattle.file_device.specs.declared.openable.Lock.TheVariants.{Exclusive}

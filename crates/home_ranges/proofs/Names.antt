@@ -1,0 +1,32 @@
+-- The names that the proofs here cite: of other crates, and of the definitions of this one.
+pub use Rattle.device.specs.Disk.{Image}
+pub use Rattle.frame_io.specs.Frames.{IsObject}
+pub use Rattle.layout.proofs.Halves.{apart_inside, apart_turned, half_at, itself, many}
+pub use Rattle.layout.proofs.Shapes.{same_shaped}
+pub use Rattle.layout.proofs.SlotsOf.{found_slot}
+pub use Rattle.layout.specs.Directory.{entry_at}
+pub use Rattle.layout.specs.Half.{half_of}
+pub use Rattle.layout.specs.Homes.{home_place, node_offset, place_by, place_in, place_length, range_with, rank_in, shape_of}
+pub use Rattle.layout.specs.Image.{or_beside, seat_in, slot_beside, slot_in}
+unfoldable pub use Rattle.layout.specs.Image.{sectors_from}
+pub use Rattle.layout.specs.Shape.{node_shape, shape_bytes, shape_length}
+pub use Rattle.layout.specs.Superblock.{Cover, IsApart, IsInside, IsOfOneKind, IsPlan, IsWithin, Plan, extent_at, extents, half_extent, half_start}
+pub use Rattle.layout.specs.Superblock.{nodes_length, range_extent}
+pub use Rattle.layout.specs.declared.directory.Entry.{Entry}
+pub use Rattle.layout.specs.declared.extent.Extent.{Extent}
+pub use Rattle.layout.specs.declared.extent.HomeRange.{HomeRange}
+pub use Rattle.layout.specs.declared.half.Half.{Half}
+pub use Rattle.layout.specs.declared.half.Half.TheVariants.{First, Second}
+pub use Rattle.layout.specs.declared.shape.Shape.{Shape}
+pub use Rattle.layout.specs.declared.shape.Shape.TheVariants.{Node, Packed, Page}
+pub use Rattle.layout.specs.declared.version.Version.{Version}
+pub use Rattle.layout.specs.declared.version.Version.TheVariants.{One, Two}
+pub use Rattle.model.specs.declared.geometry.Geometry.{Geometry}
+pub use Rattle.std.proofs.Common.{Bool, Err, List, None, Ok, Option, Result, Some, [], ap, arith, false, get_or, inl, inr, length, map, min, nat_le, nat_lt}
+pub use Rattle.std.proofs.Common.{refl, subst, suc, sym, true, zero, ℕ, ⊎_elim, ◌%◌, ◌&&◌, ◌*◌, ◌+◌, ◌-◌, ◌/◌, ◌<◌, ◌∙◌, ◌∷◌, ◌≡◌, ◌≤◌, ◌⊎◌}
+pub use Rattle.std.proofs.lemmas.Bool.{cases_eq, cases_lt, eq-eqb, ne_eqb}
+pub use Rattle.std.proofs.lemmas.Bool.Decides.{nat_tests}
+pub use Rattle.std.proofs.lemmas.List.{get_or-map, get_or_append_left, length-map}
+pub use Rattle.std.specs.Prelude.{OnOk, if◌then◌else◌, ⊤}
+pub use Rattle.home_ranges.specs.Home.{EndsInZeros, HaveHome, HoldsHome}
+pub use Rattle.home_ranges.specs.Laws.{FramesAreHome, FramesStay, NumbersAreApart, PlacesAreApart, PlacesAreWithin, PlacesSpareLog, home_extent}

@@ -1,0 +1,13 @@
+-- The names of other crates that the definitions here cite.
+pub use Rattle.device.specs.Calls.{Elsewhere}
+pub use Rattle.device.specs.Disk.{Image}
+pub use Rattle.frame_io.specs.Clusters.{IsBlankBehind}
+pub use Rattle.frame_io.specs.Frames.{IsObject}
+pub use Rattle.layout.specs.Homes.{home_place, place_length, shape_of}
+pub use Rattle.layout.specs.Image.{bytes_at, frame_in, half_sector, seat_in}
+pub use Rattle.layout.specs.Shape.{shape_bytes}
+pub use Rattle.layout.specs.Superblock.{IsApart, IsPlan, IsWithin, Plan, half_extent}
+pub use Rattle.layout.specs.declared.directory.Entry.{Entry}
+pub use Rattle.layout.specs.declared.extent.Extent.{Extent}
+pub use Rattle.layout.specs.declared.version.Version.TheVariants.{One}
+pub use Rattle.std.specs.Prelude.{List, None, ℕ, ◌+◌, ◌<◌, ◌≡◌, ◌≤◌}

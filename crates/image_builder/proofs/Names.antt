@@ -1,0 +1,58 @@
+-- The names that the proofs here cite: of other crates, and of the definitions of this one.
+pub use Rattle.capability.proofs.Keeping.{keepable_later}
+pub use Rattle.checkpoint.specs.Opened.{Looks}
+pub use Rattle.checkpoint.specs.Saved.{Holds, SavedFrames, kept_of}
+pub use Rattle.checkpoint.specs.declared.open_fault.OpenFault.{OpenFault}
+pub use Rattle.consistency.proofs.Unsound.{sound_banked, sound_named}
+pub use Rattle.consistency.specs.Consistency.{AreBanked, AreNamed, AreWholeProcesses, IsInconsistent}
+pub use Rattle.consistency.specs.declared.reason.Inconsistency.{Inconsistency}
+pub use Rattle.consistency.specs.declared.reason.Inconsistency.TheVariants.{BadBank, BadCapability, BadProcess}
+pub use Rattle.described_world.proofs.DescribedOnce.{described_once}
+pub use Rattle.described_world.specs.Described.{HasFields, HasNumbers, IsDescribed, IsWorldFault}
+pub use Rattle.described_world.specs.declared.fault.WorldFault.{WorldFault}
+pub use Rattle.description.specs.Reading.{IsDescription}
+pub use Rattle.description.specs.declared.entry.Description.{Description}
+pub use Rattle.device.proofs.Images.{agrees_is}
+pub use Rattle.device.proofs.Moments.{OnlyNow, leaves_weaker, started}
+pub use Rattle.device.specs.Calls.{Agrees, Elsewhere}
+pub use Rattle.device.specs.Disk.{Disk, Image}
+pub use Rattle.device.specs.Moments.{LeavesOnly}
+pub use Rattle.image_writer.proofs.OldImages.{kept_holds_the_same, none_is_held}
+pub use Rattle.image_writer.specs.Laid.{laid_again}
+pub use Rattle.image_writer.specs.Written.{IsLeftWriting, first_saved, first_state, state_of}
+pub use Rattle.layout.proofs.Images.{one_state}
+pub use Rattle.layout.specs.Directory.{IsDirectory, entry_at}
+pub use Rattle.layout.specs.Header.{IsHeader}
+pub use Rattle.layout.specs.Image.{Encodes, SavedState}
+pub use Rattle.layout.specs.Superblock.{Plan}
+pub use Rattle.layout.specs.declared.directory.Entry.{Entry}
+pub use Rattle.layout.specs.declared.version.Version.TheVariants.{Two}
+pub use Rattle.migrator.specs.Durable.{DurableState, saved_state, seen_of}
+unfoldable pub use Rattle.model.specs.Frame.{frames_in}
+pub use Rattle.model.specs.Keepable.{AreKeepable, IsSoundFrames}
+pub use Rattle.model.specs.Sound.{object_count}
+pub use Rattle.model.specs.declared.capability.Cap.{Cap}
+pub use Rattle.model.specs.declared.frame.Frame.{Frame}
+pub use Rattle.model.specs.declared.frame.ObjectHeader.{ObjectHeader}
+pub use Rattle.model.specs.declared.geometry.Geometry.{Geometry}
+pub use Rattle.model.specs.declared.object.Content.{Content}
+pub use Rattle.object_cache.specs.StoreState.{StoreState, saved_by}
+pub use Rattle.recovery.specs.Denotes.{IsSoundSaved}
+pub use Rattle.recovery.specs.Recovered.{RefusesToOpen}
+pub use Rattle.std.proofs.Common.{IfOk, List, [], ap, append_assoc, arith, drop, get_or, inl, inr, length, refl, rules, subst, suc, sym, zero, ℕ, ⊎_elim, ◌++◌}
+pub use Rattle.std.proofs.Common.{◌+◌, ◌<◌, ◌∙◌, ◌∷◌, ◌≡◌, ◌≢◌, ◌≤◌}
+pub use Rattle.std.proofs.lemmas.Bool.{cases_lt}
+pub use Rattle.std.proofs.lemmas.List.{append-nil, drop_all, drop_more}
+pub use Rattle.std.proofs.lemmas.Result.{err_from_is_err_and}
+pub use Rattle.std.specs.Prelude.{Err, IfErr, IsErrOf, Ok, OnOk, Result, if◌then◌else◌, slice_index_or, vec_len, ◌==◌}
+pub use Rattle.toml.specs.Data.{Members}
+pub use Rattle.toml.specs.View.{table_view}
+pub use Rattle.image_builder.specs.Built.{Builds, BuildsFrom, IsAccepted, IsFirstBroken, IsLeftOf, IsRefused, IsWithinLimits, Refuses, Rule, TellsNoSize}
+pub use Rattle.image_builder.specs.Built.{fault_number, plan_for}
+pub use Rattle.image_builder.specs.Checked.{AreLaid, IsLeftBuilding, IsRefusedEarly, IsSoundDescription}
+pub use Rattle.image_builder.specs.Laws.{NoFault, OneFault}
+pub use Rattle.image_builder.specs.Upgraded.{IsLeftUpgrading, IsNotUpgraded, IsOnlyRead, IsOpenedFrom, Upgrades, upgraded}
+unfoldable pub use Rattle.image_builder.specs.Upgraded.{numbered}
+pub use Rattle.image_builder.specs.declared.fault.BuildFault.{BuildFault}
+pub use Rattle.image_builder.specs.declared.fault.BuildFault.TheVariants.{Failed, Field, Limits, NoMemory, Number, Owner, Shape, Small, Target}
+pub use Rattle.image_builder.specs.declared.upgrade_fault.UpgradeFault.{UpgradeFault}

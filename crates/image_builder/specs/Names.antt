@@ -1,0 +1,30 @@
+-- The names of other crates that the definitions here cite.
+pub use Rattle.capability.specs.Parts.{frames_of}
+pub use Rattle.checkpoint.specs.Opened.{Looks}
+pub use Rattle.checkpoint.specs.Saved.{Holds, SavedFrames, kept_of}
+pub use Rattle.checkpoint.specs.declared.open_fault.OpenFault.{OpenFault}
+pub use Rattle.consistency.specs.Consistency.{AreBanked, AreNamed}
+pub use Rattle.described_world.specs.Described.{HasFields, HasNumbers, IsDescribed}
+pub use Rattle.description.specs.Reading.{IsDescription}
+pub use Rattle.description.specs.declared.entry.Description.{Description}
+pub use Rattle.device.specs.Calls.{Elsewhere}
+pub use Rattle.device.specs.Disk.{Disk, Image}
+pub use Rattle.image_writer.specs.Laid.{MayBeLaid, laid_again, plan_from}
+pub use Rattle.image_writer.specs.Written.{first_saved, first_state}
+pub use Rattle.layout.specs.Image.{Encodes, SavedState}
+pub use Rattle.layout.specs.Superblock.{Plan, version_number}
+pub use Rattle.layout.specs.declared.directory.Entry.{Entry}
+pub use Rattle.layout.specs.declared.version.Version.{Version}
+pub use Rattle.layout.specs.declared.version.Version.TheVariants.{One, Two}
+unfoldable pub use Rattle.model.specs.Frame.{frames_in}
+pub use Rattle.model.specs.Keepable.{AreKeepable, IsSoundFrames}
+pub use Rattle.model.specs.Sound.{object_count}
+pub use Rattle.model.specs.declared.capability.Cap.{Cap}
+pub use Rattle.model.specs.declared.frame.Frame.{Frame}
+pub use Rattle.model.specs.declared.frame.ObjectHeader.{ObjectHeader}
+pub use Rattle.model.specs.declared.object.Content.{Content}
+pub use Rattle.object_cache.specs.StoreState.{StoreState, parts_of, saved_by}
+pub use Rattle.recovery.specs.Denotes.{IsSoundSaved}
+pub use Rattle.recovery.specs.Recovered.{RefusesToOpen}
+pub use Rattle.std.specs.Prelude.{List, [], if◌then◌else◌, length, ℕ, ◌+◌, ◌<◌, ◌==◌, ◌^◌, ◌↔◌, ◌∷◌, ◌≡◌, ◌≢◌, ◌≤◌, ◌⊎◌}
+pub use Rattle.toml.specs.Data.{Members}

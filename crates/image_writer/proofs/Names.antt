@@ -1,0 +1,65 @@
+-- The names that the proofs here cite: of other crates, and of the definitions of this one.
+pub use Rattle.capability.proofs.Frames.{length_in}
+pub use Rattle.checkpoint.specs.Saved.{Holds, SavedFrames, kept_of}
+pub use Rattle.ckpt_log.proofs.BesideHeaders.{half_behind, sequences_told}
+pub use Rattle.ckpt_log.proofs.Closings.{none_committed}
+pub use Rattle.ckpt_log.proofs.Denoted.{frames_behind}
+pub use Rattle.ckpt_log.specs.Closing.{AreClosed, KeepsImage, SparesRest, WasKeptOrHasNone}
+pub use Rattle.device.proofs.Images.{agrees_is, elsewhere_on, elsewhere_same}
+pub use Rattle.device.proofs.Moments.{OnlyNow, leaves_on, leaves_weaker, narrowed, started}
+pub use Rattle.device.specs.Calls.{Agrees, Elsewhere, IsTorn, Only}
+pub use Rattle.device.specs.Disk.{Disk, Image}
+pub use Rattle.device.specs.Moments.{LeavesOnly}
+pub use Rattle.frame_io.specs.Calls.{WritesAt}
+pub use Rattle.frame_io.specs.Frames.{IsObject}
+pub use Rattle.home_ranges.proofs.Places.{IsOwn, alone, one_before, one_length, places_apart, places_spare_log, places_within, ranked, zeros_in}
+pub use Rattle.home_ranges.proofs.Seats.{seat_entry}
+pub use Rattle.home_ranges.proofs.Shared.{begins}
+pub use Rattle.home_ranges.specs.Home.{HaveHome}
+pub use Rattle.layout.proofs.Clusters.{node_end}
+pub use Rattle.layout.proofs.Halves.{half_within}
+pub use Rattle.layout.proofs.Sectors.{same_sectors}
+pub use Rattle.layout.proofs.Shapes.{few_sectors, same_shaped}
+pub use Rattle.layout.specs.Directory.{IsDirectory, entry_at}
+unfoldable pub use Rattle.layout.specs.Directory.{directory_bytes}
+pub use Rattle.layout.specs.Frame.{IsFrameOf, frame_bytes}
+pub use Rattle.layout.specs.Gate.{is_open}
+pub use Rattle.layout.specs.Header.{IsHeader}
+unfoldable pub use Rattle.layout.specs.Header.{header_bytes}
+pub use Rattle.layout.specs.Homes.{home_place, place_length, shape_of}
+pub use Rattle.layout.specs.Image.{Encodes, HasNoHeader, SavedState, bytes_at, committed_bytes, committed_of, directory_in, directory_length, directory_sector}
+pub use Rattle.layout.specs.Image.{does_count, frame_in, frame_sector, half_sector, option_at, seat_in, sequence_in, slot_sector}
+unfoldable pub use Rattle.layout.specs.Image.{sectors_from}
+pub use Rattle.layout.specs.Shape.{shape_bytes, shape_length}
+pub use Rattle.layout.specs.Superblock.{AreApart, Cover, IsPlan, IsWithin, Plan, extent_at, extents, half_extent, nodes_length, range_extent}
+pub use Rattle.layout.specs.declared.directory.Entry.{Entry}
+pub use Rattle.layout.specs.declared.extent.Extent.{Extent}
+pub use Rattle.layout.specs.declared.extent.HomeRange.{HomeRange}
+pub use Rattle.layout.specs.declared.header.CheckpointHeader.{CheckpointHeader}
+pub use Rattle.layout.specs.declared.shape.Shape.{Shape}
+pub use Rattle.layout.specs.declared.shape.Shape.TheVariants.{Node, Packed, Page}
+pub use Rattle.layout.specs.declared.version.Version.{Version}
+pub use Rattle.layout.specs.declared.version.Version.TheVariants.{One, Two}
+pub use Rattle.model.specs.Frame.{frame_at, header_at}
+unfoldable pub use Rattle.model.specs.Frame.{frames_in}
+pub use Rattle.model.specs.Keepable.{AreKeepable}
+pub use Rattle.model.specs.Sound.{object_count}
+pub use Rattle.model.specs.declared.capability.Cap.{Cap}
+pub use Rattle.model.specs.declared.frame.Frame.{Frame}
+pub use Rattle.model.specs.declared.frame.ObjectHeader.{ObjectHeader}
+pub use Rattle.model.specs.declared.geometry.Geometry.{Geometry}
+pub use Rattle.model.specs.declared.object.Content.{Content}
+pub use Rattle.std.proofs.Common.{Bool, Err, List, None, Ok, Option, Result, Some, [], ap, append_assoc, arith, drop, false, get_or, inl, inr, length, map}
+pub use Rattle.std.proofs.Common.{nat_lt, refl, rules, set, slice_index_or, subst, suc, sym, take, true, zero, ℕ, ⊎_elim, ◌%◌, ◌*◌, ◌++◌, ◌+◌, ◌-◌, ◌/◌, ◌<◌}
+pub use Rattle.std.proofs.Common.{◌^◌, ◌∙◌, ◌∷◌, ◌≡◌, ◌≤◌, ◌⊎◌}
+pub use Rattle.std.proofs.lemmas.Bool.{cases_eq, cases_lt, false≢true, le-ltb, lt-ltb}
+pub use Rattle.std.proofs.lemmas.List.{append-nil, drop_all, drop_more, get_or_read, length-map, length-set, take_all, take_more_set}
+pub use Rattle.std.specs.List.{All}
+pub use Rattle.std.specs.Prelude.{OnOk, if◌then◌else◌, ◌&&◌, ◌==◌}
+pub use Rattle.image_writer.specs.Homes.{AreFramesOf, IsHome, LieAt, frames_before}
+pub use Rattle.image_writer.specs.Laid.{MayBeLaid, half_length, numbers_of, placed, plan_from, sectors_of}
+unfoldable pub use Rattle.image_writer.specs.Laid.{behind, laid}
+pub use Rattle.image_writer.specs.Laws.{KeptHoldsTheSame, NoneIsHeld}
+pub use Rattle.image_writer.specs.Written.{AreHome, AreInSlots, HasOpeningSectors, IsBeforeOrNone, IsLeftWriting, IsWritten, LeavesClosed, first_header}
+pub use Rattle.image_writer.specs.Written.{first_state, state_of}
+pub use Rattle.image_writer.specs.declared.number_range.NumberRange.{NumberRange}

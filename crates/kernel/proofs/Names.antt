@@ -1,0 +1,88 @@
+-- The names that the proofs here cite: of other crates, and of the definitions of this one.
+pub use Rattle.address_space.specs.References.{IsLoaded, IsStored, KeepsSound, OverfillsStore}
+pub use Rattle.capability.proofs.Frames.{at_set, frame_in, headers_in, process_known}
+pub use Rattle.capability.proofs.Keeping.{keepable_count, keepable_later}
+pub use Rattle.capability.specs.Parts.{IsUnchanged, Looks, LooksUp, Parts, Renews, frames_of, objects_in}
+pub use Rattle.capability.specs.declared.present.PrepareFault.{PrepareFault}
+pub use Rattle.checkpoint.proofs.Lists.{maps_same}
+pub use Rattle.checkpoint.specs.Refused.{IsCommitAnswer, IsFreezeAnswer, IsRefused}
+pub use Rattle.checkpoint.specs.Saved.{Holds, LeavesEither, LeavesOneOf, LeavesSaved, SavedFrames, home_saved, journaled_saved, most, with_words}
+pub use Rattle.checkpoint.specs.declared.checkpoint_fault.CheckpointFault.{CheckpointFault}
+pub use Rattle.checkpoint.specs.declared.open_fault.OpenFault.{OpenFault}
+pub use Rattle.device.proofs.Images.{agrees_is}
+pub use Rattle.device.proofs.Moments.{CountsNow, OnlyNow, ends, goes_on_cut, leaves_on, leaves_weaker, started}
+pub use Rattle.device.specs.Calls.{Only}
+pub use Rattle.device.specs.Disk.{Disk, Image}
+pub use Rattle.device.specs.Moments.{Elapses, LeavesOnly}
+pub use Rattle.device.specs.declared.device.Failed.{Failed}
+pub use Rattle.gate.proofs.BankStates.{counted_looked, counted_on}
+pub use Rattle.gate.proofs.Known.{annex_known, one_known, same_frames}
+pub use Rattle.gate.proofs.Standing.{LooksAs, keepable_most, looked_as}
+pub use Rattle.gate.specs.Invoke.{Invoked, Invokes, KeepsSoundFrames, TellsState}
+pub use Rattle.gate.specs.declared.fault.InvokeFault.{InvokeFault}
+pub use Rattle.model.specs.Frame.{blank_frame, conveyed, frame_at, header_at, headers, held_at, object_of}
+unfoldable pub use Rattle.model.specs.Frame.{frames_in, objects_of}
+pub use Rattle.model.specs.Invoke.{Effect}
+unfoldable pub use Rattle.model.specs.Invoke.{invoke}
+pub use Rattle.model.specs.Keepable.{AreCurrent, AreKeepable, AreKeptWords, IsCurrent, IsKeepable, IsSoundFrames, MayBeKept, caps_in, world_at}
+pub use Rattle.model.specs.Machine.{Down, Frozen, Machine, Running, Saved, Up, candidates, opened, touched_count, touching}
+unfoldable pub use Rattle.model.specs.Machine.{renewing, untouched}
+pub use Rattle.model.specs.Object.{is_free, is_page, map_content, role_of, words_in}
+pub use Rattle.model.specs.Revoke.{is_given_up}
+pub use Rattle.model.specs.Sound.{IsOfKind, IsSound, object_count}
+pub use Rattle.model.specs.Step.{Outcome, Reopens, Step, at_home, committed, gives_way, moved, of_running, opens, outcome, overfills, reached, second, shown}
+pub use Rattle.model.specs.Step.{takes_memory, unjournaled, unless, writable, writing}
+unfoldable pub use Rattle.model.specs.Step.{carried_out, refusal_of}
+pub use Rattle.model.specs.World.{World, content_at, is_process, is_running_process, owner_at, word_at}
+unfoldable pub use Rattle.model.specs.World.{with_content, with_word}
+pub use Rattle.model.specs.declared.access.Access.{Access}
+pub use Rattle.model.specs.declared.answer.Answer.{Answer}
+pub use Rattle.model.specs.declared.answer.MemoryFault.{MemoryFault}
+pub use Rattle.model.specs.declared.answer.Refusal.{Refusal}
+pub use Rattle.model.specs.declared.answer.Unjournaled.TheVariants.{NotPage, Renewed}
+pub use Rattle.model.specs.declared.capability.Cap.{Cap}
+pub use Rattle.model.specs.declared.capability.Capability.{Capability}
+pub use Rattle.model.specs.declared.command.Command.{Command}
+pub use Rattle.model.specs.declared.command.Invocation.{Invocation}
+pub use Rattle.model.specs.declared.frame.Frame.{Frame}
+pub use Rattle.model.specs.declared.frame.ObjectHeader.{ObjectHeader}
+pub use Rattle.model.specs.declared.geometry.Geometry.{Geometry}
+pub use Rattle.model.specs.declared.object.Content.{Content}
+pub use Rattle.model.specs.declared.object.Object.{Object}
+pub use Rattle.model.specs.declared.object.Role.{Role}
+pub use Rattle.model.specs.declared.order.ResultCode.{ResultCode}
+pub use Rattle.model_laws.proofs.GivenUp.{none_given_up, none_in_frame, renewing_none}
+pub use Rattle.model_laws.proofs.InvocationFrame.{word_frame}
+pub use Rattle.model_laws.proofs.Journaling.{journal_keeps_sound}
+pub use Rattle.model_laws.proofs.Usage.{SameFrame, frame_refl, tests_at}
+pub use Rattle.object_store.specs.Journal.{IsJournalAnswer, IsTurnedAway, aside_after_journal, is_page_now, is_page_role, is_still_saved, next_journaled}
+pub use Rattle.object_store.specs.Journal.{words_now}
+pub use Rattle.object_store.specs.Store.{Aside, FrozenFrames, IsStabilizeAnswer, Leads, MayCommit, View, freezing, left_in, moved_saved, next_saved, stabilized}
+pub use Rattle.object_store.specs.declared.journal_fault.JournalFault.{JournalFault}
+pub use Rattle.recovery.proofs.Denoted.{denoted_by, leaves_saved, one_denoted, one_not_bad}
+pub use Rattle.recovery.proofs.Renewed.{allocations_at, base_by, base_frozen, base_saved, none_renewed, renewed_at, renewed_length}
+pub use Rattle.recovery.specs.Denotes.{DenotesOne, IsSoundSaved, Leaves, LeavesOne, saved_of}
+pub use Rattle.recovery.specs.Live.{AreSoundTogether, IsSomeUp, IsSoundFrozen, IsUp, base_of, disk_at, frozen_of, running, running_of}
+unfoldable pub use Rattle.recovery.specs.Live.{renewed_since}
+pub use Rattle.recovery.specs.Recovered.{Recovers, RefusesToOpen}
+pub use Rattle.recovery.specs.declared.live.Live.{Live}
+pub use Rattle.space_bank.proofs.Renewing.{renews_after, renews_none}
+pub use Rattle.space_bank.specs.Banks.{AreCounted, BanksState}
+pub use Rattle.std.proofs.Common.{Bool, Err, List, None, Ok, Option, Result, Some, [], ap, append-nil, arith, false, inl, inr, length, length-set, map, not}
+pub use Rattle.std.proofs.Common.{refl, set, subst, suc, sym, true, zero, ℕ, ⊎_elim, ◌%◌, ◌&&◌, ◌++◌, ◌+◌, ◌-◌, ◌<◌, ◌^◌, ◌||◌, ◌↔◌, ◌∙◌, ◌∷◌, ◌≡◌, ◌≤◌, ◌⊎◌}
+pub use Rattle.std.proofs.Math.ListN.{get_or-map}
+pub use Rattle.std.proofs.Math.Seq.{map-set_same}
+pub use Rattle.std.proofs.lemmas.Bool.{cases_lt, ne_eqb}
+pub use Rattle.std.proofs.lemmas.Bool.Decides.{nat_tests}
+pub use Rattle.std.proofs.lemmas.List.{ext_get_or, get_or_past, map-set}
+pub use Rattle.std.proofs.lemmas.List.Elements.{All-nil}
+pub use Rattle.std.proofs.lemmas.List.FromFn.{get_or-map-range_with_len, length-map-range_with_len}
+pub use Rattle.std.specs.List.{All, Contains, range_with_len}
+pub use Rattle.std.specs.Prelude.{IfOk, IsErr, IsErrAnd, IsErrOf, if◌then◌else◌, nat_lt, option_map, slice_index_or, ◌==◌}
+pub use Rattle.kernel.specs.Journal.{unjournaled_by}
+pub use Rattle.kernel.specs.Machine.{IsEarly, IsUnlooked, Performs, answer_of, answer_with, code_with, machine_at, renewed_by}
+pub use Rattle.kernel.specs.Opening.{IsNoReason, IsSomeDown, Opens, Reopened, ReopensAs}
+pub use Rattle.kernel.specs.Power.{Power, power_of}
+pub use Rattle.kernel.specs.Prepared.{refusal_by, refused_by}
+pub use Rattle.kernel.specs.Standing.{HasCode, IsCaused, IsDeviceOf, IsSomeMachine, Serves, ServesFrom, ServesUp, Stands, disk_of, told_code}
+pub use Rattle.kernel.specs.declared.processes.served.Served.{Served}

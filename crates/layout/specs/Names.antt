@@ -1,0 +1,24 @@
+-- The names of other crates that the definitions here cite.
+pub use Rattle.byteorder.specs.Endian.{little_bytes, little_number}
+pub use Rattle.device.specs.Disk.{Image}
+pub use Rattle.model.specs.Capability.{access_bits, tag_of}
+pub use Rattle.model.specs.Frame.{frame_at, void_held}
+pub use Rattle.model.specs.Keepable.{AreKeptSlots, AreKeptWords, IsCount, IsKeepable, IsKeptCap}
+pub use Rattle.model.specs.Object.{is_free, role_number, role_of, state_number}
+unfoldable pub use Rattle.model.specs.Object.{zero_words}
+pub use Rattle.model.specs.Sound.{IsSpace}
+pub use Rattle.model.specs.declared.access.Access.{Access}
+pub use Rattle.model.specs.declared.capability.Cap.{Cap}
+pub use Rattle.model.specs.declared.capability.Capability.{Capability}
+pub use Rattle.model.specs.declared.capability.Capability.TheVariants.{Bank, Discrim, Node, Number, Page, Process, Resume, Space, Start, Void}
+pub use Rattle.model.specs.declared.frame.Frame.{Frame}
+pub use Rattle.model.specs.declared.frame.ObjectHeader.{ObjectHeader}
+pub use Rattle.model.specs.declared.geometry.Geometry.{Geometry}
+pub use Rattle.model.specs.declared.object.Content.{Content}
+pub use Rattle.model.specs.declared.object.Role.{Role}
+pub use Rattle.model.specs.declared.object.Root.{Root}
+pub use Rattle.model.specs.declared.object.State.{State}
+pub use Rattle.model.specs.declared.object.State.TheVariants.{Available, Running, Waiting}
+pub use Rattle.std.specs.List.{All, flat_map, range_with_len}
+pub use Rattle.std.specs.Prelude.{Bool, IsTrue, List, None, Option, Some, [], codes, drop, if◌then◌else◌, length, map, nat_le, nat_lt, replicate}
+pub use Rattle.std.specs.Prelude.{slice_index_or, suc, take, zero, ℕ, ◌%◌, ◌&&◌, ◌*◌, ◌++◌, ◌+◌, ◌-◌, ◌/◌, ◌<◌, ◌==◌, ◌^◌, ◌∷◌, ◌≡◌, ◌≤◌, ◌⊎◌}

@@ -1,0 +1,112 @@
+-- The names that the proofs here cite: of other crates, and of the definitions of this one.
+pub use Rattle.checkpoint.proofs.Lists.{maps_same}
+pub use Rattle.checkpoint.specs.Opened.{IsBadFor, Looks}
+pub use Rattle.checkpoint.specs.Saved.{Holds, LeavesEither, LeavesSaved, SavedFrames, home_saved, journaled_saved, kept_of, most, replaced_saved, with_words}
+pub use Rattle.checkpoint.specs.declared.open_fault.OpenFault.{OpenFault}
+pub use Rattle.ckpt_log.proofs.BesideHeaders.{next_follows}
+pub use Rattle.ckpt_log.proofs.Denoted.{frames_behind, new_denoted, old_denoted}
+pub use Rattle.ckpt_log.proofs.Places.{directories_inside, frames_in_slots, halves_apart, halves_within, slots_apart, slots_inside, slots_spare_directories}
+pub use Rattle.ckpt_log.proofs.SavedStates.{same_saved}
+pub use Rattle.ckpt_log.specs.Commit.{CommitsOne, HasNew, IsOld, Precedes, header_sector}
+pub use Rattle.ckpt_log.specs.CommitLaws.{HomesAreBehind, IsReady}
+pub use Rattle.ckpt_log.specs.Log.{HasNoCommitted}
+pub use Rattle.ckpt_log.specs.Places.{directory_extent, place_extent, slot_extent}
+pub use Rattle.ckpt_log.specs.SavedSectors.{SameFrom, SameWhereRead}
+pub use Rattle.device.proofs.Images.{agrees_is, elsewhere_on, elsewhere_same}
+pub use Rattle.device.proofs.Moments.{OnlyNow, counted_ok, counts_on, leaves_on, leaves_weaker, peeks_started, started}
+pub use Rattle.device.specs.Calls.{Agrees, Counts, Elsewhere, IsTorn, Only, image_of, sectors_of}
+pub use Rattle.device.specs.Disk.{Disk, Image}
+pub use Rattle.device.specs.Moments.{Elapses, LeavesOnly}
+pub use Rattle.device.specs.declared.device.Failed.{Failed}
+pub use Rattle.frame_io.specs.Calls.{ReadsOnly, WritesAt}
+pub use Rattle.frame_io.specs.Fault.{CountsFailed}
+pub use Rattle.frame_io.specs.Frames.{IsHeaderAt, IsObject, IsRefused}
+pub use Rattle.frame_io.specs.declared.fault.ReadFault.{ReadFault}
+pub use Rattle.home_ranges.proofs.Places.{IsOwn, alone, lt_false, lt_true, one_length, places_apart, places_spare_log, places_within, ranked, zeros_home}
+pub use Rattle.home_ranges.proofs.Seats.{beside_behind, beside_here, beside_seat, own_seat, same_some, seat_entry}
+pub use Rattle.home_ranges.proofs.Shared.{begins, home_between, own_of}
+pub use Rattle.home_ranges.specs.Home.{EndsInZeros, HaveHome, HoldsHome}
+pub use Rattle.home_ranges.specs.Laws.{home_extent}
+pub use Rattle.layout.proofs.Clusters.{length-zeros}
+pub use Rattle.layout.proofs.FrameReaders.{header_is}
+pub use Rattle.layout.proofs.Halves.{apart_inside, apart_turned, half_within, itself, within_inside}
+pub use Rattle.layout.proofs.Images.{one_frame}
+pub use Rattle.layout.proofs.Sectors.{whole_sectors}
+pub use Rattle.layout.proofs.Shapes.{page_bytes, same_shaped}
+pub use Rattle.layout.proofs.SlotsOf.{found_slot, no_slot, own_slot, rising_to, slot_behind, slot_here, two_objects}
+pub use Rattle.layout.proofs.Spelling.{bytes_spelt, denotes, length_read, read_at, read_same, spelt_at, spelt_read, spelt_same}
+pub use Rattle.layout.proofs.Totals.{total_told}
+unfoldable pub use Rattle.layout.specs.Bytes.{zeros}
+pub use Rattle.layout.specs.Directory.{AreRising, IsDirectory, IsEntry, entry_at}
+unfoldable pub use Rattle.layout.specs.Directory.{directory_bytes}
+pub use Rattle.layout.specs.Frame.{IsFrameOf, frame_bytes, frame_length, frame_of}
+unfoldable pub use Rattle.layout.specs.Frame.{node_frame_bytes, page_frame_bytes}
+unfoldable pub use Rattle.layout.specs.FrameReader.{frame_from, header_from}
+pub use Rattle.layout.specs.Half.{half_of}
+pub use Rattle.layout.specs.Header.{IsHeader}
+pub use Rattle.layout.specs.Homes.{home_place, place_length, range_with, rank_in, shape_of}
+pub use Rattle.layout.specs.Image.{Encodes, HasDirectory, HasHeader, HasPlan, IsBadBy, IsTooSmall, SavedState, bytes_at, directory_in, directory_length}
+pub use Rattle.layout.specs.Image.{directory_sector, frame_in, frame_sector, half_sector, seat_in, sector_or, shaped_at, slot_beside, slot_in, slot_sector}
+pub use Rattle.layout.specs.Image.{total_in}
+unfoldable pub use Rattle.layout.specs.Image.{sectors_from}
+pub use Rattle.layout.specs.Shape.{IsShapeFor, node_shape, shape_bytes, shape_length}
+pub use Rattle.layout.specs.Spelt.{AreSpelt, IsSpelt, count_of, frame_read, state_in}
+unfoldable pub use Rattle.layout.specs.Spelt.{frames_read}
+pub use Rattle.layout.specs.Superblock.{IsApart, IsInside, IsPlan, Plan, half_extent, half_start}
+unfoldable pub use Rattle.layout.specs.Superblock.{superblock_bytes}
+pub use Rattle.layout.specs.declared.bad_image.BadImage.{BadImage}
+pub use Rattle.layout.specs.declared.directory.Entry.{Entry}
+pub use Rattle.layout.specs.declared.extent.Extent.{Extent}
+pub use Rattle.layout.specs.declared.half.Half.{Half}
+pub use Rattle.layout.specs.declared.half.Half.TheVariants.{First, Second}
+pub use Rattle.layout.specs.declared.header.CheckpointHeader.{CheckpointHeader}
+pub use Rattle.layout.specs.declared.shape.Shape.{Shape}
+pub use Rattle.layout.specs.declared.shape.Shape.TheVariants.{Node, Packed, Page}
+pub use Rattle.model.specs.Frame.{blank_frame, frame_at}
+pub use Rattle.model.specs.Keepable.{AreKeepable, AreKeptSlots, AreKeptWords, Follows, IsCount, IsKeepable, IsKeptCap, MayBeKept}
+pub use Rattle.model.specs.Object.{role_of}
+pub use Rattle.model.specs.Sound.{IsOfKind}
+pub use Rattle.model.specs.declared.capability.Cap.{Cap}
+pub use Rattle.model.specs.declared.capability.Capability.{Capability}
+pub use Rattle.model.specs.declared.capability.Capability.TheVariants.{Bank, Discrim, Number, Process, Resume, Space, Start, Void}
+pub use Rattle.model.specs.declared.frame.Frame.{Frame}
+pub use Rattle.model.specs.declared.frame.ObjectHeader.{ObjectHeader}
+pub use Rattle.model.specs.declared.geometry.Geometry.{Geometry}
+pub use Rattle.model.specs.declared.object.Content.{Content}
+pub use Rattle.number_set.specs.Marks.{HasNoneMarked, IsNextMarked, is_marked}
+pub use Rattle.std.proofs.Common.{Bool, Err, List, None, Ok, Option, Result, Some, [], ap, append-nil, arith, cond, drop, false, get_or, inl, inr, length}
+pub use Rattle.std.proofs.Common.{length-append, nat_eq, nat_le, nat_lt, not, refl, rules, set, subst, suc, sym, take, true, zero, ℕ, ⊎_elim, ◌%◌, ◌*◌, ◌++◌}
+pub use Rattle.std.proofs.Common.{◌+◌, ◌-◌, ◌<◌, ◌^◌, ◌∙◌, ◌∷◌, ◌≡◌, ◌≤◌, ◌⊎◌}
+pub use Rattle.std.proofs.Math.ListN.{get_or-map}
+pub use Rattle.std.proofs.lemmas.Bool.{and_from, and_left, and_right, cases_eq, cases_lt, eq-eqb, le-ltb, ne_eqb}
+pub use Rattle.std.proofs.lemmas.Bool.Decides.{nat_tests}
+pub use Rattle.std.proofs.lemmas.List.{append_assoc, drop_all, drop_at, get_or-replicate, get_or-set_other, get_or-set_same, get_or_default, get_or_past}
+pub use Rattle.std.proofs.lemmas.List.{length-map, length-replicate, length-set, map-set, nil_from_length, same_lists, take_all}
+pub use Rattle.std.proofs.lemmas.List.Elements.{All-weaker}
+pub use Rattle.std.proofs.lemmas.List.FromFn.{get_or-map-range_with_len, length-map-range_with_len, map-range_with_len_more}
+pub use Rattle.std.proofs.lemmas.Option.{same_Some}
+pub use Rattle.std.proofs.lemmas.Result.{err_from_is_err_and}
+pub use Rattle.std.specs.List.{range_with_len}
+pub use Rattle.std.specs.Prelude.{IfErr, IfOk, IsErr, OnErr, OnOk, if◌then◌else◌, map, option_map, replicate, slice_set, ◌&&◌, ◌==◌, ◌↔◌}
+pub use Rattle.std.specs.Vec.{vec_capacity}
+pub use Rattle.migrator.specs.Completed.{AreComplete, IsComplete, IsFilled, Keeps, KeepsOne}
+pub use Rattle.migrator.specs.Durable.{DurableState, FrozenPuts, GoesOn, GoesOnDisk, HasUnwritten, IsDurable, IsHome, IsKept, IsLesser, IsRunning, IsSoundOn}
+pub use Rattle.migrator.specs.Durable.{LeavesState, MayCommit, MayHaveUnwritten, MovedBy, ReadsStore, Stored, below_at, finished, first_bytes, first_frame}
+pub use Rattle.migrator.specs.Durable.{freezing, frozen_generation, frozen_of, frozen_put, generation_after, home_header, is_sound, left_of, moved, moved_saved}
+pub use Rattle.migrator.specs.Durable.{newest, next_header, next_saved, replaced, replaced_header, saved_state, seen_by, stored_after_commit}
+pub use Rattle.migrator.specs.Durable.{stored_after_journal, stored_in, stored_of, stored_on, with_frozen, with_put, with_working, working_generation}
+pub use Rattle.migrator.specs.Gathered.{HasZerosAt, IsCopied, IsFirst, IsGathered}
+pub use Rattle.migrator.specs.Headers.{IsHeaderOf}
+pub use Rattle.migrator.specs.Mended.{IfUnwritten, IsSpeltIn, IsUnwritten, Unwritten, mended, unwritten_of}
+pub use Rattle.migrator.specs.Opened.{HasNoPlan, IsBadAt, IsRead, IsUnplanned, OpensDurable}
+pub use Rattle.migrator.specs.Put.{Absent, ArePut, Broken, HasRoom, Kept, Put, held_slot, kept_count, kept_frame, put_at, put_of, put_or, slot_bytes}
+pub use Rattle.migrator.specs.Put.{slot_frame}
+unfoldable pub use Rattle.migrator.specs.Put.{overlaid, puts_in, sum_of}
+pub use Rattle.migrator.specs.Saving.{MayAdopt, MaySave, SavesOnly, SparesKept, SparesPuts, adopted}
+pub use Rattle.migrator.specs.Spared.{Spares, SparesFrames, Touches, frame_extent}
+pub use Rattle.migrator.specs.Table.{IsTable, entries_from, entry_before, has_frame, has_slot, is_held, place_at, slot_for, slot_of, slot_or, taken_count}
+pub use Rattle.migrator.specs.Table.{whole_count}
+unfoldable pub use Rattle.migrator.specs.Table.{entries_of, tally}
+pub use Rattle.migrator.specs.declared.books.Books.{Books}
+pub use Rattle.migrator.specs.declared.table.Place.{Place}
+pub use Rattle.migrator.specs.declared.table.Place.TheVariants.{Nowhere, Torn, Whole}

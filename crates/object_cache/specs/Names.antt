@@ -1,0 +1,30 @@
+-- The names of other crates that the definitions here cite.
+pub use Rattle.cache_entries.specs.Entries.{entry_at, room_of}
+pub use Rattle.cache_entries.specs.Order.{AllDiffer, without}
+pub use Rattle.cache_entries.specs.declared.entry.Entry.{Entry}
+pub use Rattle.capability.specs.Parts.{HaveTheirRoles, Parts}
+pub use Rattle.capability.specs.Plain.{room_at}
+pub use Rattle.checkpoint.specs.Saved.{Holds, most}
+pub use Rattle.device.proofs.Moments.{ends, leaves_on, leaves_weaker, peeks_started}
+pub use Rattle.device.specs.Disk.{Disk, Image}
+pub use Rattle.device.specs.Moments.{Peeks}
+pub use Rattle.layout.specs.Image.{SavedState}
+pub use Rattle.migrator.proofs.Moving.{goes_none, goes_trans}
+pub use Rattle.migrator.specs.Durable.{DurableState, FrozenPuts, GoesOn, Stored, below_at, is_sound, newest, saved_state, seen_of, stored_of}
+pub use Rattle.migrator.specs.Put.{Absent, Broken, Kept, Put, put_at}
+pub use Rattle.model.specs.Frame.{header_at, headers}
+pub use Rattle.model.specs.Keepable.{AreKeepable}
+pub use Rattle.model.specs.Machine.{touched_count}
+unfoldable pub use Rattle.model.specs.Machine.{untouched}
+pub use Rattle.model.specs.Revoke.{is_member}
+pub use Rattle.model.specs.Sound.{object_count}
+pub use Rattle.model.specs.declared.capability.Cap.{Cap}
+pub use Rattle.model.specs.declared.frame.Frame.{Frame}
+pub use Rattle.model.specs.declared.frame.ObjectHeader.{ObjectHeader}
+pub use Rattle.model.specs.declared.object.Content.{Content}
+pub use Rattle.model.specs.declared.object.Role.{Role}
+pub use Rattle.object_store.specs.Store.{Aside, FrozenFrames, Leads, View, stabilized}
+pub use Rattle.std.proofs.Common.{ap, arith, length-set, refl, ◌∙◌, ◌≤◌}
+pub use Rattle.std.specs.List.{range_with_len}
+pub use Rattle.std.specs.Prelude.{Bool, IsSome, List, None, Option, Some, [], count_by, false, if◌then◌else◌, is_some, length, map, option_map, replicate}
+pub use Rattle.std.specs.Prelude.{slice_index_or, slice_set, take, true, ℕ, ◌<◌, ◌==◌, ◌||◌, ◌∷◌, ◌≡◌, ◌⊎◌}

@@ -1,0 +1,61 @@
+-- The names that the proofs here cite: of other crates, and of the definitions of this one.
+pub use Rattle.capability.proofs.Asides.{looks_twice}
+pub use Rattle.capability.proofs.Frames.{length_objects}
+pub use Rattle.capability.proofs.Keeping.{keepable_later, keepable_roles}
+pub use Rattle.capability.specs.Parts.{AreSound, HaveTheirRoles, Looks, LooksUp, Parts, frames_of, objects_in}
+pub use Rattle.capability.specs.declared.present.PrepareFault.{PrepareFault}
+pub use Rattle.confinement.proofs.Runs.{run_confined}
+pub use Rattle.confinement.specs.Confinement.{AreBy, IsKept, with_free}
+pub use Rattle.model.specs.Capability.{IsWeak, named}
+pub use Rattle.model.specs.Closed.{IsClosed, StaysInside}
+unfoldable pub use Rattle.model.specs.Frame.{frames_in, objects_of}
+pub use Rattle.model.specs.Keepable.{AreKeepable, IsSoundFrames}
+pub use Rattle.model.specs.Object.{free, is_bank, is_free, is_node, is_page, is_root, root_in, slots_in}
+pub use Rattle.model.specs.Sound.{NamesItsKind}
+pub use Rattle.model.specs.Text.{line_of, spaced}
+pub use Rattle.model.specs.World.{annex_at, content_at, is_process, object_at, owner_at, root_at, slot_at}
+pub use Rattle.model.specs.declared.capability.Capability.{Capability}
+pub use Rattle.model.specs.declared.capability.Capability.TheVariants.{Bank, Discrim, Node, Number, Page, Process, Resume, Space, Start, Void}
+pub use Rattle.model.specs.declared.frame.Frame.{Frame}
+pub use Rattle.model.specs.declared.frame.ObjectHeader.{ObjectHeader}
+pub use Rattle.model.specs.declared.geometry.Geometry.{Geometry}
+pub use Rattle.model.specs.declared.object.Content.{Content}
+pub use Rattle.model.specs.declared.object.Object.{Object}
+pub use Rattle.model.specs.declared.object.Root.{Root}
+pub use Rattle.number_set.specs.Marks.{is_marked}
+pub use Rattle.script.proofs.Fronts.{text_fails, writes_after, writes_fail}
+pub use Rattle.script.specs.Writing.{Writes}
+pub use Rattle.std.proofs.Common.{Bool, Err, List, None, Option, Some, Vec, [], add-one, ap, append-nil, append_assoc, arith, codes, decimal, drop, false}
+pub use Rattle.std.proofs.Common.{get_or, inl, inr, is_some, length, length-set, length-take-le, max, nat_eq, nat_lt, not, option_and_then, refl, replicate}
+pub use Rattle.std.proofs.Common.{reverse, rules, slice_set, subst, suc, sym, take, true, zero, ℕ, ⊎_elim, ◌++◌, ◌+◌, ◌-◌, ◌<◌, ◌==◌, ◌^◌, ◌∙◌, ◌∷◌, ◌≡◌, ◌≢◌}
+pub use Rattle.std.proofs.Common.{◌≤◌, ◌⊎◌}
+pub use Rattle.std.proofs.KnownBytes.{Appends-trans}
+pub use Rattle.std.proofs.Math.Seq.{take-suc}
+pub use Rattle.std.proofs.lemmas.Bool.{cases_eq, cases_lt}
+pub use Rattle.std.proofs.lemmas.Bool.Decides.{nat_tests}
+pub use Rattle.std.proofs.lemmas.Grind.{flat_map-append}
+pub use Rattle.std.proofs.lemmas.List.{get_or-set_other, get_or-set_same, get_or_default, length-replicate, length-reverse, length_push, reverse-append}
+pub use Rattle.std.proofs.lemmas.List.{take-append-drop, take_all, take_more}
+pub use Rattle.std.proofs.lemmas.List.Elements.{All-cons, All-nil}
+pub use Rattle.std.proofs.lemmas.Option.{same_Some}
+pub use Rattle.std.proofs.lemmas.Result.{err_from_is_err_and}
+pub use Rattle.std.specs.Io.KnownBytes.{Appends}
+pub use Rattle.std.specs.List.{All, Contains, count_by, enumerate_from, find, flat_map}
+pub use Rattle.std.specs.Prelude.{IsErrOf, IsTrue, Ok, Result, slice_index_or}
+pub use Rattle.std.specs.declared.alloc.Global.{Global}
+pub use Rattle.reach.specs.Chain.{Conveys, IsChain, IsPath, IsShortest, IsStep, IsWay, held_by}
+pub use Rattle.reach.specs.ChainLines.{step_line, steps_text}
+unfoldable pub use Rattle.reach.specs.ChainLines.{chain_text}
+pub use Rattle.reach.specs.Frontier.{Grows, HasNoneLeft, IsDone, IsWithin, NamesWithin, Takes}
+pub use Rattle.reach.specs.Laws.{StepsAreAuthority}
+pub use Rattle.reach.specs.Levels.{Begins, FindsBy, IsAfter, IsAt, IsBy, IsFirst, IsFoundBy, IsFoundIn, IsFrom, IsFromLevel, IsHeldIn, IsOwnedBelow, IsSearched}
+pub use Rattle.reach.specs.Levels.{IsTheStep, found_at, has_level}
+pub use Rattle.reach.specs.Lines.{member_line, member_pulls, pull_line, words_of}
+unfoldable pub use Rattle.reach.specs.Lines.{reach_text}
+pub use Rattle.reach.specs.Missing.{missing}
+pub use Rattle.reach.specs.Reached.{AreSoundObjects, BoundsRuns, IsClosedAt, IsReach}
+pub use Rattle.reach.specs.declared.frontier.Frontier.{Frontier}
+pub use Rattle.reach.specs.declared.levels.Found.{Found}
+pub use Rattle.reach.specs.declared.levels.Levels.{Levels}
+pub use Rattle.reach.specs.declared.step.Step.{Step}
+pub use Rattle.reach.specs.declared.step.Way.{Way}
