@@ -9,9 +9,9 @@ use Rattle.model.specs.World.{content_at}
 use Rattle.address_space.specs.declared.walking.Reached.{Reached}
 
 -- the page reached and its access, or the fault
-abbrev pub told : Result Reached MemoryFault → Result (ℕ × Access) MemoryFault
-told (Ok reached) = Ok (reached.page, reached.access)
-told (Err why) = Err why
+abbrev pub reported : Result Reached MemoryFault → Result (ℕ × Access) MemoryFault
+reported (Ok reached) = Ok (reached.page, reached.access)
+reported (Err why) = Err why
 
 -- what is reached, if anything is, is a page
 abbrev pub ReachesPage : List Object → Result Reached MemoryFault → Type 0

@@ -36,11 +36,11 @@ KeepsSound old new = (age : ℕ) → IsSoundFrames old.geometry age (frames_of o
 
 -- A store changes one content at most, and nothing where it fails. The parameters are ghost members of a store of
 -- present frames.
-pub record WritesWord {S T : Type 0} (parts : S → Parts) (Leads : S → S → Type 0) (old new : S) (result : Result T PrepareFault) : Type 0 where
+pub record WritesWord {S T : Type 0} (parts : S → Parts) (Continues : S → S → Type 0) (old new : S) (result : Result T PrepareFault) : Type 0 where
   pub sound : KeepsSound (parts old) (parts new)
   pub headers : (parts new).headers ≡ (parts old).headers
   pub unchanged : OnErr result (IsUnchanged (parts old) (parts new))
   pub cause : IsErrOf result prepare.Failed ↔ ((parts old).failures < (parts new).failures)
   pub later : (parts old).failures ≤ (parts new).failures
   pub geometry : (parts new).geometry ≡ (parts old).geometry
-  pub leads : Leads old new
+  pub continues : Continues old new

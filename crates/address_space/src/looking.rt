@@ -2,7 +2,7 @@
 ghost use Rattle.std.specs.Prelude.{◌≡◌, ◌<◌, length, IfOk, OnOk, IsTrue};
 ghost use Rattle.model.specs.Sound.{MayBeHeld};
 ghost use Rattle.model.specs.World.{is_process, root_at};
-ghost use Rattle.capability.specs.Parts.{AreSound, Looks, objects_in};
+ghost use Rattle.capability.specs.Parts.{AreSound, OnlyReads, objects_in};
 
 use capability::{Capability, PrepareFault, PresentFrames, objects, roots};
 use std::alloc::Global;
@@ -16,7 +16,7 @@ pub fn look<F: PresentFrames>(
     requires known { number < length (F.parts frames.old).headers }
     requires sound { AreSound (F.parts frames.old) }
     ensures fetched { OnOk result (F.IsFetched frames.new number) }
-    ensures looks { Looks F.parts F.LeadsTo frames.old frames.new result }
+    ensures only_reads { OnlyReads F.parts F.ContinuesTo frames.old frames.new result }
 {
     objects::fetch(frames, alloc, &[number])
 }
@@ -33,7 +33,7 @@ pub fn space_of<F: PresentFrames>(
     ensures held { IfOk result (MayBeHeld (objects_in (F.parts frames.old))) }
     ensures space { IfOk result (λ space.
         space ≡ (root_at (objects_in (F.parts frames.old)) process).space) }
-    ensures looks { Looks F.parts F.LeadsTo frames.old frames.new result }
+    ensures only_reads { OnlyReads F.parts F.ContinuesTo frames.old frames.new result }
 {
     look(alloc, frames, process)?;
     Ok(roots::space(frames, process))

@@ -4,8 +4,8 @@ ghost use Rattle.model.specs.Machine.{touched_count, touching};
 ghost use Rattle.model.specs.Object.{is_page};
 ghost use Rattle.model.specs.Step.{reached};
 ghost use Rattle.model.specs.World.{content_at, is_running_process, with_word};
-ghost use Rattle.capability.specs.Parts.{AreSound, Looks, objects_in};
-ghost use Rattle.address_space.specs.Reaches.{ReachesPage, allowed, told};
+ghost use Rattle.capability.specs.Parts.{AreSound, OnlyReads, objects_in};
+ghost use Rattle.address_space.specs.Reaches.{ReachesPage, allowed, reported};
 ghost use Rattle.address_space.specs.References.{IsLoaded, IsStored, OverfillsStore, WritesWord};
 
 use crate::looking::{look, space_of};
@@ -29,7 +29,7 @@ pub fn load<F: PresentFrames>(
     requires process { IsTrue (is_running_process (objects_in (F.parts frames.old)) process) }
     ensures loaded { IfOk result (λ loaded.
         IsLoaded (objects_in (F.parts frames.old)) process address loaded) }
-    ensures looks { Looks F.parts F.LeadsTo frames.old frames.new result }
+    ensures only_reads { OnlyReads F.parts F.ContinuesTo frames.old frames.new result }
 {
     match reach(alloc, frames, process, address, false)? {
         Ok(found) => {
@@ -62,7 +62,7 @@ pub fn store<F: PresentFrames>(
     ensures full { IsErrOf result PrepareFault.LogFull
         → OverfillsStore (F.parts frames.old).geometry.log (objects_in (F.parts frames.old))
         (F.parts frames.old).touched process address }
-    ensures writes { WritesWord F.parts F.LeadsTo frames.old frames.new result }
+    ensures writes { WritesWord F.parts F.ContinuesTo frames.old frames.new result }
 {
     match reach(alloc, frames, process, address, true)? {
         Ok(found) => {
@@ -84,10 +84,10 @@ fn reach<F: PresentFrames>(
     requires sound { AreSound (F.parts frames.old) }
     requires process { IsTrue (is_running_process (objects_in (F.parts frames.old)) process) }
     ensures reached { IfOk result (λ found.
-        told found ≡ allowed for_write
+        reported found ≡ allowed for_write
         (reached (objects_in (F.parts frames.old)) process address)) }
     ensures page { IfOk result (ReachesPage (objects_in (F.parts frames.old))) }
-    ensures looks { Looks F.parts F.LeadsTo frames.old frames.new result }
+    ensures only_reads { OnlyReads F.parts F.ContinuesTo frames.old frames.new result }
 {
     let space = space_of(alloc, frames, process)?;
     walk(alloc, frames, space, address, for_write)
@@ -114,7 +114,7 @@ fn put<F: PresentFrames>(
     ensures full { IsErrOf result PrepareFault.LogFull
         → (F.parts frames.old).geometry.log
         < touched_count (touching (F.parts frames.old).touched (page ∷ [])) }
-    ensures writes { WritesWord F.parts F.LeadsTo frames.old frames.new result }
+    ensures writes { WritesWord F.parts F.ContinuesTo frames.old frames.new result }
 {
     frames.prepare(alloc, &[page], &[page])?;
     objects::set_word(frames, page, index, word);

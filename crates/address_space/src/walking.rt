@@ -4,8 +4,8 @@ ghost use Rattle.model.specs.Capability.{union};
 ghost use Rattle.model.specs.Sound.{MayBeHeld};
 ghost use Rattle.model.specs.Walk.{path, walk as walked, walk_along};
 ghost use Rattle.model.specs.World.{slot_at};
-ghost use Rattle.capability.specs.Parts.{AreSound, Looks, objects_in};
-ghost use Rattle.address_space.specs.Reaches.{ReachesPage, allowed, told};
+ghost use Rattle.capability.specs.Parts.{AreSound, OnlyReads, objects_in};
+ghost use Rattle.address_space.specs.Reaches.{ReachesPage, allowed, reported};
 
 use crate::looking::look;
 use bitflags::Flags;
@@ -67,10 +67,10 @@ pub fn walk<F: PresentFrames>(
 ) -> Result<Result<Reached, MemoryFault>, PrepareFault>
     requires sound { AreSound (F.parts frames.old) }
     requires held { MayBeHeld (objects_in (F.parts frames.old)) capability }
-    ensures reached { IfOk result (λ reached. told reached ≡ allowed for_write
+    ensures reached { IfOk result (λ reached. reported reached ≡ allowed for_write
         (walked (objects_in (F.parts frames.old)) capability (address / 512))) }
     ensures page { IfOk result (ReachesPage (objects_in (F.parts frames.old))) }
-    ensures looks { Looks F.parts F.LeadsTo frames.old frames.new result }
+    ensures only_reads { OnlyReads F.parts F.ContinuesTo frames.old frames.new result }
 {
     match find(alloc, frames, capability, address / WORDS as u64)? {
         Ok(found) if for_write && !found.access.is_empty() => Ok(Err(MemoryFault::ReadOnly)),
@@ -89,9 +89,9 @@ fn find<F: PresentFrames>(
     requires sound { AreSound (F.parts frames.old) }
     requires held { MayBeHeld (objects_in (F.parts frames.old)) capability }
     ensures reached { IfOk result (λ reached.
-        told reached ≡ walked (objects_in (F.parts frames.old)) capability index) }
+        reported reached ≡ walked (objects_in (F.parts frames.old)) capability index) }
     ensures page { IfOk result (ReachesPage (objects_in (F.parts frames.old))) }
-    ensures looks { Looks F.parts F.LeadsTo frames.old frames.new result }
+    ensures only_reads { OnlyReads F.parts F.ContinuesTo frames.old frames.new result }
 {
     match capability {
         Capability::Void => Ok(Err(MemoryFault::NoSpace)),
@@ -134,11 +134,11 @@ fn descend<F: PresentFrames>(
     requires sound { AreSound (F.parts frames.old) }
     requires held { MayBeHeld (objects_in (F.parts frames.old))
         (Capability.Space tree.node tree.height tree.access) }
-    ensures reached { IfOk result (λ reached. told reached
+    ensures reached { IfOk result (λ reached. reported reached
         ≡ walk_along (objects_in (F.parts frames.old))
         (Capability.Space tree.node tree.height tree.access) (path tree.height index)) }
     ensures page { IfOk result (ReachesPage (objects_in (F.parts frames.old))) }
-    ensures looks { Looks F.parts F.LeadsTo frames.old frames.new result }
+    ensures only_reads { OnlyReads F.parts F.ContinuesTo frames.old frames.new result }
 {
     match next_slot(alloc, frames, tree, index)? {
         Capability::Void => Ok(Err(MemoryFault::Hole)),
@@ -188,7 +188,7 @@ fn next_slot<F: PresentFrames>(
         slot ≡ slot_at (objects_in (F.parts frames.old)) tree.node
         (index / 32 ^ (tree.height - 1) % 32)) }
     ensures held { IfOk result (MayBeHeld (objects_in (F.parts frames.old))) }
-    ensures looks { Looks F.parts F.LeadsTo frames.old frames.new result }
+    ensures only_reads { OnlyReads F.parts F.ContinuesTo frames.old frames.new result }
 {
     look(alloc, frames, tree.node)?;
     Ok(objects::slot(frames, tree.node, digit(index, tree.height - 1)))

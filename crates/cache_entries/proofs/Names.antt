@@ -14,7 +14,7 @@ pub use Rattle.std.specs.List.{Contains, slice_get, swap_remove}
 pub use Rattle.std.specs.Map.{keys_of, lookup, lookup_entry, remove_entry}
 pub use Rattle.std.specs.Option.{option_map_or}
 pub use Rattle.std.specs.Prelude.{nat_le, slice_index}
-pub use Rattle.cache_entries.specs.Entries.{ArenaState, IsPlaced, arena_of, entry_at, entry_of, holding, keeping, of_number, present_of, reserving, room_of}
+pub use Rattle.cache_entries.specs.Entries.{ArenaState, IsPlaced, arena_of, buffer_of, entry_at, entry_of, holding, keeping, of_number, present_of, reserving}
 pub use Rattle.cache_entries.specs.Entries.{settled, with_entry_in}
 unfoldable pub use Rattle.cache_entries.specs.Entries.{entries_in}
 pub use Rattle.cache_entries.specs.Order.{AllDiffer, AreKept, AreLatest, EntriesState, OrderState, entries_of, used_in_turn, used_last, with_new, without}

@@ -232,22 +232,22 @@ settled_latest n ns order are = record {
 }
 
 -- what telling it leaves
-pub record Settles (latest rest order told : List ℕ) : Type 0 where
-  pub same : used_in_turn rest told ≡ used_in_turn latest order
-  pub are : AreLatest rest told
+pub record Settles (latest rest order reported : List ℕ) : Type 0 where
+  pub same : used_in_turn rest reported ≡ used_in_turn latest order
+  pub are : AreLatest rest reported
   pub others : (m : ℕ) → is_member latest m ≡ false → is_member rest m ≡ false
-  pub members : (m : ℕ) → is_member told m ≡ is_member order m
+  pub members : (m : ℕ) → is_member reported m ≡ is_member order m
   pub fewer : length rest + 1 ≡ length latest
 
-pub settles : (latest rest order told : List ℕ) (n : ℕ) → 0 < length latest → n ≡ get_or latest 0 n → rest ≡ take 0 latest ++ drop 1 latest →
-    (is_member order n ≡ true → told ≡ n ∷ without n order) → AreLatest latest order → Settles latest rest order told
-settles [] rest order told n some first is tells are = absurd (omega (arith, some))
-settles (m ∷ ms) rest order told n some first is tells are =
+pub settles : (latest rest order reported : List ℕ) (n : ℕ) → 0 < length latest → n ≡ get_or latest 0 n → rest ≡ take 0 latest ++ drop 1 latest →
+    (is_member order n ≡ true → reported ≡ n ∷ without n order) → AreLatest latest order → Settles latest rest order reported
+settles [] rest order reported n some first is tells are = absurd (omega (arith, some))
+settles (m ∷ ms) rest order reported n some first is tells are =
     let here : is_member order m ≡ true = are.listed m (member_head m m ms refl) in
-    let on : told ≡ m ∷ without m order = subst (λ (k : ℕ). told ≡ k ∷ without k order) first (tells (ap (is_member order) first ∙ here)) in
+    let on : reported ≡ m ∷ without m order = subst (λ (k : ℕ). reported ≡ k ∷ without k order) first (tells (ap (is_member order) first ∙ here)) in
     record {
-      same = ap (λ (ks : List ℕ). used_in_turn ks told) is ∙ ap (used_in_turn ms) on;
-      are = subst (λ (ks : List ℕ). AreLatest ks told) (sym is) (subst (AreLatest ms) (sym on) (settled_latest m ms order are));
+      same = ap (λ (ks : List ℕ). used_in_turn ks reported) is ∙ ap (used_in_turn ms) on;
+      are = subst (λ (ks : List ℕ). AreLatest ks reported) (sym is) (subst (AreLatest ms) (sym on) (settled_latest m ms order are));
       others = λ k none. ap (λ (ks : List ℕ). is_member ks k) is ∙ (not_here m ms k none).1;
       members = λ k. ap (λ (ks : List ℕ). is_member ks k) on ∙ member_used m order k here;
       fewer = omega (arith, ap length is);

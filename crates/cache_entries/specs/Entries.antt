@@ -14,8 +14,8 @@ entry_at es n = slice_index_or es n None
 abbrev pub present_of : Entry → Content Cap
 present_of e = e.present
 
-abbrev pub room_of : Entry → Content Cap
-room_of e = e.room
+abbrev pub buffer_of : Entry → Content Cap
+buffer_of e = e.room
 
 -- an entry with another present body, with another one kept apart, or with another room
 abbrev pub holding : Content Cap → Entry → Entry

@@ -4,7 +4,7 @@ ghost use Rattle.std.specs.Borrow.{Lends, sem};
 ghost use Rattle.model.specs.contracts.object.Content.{the_row as content_row};
 ghost use Rattle.model.specs.contracts.capability.Cap.{the_row as cap_row};
 ghost use Rattle.cache_entries.specs.declared.entry.Entry.{Entry};
-ghost use Rattle.cache_entries.specs.Entries.{entry_at, entry_of, settled, holding, keeping, reserving, with_entry_in, present_of, room_of};
+ghost use Rattle.cache_entries.specs.Entries.{entry_at, entry_of, settled, holding, keeping, reserving, with_entry_in, present_of, buffer_of};
 
 use crate::entry::Entry;
 use model::{Cap, Content};
@@ -121,9 +121,9 @@ impl Arena {
     }
 
     /// Puts another room aside for a number that has an entry, and hands out the one before.
-    pub(crate) fn replace_room(&mut self, number: u64, room: Content<Cap>) -> Content<Cap>
+    pub(crate) fn replace_buffer(&mut self, number: u64, room: Content<Cap>) -> Content<Cap>
         requires { IsSome (entry_at self.old.at number) }
-        ensures room { option_map room_of (entry_at self.old.at number) ≡ Some result }
+        ensures room { option_map buffer_of (entry_at self.old.at number) ≡ Some result }
         ensures entries { self.new ≡ with_entry_in (reserving room) number self.old }
     {
         let place = self.places[number as usize] as usize;

@@ -4,7 +4,7 @@ ghost use Rattle.std.specs.Borrow.{Lends, sem};
 ghost use Rattle.std.specs.List.{Contains};
 ghost use Rattle.model.specs.contracts.object.Content.{the_row as content_row};
 ghost use Rattle.model.specs.contracts.capability.Cap.{the_row as cap_row};
-ghost use Rattle.cache_entries.specs.Entries.{entry_at, holding, keeping, reserving, present_of, room_of};
+ghost use Rattle.cache_entries.specs.Entries.{entry_at, holding, keeping, reserving, present_of, buffer_of};
 ghost use Rattle.cache_entries.specs.Order.{AreOrdered, used_longest_ago, with_entry_of, with_new, without_entry, used_in_turn, used_now};
 
 use crate::arena::Arena;
@@ -112,12 +112,12 @@ impl Entries {
     }
 
     /// Puts another room aside for a number that has an entry, and hands out the one before.
-    pub fn replace_room(&mut self, number: u64, room: Content<Cap>) -> Content<Cap>
+    pub fn replace_buffer(&mut self, number: u64, room: Content<Cap>) -> Content<Cap>
         requires { IsSome (entry_at self.old.at number) }
-        ensures room { option_map room_of (entry_at self.old.at number) ≡ Some result }
+        ensures room { option_map buffer_of (entry_at self.old.at number) ≡ Some result }
         ensures entries { self.new ≡ with_entry_of (reserving room) number self.old }
     {
-        self.arena.replace_room(number, room)
+        self.arena.replace_buffer(number, room)
     }
 
     /// Leaves nothing in an object, where it has an entry.

@@ -64,21 +64,21 @@ module _ (p q : Parts) (n : ℕ) (known : n < length p.headers) (inside : n < le
       (root_current p.headers change current held) (λ age allowed. root_keeps p.geometry age n (header_at p.headers n) change (stays age allowed) held)
 
 -- an edit of a lent content, by the laws of present frames
-pub edited : {S : Type 0} (parts : S → Parts) (Fetched Announced : S → ℕ → Type 0) (Leads : S → S → Type 0) (with_content : S → ℕ → Content Cap → S) →
+pub edited : {S : Type 0} (parts : S → Parts) (Fetched Announced : S → ℕ → Type 0) (Continues : S → S → Type 0) (with_content : S → ℕ → Content Cap → S) →
     ((s : S) (n : ℕ) (c : Content Cap) → parts (with_content s n c) ≡ with_held (parts s) n c) →
     ((s : S) (n : ℕ) (c : Content Cap) (m : ℕ) → Fetched s m → Fetched (with_content s n c) m) →
-    ((s : S) (n : ℕ) (c : Content Cap) (m : ℕ) → Announced s m → Announced (with_content s n c) m) → ((s : S) → Leads s s) →
-    ((s t : S) (n : ℕ) (c : Content Cap) → Announced t n → Leads s t → Leads s (with_content t n c)) →
+    ((s : S) (n : ℕ) (c : Content Cap) (m : ℕ) → Announced s m → Announced (with_content s n c) m) → ((s : S) → Continues s s) →
+    ((s t : S) (n : ℕ) (c : Content Cap) → Announced t n → Continues s t → Continues s (with_content t n c)) →
     (s : S) (n : ℕ) (c : Content Cap) (after : List Object) (may : ℕ → Type 0) → Announced s n → IsEdit (parts s) (parts (with_content s n c)) after may →
-    Edits parts Fetched Announced Leads s (with_content s n c) after may
-edited parts Fetched Announced Leads with_content parts_with fetched_with announced_with leads_same leads_with s n c after may announced edit =
+    Edits parts Fetched Announced Continues s (with_content s n c) after may
+edited parts Fetched Announced Continues with_content parts_with fetched_with announced_with continues_same continues_with s n c after may announced edit =
     let is = parts_with s n c in
     record {
       objects = edit.objects;
       headers = ap (λ (p : Parts). p.headers) is;
       current = edit.current;
       keepable = edit.keepable;
-      aside = record {
+      snapshots = record {
         count = ap (λ (p : Parts). length p.headers) is;
         allocations = λ m. ap (λ (p : Parts). (header_at p.headers m).allocations) is;
         touched = ap (λ (p : Parts). p.touched) is;
@@ -86,6 +86,6 @@ edited parts Fetched Announced Leads with_content parts_with fetched_with announ
         failures = ap (λ (p : Parts). p.failures) is;
         fetched = fetched_with s n c;
         announced = announced_with s n c;
-        leads = leads_with s s n c announced (leads_same s);
+        continues = continues_with s s n c announced (continues_same s);
       };
     }

@@ -1,5 +1,5 @@
 mod Names
-pub mod Asides
+pub mod SnapshotLaws
 pub mod Frames
 pub mod Keeping
 pub mod KindNumbers

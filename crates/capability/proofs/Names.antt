@@ -45,9 +45,9 @@ pub use Rattle.std.specs.Option.{option_map}
 pub use Rattle.std.specs.Prelude.{IsTrue, ◌≢◌}
 pub use Rattle.capability.specs.Laws.{CalledIsConsumed, ConsumeKeepsSoundFrames, GivenUpIsRescinded, RescindKeepsSoundFrames}
 pub use Rattle.capability.specs.Objects.{live_cap, with_root_in}
-pub use Rattle.capability.specs.Parts.{AreGivenUp, Edits, FreshFits, HaveTheirRoles, IsFreshAt, KeepsAside, LooksUp, Parts, frames_of, fresh_content}
+pub use Rattle.capability.specs.Parts.{AreGivenUp, Edits, FreshFits, HaveTheirRoles, IsFreshAt, KeepsRest, OnlyFetches, Parts, frames_of, fresh_content}
 pub use Rattle.capability.specs.Parts.{objects_in, with_both, with_header, with_held}
-pub use Rattle.capability.specs.Plain.{PlainState, room_at}
+pub use Rattle.capability.specs.Plain.{PlainState, spare_body_at}
 pub use Rattle.capability.specs.declared.present.Fresh.{Fresh}
 pub use Rattle.model.specs.declared.capability.Cap.{Cap}
 pub use Rattle.model.specs.declared.capability.Capability.{Capability}

@@ -19,7 +19,7 @@ abbrev pub bank_changed : List Object → List ℕ → BankChange → List Objec
 bank_changed os list (bank.Make n f b) = with_new os n b (fresh_content Void f)
 bank_changed os list (bank.MakeProcess r a b) = with_new (with_new os r b (new_root a)) a b new_annex
 bank_changed os list (bank.GiveUp above) = rescind list os
-bank_changed os list (bank.HandOn b) = rescind (b ∷ []) (inherited os b)
+bank_changed os list (bank.Transfer b) = rescind (b ∷ []) (inherited os b)
 
 -- the objects after a change, whose order writes the numbers of the list
 abbrev pub changed : List Object → List ℕ → Change → List Object

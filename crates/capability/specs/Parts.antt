@@ -68,7 +68,7 @@ HaveTheirRoles fs = (n : ℕ) → (frame_at fs n).header.role ≡ role_of (frame
 
 -- A change of present frames that gives no object up: counts of allocations and what lies beside them go on as they were,
 -- and what was fetched and announced stays so. The parameters are the ghost members of a store of present frames.
-pub record KeepsAside {S : Type 0} (parts : S → Parts) (Fetched Announced : S → ℕ → Type 0) (Leads : S → S → Type 0) (old new : S) : Type 0 where
+pub record KeepsRest {S : Type 0} (parts : S → Parts) (Fetched Announced : S → ℕ → Type 0) (Continues : S → S → Type 0) (old new : S) : Type 0 where
   pub count : length (parts new).headers ≡ length (parts old).headers
   pub allocations : (n : ℕ) → (header_at (parts new).headers n).allocations ≡ (header_at (parts old).headers n).allocations
   pub touched : (parts new).touched ≡ (parts old).touched
@@ -76,36 +76,36 @@ pub record KeepsAside {S : Type 0} (parts : S → Parts) (Fetched Announced : S 
   pub failures : (parts new).failures ≡ (parts old).failures
   pub fetched : (n : ℕ) → Fetched old n → Fetched new n
   pub announced : (n : ℕ) → Announced old n → Announced new n
-  pub leads : Leads old new
+  pub continues : Continues old new
 
 -- An edit of what objects hold: the objects after it, and when the frames can be kept at an age. The parameters are
 -- ghost members of a store of present frames.
-pub record Edits {S : Type 0} (parts : S → Parts) (Fetched Announced : S → ℕ → Type 0) (Leads : S → S → Type 0) (old new : S) (after : List Object) (may : ℕ → Type 0) : Type 0 where
+pub record Edits {S : Type 0} (parts : S → Parts) (Fetched Announced : S → ℕ → Type 0) (Continues : S → S → Type 0) (old new : S) (after : List Object) (may : ℕ → Type 0) : Type 0 where
   pub objects : objects_in (parts new) ≡ after
   pub headers : (parts new).headers ≡ (parts old).headers
   pub current : AreCurrent (frames_of (parts old)) → AreCurrent (frames_of (parts new))
   pub keepable : (age : ℕ) → may age → AreKeepable (parts old).geometry age (frames_of (parts old)) → AreKeepable (parts old).geometry age (frames_of (parts new))
-  pub aside : KeepsAside parts Fetched Announced Leads old new
+  pub snapshots : KeepsRest parts Fetched Announced Continues old new
 
 -- Frames were fetched, and nothing else came of it.
-pub record LooksUp {S : Type 0} (parts : S → Parts) (Leads : S → S → Type 0) (old new : S) : Type 0 where
+pub record OnlyFetches {S : Type 0} (parts : S → Parts) (Continues : S → S → Type 0) (old new : S) : Type 0 where
   pub headers : (parts new).headers ≡ (parts old).headers
   pub contents : (parts new).contents ≡ (parts old).contents
   pub touched : (parts new).touched ≡ (parts old).touched
   pub geometry : (parts new).geometry ≡ (parts old).geometry
-  pub leads : Leads old new
+  pub continues : Continues old new
 
 -- Frames were fetched for a call that may want memory or fail, and nothing else came of it. The parameters are
 -- ghost members of a store of present frames.
-pub record Looks {S T : Type 0} (parts : S → Parts) (Leads : S → S → Type 0) (old new : S) (result : Result T PrepareFault) : Type 0 where
-  pub aside : LooksUp parts Leads old new
+pub record OnlyReads {S T : Type 0} (parts : S → Parts) (Continues : S → S → Type 0) (old new : S) (result : Result T PrepareFault) : Type 0 where
+  pub snapshots : OnlyFetches parts Continues old new
   pub later : (parts old).failures ≤ (parts new).failures
   pub cause : IsErrOf result prepare.Failed ↔ ((parts old).failures < (parts new).failures)
   pub room : IsErrOf result prepare.LogFull → ⊥
 
 -- Frames were fetched, and numbers announced that are to be written; after an error none of them is. The parameters are
 -- ghost members of a store of present frames.
-pub record Prepares {S T : Type 0} (parts : S → Parts) (Leads : S → S → Type 0) (old new : S) (written : List ℕ) (result : Result T PrepareFault) : Type 0 where
+pub record Prepares {S T : Type 0} (parts : S → Parts) (Continues : S → S → Type 0) (old new : S) (written : List ℕ) (result : Result T PrepareFault) : Type 0 where
   pub touched : OnOk result ((parts new).touched ≡ touching (parts old).touched written)
   pub within : touched_count (parts new).touched ≤ (parts new).geometry.log
   pub headers : (parts new).headers ≡ (parts old).headers
@@ -115,7 +115,7 @@ pub record Prepares {S T : Type 0} (parts : S → Parts) (Leads : S → S → Ty
   pub full : IsErrOf result prepare.LogFull → (parts old).geometry.log < touched_count (touching (parts old).touched written)
   pub cause : IsErrOf result prepare.Failed ↔ ((parts old).failures < (parts new).failures)
   pub later : (parts old).failures ≤ (parts new).failures
-  pub leads : Leads old new
+  pub continues : Continues old new
 
 -- no object and no number written is another
 pub record IsUnchanged (old new : Parts) : Type 0 where

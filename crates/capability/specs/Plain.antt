@@ -16,7 +16,7 @@ pub record PlainState : Type 0 where
   pub headers : List ObjectHeader
   pub contents : List (Content Cap)
   pub touched : List Bool
-  pub rooms : List (Content Cap)
+  pub spare_bodies : List (Content Cap)
 
 -- its parts
 abbrev pub parts_of : PlainState → Parts
@@ -30,11 +30,11 @@ parts_of s = record {
 
 -- what its fields keep: one of each for each number, and how many are marked
 pub record IsWholeStore (geometry : Geometry) (headers : List ObjectHeader) (contents : List (Content Cap))
-    (touched : List Bool) (rooms : List (Content Cap)) (count : ℕ) : Type 0 where
+    (touched : List Bool) (spare_bodies : List (Content Cap)) (count : ℕ) : Type 0 where
   pub header_each : length headers ≡ object_count geometry
   pub content_each : length contents ≡ object_count geometry
   pub mark_each : length touched ≡ object_count geometry
-  pub room_each : length rooms ≡ object_count geometry
+  pub room_each : length spare_bodies ≡ object_count geometry
   pub marked : count ≡ touched_count touched
   pub within : count ≤ geometry.log
 
@@ -43,21 +43,21 @@ abbrev pub IsThere : PlainState → ℕ → Type 0
 IsThere s n = (n < length s.headers) × (n < length s.contents)
 
 -- the blank body that lies aside for a number, and the one that a new object is made of
-abbrev pub room_at : Geometry → ℕ → Content Cap
-room_at g n = if nat_lt n g.nodes then content.Node (all_slots void_held) else content.Page zero_words
+abbrev pub spare_body_at : Geometry → ℕ → Content Cap
+spare_body_at g n = if nat_lt n g.nodes then content.Node (all_slots void_held) else content.Page zero_words
 
-abbrev pub room_for : Fresh → Content Cap
-room_for fresh.Page = content.Page zero_words
-room_for _ = content.Node (all_slots void_held)
+abbrev pub spare_body_for : Fresh → Content Cap
+spare_body_for fresh.Page = content.Page zero_words
+spare_body_for _ = content.Node (all_slots void_held)
 
 -- a number may be written where it has room, if it is free
-pub record HasRoom (s : PlainState) (n : ℕ) : Type 0 where
+pub record HasSpareBody (s : PlainState) (n : ℕ) : Type 0 where
   pub there : IsThere s n
-  pub room : (header_at s.headers n).role ≡ role.Free → held_at s.rooms n ≡ room_at s.geometry n
+  pub room : (header_at s.headers n).role ≡ role.Free → held_at s.spare_bodies n ≡ spare_body_at s.geometry n
 
 -- numbers were announced or, after an error, none of them
 pub record Announces {T : Type 0} (old new : PlainState) (written : List ℕ) (result : Result T PrepareFault) : Type 0 where
-  pub announced : OnOk result ((n : ℕ) → Contains written n → HasRoom new n)
+  pub announced : OnOk result ((n : ℕ) → Contains written n → HasSpareBody new n)
   pub touched : OnOk result (new.touched ≡ touching old.touched written)
   pub within : touched_count new.touched ≤ new.geometry.log
   pub before : touched_count old.touched ≤ old.geometry.log

@@ -7,7 +7,7 @@ ghost use Rattle.model.specs.Object.{is_annex, with_slot_in, with_word_in};
 ghost use Rattle.model.specs.Revoke.{consume as consumed, is_member, rescind as rescinded};
 ghost use Rattle.model.specs.World.{word_at, slot_at, annex_at, content_at, is_process, with_word, with_slot};
 ghost use Rattle.capability.specs.Objects.{live_cap, with_message, with_root_in};
-ghost use Rattle.capability.specs.Parts.{AreGivenUp, Edits, FreshFits, IsFreshAt, IsOnce, KeepsAside, LooksUp, frames_of, fresh_content, objects_in};
+ghost use Rattle.capability.specs.Parts.{AreGivenUp, Edits, FreshFits, IsFreshAt, IsOnce, KeepsRest, OnlyFetches, frames_of, fresh_content, objects_in};
 
 use crate::present::{Fresh, MAX_FETCHED, PrepareFault, PresentFrames};
 use model::{Cap, Capability, Content, Role, State};
@@ -54,7 +54,7 @@ pub fn set_word<F: PresentFrames>(store: &mut F, number: u64, index: usize, word
     requires fetched { F.IsFetched store.old number }
     requires announced { F.IsAnnounced store.old number }
     requires within { index < 512 }
-    ensures { Edits F.parts F.IsFetched F.IsAnnounced F.LeadsTo store.old store.new
+    ensures { Edits F.parts F.IsFetched F.IsAnnounced F.ContinuesTo store.old store.new
         (with_word (objects_in (F.parts store.old)) number index word)
         (λ age. Unit {0}) }
 {
@@ -67,7 +67,7 @@ pub fn set_slot<F: PresentFrames>(store: &mut F, number: u64, slot: usize, capab
     requires fetched { F.IsFetched store.old number }
     requires announced { F.IsAnnounced store.old number }
     requires within { slot < 32 }
-    ensures { Edits F.parts F.IsFetched F.IsAnnounced F.LeadsTo store.old store.new
+    ensures { Edits F.parts F.IsFetched F.IsAnnounced F.ContinuesTo store.old store.new
         (with_slot (objects_in (F.parts store.old)) number slot capability)
         (λ age. IsKeptCap (F.parts store.old).geometry age (live_cap (F.parts store.old).headers capability)
         × (IsTrue (is_annex (held_at (F.parts store.old).contents number)) → slot ≡ 0
@@ -82,7 +82,7 @@ pub fn set_message<F: PresentFrames>(store: &mut F, process: u64, words: [u64; 4
     requires fetched { F.IsFetched store.old process }
     requires announced { F.IsAnnounced store.old process }
     requires process { IsTrue (is_process (objects_in (F.parts store.old)) process) }
-    ensures { Edits F.parts F.IsFetched F.IsAnnounced F.LeadsTo store.old store.new
+    ensures { Edits F.parts F.IsFetched F.IsAnnounced F.ContinuesTo store.old store.new
         (with_message (objects_in (F.parts store.old)) process words key)
         (λ age. Unit {0}) }
 {
@@ -104,7 +104,7 @@ pub fn claim<F: PresentFrames>(store: &mut F, number: u64, fresh: Fresh, owner: 
     ensures keepable { (age : ℕ) → FreshFits fresh
         → AreKeepable (F.parts store.old).geometry age (frames_of (F.parts store.old))
         → AreKeepable (F.parts store.old).geometry age (frames_of (F.parts store.new)) }
-    ensures aside { KeepsAside F.parts F.IsFetched F.IsAnnounced F.LeadsTo store.old store.new }
+    ensures snapshots { KeepsRest F.parts F.IsFetched F.IsAnnounced F.ContinuesTo store.old store.new }
 {
     store.claim(number, fresh, owner);
 }
@@ -121,7 +121,7 @@ pub fn set_owner<F: PresentFrames>(store: &mut F, number: u64, bank: u64)
         → ((header_at (F.parts store.old).headers number).role ≡ Role.Free → bank ≡ 0)
         → AreKeepable (F.parts store.old).geometry age (frames_of (F.parts store.old))
         → AreKeepable (F.parts store.old).geometry age (frames_of (F.parts store.new)) }
-    ensures aside { KeepsAside F.parts F.IsFetched F.IsAnnounced F.LeadsTo store.old store.new }
+    ensures snapshots { KeepsRest F.parts F.IsFetched F.IsAnnounced F.ContinuesTo store.old store.new }
 {
     store.set_owner(number, bank);
 }
@@ -138,7 +138,7 @@ pub fn consume<F: PresentFrames>(store: &mut F, process: u64)
     ensures keepable { (age : ℕ) → age + 1 < 2 ^ 64
         → AreKeepable (F.parts store.old).geometry age (frames_of (F.parts store.old))
         → AreKeepable (F.parts store.old).geometry (age + 1) (frames_of (F.parts store.new)) }
-    ensures aside { KeepsAside F.parts F.IsFetched F.IsAnnounced F.LeadsTo store.old store.new }
+    ensures snapshots { KeepsRest F.parts F.IsFetched F.IsAnnounced F.ContinuesTo store.old store.new }
 {
     store.consume(process);
 }
@@ -164,7 +164,7 @@ pub fn rescind<F: PresentFrames>(store: &mut F, numbers: &[u64])
         → F.IsFetched store.old n → F.IsFetched store.new n }
     ensures announced { (n : ℕ) → is_member numbers.now n ≡ false
         → F.IsAnnounced store.old n → F.IsAnnounced store.new n }
-    ensures leads { F.LeadsTo store.old store.new }
+    ensures continues { F.ContinuesTo store.old store.new }
 {
     for number in numbers {
         store.reset(*number);
@@ -189,7 +189,7 @@ pub fn fetch<F: PresentFrames>(
     ensures cause { IsErrOf result PrepareFault.Failed
         ↔ ((F.parts store.old).failures < (F.parts store.new).failures) }
     ensures later { (F.parts store.old).failures ≤ (F.parts store.new).failures }
-    ensures aside { LooksUp F.parts F.LeadsTo store.old store.new }
+    ensures snapshots { OnlyFetches F.parts F.ContinuesTo store.old store.new }
 {
     store.prepare(alloc, numbers, &[])
 }

@@ -34,7 +34,7 @@ pub enum BankChange {
         above: u64,
     },
     /// Frees a bank and gives what it owns to its own bank.
-    HandOn {
+    Transfer {
         bank: u64,
     },
 }
@@ -133,7 +133,7 @@ impl OrderPlan {
     }
 
     /// A plan that replies with three words.
-    pub fn told_three(words: [u64; 3]) -> OrderPlan
+    pub fn replying_three(words: [u64; 3]) -> OrderPlan
         ensures { result ≡ record {
           reply = record { code = ResultCode.Done; words = words; capability = Capability.Void };
           change = Change.Nothing;
@@ -150,7 +150,7 @@ impl OrderPlan {
     }
 
     /// A plan that replies with two words and 0.
-    pub fn told(first: u64, second: u64) -> OrderPlan
+    pub fn replying(first: u64, second: u64) -> OrderPlan
         ensures { result ≡ record {
           reply = record {
             code = ResultCode.Done;

@@ -6,9 +6,9 @@ ghost use Rattle.model.specs.Machine.{touched_count, untouched};
 ghost use Rattle.model.specs.Sound.{object_count};
 ghost use Rattle.number_set.specs.Marks.{IsNextMarked, HasNoneMarked};
 ghost use Rattle.capability.specs.Parts.{frames_of};
-ghost use Rattle.capability.specs.Plain.{Announces, GoesOn, HasRoom, IsThere, parts_of, with_content_at};
+ghost use Rattle.capability.specs.Plain.{Announces, GoesOn, HasSpareBody, IsThere, parts_of, with_content_at};
 
-use crate::plain::rooms::{filled, push_free, put_aside};
+use crate::plain::spare_bodies::{filled, make_spare_bodies, push_free};
 use crate::plain::touched::{are_ready, fresh_within, mark};
 use crate::present::{Fresh, MAX_FETCHED, PrepareFault, PresentFrames};
 use crate::table::ObjectTable;
@@ -18,7 +18,7 @@ use std::alloc::{AllocError, Global};
 use std::marker::Model;
 use std::mem;
 
-pub mod rooms;
+pub mod spare_bodies;
 pub mod touched;
 
 /// All objects in memory, by number, and which numbers were written.
@@ -32,7 +32,7 @@ pub struct Plain {
     contents: Vec<Content<Cap>>,
     touched: NumberSet,
     /// Blank bodies for free numbers that were announced. `Free` where there is none.
-    rooms: Vec<Content<Cap>>,
+    spare_bodies: Vec<Content<Cap>>,
     /// How many numbers are in `touched`.
     count: u64,
 }
@@ -47,11 +47,11 @@ impl Model for Plain {
       headers = p.table;
       contents = p.contents.items;
       touched = p.touched;
-      rooms = p.rooms.items;
+      spare_bodies = p.spare_bodies.items;
     } };
 
     ghost invariant = { λ p.
-        IsWholeStore p.geometry p.table p.contents.items p.touched p.rooms.items p.count };
+        IsWholeStore p.geometry p.table p.contents.items p.touched p.spare_bodies.items p.count };
 }
 
 impl Plain {
@@ -70,19 +70,19 @@ impl Plain {
           headers = headers.items;
           contents = contents.items;
           touched = untouched geometry;
-          rooms = replicate (object_count geometry) Content.Free;
+          spare_bodies = replicate (object_count geometry) Content.Free;
         }) }
     {
         let count = contents.len();
         let touched = NumberSet::new(alloc, count)?;
-        let mut rooms = Vec::with_capacity(alloc, count)?;
-        push_free(&mut rooms, count)?;
+        let mut spare_bodies = Vec::with_capacity(alloc, count)?;
+        push_free(&mut spare_bodies, count)?;
         Ok(Plain {
             geometry,
             table: ObjectTable::new(headers),
             contents,
             touched,
-            rooms,
+            spare_bodies,
             count: 0,
         })
     }
@@ -131,7 +131,13 @@ impl Plain {
         ensures { Announces self.old self.new written.now result }
     {
         let fresh = fresh_within(&self.touched, self.count, self.geometry.log, written)?;
-        match put_aside(alloc, self.geometry, &self.table, &mut self.rooms, written) {
+        match make_spare_bodies(
+            alloc,
+            self.geometry,
+            &self.table,
+            &mut self.spare_bodies,
+            written,
+        ) {
             Ok(()) => {}
             Err(_) => return Err(PrepareFault::NoMemory),
         }
@@ -146,9 +152,9 @@ impl PresentFrames for Plain {
 
     ghost IsFetched = { IsThere };
 
-    ghost IsAnnounced = { HasRoom };
+    ghost IsAnnounced = { HasSpareBody };
 
-    ghost LeadsTo = { GoesOn };
+    ghost ContinuesTo = { GoesOn };
 
     ghost with_content = { with_content_at };
 
@@ -201,7 +207,7 @@ impl PresentFrames for Plain {
     }
 
     fn claim(&mut self, number: u64, fresh: Fresh, owner: u64) {
-        let room = mem::replace(&mut self.rooms[number as usize], Content::Free);
+        let room = mem::replace(&mut self.spare_bodies[number as usize], Content::Free);
         let content = filled(room, fresh);
         self.table.claim(number, content.role(), owner);
         self.contents[number as usize] = content;
@@ -235,9 +241,9 @@ impl PresentFrames for Plain {
 
     ghost known_announced = { λ s n h. h.there };
 
-    ghost leads_same = { λ s. refl };
+    ghost continues_same = { λ s. refl };
 
-    ghost leads_with = { λ s t n c there h. h };
+    ghost continues_with = { λ s t n c there h. h };
 
-    ghost leads_twice = { λ s t u h k. k ∙ h };
+    ghost continues_twice = { λ s t u h k. k ∙ h };
 }

@@ -64,7 +64,7 @@ pub trait PresentFrames: Drop {
     ghost IsAnnounced: { Self → ℕ → Type 0 };
 
     /// What lies beside the frames went on with no commit.
-    ghost LeadsTo: { Self → Self → Type 0 };
+    ghost ContinuesTo: { Self → Self → Type 0 };
 
     /// The store with another content at a number.
     ghost with_content: { Self → ℕ → Content Cap → Self };
@@ -113,7 +113,7 @@ pub trait PresentFrames: Drop {
         ensures cause { IsErrOf result PrepareFault.Failed
             ↔ ((parts self.old).failures < (parts self.new).failures) }
         ensures later { (parts self.old).failures ≤ (parts self.new).failures }
-        ensures leads { LeadsTo self.old self.new };
+        ensures continues { ContinuesTo self.old self.new };
 
     /// What an object holds.
     fn frame(&self, number: u64) -> &Content<Cap>
@@ -138,7 +138,7 @@ pub trait PresentFrames: Drop {
             (claimed (role_of (fresh_content void_held fresh)) owner (header_at (parts self.old).headers number)) (fresh_content void_held fresh) }
         ensures announced { (n : ℕ) → IsAnnounced self.old n → IsAnnounced self.new n }
         ensures fetched { (n : ℕ) → IsFetched self.old n → IsFetched self.new n }
-        ensures leads { LeadsTo self.old self.new };
+        ensures continues { ContinuesTo self.old self.new };
 
     /// Gives an object up: it is free, and both of its counts are one more.
     fn reset(&mut self, number: u64)
@@ -149,7 +149,7 @@ pub trait PresentFrames: Drop {
             (given_up (header_at (parts self.old).headers number)) Content.Free }
         ensures announced { (n : ℕ) → n ≢ number → IsAnnounced self.old n → IsAnnounced self.new n }
         ensures fetched { (n : ℕ) → n ≢ number → IsFetched self.old n → IsFetched self.new n }
-        ensures leads { LeadsTo self.old self.new };
+        ensures continues { ContinuesTo self.old self.new };
 
     /// Gives an object another owner.
     fn set_owner(&mut self, number: u64, bank: u64)
@@ -158,7 +158,7 @@ pub trait PresentFrames: Drop {
             (owned_by bank (header_at (parts self.old).headers number)) }
         ensures announced { (n : ℕ) → IsAnnounced self.old n → IsAnnounced self.new n }
         ensures fetched { (n : ℕ) → IsFetched self.old n → IsFetched self.new n }
-        ensures leads { LeadsTo self.old self.new };
+        ensures continues { ContinuesTo self.old self.new };
 
     /// Gives the right to resume a process up: its call count is one more.
     fn consume(&mut self, root: u64)
@@ -168,7 +168,7 @@ pub trait PresentFrames: Drop {
             (called (header_at (parts self.old).headers root)) }
         ensures announced { (n : ℕ) → IsAnnounced self.old n → IsAnnounced self.new n }
         ensures fetched { (n : ℕ) → IsFetched self.old n → IsFetched self.new n }
-        ensures leads { LeadsTo self.old self.new };
+        ensures continues { ContinuesTo self.old self.new };
 
     ghost parts_with: { (s : Self) (n : ℕ) (c : Content Cap) → parts (with_content s n c) ≡ with_held (parts s) n c };
 
@@ -180,9 +180,9 @@ pub trait PresentFrames: Drop {
 
     ghost known_announced: { (s : Self) (n : ℕ) → IsAnnounced s n → (n < length (parts s).headers) × (n < length (parts s).contents) };
 
-    ghost leads_same: { (s : Self) → LeadsTo s s };
+    ghost continues_same: { (s : Self) → ContinuesTo s s };
 
-    ghost leads_with: { (s t : Self) (n : ℕ) (c : Content Cap) → IsAnnounced t n → LeadsTo s t → LeadsTo s (with_content t n c) };
+    ghost continues_with: { (s t : Self) (n : ℕ) (c : Content Cap) → IsAnnounced t n → ContinuesTo s t → ContinuesTo s (with_content t n c) };
 
-    ghost leads_twice: { (s t u : Self) → LeadsTo s t → LeadsTo t u → LeadsTo s u };
+    ghost continues_twice: { (s t u : Self) → ContinuesTo s t → ContinuesTo t u → ContinuesTo s u };
 }

@@ -86,7 +86,7 @@ pub fn set_word<F: PresentFrames>(store: &mut F, process: u64, index: usize, wor
     requires announced { F.IsAnnounced store.old process }
     requires process { IsTrue (is_process (objects_in (F.parts store.old)) process) }
     requires within { index < 4 }
-    ensures { Edits F.parts F.IsFetched F.IsAnnounced F.LeadsTo store.old store.new
+    ensures { Edits F.parts F.IsFetched F.IsAnnounced F.ContinuesTo store.old store.new
         (with_root (objects_in (F.parts store.old)) process
         (with_root_word (root_at (objects_in (F.parts store.old)) process) index word))
         (λ age. Unit {0}) }
@@ -99,7 +99,7 @@ pub fn set_state<F: PresentFrames>(store: &mut F, process: u64, state: State)
     requires fetched { F.IsFetched store.old process }
     requires announced { F.IsAnnounced store.old process }
     requires process { IsTrue (is_process (objects_in (F.parts store.old)) process) }
-    ensures { Edits F.parts F.IsFetched F.IsAnnounced F.LeadsTo store.old store.new
+    ensures { Edits F.parts F.IsFetched F.IsAnnounced F.ContinuesTo store.old store.new
         (with_state (objects_in (F.parts store.old)) process state)
         (λ age. Unit {0}) }
 {
@@ -111,7 +111,7 @@ pub fn set_space<F: PresentFrames>(store: &mut F, process: u64, capability: Capa
     requires fetched { F.IsFetched store.old process }
     requires announced { F.IsAnnounced store.old process }
     requires process { IsTrue (is_process (objects_in (F.parts store.old)) process) }
-    ensures { Edits F.parts F.IsFetched F.IsAnnounced F.LeadsTo store.old store.new
+    ensures { Edits F.parts F.IsFetched F.IsAnnounced F.ContinuesTo store.old store.new
         (with_root (objects_in (F.parts store.old)) process
         (with_space (root_at (objects_in (F.parts store.old)) process) capability))
         (λ age. IsKeptCap (F.parts store.old).geometry age (live_cap (F.parts store.old).headers capability)

@@ -15,7 +15,7 @@ pub record CountsOpen {T : Type 0} (old new : Disk) (result : Result T OpenFault
   pub cause : IsErrOf result refusal.Failed ↔ (old.failures < new.failures)
 
 -- nothing was written: a crash leaves nothing that it couldn't have left before
-pub record Looks (old new : Disk) : Type 0 where
+pub record OnlyReads (old new : Disk) : Type 0 where
   pub size : new.sectors ≡ old.sectors
   pub seen : Agrees new.seen old.seen
   pub crash : Narrows old new
@@ -30,4 +30,4 @@ IsReason old new (refusal.Bad reason) = (new.failures ≡ old.failures) × IsBad
 -- a device wasn't opened, and nothing was written
 pub record Refuses {D : Type 0} (disk : D → Disk) (device back : D) (fault : OpenFault) : Type 0 where
   pub why : IsReason (disk device) (disk back) fault
-  pub looks : Looks (disk device) (disk back)
+  pub only_reads : OnlyReads (disk device) (disk back)

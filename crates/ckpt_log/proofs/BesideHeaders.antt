@@ -1,11 +1,11 @@
 -- What lies apart from the headers.
 use Rattle.ckpt_log.proofs.Names.{◌+◌, ◌*◌, ◌≤◌, ℕ, List, take, ap, arith, Plan, IsPlan, shape_of, place_length, frame_sector, half_sector, slot_sector}
-use Rattle.ckpt_log.proofs.Names.{directory_sector, directory_length, half_within, same_sectors, same_shaped, SequencesAreTold, NextFollows}
+use Rattle.ckpt_log.proofs.Names.{directory_sector, directory_length, half_within, same_sectors, same_shaped, SequencesAreReported, NextFollows}
 use Rattle.ckpt_log.proofs.Names.{HeadersSpareSectors, HeadersSpareFrames, HeadersSpareSlots, HeadersSpareDirectories}
 use Rattle.ckpt_log.proofs.Commits.{sequence_of, next_fits, precedes}
 
-pub sequences_told : SequencesAreTold
-sequences_told h fits = sequence_of h fits
+pub sequences_reported : SequencesAreReported
+sequences_reported h fits = sequence_of h fits
 
 pub next_follows : NextFollows
 next_follows image room h next is commits after = let more = next_fits room h is in precedes image h next commits (omega (arith, more)) after

@@ -1,7 +1,7 @@
 -- What a device denotes after a commit, and after a crash in its course.
 use Rattle.ckpt_log.proofs.Names.{ℕ, ◌≤◌, Option, Some, None, sym, subst, ◌∙◌, arith, List, Image, Elsewhere, CheckpointHeader, IsFrameOf, home_place, Plan}
-use Rattle.ckpt_log.proofs.Names.{SavedState, Encodes, half_sector, seat_in, slot_sector, sector_or, frame_at, header_sector, HomesAreBehind, FramesAreBehind}
-use Rattle.ckpt_log.proofs.Names.{IsReady, NewIsDenoted, OldIsDenoted}
+use Rattle.ckpt_log.proofs.Names.{SavedState, Encodes, half_sector, frame_slot_in, slot_sector, sector_or, frame_at, header_sector, HomesAreBehind}
+use Rattle.ckpt_log.proofs.Names.{FramesAreBehind, IsReady, NewIsDenoted, OldIsDenoted}
 use Rattle.ckpt_log.proofs.BesideHeaders.{half_behind, spare_sectors, spare_frames, spare_directories}
 
 behind_by : (slot : Option ℕ) (p : Plan) (generation home : ℕ) → 5 ≤ half_sector p generation → 5 ≤ home → 5 ≤ sector_or slot (slot_sector p generation) home
@@ -9,7 +9,7 @@ behind_by None p generation home half le = le
 behind_by (Some slot) p generation home half le = omega (arith, half)
 
 pub frames_behind : FramesAreBehind
-frames_behind p generation es object fits behind = behind_by (seat_in p es object) p generation (home_place p object) (half_behind p generation fits) behind
+frames_behind p generation es object fits behind = behind_by (frame_slot_in p es object) p generation (home_place p object) (half_behind p generation fits) behind
 
 -- a change of a header's slot leaves all else of a state
 ready_stays : (old new : Image) (size : ℕ) (s : SavedState) (h : CheckpointHeader) → HomesAreBehind s.plan → Elsewhere (header_sector h) 2 old new → IsReady old size s → IsReady new size s

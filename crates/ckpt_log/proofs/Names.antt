@@ -22,7 +22,7 @@ pub use Rattle.layout.specs.Header.{IsHeader}
 unfoldable pub use Rattle.layout.specs.Header.{header_bytes}
 pub use Rattle.layout.specs.Homes.{home_place, place_length, shape_of}
 pub use Rattle.layout.specs.Image.{Encodes, HasDirectory, HasHeader, HasNoHeader, SavedState, committed_bytes, committed_of, committed_slot, directory_in}
-pub use Rattle.layout.specs.Image.{directory_length, directory_sector, does_count, frame_sector, half_sector, option_at, seat_in, sector_or, sequence_in}
+pub use Rattle.layout.specs.Image.{directory_length, directory_sector, does_count, frame_sector, frame_slot_in, half_sector, option_at, sector_or, sequence_in}
 pub use Rattle.layout.specs.Image.{slot_sector}
 unfoldable pub use Rattle.layout.specs.Image.{sectors_from}
 pub use Rattle.layout.specs.Superblock.{IsPlan, Plan}
@@ -47,7 +47,8 @@ pub use Rattle.ckpt_log.specs.Closing.{AreClosed, AreInTurn, KeepsOrHasNone, Spa
 pub use Rattle.ckpt_log.specs.Commit.{CommitsOne, HasNew, IsInOrder, IsInOrderAfter, IsOld, IsOldOrNew, KeepsHeader, Precedes, closed_gate, gate_sector}
 pub use Rattle.ckpt_log.specs.Commit.{header_sector}
 pub use Rattle.ckpt_log.specs.CommitLaws.{FramesAreBehind, HomesAreBehind, IsReady, NewIsDenoted, OldIsDenoted}
-pub use Rattle.ckpt_log.specs.HeaderLaws.{HeadersSpareDirectories, HeadersSpareFrames, HeadersSpareSectors, HeadersSpareSlots, NextFollows, SequencesAreTold}
+pub use Rattle.ckpt_log.specs.HeaderLaws.{HeadersSpareDirectories, HeadersSpareFrames, HeadersSpareSectors, HeadersSpareSlots, NextFollows}
+pub use Rattle.ckpt_log.specs.HeaderLaws.{SequencesAreReported}
 pub use Rattle.ckpt_log.specs.HeaderSlot.{gate_at, header_at, slot_number}
 pub use Rattle.ckpt_log.specs.Log.{HasCommitted, HasNoCommitted}
 pub use Rattle.ckpt_log.specs.Places.{DirectoriesAreInside, FramesAreInSlots, HalvesAreApart, HalvesAreWithin, SlotsAreApart, SlotsAreInside}

@@ -5,8 +5,8 @@ use Rattle.ckpt_log.specs.Commit.{header_sector, Commits, Precedes}
 use Rattle.ckpt_log.specs.SavedSectors.{SameFrom}
 
 -- the bytes of a header have its sequence number
-abbrev pub SequencesAreTold : Type 0
-SequencesAreTold = (h : CheckpointHeader) → h.sequence < 2 ^ 64 → sequence_in (header_bytes h) ≡ h.sequence
+abbrev pub SequencesAreReported : Type 0
+SequencesAreReported = (h : CheckpointHeader) → h.sequence < 2 ^ 64 → sequence_in (header_bytes h) ≡ h.sequence
 
 -- the committed header is the one before the header with the next sequence number
 abbrev pub NextFollows : Type 0

@@ -1,6 +1,6 @@
 // The laws of the log: they do nothing, and their contracts are the laws.
 ghost use Rattle.ckpt_log.specs.CommitLaws.{FramesAreBehind, NewIsDenoted, OldIsDenoted};
-ghost use Rattle.ckpt_log.specs.HeaderLaws.{SequencesAreTold, NextFollows, HeadersSpareSectors, HeadersSpareFrames, HeadersSpareSlots, HeadersSpareDirectories};
+ghost use Rattle.ckpt_log.specs.HeaderLaws.{SequencesAreReported, NextFollows, HeadersSpareSectors, HeadersSpareFrames, HeadersSpareSlots, HeadersSpareDirectories};
 ghost use Rattle.ckpt_log.specs.Places.{SlotsAreInside, FramesAreInSlots, DirectoriesAreInside, HalvesAreWithin, HalvesAreApart, SlotsAreApart, SlotsSpareDirectories};
 ghost use Rattle.ckpt_log.specs.SavedSectors.{SameHeader, SameDirectory, SameFrames, SameSaved};
 ghost use Rattle.ckpt_log.specs.Slot.{SlotsAreReadBack, DirectoriesAreReadBack};
@@ -42,7 +42,7 @@ pub fn what_is_written_is_read()
 /// after the committed one. A write of a header's slot leaves the superblock and all that lies
 /// behind the headers: frames and directories. It does nothing: its contract is the law.
 pub fn headers_spare_the_rest()
-    ensures sequences { SequencesAreTold }
+    ensures sequences { SequencesAreReported }
     ensures next { NextFollows }
     ensures sectors { HeadersSpareSectors }
     ensures frames { HeadersSpareFrames }

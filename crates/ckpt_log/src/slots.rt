@@ -13,7 +13,7 @@ ghost use Rattle.frame_io.specs.Frames.{IsObject, IsRefused};
 use crate::log::Log;
 use device::{Device, Failed};
 use frame_io::{ReadFault, read_frame, write_frame, write_page};
-use layout::{Body, Room};
+use layout::{Body, Scratch};
 use model::{Cap, Content, ObjectHeader};
 
 impl<'a> Log<'a> {
@@ -30,14 +30,14 @@ impl<'a> Log<'a> {
         slot: u64,
         number: u64,
         age: u64,
-        room: &mut Room,
+        scratch: &mut Scratch,
     ) -> Result<(ObjectHeader, Body), ReadFault>
         requires object { IsObject self.now.geometry number }
         requires slot { slot < self.now.geometry.log }
         requires inside { self.now.total ≤ (D.disk device.old).sectors }
         ensures found { IfOk result (λ read. IsFrameOf self.now.geometry age number
             (bytes_at (D.disk device.new).seen (slot_sector self.now generation slot)
-            self.now number) (frame_of read room.new)) }
+            self.now number) (frame_of read scratch.new)) }
         ensures refused { IfErr result (λ e. IsRefused self.now.geometry age number
             (bytes_at (D.disk device.new).seen (slot_sector self.now generation slot)
             self.now number) e) }
@@ -46,7 +46,7 @@ impl<'a> Log<'a> {
     {
         let at = self.slot_sector(generation, slot);
         let shape = self.shape(number);
-        read_frame(device, at, shape, self.geometry(), number, age, room)
+        read_frame(device, at, shape, self.geometry(), number, age, scratch)
     }
 
     /// Writes the frame of an object into a slot of the half of a generation, and touches that slot

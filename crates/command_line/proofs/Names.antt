@@ -56,5 +56,5 @@ pub use Rattle.command_line.specs.Commands.{IsCommand, eros_app, greatest_number
 pub use Rattle.command_line.specs.Jobs.{AreSizes, IsCache, IsNoJob, IsSameTwice, NamesJob, NamesNone}
 pub use Rattle.command_line.specs.Refusals.{AsksForSame, IsFaultOf, IsRefused}
 unfoldable pub use Rattle.command_line.specs.Refusals.{Explains}
-pub use Rattle.command_line.specs.declared.asked.Job.{Job}
 pub use Rattle.command_line.specs.declared.fault.JobFault.{JobFault}
+pub use Rattle.command_line.specs.declared.requested.Job.{Job}

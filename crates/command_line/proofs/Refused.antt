@@ -6,8 +6,8 @@ use Rattle.command_line.specs.declared.fault.JobFault.TheVariants as fault
 
 -- words are refused as bad ones by an error that explains it
 pub refused : (words : List Text) (e : Error) (f : JobFault) → IsFaultOf e f → (kind_of e ≡ OutOfMemory) ⊎ Explains words e → IsRefused words f
-refused words e fault.NoMemory is told = tt
-refused words e (fault.BadWords why) is told = elim told [
+refused words e fault.NoMemory is reported = tt
+refused words e (fault.BadWords why) is reported = elim reported [
   | inl memory ↦ absurd (is.1 memory)
   | inr explains ↦ (subst (λ (x : Error). Explains words x) (sym is.0) explains, λ memory. is.1 (subst (λ (x : Error). kind_of x ≡ OutOfMemory) is.0 memory))
 ]

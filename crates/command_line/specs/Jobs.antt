@@ -2,11 +2,11 @@
 use Rattle.std.specs.Prelude.{◌≡◌, ◌≢◌, ◌⊎◌, ℕ, ⊤, List, Option, Some, None, codes, true}
 use Rattle.clap.specs.Words.{Row, Text}
 use Rattle.command_line.specs.Arguments.{AreNumbers, IsFlag, IsGiven, IsNumberOption, IsOption, has_all}
-use Rattle.command_line.specs.declared.asked.Job.{Job}
-use Rattle.command_line.specs.declared.asked.Job.TheVariants as job
-use Rattle.command_line.specs.declared.asked.Script.{Script}
-use Rattle.command_line.specs.declared.asked.Script.TheVariants as script
-use Rattle.command_line.specs.declared.asked.Sizes.{Sizes}
+use Rattle.command_line.specs.declared.requested.Job.{Job}
+use Rattle.command_line.specs.declared.requested.Job.TheVariants as job
+use Rattle.command_line.specs.declared.requested.Script.{Script}
+use Rattle.command_line.specs.declared.requested.Script.TheVariants as script
+use Rattle.command_line.specs.declared.requested.Sizes.{Sizes}
 
 -- standard input is named by a hyphen, and a file by any other word
 abbrev pub IsScript : Text → Script → Type 0

@@ -32,6 +32,6 @@ IsRefused words (fault.BadWords why) = Explains words why × (kind_of why ≢ Ou
 IsRefused words fault.NoMemory = Unit {0}
 
 -- words are refused as bad ones for this reason
-abbrev pub IsToldAs : ErrorKind → JobFault → Type 0
-IsToldAs kind (fault.BadWords why) = kind_of why ≡ kind
-IsToldAs kind fault.NoMemory = Unit {0}
+abbrev pub IsReportedAs : ErrorKind → JobFault → Type 0
+IsReportedAs kind (fault.BadWords why) = kind_of why ≡ kind
+IsReportedAs kind fault.NoMemory = Unit {0}

@@ -52,11 +52,11 @@ fn text_error(alloc: Global) -> Result<Error, AllocError>
 }
 
 impl JobFault {
-    ghost use Rattle.command_line.specs.Refusals.{IsToldAs};
+    ghost use Rattle.command_line.specs.Refusals.{IsReportedAs};
 
     /// Why words name no job if one of them isn't text: they are bad ones, or memory ran out.
     pub fn not_text(alloc: Global) -> JobFault
-        ensures { IsToldAs InvalidValue result }
+        ensures { IsReportedAs InvalidValue result }
     {
         match text_error(alloc) {
             Ok(error) => JobFault::BadWords(error),

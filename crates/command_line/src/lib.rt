@@ -2,11 +2,11 @@
 #![tactic(auto)]
 
 mod arguments;
-mod asked;
 mod fault;
+mod requested;
 mod subcommands;
 mod words;
 
-pub use asked::{Job, Script, Sizes};
 pub use fault::JobFault;
+pub use requested::{Job, Script, Sizes};
 pub use words::job;

@@ -323,7 +323,7 @@ fn bare<'a>(alloc: Global) -> Result<Command<'a>, AllocError>
              eros describe --nodes 64 first.image                prints it for an image of 64 nodes\n  \
              eros draw first.image                               prints a graph of what it saves\n  \
              eros draw --from 3 first.image                      prints what process 3 reaches as a graph\n\n\
-             The status is 0, whatever the answers are; 1 after a fault, of which one line is told on standard\n\
+             The status is 0, whatever the answers are; 1 after a fault, of which one line is reported on standard\n\
              error; and 2 where the command line isn't understood.",
         )
         .subcommand_required(true);

@@ -5,8 +5,8 @@ ghost use Rattle.command_line.specs.Commands.{eros_app};
 ghost use Rattle.command_line.specs.Jobs.{NamesJob};
 ghost use Rattle.command_line.specs.Refusals.{IsRefused};
 
-use crate::asked::{Job, read_job};
 use crate::fault::JobFault;
+use crate::requested::{Job, read_job};
 use crate::subcommands::command;
 use std::alloc::Global;
 use std::convert::AsStr;

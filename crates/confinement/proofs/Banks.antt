@@ -3,7 +3,7 @@ use Rattle.confinement.proofs.Names.{◌≡◌, ◌≢◌, ◌⊎◌, inl, inr, 
 use Rattle.confinement.proofs.Names.{length, refl, sym, ap, subst, arith, ◌∙◌, IsTrue, slice_index_or, range_with_len, false≢true, cases_eq, and_parts}
 use Rattle.confinement.proofs.Names.{or_cases, or_right, not-true, eqb-true, eqb-false, Capability, Void, Page, Node, Process, Bank, Geometry, Content, Object}
 use Rattle.confinement.proofs.Names.{Arguments, BankOrder, ResultCode, chain, is_under, allocated, are_free, bank_allocated, free_nodes, free_pages, freed}
-use Rattle.confinement.proofs.Names.{freed_by, has_room, inherited, new_annex, new_node, new_page, new_root, on_bank, process_allocated, under, with_new}
+use Rattle.confinement.proofs.Names.{freed_by, has_quota, inherited, new_annex, new_node, new_page, new_root, on_bank, process_allocated, under, with_new}
 use Rattle.confinement.proofs.Names.{StaysInside, is_bank, is_free, is_root, root_in, slots_in, OrderOutcome, refused, is_member, rescind, NamesItsKind}
 use Rattle.confinement.proofs.Names.{annex_at, content_at, object_at, owner_at, chosen, tree_induction, under_found, used_where, inherited_content}
 use Rattle.confinement.proofs.Names.{inherited_object, IsTree, at_new, at_other, chain_unfolds, chain_zero, length_new, member_head, tree_of, AllDiffer}
@@ -187,8 +187,8 @@ module _ (g : Geometry) (inside : ℕ → Bool) (os : List Object) (h : IsNow g 
 
   -- what a bank owned is handed on, and all else is as it was
   module _ (b : ℕ) (kind : IsTrue (is_bank (content_at os b))) (on : b ≢ 0) (is : IsTrue (inside b)) where
-    handed : (n : ℕ) → (object_at (inherited os b) n ≡ object_at os n) ⊎ IsTrue (inside n)
-    handed n = go (not (is_free (content_at os n)) && (owner_at os n == b)) refl (inherited_object os tree b kind on n)
+    transferred : (n : ℕ) → (object_at (inherited os b) n ≡ object_at os n) ⊎ IsTrue (inside n)
+    transferred n = go (not (is_free (content_at os n)) && (owner_at os n == b)) refl (inherited_object os tree b kind on n)
       where
         go : (t : Bool) → (not (is_free (content_at os n)) && (owner_at os n == b)) ≡ t
             → object_at (inherited os b) n ≡ (if t then record { owner = owner_at os b; content = content_at os n } else object_at os n)
@@ -199,7 +199,7 @@ module _ (g : Geometry) (inside : ℕ → Bool) (os : List Object) (h : IsNow g 
         go false e stands = inl stands
 
     inherited_stays : StaysWithin inside os (inherited os b)
-    inherited_stays = changed_stays (inherited os b) (λ n. elim (handed n) [
+    inherited_stays = changed_stays (inherited os b) (λ n. elim (transferred n) [
       | inl kept ↦ inl kept
       | inr member ↦ inr (
         member,
@@ -216,19 +216,19 @@ module _ (g : Geometry) (inside : ℕ → Bool) (os : List Object) (h : IsNow g 
   module _ (b : ℕ) (args : Arguments) (kind : IsTrue (is_bank (content_at os b))) (is : IsTrue (inside b)) where
     page_made_stays : OutcomeStays inside os (on_bank g os b bank.NewPage args)
     unfolding on_bank free_pages
-    page_made_stays = chosen (OutcomeStays inside os) (has_room os b 1) _ _
+    page_made_stays = chosen (OutcomeStays inside os) (has_quota os b 1) _ _
         (λ _. allocated_stays g.nodes g.pages (omega (arith, h.frame.size)) b new_page _ (fresh_page inside) (λ n is. inr is) (free_pages g os) refl)
         (λ _. refused_stays code.Limit)
 
     node_made_stays : OutcomeStays inside os (on_bank g os b bank.NewNode args)
     unfolding on_bank free_nodes
-    node_made_stays = chosen (OutcomeStays inside os) (has_room os b 1) _ _
+    node_made_stays = chosen (OutcomeStays inside os) (has_quota os b 1) _ _
         (λ _. allocated_stays 0 g.nodes (omega (arith, h.frame.size)) b new_node _ (fresh_node inside) (λ n is. inr is) (free_nodes g os) refl)
         (λ _. refused_stays code.Limit)
 
     bank_made_stays : OutcomeStays inside os (on_bank g os b bank.NewBank args)
     unfolding on_bank free_nodes
-    bank_made_stays = chosen (OutcomeStays inside os) (has_room os b 1) _ _ (λ _. go (free_nodes g os) refl) (λ _. refused_stays code.Limit)
+    bank_made_stays = chosen (OutcomeStays inside os) (has_quota os b 1) _ _ (λ _. go (free_nodes g os) refl) (λ _. refused_stays code.Limit)
       where
         go : (ns : List ℕ) → are_free os (range_with_len 0 g.nodes) ≡ ns → OutcomeStays inside os (bank_allocated os b ns args.first)
         go [] e = refused_stays code.NoFrame
@@ -238,7 +238,7 @@ module _ (g : Geometry) (inside : ℕ → Bool) (os : List Object) (h : IsNow g 
 
     process_made_stays : OutcomeStays inside os (on_bank g os b bank.NewProcess args)
     unfolding on_bank free_nodes
-    process_made_stays = chosen (OutcomeStays inside os) (has_room os b 2) _ _ (λ _. go (free_nodes g os) refl) (λ _. refused_stays code.Limit)
+    process_made_stays = chosen (OutcomeStays inside os) (has_quota os b 2) _ _ (λ _. go (free_nodes g os) refl) (λ _. refused_stays code.Limit)
       where
         go : (ns : List ℕ) → are_free os (range_with_len 0 g.nodes) ≡ ns → OutcomeStays inside os (process_allocated os b ns)
         go [] e = refused_stays code.NoFrame
@@ -259,17 +259,17 @@ module _ (g : Geometry) (inside : ℕ → Bool) (os : List Object) (h : IsNow g 
     returned_stays : OutcomeStays inside os (on_bank g os b bank.ReturnToParent args)
     unfolding on_bank
     returned_stays = chosen (OutcomeStays inside os) (b == 0) _ _ (λ _. refused_stays code.PrimeBank) (λ e.
-        let handed = inherited_stays b kind (eqb-false b 0 e) is in (
-          stays_trans inside os (inherited os b) (rescind (b ∷ []) (inherited os b)) handed
-              (stays_rescind inside (inherited os b) (b ∷ []) handed.encloses
+        let transferred = inherited_stays b kind (eqb-false b 0 e) is in (
+          stays_trans inside os (inherited os b) (rescind (b ∷ []) (inherited os b)) transferred
+              (stays_rescind inside (inherited os b) (b ∷ []) transferred.encloses
               (λ n member. ap inside (only_member b n member) ∙ is)),
           inl tt,
         ))
 
 -- whatever a bank of the set is asked with an argument that stays in the set, the outcome stays in it
-pub bank_stays : (g : Geometry) (inside : ℕ → Bool) (os : List Object) (b : ℕ) (asked : BankOrder) (args : Arguments) → IsNow g os
+pub bank_stays : (g : Geometry) (inside : ℕ → Bool) (os : List Object) (b : ℕ) (requested : BankOrder) (args : Arguments) → IsNow g os
     → IsTrue (is_bank (content_at os b)) → IsTrue (inside b) → NamesItsKind os args.capability → StaysInside inside args.capability → Encloses inside os
-    → StaysWithin inside os (on_bank g os b asked args).objects × StaysInside inside (on_bank g os b asked args).capability
+    → StaysWithin inside os (on_bank g os b requested args).objects × StaysInside inside (on_bank g os b requested args).capability
 unfolding on_bank
 bank_stays g inside os b bank.NewPage args h is member names within k = page_made_stays g inside os h k b args is member
 bank_stays g inside os b bank.NewNode args h is member names within k = node_made_stays g inside os h k b args is member

@@ -142,10 +142,10 @@ kernel_stays g inside os i h by =
     let us = after_order os i in
     let o = ordered g os i in
     let first = (order_ready g inside os i h by).stays in
-    let asked = ordered_stays g inside os i h by in
+    let requested = ordered_stays g inside os i h by in
     stays_trans inside os us (replied o.objects i o) first
-    (stays_trans inside us o.objects (replied o.objects i o) asked.0
-    (replied_stays inside i o asked.0.encloses by.member asked.1))
+    (stays_trans inside us o.objects (replied o.objects i o) requested.0
+    (replied_stays inside i o requested.0.encloses by.member requested.1))
 
 -- invocations
 

@@ -2,7 +2,7 @@
 pub use Rattle.model.specs.Bank.{is_under}
 unfoldable pub use Rattle.model.specs.Bank.{chain}
 pub use Rattle.model.specs.Banking.{allocated, are_free, bank_allocated, freed, freed_by, new_annex, new_node, new_page, new_root, process_allocated}
-unfoldable pub use Rattle.model.specs.Banking.{free_nodes, free_pages, has_room, inherited, on_bank, under, with_new}
+unfoldable pub use Rattle.model.specs.Banking.{free_nodes, free_pages, has_quota, inherited, on_bank, under, with_new}
 pub use Rattle.model.specs.Capability.{IsWeak, diminished, full, named, union, weak}
 pub use Rattle.model.specs.Closed.{IsClosed, StaysInside}
 pub use Rattle.model.specs.Invoke.{Effect, after_gate, after_order, ordered, replied, reply_of, sent_by, sent_to_gate}

@@ -52,8 +52,8 @@ fetched_stays inside o a c named held = chosen (StaysInside inside) (a.0 == 3) (
 
 -- orders
 
-page_stays : (inside : ℕ → Bool) (os : List Object) (o : ℕ) (a : Access) (asked : PageOrder) (args : Arguments) → Encloses inside os
-    → StaysInside inside (Page o a) → OutcomeStays inside os (on_page os o a asked args)
+page_stays : (inside : ℕ → Bool) (os : List Object) (o : ℕ) (a : Access) (requested : PageOrder) (args : Arguments) → Encloses inside os
+    → StaysInside inside (Page o a) → OutcomeStays inside os (on_page os o a requested args)
 unfolding on_page
 page_stays inside os o a page.Read args h c = chosen (OutcomeStays inside os) (nat_lt args.first 512) _ _ (λ _. refused_stays inside os h) (λ _. refused_stays inside os h)
 page_stays inside os o a page.Write args h c =
@@ -73,8 +73,8 @@ stored_stays inside os o a slot c h n stays =
     (λ _. (stays_slot inside os o slot c h (writes inside o a n e) stays, void_stays inside))
     (λ _. refused_stays inside os h))
 
-node_stays : (inside : ℕ → Bool) (os : List Object) (o : ℕ) (a : Access) (asked : NodeOrder) (args : Arguments) → Encloses inside os
-    → StaysInside inside (Node o a) → StaysInside inside args.capability → OutcomeStays inside os (on_node os o a asked args)
+node_stays : (inside : ℕ → Bool) (os : List Object) (o : ℕ) (a : Access) (requested : NodeOrder) (args : Arguments) → Encloses inside os
+    → StaysInside inside (Node o a) → StaysInside inside args.capability → OutcomeStays inside os (on_node os o a requested args)
 unfolding on_node
 node_stays inside os o a node.Fetch args h c sent =
     chosen (OutcomeStays inside os) (nat_lt args.first 32) _ _
@@ -97,8 +97,8 @@ set_stays inside os p s h is root =
     let first = stays_state inside os p s h is root in
     stays_trans inside os us (consume p us) first (stays_consume inside us p first.encloses is)
 
-process_stays : (inside : ℕ → Bool) (os : List Object) (p : ℕ) (asked : ProcessOrder) (args : Arguments) → Encloses inside os
-    → IsTrue (inside p) → IsTrue (is_process os p) → StaysInside inside args.capability → OutcomeStays inside os (on_process os p asked args)
+process_stays : (inside : ℕ → Bool) (os : List Object) (p : ℕ) (requested : ProcessOrder) (args : Arguments) → Encloses inside os
+    → IsTrue (inside p) → IsTrue (is_process os p) → StaysInside inside args.capability → OutcomeStays inside os (on_process os p requested args)
 unfolding on_process
 process_stays inside os p process.GetRegister args h is root sent =
     chosen (OutcomeStays inside os) (nat_lt args.first 32) _ _
@@ -138,11 +138,11 @@ unfolding order
 order_stays g inside os (Number n) w args now h held stays kind sent =
     chosen (OutcomeStays inside os) (w == 1) _ _ (λ _. refused_stays inside os h) (λ _. refused_stays inside os h)
 order_stays g inside os (Page o a) w args now h held stays kind sent =
-    found_or (OutcomeStays inside os) (page_order w) _ (λ asked. on_page os o a asked args) (refused_stays inside os h)
-    (λ asked. page_stays inside os o a asked args h stays)
+    found_or (OutcomeStays inside os) (page_order w) _ (λ requested. on_page os o a requested args) (refused_stays inside os h)
+    (λ requested. page_stays inside os o a requested args h stays)
 order_stays g inside os (Node o a) w args now h held stays kind sent =
-    found_or (OutcomeStays inside os) (node_order w) _ (λ asked. on_node os o a asked args) (refused_stays inside os h)
-    (λ asked. node_stays inside os o a asked args h stays sent)
+    found_or (OutcomeStays inside os) (node_order w) _ (λ requested. on_node os o a requested args) (refused_stays inside os h)
+    (λ requested. node_stays inside os o a requested args h stays sent)
 order_stays g inside os (Space o k a) w args now h held stays kind sent =
     chosen (OutcomeStays inside os) (w == 3) _ _
     (λ _. chosen (OutcomeStays inside os) (reduces args.first) _ _
@@ -150,11 +150,11 @@ order_stays g inside os (Space o k a) w args now h held stays kind sent =
     (λ _. refused_stays inside os h))
     (λ _. refused_stays inside os h)
 order_stays g inside os (Process p) w args now h held stays kind sent =
-    found_or (OutcomeStays inside os) (process_order w) _ (λ asked. on_process os p asked args) (refused_stays inside os h)
-    (λ asked. process_stays inside os p asked args h (strong inside p stays) held.names sent)
+    found_or (OutcomeStays inside os) (process_order w) _ (λ requested. on_process os p requested args) (refused_stays inside os h)
+    (λ requested. process_stays inside os p requested args h (strong inside p stays) held.names sent)
 order_stays g inside os (Bank b) w args now h held stays kind sent =
-    found_or (OutcomeStays inside os) (bank_order w) _ (λ asked. on_bank g os b asked args) (refused_stays inside os h)
-    (λ asked. bank_stays g inside os b asked args now held.names (strong inside b stays) kind sent h)
+    found_or (OutcomeStays inside os) (bank_order w) _ (λ requested. on_bank g os b requested args) (refused_stays inside os h)
+    (λ requested. bank_stays g inside os b requested args now held.names (strong inside b stays) kind sent h)
 order_stays g inside os Discrim w args now h held stays kind sent =
     chosen (OutcomeStays inside os) (w == 1) _ _ (λ _. refused_stays inside os h) (λ _. refused_stays inside os h)
 order_stays g inside os c w args now h held stays kind sent = refused_stays inside os h

@@ -330,8 +330,8 @@ module _ (by_invocation : InvocationIsConfined) where
   answer_keeps g inside os s c a after by fits h answers = cases (refusal_of g s c) refl answers
     where
       cases : (refused : Option Refusal) → refusal_of g s c ≡ refused → IsAnswer g s c a after refused → MachineWithin g inside os after
-      cases (Some why) is told = subst (λ m. MachineWithin g inside os m) (sym told.1) h
-      cases None is told = subst (λ m. MachineWithin g inside os m) (sym told.1) (carried_keeps g inside os s c by fits is h)
+      cases (Some why) is replying = subst (λ m. MachineWithin g inside os m) (sym replying.1) h
+      cases None is replying = subst (λ m. MachineWithin g inside os m) (sym replying.1) (carried_keeps g inside os s c by fits is h)
 
   step_keeps : (g : Geometry) (inside : ℕ → Bool) (os : List Object) (m : Machine) (c : Command) (a : Answer) (after : Machine) → IsBy inside c → Fits c
       → MachineWithin g inside os m → Step g m c a after → MachineWithin g inside os after

@@ -2,7 +2,7 @@
 pub use Rattle.capability.proofs.Frames.{frame_in, headers_in, length_in}
 pub use Rattle.capability.proofs.Keeping.{keepable_roles}
 pub use Rattle.capability.proofs.Mapped.{kind_map, mapped}
-pub use Rattle.capability.specs.Parts.{HaveTheirRoles, LooksUp, Parts, frames_of, objects_in}
+pub use Rattle.capability.specs.Parts.{HaveTheirRoles, OnlyFetches, Parts, frames_of, objects_in}
 unfoldable pub use Rattle.model.specs.Bank.{chain, usage}
 pub use Rattle.model.specs.Capability.{IsWellFormed}
 pub use Rattle.model.specs.Frame.{blank_frame, conveyed, current_count, frame_at, header_at, headers, held_at, object_of, void_held}

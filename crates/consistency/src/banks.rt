@@ -4,7 +4,7 @@ ghost use Rattle.std.specs.List.{Contains};
 ghost use Rattle.model.specs.Bank.{chain};
 ghost use Rattle.model.specs.Frame.{objects_of};
 ghost use Rattle.model.specs.Keepable.{AreKeepable};
-ghost use Rattle.capability.specs.Parts.{Looks, frames_of};
+ghost use Rattle.capability.specs.Parts.{OnlyReads, frames_of};
 ghost use Rattle.consistency.specs.Consistency.{AreBanked, AreLimited, AreOwned, IsAboveLimit, IsUnbanked, owner_of, role_at};
 
 use crate::reason::Unbanked;
@@ -90,7 +90,7 @@ fn count_above_limit<F: PresentFrames>(
     requires owned { AreOwned (frames_of (F.parts store.old)) }
     ensures found { let frames = frames_of (F.parts store.old) in IfOk result (λ found.
         MatchOption found (AreLimited frames) (λ why. IsUnbanked frames why)) }
-    ensures looks { Looks F.parts F.LeadsTo store.old store.new result }
+    ensures only_reads { OnlyReads F.parts F.ContinuesTo store.old store.new result }
 {
     let count = store.table().count();
     let usages = match count_usages(alloc, store, count) {
@@ -115,7 +115,7 @@ pub fn find_unbanked<F: PresentFrames>(
     requires { AreKeepable (F.parts store.old).geometry u64.MAX (frames_of (F.parts store.old)) }
     ensures found { let frames = frames_of (F.parts store.old) in IfOk result (λ found.
         MatchOption found (AreBanked frames) (λ why. IsUnbanked frames why)) }
-    ensures looks { Looks F.parts F.LeadsTo store.old store.new result }
+    ensures only_reads { OnlyReads F.parts F.ContinuesTo store.old store.new result }
 {
     match find_unowned(store) {
         Some(why) => Ok(Some(why)),

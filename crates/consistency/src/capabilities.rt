@@ -3,7 +3,7 @@ ghost use Rattle.std.specs.Prelude.{◌≡◌, ◌↔◌, ◌<◌, false, [], le
 ghost use Rattle.std.specs.List.{All};
 ghost use Rattle.model.specs.Frame.{frame_at};
 ghost use Rattle.model.specs.Keepable.{AreKeepable, caps_in};
-ghost use Rattle.capability.specs.Parts.{HaveTheirRoles, Looks, frames_of};
+ghost use Rattle.capability.specs.Parts.{HaveTheirRoles, OnlyReads, frames_of};
 ghost use Rattle.consistency.specs.Consistency.{AreNamed, IsNamed, NamesItsRole};
 ghost use Rattle.consistency.specs.Noted.{AreNoted};
 
@@ -101,7 +101,7 @@ fn has_named<F: PresentFrames>(
     requires notes { AreNoted (frames_of (F.parts store.old)) notes.now }
     ensures named { let frames = frames_of (F.parts store.old) in IfOk result (λ named.
         IsTrue named ↔ All (IsNamed frames) (caps_in (frame_at frames number).content)) }
-    ensures looks { Looks F.parts F.LeadsTo store.old store.new result }
+    ensures only_reads { OnlyReads F.parts F.ContinuesTo store.old store.new result }
 {
     if !may_hold(store, number) {
         return Ok(true);
@@ -123,7 +123,7 @@ pub(crate) fn are_named<F: PresentFrames>(
         (frames_of (F.parts store.old)) }
     requires notes { AreNoted (frames_of (F.parts store.old)) notes.now }
     ensures named { IfOk result (λ named. IsTrue named ↔ AreNamed (frames_of (F.parts store.old))) }
-    ensures looks { Looks F.parts F.LeadsTo store.old store.new result }
+    ensures only_reads { OnlyReads F.parts F.ContinuesTo store.old store.new result }
 {
     for number in 0..store.table().count() {
         match has_named(alloc, store, notes, number) {

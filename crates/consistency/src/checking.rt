@@ -1,7 +1,7 @@
 // The check of all frames.
 ghost use Rattle.std.specs.Prelude.{◌↔◌, ◌<◌, ◌≤◌, ◌^◌, IfOk, OnOk, IsErrOf};
 ghost use Rattle.model.specs.Keepable.{AreKeepable, IsSoundFrames};
-ghost use Rattle.capability.specs.Parts.{Looks, LooksUp, frames_of};
+ghost use Rattle.capability.specs.Parts.{OnlyReads, OnlyFetches, frames_of};
 ghost use Rattle.consistency.specs.Consistency.{AreNamed, AreWholeProcesses, IsInconsistent, Tells};
 ghost use Rattle.consistency.specs.Noted.{AreNoted};
 
@@ -22,7 +22,7 @@ fn reason_of_banks<F: PresentFrames>(
     requires named { AreNamed (frames_of (F.parts store.old)) }
     requires whole { AreWholeProcesses (frames_of (F.parts store.old)) }
     ensures tells { IfOk result (λ why. Tells (frames_of (F.parts store.old)) why) }
-    ensures looks { Looks F.parts F.LeadsTo store.old store.new result }
+    ensures only_reads { OnlyReads F.parts F.ContinuesTo store.old store.new result }
 {
     match find_unbanked(alloc, store) {
         Err(fault) => Err(fault),
@@ -42,7 +42,7 @@ fn reason_of_processes<F: PresentFrames>(
     requires notes { AreNoted (frames_of (F.parts store.old)) notes.now }
     requires named { AreNamed (frames_of (F.parts store.old)) }
     ensures tells { IfOk result (λ why. Tells (frames_of (F.parts store.old)) why) }
-    ensures looks { Looks F.parts F.LeadsTo store.old store.new result }
+    ensures only_reads { OnlyReads F.parts F.ContinuesTo store.old store.new result }
 {
     match are_whole(alloc, store, notes) {
         Err(_) => Err(PrepareFault::NoMemory),
@@ -61,7 +61,7 @@ fn reason_noted<F: PresentFrames>(
         (frames_of (F.parts store.old)) }
     requires notes { AreNoted (frames_of (F.parts store.old)) notes.now }
     ensures tells { IfOk result (λ why. Tells (frames_of (F.parts store.old)) why) }
-    ensures looks { Looks F.parts F.LeadsTo store.old store.new result }
+    ensures only_reads { OnlyReads F.parts F.ContinuesTo store.old store.new result }
 {
     match are_named(alloc, store, notes) {
         Err(fault) => Err(fault),
@@ -77,7 +77,7 @@ fn reason<F: PresentFrames>(
 ) -> Result<Option<Inconsistency>, PrepareFault>
     requires { AreKeepable (F.parts store.old).geometry u64.MAX (frames_of (F.parts store.old)) }
     ensures tells { IfOk result (λ why. Tells (frames_of (F.parts store.old)) why) }
-    ensures looks { Looks F.parts F.LeadsTo store.old store.new result }
+    ensures only_reads { OnlyReads F.parts F.ContinuesTo store.old store.new result }
 {
     match read_notes(alloc, store) {
         Err(fault) => Err(fault),
@@ -102,7 +102,7 @@ pub fn check<F: PresentFrames>(alloc: Global, store: &mut F, age: u64) -> Result
         (frames_of (F.parts store.old))) }
     ensures inconsistent { (why : Inconsistency) → IsErrOf result (CheckFault.Inconsistent why)
         → IsInconsistent (frames_of (F.parts store.old)) why }
-    ensures aside { LooksUp F.parts F.LeadsTo store.old store.new }
+    ensures snapshots { OnlyFetches F.parts F.ContinuesTo store.old store.new }
     ensures later { (F.parts store.old).failures ≤ (F.parts store.new).failures }
     ensures cause { IsErrOf result CheckFault.Failed
         ↔ ((F.parts store.old).failures < (F.parts store.new).failures) }

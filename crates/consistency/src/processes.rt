@@ -3,7 +3,7 @@ ghost use Rattle.std.specs.Prelude.{◌≡◌, ◌↔◌, ℕ, ◌<◌, true, fa
 ghost use Rattle.model.specs.Frame.{frame_at};
 ghost use Rattle.model.specs.Keepable.{AreKeepable};
 ghost use Rattle.model.specs.Object.{is_waiting as state_waits};
-ghost use Rattle.capability.specs.Parts.{Looks, frames_of};
+ghost use Rattle.capability.specs.Parts.{OnlyReads, frames_of};
 ghost use Rattle.consistency.specs.Consistency.{AreWholeProcesses, IsAnnexFor, role_at};
 ghost use Rattle.consistency.specs.Noted.{AreNoted, AreTaken, is_taken, noted_in, waits_at, IsTaking};
 
@@ -53,7 +53,7 @@ fn read_note<F: PresentFrames>(
         (frames_of (F.parts store.old)) }
     ensures note { IfOk result (λ note.
         note ≡ noted_in (frame_at (frames_of (F.parts store.old)) number).content) }
-    ensures looks { Looks F.parts F.LeadsTo store.old store.new result }
+    ensures only_reads { OnlyReads F.parts F.ContinuesTo store.old store.new result }
 {
     if !has_role(store, number, Role::Root) {
         return Ok(None);
@@ -72,7 +72,7 @@ pub fn read_notes<F: PresentFrames>(
     requires { AreKeepable (F.parts store.old).geometry u64.MAX (frames_of (F.parts store.old)) }
     ensures notes { IfOk result (λ notes.
         AreNoted (frames_of (F.parts store.old)) notes.items) }
-    ensures looks { Looks F.parts F.LeadsTo store.old store.new result }
+    ensures only_reads { OnlyReads F.parts F.ContinuesTo store.old store.new result }
 {
     let count = store.table().count();
     let mut notes = match Vec::with_capacity(alloc, count as usize) {

@@ -78,22 +78,22 @@ wide_read d (Ok n) some reads = inl reads
 wide_read d (Err fault) some reads = fails_wide d fault some reads
 
 -- what is found to a text
-pub capability_told : (d : Data) (text : List ℕ) (r : Option Capability) → Some text ≡ as_str d → IfSome r (λ c. IsWellFormed c × IfSome (named c) (λ n. n < 2 ^ 64) × (capability_text c ≡ text)) → IfNone r ((c : Capability) → IsWellFormed c → IfSome (named c) (λ n. n < 2 ^ 64) → capability_text c ≢ text) → IsCapability d r
-capability_told d text None is some none = (text, string_is d text is, none)
-capability_told d text (Some c) is some none = (some.0, some.1, string_is d text is ∙ ap string (sym some.2))
+pub capability_reported : (d : Data) (text : List ℕ) (r : Option Capability) → Some text ≡ as_str d → IfSome r (λ c. IsWellFormed c × IfSome (named c) (λ n. n < 2 ^ 64) × (capability_text c ≡ text)) → IfNone r ((c : Capability) → IsWellFormed c → IfSome (named c) (λ n. n < 2 ^ 64) → capability_text c ≢ text) → IsCapability d r
+capability_reported d text None is some none = (text, string_is d text is, none)
+capability_reported d text (Some c) is some none = (some.0, some.1, string_is d text is ∙ ap string (sym some.2))
 
-pub state_told : (d : Data) (text : List ℕ) (r : Option State) → Some text ≡ as_str d → IfSome r (λ s. state_text s ≡ text) → IfNone r ((s : State) → state_text s ≢ text) → IsState d r
-state_told d text None is some none = (text, string_is d text is, none)
-state_told d text (Some s) is some none = string_is d text is ∙ ap string (sym some)
+pub state_reported : (d : Data) (text : List ℕ) (r : Option State) → Some text ≡ as_str d → IfSome r (λ s. state_text s ≡ text) → IfNone r ((s : State) → state_text s ≢ text) → IsState d r
+state_reported d text None is some none = (text, string_is d text is, none)
+state_reported d text (Some s) is some none = string_is d text is ∙ ap string (sym some)
 
 -- what is no text tells neither
 pub no_capability : (d : Data) → None ≡ as_str d → (r : Option Capability) → IsCapability d r → ⊥
-no_capability d none None told = none-some told.0 (none ∙ ap as_str told.1)
-no_capability d none (Some c) told = none-some (capability_text c) (none ∙ ap as_str told.2)
+no_capability d none None reported = none-some reported.0 (none ∙ ap as_str reported.1)
+no_capability d none (Some c) reported = none-some (capability_text c) (none ∙ ap as_str reported.2)
 
 pub no_state : (d : Data) → None ≡ as_str d → (r : Option State) → IsState d r → ⊥
-no_state d none None told = none-some told.0 (none ∙ ap as_str told.1)
-no_state d none (Some s) told = none-some (state_text s) (none ∙ ap as_str told)
+no_state d none None reported = none-some reported.0 (none ∙ ap as_str reported.1)
+no_state d none (Some s) reported = none-some (state_text s) (none ∙ ap as_str reported)
 
 -- and one that isn't read
 pub no_number : (d : Data) (fault : DescriptionFault) → as_integer d ≡ None → Fails (IsCapability d) fault → Fails (IsWideNumber d) fault

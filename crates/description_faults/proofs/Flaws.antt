@@ -282,6 +282,6 @@ object_place key i which e t flaw object is wrong ms at = (t, table_there key i 
 -- the place in the item that was found
 pub place_passed : (ms : Members) (found : Option (ℕ × Bor Value)) (key : Key) (i : ℕ) (b : Bor Value) (r : Result ShapePlace AllocError) → found ≡ Some (i, b)
     → MatchOption found (IsUnlisted key ms) (λ p. HasItemAs key p.0 (view p.1.now) ms) → ((ns : Members) → HasItem (key_name key) i (λ d. d ≡ view b.now) ns → IfOk r (BreaksShape ns)) → IfOk r (BreaksShape ms)
-place_passed ms found key i b r is known told =
+place_passed ms found key i b r is known reported =
     let h = at_some (IsUnlisted key ms) (λ (p : ℕ × Bor Value). HasItemAs key p.0 (view p.1.now) ms) found (i, b) is known in
-    told ms (has_item (key_name key) i ms (view b.now) (λ d. d ≡ view b.now) h.0 h.1 h.2 refl)
+    reported ms (has_item (key_name key) i ms (view b.now) (λ d. d ≡ view b.now) h.0 h.1 h.2 refl)

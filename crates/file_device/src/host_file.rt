@@ -18,7 +18,7 @@ pub struct HostFile<F: RawFile> {
     is_broken: bool,
     history: History,
     ghost broken: { is_broken ≡ nat_lt 0 history.failures },
-    ghost told: { is_broken ≡ false → ∥ Tells history.events (F.calls file) ∥₁ },
+    ghost reported: { is_broken ≡ false → ∥ Tells history.events (F.calls file) ∥₁ },
 }
 
 // Writes all of the bytes at the byte `at`. A call that was interrupted is made again.

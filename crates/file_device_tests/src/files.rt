@@ -153,8 +153,8 @@ fn what_is_no_file_is_refused(rt: HostRuntime) -> Result<(), Fail> {
         "/dev/null",
         "/dev/full",
     ] {
-        let told = sectors_of(FileDevice::open(&rt, path));
-        assert_eq!(rt; told, Err(FileFault::Io), "at {path}");
+        let reported = sectors_of(FileDevice::open(&rt, path));
+        assert_eq!(rt; reported, Err(FileFault::Io), "at {path}");
     }
     assert!(rt; sectors_of(FileDevice::create(&rt, folder, 1)).is_err());
     assert!(rt; sectors_of(FileDevice::create(&rt, "/dev/full", 1)).is_err());
@@ -168,13 +168,13 @@ fn what_is_no_file_is_refused(rt: HostRuntime) -> Result<(), Fail> {
 fn the_longest_file_is_opened(rt: HostRuntime) -> Result<(), Fail> {
     let path = "file_device_long";
     let file = fs::File::create(&rt, path)?;
-    for (length, told) in [
+    for (length, reported) in [
         (0, Ok(0)),
         (MAX_SECTORS * 512, Ok(MAX_SECTORS)),
         (MAX_SECTORS * 512 + 1, Err(FileFault::Long)),
     ] {
         file.set_len(length)?;
-        assert_eq!(rt; sectors_of(FileDevice::open(&rt, path)), told);
+        assert_eq!(rt; sectors_of(FileDevice::open(&rt, path)), reported);
     }
     fs::remove_file(&rt, path)?;
     Ok(())
@@ -206,19 +206,19 @@ fn a_file_that_fails_fails_from_then_on(rt: HostRuntime) -> Result<(), Fail> {
 
 // The fault of a second device in a file that has one: opened, opened to be read, or
 // made.
-fn told_beside<D: Device>(
+fn reported_beside<D: Device>(
     rt: &HostRuntime,
     path: &str,
     opened: Opened<D>,
 ) -> Result<[Result<u64, FileFault>; 3], FileFault> {
     let device = opened?;
-    let told = [
+    let reported = [
         sectors_of(FileDevice::open(rt, path)),
         sectors_of(FileDevice::open_to_read(rt, path)),
         sectors_of(FileDevice::create(rt, path, 1)),
     ];
     drop(device);
-    Ok(told)
+    Ok(reported)
 }
 
 #[test]
@@ -226,9 +226,9 @@ fn a_file_has_one_device(rt: HostRuntime) -> Result<(), Fail> {
     let path = "file_device_one";
     let held = Ok([Err(FileFault::Held); 3]);
     write_threes(&rt, path, 1024)?;
-    assert!(rt; told_beside(&rt, path, FileDevice::open(&rt, path)) == held);
+    assert!(rt; reported_beside(&rt, path, FileDevice::open(&rt, path)) == held);
     are_threes(&rt, &taken(&rt, path)?, 1024, 0, 0);
-    assert!(rt; told_beside(&rt, path, FileDevice::create(&rt, path, 1)) == held);
+    assert!(rt; reported_beside(&rt, path, FileDevice::create(&rt, path, 1)) == held);
     assert_eq!(rt; sectors_of(FileDevice::open(&rt, path)), Ok(1));
     fs::remove_file(&rt, path)?;
     Ok(())
@@ -239,20 +239,20 @@ fn those_who_read_share_a_file(rt: HostRuntime) -> Result<(), Fail> {
     let path = "file_device_read";
     let shared = Ok([Err(FileFault::Held), Ok(2), Err(FileFault::Held)]);
     write_threes(&rt, path, 1024)?;
-    assert!(rt; told_beside(&rt, path, FileDevice::open_to_read(&rt, path)) == shared);
+    assert!(rt; reported_beside(&rt, path, FileDevice::open_to_read(&rt, path)) == shared);
     are_threes(&rt, &taken(&rt, path)?, 1024, 0, 0);
     Ok(())
 }
 
 #[test]
-fn a_fault_is_told(rt: HostRuntime) -> Result<(), Fail> {
-    let told = [
+fn a_fault_is_reported(rt: HostRuntime) -> Result<(), Fail> {
+    let reported = [
         (FileFault::Io, "the file can't be opened, read or written"),
         (FileFault::Long, "the file is longer than 64 MiB"),
         (FileFault::Held, "another device is open in the file"),
         (FileFault::NoMemory, "memory ran out"),
     ];
-    for (fault, text) in told {
+    for (fault, text) in reported {
         assert_eq!(rt; fault.to_string(rt.alloc())?.as_str(), text);
     }
     Ok(())

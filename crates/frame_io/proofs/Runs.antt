@@ -6,7 +6,7 @@ use Rattle.device.specs.Disk.{Image}
 use Rattle.device.specs.Calls.{sectors_of}
 use Rattle.layout.specs.FrameReader.{header_from}
 use Rattle.layout.specs.Image.{sectors_from}
-use Rattle.layout.proofs.FrameReaders.{told_first}
+use Rattle.layout.proofs.FrameReaders.{reported_first}
 use Rattle.layout.proofs.Sectors.{whole_sectors}
 use Rattle.frame_io.specs.Frames.{IsHeaderAt}
 
@@ -21,6 +21,6 @@ run_is image at n bytes size same =
 -- the header that the bytes of a sector tell is that of the frame there
 pub header_at_is : (image : Image) (at : ℕ) (first : List ℕ) (header : ObjectHeader) → length first ≡ 512 → sectors_from image at 1 ≡ first → header ≡ header_from first → IsHeaderAt image at header
 unfolding sectors_from
-header_at_is image at first header size is told g number =
+header_at_is image at first header size is reported g number =
     let sector : image at ≡ first = sym (append-nil (image at)) ∙ is in
-    told ∙ ap header_from (sym sector) ∙ sym (told_first g number image at (let long : length (image at) ≡ 512 = ap length sector ∙ size in omega (arith, long)))
+    reported ∙ ap header_from (sym sector) ∙ sym (reported_first g number image at (let long : length (image at) ≡ 512 = ap length sector ∙ size in omega (arith, long)))

@@ -16,7 +16,7 @@ use crate::fault::ReadFault;
 use crate::sectors::{read_sectors, write_sectors};
 use device::{Device, Failed, SECTOR_SIZE};
 use layout::{
-    Body, CLUSTER_BYTES, NODE_FRAME_BYTES, PAGE_FRAME_BYTES, Room, Shape, decode_frame,
+    Body, CLUSTER_BYTES, NODE_FRAME_BYTES, PAGE_FRAME_BYTES, Scratch, Shape, decode_frame,
     encode_frame, encode_page, header_in, pack_node, unpack_node,
 };
 use model::{Cap, Content, Geometry, ObjectHeader};
@@ -31,12 +31,12 @@ fn read_node_frame<D: Device>(
     geometry: Geometry,
     number: u64,
     age: u64,
-    room: &mut Room,
+    scratch: &mut Scratch,
 ) -> Result<(ObjectHeader, Body), ReadFault>
     requires node { number < geometry.nodes }
     requires inside { at + 2 ≤ (D.disk device.old).sectors }
     ensures found { IfOk result (λ read. IsFrameOf geometry age number
-        (sectors_from (D.disk device.new).seen at 2) (frame_of read room.new)) }
+        (sectors_from (D.disk device.new).seen at 2) (frame_of read scratch.new)) }
     ensures refused { IfErr result (λ e. IsRefused geometry age number
         (sectors_from (D.disk device.new).seen at 2) e) }
     ensures reads { ReadsOnly (D.disk device.old) (D.disk device.new) }
@@ -44,7 +44,7 @@ fn read_node_frame<D: Device>(
 {
     let mut node = [0; NODE_FRAME_BYTES];
     read_sectors(device, at, 2, &mut node)?;
-    let read = decode_frame(&node, geometry, number, age, room)?;
+    let read = decode_frame(&node, geometry, number, age, scratch)?;
     Ok(read)
 }
 
@@ -79,13 +79,13 @@ fn read_packed_frame<D: Device>(
     geometry: Geometry,
     number: u64,
     age: u64,
-    room: &mut Room,
+    scratch: &mut Scratch,
 ) -> Result<(ObjectHeader, Body), ReadFault>
     requires node { number < geometry.nodes }
     requires rank { rank < 5 }
     requires inside { at + 8 ≤ (D.disk device.old).sectors }
     ensures found { IfOk result (λ read. IsFrameOf geometry age number
-        (shaped_at (D.disk device.new).seen at (shape.Packed rank)) (frame_of read room.new)) }
+        (shaped_at (D.disk device.new).seen at (shape.Packed rank)) (frame_of read scratch.new)) }
     ensures refused { IfErr result (λ e. IsRefused geometry age number
         (shaped_at (D.disk device.new).seen at (shape.Packed rank)) e) }
     ensures reads { ReadsOnly (D.disk device.old) (D.disk device.new) }
@@ -93,7 +93,7 @@ fn read_packed_frame<D: Device>(
 {
     let mut node = [0; NODE_FRAME_BYTES];
     read_packed(device, at, rank, &mut node)?;
-    let read = decode_frame(&node, geometry, number, age, room)?;
+    let read = decode_frame(&node, geometry, number, age, scratch)?;
     Ok(read)
 }
 
@@ -104,13 +104,13 @@ fn read_page_frame<D: Device>(
     geometry: Geometry,
     number: u64,
     age: u64,
-    room: &mut Room,
+    scratch: &mut Scratch,
 ) -> Result<(ObjectHeader, Body), ReadFault>
     requires page { geometry.nodes ≤ number }
     requires object { IsObject geometry number }
     requires inside { at + 9 ≤ (D.disk device.old).sectors }
     ensures found { IfOk result (λ read. IsFrameOf geometry age number
-        (sectors_from (D.disk device.new).seen at 9) (frame_of read room.new)) }
+        (sectors_from (D.disk device.new).seen at 9) (frame_of read scratch.new)) }
     ensures refused { IfErr result (λ e. IsRefused geometry age number
         (sectors_from (D.disk device.new).seen at 9) e) }
     ensures reads { ReadsOnly (D.disk device.old) (D.disk device.new) }
@@ -118,7 +118,7 @@ fn read_page_frame<D: Device>(
 {
     let mut page = [0; PAGE_FRAME_BYTES];
     read_sectors(device, at, 9, &mut page)?;
-    let read = decode_frame(&page, geometry, number, age, room)?;
+    let read = decode_frame(&page, geometry, number, age, scratch)?;
     Ok(read)
 }
 
@@ -135,22 +135,22 @@ pub fn read_frame<D: Device>(
     geometry: Geometry,
     number: u64,
     age: u64,
-    room: &mut Room,
+    scratch: &mut Scratch,
 ) -> Result<(ObjectHeader, Body), ReadFault>
     requires object { IsObject geometry number }
     requires shape { IsShapeFor geometry number shape }
     requires inside { at + shape_length shape ≤ (D.disk device.old).sectors }
     ensures found { IfOk result (λ read. IsFrameOf geometry age number
-        (shaped_at (D.disk device.new).seen at shape) (frame_of read room.new)) }
+        (shaped_at (D.disk device.new).seen at shape) (frame_of read scratch.new)) }
     ensures refused { IfErr result (λ e. IsRefused geometry age number
         (shaped_at (D.disk device.new).seen at shape) e) }
     ensures reads { ReadsOnly (D.disk device.old) (D.disk device.new) }
     ensures cause { CountsFailed (D.disk device.old) (D.disk device.new) result }
 {
     match shape {
-        Shape::Node => read_node_frame(device, at, geometry, number, age, room),
-        Shape::Packed(rank) => read_packed_frame(device, at, rank, geometry, number, age, room),
-        Shape::Page => read_page_frame(device, at, geometry, number, age, room),
+        Shape::Node => read_node_frame(device, at, geometry, number, age, scratch),
+        Shape::Packed(rank) => read_packed_frame(device, at, rank, geometry, number, age, scratch),
+        Shape::Page => read_page_frame(device, at, geometry, number, age, scratch),
     }
 }
 

@@ -5,12 +5,12 @@ use Rattle.gate.proofs.Names.{Arguments, objects_of, deliver, AreCurrent, AreKee
 use Rattle.gate.proofs.Names.{World, annex_at, is_process, is_running_process, register_at, root_at, deliver_frame, invocation_frame, state_sound, AreArguments}
 use Rattle.gate.proofs.Names.{IsNow, held_to, SameFrame, frame_refl, tests_at, usage_same, Caller, OrderPlan, Reply, message_of, AreSound, IsUnchanged, Parts}
 use Rattle.gate.proofs.Names.{frames_of, objects_in, AreCounted, BanksState, MayAsk, writer_count, writers, IsPlanned, answered, arguments_of, state_before}
-use Rattle.gate.proofs.Names.{MayChange, Invokes, IsAsked}
+use Rattle.gate.proofs.Names.{MayChange, Invokes, IsRequested}
 use Rattle.model.specs.declared.command.Command.TheVariants as command
 use Rattle.gate.proofs.Effects.{frame_before}
 use Rattle.gate.proofs.Known.{running_process, same_frames}
 use Rattle.gate.proofs.Plans.{arguments_held, invoked_held}
-use Rattle.gate.proofs.Standing.{LooksAs, looked_objects, looked_sound, now_sound}
+use Rattle.gate.proofs.Standing.{ReadsAs, looked_objects, looked_sound, now_sound}
 
 -- what is counted holds of objects of the same frame
 pub counted_on : (g : Geometry) (os us : List Object) (s : BanksState) → SameFrame os us → AreCounted g os s → AreCounted g us s
@@ -68,14 +68,14 @@ module _ (old mid : Parts) (s : BanksState) (sound : AreSound old) (counted : Ar
       (planned.plans.may (objects_in mid) before_frame (subst (λ (g : Geometry). IsNow g (objects_in mid)) geometry (now_sound mid there)))
 
 -- a reply changes no frame
-pub answered_frame : (op : Operation) (us : List Object) (p : ℕ) (told : Reply) → SameFrame us (answered op p us told)
-answered_frame Call us p told = go (is_running_process us p) (λ runs. running_process us p runs)
+pub answered_frame : (op : Operation) (us : List Object) (p : ℕ) (replying : Reply) → SameFrame us (answered op p us replying)
+answered_frame Call us p replying = go (is_running_process us p) (λ runs. running_process us p runs)
   where
-    go : (b : Bool) → (b ≡ true → IsTrue (is_process us p)) → SameFrame us (if b then deliver us p (message_of told) else us)
-    go true process = deliver_frame us p (message_of told) (process refl)
+    go : (b : Bool) → (b ≡ true → IsTrue (is_process us p)) → SameFrame us (if b then deliver us p (message_of replying) else us)
+    go true process = deliver_frame us p (message_of replying) (process refl)
     go false process = frame_refl us
-answered_frame Return us p told = frame_refl us
-answered_frame Send us p told = frame_refl us
+answered_frame Return us p replying = frame_refl us
+answered_frame Send us p replying = frame_refl us
 
 -- the numbers that an invocation writes itself come first
 pub process_listed : (P : ℕ → Type 0) (op : Operation) (p a : ℕ) (rest list : List ℕ) → list ≡ writers op p a ++ rest → (op ≡ Send → ⊥) → All P list → P p
@@ -99,23 +99,23 @@ writers_within Return p a rest list is = omega (arith, ap (λ (ns : List ℕ). l
 writers_within Send p a rest list is = omega arith
 
 -- what is counted stays after a look
-pub counted_looked : (old mid : Parts) (s : BanksState) → LooksAs old mid → AreCounted old.geometry (objects_in old) s → AreCounted mid.geometry (objects_in mid) s
-counted_looked old mid s looks counted =
-    subst (λ (g : Geometry). AreCounted g (objects_in mid) s) (sym looks.geometry)
-    (subst (λ (us : List Object). AreCounted old.geometry us s) (sym (looked_objects old mid looks)) counted)
+pub counted_looked : (old mid : Parts) (s : BanksState) → ReadsAs old mid → AreCounted old.geometry (objects_in old) s → AreCounted mid.geometry (objects_in mid) s
+counted_looked old mid s only_reads counted =
+    subst (λ (g : Geometry). AreCounted g (objects_in mid) s) (sym only_reads.geometry)
+    (subst (λ (us : List Object). AreCounted old.geometry us s) (sym (looked_objects old mid only_reads)) counted)
 
 -- what asks no bank leaves what is counted as it is, after a look too
-module _ (old mid new : Parts) (i : Invocation) (s : BanksState) (sound : AreSound old) (looks : LooksAs old mid)
+module _ (old mid new : Parts) (i : Invocation) (s : BanksState) (sound : AreSound old) (only_reads : ReadsAs old mid)
     (fits : Fits (command.Invoke i)) (runs : IsTrue (is_running_process (objects_in old) i.process))
     (other : IsNoBankOrder (register_at (objects_in old) i.process i.register) (slice_index i.words 0))
     (counted : AreCounted old.geometry (objects_in old) s) (geometry : new.geometry ≡ mid.geometry) where
   counted_mid : AreCounted mid.geometry (objects_in mid) s
-  counted_mid = counted_looked old mid s looks counted
+  counted_mid = counted_looked old mid s only_reads counted
 
   counted_done : Invokes mid.geometry i (objects_in mid) mid.touched (objects_in new) new.touched → AreCounted new.geometry (objects_in new) s
   counted_done invokes =
-      let same = looked_objects old mid looks in
-      let frame = invocation_frame mid.geometry (objects_in mid) i invokes.0 (now_sound mid (looked_sound old mid looks sound)) fits
+      let same = looked_objects old mid only_reads in
+      let frame = invocation_frame mid.geometry (objects_in mid) i invokes.0 (now_sound mid (looked_sound old mid only_reads sound)) fits
       (subst (λ (us : List Object). IsTrue (is_running_process us i.process)) (sym same) runs)
       (subst (λ (us : List Object). IsNoBankOrder (register_at us i.process i.register) (slice_index i.words 0)) (sym same) other) invokes.1 in
       subst (λ (g : Geometry). AreCounted g (objects_in new) s) (sym geometry)
@@ -150,7 +150,7 @@ counted_listed g os s t list kept h = subst (AreCounted g os) (sym kept) (record
 
 -- a bank that is invoked may be asked
 pub bank_may_ask : (p : Parts) (s : BanksState) (i : Invocation) (caller : Caller) (b : ℕ) (args : Arguments) → AreSound p → AreCounted p.geometry (objects_in p) s →
-    Fits (command.Invoke i) → IsAsked (objects_in p) i caller → args ≡ arguments_of (objects_in p) i → caller.invoked ≡ Bank b → MayAsk p s b args
+    Fits (command.Invoke i) → IsRequested (objects_in p) i caller → args ≡ arguments_of (objects_in p) i → caller.invoked ≡ Bank b → MayAsk p s b args
 bank_may_ask p s i caller b args sound counted fits is args_are invoked =
     let os = objects_in p in
     record {
@@ -165,7 +165,7 @@ pub planned_same : (g : Geometry) (os us : List Object) (i : Invocation) (caller
     → IsPlanned g os i caller plan list → IsPlanned g us i caller plan list
 planned_same g os us i caller plan list same planned = subst (λ (vs : List Object). IsPlanned g vs i caller plan list) same planned
 
-pub annex_asked : (old mid : Parts) (i : Invocation) (caller : Caller) → LooksAs old mid → caller.process ≡ i.process →
+pub annex_requested : (old mid : Parts) (i : Invocation) (caller : Caller) → ReadsAs old mid → caller.process ≡ i.process →
     annex_at (objects_in old) i.process ≡ annex_at (objects_in mid) caller.process
-annex_asked old mid i caller looks is =
-    ap (λ (us : List Object). annex_at us i.process) (sym (looked_objects old mid looks)) ∙ ap (λ (p : ℕ). annex_at (objects_in mid) p) (sym is)
+annex_requested old mid i caller only_reads is =
+    ap (λ (us : List Object). annex_at us i.process) (sym (looked_objects old mid only_reads)) ∙ ap (λ (p : ℕ). annex_at (objects_in mid) p) (sym is)

@@ -5,8 +5,8 @@ use Rattle.gate.proofs.Names.{Invocation, Operation, Call, Return, Send, Frame, 
 use Rattle.gate.proofs.Names.{can_start, invoke, on_kernel_object, ordered, through_gate, AreCurrent, AreKeepable, IsSoundFrames, world_at, touching}
 use Rattle.gate.proofs.Names.{touched_count, order, OrderOutcome, consume, IsSound, object_count, Fits, World, annex_at, is_process, is_running_process}
 use Rattle.gate.proofs.Names.{register_at, with_state, state_frame, invocation_keeps, ordered_keeps, order_keeps, IsNow, held_to, SameFrame, frame_refl, Caller}
-use Rattle.gate.proofs.Names.{OrderPlan, Reply, changed, writer_count, writers, Invokes, IsAsked, IsKernelObject, Overfills, result_code, IsPlanned, answered}
-use Rattle.gate.proofs.Names.{arguments_of, finished, ordered_by, state_before, FitsCap, fetched_of}
+use Rattle.gate.proofs.Names.{OrderPlan, Reply, changed, writer_count, writers, Invokes, IsRequested, IsKernelObject, Overfills, result_code, IsPlanned}
+use Rattle.gate.proofs.Names.{answered, arguments_of, finished, ordered_by, state_before, FitsCap, fetched_of}
 use Rattle.model.specs.declared.command.Command.TheVariants as command
 use Rattle.gate.proofs.Fits.{held_fits}
 use Rattle.gate.proofs.Plans.{arguments_held, change_fetched, invoked_held}
@@ -51,7 +51,7 @@ object_code g os i (Resume p) object = absurd object
 object_code g os i (Bank b) object = refl
 object_code g os i Discrim object = refl
 
-pub object_invoked : (g : Geometry) (os : List Object) (i : Invocation) (caller : Caller) → IsAsked os i caller → IsKernelObject caller.invoked → invoke g os i ≡ Some (on_kernel_object g os i)
+pub object_invoked : (g : Geometry) (os : List Object) (i : Invocation) (caller : Caller) → IsRequested os i caller → IsKernelObject caller.invoked → invoke g os i ≡ Some (on_kernel_object g os i)
 object_invoked g os i caller is object = invoke_is g os i ∙ ap (invoked_by g os i) (sym is.invoked) ∙ object_by g os i caller.invoked object
 
 -- sound frames after an invocation whose objects are those of its effect
@@ -91,7 +91,7 @@ frame_before Call os p is = frame_refl os
 frame_before Return os p is = state_frame os p Available is
 frame_before Send os p is = frame_refl os
 
-module _ (g : Geometry) (os : List Object) (i : Invocation) (caller : Caller) (plan : OrderPlan) (list : List ℕ) (is : IsAsked os i caller)
+module _ (g : Geometry) (os : List Object) (i : Invocation) (caller : Caller) (plan : OrderPlan) (list : List ℕ) (is : IsRequested os i caller)
     (planned : IsPlanned g os i caller plan list) (process : IsTrue (is_process os caller.process)) where
   abbrev word : ℕ
   word = slice_index i.words 0
@@ -103,8 +103,8 @@ module _ (g : Geometry) (os : List Object) (i : Invocation) (caller : Caller) (p
   rest = drop (writer_count caller.operation) list
 
   -- by the parts of the caller
-  effect_asked : on_kernel_object g os i ≡ effect_by caller.operation caller.process caller.annex (order g (state_before caller.operation os caller.process) caller.invoked word args)
-  effect_asked =
+  effect_requested : on_kernel_object g os i ≡ effect_by caller.operation caller.process caller.annex (order g (state_before caller.operation os caller.process) caller.invoked word args)
+  effect_requested =
       effect_is g os i
       ∙ ap (λ (op : Operation). effect_by op i.process (annex_at os i.process) (order g (state_before op os i.process) (register_at os i.process i.register) word args)) (sym is.operation)
       ∙ ap (λ (p : ℕ). effect_by caller.operation p (annex_at os i.process) (order g (state_before caller.operation os p) (register_at os i.process i.register) word args)) (sym is.process)
@@ -127,10 +127,10 @@ module _ (g : Geometry) (os : List Object) (i : Invocation) (caller : Caller) (p
   effect_planned Send = ap (effect_by Send caller.process caller.annex) planned.plans.here
 
   pub order_objects : (on_kernel_object g os i).objects ≡ finished os caller rest plan
-  order_objects = ap (λ (e : Effect). e.objects) (effect_asked ∙ effect_planned caller.operation)
+  order_objects = ap (λ (e : Effect). e.objects) (effect_requested ∙ effect_planned caller.operation)
 
   pub order_written : list ≡ (on_kernel_object g os i).written
-  order_written = planned.listed ∙ sym (ap (λ (e : Effect). e.written) (effect_asked ∙ effect_planned caller.operation))
+  order_written = planned.listed ∙ sym (ap (λ (e : Effect). e.written) (effect_requested ∙ effect_planned caller.operation))
 
   -- all that is written is among the objects
   pub listed_known : (P : ℕ → Type 0) → P caller.process → P caller.annex → ((n : ℕ) → n < length os → P n) → All P list
@@ -151,15 +151,15 @@ module _ (g : Geometry) (os : List Object) (i : Invocation) (caller : Caller) (p
 
   -- the objects after the order are sound, and what it gives fits
   module _ (now : IsNow g os) (fits : Fits (command.Invoke i)) (runs : IsTrue (is_running_process os i.process)) where
-    ordered_asked : ordered g os i ≡ order g (state_before caller.operation os caller.process) caller.invoked word args
-    ordered_asked =
+    ordered_requested : ordered g os i ≡ order g (state_before caller.operation os caller.process) caller.invoked word args
+    ordered_requested =
         ap (λ (op : Operation). order g (state_before op os i.process) (register_at os i.process i.register) word args) (sym is.operation)
         ∙ ap (λ (p : ℕ). order g (state_before caller.operation os p) (register_at os i.process i.register) word args) (sym is.process)
         ∙ ap (λ (c : Capability). order g (state_before caller.operation os caller.process) c word args) (sym is.invoked)
 
     pub order_after : IsNow g (ordered_by os caller rest plan)
     order_after =
-        subst (IsNow g) (ap (λ (o : OrderOutcome). o.objects) ordered_asked ∙ planned.plans.objects (state_before caller.operation os caller.process) (frame_before caller.operation os caller.process process))
+        subst (IsNow g) (ap (λ (o : OrderOutcome). o.objects) ordered_requested ∙ planned.plans.objects (state_before caller.operation os caller.process) (frame_before caller.operation os caller.process process))
         (ordered_keeps g os i now fits runs).now
 
     pub order_fits : object_count g < 2 ^ 64 → FitsCap g plan.reply.capability
@@ -174,4 +174,4 @@ module _ (g : Geometry) (os : List Object) (i : Invocation) (caller : Caller) (p
     order_code object =
         ap (code_by g os i) (sym is.invoked)
         ∙ object_code g os i caller.invoked object
-        ∙ ap Some (ap (λ (o : OrderOutcome). o.code) ordered_asked ∙ planned.plans.code (state_before caller.operation os caller.process) (frame_before caller.operation os caller.process process))
+        ∙ ap Some (ap (λ (o : OrderOutcome). o.code) ordered_requested ∙ planned.plans.code (state_before caller.operation os caller.process) (frame_before caller.operation os caller.process process))

@@ -2,7 +2,7 @@
 use Rattle.gate.proofs.Names.{◌≡◌, ℕ, ◌^◌, ◌<◌, Bool, true, false, ◌||◌, List, None, Some, refl, sym, ap, ◌∙◌, subst, if◌then◌else◌, IsTrue, slice_set, All}
 use Rattle.gate.proofs.Names.{All-map, All-set, Capability, Resume, Invocation, Operation, Call, Return, Send, Geometry, Object, Effect, can_start, invoke}
 use Rattle.gate.proofs.Names.{sent_by, through_gate, NamesItsKind, object_count, annex_at, is_process, register_at, IsNow, held_to, AreSound, Parts, objects_in}
-use Rattle.gate.proofs.Names.{Gate, Caller, IsAsked, entered, gate_capability, received, result_code, written_through, FitsCap}
+use Rattle.gate.proofs.Names.{Gate, Caller, IsRequested, entered, gate_capability, received, result_code, written_through, FitsCap}
 use Rattle.gate.proofs.Effects.{code_by, invoke_is, invoked_by}
 use Rattle.gate.proofs.Fits.{held_fits, resume_fits}
 use Rattle.gate.proofs.Standing.{register_kind}
@@ -24,7 +24,7 @@ gate_by g os i q key true zeroth can = ap (λ (k : ℕ). Some (effect_through os
 gate_by g os i q key false zeroth can = ap (λ (b : Bool). if b then Some (through_gate os i q key) else None) can
 
 -- it is carried out where the gate can be entered
-pub gate_invoked : (g : Geometry) (os : List Object) (i : Invocation) (caller : Caller) (gate : Gate) → IsAsked os i caller → caller.invoked ≡ gate_capability gate →
+pub gate_invoked : (g : Geometry) (os : List Object) (i : Invocation) (caller : Caller) (gate : Gate) → IsRequested os i caller → caller.invoked ≡ gate_capability gate →
     (gate.is_resume ≡ true → gate.key ≡ 0) → (gate.is_resume || can_start os i gate.process) ≡ true → invoke g os i ≡ Some (effect_through os i gate)
 gate_invoked g os i caller gate is same zeroth can =
     invoke_is g os i ∙ ap (invoked_by g os i) (sym is.invoked ∙ same) ∙ gate_by g os i gate.process gate.key gate.is_resume zeroth can
@@ -34,7 +34,7 @@ stalled_by : (g : Geometry) (os : List Object) (i : Invocation) (q key : ℕ) (b
 stalled_by g os i q key true can = cc
 stalled_by g os i q key false can = ap (λ (b : Bool). if b then Some (through_gate os i q key) else None) can
 
-pub gate_stalled : (g : Geometry) (os : List Object) (i : Invocation) (caller : Caller) (gate : Gate) → IsAsked os i caller → caller.invoked ≡ gate_capability gate →
+pub gate_stalled : (g : Geometry) (os : List Object) (i : Invocation) (caller : Caller) (gate : Gate) → IsRequested os i caller → caller.invoked ≡ gate_capability gate →
     (gate.is_resume || can_start os i gate.process) ≡ false → invoke g os i ≡ None
 gate_stalled g os i caller gate is same can =
     invoke_is g os i ∙ ap (invoked_by g os i) (sym is.invoked ∙ same) ∙ stalled_by g os i gate.process gate.key gate.is_resume can
@@ -44,7 +44,7 @@ no_code : (g : Geometry) (os : List Object) (i : Invocation) (q key : ℕ) (b : 
 no_code g os i q key true = refl
 no_code g os i q key false = refl
 
-pub gate_code : (g : Geometry) (os : List Object) (i : Invocation) (caller : Caller) (gate : Gate) → IsAsked os i caller → caller.invoked ≡ gate_capability gate → result_code g os i ≡ None
+pub gate_code : (g : Geometry) (os : List Object) (i : Invocation) (caller : Caller) (gate : Gate) → IsRequested os i caller → caller.invoked ≡ gate_capability gate → result_code g os i ≡ None
 gate_code g os i caller gate is same = ap (code_by g os i) (sym is.invoked ∙ same) ∙ no_code g os i gate.process gate.key gate.is_resume
 
 -- a gate is that of a process
@@ -52,11 +52,11 @@ gate_names : (os : List Object) (q key : ℕ) (b : Bool) → NamesItsKind os (ga
 gate_names os q key true kind = kind.0
 gate_names os q key false kind = kind
 
-pub gate_process : (p : Parts) (sound : AreSound p) (i : Invocation) (caller : Caller) (gate : Gate) → IsAsked (objects_in p) i caller → caller.invoked ≡ gate_capability gate →
+pub gate_process : (p : Parts) (sound : AreSound p) (i : Invocation) (caller : Caller) (gate : Gate) → IsRequested (objects_in p) i caller → caller.invoked ≡ gate_capability gate →
     IsTrue (is_process (objects_in p) gate.process)
-gate_process p sound i caller gate asked same =
+gate_process p sound i caller gate requested same =
     gate_names (objects_in p) gate.process gate.key gate.is_resume
-    (subst (NamesItsKind (objects_in p)) same (register_kind p sound i.process i.register caller.invoked asked.invoked))
+    (subst (NamesItsKind (objects_in p)) same (register_kind p sound i.process i.register caller.invoked requested.invoked))
 
 -- what is received fits
 pub received_fits : (g : Geometry) (os : List Object) (i : Invocation) (sent : List Capability) → IsNow g os → object_count g < 2 ^ 64 → IsTrue (is_process os i.process) → sent ≡ sent_by os i →

@@ -1,7 +1,7 @@
 -- What comes of an invocation, from what its looks, its announcing and its change told.
 use Rattle.gate.proofs.Names.{◌≡◌, ℕ, ◌+◌, ◌^◌, ◌<◌, ◌≤◌, Bool, true, false, List, Option, None, Some, Result, Ok, Err, refl, sym, ap, ◌∙◌, subst, ⊎_elim}
 use Rattle.gate.proofs.Names.{arith, cases_lt, IfOk, IsErrOf, IsTrue, OnErr, Invocation, Geometry, Object, ResultCode, Effect, invoke, AreCurrent, AreKeepable}
-use Rattle.gate.proofs.Names.{touching, touched_count, Fits, is_running_process, PrepareFault, IsUnchanged, Looks, Parts, Prepares, Renews, frames_of}
+use Rattle.gate.proofs.Names.{touching, touched_count, Fits, is_running_process, PrepareFault, IsUnchanged, OnlyReads, Parts, Prepares, Renews, frames_of}
 use Rattle.gate.proofs.Names.{objects_in, InvokeFault, Invoked, Invokes, Overfills, TellsState, fault_of, result_code}
 use Rattle.model.specs.declared.command.Command.TheVariants as command
 use Rattle.capability.specs.declared.present.PrepareFault.TheVariants as prepare
@@ -10,7 +10,7 @@ use Rattle.gate.proofs.Effects.{invokes_by, overfills_by, sound_after}
 use Rattle.gate.proofs.Fits.{in_geometry}
 use Rattle.gate.proofs.Listed.{full_fault, on_ok}
 use Rattle.gate.proofs.Renewing.{renews_looked}
-use Rattle.gate.proofs.Standing.{LooksAs, keeps_looked, looked_as, looked_keepable, looked_objects, looks_again, prepared_as}
+use Rattle.gate.proofs.Standing.{ReadsAs, keeps_looked, looked_as, looked_keepable, looked_objects, only_reads_again, prepared_as}
 
 -- no want of memory or failure is told as a process that isn't available
 never_stalled : (e : PrepareFault) → IsErrOf {T = Option ResultCode} (Err (fault_of e)) fault.Stalled → ⊥
@@ -63,39 +63,39 @@ if_ok (Err e) f p = tt
 unrisen : (m n : ℕ) → m ≤ n → (m < n → ⊥) → n ≡ m
 unrisen m n later stayed = ⊎_elim (λ (rose : m < n). absurd (stayed rose)) (λ (within : n ≤ m). omega arith) (cases_lt m n)
 
-module _ {S : Type 0} (parts : S → Parts) (Leads : S → S → Type 0) (i : Invocation) where
+module _ {S : Type 0} (parts : S → Parts) (Continues : S → S → Type 0) (i : Invocation) where
   -- objects that couldn't be looked at
-  pub unlooked : {T : Type 0} (s t : S) (e : PrepareFault) → Looks {T = T} parts Leads s t (Err e) → Invoked parts Leads s t i (Err (fault_of e))
-  unlooked s t e looks = record {
+  pub unlooked : {T : Type 0} (s t : S) (e : PrepareFault) → OnlyReads {T = T} parts Continues s t (Err e) → Invoked parts Continues s t i (Err (fault_of e))
+  unlooked s t e only_reads = record {
     done = tt;
     code = tt;
     runs = λ is. absurd (never_stopped e is);
     stalled = λ is. absurd (never_stalled e is);
-    full = λ is. absurd (looks.room (full_fault e is));
+    full = λ is. absurd (only_reads.room (full_fault e is));
     sound = tt;
     renews = tt;
-    unchanged = record { headers = looks.aside.headers; contents = looks.aside.contents; touched = looks.aside.touched };
-    cause = (λ is. looks.cause.0 (failed_fault e is), λ rose. fault_failed e (looks.cause.1 rose));
-    later = looks.later;
-    geometry = looks.aside.geometry;
-    leads = looks.aside.leads;
+    unchanged = record { headers = only_reads.snapshots.headers; contents = only_reads.snapshots.contents; touched = only_reads.snapshots.touched };
+    cause = (λ is. only_reads.cause.0 (failed_fault e is), λ rose. fault_failed e (only_reads.cause.1 rose));
+    later = only_reads.later;
+    geometry = only_reads.snapshots.geometry;
+    continues = only_reads.snapshots.continues;
   }
 
   -- an invocation after a look
-  module _ (twice : (s t u : S) → Leads s t → Leads t u → Leads s u) (s t u : S) {T : Type 0} (x : T) (looks : Looks {T = T} parts Leads s t (Ok x)) where
+  module _ (twice : (s t u : S) → Continues s t → Continues t u → Continues s u) (s t u : S) {T : Type 0} (x : T) (only_reads : OnlyReads {T = T} parts Continues s t (Ok x)) where
     still : (parts t).failures ≡ (parts s).failures
-    still = unrisen (parts s).failures (parts t).failures looks.later (λ rose. ok_no_failure x (looks.cause.1 rose))
+    still = unrisen (parts s).failures (parts t).failures only_reads.later (λ rose. ok_no_failure x (only_reads.cause.1 rose))
 
     before : (P : Geometry → List Object → List Bool → Type 0) → P (parts t).geometry (objects_in (parts t)) (parts t).touched → P (parts s).geometry (objects_in (parts s)) (parts s).touched
     before P p =
-        subst (λ (g : Geometry). P g (objects_in (parts s)) (parts s).touched) looks.aside.geometry
-        (subst (λ (os : List Object). P (parts t).geometry os (parts s).touched) (looked_objects (parts s) (parts t) (looked_as looks.aside))
-        (subst (λ (ts : List Bool). P (parts t).geometry (objects_in (parts t)) ts) looks.aside.touched p))
+        subst (λ (g : Geometry). P g (objects_in (parts s)) (parts s).touched) only_reads.snapshots.geometry
+        (subst (λ (os : List Object). P (parts t).geometry os (parts s).touched) (looked_objects (parts s) (parts t) (looked_as only_reads.snapshots))
+        (subst (λ (ts : List Bool). P (parts t).geometry (objects_in (parts t)) ts) only_reads.snapshots.touched p))
 
     -- a refusal that only a look told
     found : (k : InvokeFault) → (IsErrOf {T = Option ResultCode} (Err k) fault.LogFull → ⊥) → (IsErrOf {T = Option ResultCode} (Err k) fault.Failed → ⊥) →
         (IsErrOf {T = Option ResultCode} (Err k) fault.NotRunning → is_running_process (objects_in (parts s)) i.process ≡ false) →
-        (IsErrOf {T = Option ResultCode} (Err k) fault.Stalled → invoke (parts s).geometry (objects_in (parts s)) i ≡ None) → Invoked parts Leads s t i (Err k)
+        (IsErrOf {T = Option ResultCode} (Err k) fault.Stalled → invoke (parts s).geometry (objects_in (parts s)) i ≡ None) → Invoked parts Continues s t i (Err k)
     found k not_full not_failed stopped stalled = record {
       done = tt;
       code = tt;
@@ -104,83 +104,83 @@ module _ {S : Type 0} (parts : S → Parts) (Leads : S → S → Type 0) (i : In
       full = λ is. absurd (not_full is);
       sound = tt;
       renews = tt;
-      unchanged = record { headers = looks.aside.headers; contents = looks.aside.contents; touched = looks.aside.touched };
-      cause = (λ is. absurd (not_failed is), λ rose. absurd (ok_no_failure x (looks.cause.1 rose)));
-      later = looks.later;
-      geometry = looks.aside.geometry;
-      leads = looks.aside.leads;
+      unchanged = record { headers = only_reads.snapshots.headers; contents = only_reads.snapshots.contents; touched = only_reads.snapshots.touched };
+      cause = (λ is. absurd (not_failed is), λ rose. absurd (ok_no_failure x (only_reads.cause.1 rose)));
+      later = only_reads.later;
+      geometry = only_reads.snapshots.geometry;
+      continues = only_reads.snapshots.continues;
     }
 
     -- a process that doesn't run, and one that isn't available
-    pub found_stopped : is_running_process (objects_in (parts s)) i.process ≡ false → Invoked parts Leads s t i (Err fault.NotRunning)
+    pub found_stopped : is_running_process (objects_in (parts s)) i.process ≡ false → Invoked parts Continues s t i (Err fault.NotRunning)
     found_stopped stopped = found fault.NotRunning (λ is. cc) (λ is. cc) (λ is. stopped) (λ is. cc)
 
-    pub found_stalled : invoke (parts s).geometry (objects_in (parts s)) i ≡ None → Invoked parts Leads s t i (Err fault.Stalled)
+    pub found_stalled : invoke (parts s).geometry (objects_in (parts s)) i ≡ None → Invoked parts Continues s t i (Err fault.Stalled)
     found_stalled none = found fault.Stalled (λ is. cc) (λ is. cc) (λ is. cc) (λ is. none)
 
-    pub invoked_looked : (r : Result (Option ResultCode) InvokeFault) → Invoked parts Leads t u i r → Invoked parts Leads s u i r
+    pub invoked_looked : (r : Result (Option ResultCode) InvokeFault) → Invoked parts Continues t u i r → Invoked parts Continues s u i r
     invoked_looked r is = record {
       done = on_ok r (before (λ g os ts. Invokes g i os ts (objects_in (parts u)) (parts u).touched)) is.done;
-      code = if_ok r (λ code told. before (λ g os ts. code ≡ result_code g os i) told) is.code;
+      code = if_ok r (λ code replying. before (λ g os ts. code ≡ result_code g os i) replying) is.code;
       runs = λ e. before (λ g os ts. is_running_process os i.process ≡ false) (is.runs e);
       stalled = λ e. before (λ g os ts. invoke g os i ≡ None) (is.stalled e);
       full = λ e. before (λ g os ts. Overfills g i os ts) (is.full e);
-      sound = on_ok r (keeps_looked (parts s) (parts t) (parts u) (looked_as looks.aside)) is.sound;
-      renews = on_ok r (renews_looked (parts s) (parts t) (parts u) (looked_as looks.aside)) is.renews;
+      sound = on_ok r (keeps_looked (parts s) (parts t) (parts u) (looked_as only_reads.snapshots)) is.sound;
+      renews = on_ok r (renews_looked (parts s) (parts t) (parts u) (looked_as only_reads.snapshots)) is.renews;
       unchanged = on_err r (λ (same : IsUnchanged (parts t) (parts u)). record {
-        headers = same.headers ∙ looks.aside.headers;
-        contents = same.contents ∙ looks.aside.contents;
-        touched = same.touched ∙ looks.aside.touched;
+        headers = same.headers ∙ only_reads.snapshots.headers;
+        contents = same.contents ∙ only_reads.snapshots.contents;
+        touched = same.touched ∙ only_reads.snapshots.touched;
       }) is.unchanged;
       cause = (λ e. subst (λ (n : ℕ). n < (parts u).failures) still (is.cause.0 e), λ rose. is.cause.1 (subst (λ (n : ℕ). n < (parts u).failures) (sym still) rose));
       later = subst (λ (n : ℕ). n ≤ (parts u).failures) still is.later;
-      geometry = is.geometry ∙ looks.aside.geometry;
-      leads = twice s t u looks.aside.leads is.leads;
+      geometry = is.geometry ∙ only_reads.snapshots.geometry;
+      continues = twice s t u only_reads.snapshots.continues is.continues;
     }
 
     -- an invocation that is known, and the numbers that it writes
     module _ (ns : List ℕ) (e : Effect) (invoked : invoke (parts s).geometry (objects_in (parts s)) i ≡ Some e) (written : ns ≡ e.written) where
       -- numbers that couldn't be announced
-      pub unannounced : {U : Type 0} (f : PrepareFault) → Prepares {T = U} parts Leads t u ns (Err f) → Invoked parts Leads s u i (Err (fault_of f))
-      unannounced f told = record {
+      pub unannounced : {U : Type 0} (f : PrepareFault) → Prepares {T = U} parts Continues t u ns (Err f) → Invoked parts Continues s u i (Err (fault_of f))
+      unannounced f replying = record {
         done = tt;
         code = tt;
         runs = λ is. absurd (never_stopped f is);
         stalled = λ is. absurd (never_stalled f is);
         full = λ is. overfills_by (parts s).geometry i (objects_in (parts s)) (parts s).touched e invoked
             (subst (λ (ms : List ℕ). (parts s).geometry.log < touched_count (touching (parts s).touched ms)) written
-            (before (λ g os ts. g.log < touched_count (touching ts ns)) (told.full (full_fault f is))));
+            (before (λ g os ts. g.log < touched_count (touching ts ns)) (replying.full (full_fault f is))));
         sound = tt;
         renews = tt;
         unchanged = record {
-          headers = told.headers ∙ looks.aside.headers;
-          contents = told.contents ∙ looks.aside.contents;
-          touched = told.untouched ∙ looks.aside.touched;
+          headers = replying.headers ∙ only_reads.snapshots.headers;
+          contents = replying.contents ∙ only_reads.snapshots.contents;
+          touched = replying.untouched ∙ only_reads.snapshots.touched;
         };
-        cause = (λ is. subst (λ (n : ℕ). n < (parts u).failures) still (told.cause.0 (failed_fault f is)), λ rose. fault_failed f (told.cause.1 (subst (λ (n : ℕ). n < (parts u).failures) (sym still) rose)));
-        later = subst (λ (n : ℕ). n ≤ (parts u).failures) still told.later;
-        geometry = told.geometry ∙ looks.aside.geometry;
-        leads = twice s t u looks.aside.leads told.leads;
+        cause = (λ is. subst (λ (n : ℕ). n < (parts u).failures) still (replying.cause.0 (failed_fault f is)), λ rose. fault_failed f (replying.cause.1 (subst (λ (n : ℕ). n < (parts u).failures) (sym still) rose)));
+        later = subst (λ (n : ℕ). n ≤ (parts u).failures) still replying.later;
+        geometry = replying.geometry ∙ only_reads.snapshots.geometry;
+        continues = twice s t u only_reads.snapshots.continues replying.continues;
       }
 
       -- and numbers that were, and then written
-      module _ {U : Type 0} (m : S) (y : U) (told : Prepares {T = U} parts Leads t m ns (Ok y)) (failures : (parts u).failures ≡ (parts m).failures) where
+      module _ {U : Type 0} (m : S) (y : U) (replying : Prepares {T = U} parts Continues t m ns (Ok y)) (failures : (parts u).failures ≡ (parts m).failures) where
         all_still : (parts u).failures ≡ (parts s).failures
-        all_still = failures ∙ unrisen (parts t).failures (parts m).failures told.later (λ rose. ok_no_failure y (told.cause.1 rose)) ∙ still
+        all_still = failures ∙ unrisen (parts t).failures (parts m).failures replying.later (λ rose. ok_no_failure y (replying.cause.1 rose)) ∙ still
 
-        there : LooksAs (parts s) (parts m)
-        there = looks_again (parts s) (parts t) (parts m) (looked_as looks.aside) (prepared_as told)
+        there : ReadsAs (parts s) (parts m)
+        there = only_reads_again (parts s) (parts t) (parts m) (looked_as only_reads.snapshots) (prepared_as replying)
 
-        pub carried_out : (parts u).touched ≡ (parts m).touched → (parts u).geometry ≡ (parts m).geometry → Leads m u → objects_in (parts u) ≡ e.objects
+        pub carried_out : (parts u).touched ≡ (parts m).touched → (parts u).geometry ≡ (parts m).geometry → Continues m u → objects_in (parts u) ≡ e.objects
             → Fits (command.Invoke i) → IsTrue (is_running_process (objects_in (parts s)) i.process) → AreCurrent (frames_of (parts u))
             → ((age : ℕ) → age + 1 < 2 ^ 64 → AreKeepable (parts m).geometry age (frames_of (parts m)) → AreKeepable (parts m).geometry (age + 1) (frames_of (parts u)))
             → Renews (parts s) (parts u) → (code : Option ResultCode) → code ≡ result_code (parts s).geometry (objects_in (parts s)) i
-            → Invoked parts Leads s u i (Ok code)
-        carried_out touched geometry leads objects fits running current keepable renews code is = record {
+            → Invoked parts Continues s u i (Ok code)
+        carried_out touched geometry continues objects fits running current keepable renews code is = record {
           done = invokes_by (parts s).geometry i (objects_in (parts s)) (objects_in (parts u)) (parts s).touched (parts u).touched e invoked objects
-              (touched ∙ told.touched ∙ ap (λ (ts : List Bool). touching ts ns) looks.aside.touched ∙ ap (touching (parts s).touched) written)
+              (touched ∙ replying.touched ∙ ap (λ (ts : List Bool). touching ts ns) only_reads.snapshots.touched ∙ ap (touching (parts s).touched) written)
               (subst (λ (ts : List Bool). touched_count ts ≤ (parts s).geometry.log) (sym touched)
-              (subst (λ (g : Geometry). touched_count (parts m).touched ≤ g.log) there.geometry told.within));
+              (subst (λ (g : Geometry). touched_count (parts m).touched ≤ g.log) there.geometry replying.within));
           code = is;
           runs = λ is. cc;
           stalled = λ is. cc;
@@ -194,5 +194,5 @@ module _ {S : Type 0} (parts : S → Parts) (Leads : S → S → Type 0) (i : In
           cause = (λ is. cc, λ rose. absurd (omega (arith, rose, all_still)));
           later = omega (arith, all_still);
           geometry = geometry ∙ there.geometry;
-          leads = twice s t u looks.aside.leads (twice t m u told.leads leads);
+          continues = twice s t u only_reads.snapshots.continues (twice t m u replying.continues continues);
         }

@@ -36,8 +36,8 @@ asking_in Send p q a other = absurd (other refl)
 
 pub announced_through : (Announced : ℕ → Type 0) (operation : Operation) (p q a : ℕ) → ((n : ℕ) → Contains (written_through operation p q a) n → Announced n)
     → Announced q × Announced a × ((operation ≡ Send → ⊥) → Announced p)
-announced_through Announced operation p q a told =
-    (told q (first_in q (a ∷ asking operation p)), told a (second_in q a (asking operation p)), λ other. told p (asking_in operation p q a other))
+announced_through Announced operation p q a replying =
+    (replying q (first_in q (a ∷ asking operation p)), replying a (second_in q a (asking operation p)), λ other. replying p (asking_in operation p q a other))
 
 pub all_through : (P : ℕ → Type 0) (operation : Operation) (p q a : ℕ) → P p → P q → P a → All P (written_through operation p q a)
 all_through P Call p q a of_p of_q of_a = search rules

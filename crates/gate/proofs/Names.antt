@@ -1,12 +1,12 @@
 -- The names that the proofs here cite: of other crates, and of the definitions of this one.
-pub use Rattle.capability.proofs.Asides.{keeps_twice}
 pub use Rattle.capability.proofs.Frames.{annex_used, bank_used, content_there, headers_in, known_used, length_objects, node_used, page_used, process_known}
 pub use Rattle.capability.proofs.Frames.{root_used}
 pub use Rattle.capability.proofs.Keeping.{keepable_count, keepable_later, keepable_roles}
 pub use Rattle.capability.proofs.KindNumbers.{bank_number, node_number, page_number, root_number}
+pub use Rattle.capability.proofs.SnapshotLaws.{keeps_twice}
 pub use Rattle.capability.specs.Changes.{changed, message_of, outcome_by, target_of, written_of}
 pub use Rattle.capability.specs.Objects.{with_message}
-pub use Rattle.capability.specs.Parts.{AreSound, IsUnchanged, KeepsAside, Looks, LooksUp, Parts, Prepares, Renews, frames_of, objects_in}
+pub use Rattle.capability.specs.Parts.{AreSound, IsUnchanged, KeepsRest, OnlyFetches, OnlyReads, Parts, Prepares, Renews, frames_of, objects_in}
 pub use Rattle.capability.specs.declared.order.BankChange.{BankChange}
 pub use Rattle.capability.specs.declared.order.Caller.{Caller}
 pub use Rattle.capability.specs.declared.order.Change.{Change}
@@ -57,7 +57,7 @@ pub use Rattle.model_laws.proofs.SoundObjects.{order_keeps}
 pub use Rattle.model_laws.proofs.SoundOrders.{AreArguments, IsNow}
 pub use Rattle.model_laws.proofs.SoundParts.{IsHeld, Waits, held_to, nearly_from}
 pub use Rattle.model_laws.proofs.Usage.{SameFrame, frame_refl, tests_at, usage_same}
-pub use Rattle.space_bank.proofs.Ending.{aside_alone}
+pub use Rattle.space_bank.proofs.Ending.{snapshots_alone}
 pub use Rattle.space_bank.proofs.Renewing.{SameAllocations, SameFree, renews_after, renews_none, renews_then}
 pub use Rattle.space_bank.specs.Allocating.{numbers_of}
 pub use Rattle.space_bank.specs.Banks.{AreCounted, BanksState, MayAsk}
@@ -74,7 +74,7 @@ pub use Rattle.std.proofs.lemmas.Result.{err_from_is_err_and}
 pub use Rattle.std.specs.List.{All, Contains}
 pub use Rattle.std.specs.Option.{option_to_list}
 pub use Rattle.std.specs.Prelude.{IfOk, IsErrOf, IsTrue, OnErr, OnOk, slice_index, slice_index_or, slice_set}
-pub use Rattle.gate.specs.Invoke.{Invoked, Invokes, IsAsked, IsKernelObject, KeepsSoundFrames, Overfills, TellsState, entered, fault_of, gate_capability}
+pub use Rattle.gate.specs.Invoke.{Invoked, Invokes, IsKernelObject, IsRequested, KeepsSoundFrames, Overfills, TellsState, entered, fault_of, gate_capability}
 pub use Rattle.gate.specs.Invoke.{received, result_code, written_through}
 pub use Rattle.gate.specs.Ordering.{IsPlanned, Plans, answered, arguments_of, finished, ordered_by, state_before}
 pub use Rattle.gate.specs.Plan.{ChangesAs, FitsCap, HaveAnnexesOf, IsFor, IsOfProcess, IsWithinObject, MayChange, MayEdit, MayHold, fetched_of, node_named}

@@ -5,8 +5,9 @@ use Rattle.gate.proofs.Names.{Invocation, Operation, Call, Return, Send, Geometr
 use Rattle.gate.proofs.Names.{OrderOutcome, refused, bank_order, order, NamesItsKind, object_count, Fits, annex_at, content_at, is_process, register_at}
 use Rattle.gate.proofs.Names.{used_within, annex_kept, written_within, all_words, held_sent, AreArguments, IsNow, IsHeld, Waits, held_to, SameFrame, frame_refl}
 use Rattle.gate.proofs.Names.{tests_at, BankChange, Caller, Change, OrderPlan, changed, outcome_by, target_of, written_of, numbers_of, IsForBank, MayMake}
-use Rattle.gate.proofs.Names.{PlansAs, writer_count, writers, IsAsked, IsPlanned, Plans, arguments_of, ChangesAs, FitsCap, HaveAnnexesOf, IsFor, IsOfProcess}
-use Rattle.gate.proofs.Names.{IsWithinObject, MayChange, MayEdit, MayHold, fetched_of, node_named, outcome_of, process_named, annex_used, node_used, root_used}
+use Rattle.gate.proofs.Names.{PlansAs, writer_count, writers, IsRequested, IsPlanned, Plans, arguments_of, ChangesAs, FitsCap, HaveAnnexesOf, IsFor}
+use Rattle.gate.proofs.Names.{IsOfProcess, IsWithinObject, MayChange, MayEdit, MayHold, fetched_of, node_named, outcome_of, process_named, annex_used}
+use Rattle.gate.proofs.Names.{node_used, root_used}
 use Rattle.model.specs.declared.command.Command.TheVariants as command
 use Rattle.model.specs.declared.order.ResultCode.TheVariants as code
 use Rattle.capability.specs.declared.order.BankChange.TheVariants as bank
@@ -155,7 +156,7 @@ module _ (g : Geometry) (os : List Object) (list : List ℕ) where
   made_fetched P (bank.Make n f b) may all = subst (All P) may.listed all
   made_fetched P (bank.MakeProcess r a b) may all = subst (All P) may.listed all
   made_fetched P (bank.GiveUp above) may all = none_all P
-  made_fetched P (bank.HandOn b) may all = none_all P
+  made_fetched P (bank.Transfer b) may all = none_all P
 
   pub change_fetched : (P : ℕ → Type 0) (x : Change) → MayChange g os list x → All P list → All P (fetched_of x)
   change_fetched P change.Nothing may all = subst (All P) may.listed all
@@ -214,7 +215,7 @@ module _ (g : Geometry) (os : List Object) (i : Invocation) (now : IsNow g os) w
 
 -- an order that asks no bank is planned
 pub object_planned : (g : Geometry) (os us : List Object) (i : Invocation) (caller : Caller) (plan : OrderPlan) (args : Arguments) (first list : List ℕ) → us ≡ os → IsNow g os
-    → object_count g < 2 ^ 64 → Fits (command.Invoke i) → IsAsked os i caller → args ≡ arguments_of os i → first ≡ writers caller.operation caller.process caller.annex
+    → object_count g < 2 ^ 64 → Fits (command.Invoke i) → IsRequested os i caller → args ≡ arguments_of os i → first ≡ writers caller.operation caller.process caller.annex
     → list ≡ first ++ written_of plan.change → IsFor us caller.invoked args plan.change
     → outcome_of us plan ≡ order g us caller.invoked (slice_index i.words 0) args
     → ((vs : List Object) → HaveAnnexesOf us vs → ChangesAs vs plan (order g vs caller.invoked (slice_index i.words 0) args)) → IsPlanned g os i caller plan list
@@ -240,16 +241,16 @@ object_planned g os us i caller plan args first list same now few fits is args_a
     })
 
 -- and one of a bank
-bank_ordered : (g : Geometry) (os : List Object) (b w : ℕ) (asked : BankOrder) (args : Arguments) → bank_order w ≡ Some asked → order g os (Bank b) w args ≡ on_bank g os b asked args
+bank_ordered : (g : Geometry) (os : List Object) (b w : ℕ) (requested : BankOrder) (args : Arguments) → bank_order w ≡ Some requested → order g os (Bank b) w args ≡ on_bank g os b requested args
 unfolding order
-bank_ordered g os b w asked args is = ap (λ (found : Option BankOrder). elim found [ None ↦ refused os code.NoOrder | Some k ↦ on_bank g os b k args ]) is
+bank_ordered g os b w requested args is = ap (λ (found : Option BankOrder). elim found [ None ↦ refused os code.NoOrder | Some k ↦ on_bank g os b k args ]) is
 
-bank_plans : (g : Geometry) (os : List Object) (b w : ℕ) (asked : BankOrder) (args : Arguments) (plan : OrderPlan) (list : List ℕ) → IsNow g os → IsTrue (is_bank (content_at os b))
-    → NamesItsKind os args.capability → bank_order w ≡ Some asked → list ≡ (on_bank g os b asked args).written → PlansAs g os b asked args list plan
+bank_plans : (g : Geometry) (os : List Object) (b w : ℕ) (requested : BankOrder) (args : Arguments) (plan : OrderPlan) (list : List ℕ) → IsNow g os → IsTrue (is_bank (content_at os b))
+    → NamesItsKind os args.capability → bank_order w ≡ Some requested → list ≡ (on_bank g os b requested args).written → PlansAs g os b requested args list plan
     → Plans g os (Bank b) w args list plan
-bank_plans g os b w asked args plan list now bank names is listed plans =
+bank_plans g os b w requested args plan list now bank names is listed plans =
     let at : (us : List Object) → SameFrame os us → order g us (Bank b) w args ≡ outcome_by us list plan =
-    λ us frame. bank_ordered g us b w asked args is ∙ plans.outcome us frame in
+    λ us frame. bank_ordered g us b w requested args is ∙ plans.outcome us frame in
     record {
       here = at os (frame_refl os);
       code = λ us frame. ap (λ (o : OrderOutcome). o.code) (at us frame);
@@ -257,20 +258,20 @@ bank_plans g os b w asked args plan list now bank names is listed plans =
       written = λ us frame. ap (λ (o : OrderOutcome). o.written) (at us frame);
       may = λ us frame then. bank_change g us list plan.change (plans.may us frame then);
       annex = λ us frame p before after.
-          let objects : (on_bank g us b asked args).objects ≡ changed us list plan.change = ap (λ (o : OrderOutcome). o.objects) (plans.outcome us frame) in
+          let objects : (on_bank g us b requested args).objects ≡ changed us list plan.change = ap (λ (o : OrderOutcome). o.objects) (plans.outcome us frame) in
           ap (λ (vs : List Object). annex_at vs p) (sym objects)
-          ∙ annex_kept g us b asked args p before (subst (λ (vs : List Object). is_process vs p ≡ true) (sym objects) after);
-      known = subst (λ (ns : List ℕ). All (λ n. n < length os) ns) (sym listed) (written_within g os b asked args now bank names);
+          ∙ annex_kept g us b requested args p before (subst (λ (vs : List Object). is_process vs p ≡ true) (sym objects) after);
+      known = subst (λ (ns : List ℕ). All (λ n. n < length os) ns) (sym listed) (written_within g os b requested args now bank names);
     }
 
-pub bank_planned : (g : Geometry) (os : List Object) (i : Invocation) (caller : Caller) (plan : OrderPlan) (args : Arguments) (b : ℕ) (asked : BankOrder) (first list : List ℕ)
-    → IsNow g os → Fits (command.Invoke i) → IsAsked os i caller → args ≡ arguments_of os i → first ≡ writers caller.operation caller.process caller.annex
-    → caller.invoked ≡ Bank b → bank_order (slice_index i.words 0) ≡ Some asked → list ≡ first ++ (on_bank g os b asked args).written
-    → PlansAs g os b asked args (on_bank g os b asked args).written plan → IsPlanned g os i caller plan list
-bank_planned g os i caller plan args b asked first list now fits is args_are first_is invoked order_is listed plans =
-    let ws = (on_bank g os b asked args).written in
+pub bank_planned : (g : Geometry) (os : List Object) (i : Invocation) (caller : Caller) (plan : OrderPlan) (args : Arguments) (b : ℕ) (requested : BankOrder) (first list : List ℕ)
+    → IsNow g os → Fits (command.Invoke i) → IsRequested os i caller → args ≡ arguments_of os i → first ≡ writers caller.operation caller.process caller.annex
+    → caller.invoked ≡ Bank b → bank_order (slice_index i.words 0) ≡ Some requested → list ≡ first ++ (on_bank g os b requested args).written
+    → PlansAs g os b requested args (on_bank g os b requested args).written plan → IsPlanned g os i caller plan list
+bank_planned g os i caller plan args b requested first list now fits is args_are first_is invoked order_is listed plans =
+    let ws = (on_bank g os b requested args).written in
     let sent = subst (λ (a : Arguments). AreArguments os a) (sym args_are) (arguments_held g os i now fits) in
     let bank : IsTrue (is_bank (content_at os b)) = subst (NamesItsKind os) invoked (held_to os caller.invoked (invoked_held g os i now caller.invoked is.invoked)).1 in
     planned_by g os i caller plan args first list ws args_are first_is listed
     (subst (λ (c : Capability). Plans g os c (slice_index i.words 0) args ws plan) (sym invoked)
-    (bank_plans g os b (slice_index i.words 0) asked args plan ws now bank (held_to os args.capability sent.held).1 order_is refl plans))
+    (bank_plans g os b (slice_index i.words 0) requested args plan ws now bank (held_to os args.capability sent.held).1 order_is refl plans))

@@ -4,7 +4,7 @@ use Rattle.gate.proofs.Names.{Effect, invoke, is_free, IsNoBankOrder, Fits, cont
 use Rattle.gate.proofs.Names.{AreSound, Parts, Renews, objects_in, SameAllocations, SameFree, renews_after, renews_none, Gate, gate_capability}
 use Rattle.std.specs.Prelude.{if◌then◌else◌}
 use Rattle.model.specs.declared.command.Command.TheVariants as command
-use Rattle.gate.proofs.Standing.{LooksAs, looked_objects, now_sound}
+use Rattle.gate.proofs.Standing.{ReadsAs, looked_objects, now_sound}
 
 -- a gate is asked no bank's order
 pub gate_no_bank : (gate : Gate) (w : ℕ) → IsNoBankOrder (gate_capability gate) w
@@ -20,17 +20,17 @@ free_in_frame p q us objects frame n =
     ap (λ (vs : List Object). is_free (content_at vs n)) objects ∙ (tests_at (objects_in p) us frame n).free
 
 -- what counts come to after a look
-pub renews_looked : (old mid new : Parts) → LooksAs old mid → Renews mid new → Renews old new
-renews_looked old mid new looks renews =
-    renews_after old mid new (λ n. ap (λ (hs : List ObjectHeader). (header_at hs n).allocations) looks.headers)
-    (λ n. ap (λ (us : List Object). is_free (content_at us n)) (looked_objects old mid looks)) renews
+pub renews_looked : (old mid new : Parts) → ReadsAs old mid → Renews mid new → Renews old new
+renews_looked old mid new only_reads renews =
+    renews_after old mid new (λ n. ap (λ (hs : List ObjectHeader). (header_at hs n).allocations) only_reads.headers)
+    (λ n. ap (λ (us : List Object). is_free (content_at us n)) (looked_objects old mid only_reads)) renews
 
 -- what asks no bank gives nothing up
-pub renews_invoked : (old mid new : Parts) (i : Invocation) (e : Effect) → AreSound old → LooksAs old mid → Fits (command.Invoke i)
+pub renews_invoked : (old mid new : Parts) (i : Invocation) (e : Effect) → AreSound old → ReadsAs old mid → Fits (command.Invoke i)
     → IsTrue (is_running_process (objects_in old) i.process)
     → IsNoBankOrder (register_at (objects_in old) i.process i.register) (slice_index i.words 0)
     → invoke old.geometry (objects_in old) i ≡ Some e → objects_in new ≡ e.objects → SameAllocations mid new → Renews old new
-renews_invoked old mid new i e sound looks fits runs other is objects same =
+renews_invoked old mid new i e sound only_reads fits runs other is objects same =
     let frame = invocation_frame old.geometry (objects_in old) i e (now_sound old sound) fits runs other is in
-    renews_none old new (λ n. same n ∙ ap (λ (hs : List ObjectHeader). (header_at hs n).allocations) looks.headers)
+    renews_none old new (λ n. same n ∙ ap (λ (hs : List ObjectHeader). (header_at hs n).allocations) only_reads.headers)
     (λ n used. free_in_frame old new e.objects objects frame n ∙ used)

@@ -1,7 +1,7 @@
 -- What sound frames stand for.
 use Rattle.gate.proofs.Names.{◌≡◌, ℕ, ◌+◌, ◌-◌, ◌^◌, ◌<◌, List, length, Result, sym, subst, ap, ◌∙◌, arith, IsTrue, Capability, Frame, ObjectHeader, Geometry}
 use Rattle.gate.proofs.Names.{header_at, objects_of, AreKeepable, IsSoundFrames, world_at, is_annex, NamesItsKind, object_count, annex_at, content_at}
-use Rattle.gate.proofs.Names.{is_process, register_at, IsNow, nearly_from, PrepareFault, AreSound, LooksUp, Parts, Prepares, frames_of, objects_in}
+use Rattle.gate.proofs.Names.{is_process, register_at, IsNow, nearly_from, PrepareFault, AreSound, OnlyFetches, Parts, Prepares, frames_of, objects_in}
 use Rattle.gate.proofs.Names.{length_objects, keepable_count, keepable_later, KeepsSoundFrames}
 use Rattle.gate.proofs.Fits.{calls_kept}
 use Rattle.gate.proofs.Known.{annex_known, same_frames}
@@ -27,22 +27,22 @@ module _ (p : Parts) (sound : AreSound p) where
   calls_below n known = omega (arith, calls_kept p.geometry sound.0 p sound.1.keepable n known, sound.1.sound.age)
 
 -- the same parts but for failures, and in what was touched
-pub record LooksAs (old now : Parts) : Type 0 where
+pub record ReadsAs (old now : Parts) : Type 0 where
   pub headers : now.headers ≡ old.headers
   pub contents : now.contents ≡ old.contents
   pub geometry : now.geometry ≡ old.geometry
 
 -- frames that were looked at, or announced
-module _ {S : Type 0} {parts : S → Parts} {Leads : S → S → Type 0} {s t : S} where
-  pub looked_as : LooksUp parts Leads s t → LooksAs (parts s) (parts t)
-  looked_as looks = record { headers = looks.headers; contents = looks.contents; geometry = looks.geometry }
+module _ {S : Type 0} {parts : S → Parts} {Continues : S → S → Type 0} {s t : S} where
+  pub looked_as : OnlyFetches parts Continues s t → ReadsAs (parts s) (parts t)
+  looked_as only_reads = record { headers = only_reads.headers; contents = only_reads.contents; geometry = only_reads.geometry }
 
-  pub prepared_as : {T : Type 0} {ns : List ℕ} {r : Result T PrepareFault} → Prepares parts Leads s t ns r → LooksAs (parts s) (parts t)
-  prepared_as told = record { headers = told.headers; contents = told.contents; geometry = told.geometry }
+  pub prepared_as : {T : Type 0} {ns : List ℕ} {r : Result T PrepareFault} → Prepares parts Continues s t ns r → ReadsAs (parts s) (parts t)
+  prepared_as replying = record { headers = replying.headers; contents = replying.contents; geometry = replying.geometry }
 
-module _ (old now : Parts) (looks : LooksAs old now) where
+module _ (old now : Parts) (only_reads : ReadsAs old now) where
   pub looked_frames : frames_of now ≡ frames_of old
-  looked_frames = same_frames old now looks.headers looks.contents
+  looked_frames = same_frames old now only_reads.headers only_reads.contents
 
   pub looked_objects : objects_in now ≡ objects_in old
   looked_objects = ap (λ (fs : List Frame). objects_of fs) looked_frames
@@ -50,32 +50,32 @@ module _ (old now : Parts) (looks : LooksAs old now) where
   pub looked_sound : AreSound old → AreSound now
   looked_sound sound = (
     sound.0,
-    subst (λ (g : Geometry). IsSoundFrames g sound.0 (frames_of now)) (sym looks.geometry)
+    subst (λ (g : Geometry). IsSoundFrames g sound.0 (frames_of now)) (sym only_reads.geometry)
         (subst (λ (fs : List Frame). IsSoundFrames old.geometry sound.0 fs) (sym looked_frames) sound.1),
   )
 
   pub looked_number : (n : ℕ) → n < length old.headers → n < length now.headers
-  looked_number n known = subst (λ (hs : List ObjectHeader). n < length hs) (sym looks.headers) known
+  looked_number n known = subst (λ (hs : List ObjectHeader). n < length hs) (sym only_reads.headers) known
 
   pub looked_keepable : (age : ℕ) → AreKeepable old.geometry age (frames_of old) → AreKeepable now.geometry age (frames_of now)
   looked_keepable age k =
-      subst (λ (g : Geometry). AreKeepable g age (frames_of now)) (sym looks.geometry)
+      subst (λ (g : Geometry). AreKeepable g age (frames_of now)) (sym only_reads.geometry)
       (subst (λ (fs : List Frame). AreKeepable old.geometry age fs) (sym looked_frames) k)
 
 -- one look after another
-pub looks_again : (old mid now : Parts) → LooksAs old mid → LooksAs mid now → LooksAs old now
-looks_again old mid now a b = record { headers = b.headers ∙ a.headers; contents = b.contents ∙ a.contents; geometry = b.geometry ∙ a.geometry }
+pub only_reads_again : (old mid now : Parts) → ReadsAs old mid → ReadsAs mid now → ReadsAs old now
+only_reads_again old mid now a b = record { headers = b.headers ∙ a.headers; contents = b.contents ∙ a.contents; geometry = b.geometry ∙ a.geometry }
 
 -- what is among the objects has a header
 pub inside_known : (p : Parts) (n : ℕ) → n < length (objects_in p) → n < length p.headers
 inside_known p n inside = subst (λ (m : ℕ). n < m) (length_objects p.headers p.contents) inside
 
-pub asked_annex : (p : Parts) (sound : AreSound p) (q a : ℕ) → IsTrue (is_process (objects_in p) q) → a ≡ annex_at (objects_in p) q → a < length p.headers
-asked_annex p sound q a is same = subst (λ (n : ℕ). n < length p.headers) (sym same) (annex_known p (annex_at (objects_in p) q) (annex_there p sound q is))
+pub requested_annex : (p : Parts) (sound : AreSound p) (q a : ℕ) → IsTrue (is_process (objects_in p) q) → a ≡ annex_at (objects_in p) q → a < length p.headers
+requested_annex p sound q a is same = subst (λ (n : ℕ). n < length p.headers) (sym same) (annex_known p (annex_at (objects_in p) q) (annex_there p sound q is))
 
 -- what keeps frames sound after a look keeps those before it
-pub keeps_looked : (old mid new : Parts) → LooksAs old mid → KeepsSoundFrames mid new → KeepsSoundFrames old new
-keeps_looked old mid new looks keeps age young sound =
-    let there = subst (λ (g : Geometry). IsSoundFrames g age (frames_of mid)) (sym looks.geometry)
-    (subst (λ (fs : List Frame). IsSoundFrames old.geometry age fs) (sym (looked_frames old mid looks)) sound) in
-    subst (λ (g : Geometry). IsSoundFrames g (age + 1) (frames_of new)) looks.geometry (keeps age young there)
+pub keeps_looked : (old mid new : Parts) → ReadsAs old mid → KeepsSoundFrames mid new → KeepsSoundFrames old new
+keeps_looked old mid new only_reads keeps age young sound =
+    let there = subst (λ (g : Geometry). IsSoundFrames g age (frames_of mid)) (sym only_reads.geometry)
+    (subst (λ (fs : List Frame). IsSoundFrames old.geometry age fs) (sym (looked_frames old mid only_reads)) sound) in
+    subst (λ (g : Geometry). IsSoundFrames g (age + 1) (frames_of new)) only_reads.geometry (keeps age young there)

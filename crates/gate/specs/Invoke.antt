@@ -37,7 +37,7 @@ abbrev pub written_through : Operation → ℕ → ℕ → ℕ → List ℕ
 written_through operation process q annex = q ∷ annex ∷ (elim operation [ Send ↦ [] | _ ↦ process ∷ [] ])
 
 -- what was read of an invocation
-pub record IsAsked (os : List Object) (i : Invocation) (caller : Caller) : Type 0 where
+pub record IsRequested (os : List Object) (i : Invocation) (caller : Caller) : Type 0 where
   pub process : caller.process ≡ i.process
   pub operation : caller.operation ≡ i.operation
   pub annex : caller.annex ≡ annex_at os i.process
@@ -61,7 +61,7 @@ TellsState os i (Err _) = Unit {0}
 
 -- The outcome of an invocation. After an error nothing has changed. The parameters are ghost members of a store of
 -- present frames.
-pub record Invoked {S : Type 0} (parts : S → Parts) (Leads : S → S → Type 0) (old new : S) (i : Invocation) (result : Result (Option ResultCode) InvokeFault) : Type 0 where
+pub record Invoked {S : Type 0} (parts : S → Parts) (Continues : S → S → Type 0) (old new : S) (i : Invocation) (result : Result (Option ResultCode) InvokeFault) : Type 0 where
   pub done : OnOk result (Invokes (parts old).geometry i (objects_in (parts old)) (parts old).touched (objects_in (parts new)) (parts new).touched)
   pub code : IfOk result (λ code. code ≡ result_code (parts old).geometry (objects_in (parts old)) i)
   pub runs : IsErrOf result fault.NotRunning → is_running_process (objects_in (parts old)) i.process ≡ false
@@ -73,7 +73,7 @@ pub record Invoked {S : Type 0} (parts : S → Parts) (Leads : S → S → Type 
   pub cause : IsErrOf result fault.Failed ↔ ((parts old).failures < (parts new).failures)
   pub later : (parts old).failures ≤ (parts new).failures
   pub geometry : (parts new).geometry ≡ (parts old).geometry
-  pub leads : Leads old new
+  pub continues : Continues old new
 
 -- the capabilities that a gate receives of those that are sent: with a call the last is the right to answer
 abbrev pub received : Invocation → List Capability → List Capability

@@ -43,9 +43,9 @@ pub record IsPlanned (g : Geometry) (os : List Object) (i : Invocation) (caller 
 
 -- The geometry, the touched numbers and the failures stay, and a count of allocations rises where its object is given up.
 -- The parameters are ghost members of a store of present frames.
-pub record GoesOnBeside {S : Type 0} (parts : S → Parts) (Leads : S → S → Type 0) (old new : S) : Type 0 where
+pub record GoesOnBeside {S : Type 0} (parts : S → Parts) (Continues : S → S → Type 0) (old new : S) : Type 0 where
   pub renews : Renews (parts old) (parts new)
   pub touched : (parts new).touched ≡ (parts old).touched
   pub geometry : (parts new).geometry ≡ (parts old).geometry
   pub failures : (parts new).failures ≡ (parts old).failures
-  pub leads : Leads old new
+  pub continues : Continues old new

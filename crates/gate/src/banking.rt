@@ -23,9 +23,9 @@ fn bank_order(word: u64) -> Option<BankOrder>
 
 /// The bank that is invoked and the order that a word asks of it. `None` if no bank is invoked, or
 /// if no bank knows the word.
-pub fn asked_bank(invoked: Capability, word: u64) -> Option<(u64, BankOrder)>
-    ensures bank { IfSome result (λ asked. invoked ≡ Capability.Bank asked.0) }
-    ensures order { IfSome result (λ asked. bank_order word ≡ Some asked.1) }
+pub fn requested_bank(invoked: Capability, word: u64) -> Option<(u64, BankOrder)>
+    ensures bank { IfSome result (λ requested. invoked ≡ Capability.Bank requested.0) }
+    ensures order { IfSome result (λ requested. bank_order word ≡ Some requested.1) }
     ensures none { result ≡ None → IsNoBankOrder invoked word }
 {
     match invoked {

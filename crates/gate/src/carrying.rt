@@ -5,7 +5,7 @@ ghost use Rattle.model.specs.Keepable.{AreCurrent, AreKeepable};
 ghost use Rattle.model.specs.World.{annex_at, is_process, is_running_process};
 ghost use Rattle.model_laws.proofs.SoundOrders.{IsNow};
 ghost use Rattle.capability.specs.Changes.{changed};
-ghost use Rattle.capability.specs.Parts.{AreSound, HaveTheirRoles, KeepsAside, frames_of, objects_in};
+ghost use Rattle.capability.specs.Parts.{AreSound, HaveTheirRoles, KeepsRest, frames_of, objects_in};
 ghost use Rattle.space_bank.specs.Banks.{AreCounted, KeepsObjects};
 ghost use Rattle.space_bank.specs.Planning.{writer_count};
 ghost use Rattle.gate.specs.Ordering.{GoesOnBeside, IsPlanned, answered, finished, ordered_by, state_before};
@@ -41,7 +41,7 @@ fn leave<F: PresentFrames>(store: &mut F, caller: Caller)
     ensures keepable { (age : ℕ)
         → AreKeepable (F.parts store.old).geometry age (frames_of (F.parts store.old))
         → AreKeepable (F.parts store.old).geometry age (frames_of (F.parts store.new)) }
-    ensures aside { KeepsAside F.parts F.IsFetched F.IsAnnounced F.LeadsTo store.old store.new }
+    ensures snapshots { KeepsRest F.parts F.IsFetched F.IsAnnounced F.ContinuesTo store.old store.new }
 {
     match caller.operation {
         Operation::Return => roots::set_state(store, caller.process, State::Available),
@@ -68,7 +68,7 @@ fn change<F: PresentFrames>(store: &mut F, banks: &mut Banks, skip: usize, chang
     ensures keepable { (age : ℕ) → age + 1 < 2 ^ 64
         → AreKeepable (F.parts store.old).geometry age (frames_of (F.parts store.old))
         → AreKeepable (F.parts store.old).geometry (age + 1) (frames_of (F.parts store.new)) }
-    ensures aside { KeepsObjects F.parts F.IsFetched F.IsAnnounced F.LeadsTo store.old store.new }
+    ensures snapshots { KeepsObjects F.parts F.IsFetched F.IsAnnounced F.ContinuesTo store.old store.new }
 {
     match change {
         Change::Bank(made) => banks.carry_out(store, skip, made),
@@ -93,7 +93,7 @@ fn deliver_reply<F: PresentFrames>(store: &mut F, process: u64, reply: Reply)
     ensures keepable { (age : ℕ) → FitsCap (F.parts store.old).geometry reply.capability
         → AreKeepable (F.parts store.old).geometry age (frames_of (F.parts store.old))
         → AreKeepable (F.parts store.old).geometry age (frames_of (F.parts store.new)) }
-    ensures aside { KeepsAside F.parts F.IsFetched F.IsAnnounced F.LeadsTo store.old store.new }
+    ensures snapshots { KeepsRest F.parts F.IsFetched F.IsAnnounced F.ContinuesTo store.old store.new }
 {
     if !roots::is_running(store, process) {
         return;
@@ -127,7 +127,7 @@ fn reply<F: PresentFrames>(store: &mut F, process: u64, reply: Reply)
     ensures keepable { (age : ℕ) → FitsCap (F.parts store.old).geometry reply.capability
         → AreKeepable (F.parts store.old).geometry age (frames_of (F.parts store.old))
         → AreKeepable (F.parts store.old).geometry age (frames_of (F.parts store.new)) }
-    ensures aside { KeepsAside F.parts F.IsFetched F.IsAnnounced F.LeadsTo store.old store.new }
+    ensures snapshots { KeepsRest F.parts F.IsFetched F.IsAnnounced F.ContinuesTo store.old store.new }
 {
     if roots::is_process(store, process) {
         deliver_reply(store, process, reply);
@@ -135,7 +135,7 @@ fn reply<F: PresentFrames>(store: &mut F, process: u64, reply: Reply)
 }
 
 // After the order: a process that called gets the reply.
-fn answer<F: PresentFrames>(store: &mut F, caller: Caller, told: Reply)
+fn answer<F: PresentFrames>(store: &mut F, caller: Caller, replying: Reply)
     requires roles { HaveTheirRoles (frames_of (F.parts store.old)) }
     requires root { caller.operation ≡ Operation.Call
         → IsTrue (is_process (objects_in (F.parts store.old)) caller.process)
@@ -145,16 +145,16 @@ fn answer<F: PresentFrames>(store: &mut F, caller: Caller, told: Reply)
         → F.IsFetched store.old (annex_at (objects_in (F.parts store.old)) caller.process)
         × F.IsAnnounced store.old (annex_at (objects_in (F.parts store.old)) caller.process) }
     ensures objects { objects_in (F.parts store.new)
-        ≡ answered caller.operation caller.process (objects_in (F.parts store.old)) told }
+        ≡ answered caller.operation caller.process (objects_in (F.parts store.old)) replying }
     ensures current { AreCurrent (frames_of (F.parts store.old))
         → AreCurrent (frames_of (F.parts store.new)) }
-    ensures keepable { (age : ℕ) → FitsCap (F.parts store.old).geometry told.capability
+    ensures keepable { (age : ℕ) → FitsCap (F.parts store.old).geometry replying.capability
         → AreKeepable (F.parts store.old).geometry age (frames_of (F.parts store.old))
         → AreKeepable (F.parts store.old).geometry age (frames_of (F.parts store.new)) }
-    ensures aside { KeepsAside F.parts F.IsFetched F.IsAnnounced F.LeadsTo store.old store.new }
+    ensures snapshots { KeepsRest F.parts F.IsFetched F.IsAnnounced F.ContinuesTo store.old store.new }
 {
     match caller.operation {
-        Operation::Call => reply(store, caller.process, told),
+        Operation::Call => reply(store, caller.process, replying),
         Operation::Return => {}
         Operation::Send => {}
     }
@@ -193,7 +193,7 @@ pub fn carry_out<F: PresentFrames>(
         → FitsCap (F.parts store.old).geometry plan.reply.capability
         → AreKeepable (F.parts store.old).geometry age (frames_of (F.parts store.old))
         → AreKeepable (F.parts store.old).geometry (age + 1) (frames_of (F.parts store.new)) }
-    ensures beside { GoesOnBeside F.parts F.LeadsTo store.old store.new }
+    ensures beside { GoesOnBeside F.parts F.ContinuesTo store.old store.new }
 {
     leave(store, caller);
     change(store, banks, writer_count(caller.operation), plan.change);

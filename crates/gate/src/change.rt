@@ -2,7 +2,7 @@
 ghost use Rattle.std.specs.Prelude.{◌≡◌, ◌+◌, ◌<◌, ◌^◌, ℕ, Some, []};
 ghost use Rattle.model.specs.Frame.{header_at};
 ghost use Rattle.model.specs.Keepable.{AreCurrent, AreKeepable};
-ghost use Rattle.capability.specs.Parts.{KeepsAside, frames_of, objects_in};
+ghost use Rattle.capability.specs.Parts.{KeepsRest, frames_of, objects_in};
 ghost use Rattle.capability.specs.Changes.{changed, target_of};
 ghost use Rattle.gate.specs.Plan.{IsWithinObject, IsOfProcess, MayHold};
 
@@ -25,7 +25,7 @@ pub fn make<F: PresentFrames>(store: &mut F, change: Change)
         → MayHold (F.parts store.old).geometry (objects_in (F.parts store.old)) change
         → AreKeepable (F.parts store.old).geometry age (frames_of (F.parts store.old))
         → AreKeepable (F.parts store.old).geometry (age + 1) (frames_of (F.parts store.new)) }
-    ensures aside { KeepsAside F.parts F.IsFetched F.IsAnnounced F.LeadsTo store.old store.new }
+    ensures snapshots { KeepsRest F.parts F.IsFetched F.IsAnnounced F.ContinuesTo store.old store.new }
 {
     match change {
         Change::Nothing => {}

@@ -4,7 +4,7 @@ ghost use Rattle.std.specs.List.{All};
 ghost use Rattle.model.specs.Invoke.{deliver};
 ghost use Rattle.model.specs.Keepable.{AreCurrent, AreKeepable};
 ghost use Rattle.model.specs.World.{annex_at, is_process};
-ghost use Rattle.capability.specs.Parts.{KeepsAside, frames_of, objects_in};
+ghost use Rattle.capability.specs.Parts.{KeepsRest, frames_of, objects_in};
 ghost use Rattle.gate.specs.Plan.{FitsCap};
 
 use capability::{PresentFrames, objects};
@@ -32,7 +32,7 @@ pub fn deliver<F: PresentFrames>(store: &mut F, process: u64, message: Message)
     ensures keepable { (age : ℕ) → All (FitsCap (F.parts store.old).geometry) message.capabilities
         → AreKeepable (F.parts store.old).geometry age (frames_of (F.parts store.old))
         → AreKeepable (F.parts store.old).geometry age (frames_of (F.parts store.new)) }
-    ensures aside { KeepsAside F.parts F.IsFetched F.IsAnnounced F.LeadsTo store.old store.new }
+    ensures snapshots { KeepsRest F.parts F.IsFetched F.IsAnnounced F.ContinuesTo store.old store.new }
 {
     let annex = objects::annex(store, process);
     objects::set_message(store, process, message.words, message.key);

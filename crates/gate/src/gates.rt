@@ -6,10 +6,10 @@ ghost use Rattle.model.specs.Invoke.{after_gate, can_start};
 ghost use Rattle.model.specs.Keepable.{AreCurrent, AreKeepable};
 ghost use Rattle.model.specs.Text.{Fits};
 ghost use Rattle.model.specs.World.{annex_at, is_process, is_running_process};
-ghost use Rattle.capability.specs.Parts.{AreSound, KeepsAside, frames_of, objects_in, Prepares};
+ghost use Rattle.capability.specs.Parts.{AreSound, KeepsRest, frames_of, objects_in, Prepares};
 ghost use Rattle.std.specs.List.{All};
 ghost use Rattle.space_bank.specs.Banks.{AreCounted};
-ghost use Rattle.gate.specs.Invoke.{entered, gate_capability, received, written_through, IsAsked, IsKernelObject, Invoked};
+ghost use Rattle.gate.specs.Invoke.{entered, gate_capability, received, written_through, IsRequested, IsKernelObject, Invoked};
 ghost use Rattle.gate.specs.Plan.{FitsCap};
 
 use crate::delivery::deliver;
@@ -87,7 +87,7 @@ fn announce<F: PresentFrames>(
         (F.IsAnnounced store.new receiver × F.IsAnnounced store.new annex
         × ((invocation.now.operation ≡ Operation.Send → ⊥)
         → F.IsAnnounced store.new invocation.now.process)) }
-    ensures prepares { Prepares F.parts F.LeadsTo store.old store.new
+    ensures prepares { Prepares F.parts F.ContinuesTo store.old store.new
         (written_through invocation.now.operation invocation.now.process receiver annex) result }
 {
     let process = invocation.process;
@@ -111,7 +111,7 @@ fn leave<F: PresentFrames>(store: &mut F, invocation: &Invocation)
         → AreKeepable (F.parts store.old).geometry age (frames_of (F.parts store.old))
         → AreKeepable (F.parts store.old).geometry age (frames_of (F.parts store.new)) }
     ensures headers { (F.parts store.new).headers ≡ (F.parts store.old).headers }
-    ensures aside { KeepsAside F.parts F.IsFetched F.IsAnnounced F.LeadsTo store.old store.new }
+    ensures snapshots { KeepsRest F.parts F.IsFetched F.IsAnnounced F.ContinuesTo store.old store.new }
 {
     match invocation.operation {
         Operation::Call => roots::set_state(store, invocation.process, State::Waiting),
@@ -148,7 +148,7 @@ fn enter<F: PresentFrames>(
         → All (FitsCap (F.parts store.old).geometry) (received invocation.now sent)
         → AreKeepable (F.parts store.old).geometry age (frames_of (F.parts store.old))
         → AreKeepable (F.parts store.old).geometry (age + 1) (frames_of (F.parts store.new)) }
-    ensures aside { KeepsAside F.parts F.IsFetched F.IsAnnounced F.LeadsTo store.old store.new }
+    ensures snapshots { KeepsRest F.parts F.IsFetched F.IsAnnounced F.ContinuesTo store.old store.new }
 {
     leave(store, invocation);
     let message = message(invocation, sent, gate.key);
@@ -190,11 +190,11 @@ pub fn invoke_gate<F: PresentFrames>(
         (objects_in (F.parts store.old)) banks.now }
     requires fits { Fits (command.Invoke invocation.now) }
     requires few { length (F.parts store.old).headers < 2 ^ 64 }
-    requires asked { IsAsked (objects_in (F.parts store.old)) invocation.now caller }
+    requires requested { IsRequested (objects_in (F.parts store.old)) invocation.now caller }
     requires fetched { F.IsFetched store.old caller.annex }
     requires gate { caller.invoked ≡ gate_capability gate }
     requires key { gate.is_resume ≡ true → gate.key ≡ 0 }
-    ensures { Invoked F.parts F.LeadsTo store.old store.new invocation.now result }
+    ensures { Invoked F.parts F.ContinuesTo store.old store.new invocation.now result }
 {
     let sent = all_sent(store, invocation, caller.annex);
     let annex = look_at_process(alloc, store, banks, gate.process)?;

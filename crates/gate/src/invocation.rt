@@ -39,7 +39,7 @@ pub fn invoke<F: PresentFrames>(
     requires counted { AreCounted (F.parts store.old).geometry
         (objects_in (F.parts store.old)) banks.old }
     ensures state { TellsState (objects_in (F.parts store.old)) invocation result }
-    ensures invoked { Invoked F.parts F.LeadsTo store.old store.new invocation result }
+    ensures invoked { Invoked F.parts F.ContinuesTo store.old store.new invocation result }
     ensures counted { AreCounted (F.parts store.new).geometry
         (objects_in (F.parts store.new)) banks.new }
 {

@@ -7,15 +7,15 @@ ghost use Rattle.model.specs.Order.{IsNoBankOrder};
 ghost use Rattle.model.specs.Text.{Fits};
 ghost use Rattle.model.specs.World.{is_running_process};
 ghost use Rattle.capability.specs.Changes.{written_of};
-ghost use Rattle.capability.specs.Parts.{AreSound, Looks, frames_of, objects_in, Prepares};
+ghost use Rattle.capability.specs.Parts.{AreSound, OnlyReads, frames_of, objects_in, Prepares};
 ghost use Rattle.space_bank.specs.Allocating.{numbers_of};
 ghost use Rattle.space_bank.specs.Banks.{AreCounted};
 ghost use Rattle.space_bank.specs.Planning.{writers};
-ghost use Rattle.gate.specs.Invoke.{IsAsked, IsKernelObject, Invoked};
+ghost use Rattle.gate.specs.Invoke.{IsRequested, IsKernelObject, Invoked};
 ghost use Rattle.gate.specs.Ordering.{IsPlanned, arguments_of};
 ghost use Rattle.gate.specs.Plan.{fetched_of};
 
-use crate::banking::asked_bank;
+use crate::banking::requested_bank;
 use crate::carrying::carry_out;
 use crate::fault::InvokeFault;
 use crate::looking::{look_at_named, order_arguments};
@@ -50,14 +50,14 @@ fn plan_object_order<F: PresentFrames>(
         (objects_in (F.parts store.old)) banks.old }
     requires fits { Fits (command.Invoke invocation.now) }
     requires few { length (F.parts store.old).headers < 2 ^ 64 }
-    requires asked { IsAsked (objects_in (F.parts store.old)) invocation.now caller }
+    requires requested { IsRequested (objects_in (F.parts store.old)) invocation.now caller }
     requires order { IsNoBankOrder caller.invoked (slice_index invocation.now.words 0) }
     requires arguments { arguments ≡ arguments_of (objects_in (F.parts store.old)) invocation.now }
     requires listed { banks.old.listed ≡ writers caller.operation caller.process caller.annex }
     requires room { length banks.old.listed < banks.old.room }
     ensures planned { IfOk result (λ plan. IsPlanned (F.parts store.old).geometry (objects_in (F.parts store.old)) invocation.now caller plan banks.new.listed) }
     ensures kept { banks.new ≡ record banks.old { listed = banks.new.listed } }
-    ensures looks { Looks F.parts F.LeadsTo store.old store.new result }
+    ensures only_reads { OnlyReads F.parts F.ContinuesTo store.old store.new result }
 {
     look_at_named(alloc, store, banks, caller.invoked)?;
     let plan = plan(store, caller.invoked, invocation.words[0], arguments);
@@ -80,15 +80,15 @@ fn plan_order<F: PresentFrames>(
         (objects_in (F.parts store.old)) banks.old }
     requires fits { Fits (command.Invoke invocation.now) }
     requires few { length (F.parts store.old).headers < 2 ^ 64 }
-    requires asked { IsAsked (objects_in (F.parts store.old)) invocation.now caller }
+    requires requested { IsRequested (objects_in (F.parts store.old)) invocation.now caller }
     requires fetched { F.IsFetched store.old caller.annex }
     ensures planned { IfOk result (λ plan. IsPlanned (F.parts store.old).geometry (objects_in (F.parts store.old)) invocation.now caller plan banks.new.listed) }
     ensures kept { banks.new ≡ record banks.old { listed = banks.new.listed } }
-    ensures looks { Looks F.parts F.LeadsTo store.old store.new result }
+    ensures only_reads { OnlyReads F.parts F.ContinuesTo store.old store.new result }
 {
     let arguments = order_arguments(store, invocation, caller.annex);
     banks.list_writers(caller);
-    match asked_bank(caller.invoked, invocation.words[0]) {
+    match requested_bank(caller.invoked, invocation.words[0]) {
         Some((bank, order)) => Ok(banks.plan(store, bank, order, arguments)),
         None => plan_object_order(alloc, store, banks, invocation, caller, arguments),
     }
@@ -111,7 +111,7 @@ fn with_new(caller: Caller, made: BankChange) -> [u64; 4]
             annex: new_annex,
             ..
         } => [process, annex, root, new_annex],
-        BankChange::GiveUp { .. } | BankChange::HandOn { .. } => [process, annex, process, annex],
+        BankChange::GiveUp { .. } | BankChange::Transfer { .. } => [process, annex, process, annex],
     }
 }
 
@@ -150,7 +150,7 @@ fn announce<F: PresentFrames>(
     ensures fetched { OnOk result (F.IsFetched store.new caller.process × F.IsFetched store.new caller.annex
         × All (F.IsFetched store.new) (fetched_of change)) }
     ensures announced { OnOk result (All (F.IsAnnounced store.new) listed.now) }
-    ensures prepares { Prepares F.parts F.LeadsTo store.old store.new listed.now result }
+    ensures prepares { Prepares F.parts F.ContinuesTo store.old store.new listed.now result }
 {
     let fetched = fetched_by(caller, change);
     store.prepare(alloc, &fetched, listed)
@@ -172,10 +172,10 @@ pub fn invoke_order<F: PresentFrames>(
         (objects_in (F.parts store.old)) banks.old }
     requires fits { Fits (command.Invoke invocation.now) }
     requires few { length (F.parts store.old).headers < 2 ^ 64 }
-    requires asked { IsAsked (objects_in (F.parts store.old)) invocation.now caller }
+    requires requested { IsRequested (objects_in (F.parts store.old)) invocation.now caller }
     requires fetched { F.IsFetched store.old caller.annex }
     requires object { IsKernelObject caller.invoked }
-    ensures invoked { Invoked F.parts F.LeadsTo store.old store.new invocation.now result }
+    ensures invoked { Invoked F.parts F.ContinuesTo store.old store.new invocation.now result }
     ensures stalled { IsErrOf result InvokeFault.Stalled → ⊥ }
     ensures counted { AreCounted (F.parts store.new).geometry
         (objects_in (F.parts store.new)) banks.new }

@@ -6,10 +6,10 @@ ghost use Rattle.model.specs.Keepable.{AreKeepable};
 ghost use Rattle.model.specs.Object.{is_annex};
 ghost use Rattle.model.specs.Sound.{NamesItsKind};
 ghost use Rattle.model.specs.World.{annex_at, content_at, is_process};
-ghost use Rattle.capability.specs.Parts.{Looks, frames_of, objects_in};
+ghost use Rattle.capability.specs.Parts.{OnlyReads, frames_of, objects_in};
 ghost use Rattle.space_bank.specs.Banks.{AreCounted};
 ghost use Rattle.gate.specs.Ordering.{arguments_of};
-ghost use Rattle.gate.specs.Invoke.{IsAsked};
+ghost use Rattle.gate.specs.Invoke.{IsRequested};
 ghost use Rattle.gate.specs.Plan.{process_named};
 
 use capability::{Caller, PrepareFault, PresentFrames, objects};
@@ -23,7 +23,7 @@ fn look<F: PresentFrames>(alloc: Global, store: &mut F, number: u64) -> Result<(
     requires keepable { AreKeepable (F.parts store.old).geometry u64.MAX
         (frames_of (F.parts store.old)) }
     ensures fetched { OnOk result (F.IsFetched store.new number) }
-    ensures looks { Looks F.parts F.LeadsTo store.old store.new result }
+    ensures only_reads { OnlyReads F.parts F.ContinuesTo store.old store.new result }
 {
     objects::fetch(store, alloc, &[number])
 }
@@ -45,7 +45,7 @@ pub fn look_at_process<F: PresentFrames>(
         (objects_in (F.parts store.old)) banks.now }
     ensures root { OnOk result (F.IsFetched store.new process) }
     ensures annex { IfOk result (λ annex. (annex ≡ annex_at (objects_in (F.parts store.old)) process) × F.IsFetched store.new annex) }
-    ensures looks { Looks F.parts F.LeadsTo store.old store.new result }
+    ensures only_reads { OnlyReads F.parts F.ContinuesTo store.old store.new result }
 {
     let annex = banks.annex(process);
     objects::fetch(store, alloc, &[process, annex])?;
@@ -70,7 +70,7 @@ pub fn look_at_named<F: PresentFrames>(
     ensures object { OnOk result ((n : ℕ) → named capability ≡ Some n → F.IsFetched store.new n) }
     ensures annex { OnOk result ((p : ℕ) → process_named capability ≡ Some p
         → F.IsFetched store.new (annex_at (objects_in (F.parts store.old)) p)) }
-    ensures looks { Looks F.parts F.LeadsTo store.old store.new result }
+    ensures only_reads { OnlyReads F.parts F.ContinuesTo store.old store.new result }
 {
     if let Capability::Process(process) = capability {
         look_at_process(alloc, store, banks, process)?;
@@ -98,10 +98,10 @@ pub fn ask<F: PresentFrames>(
         (annex_at (objects_in (F.parts store.old)) invocation.now.process))) }
     requires counted { AreCounted (F.parts store.old).geometry
         (objects_in (F.parts store.old)) banks.now }
-    ensures asked { IfOk result (λ caller. IsAsked (objects_in (F.parts store.old)) invocation.now caller) }
+    ensures requested { IfOk result (λ caller. IsRequested (objects_in (F.parts store.old)) invocation.now caller) }
     ensures fetched { IfOk result (λ caller. F.IsFetched store.new caller.annex) }
     ensures root { OnOk result (F.IsFetched store.new invocation.now.process) }
-    ensures looks { Looks F.parts F.LeadsTo store.old store.new result }
+    ensures only_reads { OnlyReads F.parts F.ContinuesTo store.old store.new result }
 {
     let annex = look_at_process(alloc, store, banks, invocation.process)?;
     Ok(Caller {

@@ -89,10 +89,10 @@ fn on_plain(word: u64, capability: Capability, arguments: Arguments) -> OrderPla
         → ChangesAs os result (order g os capability word arguments) }
 {
     match capability {
-        Capability::Number(number) if word == READ_NUMBER => OrderPlan::told(number, 0),
+        Capability::Number(number) if word == READ_NUMBER => OrderPlan::replying(number, 0),
         Capability::Discrim if word == CLASSIFY => {
             let sent = arguments.capability;
-            OrderPlan::told(tag_of(sent), access_bits(sent))
+            OrderPlan::replying(tag_of(sent), access_bits(sent))
         }
         Capability::Void => OrderPlan::refused(ResultCode::VoidCapability),
         _ => OrderPlan::refused(ResultCode::NoOrder),

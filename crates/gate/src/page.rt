@@ -55,7 +55,7 @@ pub fn on_page<F: PresentFrames>(
             if arguments.first >= WORDS as u64 {
                 return OrderPlan::refused(ResultCode::BadIndex);
             }
-            OrderPlan::told(objects::word(store, object, arguments.first as usize), 0)
+            OrderPlan::replying(objects::word(store, object, arguments.first as usize), 0)
         }
         PageOrder::Write => {
             if !access.is_empty() {

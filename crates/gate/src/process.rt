@@ -103,7 +103,7 @@ pub fn on_process<F: PresentFrames>(
             })
         }
         ProcessOrder::GetWord if first < ROOT_WORDS => {
-            OrderPlan::told(roots::word(store, process, first as usize), 0)
+            OrderPlan::replying(roots::word(store, process, first as usize), 0)
         }
         ProcessOrder::PutWord if first < ROOT_WORDS => OrderPlan::changed(Change::RootWord {
             process,
@@ -118,7 +118,7 @@ pub fn on_process<F: PresentFrames>(
         ),
         ProcessOrder::GetState => {
             let state = roots::state(store, process);
-            OrderPlan::told(state.number(), roots::key(store, process) as u64)
+            OrderPlan::replying(state.number(), roots::key(store, process) as u64)
         }
         ProcessOrder::SetState => set_state(process, arguments),
         ProcessOrder::GetSpace => OrderPlan::given(roots::space(store, process)),

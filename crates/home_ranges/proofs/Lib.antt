@@ -2,4 +2,4 @@ mod Names
 pub mod Places
 pub mod Shared
 mod Runs
-pub mod Seats
+pub mod FrameSlots

@@ -7,7 +7,7 @@ pub use Rattle.layout.proofs.SlotsOf.{found_slot}
 pub use Rattle.layout.specs.Directory.{entry_at}
 pub use Rattle.layout.specs.Half.{half_of}
 pub use Rattle.layout.specs.Homes.{home_place, node_offset, place_by, place_in, place_length, range_with, rank_in, shape_of}
-pub use Rattle.layout.specs.Image.{or_beside, seat_in, slot_beside, slot_in}
+pub use Rattle.layout.specs.Image.{frame_slot_in, or_beside, slot_beside, slot_in}
 unfoldable pub use Rattle.layout.specs.Image.{sectors_from}
 pub use Rattle.layout.specs.Shape.{node_shape, shape_bytes, shape_length}
 pub use Rattle.layout.specs.Superblock.{Cover, IsApart, IsInside, IsOfOneKind, IsPlan, IsWithin, Plan, extent_at, extents, half_extent, half_start}

@@ -347,22 +347,22 @@ pub record IsRangeOf (p : Plan) (number : ℕ) (r : HomeRange) : Type 0 where
   pub place : home_place p number ≡ place_in p.version p.geometry r number
 
 range_of : (p : Plan) (number : ℕ) (r : HomeRange) → IsPlan p → IsObject p.geometry number → Some r ≡ range_with p.ranges number → IsRangeOf p number r
-range_of p number r fits is told =
+range_of p number r fits is reported =
     let at = found p number fits is in
-    let same : r ≡ range_at p.ranges at.0 = same_range r (range_at p.ranges at.0) (told ∙ at.1.found) in
+    let same : r ≡ range_at p.ranges at.0 = same_range r (range_at p.ranges at.0) (reported ∙ at.1.found) in
     record {
       sector = subst (λ (q : HomeRange). q.sector ≤ 131072) (sym same) (sector_fits p at.0 fits at.1.within);
-      place = ap (λ (q : Option HomeRange). place_by p.version p.geometry q number) (sym told);
+      place = ap (λ (q : Option HomeRange). place_by p.version p.geometry q number) (sym reported);
     }
 
 -- the plan is written in two ways, `p` and `q`
-pub range_told : (p q : Plan) (number : ℕ) (r : HomeRange) → p ≡ q → IsPlan p → IsObject q.geometry number → Some r ≡ range_with p.ranges number → IsRangeOf q number r
-range_told p q number r e fits is told =
-    subst (λ (x : Plan). IsObject x.geometry number → IsRangeOf x number r) e (λ is_p. range_of p number r fits is_p told) is
+pub range_reported : (p q : Plan) (number : ℕ) (r : HomeRange) → p ≡ q → IsPlan p → IsObject q.geometry number → Some r ≡ range_with p.ranges number → IsRangeOf q number r
+range_reported p q number r e fits is reported =
+    subst (λ (x : Plan). IsObject x.geometry number → IsRangeOf x number r) e (λ is_p. range_of p number r fits is_p reported) is
 
-pub no_range_told : (p q : Plan) (number : ℕ) → p ≡ q → IsPlan p → IsObject q.geometry number → None ≡ range_with p.ranges number → ⊥
-no_range_told p q number e fits is told =
-    subst (λ (x : Plan). IsObject x.geometry number → ⊥) e (λ is_p. let at = found p number fits is_p in let never : None ≡ Some (range_at p.ranges at.0) = told ∙ at.1.found in cc) is
+pub no_range_reported : (p q : Plan) (number : ℕ) → p ≡ q → IsPlan p → IsObject q.geometry number → None ≡ range_with p.ranges number → ⊥
+no_range_reported p q number e fits is reported =
+    subst (λ (x : Plan). IsObject x.geometry number → ⊥) e (λ is_p. let at = found p number fits is_p in let never : None ≡ Some (range_at p.ranges at.0) = reported ∙ at.1.found in cc) is
 
 -- a place of a number, behind the headers and before the end
 pub record IsPlace (p : Plan) (number place : ℕ) : Type 0 where
@@ -375,12 +375,12 @@ place_lies p number place fits is same =
     let within = places_within p number fits is in
     record { value = same; behind = omega (arith, within.0, same); inside = omega (arith, within.1, same) }
 
-pub place_told : (p q : Plan) (v : Version) (g : Geometry) (number place : ℕ) (r : HomeRange) → v ≡ p.version → g ≡ p.geometry → p ≡ q → IsPlan p → IsObject q.geometry number → Some r ≡ range_with p.ranges number
+pub place_reported : (p q : Plan) (v : Version) (g : Geometry) (number place : ℕ) (r : HomeRange) → v ≡ p.version → g ≡ p.geometry → p ≡ q → IsPlan p → IsObject q.geometry number → Some r ≡ range_with p.ranges number
     → place ≡ place_in v g r number → IsPlace q number place
-place_told p q v g number place r version geometry e fits is told made =
+place_reported p q v g number place r version geometry e fits is reported made =
     subst (λ (x : Plan). IsObject x.geometry number → IsPlace x number place) e
     (λ is_p. place_lies p number place fits is_p
-    (made ∙ ap (λ (w : Version). place_in w g r number) version ∙ ap (λ (h : Geometry). place_in p.version h r number) geometry ∙ sym (range_of p number r fits is_p told).place)) is
+    (made ∙ ap (λ (w : Version). place_in w g r number) version ∙ ap (λ (h : Geometry). place_in p.version h r number) geometry ∙ sym (range_of p number r fits is_p reported).place)) is
 
 -- ---- who has a home
 
@@ -501,11 +501,11 @@ module _ (p : Plan) (number : ℕ) (fits : IsPlan p) (is : IsObject p.geometry n
 
   -- a node of a cluster shares it with those behind it, up to the fifth or to the end of the range
   cluster_shared : (r : HomeRange) (rank n : ℕ) → Some r ≡ range_with p.ranges number → shape_of p number ≡ Packed rank → n ≡ min (r.count - (number - r.first)) (5 - rank) → HaveHome p number n
-  cluster_shared r rank n told shape count =
+  cluster_shared r rank n reported shape count =
       let there = found p number fits is in
       let at = there.1 in
       let q : HomeRange = range_at p.ranges there.0 in
-      let one : r ≡ q = same_range r q (told ∙ at.found) in
+      let one : r ≡ q = same_range r q (reported ∙ at.found) in
       let few : n ≡ min (q.count - (number - q.first)) (5 - rank) = subst (λ (x : HomeRange). n ≡ min (x.count - (number - x.first)) (5 - rank)) one count in
       let here = ranked_in p.version p.geometry q number rank at.has (sym (shape_is p number there.0 at) ∙ shape) in record {
         object = λ k lt. omega (arith, lt, few, here.nodes, at.has.low, at.has.high);
@@ -520,12 +520,12 @@ module _ (p : Plan) (number : ℕ) (fits : IsPlan p) (is : IsObject p.geometry n
       }
 
 -- the plan is written in two ways
-pub own_told : (p q : Plan) (number : ℕ) (s : Shape) → p ≡ q → IsPlan p → IsObject q.geometry number → IsOwn s → s ≡ shape_of q number → HaveHome q number 1
-own_told p q number s e fits is own told = itself_alone q number (subst IsPlan e fits) is (subst IsOwn told own)
+pub own_reported : (p q : Plan) (number : ℕ) (s : Shape) → p ≡ q → IsPlan p → IsObject q.geometry number → IsOwn s → s ≡ shape_of q number → HaveHome q number 1
+own_reported p q number s e fits is own reported = itself_alone q number (subst IsPlan e fits) is (subst IsOwn reported own)
 
-pub cluster_told : (p q : Plan) (number rank n : ℕ) (r : HomeRange) → p ≡ q → IsPlan p → IsObject q.geometry number → Some r ≡ range_with p.ranges number → Packed rank ≡ shape_of q number → n ≡ min (r.count - (number - r.first)) (5 - rank)
+pub cluster_reported : (p q : Plan) (number rank n : ℕ) (r : HomeRange) → p ≡ q → IsPlan p → IsObject q.geometry number → Some r ≡ range_with p.ranges number → Packed rank ≡ shape_of q number → n ≡ min (r.count - (number - r.first)) (5 - rank)
     → HaveHome q number n
-cluster_told p q number rank n r e fits is told shape count = cluster_shared q number (subst IsPlan e fits) is r rank n (told ∙ ap (λ (x : Plan). range_with x.ranges number) e) (sym shape) count
+cluster_reported p q number rank n r e fits is reported shape count = cluster_shared q number (subst IsPlan e fits) is r rank n (reported ∙ ap (λ (x : Plan). range_with x.ranges number) e) (sym shape) count
 
 -- the frames of all that have the home of the first node stay where those in the places of these do
 pub cluster_stays : (p : Plan) (first n : ℕ) (old new : List ℕ) → IsPlan p → IsObject p.geometry first → shape_of p first ≡ Packed 0 → HaveHome p first n

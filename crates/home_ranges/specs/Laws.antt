@@ -1,6 +1,6 @@
 -- Home places lie apart from one another and from the log.
 use Rattle.home_ranges.specs.Names.{◌≡◌, ℕ, List, None, Image, Elsewhere, Entry, Extent, One, home_place, place_length, Plan, IsPlan, IsWithin, IsApart}
-use Rattle.home_ranges.specs.Names.{half_extent, seat_in, bytes_at, frame_in, half_sector, IsObject}
+use Rattle.home_ranges.specs.Names.{half_extent, frame_slot_in, bytes_at, frame_in, half_sector, IsObject}
 
 -- the sectors of the home of a number
 abbrev pub home_extent : Plan → ℕ → Extent
@@ -28,4 +28,4 @@ FramesStay = (old new : Image) (p : Plan) (a at n : ℕ) → IsApart (home_exten
 
 -- the frame of a number that has no slot of the log, nor has any that shares its home, is the one at home
 abbrev pub FramesAreHome : Type 0
-FramesAreHome = (image : Image) (p : Plan) (generation : ℕ) (es : List Entry) (a : ℕ) → seat_in p es a ≡ None → frame_in image p generation es a ≡ bytes_at image (home_place p a) p a
+FramesAreHome = (image : Image) (p : Plan) (generation : ℕ) (es : List Entry) (a : ℕ) → frame_slot_in p es a ≡ None → frame_in image p generation es a ≡ bytes_at image (home_place p a) p a

@@ -4,7 +4,7 @@ pub use Rattle.device.specs.Disk.{Image}
 pub use Rattle.frame_io.specs.Clusters.{IsBlankBehind}
 pub use Rattle.frame_io.specs.Frames.{IsObject}
 pub use Rattle.layout.specs.Homes.{home_place, place_length, shape_of}
-pub use Rattle.layout.specs.Image.{bytes_at, frame_in, half_sector, seat_in}
+pub use Rattle.layout.specs.Image.{bytes_at, frame_in, frame_slot_in, half_sector}
 pub use Rattle.layout.specs.Shape.{shape_bytes}
 pub use Rattle.layout.specs.Superblock.{IsApart, IsPlan, IsWithin, Plan, half_extent}
 pub use Rattle.layout.specs.declared.directory.Entry.{Entry}

@@ -12,7 +12,7 @@ ghost use Rattle.home_ranges.specs.Home.{HoldsHome};
 use crate::home::Home;
 use device::{Device, Failed};
 use frame_io::{ReadFault, read_frame, write_sectors};
-use layout::{Body, Room};
+use layout::{Body, Scratch};
 use model::ObjectHeader;
 
 impl<'a> Home<'a> {
@@ -27,13 +27,13 @@ impl<'a> Home<'a> {
         device: &mut D,
         number: u64,
         age: u64,
-        room: &mut Room,
+        scratch: &mut Scratch,
     ) -> Result<(ObjectHeader, Body), ReadFault>
         requires object { IsObject self.now.geometry number }
         requires inside { self.now.total ≤ (D.disk device.old).sectors }
         ensures found { IfOk result (λ read. IsFrameOf self.now.geometry age number
             (bytes_at (D.disk device.new).seen (home_place self.now number) self.now number)
-            (frame_of read room.new)) }
+            (frame_of read scratch.new)) }
         ensures refused { IfErr result (λ e. IsRefused self.now.geometry age number
             (bytes_at (D.disk device.new).seen (home_place self.now number) self.now number)
             e) }
@@ -42,7 +42,7 @@ impl<'a> Home<'a> {
     {
         let at = self.place(number);
         let shape = self.shape(number);
-        read_frame(device, at, shape, self.geometry(), number, age, room)
+        read_frame(device, at, shape, self.geometry(), number, age, scratch)
     }
 
     /// Writes the home of an object, and with it those of the other nodes of its cluster: `bytes`

@@ -1,6 +1,6 @@
 -- The names that the proofs here cite: of other crates, and of the definitions of this one.
 pub use Rattle.capability.proofs.Keeping.{keepable_later}
-pub use Rattle.checkpoint.specs.Opened.{Looks}
+pub use Rattle.checkpoint.specs.Opened.{OnlyReads}
 pub use Rattle.checkpoint.specs.Saved.{Holds, SavedFrames, kept_of}
 pub use Rattle.checkpoint.specs.declared.open_fault.OpenFault.{OpenFault}
 pub use Rattle.consistency.proofs.Unsound.{sound_banked, sound_named}

@@ -19,15 +19,15 @@ module _ (d : Description) (limits : IsWithinLimits d) where
   }
 
   pub field_refused : HasNumbers d × (HasFields d → ⊥) → IsRefusedEarly d Field
-  field_refused told = record {
+  field_refused reported = record {
     early = unfailed Field (omega arith);
-    refused = λ sectors. field_broken d sectors limits told.0 told.1;
+    refused = λ sectors. field_broken d sectors limits reported.0 reported.1;
   }
 
   pub target_refused : HasNumbers d × HasFields d × ((fs : List Frame) → IsDescribed d fs → AreNamed fs → ⊥) → IsRefusedEarly d Target
-  target_refused told = record {
+  target_refused reported = record {
     early = unfailed Target (omega arith);
-    refused = λ sectors. target_broken d sectors limits told.0 told.1 (λ rule. told.2 rule.0 rule.1 rule.2);
+    refused = λ sectors. target_broken d sectors limits reported.0 reported.1 (λ rule. reported.2 rule.0 rule.1 rule.2);
   }
 
   module _ (hs : List ObjectHeader) (cs : List (Content Cap)) (laid : AreLaid d hs cs) where
@@ -89,13 +89,13 @@ refuses ms d sectors NoMemory is refused = tt
 -- where the last call decides
 pub failed_refused : {T : Type 0} (d : Description) (sectors : ℕ) (r : Result T BuildFault) → IsAccepted d sectors → IfErr r (λ fault. fault ≡ Failed) →
     IfErr r (λ fault. IsRefused d sectors fault)
-failed_refused d sectors (Ok x) all told = told
-failed_refused d sectors (Err fault) all told = subst (λ (f : BuildFault). IsRefused d sectors f) (sym told) all
+failed_refused d sectors (Ok x) all reported = reported
+failed_refused d sectors (Err fault) all reported = subst (λ (f : BuildFault). IsRefused d sectors f) (sym reported) all
 
 pub refused_from : {T : Type 0} (ms : Members) (d : Description) (sectors : ℕ) (r : Result T BuildFault) → IsDescription ms d →
     IfErr r (λ fault. IsRefused d sectors fault) → IfErr r (λ fault. Refuses ms sectors fault)
-refused_from ms d sectors (Ok x) is told = told
-refused_from ms d sectors (Err fault) is told = refuses ms d sectors fault is told
+refused_from ms d sectors (Ok x) is reported = reported
+refused_from ms d sectors (Err fault) is reported = refuses ms d sectors fault is reported
 
 pub built_from : {T : Type 0} (ms : Members) (d : Description) (old new : Disk) (r : Result T BuildFault) → IsDescription ms d →
     OnOk r (Builds d old new) → OnOk r (BuildsFrom ms old new)
@@ -120,12 +120,12 @@ below_limits d sectors NoMemory below = tt
 
 -- what no size is told for is refused on every device
 pub size_refuses : (ms : Members) (sectors : ℕ) (why : BuildFault) → TellsNoSize ms why → Refuses ms sectors why
-size_refuses ms sectors Shape told = told
-size_refuses ms sectors Limits told = (told.0, told.1, record { kept = below_limits told.0 sectors; broken = told.2 })
-size_refuses ms sectors NoMemory told = tt
-size_refuses ms sectors Number told = absurd told
-size_refuses ms sectors Field told = absurd told
-size_refuses ms sectors Target told = absurd told
-size_refuses ms sectors Owner told = absurd told
-size_refuses ms sectors Small told = absurd told
-size_refuses ms sectors Failed told = absurd told
+size_refuses ms sectors Shape reported = reported
+size_refuses ms sectors Limits reported = (reported.0, reported.1, record { kept = below_limits reported.0 sectors; broken = reported.2 })
+size_refuses ms sectors NoMemory reported = tt
+size_refuses ms sectors Number reported = absurd reported
+size_refuses ms sectors Field reported = absurd reported
+size_refuses ms sectors Target reported = absurd reported
+size_refuses ms sectors Owner reported = absurd reported
+size_refuses ms sectors Small reported = absurd reported
+size_refuses ms sectors Failed reported = absurd reported

@@ -1,9 +1,9 @@
 -- What a device saves, written to another.
 use Rattle.image_builder.proofs.Names.{◌≡◌, ℕ, ◌<◌, ◌≤◌, List, length, ap, inl, inr, refl, subst, sym, ◌∙◌, arith, Result, Ok, Err, IfErr, IsErrOf, OnOk, Frame}
 use Rattle.image_builder.proofs.Names.{Disk, Image, Agrees, Elsewhere, LeavesOnly, agrees_is, OnlyNow, leaves_weaker, started, Entry, Two, IsDirectory}
-use Rattle.image_builder.proofs.Names.{IsHeader, Encodes, SavedState, Plan, OpenFault, Looks, kept_of, laid_again, IsLeftWriting, state_of, kept_holds_the_same}
-use Rattle.image_builder.proofs.Names.{none_is_held, IsSoundSaved, RefusesToOpen, UpgradeFault, IsLeftUpgrading, IsNotUpgraded, IsOnlyRead, Upgrades, numbered}
-use Rattle.image_builder.proofs.Names.{upgraded}
+use Rattle.image_builder.proofs.Names.{IsHeader, Encodes, SavedState, Plan, OpenFault, OnlyReads, kept_of, laid_again, IsLeftWriting, state_of}
+use Rattle.image_builder.proofs.Names.{kept_holds_the_same, none_is_held, IsSoundSaved, RefusesToOpen, UpgradeFault, IsLeftUpgrading, IsNotUpgraded, IsOnlyRead}
+use Rattle.image_builder.proofs.Names.{Upgrades, numbered, upgraded}
 use Rattle.std.specs.Prelude.{◌≢◌, IfOk}
 use Rattle.checkpoint.specs.declared.open_fault.OpenFault.TheVariants as opening
 use Rattle.image_builder.specs.declared.upgrade_fault.UpgradeFault.TheVariants as fault
@@ -41,8 +41,8 @@ same_state s p generation entries age es fs plan_is generation_is entries_is age
 pub counted : (result : Result ℕ UpgradeFault) (old before new : Disk) (s : SavedState) → Encodes old.seen old.sectors s → IsSoundSaved s.plan.geometry (kept_of s) → IfOk result (λ total. total ≡ (laid_again Two s.plan).total)
     → OnOk result (Encodes new.seen new.sectors (upgraded s)) → OnOk result ((c : Image) → new.may_leave c → Encodes c new.sectors (upgraded s)) → OnOk result (Elsewhere 0 (laid_again Two s.plan).total before.seen new.seen)
     → IfOk result (λ total. (done : Upgrades old before new) × (total ≡ (laid_again Two done.state.plan).total))
-counted (Ok total) old before new s was sound told encodes crash elsewhere = (record { state = s; was = was; sound = sound; encodes = encodes; crash = crash; elsewhere = elsewhere }, told)
-counted (Err fault) old before new s was sound told encodes crash elsewhere = tt
+counted (Ok total) old before new s was sound reported encodes crash elsewhere = (record { state = s; was = was; sound = sound; encodes = encodes; crash = crash; elsewhere = elsewhere }, reported)
+counted (Err fault) old before new s was sound reported encodes crash elsewhere = tt
 
 -- and of why it isn't written
 pub not_upgraded : {D : Type 0} (result : Result ℕ UpgradeFault) (disk : D → Disk) (old : D) (sectors : ℕ) (s : SavedState) → Encodes (disk old).seen (disk old).sectors s → IsSoundSaved s.plan.geometry (kept_of s)
@@ -56,30 +56,30 @@ not_upgraded (Err fault.NoMemory) disk old sectors s was sound small opened = tt
 -- ---- what is done to the old device
 
 -- it was opened, and no call of it failed
-pub read_where_opened : (result : Result ℕ UpgradeFault) (old new : Disk) → IfErr result (λ why. (opening : OpenFault) → why ≢ fault.Old opening) → Looks old new → new.failures ≡ old.failures
+pub read_where_opened : (result : Result ℕ UpgradeFault) (old new : Disk) → IfErr result (λ why. (opening : OpenFault) → why ≢ fault.Old opening) → OnlyReads old new → new.failures ≡ old.failures
     → IsOnlyRead old new (IsErrOf result (fault.Old opening.Failed))
-read_where_opened result old new opened looks same = record {
-  looks = looks;
+read_where_opened result old new opened only_reads same = record {
+  only_reads = only_reads;
   later = omega (arith, same);
-  cause = (λ told. absurd (never result opened told), λ rose. absurd (omega (arith, same, rose)));
+  cause = (λ reported. absurd (never result opened reported), λ rose. absurd (omega (arith, same, rose)));
 }
   where
     never : (r : Result ℕ UpgradeFault) → IfErr r (λ why. (opening : OpenFault) → why ≢ fault.Old opening) → IsErrOf r (fault.Old opening.Failed) → ⊥
-    never (Ok total) other told = cc
-    never (Err why) other told = let is : why ≡ fault.Old opening.Failed = cc in other opening.Failed is
+    never (Ok total) other reported = cc
+    never (Err why) other reported = let is : why ≡ fault.Old opening.Failed = cc in other opening.Failed is
 
 -- it was refused: the failure is told where there was one
-pub read_where_refused : {D : Type 0} (disk : D → Disk) (old back : D) (why : OpenFault) (told : UpgradeFault) → (why ≡ opening.NoMemory → told ≡ fault.NoMemory) → (why ≢ opening.NoMemory → told ≡ fault.Old why)
-    → RefusesToOpen disk old back why → (let result : Result ℕ UpgradeFault = Err told in IsOnlyRead (disk old) (disk back) (IsErrOf result (fault.Old opening.Failed)))
-read_where_refused disk old back opening.Failed told memory other refuses =
-    let is : told ≡ fault.Old opening.Failed = other (λ same. cc) in
-    record { looks = refuses.looks; later = omega (arith, refuses.is_why); cause = (λ _. refuses.is_why, λ _. ap (λ (f : UpgradeFault). Err f) is) }
-read_where_refused disk old back opening.NoMemory told memory other refuses =
-    let is : told ≡ fault.NoMemory = memory refl in
-    record { looks = refuses.looks; later = omega (arith, refuses.is_why); cause = (λ same. cc, λ rose. absurd (omega (arith, refuses.is_why, rose))) }
-read_where_refused disk old back (opening.Bad reason) told memory other refuses =
-    let is : told ≡ fault.Old (opening.Bad reason) = other (λ same. cc) in
-    record { looks = refuses.looks; later = omega (arith, refuses.is_why.0); cause = (λ same. cc, λ rose. absurd (omega (arith, refuses.is_why.0, rose))) }
+pub read_where_refused : {D : Type 0} (disk : D → Disk) (old back : D) (why : OpenFault) (reported : UpgradeFault) → (why ≡ opening.NoMemory → reported ≡ fault.NoMemory) → (why ≢ opening.NoMemory → reported ≡ fault.Old why)
+    → RefusesToOpen disk old back why → (let result : Result ℕ UpgradeFault = Err reported in IsOnlyRead (disk old) (disk back) (IsErrOf result (fault.Old opening.Failed)))
+read_where_refused disk old back opening.Failed reported memory other refuses =
+    let is : reported ≡ fault.Old opening.Failed = other (λ same. cc) in
+    record { only_reads = refuses.only_reads; later = omega (arith, refuses.is_why); cause = (λ _. refuses.is_why, λ _. ap (λ (f : UpgradeFault). Err f) is) }
+read_where_refused disk old back opening.NoMemory reported memory other refuses =
+    let is : reported ≡ fault.NoMemory = memory refl in
+    record { only_reads = refuses.only_reads; later = omega (arith, refuses.is_why); cause = (λ same. cc, λ rose. absurd (omega (arith, refuses.is_why, rose))) }
+read_where_refused disk old back (opening.Bad reason) reported memory other refuses =
+    let is : reported ≡ fault.Old (opening.Bad reason) = other (λ same. cc) in
+    record { only_reads = refuses.only_reads; later = omega (arith, refuses.is_why.0); cause = (λ same. cc, λ rose. absurd (omega (arith, refuses.is_why.0, rose))) }
 
 -- ---- what a crash leaves
 

@@ -1,6 +1,6 @@
 -- The names of other crates that the definitions here cite.
 pub use Rattle.capability.specs.Parts.{frames_of}
-pub use Rattle.checkpoint.specs.Opened.{Looks}
+pub use Rattle.checkpoint.specs.Opened.{OnlyReads}
 pub use Rattle.checkpoint.specs.Saved.{Holds, SavedFrames, kept_of}
 pub use Rattle.checkpoint.specs.declared.open_fault.OpenFault.{OpenFault}
 pub use Rattle.consistency.specs.Consistency.{AreBanked, AreNamed}

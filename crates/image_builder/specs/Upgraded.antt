@@ -1,6 +1,7 @@
 -- What `upgrade` writes, and why it doesn't.
-use Rattle.image_builder.specs.Names.{◌≡◌, ◌⊎◌, ◌↔◌, ℕ, ◌+◌, ◌<◌, ◌≤◌, List, [], ◌∷◌, Disk, Image, Elsewhere, Entry, Two, Encodes, SavedState, OpenFault, Looks}
-use Rattle.image_builder.specs.Names.{Holds, SavedFrames, kept_of, frames_of, StoreState, parts_of, saved_by, laid_again, IsSoundSaved, RefusesToOpen}
+use Rattle.image_builder.specs.Names.{◌≡◌, ◌⊎◌, ◌↔◌, ℕ, ◌+◌, ◌<◌, ◌≤◌, List, [], ◌∷◌, Disk, Image, Elsewhere, Entry, Two, Encodes, SavedState, OpenFault}
+use Rattle.image_builder.specs.Names.{OnlyReads, Holds, SavedFrames, kept_of, frames_of, StoreState, parts_of, saved_by, laid_again, IsSoundSaved}
+use Rattle.image_builder.specs.Names.{RefusesToOpen}
 use Rattle.checkpoint.specs.declared.open_fault.OpenFault.TheVariants as opening
 use Rattle.image_builder.specs.declared.upgrade_fault.UpgradeFault.{UpgradeFault}
 use Rattle.image_builder.specs.declared.upgrade_fault.UpgradeFault.TheVariants as fault
@@ -56,7 +57,7 @@ pub record IsWhole {D : Type 0} (disk : D → Disk) (s : StoreState D) : Type 0 
 -- a store was made of an old device, which was only read and didn't fail: it saves what the device does
 pub record IsOpenedFrom {D : Type 0} (disk : D → Disk) (old : D) (s : StoreState D) : Type 0 where
   pub saves : Encodes (disk old).seen (disk old).sectors (saved_by disk s)
-  pub looks : Looks (disk old) (disk s.durable.beneath)
+  pub only_reads : OnlyReads (disk old) (disk s.durable.beneath)
   pub failures : (disk s.durable.beneath).failures ≡ (disk old).failures
 
 -- What a crash leaves while an image is upgraded: what saved frames it holds, if any, it could have left before, or they
@@ -67,12 +68,12 @@ IsLeftUpgrading old before c = (saved : SavedFrames) → Holds before.sectors c 
 
 -- A device was only read between two states: nothing was written to it at any moment. A call of it failed exactly where
 -- failure_told holds.
-pub record IsOnlyRead (old new : Disk) (failure_told : Type 0) : Type 0 where
-  pub looks : Looks old new
+pub record IsOnlyRead (old new : Disk) (failure_reported : Type 0) : Type 0 where
+  pub only_reads : OnlyReads old new
   pub later : old.failures ≤ new.failures
-  pub cause : failure_told ↔ (old.failures < new.failures)
+  pub cause : failure_reported ↔ (old.failures < new.failures)
 
 -- a device was closed in a state up to which it was only read
 abbrev pub ReadsAndCloses : {D : Type 0} → (D → Disk) → (D → Type 0) → D → Type 0 → Type 0
-ReadsAndCloses {D} disk was_closed old failure_told =
-    (last : D) × was_closed last × IsOnlyRead (disk old) (disk last) failure_told
+ReadsAndCloses {D} disk was_closed old failure_reported =
+    (last : D) × was_closed last × IsOnlyRead (disk old) (disk last) failure_reported

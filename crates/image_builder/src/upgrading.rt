@@ -38,7 +38,7 @@ use std::marker::Model;
 /// `Failed` exactly where the device failed, and else the least of the reasons 1 to 3 to refuse an
 /// image. It takes no memory.
 pub fn upgraded_sectors<D: Device>(device: &mut D) -> Result<u64, OpenFault>
-    ensures told { IfOk result (λ sectors. (p : Plan)
+    ensures reported { IfOk result (λ sectors. (p : Plan)
         × HasPlan (D.disk device.old).seen (D.disk device.old).sectors p
         × (sectors ≡ (laid_again Two p).total)) }
     ensures refused { IfErr result (λ why.

@@ -24,8 +24,8 @@ fn fault<D: Device>(alloc: Global, rest: &str, device: &mut D) -> Result<u64, Fa
 }
 
 #[test]
-fn a_small_device_is_told_last(rt: HostRuntime) -> Result<(), Fail> {
-    for (rest, told) in [
+fn a_small_device_is_reported_last(rt: HostRuntime) -> Result<(), Fail> {
+    for (rest, reported) in [
         (PRIME, 7),
         (SECOND, 7),
         ("colour = 1", 1),
@@ -39,7 +39,11 @@ fn a_small_device_is_told_last(rt: HostRuntime) -> Result<(), Fail> {
         ("", 6),
     ] {
         let mut device = Memory::new(rt.alloc(), 398, 2000, Outcome::Keep)?;
-        assert_eq!(rt; fault(rt.alloc(), rest, &mut device)?, told, "of {rest}");
+        assert_eq!(rt;
+            fault(rt.alloc(), rest, &mut device)?,
+            reported,
+            "of {rest}"
+        );
     }
     Ok(())
 }
@@ -47,13 +51,13 @@ fn a_small_device_is_told_last(rt: HostRuntime) -> Result<(), Fail> {
 // The closed gates are found by a sync and 4 reads; the front of an image is 3 writes, its frames are
 // 24 or by version 2, with 4 clusters, 12, and there are 2 more syncs.
 #[test]
-fn a_device_that_stops_is_told(rt: HostRuntime) -> Result<(), Fail> {
+fn a_device_that_stops_is_reported(rt: HostRuntime) -> Result<(), Fail> {
     for (rest, needed) in [(PRIME, 34), (SECOND, 22)] {
         for calls in 0..40 {
             let device = Memory::new(rt.alloc(), 399, 2000, Outcome::Keep)?;
-            let told = if calls < needed { 8 } else { 0 };
+            let reported = if calls < needed { 8 } else { 0 };
             let found = fault(rt.alloc(), rest, &mut Fuse::new(device, calls))?;
-            assert_eq!(rt; found, told, "of {rest} after {calls} calls");
+            assert_eq!(rt; found, reported, "of {rest} after {calls} calls");
         }
     }
     Ok(())

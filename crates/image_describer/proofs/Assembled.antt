@@ -77,45 +77,45 @@ module _ (g : Geometry) (w : World) (sound : IsSound g w) where
   kind_of : ℕ → Role
   kind_of n = role_of (content_at w.objects n)
 
-  content_told : (n owner : ℕ) (c : Content Capability) → object_at w.objects n ≡ record { owner = owner; content = c } → content_at w.objects n ≡ c
-  content_told n owner c is = ap (λ (o : Object). o.content) is
+  content_reported : (n owner : ℕ) (c : Content Capability) → object_at w.objects n ≡ record { owner = owner; content = c } → content_at w.objects n ≡ c
+  content_reported n owner c is = ap (λ (o : Object). o.content) is
 
-  kind_told : (n owner : ℕ) (c : Content Capability) → object_at w.objects n ≡ record { owner = owner; content = c } → IsOfKind g n c
-  kind_told n owner c is = subst (λ (d : Content Capability). IsOfKind g n d) (content_told n owner c is) (sound.kinds n)
+  kind_reported : (n owner : ℕ) (c : Content Capability) → object_at w.objects n ≡ record { owner = owner; content = c } → IsOfKind g n c
+  kind_reported n owner c is = subst (λ (d : Content Capability). IsOfKind g n d) (content_reported n owner c is) (sound.kinds n)
 
-  shape_told : (n owner : ℕ) (c : Content Capability) → object_at w.objects n ≡ record { owner = owner; content = c } → HasShape c
-  shape_told n owner c is = subst HasShape (content_told n owner c is) (sound.shapes n)
+  shape_reported : (n owner : ℕ) (c : Content Capability) → object_at w.objects n ≡ record { owner = owner; content = c } → HasShape c
+  shape_reported n owner c is = subst HasShape (content_reported n owner c is) (sound.shapes n)
 
-  slots_told : (n owner : ℕ) (c : Content Capability) → object_at w.objects n ≡ record { owner = owner; content = c } → (i : ℕ) → IsWellFormed (slice_index_or (slots_in c) i Void)
-  slots_told n owner c is i = subst (λ (d : Content Capability). IsWellFormed (slice_index_or (slots_in d) i Void)) (content_told n owner c is) (sound.slots n i).0
+  slots_reported : (n owner : ℕ) (c : Content Capability) → object_at w.objects n ≡ record { owner = owner; content = c } → (i : ℕ) → IsWellFormed (slice_index_or (slots_in c) i Void)
+  slots_reported n owner c is i = subst (λ (d : Content Capability). IsWellFormed (slice_index_or (slots_in d) i Void)) (content_reported n owner c is) (sound.slots n i).0
 
-  register_told : (n owner : ℕ) (registers : List Capability) → object_at w.objects n ≡ record { owner = owner; content = content.Annex registers } → (i : ℕ) → i < 1 → slice_index_or registers i Void ≡ Void
-  register_told n owner registers is i under =
+  register_reported : (n owner : ℕ) (registers : List Capability) → object_at w.objects n ≡ record { owner = owner; content = content.Annex registers } → (i : ℕ) → i < 1 → slice_index_or registers i Void ≡ Void
+  register_reported n owner registers is i under =
       let first : 0 ≡ i = omega (arith, under) in
-      let annex : IsTrue (is_annex (content_at w.objects n)) = ap is_annex (content_told n owner (content.Annex registers) is) in
+      let annex : IsTrue (is_annex (content_at w.objects n)) = ap is_annex (content_reported n owner (content.Annex registers) is) in
       subst (λ (k : ℕ). slice_index_or registers k Void ≡ Void) first
-      (subst (λ (d : Content Capability). slice_index_or (slots_in d) 0 Void ≡ Void) (content_told n owner (content.Annex registers) is) (sound.register_0 n annex))
+      (subst (λ (d : Content Capability). slice_index_or (slots_in d) 0 Void ≡ Void) (content_reported n owner (content.Annex registers) is) (sound.register_0 n annex))
 
-  plain_told : (n : ℕ) (o : Object) → object_at w.objects n ≡ o → frame_at (plain_frames w.objects) n ≡ plain_frame o
+  plain_reported : (n : ℕ) (o : Object) → object_at w.objects n ≡ o → frame_at (plain_frames w.objects) n ≡ plain_frame o
   unfolding plain_frames
-  plain_told n o is = get_or-map plain_frame w.objects n free ∙ ap plain_frame is
+  plain_reported n o is = get_or-map plain_frame w.objects n free ∙ ap plain_frame is
 
   module _ (d : Description) (geometry : d.geometry ≡ g) (age : d.age ≡ w.age)
       (banks : TellAll (λ b. b.number) (TellsBank w.objects) role.Bank w.objects d.banks.items)
       (processes : TellAll (λ p. p.root) (TellsProcess w.objects) role.Root w.objects d.processes.items)
       (nodes : TellAll (λ n. n.number) (TellsNode w.objects) role.Node w.objects d.nodes.items)
       (pages : TellAll (λ p. p.number) (TellsPage w.objects) role.Page w.objects d.pages.items) where
-    bank_told : (b : BankEntry) → Contains d.banks.items b → TellsBank w.objects b
-    bank_told b there = All-contains (TellsBank w.objects) d.banks.items b banks.each there
+    bank_reported : (b : BankEntry) → Contains d.banks.items b → TellsBank w.objects b
+    bank_reported b there = All-contains (TellsBank w.objects) d.banks.items b banks.each there
 
-    process_told : (p : ProcessEntry) → Contains d.processes.items p → TellsProcess w.objects p
-    process_told p there = All-contains (TellsProcess w.objects) d.processes.items p processes.each there
+    process_reported : (p : ProcessEntry) → Contains d.processes.items p → TellsProcess w.objects p
+    process_reported p there = All-contains (TellsProcess w.objects) d.processes.items p processes.each there
 
-    node_told : (n : NodeEntry) → Contains d.nodes.items n → TellsNode w.objects n
-    node_told n there = All-contains (TellsNode w.objects) d.nodes.items n nodes.each there
+    node_reported : (n : NodeEntry) → Contains d.nodes.items n → TellsNode w.objects n
+    node_reported n there = All-contains (TellsNode w.objects) d.nodes.items n nodes.each there
 
-    page_told : (p : PageEntry) → Contains d.pages.items p → TellsPage w.objects p
-    page_told p there = All-contains (TellsPage w.objects) d.pages.items p pages.each there
+    page_reported : (p : PageEntry) → Contains d.pages.items p → TellsPage w.objects p
+    page_reported p there = All-contains (TellsPage w.objects) d.pages.items p pages.each there
 
     -- The lists of numbers.
     bank_numbers : List ℕ
@@ -145,29 +145,29 @@ module _ (g : Geometry) (w : World) (sound : IsSound g w) where
     -- the kinds of what is told
     bank_kind : (b : BankEntry) → Contains d.banks.items b → kind_of b.number ≡ role.Bank
     unfolding kind_of
-    bank_kind b there = ap role_of (content_told b.number b.owner (content.Bank b.limit) (bank_told b there))
+    bank_kind b there = ap role_of (content_reported b.number b.owner (content.Bank b.limit) (bank_reported b there))
 
     root_kind : (p : ProcessEntry) → Contains d.processes.items p → kind_of p.root ≡ role.Root
     unfolding kind_of
-    root_kind p there = ap role_of (content_told p.root p.owner _ (process_told p there).0.4)
+    root_kind p there = ap role_of (content_reported p.root p.owner _ (process_reported p there).0.4)
 
     annex_kind : (p : ProcessEntry) → Contains d.processes.items p → kind_of p.annex ≡ role.Annex
     unfolding kind_of
-    annex_kind p there = ap role_of (content_told p.annex p.owner _ (process_told p there).1.2)
+    annex_kind p there = ap role_of (content_reported p.annex p.owner _ (process_reported p there).1.2)
 
     node_kind : (n : NodeEntry) → Contains d.nodes.items n → kind_of n.number ≡ role.Node
     unfolding kind_of
-    node_kind n there = ap role_of (content_told n.number n.owner _ (node_told n there).2)
+    node_kind n there = ap role_of (content_reported n.number n.owner _ (node_reported n there).2)
 
     page_kind : (p : PageEntry) → Contains d.pages.items p → kind_of p.number ≡ role.Page
     unfolding kind_of
-    page_kind p there = ap role_of (content_told p.number p.owner _ (page_told p there).2)
+    page_kind p there = ap role_of (content_reported p.number p.owner _ (page_reported p there).2)
 
     annex_is : (p : ProcessEntry) → Contains d.processes.items p → annex_at w.objects p.root ≡ p.annex
-    annex_is p there = ap (λ (c : Content Capability). (root_in c).annex) (content_told p.root p.owner _ (process_told p there).0.4)
+    annex_is p there = ap (λ (c : Content Capability). (root_in c).annex) (content_reported p.root p.owner _ (process_reported p there).0.4)
 
     process_is : (p : ProcessEntry) → Contains d.processes.items p → IsTrue (is_process w.objects p.root)
-    process_is p there = ap is_root (content_told p.root p.owner _ (process_told p there).0.4)
+    process_is p there = ap is_root (content_reported p.root p.owner _ (process_reported p there).0.4)
 
     annexes_distinct : AreDistinct (map (λ p. p.annex) d.processes.items)
     annexes_distinct = distinct_other (λ p. p.root) (λ p. p.annex) d.processes.items (rising_distinct (map (λ p. p.root) d.processes.items) processes.rising)
@@ -211,48 +211,48 @@ module _ (g : Geometry) (w : World) (sound : IsSound g w) where
         (rising_distinct P pages.rising)
         (apart_by (λ n. kind_of n ≡ role.Page) (node_numbers d) P none_page paged)
 
-    numbers_told : HasNumbers d
-    numbers_told = record {
+    numbers_reported : HasNumbers d
+    numbers_reported = record {
       nodes = subst (λ (h : Geometry). All (λ n. n < h.nodes) (node_numbers d)) (sym geometry) (all_nodes (λ n. n < g.nodes)
-          (λ b there. kind_told b.number b.owner (content.Bank b.limit) (bank_told b there))
-          (λ p there. kind_told p.root p.owner _ (process_told p there).0.4)
-          (λ p there. kind_told p.annex p.owner _ (process_told p there).1.2)
-          (λ n there. kind_told n.number n.owner _ (node_told n there).2));
+          (λ b there. kind_reported b.number b.owner (content.Bank b.limit) (bank_reported b there))
+          (λ p there. kind_reported p.root p.owner _ (process_reported p there).0.4)
+          (λ p there. kind_reported p.annex p.owner _ (process_reported p there).1.2)
+          (λ n there. kind_reported n.number n.owner _ (node_reported n there).2));
       pages = subst (λ (h : Geometry). All (λ n. (h.nodes ≤ n) × (n < object_count h)) (page_numbers d)) (sym geometry)
           (All-map (λ n. (g.nodes ≤ n) × (n < object_count g)) (λ p. p.number) d.pages.items
-          (all_from (λ (p : PageEntry). (g.nodes ≤ p.number) × (p.number < object_count g)) d.pages.items (λ p there. kind_told p.number p.owner _ (page_told p there).2)));
+          (all_from (λ (p : PageEntry). (g.nodes ≤ p.number) × (p.number < object_count g)) d.pages.items (λ p there. kind_reported p.number p.owner _ (page_reported p there).2)));
       distinct = numbers_distinct;
     }
 
     -- The fields.
-    space_told : (p : ProcessEntry) → Contains d.processes.items p → IsSpaceEntry p.space
-    space_told p there =
-        let root = (process_told p there).0 in
+    space_reported : (p : ProcessEntry) → Contains d.processes.items p → IsSpaceEntry p.space
+    space_reported p there =
+        let root = (process_reported p there).0 in
         let held : MayBeHeld w.objects root.1 × IsSpace root.1 =
-        subst (λ (c : Content Capability). MayBeHeld w.objects (root_in c).space × IsSpace (root_in c).space) (content_told p.root p.owner _ root.4) (sound.spaces p.root) in
+        subst (λ (c : Content Capability). MayBeHeld w.objects (root_in c).space × IsSpace (root_in c).space) (content_reported p.root p.owner _ root.4) (sound.spaces p.root) in
         subst IsSpaceEntry (sym root.3) (held.0.0, held.1)
 
-    registers_told : (p : ProcessEntry) → Contains d.processes.items p → AreSlots 1 p.registers.items
-    registers_told p there =
-        let annex = (process_told p there).1 in
-        slots_are annex.0 p.registers.items annex.1 1 (shape_told p.annex p.owner _ annex.2) (slots_told p.annex p.owner _ annex.2) (register_told p.annex p.owner annex.0 annex.2)
+    registers_reported : (p : ProcessEntry) → Contains d.processes.items p → AreSlots 1 p.registers.items
+    registers_reported p there =
+        let annex = (process_reported p there).1 in
+        slots_are annex.0 p.registers.items annex.1 1 (shape_reported p.annex p.owner _ annex.2) (slots_reported p.annex p.owner _ annex.2) (register_reported p.annex p.owner annex.0 annex.2)
 
-    fields_told : HasFields d
-    fields_told = record {
+    fields_reported : HasFields d
+    fields_reported = record {
       processes = all_from IsProcessEntry d.processes.items (λ p there.
-          let root = (process_told p there).0 in
+          let root = (process_reported p there).0 in
           record {
             state = λ none. let wrong : Some root.0 ≡ None = sym root.2 ∙ none in cc;
-            key = (shape_told p.root p.owner _ root.4).2;
-            space = space_told p there;
-            registers = registers_told p there;
+            key = (shape_reported p.root p.owner _ root.4).2;
+            space = space_reported p there;
+            registers = registers_reported p there;
           });
       nodes = all_from (λ (n : NodeEntry). AreSlots 0 n.slots.items) d.nodes.items (λ n there.
-          let node = node_told n there in
-          slots_are node.0 n.slots.items node.1 0 (shape_told n.number n.owner _ node.2) (slots_told n.number n.owner _ node.2) (λ i under. absurd (omega (arith, under))));
+          let node = node_reported n there in
+          slots_are node.0 n.slots.items node.1 0 (shape_reported n.number n.owner _ node.2) (slots_reported n.number n.owner _ node.2) (λ i under. absurd (omega (arith, under))));
       pages = all_from (λ (p : PageEntry). AreWords p.words.items) d.pages.items (λ p there.
-          let page = page_told p there in
-          words_are page.0 p.words.items page.1 (shape_told p.number p.owner _ page.2));
+          let page = page_reported p there in
+          words_are page.0 p.words.items page.1 (shape_reported p.number p.owner _ page.2));
     }
 
     -- The frames.
@@ -311,31 +311,31 @@ module _ (g : Geometry) (w : World) (sound : IsSound g w) where
     blank_other : (n : ℕ) → (Contains (node_numbers d ++ page_numbers d) n → ⊥) → frame_at (plain_frames w.objects) n ≡ blank_frame
     blank_other n none =
         let held : content_at w.objects n ≡ content.Free = other_free n (content_at w.objects n) refl none in
-        plain_told n free (free_object (object_at w.objects n) held (sound.unowned n (ap is_free held)))
+        plain_reported n free (free_object (object_at w.objects n) held (sound.unowned n (ap is_free held)))
 
-    frames_told : IsDescribed d (plain_frames w.objects)
+    frames_reported : IsDescribed d (plain_frames w.objects)
     unfolding plain_frames
-    frames_told = record {
+    frames_reported = record {
       count = length-map w.objects plain_frame ∙ sound.size ∙ ap object_count (sym geometry);
       banks = all_from (λ (b : BankEntry). frame_at (plain_frames w.objects) b.number ≡ first_frame b.owner (content.Bank b.limit)) d.banks.items (λ b there.
-          plain_told b.number _ (bank_told b there));
+          plain_reported b.number _ (bank_reported b there));
       roots = all_from (λ (p : ProcessEntry). IsDescribedRoot p (frame_at (plain_frames w.objects) p.root)) d.processes.items (λ p there.
-          let root = (process_told p there).0 in
-          (root.0, root.1, root.2, root.3, plain_told p.root _ root.4));
+          let root = (process_reported p there).0 in
+          (root.0, root.1, root.2, root.3, plain_reported p.root _ root.4));
       annexes = all_from (λ (p : ProcessEntry). IsDescribedAnnex p (frame_at (plain_frames w.objects) p.annex)) d.processes.items (λ p there.
-          let annex = (process_told p there).1 in
-          (map fresh_cap annex.0, slots_held annex.0 p.registers.items annex.1 (shape_told p.annex p.owner _ annex.2), plain_told p.annex _ annex.2));
+          let annex = (process_reported p there).1 in
+          (map fresh_cap annex.0, slots_held annex.0 p.registers.items annex.1 (shape_reported p.annex p.owner _ annex.2), plain_reported p.annex _ annex.2));
       nodes = all_from (λ (n : NodeEntry). IsDescribedNode n (frame_at (plain_frames w.objects) n.number)) d.nodes.items (λ n there.
-          let node = node_told n there in
-          (map fresh_cap node.0, slots_held node.0 n.slots.items node.1 (shape_told n.number n.owner _ node.2), plain_told n.number _ node.2));
+          let node = node_reported n there in
+          (map fresh_cap node.0, slots_held node.0 n.slots.items node.1 (shape_reported n.number n.owner _ node.2), plain_reported n.number _ node.2));
       pages = all_from (λ (p : PageEntry). IsDescribedPage p (frame_at (plain_frames w.objects) p.number)) d.pages.items (λ p there.
-          let page = page_told p there in
-          (page.0, words_held page.0 p.words.items page.1 (shape_told p.number p.owner _ page.2), plain_told p.number _ page.2));
+          let page = page_reported p there in
+          (page.0, words_held page.0 p.words.items page.1 (shape_reported p.number p.owner _ page.2), plain_reported p.number _ page.2));
       others = blank_other;
     }
 
     pub described : Describes g w d
-    described = record { geometry = geometry; age = age; numbers = numbers_told; fields = fields_told; frames = frames_told }
+    described = record { geometry = geometry; age = age; numbers = numbers_reported; fields = fields_reported; frames = frames_reported }
 
     pub brief : IsBrief d
     brief = record {
@@ -343,7 +343,7 @@ module _ (g : Geometry) (w : World) (sound : IsSound g w) where
       processes = processes.rising;
       nodes = nodes.rising;
       pages = pages.rising;
-      registers = all_from (λ (p : ProcessEntry). AreBriefSlots p.registers.items) d.processes.items (λ p there. let annex = (process_told p there).1 in slots_brief annex.0 p.registers.items annex.1);
-      slots = all_from (λ (n : NodeEntry). AreBriefSlots n.slots.items) d.nodes.items (λ n there. let node = node_told n there in slots_brief node.0 n.slots.items node.1);
-      words = all_from (λ (p : PageEntry). AreBriefWords p.words.items) d.pages.items (λ p there. let page = page_told p there in (page.1.rising, page.1.some));
+      registers = all_from (λ (p : ProcessEntry). AreBriefSlots p.registers.items) d.processes.items (λ p there. let annex = (process_reported p there).1 in slots_brief annex.0 p.registers.items annex.1);
+      slots = all_from (λ (n : NodeEntry). AreBriefSlots n.slots.items) d.nodes.items (λ n there. let node = node_reported n there in slots_brief node.0 n.slots.items node.1);
+      words = all_from (λ (p : PageEntry). AreBriefWords p.words.items) d.pages.items (λ p there. let page = page_reported p there in (page.1.rising, page.1.some));
     }

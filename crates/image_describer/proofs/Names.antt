@@ -1,10 +1,10 @@
 -- The names that the proofs here cite: of other crates, and of the definitions of this one.
-pub use Rattle.capability.proofs.Asides.{looks_twice}
 pub use Rattle.capability.proofs.Frames.{annex_used, known_used, object_past}
 pub use Rattle.capability.proofs.Keeping.{keepable_later, keepable_roles}
 pub use Rattle.capability.proofs.Mapped.{kind_map, mapped}
 pub use Rattle.capability.proofs.Roles.{role_read}
-pub use Rattle.capability.specs.Parts.{AreSound, HaveTheirRoles, Looks, LooksUp, Parts, frames_of, objects_in}
+pub use Rattle.capability.proofs.SnapshotLaws.{only_reads_twice}
+pub use Rattle.capability.specs.Parts.{AreSound, HaveTheirRoles, OnlyFetches, OnlyReads, Parts, frames_of, objects_in}
 pub use Rattle.capability.specs.Plain.{fresh_cap}
 pub use Rattle.capability.specs.declared.present.PrepareFault.{PrepareFault}
 pub use Rattle.consistency.proofs.Unsound.{sound_named}
@@ -93,6 +93,7 @@ pub use Rattle.toml_parser.specs.Lexical.{first, is_bare, is_non_eol}
 pub use Rattle.toml_parser.specs.Strings.{Key}
 pub use Rattle.toml_writer.specs.Text.{dotted_text, is_control}
 unfoldable pub use Rattle.toml_writer.specs.Text.{encoding_of, escaped, key_text, needs_escape, quotes_after, string_text}
+pub use Rattle.image_describer.specs.DescribedEntry.{MayName, MayTell, TellAll, TellsBank, TellsNode, TellsPage, TellsProcess}
 pub use Rattle.image_describer.specs.Describes.{AreBriefSlots, AreBriefWords, AreRising, Describes, IsBrief, Names, NamesSlots, NamesWords, plain_frame}
 unfoldable pub use Rattle.image_describer.specs.Describes.{plain_frames}
 pub use Rattle.image_describer.specs.Grown.{IsGrown, IsMovedNode, IsMovedPage, IsMovedProcess, IsNotRenumbered, IsRenumbered, IsUnsuited, NamesNodes}
@@ -105,5 +106,4 @@ pub use Rattle.image_describer.specs.Text.{list_text, list_unless_empty, node_fi
 pub use Rattle.image_describer.specs.Text.{process_fields, process_text, quoted, range_text, slot_text, space_unless_void, state_value, unless, wide_text}
 pub use Rattle.image_describer.specs.Text.{word_text, words_unless_zeros}
 unfoldable pub use Rattle.image_describer.specs.Text.{description_text}
-pub use Rattle.image_describer.specs.Told.{MayName, MayTell, TellAll, TellsBank, TellsNode, TellsPage, TellsProcess}
 pub use Rattle.image_describer.specs.declared.sizes.GrowthFault.{GrowthFault}

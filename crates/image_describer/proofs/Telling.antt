@@ -37,8 +37,8 @@ module _ {E : Type 0} (number : E → ℕ) (Tells : E → Type 0) (kind : Role) 
 
   -- one of this kind has an entry
   pub tell_more : (count : ℕ) (es : List E) (e : E) → TellBelow count es → number e ≡ count → Tells e → TellBelow (count + 1) (es ++ e ∷ [])
-  tell_more count es e tell at told = record {
-    each = All-push Tells es e tell.each told;
+  tell_more count es e tell at entry_of = record {
+    each = All-push Tells es e tell.each entry_of;
     whole = λ n under is. subst (λ ns. Contains ns n) (sym (map_both number es (e ∷ []))) (elim (cases_lt n count) [
       | inl before ↦ Contains-append_left (map number es) (number e ∷ []) n (tell.whole n before is)
       | inr past ↦

@@ -4,4 +4,4 @@ pub mod Grown
 pub mod Laws
 pub mod Spelled
 pub mod Text
-pub mod Told
+pub mod DescribedEntry

@@ -2,12 +2,12 @@
 ghost use Rattle.std.specs.Prelude.{◌≡◌, [], IfOk, OnOk};
 ghost use Rattle.layout.specs.Superblock.{version_number};
 ghost use Rattle.model.specs.Keepable.{IsSoundFrames, world_at};
-ghost use Rattle.capability.specs.Parts.{AreSound, Looks, frames_of, objects_in};
+ghost use Rattle.capability.specs.Parts.{AreSound, OnlyReads, frames_of, objects_in};
 ghost use Rattle.image_describer.specs.Describes.{Describes, IsBrief};
-ghost use Rattle.image_describer.specs.Told.{HasNoObjects, IsSameBeside, TellAll, TellsObjects};
+ghost use Rattle.image_describer.specs.DescribedEntry.{HasNoObjects, IsSameBeside, TellAll, TellsObjects};
 
 use crate::adding::add;
-use crate::objects::Told;
+use crate::objects::DescribedEntry;
 use capability::{PrepareFault, PresentFrames};
 use description::Description;
 use image_writer::NumberRange;
@@ -16,19 +16,19 @@ use std::alloc::Global;
 
 // Tells all objects of a kind, in order. It is `Failed` exactly where the device failed, and else no
 // fault but `NoMemory`; so is the one below.
-fn tell_all<F: PresentFrames, E: Told>(
+fn tell_all<F: PresentFrames, E: DescribedEntry>(
     alloc: Global,
     store: &mut F,
     entries: &mut Vec<E>,
 ) -> Result<(), PrepareFault>
     requires sound { AreSound (F.parts store.old) }
     requires none { entries.old.items ≡ [] }
-    ensures told { let objects = objects_in (F.parts store.old) in
+    ensures entry_of { let objects = objects_in (F.parts store.old) in
         OnOk result (TellAll E.number_of (E.Tells objects) E.kind objects entries.new.items) }
-    ensures looks { Looks F.parts F.LeadsTo store.old store.new result }
+    ensures only_reads { OnlyReads F.parts F.ContinuesTo store.old store.new result }
 {
     for number in 0..store.table().count() {
-        let entry = E::told(alloc, store, number)?;
+        let entry = E::entry_of(alloc, store, number)?;
         if add(entries, entry).is_err() {
             return Err(PrepareFault::NoMemory);
         }
@@ -44,9 +44,9 @@ fn tell_objects<F: PresentFrames>(
 ) -> Result<(), PrepareFault>
     requires sound { AreSound (F.parts store.old) }
     requires none { HasNoObjects description.old }
-    ensures told { OnOk result (TellsObjects (objects_in (F.parts store.old)) description.new) }
+    ensures entry_of { OnOk result (TellsObjects (objects_in (F.parts store.old)) description.new) }
     ensures same { IsSameBeside description.old description.new }
-    ensures looks { Looks F.parts F.LeadsTo store.old store.new result }
+    ensures only_reads { OnlyReads F.parts F.ContinuesTo store.old store.new result }
 {
     tell_all(alloc, store, &mut description.banks)?;
     tell_all(alloc, store, &mut description.processes)?;
@@ -74,7 +74,7 @@ pub fn describe<F: PresentFrames>(
     ensures ranges { IfOk result (λ d. d.ranges ≡ ranges) }
     ensures layout { IfOk result (λ d. d.layout ≡ version_number version) }
     ensures brief { IfOk result IsBrief }
-    ensures looks { Looks F.parts F.LeadsTo store.old store.new result }
+    ensures only_reads { OnlyReads F.parts F.ContinuesTo store.old store.new result }
 {
     let mut description = Description {
         geometry: store.geometry(),

@@ -2,7 +2,7 @@
 ghost use Rattle.std.specs.Prelude.{IfOk, unwrap_or};
 ghost use Rattle.model.specs.declared.capability.Capability.TheVariants.{Void};
 ghost use Rattle.image_describer.specs.Describes.{NamesSlots, NamesWords};
-ghost use Rattle.image_describer.specs.Told.{MayName};
+ghost use Rattle.image_describer.specs.DescribedEntry.{MayName};
 
 use crate::adding::add;
 use description::{SlotEntry, WordEntry};

@@ -6,9 +6,9 @@ ghost use Rattle.model.specs.declared.object.Role.{Role};
 ghost use Rattle.model.specs.declared.object.Role.TheVariants as role;
 ghost use Rattle.model.specs.Object.{is_annex, role_of, slots_in};
 ghost use Rattle.model.specs.World.{content_at, object_at};
-ghost use Rattle.capability.specs.Parts.{AreSound, HaveTheirRoles, Looks, frames_of, objects_in};
+ghost use Rattle.capability.specs.Parts.{AreSound, HaveTheirRoles, OnlyReads, frames_of, objects_in};
 ghost use Rattle.image_describer.specs.Describes.{NamesSlots};
-ghost use Rattle.image_describer.specs.Told.{MayTell, TellsBank, TellsNode, TellsPage, TellsProcess};
+ghost use Rattle.image_describer.specs.DescribedEntry.{MayTell, TellsBank, TellsNode, TellsPage, TellsProcess};
 
 use crate::entries::{slot_entries, word_entries};
 use capability::{PrepareFault, PresentFrames, objects, view};
@@ -35,7 +35,7 @@ fn object<F: PresentFrames>(
     requires known { number < length (F.parts store.old).headers }
     ensures object { IfOk result (λ object.
         object ≡ object_at (objects_in (F.parts store.old)) number) }
-    ensures looks { Looks F.parts F.LeadsTo store.old store.new result }
+    ensures only_reads { OnlyReads F.parts F.ContinuesTo store.old store.new result }
 {
     objects::fetch(store, alloc, &[number])?;
     match view::object(alloc, store, number) {
@@ -55,7 +55,7 @@ fn registers<F: PresentFrames>(
         (content_at (objects_in (F.parts store.old)) annex)) }
     ensures named { IfOk result (λ registers.
         NamesSlots (slots_in (content_at (objects_in (F.parts store.old)) annex)) registers.items) }
-    ensures looks { Looks F.parts F.LeadsTo store.old store.new result }
+    ensures only_reads { OnlyReads F.parts F.ContinuesTo store.old store.new result }
 {
     objects::fetch(store, alloc, &[annex])?;
     let Ok(slots) = view::registers(alloc, store, annex) else {
@@ -68,7 +68,7 @@ fn registers<F: PresentFrames>(
 }
 
 /// An entry that tells an object of a kind.
-pub(crate) trait Told: Drop {
+pub(crate) trait DescribedEntry: Drop {
     /// The number of the object.
     ghost number_of: { Self → ℕ };
 
@@ -79,22 +79,22 @@ pub(crate) trait Told: Drop {
 
     /// The entry for a number, or nothing where no object of this kind is there. It is `Failed`
     /// exactly where the device failed, and else no fault but `NoMemory`.
-    fn told<F: PresentFrames>(
+    fn entry_of<F: PresentFrames>(
         alloc: Global,
         store: &mut F,
         number: u64,
     ) -> Result<Option<Self>, PrepareFault>
         requires sound { AreSound (F.parts store.old) }
         requires known { number < length (F.parts store.old).headers }
-        ensures told { let objects = objects_in (F.parts store.old) in
+        ensures entry_of { let objects = objects_in (F.parts store.old) in
             IfOk result (MayTell number_of (Tells objects) kind objects number) }
-        ensures looks { Looks F.parts F.LeadsTo store.old store.new result };
+        ensures only_reads { OnlyReads F.parts F.ContinuesTo store.old store.new result };
 
     /// A free object has no entry.
     ghost is_kept: { kind ≢ role.Free };
 }
 
-impl Told for BankEntry {
+impl DescribedEntry for BankEntry {
     ghost number_of = { λ b. b.number };
 
     ghost Tells = { TellsBank };
@@ -103,7 +103,7 @@ impl Told for BankEntry {
 
     ghost is_kept = { Prim.search rules };
 
-    fn told<F: PresentFrames>(
+    fn entry_of<F: PresentFrames>(
         alloc: Global,
         store: &mut F,
         number: u64,
@@ -124,7 +124,7 @@ impl Told for BankEntry {
 }
 
 // The entry of a process has the number of its root, and the registers of its annex.
-impl Told for ProcessEntry {
+impl DescribedEntry for ProcessEntry {
     ghost number_of = { λ p. p.root };
 
     ghost Tells = { TellsProcess };
@@ -133,7 +133,7 @@ impl Told for ProcessEntry {
 
     ghost is_kept = { Prim.search rules };
 
-    fn told<F: PresentFrames>(
+    fn entry_of<F: PresentFrames>(
         alloc: Global,
         store: &mut F,
         number: u64,
@@ -160,7 +160,7 @@ impl Told for ProcessEntry {
     }
 }
 
-impl Told for NodeEntry {
+impl DescribedEntry for NodeEntry {
     ghost number_of = { λ n. n.number };
 
     ghost Tells = { TellsNode };
@@ -169,7 +169,7 @@ impl Told for NodeEntry {
 
     ghost is_kept = { Prim.search rules };
 
-    fn told<F: PresentFrames>(
+    fn entry_of<F: PresentFrames>(
         alloc: Global,
         store: &mut F,
         number: u64,
@@ -192,7 +192,7 @@ impl Told for NodeEntry {
     }
 }
 
-impl Told for PageEntry {
+impl DescribedEntry for PageEntry {
     ghost number_of = { λ p. p.number };
 
     ghost Tells = { TellsPage };
@@ -201,7 +201,7 @@ impl Told for PageEntry {
 
     ghost is_kept = { Prim.search rules };
 
-    fn told<F: PresentFrames>(
+    fn entry_of<F: PresentFrames>(
         alloc: Global,
         store: &mut F,
         number: u64,

@@ -9,7 +9,7 @@ use Rattle.image_drawer.proofs.Names.{ArrowsAreHeld, Holds, IsArrow, IsOnce, Arr
 use Rattle.std.proofs.Common.{unwrap_or}
 use Rattle.image_drawer.specs.declared.arrow.Place.TheVariants as place
 use Rattle.image_drawer.proofs.Once.{contains_flat, distinct_left, distinct_right, flat_contains, once_append, once_distinct, once_flat}
-use Rattle.image_drawer.proofs.Told.{annex_told, bank_told, free_told, node_told, page_told, root_told, said_slot, slot_said}
+use Rattle.image_drawer.proofs.Reported.{annex_reported, bank_reported, free_reported, node_reported, page_reported, root_reported, said_slot, slot_said}
 
 not_both : (b : Bool) → IsTrue b → b ≡ false → ⊥
 not_both true is wrong = let never : true ≡ false = wrong in cc
@@ -145,26 +145,26 @@ module _ (g : Geometry) (w : World) (d : Description) (describes : Describes g w
 
   -- what a process holds
   root_is : (p : ProcessEntry) → Contains d.processes.items p → IsTrue (is_process w.objects p.root)
-  root_is p there = ap (λ (o : Object). is_root o.content) (root_told g w d describes p there).3
+  root_is p there = ap (λ (o : Object). is_root o.content) (root_reported g w d describes p there).3
 
   space_is : (p : ProcessEntry) → Contains d.processes.items p → (root_at w.objects p.root).space ≡ unwrap_or p.space Void
   space_is p there =
-      let root = root_told g w d describes p there in
+      let root = root_reported g w d describes p there in
       ap (λ (o : Object). (root_in o.content).space) root.3 ∙ sym (ap (λ (o : Option Capability). unwrap_or o Void) root.2)
 
   annex_is : (p : ProcessEntry) → Contains d.processes.items p → annex_at w.objects p.root ≡ p.annex
-  annex_is p there = ap (λ (o : Object). (root_in o.content).annex) (root_told g w d describes p there).3
+  annex_is p there = ap (λ (o : Object). (root_in o.content).annex) (root_reported g w d describes p there).3
 
-  register_is : (p : ProcessEntry) (there : Contains d.processes.items p) (i : ℕ) → register_at w.objects p.root i ≡ slice_index_or (annex_told g w d describes p there).0 i Void
+  register_is : (p : ProcessEntry) (there : Contains d.processes.items p) (i : ℕ) → register_at w.objects p.root i ≡ slice_index_or (annex_reported g w d describes p there).0 i Void
   register_is p there i =
       ap (λ (n : ℕ). slot_at w.objects n i) (annex_is p there)
-      ∙ ap (λ (o : Object). slice_index_or (slots_in o.content) i Void) (annex_told g w d describes p there).2
+      ∙ ap (λ (o : Object). slice_index_or (slots_in o.content) i Void) (annex_reported g w d describes p there).2
 
-  slot_is : (n : NodeEntry) (there : Contains d.nodes.items n) (i : ℕ) → slot_at w.objects n.number i ≡ slice_index_or (node_told g w d describes n there).0 i Void
-  slot_is n there i = ap (λ (o : Object). slice_index_or (slots_in o.content) i Void) (node_told g w d describes n there).2
+  slot_is : (n : NodeEntry) (there : Contains d.nodes.items n) (i : ℕ) → slot_at w.objects n.number i ≡ slice_index_or (node_reported g w d describes n there).0 i Void
+  slot_is n there i = ap (λ (o : Object). slice_index_or (slots_in o.content) i Void) (node_reported g w d describes n there).2
 
   node_is : (n : NodeEntry) → Contains d.nodes.items n → IsTrue (is_node (content_at w.objects n.number))
-  node_is n there = ap (λ (o : Object). is_node o.content) (node_told g w d describes n there).2
+  node_is n there = ap (λ (o : Object). is_node o.content) (node_reported g w d describes n there).2
 
   -- each arrow is held
   of_process : (p : ProcessEntry) (a : Arrow) → Contains d.processes.items p → Contains (process_arrows p) a → IsArrow w.objects a
@@ -172,7 +172,7 @@ module _ (g : Geometry) (w : World) (d : Description) (describes : Describes g w
     | inl space ↦ arrow_held w.objects p.root place.Space (unwrap_or p.space Void) a (root_is p there, space_is p there) space
     | inr register ↦
         let found = in_slots p.root place.Register p.registers.items a register in
-        let annex = annex_told g w d describes p there in
+        let annex = annex_reported g w d describes p there in
         arrow_held w.objects p.root (place.Register found.0.index) (value_of found.0) a
         (root_is p there, register_is p there found.0.index ∙ slot_said 1 p.registers.items annex.0 (registers_are p there) annex.1 found.0 found.1) found.2
   ]
@@ -180,7 +180,7 @@ module _ (g : Geometry) (w : World) (d : Description) (describes : Describes g w
   of_node : (n : NodeEntry) (a : Arrow) → Contains d.nodes.items n → Contains (node_arrows n) a → IsArrow w.objects a
   of_node n a there h =
       let found = in_slots n.number place.Slot n.slots.items a h in
-      let node = node_told g w d describes n there in
+      let node = node_reported g w d describes n there in
       arrow_held w.objects n.number (place.Slot found.0.index) (value_of found.0) a
       (node_is n there, slot_is n there found.0.index ∙ slot_said 0 n.slots.items node.0 (slots_are n there) node.1 found.0 found.1) found.2
 
@@ -192,25 +192,25 @@ module _ (g : Geometry) (w : World) (d : Description) (describes : Describes g w
 
   -- who holds is told
   process_of : (e : Entry) → IsOf d e → IsTrue (is_process w.objects (number_of e)) → (p : ProcessEntry) × Contains d.processes.items p × (p.root ≡ number_of e)
-  process_of (OfBank b) there is = absurd (not_both _ is (ap (λ (o : Object). is_root o.content) (bank_told g w d describes b there)))
+  process_of (OfBank b) there is = absurd (not_both _ is (ap (λ (o : Object). is_root o.content) (bank_reported g w d describes b there)))
   process_of (OfRoot p) there is = (p, there, refl)
-  process_of (OfAnnex p) there is = absurd (not_both _ is (ap (λ (o : Object). is_root o.content) (annex_told g w d describes p there).2))
-  process_of (OfNode n) there is = absurd (not_both _ is (ap (λ (o : Object). is_root o.content) (node_told g w d describes n there).2))
-  process_of (OfPage p) there is = absurd (not_both _ is (ap (λ (o : Object). is_root o.content) (page_told g w d describes p there).1))
+  process_of (OfAnnex p) there is = absurd (not_both _ is (ap (λ (o : Object). is_root o.content) (annex_reported g w d describes p there).2))
+  process_of (OfNode n) there is = absurd (not_both _ is (ap (λ (o : Object). is_root o.content) (node_reported g w d describes n there).2))
+  process_of (OfPage p) there is = absurd (not_both _ is (ap (λ (o : Object). is_root o.content) (page_reported g w d describes p there).1))
 
   node_of : (e : Entry) → IsOf d e → IsTrue (is_node (content_at w.objects (number_of e))) → (n : NodeEntry) × Contains d.nodes.items n × (n.number ≡ number_of e)
-  node_of (OfBank b) there is = absurd (not_both _ is (ap (λ (o : Object). is_node o.content) (bank_told g w d describes b there)))
-  node_of (OfRoot p) there is = absurd (not_both _ is (ap (λ (o : Object). is_node o.content) (root_told g w d describes p there).3))
-  node_of (OfAnnex p) there is = absurd (not_both _ is (ap (λ (o : Object). is_node o.content) (annex_told g w d describes p there).2))
+  node_of (OfBank b) there is = absurd (not_both _ is (ap (λ (o : Object). is_node o.content) (bank_reported g w d describes b there)))
+  node_of (OfRoot p) there is = absurd (not_both _ is (ap (λ (o : Object). is_node o.content) (root_reported g w d describes p there).3))
+  node_of (OfAnnex p) there is = absurd (not_both _ is (ap (λ (o : Object). is_node o.content) (annex_reported g w d describes p there).2))
   node_of (OfNode n) there is = (n, there, refl)
-  node_of (OfPage p) there is = absurd (not_both _ is (ap (λ (o : Object). is_node o.content) (page_told g w d describes p there).1))
+  node_of (OfPage p) there is = absurd (not_both _ is (ap (λ (o : Object). is_node o.content) (page_reported g w d describes p there).1))
 
   process_at : (n : ℕ) → IsTrue (is_process w.objects n) → (p : ProcessEntry) × Contains d.processes.items p × (p.root ≡ n)
   process_at n is = elim (described_cases d (plain_frames w.objects) n describes.frames) [
     | inl found ↦
         let process = process_of found.0 found.1 (subst (λ (m : ℕ). IsTrue (is_process w.objects m)) (sym found.2) is) in
         (process.0, process.1, process.2 ∙ found.2)
-    | inr blank ↦ absurd (not_both _ is (ap (λ (o : Object). is_root o.content) (free_told g w d describes n blank)))
+    | inr blank ↦ absurd (not_both _ is (ap (λ (o : Object). is_root o.content) (free_reported g w d describes n blank)))
   ]
 
   node_at : (n : ℕ) → IsTrue (is_node (content_at w.objects n)) → (e : NodeEntry) × Contains d.nodes.items e × (e.number ≡ n)
@@ -218,7 +218,7 @@ module _ (g : Geometry) (w : World) (d : Description) (describes : Describes g w
     | inl found ↦
         let node = node_of found.0 found.1 (subst (λ (m : ℕ). IsTrue (is_node (content_at w.objects m))) (sym found.2) is) in
         (node.0, node.1, node.2 ∙ found.2)
-    | inr blank ↦ absurd (not_both _ is (ap (λ (o : Object). is_node o.content) (free_told g w d describes n blank)))
+    | inr blank ↦ absurd (not_both _ is (ap (λ (o : Object). is_node o.content) (free_reported g w d describes n blank)))
   ]
 
   -- all that is held has its arrow
@@ -247,7 +247,7 @@ module _ (g : Geometry) (w : World) (d : Description) (describes : Describes g w
 
   register_has : (p : ProcessEntry) (i : ℕ) (c : Capability) (target : ℕ) → Contains d.processes.items p → register_at w.objects p.root i ≡ c → named c ≡ Some target → HasArrow p.root (place.Register i) c target
   register_has p i c target there is names =
-      let annex = annex_told g w d describes p there in
+      let annex = annex_reported g w d describes p there in
       let found = said_slot 1 p.registers.items annex.0 (registers_are p there) annex.1 i c target (sym (register_is p there i) ∙ is) names in
       process_has p _ there
       (Contains-append_right (arrow_of p.root place.Space (unwrap_or p.space Void)) (arrows_at p.root place.Register p.registers.items) _
@@ -255,7 +255,7 @@ module _ (g : Geometry) (w : World) (d : Description) (describes : Describes g w
 
   node_has : (n : NodeEntry) (i : ℕ) (c : Capability) (target : ℕ) → Contains d.nodes.items n → slot_at w.objects n.number i ≡ c → named c ≡ Some target → HasArrow n.number (place.Slot i) c target
   node_has n i c target there is names =
-      let node = node_told g w d describes n there in
+      let node = node_reported g w d describes n there in
       let found = said_slot 0 n.slots.items node.0 (slots_are n there) node.1 i c target (sym (slot_is n there i) ∙ is) names in
       Contains-append_right (flat_map process_arrows d.processes.items) (flat_map node_arrows d.nodes.items) _
       (flat_contains node_arrows n _ d.nodes.items there (slot_has n.number place.Slot n.slots.items found.0 i c target found.1 found.2 found.3 names))

@@ -9,7 +9,7 @@ use Rattle.std.proofs.Common.{◌==◌}
 use Rattle.model.specs.declared.object.Content.TheVariants as content
 use Rattle.image_drawer.proofs.Once.{contains_flat, distinct_apart, distinct_left, distinct_right, flat_contains, once_append, once_distinct, once_flat}
 use Rattle.image_drawer.proofs.Texts.{flat_map-four}
-use Rattle.image_drawer.proofs.Told.{annex_told, bank_told, free_told, node_told, page_told, root_told}
+use Rattle.image_drawer.proofs.Reported.{annex_reported, bank_reported, free_reported, node_reported, page_reported, root_reported}
 
 -- what has a box, behind its owner
 abbrev bank_parts : Description → List (ℕ × ℕ)
@@ -109,14 +109,14 @@ module _ (g : Geometry) (w : World) (d : Description) (describes : Describes g w
   part_from : {X : Type 0} (f : X → ℕ × ℕ) (xs : List X) (p : ℕ × ℕ) → ((x : X) → Contains xs x → IsPart (f x)) → Contains (map f xs) p → IsPart p
   part_from f xs p each h = let found = map_contains f p xs h in subst IsPart found.2 (each found.0 found.1)
 
-  part_told : (p : ℕ × ℕ) → Contains (parts d) p → IsPart p
-  part_told p h = elim (Contains-append_cases (bank_parts d ++ root_parts d ++ node_parts d) (page_parts d) p h) [
-    | inr page ↦ part_from (λ p. (p.owner, p.number)) d.pages.items p (λ p there. let told = page_told g w d describes p there in has_box p.number p.owner (content.Page told.0) told.1 refl refl) page
+  part_reported : (p : ℕ × ℕ) → Contains (parts d) p → IsPart p
+  part_reported p h = elim (Contains-append_cases (bank_parts d ++ root_parts d ++ node_parts d) (page_parts d) p h) [
+    | inr page ↦ part_from (λ p. (p.owner, p.number)) d.pages.items p (λ p there. let reported = page_reported g w d describes p there in has_box p.number p.owner (content.Page reported.0) reported.1 refl refl) page
     | inl rest ↦ elim (Contains-append_cases (bank_parts d ++ root_parts d) (node_parts d) p rest) [
-      | inr node ↦ part_from (λ n. (n.owner, n.number)) d.nodes.items p (λ n there. let told = node_told g w d describes n there in has_box n.number n.owner (content.Node told.0) told.2 refl refl) node
+      | inr node ↦ part_from (λ n. (n.owner, n.number)) d.nodes.items p (λ n there. let reported = node_reported g w d describes n there in has_box n.number n.owner (content.Node reported.0) reported.2 refl refl) node
       | inl more ↦ elim (Contains-append_cases (bank_parts d) (root_parts d) p more) [
-        | inr root ↦ part_from (λ p. (p.owner, p.root)) d.processes.items p (λ p there. let told = root_told g w d describes p there in has_box p.root p.owner _ told.3 refl refl) root
-        | inl bank ↦ part_from (λ b. (b.owner, b.number)) d.banks.items p (λ b there. has_box b.number b.owner (content.Bank b.limit) (bank_told g w d describes b there) refl refl) bank
+        | inr root ↦ part_from (λ p. (p.owner, p.root)) d.processes.items p (λ p there. let reported = root_reported g w d describes p there in has_box p.root p.owner _ reported.3 refl refl) root
+        | inl bank ↦ part_from (λ b. (b.owner, b.number)) d.banks.items p (λ b there. has_box b.number b.owner (content.Bank b.limit) (bank_reported g w d describes b there) refl refl) bank
       ]
     ]
   ]
@@ -125,41 +125,41 @@ module _ (g : Geometry) (w : World) (d : Description) (describes : Describes g w
   same_owner n owner c is there = subst (λ (m : ℕ). Contains (parts d) (m, n)) (sym (ap (λ (o : Object). o.owner) is)) there
 
   entry_part : (e : Entry) → IsOf d e → HasBox w.objects (number_of e) → Contains (parts d) (owner_at w.objects (number_of e), number_of e)
-  entry_part (OfBank b) there has = same_owner b.number b.owner _ (bank_told g w d describes b there)
+  entry_part (OfBank b) there has = same_owner b.number b.owner _ (bank_reported g w d describes b there)
       (Contains-append_left (bank_parts d ++ root_parts d ++ node_parts d) (page_parts d) (b.owner, b.number)
       (Contains-append_left (bank_parts d ++ root_parts d) (node_parts d) (b.owner, b.number)
       (Contains-append_left (bank_parts d) (root_parts d) (b.owner, b.number) (contains_map (λ b. (b.owner, b.number)) b d.banks.items there))))
-  entry_part (OfRoot p) there has = same_owner p.root p.owner _ (root_told g w d describes p there).3
+  entry_part (OfRoot p) there has = same_owner p.root p.owner _ (root_reported g w d describes p there).3
       (Contains-append_left (bank_parts d ++ root_parts d ++ node_parts d) (page_parts d) (p.owner, p.root)
       (Contains-append_left (bank_parts d ++ root_parts d) (node_parts d) (p.owner, p.root)
       (Contains-append_right (bank_parts d) (root_parts d) (p.owner, p.root) (contains_map (λ p. (p.owner, p.root)) p d.processes.items there))))
   entry_part (OfAnnex p) there has =
-      let wrong = sym has.1 ∙ ap (λ (o : Object). is_annex o.content) (annex_told g w d describes p there).2 in cc
-  entry_part (OfNode n) there has = same_owner n.number n.owner _ (node_told g w d describes n there).2
+      let wrong = sym has.1 ∙ ap (λ (o : Object). is_annex o.content) (annex_reported g w d describes p there).2 in cc
+  entry_part (OfNode n) there has = same_owner n.number n.owner _ (node_reported g w d describes n there).2
       (Contains-append_left (bank_parts d ++ root_parts d ++ node_parts d) (page_parts d) (n.owner, n.number)
       (Contains-append_right (bank_parts d ++ root_parts d) (node_parts d) (n.owner, n.number) (contains_map (λ n. (n.owner, n.number)) n d.nodes.items there)))
-  entry_part (OfPage p) there has = same_owner p.number p.owner _ (page_told g w d describes p there).1
+  entry_part (OfPage p) there has = same_owner p.number p.owner _ (page_reported g w d describes p there).1
       (Contains-append_right (bank_parts d ++ root_parts d ++ node_parts d) (page_parts d) (p.owner, p.number) (contains_map (λ p. (p.owner, p.number)) p d.pages.items there))
 
-  told_part : (n : ℕ) → HasBox w.objects n → Contains (parts d) (owner_at w.objects n, n)
-  told_part n has = elim (described_cases d (plain_frames w.objects) n describes.frames) [
+  reported_part : (n : ℕ) → HasBox w.objects n → Contains (parts d) (owner_at w.objects n, n)
+  reported_part n has = elim (described_cases d (plain_frames w.objects) n describes.frames) [
     | inl found ↦
         subst (λ (m : ℕ). Contains (parts d) (owner_at w.objects m, m)) found.2
         (entry_part found.0 found.1 (subst (λ (m : ℕ). HasBox w.objects m) (sym found.2) has))
-    | inr blank ↦ let wrong = sym has.0 ∙ ap (λ (o : Object). is_free o.content) (free_told g w d describes n blank) in cc
+    | inr blank ↦ let wrong = sym has.0 ∙ ap (λ (o : Object). is_free o.content) (free_reported g w d describes n blank) in cc
   ]
 
   in_boxes : (n : ℕ) → HasBox w.objects n → Contains (boxes d) n
-  in_boxes n has = subst (λ (ns : List ℕ). Contains ns n) (boxes_are d) (contains_map owned (owner_at w.objects n, n) (parts d) (told_part n has))
+  in_boxes n has = subst (λ (ns : List ℕ). Contains ns n) (boxes_are d) (contains_map owned (owner_at w.objects n, n) (parts d) (reported_part n has))
 
   of_boxes : (n : ℕ) → Contains (boxes d) n → HasBox w.objects n
   of_boxes n h =
       let found = map_contains owned n (parts d) (subst (λ (ns : List ℕ). Contains ns n) (sym (boxes_are d)) h) in
-      subst (λ (m : ℕ). HasBox w.objects m) found.2 (part_told found.0 found.1).0
+      subst (λ (m : ℕ). HasBox w.objects m) found.2 (part_reported found.0 found.1).0
 
   in_owners : (p : ℕ × ℕ) → IsOwner w.objects p → Contains (owners d) p
   in_owners p is =
-      let there : Contains (parts d) p = subst (λ (m : ℕ). Contains (parts d) (m, p.1)) is.1 (told_part p.1 is.0) in
+      let there : Contains (parts d) p = subst (λ (m : ℕ). Contains (parts d) (m, p.1)) is.1 (reported_part p.1 is.0) in
       subst (λ (ps : List (ℕ × ℕ)). Contains ps p) (owners_are d)
       (flat_contains joined_part p p (parts d) there (subst (λ (ps : List (ℕ × ℕ)). Contains ps p) (sym (joined_some p.0 p.1 is.2)) (contains_here p [])))
 
@@ -167,8 +167,8 @@ module _ (g : Geometry) (w : World) (d : Description) (describes : Describes g w
   of_owners p h =
       let found = contains_flat joined_part p (parts d) (subst (λ (ps : List (ℕ × ℕ)). Contains ps p) (sym (owners_are d)) h) in
       let pair = in_joined found.0.0 found.0.1 p found.2 in
-      let told : IsPart found.0 = part_told found.0 found.1 in
-      subst (IsOwner w.objects) pair.0 (told.0, told.1, pair.1)
+      let reported : IsPart found.0 = part_reported found.0 found.1 in
+      subst (IsOwner w.objects) pair.0 (reported.0, reported.1, pair.1)
 
   owners_once : IsOnce (owners d)
   owners_once = subst (λ (ps : List (ℕ × ℕ)). IsOnce ps) (owners_are d)

@@ -5,4 +5,4 @@ pub mod Listed
 pub mod Once
 mod Parts
 pub mod Texts
-pub mod Told
+pub mod Reported

@@ -22,7 +22,7 @@ module _ (l a b m n : List ℕ) (first : m ≡ l ++ a) (second : n ≡ m ++ b) w
 pub said : (fault : ImageFault) (reason : BadImage) (number : ℕ) (l m n o : List ℕ) → l ≡ place_text fault → m ≡ l ++ codes " (bad image" → reason ≡ reason_of fault → number ≡ number_of_reason reason
     → n ≡ m ++ 32 ∷ decimal number → o ≡ n ++ codes ")" → o ≡ fault_text fault
 unfolding fault_text
-said fault reason number l m n o place words is told digits end =
+said fault reason number l m n o place words is reported digits end =
     end ∙ ap (λ (x : List ℕ). x ++ codes ")")
     (digits ∙ ap (λ (x : List ℕ). x ++ 32 ∷ decimal number) (words ∙ ap (λ (x : List ℕ). x ++ codes " (bad image") place)
-    ∙ ap (λ (k : ℕ). place_text fault ++ codes " (bad image" ++ 32 ∷ decimal k) (told ∙ ap number_of_reason is))
+    ∙ ap (λ (k : ℕ). place_text fault ++ codes " (bad image" ++ 32 ∷ decimal k) (reported ∙ ap number_of_reason is))

@@ -1,6 +1,6 @@
 -- The names that the proofs here cite: of other crates, and of the definitions of this one.
 pub use Rattle.capability.specs.Parts.{Parts, frames_of}
-pub use Rattle.checkpoint.specs.Opened.{CountsOpen, Looks, Refuses}
+pub use Rattle.checkpoint.specs.Opened.{CountsOpen, OnlyReads, Refuses}
 pub use Rattle.checkpoint.specs.Saved.{Holds, SavedFrames}
 pub use Rattle.checkpoint.specs.declared.open_fault.OpenFault.{OpenFault}
 pub use Rattle.consistency.proofs.BankFaults.{refuted, unbanked_refuted}

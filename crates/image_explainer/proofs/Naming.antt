@@ -7,11 +7,11 @@ use Rattle.image_explainer.proofs.Names.{header_read, table_read, Misnamed, IsMi
 pub misnamed_here : (p : Parts) (n i : ℕ) (held : List Cap) (d : Cap) (hs ks : List ObjectHeader) (h : ObjectHeader) (current : ℕ) → held ≡ caps_in (frame_at (frames_of p) n).content → i < length held
     → hs ≡ p.headers → h ≡ header_at hs n → ks ≡ p.headers → current ≡ current_count ks (slice_index_or held i d).what → (IsNamed (frames_of p) (slice_index_or held i d) → ⊥)
     → IsMisnamed (frames_of p) (record { holder = n; role = h.role; index = i; held = slice_index_or held i d; current = current })
-misnamed_here p n i held d hs ks h current all inside table is other told broken = record {
+misnamed_here p n i held d hs ks h current all inside table is other reported broken = record {
   within = omega (arith, inside, ap (λ (cs : List Cap). length cs) all);
   held = sym (ap (λ (cs : List Cap). slice_index_or cs i void_held) all) ∙ get_or_default held i void_held d inside;
   kind = ap (λ (x : ObjectHeader). x.role) (header_read p hs h n table is);
-  current = told ∙ ap (λ (xs : List ObjectHeader). current_count xs (slice_index_or held i d).what) (table_read p ks other);
+  current = reported ∙ ap (λ (xs : List ObjectHeader). current_count xs (slice_index_or held i d).what) (table_read p ks other);
   broken = broken;
 }
 

@@ -1,6 +1,6 @@
 -- Faults as reasons to refuse an image.
 use Rattle.image_explainer.proofs.Names.{◌≡◌, ℕ, ◌≤◌, ◌^◌, List, Option, None, Some, Ok, inl, inr, ⊎_elim, refl, sym, ap, ◌∙◌, subst, Frame, Cap, void_held}
-use Rattle.image_explainer.proofs.Names.{AreKeepable, Disk, Image, BadImage, OpenFault, Looks, Holds, SavedFrames, Inconsistency, BadBank, BadCapability}
+use Rattle.image_explainer.proofs.Names.{AreKeepable, Disk, Image, BadImage, OpenFault, OnlyReads, Holds, SavedFrames, Inconsistency, BadBank, BadCapability}
 use Rattle.image_explainer.proofs.Names.{BadProcess, AreNamed, AreWholeProcesses, IsInconsistent, IsNamed, frames_of, unbanked_refuted, consistent_is_sound}
 use Rattle.image_explainer.proofs.Names.{OpensStore, StoreState, parts_of, view_of, saved_of, IsUnfit, holds_one, frames_not_bad, SectorFault, IsFault}
 use Rattle.image_explainer.proofs.Names.{ImageFault, Misnamed, Unmatched, BreaksFrames, IsMisnamed, IsUnmatched, reason_of, AreBadForOneReason, Explains}
@@ -61,15 +61,15 @@ explained_found size c saved (Some f) holds is = explained_frames size c saved f
 
 -- a store that was made of a device, and the device beneath it after a look
 module _ {D : Type 0} (disk : D → Disk) (device back : D) (s : StoreState D) (opens : OpensStore disk device (parts_of disk s) (view_of disk s)) (same : back ≡ s.durable.beneath) where
-  looked : Looks (disk device) (disk back)
-  looked = subst (λ (d : D). Looks (disk device) (disk d)) (sym same) opens.looks
+  looked : OnlyReads (disk device) (disk back)
+  looked = subst (λ (d : D). OnlyReads (disk device) (disk d)) (sym same) opens.only_reads
 
   unfailed : (disk back).failures ≡ (disk device).failures
   unfailed = ap (λ (d : D). (disk d).failures) same ∙ opens.failures
 
   pub explains_found : (found : Option ImageFault) → IsConsistentOr (frames_of (parts_of disk s)) found → (let r : Result (Option ImageFault) OpenFault = Ok found in Explains disk device back r)
   explains_found found is =
-      let saved = (view_of disk s).aside.saved in
+      let saved = (view_of disk s).snapshots.saved in
       (explained_found (disk device).sectors (disk device).seen saved found opens.holds (subst (λ (fs : List Frame). IsConsistentOr fs found) opens.frames is), looked, unfailed)
 
 -- frames are inconsistent for one reason

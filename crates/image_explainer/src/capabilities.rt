@@ -3,7 +3,7 @@ ghost use Rattle.std.specs.Prelude.{◌≡◌, ◌<◌, length, IfNone, IfOk, If
 ghost use Rattle.std.specs.List.{All};
 ghost use Rattle.model.specs.Frame.{frame_at};
 ghost use Rattle.model.specs.Keepable.{AreKeepable, caps_in};
-ghost use Rattle.capability.specs.Parts.{Looks, frames_of};
+ghost use Rattle.capability.specs.Parts.{OnlyReads, frames_of};
 ghost use Rattle.consistency.specs.Consistency.{IsNamed};
 ghost use Rattle.consistency.specs.Noted.{AreNoted};
 ghost use Rattle.image_explainer.specs.Breaking.{IsMisnamed};
@@ -71,7 +71,7 @@ fn find_at<F: PresentFrames>(
     ensures found { IfOk result (λ found. IfSome found (IsMisnamed (frames_of (F.parts store.old)))) }
     ensures none { let frames = frames_of (F.parts store.old) in IfOk result (λ found.
         IfNone found (All (IsNamed frames) (caps_in (frame_at frames number).content))) }
-    ensures looks { Looks F.parts F.LeadsTo store.old store.new result }
+    ensures only_reads { OnlyReads F.parts F.ContinuesTo store.old store.new result }
 {
     match objects::fetch(store, alloc, &[number]) {
         Err(fault) => Err(fault),
@@ -90,7 +90,7 @@ pub(crate) fn find_misnamed<F: PresentFrames>(
         (frames_of (F.parts store.old)) }
     requires notes { AreNoted (frames_of (F.parts store.old)) notes.now }
     ensures found { IfOk result (NamesOr (frames_of (F.parts store.old))) }
-    ensures looks { Looks F.parts F.LeadsTo store.old store.new result }
+    ensures only_reads { OnlyReads F.parts F.ContinuesTo store.old store.new result }
 {
     for number in 0..store.table().count() {
         match find_at(alloc, store, notes, number) {

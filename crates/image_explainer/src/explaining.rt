@@ -15,7 +15,7 @@ use crate::objects::find_in_objects;
 use capability::PrepareFault;
 use checkpoint::OpenFault;
 use device::{Device, SECTOR_SIZE};
-use layout::{Entry, MAX_LOG, Room};
+use layout::{Entry, MAX_LOG, Scratch};
 use object_cache::PlainStore;
 use object_store::ObjectStore;
 use sector_faults::{SectorFault, find_in_sectors};
@@ -54,15 +54,15 @@ fn explain_objects<D: Device>(
 }
 
 // Memory for a copy of `size` sectors, for a directory and for a frame.
-fn reserve(alloc: Global, size: u64) -> Result<(Vec<u8>, Vec<Entry>, Room), AllocError>
+fn reserve(alloc: Global, size: u64) -> Result<(Vec<u8>, Vec<Entry>, Scratch), AllocError>
     requires { size ≤ 131072 }
     ensures copy { IfOk result (λ three. length three.0.items ≡ 512 * size) }
     ensures entries { IfOk result (λ three. length three.1.items ≡ 4096) }
 {
     let copy = vec![in alloc; 0; size as usize * SECTOR_SIZE]?;
     let entries = vec![in alloc; Entry { object: 0, slot: 0 }; MAX_LOG]?;
-    let room = Room::new(alloc)?;
-    Ok((copy, entries, room))
+    let scratch = Scratch::new(alloc)?;
+    Ok((copy, entries, scratch))
 }
 
 // What is wrong with the sectors of a device, in a copy of them.
@@ -70,7 +70,7 @@ fn find_in_copy<D: Device>(
     device: &mut D,
     copy: &mut [u8],
     entries: &mut [Entry],
-    room: &mut Room,
+    scratch: &mut Scratch,
 ) -> Result<SectorFault, OpenFault>
     requires bad { (reason : BadImage) × IsBadBy (D.disk device.old).seen (D.disk device.old).sectors reason }
     requires copy { length copy.old ≡ 512 * (D.disk device.old).sectors }
@@ -85,7 +85,7 @@ fn find_in_copy<D: Device>(
         Err(_) => return Err(OpenFault::Failed),
         Ok(()) => {}
     }
-    match find_in_sectors(copy, size, entries, room) {
+    match find_in_sectors(copy, size, entries, scratch) {
         Ok(()) => unreachable!(),
         Err(fault) => Ok(fault),
     }
@@ -100,11 +100,11 @@ fn find_on<D: Device>(alloc: Global, device: &mut D) -> Result<SectorFault, Open
     ensures cause { CountsOpen (D.disk device.old) (D.disk device.new) result }
 {
     let size = device.sectors();
-    let Ok((copy, entries, room)) = reserve(alloc, size) else {
+    let Ok((copy, entries, scratch)) = reserve(alloc, size) else {
         return Err(OpenFault::NoMemory);
     };
-    let (mut copy, mut entries, mut room) = (copy, entries, room);
-    find_in_copy(device, &mut copy, &mut entries, &mut room)
+    let (mut copy, mut entries, mut scratch) = (copy, entries, scratch);
+    find_in_copy(device, &mut copy, &mut entries, &mut scratch)
 }
 
 // What is wrong with the sectors of a device that was refused for one of the reasons 1 to 7.

@@ -1,7 +1,7 @@
 // What is wrong with the objects that an image saves: reasons 8 to 10.
 ghost use Rattle.std.specs.Prelude.{◌≤◌, ◌^◌, IfOk};
 ghost use Rattle.model.specs.Keepable.{AreKeepable};
-ghost use Rattle.capability.specs.Parts.{Looks, frames_of};
+ghost use Rattle.capability.specs.Parts.{OnlyReads, frames_of};
 ghost use Rattle.consistency.specs.Consistency.{AreNamed, AreWholeProcesses};
 ghost use Rattle.consistency.specs.Noted.{AreNoted};
 ghost use Rattle.image_explainer.specs.Finding.{IsConsistentOr};
@@ -23,7 +23,7 @@ fn find_in_banks<F: PresentFrames>(
     requires named { AreNamed (frames_of (F.parts store.old)) }
     requires whole { AreWholeProcesses (frames_of (F.parts store.old)) }
     ensures found { IfOk result (IsConsistentOr (frames_of (F.parts store.old))) }
-    ensures looks { Looks F.parts F.LeadsTo store.old store.new result }
+    ensures only_reads { OnlyReads F.parts F.ContinuesTo store.old store.new result }
 {
     match find_unbanked(alloc, store) {
         Err(fault) => Err(fault),
@@ -43,7 +43,7 @@ fn find_in_processes<F: PresentFrames>(
     requires notes { AreNoted (frames_of (F.parts store.old)) notes.now }
     requires named { AreNamed (frames_of (F.parts store.old)) }
     ensures found { IfOk result (IsConsistentOr (frames_of (F.parts store.old))) }
-    ensures looks { Looks F.parts F.LeadsTo store.old store.new result }
+    ensures only_reads { OnlyReads F.parts F.ContinuesTo store.old store.new result }
 {
     match find_unmatched(store, notes) {
         Some(unmatched) => Ok(Some(ImageFault::Process(unmatched))),
@@ -61,7 +61,7 @@ fn find_noted<F: PresentFrames>(
         (frames_of (F.parts store.old)) }
     requires notes { AreNoted (frames_of (F.parts store.old)) notes.now }
     ensures found { IfOk result (IsConsistentOr (frames_of (F.parts store.old))) }
-    ensures looks { Looks F.parts F.LeadsTo store.old store.new result }
+    ensures only_reads { OnlyReads F.parts F.ContinuesTo store.old store.new result }
 {
     match find_misnamed(alloc, store, notes) {
         Err(fault) => Err(fault),
@@ -77,7 +77,7 @@ fn find_from_notes<F: PresentFrames>(
 ) -> Result<Option<ImageFault>, PrepareFault>
     requires { AreKeepable (F.parts store.old).geometry u64.MAX (frames_of (F.parts store.old)) }
     ensures found { IfOk result (IsConsistentOr (frames_of (F.parts store.old))) }
-    ensures looks { Looks F.parts F.LeadsTo store.old store.new result }
+    ensures only_reads { OnlyReads F.parts F.ContinuesTo store.old store.new result }
 {
     match read_notes(alloc, store) {
         Err(fault) => Err(fault),
@@ -96,7 +96,7 @@ pub(crate) fn find_in_objects<F: PresentFrames>(
         (frames_of (F.parts store.old)) }
     requires most { age ≤ 2 ^ 62 }
     ensures found { IfOk result (IsConsistentOr (frames_of (F.parts store.old))) }
-    ensures looks { Looks F.parts F.LeadsTo store.old store.new result }
+    ensures only_reads { OnlyReads F.parts F.ContinuesTo store.old store.new result }
 {
     find_from_notes(alloc, store)
 }

@@ -5,8 +5,8 @@ use Rattle.image_writer.proofs.Names.{Image, LeavesOnly, leaves_on, leaves_weake
 use Rattle.image_writer.proofs.Names.{directory_bytes, frame_bytes, is_open, IsHeader, header_bytes, place_length, shape_of, Encodes, HasNoHeader, committed_of}
 use Rattle.image_writer.proofs.Names.{committed_bytes, directory_in, directory_length, directory_sector, does_count, frame_in, frame_sector, option_at}
 use Rattle.image_writer.proofs.Names.{sectors_from, sequence_in, shape_bytes, Plan, IsPlan, half_within, same_sectors, places_within, AreClosed, none_committed}
-use Rattle.image_writer.proofs.Names.{Holds, SavedFrames, kept_of, half_behind, sequences_told, frames_behind, HasOpeningSectors, IsBeforeOrNone, IsLeftWriting}
-use Rattle.image_writer.proofs.Names.{IsWritten, first_header, state_of}
+use Rattle.image_writer.proofs.Names.{Holds, SavedFrames, kept_of, half_behind, sequences_reported, frames_behind, HasOpeningSectors, IsBeforeOrNone}
+use Rattle.image_writer.proofs.Names.{IsLeftWriting, IsWritten, first_header, state_of}
 
 -- of two headers the first is committed, where it counts and the other doesn't
 first_alone : (first second : Bool) (m n : ℕ) → first ≡ true → second ≡ false → committed_of first m second n ≡ Some 0
@@ -27,7 +27,7 @@ module _ (p : Plan) (h : CheckpointHeader) (es : List Entry) (frames : List Fram
   header_counts : does_count (new 1) (new 2) 0 ≡ true
   header_counts =
       ap (λ (b : List ℕ). does_count b (new 2) 0) header_is ∙ ap (λ (open' : Bool). open' && (sequence_in (header_bytes h) % 2 == 0)) gate
-      ∙ ap (λ (n : ℕ). true && (n % 2 == 0)) (sequences_told h (omega (arith, first)) ∙ first)
+      ∙ ap (λ (n : ℕ). true && (n % 2 == 0)) (sequences_reported h (omega (arith, first)) ∙ first)
 
   other_does_not : does_count (new 3) (new 4) 1 ≡ false
   other_does_not = ap (λ (open' : Bool). open' && (sequence_in (new 3) % 2 == 1)) (ap is_open (change.after 4 (omega arith)) ∙ is.closed.second)

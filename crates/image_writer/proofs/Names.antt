@@ -1,7 +1,7 @@
 -- The names that the proofs here cite: of other crates, and of the definitions of this one.
 pub use Rattle.capability.proofs.Frames.{length_in}
 pub use Rattle.checkpoint.specs.Saved.{Holds, SavedFrames, kept_of}
-pub use Rattle.ckpt_log.proofs.BesideHeaders.{half_behind, sequences_told}
+pub use Rattle.ckpt_log.proofs.BesideHeaders.{half_behind, sequences_reported}
 pub use Rattle.ckpt_log.proofs.Closings.{none_committed}
 pub use Rattle.ckpt_log.proofs.Denoted.{frames_behind}
 pub use Rattle.ckpt_log.specs.Closing.{AreClosed, KeepsImage, SparesRest, WasKeptOrHasNone}
@@ -12,8 +12,8 @@ pub use Rattle.device.specs.Disk.{Disk, Image}
 pub use Rattle.device.specs.Moments.{LeavesOnly}
 pub use Rattle.frame_io.specs.Calls.{WritesAt}
 pub use Rattle.frame_io.specs.Frames.{IsObject}
+pub use Rattle.home_ranges.proofs.FrameSlots.{frame_slot_entry}
 pub use Rattle.home_ranges.proofs.Places.{IsOwn, alone, one_before, one_length, places_apart, places_spare_log, places_within, ranked, zeros_in}
-pub use Rattle.home_ranges.proofs.Seats.{seat_entry}
 pub use Rattle.home_ranges.proofs.Shared.{begins}
 pub use Rattle.home_ranges.specs.Home.{HaveHome}
 pub use Rattle.layout.proofs.Clusters.{node_end}
@@ -28,7 +28,7 @@ pub use Rattle.layout.specs.Header.{IsHeader}
 unfoldable pub use Rattle.layout.specs.Header.{header_bytes}
 pub use Rattle.layout.specs.Homes.{home_place, place_length, shape_of}
 pub use Rattle.layout.specs.Image.{Encodes, HasNoHeader, SavedState, bytes_at, committed_bytes, committed_of, directory_in, directory_length, directory_sector}
-pub use Rattle.layout.specs.Image.{does_count, frame_in, frame_sector, half_sector, option_at, seat_in, sequence_in, slot_sector}
+pub use Rattle.layout.specs.Image.{does_count, frame_in, frame_sector, frame_slot_in, half_sector, option_at, sequence_in, slot_sector}
 unfoldable pub use Rattle.layout.specs.Image.{sectors_from}
 pub use Rattle.layout.specs.Shape.{shape_bytes, shape_length}
 pub use Rattle.layout.specs.Superblock.{AreApart, Cover, IsPlan, IsWithin, Plan, extent_at, extents, half_extent, nodes_length, range_extent}

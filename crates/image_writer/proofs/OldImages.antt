@@ -29,7 +29,7 @@ module _ (old new : Image) (kept : KeepsImage old new) where
   }
 
   holds : (size : ℕ) (saved : SavedFrames) → Holds size old saved → Holds size new saved
-  holds size saved (s, is, told) = (s, encodes size s is, told)
+  holds size saved (s, is, reported) = (s, encodes size s is, reported)
 
 -- it is the same the other way round
 back : (old new : Image) → KeepsImage old new → KeepsImage new old
@@ -44,4 +44,4 @@ no_bytes None b is some = let never : None ≡ Some b = some in cc
 no_bytes (Some a) b is some = let never : Some a ≡ None = is in cc
 
 pub none_is_held : NoneIsHeld
-none_is_held size c saved none (s, is, told) = no_bytes (committed_bytes c) (header_bytes s.header) (ap (option_at c) none) is.header.spelt
+none_is_held size c saved none (s, is, reported) = no_bytes (committed_bytes c) (header_bytes s.header) (ap (option_at c) none) is.header.spelt

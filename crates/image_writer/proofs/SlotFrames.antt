@@ -2,9 +2,9 @@
 use Rattle.image_writer.proofs.Names.{◌≡◌, ℕ, Result, Ok, Err, ◌+◌, ◌-◌, ◌*◌, ◌/◌, ◌<◌, ◌≤◌, Option, Some, None, List, length, inl, inr, ⊎_elim, refl, sym}
 use Rattle.image_writer.proofs.Names.{subst, ap, ◌∙◌, arith, OnOk, cases_lt, Cap, Frame, ObjectHeader, Content, frame_at, frames_in, header_at, object_count}
 use Rattle.image_writer.proofs.Names.{Image, Elsewhere, Entry, Packed, IsDirectory, directory_bytes, entry_at, frame_bytes, home_place, place_length, shape_of}
-use Rattle.image_writer.proofs.Names.{bytes_at, directory_in, directory_length, directory_sector, frame_in, half_sector, seat_in, sectors_from, slot_sector}
-use Rattle.image_writer.proofs.Names.{shape_bytes, shape_length, Plan, IsPlan, half_extent, half_within, few_sectors, same_shaped, IsObject, IsOwn, one_length}
-use Rattle.image_writer.proofs.Names.{places_spare_log, seat_entry, begins, AreFramesOf, LieAt, AreHome, AreInSlots}
+use Rattle.image_writer.proofs.Names.{bytes_at, directory_in, directory_length, directory_sector, frame_in, half_sector, frame_slot_in, sectors_from}
+use Rattle.image_writer.proofs.Names.{slot_sector, shape_bytes, shape_length, Plan, IsPlan, half_extent, half_within, few_sectors, same_shaped, IsObject, IsOwn}
+use Rattle.image_writer.proofs.Names.{one_length, places_spare_log, frame_slot_entry, begins, AreFramesOf, LieAt, AreHome, AreInSlots}
 use Rattle.std.specs.Prelude.{slice_index_or}
 use Rattle.image_writer.proofs.HomeFrames.{own_at}
 
@@ -98,16 +98,16 @@ slots_alone p generation old new change = record { before = change.before; after
 -- ---- what an image has of a frame
 
 -- each frame is in a slot or at home
-pub all_seated : (p : Plan) (generation : ℕ) (es : List Entry) (frames : List Frame) (homes new : Image) → IsPlan p → Elsewhere (half_sector p generation) (half_extent p.geometry 0).length homes new → AreHome p frames (object_count p.geometry) homes
+pub all_slotted : (p : Plan) (generation : ℕ) (es : List Entry) (frames : List Frame) (homes new : Image) → IsPlan p → Elsewhere (half_sector p generation) (half_extent p.geometry 0).length homes new → AreHome p frames (object_count p.geometry) homes
     → AreInSlots p generation es frames (length es) new → (a : ℕ) → a < object_count p.geometry → frame_in new p generation es a ≡ frame_bytes p.geometry a (frame_at frames a)
-all_seated p generation es frames homes new fits change home slots a lt = by (seat_in p es a) refl where
-  by : (o : Option ℕ) → seat_in p es a ≡ o → frame_in new p generation es a ≡ frame_bytes p.geometry a (frame_at frames a)
+all_slotted p generation es frames homes new fits change home slots a lt = by (frame_slot_in p es a) refl where
+  by : (o : Option ℕ) → frame_slot_in p es a ≡ o → frame_in new p generation es a ≡ frame_bytes p.geometry a (frame_at frames a)
   by None none = rw none (
       same_shaped (home_place p a) (shape_of p a) homes new (λ k inside. ⊎_elim (λ before. change.before (home_place p a + k) (omega (arith, before, inside))) (λ after. change.after (home_place p a + k) (omega (arith, after)))
       (places_spare_log p a generation fits lt))
       ∙ home a lt)
   by (Some slot) some = rw some (
-      let entry = seat_entry p es a slot some in
+      let entry = frame_slot_entry p es a slot some in
       subst (λ (s : ℕ). bytes_at new (slot_sector p generation s) p a ≡ frame_bytes p.geometry a (frame_at frames a)) entry.slot_is
       (slots entry.index entry.within a lt (sym entry.home_is)))
 

@@ -10,8 +10,8 @@ module _ {D : Type 0} (disk : D → Disk) (ms : Members) (old : D) (output : Opt
 
   module _ (new : D) (output_left : Option (List ℕ)) (needed : ℕ)
       (found : (d : Description) × IsDescription ms d × IsWithinLimits d × (needed ≡ (plan_for d).total)) (built : BuildsFrom ms (disk old) (disk new)) where
-    pub built_told : Appends output output_left (line_of (built_text needed)) → BuildsImage disk ms old new output output_left (Ok tt)
-    built_told told = (built, (found.0, found.1, subst (λ (n : ℕ). Appends output output_left (line_of (built_text n))) found.3 told))
+    pub built_reported : Appends output output_left (line_of (built_text needed)) → BuildsImage disk ms old new output output_left (Ok tt)
+    built_reported reported = (built, (found.0, found.1, subst (λ (n : ℕ). Appends output output_left (line_of (built_text n))) found.3 reported))
 
     pub built_untold : AppendsFront output output_left (line_of (built_text needed)) → BuildsImage disk ms old new output output_left (Err fault.CannotWriteOutput)
-    built_untold told = (built, (found.0, found.1, subst (λ (n : ℕ). AppendsFront output output_left (line_of (built_text n))) found.3 told))
+    built_untold reported = (built, (found.0, found.1, subst (λ (n : ℕ). AppendsFront output output_left (line_of (built_text n))) found.3 reported))

@@ -1,7 +1,7 @@
 -- What the command that describes comes to, and what its text is built as.
 use Rattle.jobs.proofs.Names.{◌≡◌, ℕ, List, Result, Ok, refl, sym, ap, ◌∙◌, subst, same_Some, Members, Frame, Geometry, Object, objects_of, IsSoundFrames}
-use Rattle.jobs.proofs.Names.{world_at, World, Saved, Disk, Image, agrees_is, Encodes, SavedState, OpenFault, Looks, Holds, SavedFrames, saved_state, seen_of}
-use Rattle.jobs.proofs.Names.{AreSound, frames_of, objects_in, first_saved, Live, Recovers, Description, IsDescription, IsSame, description_once}
+use Rattle.jobs.proofs.Names.{world_at, World, Saved, Disk, Image, agrees_is, Encodes, SavedState, OpenFault, OnlyReads, Holds, SavedFrames, saved_state}
+use Rattle.jobs.proofs.Names.{seen_of, AreSound, frames_of, objects_in, first_saved, Live, Recovers, Description, IsDescription, IsSame, description_once}
 use Rattle.jobs.proofs.Names.{described_is_same, described_has_text, same_described, CanBeSpelled, StoreState, parts_of, view_of, DescribesSaved}
 use Rattle.jobs.proofs.Names.{IsDescriptionOf, OpensAndDescribes, DescribedIsDenoted, HoldsOfSaved}
 
@@ -14,8 +14,8 @@ module _ {D : Type 0} (disk : D → Disk) (seen_left : (d : D) → (disk d).may_
   pub encodes : Encodes (disk device).seen (disk device).sectors state_of
   encodes =
       let beneath = l.store.durable.beneath in
-      subst (λ (i : Image). Encodes i (disk device).sectors state_of) (agrees_is (disk beneath).seen (disk device).seen wakes.looks.seen)
-      (subst (λ (n : ℕ). Encodes (disk beneath).seen n state_of) wakes.looks.size (wakes.up.store (disk beneath).seen (seen_left beneath)))
+      subst (λ (i : Image). Encodes i (disk device).sectors state_of) (agrees_is (disk beneath).seen (disk device).seen wakes.only_reads.seen)
+      (subst (λ (n : ℕ). Encodes (disk beneath).seen n state_of) wakes.only_reads.size (wakes.up.store (disk beneath).seen (seen_left beneath)))
 
   pub sound : IsSoundFrames state_of.plan.geometry state_of.header.age state_of.frames
   sound = wakes.up.sound.saved.sound
@@ -29,8 +29,8 @@ module _ {D : Type 0} (disk : D → Disk) (seen_left : (d : D) → (disk d).may_
   are_sound = (state_of.header.age, sound_at state_of.header.age refl)
 
   module _ (back : D) (same : back ≡ l.store.durable.beneath) where
-    pub looked : Looks (disk device) (disk back)
-    looked = subst (λ (d : D). Looks (disk device) (disk d)) (sym same) wakes.looks
+    pub looked : OnlyReads (disk device) (disk back)
+    looked = subst (λ (d : D). OnlyReads (disk device) (disk d)) (sym same) wakes.only_reads
 
     pub saved : (age : ℕ) → age ≡ state_of.header.age → (d : Description) → IsDescriptionOf l.store.durable.books.plan age (frames_of (parts_of disk l.store)) d → DescribesSaved disk device back d
     saved age age_is d whole = record {
@@ -40,7 +40,7 @@ module _ {D : Type 0} (disk : D → Disk) (seen_left : (d : D) → (disk d).may_
       whole = subst (λ (n : ℕ). IsDescriptionOf state_of.plan n state_of.frames d) age_is
           (subst (λ (fs : List Frame). IsDescriptionOf state_of.plan age fs d) wakes.frames whole);
       failures = ap (λ (d : D). (disk d).failures) same ∙ wakes.failures;
-      looks = looked;
+      only_reads = looked;
     }
 
     -- all objects that are saved
@@ -51,13 +51,13 @@ module _ {D : Type 0} (disk : D → Disk) (seen_left : (d : D) → (disk d).may_
       sound = sound;
       holds = is ∙ ap (λ (fs : List Frame). objects_of fs) wakes.frames;
       failures = ap (λ (d : D). (disk d).failures) same ∙ wakes.failures;
-      looks = looked;
+      only_reads = looked;
     }
 
 -- what was answered is the description of what is saved
 pub described : {D : Type 0} (disk : D → Disk) (device back : D) (answer : Result Description OpenFault) (d : Description) → answer ≡ Ok d → OpensAndDescribes disk device back answer
     → DescribesSaved disk device back d
-described disk device back answer d is told = subst (λ (r : Result Description OpenFault). OpensAndDescribes disk device back r) is told
+described disk device back answer d is reported = subst (λ (r : Result Description OpenFault). OpensAndDescribes disk device back r) is reported
 
 -- A description of what is saved.
 module _ {D : Type 0} (disk : D → Disk) (device back : D) (d : Description) (saved : DescribesSaved disk device back d) where
@@ -67,14 +67,14 @@ module _ {D : Type 0} (disk : D → Disk) (device back : D) (d : Description) (s
 
 -- What is built of the text denotes the world that it was told of.
 pub described_is_denoted : DescribedIsDenoted
-described_is_denoted p age frames text table e saved size c sound told read said built holds =
-    let d = told.description in
+described_is_denoted p age frames text table e saved size c sound reported read said built holds =
+    let d = reported.description in
     let gs : List Frame = built.0 in
-    let tables : told.table ≡ table = same_Some told.table table (sym told.read ∙ read) in
-    let same : IsSame d e = description_once table d e (subst (λ (ms : Members). IsDescription ms d) tables told.said) said in
-    let is = described_is_same p.geometry age frames gs d sound told.describes (same_described d e same gs built.1) in
+    let tables : reported.table ≡ table = same_Some reported.table table (sym reported.read ∙ read) in
+    let same : IsSame d e = description_once table d e (subst (λ (ms : Members). IsDescription ms d) tables reported.said) said in
+    let is = described_is_same p.geometry age frames gs d sound reported.describes (same_described d e same gs built.1) in
     let world : world_at e.age gs ≡ world_at age frames = ap (λ (n : ℕ). world_at n gs) (sym same.age) ∙ is.1 in
-    let geometry : e.geometry ≡ p.geometry = sym same.geometry ∙ told.describes.geometry in
+    let geometry : e.geometry ≡ p.geometry = sym same.geometry ∙ reported.describes.geometry in
     record {
       frames = first_saved e.geometry e.age gs;
       holds = subst (λ (s : SavedFrames). Holds size c s) built.3 holds;

@@ -29,7 +29,7 @@ module _ {D : Type 0} (disk : D → Disk) (device back : D) (whole : Whole)
   module _ (focus : Focus) (output output_left : Option (List ℕ)) where
     of_whole : (outcome : Result (Unit {0}) Fault) → DrawsPart whole.objects.items focus whole.description output output_left outcome
         → OfWhole disk device back (λ os d. DrawsPart os focus d output output_left outcome)
-    of_whole outcome draws = record { description = whole.description; saved = opened.0; objects = whole.objects.items; read = opened.1; told = draws }
+    of_whole outcome draws = record { description = whole.description; saved = opened.0; objects = whole.objects.items; read = opened.1; reported = draws }
 
     pub draws_image : (outcome : Result (Unit {0}) Fault) → DrawsPart whole.objects.items focus whole.description output output_left outcome → DrawsImage disk focus device back output output_left outcome
     draws_image (Ok a) draws = of_whole (Ok a) draws
@@ -42,7 +42,7 @@ module _ {D : Type 0} (disk : D → Disk) (device back : D) (whole : Whole)
     draws_image (Err fault.NoMemory) draws = absurd draws.0
     draws_image (Err (fault.Build why)) draws = absurd draws.0
     draws_image (Err (fault.Open opening.Failed)) draws = absurd draws.0
-    draws_image (Err (fault.Open opening.NoMemory)) draws = (record { is_why = opened.0.failures; looks = opened.0.looks }, draws)
+    draws_image (Err (fault.Open opening.NoMemory)) draws = (record { is_why = opened.0.failures; only_reads = opened.0.only_reads }, draws)
     draws_image (Err (fault.Open (opening.Bad reason))) draws = absurd draws.0
     draws_image (Err (fault.Upgrade why)) draws = absurd draws.0
     draws_image (Err (fault.Stopped stop)) draws = absurd draws.0

@@ -10,20 +10,20 @@ use Rattle.checkpoint.specs.declared.open_fault.OpenFault.TheVariants as opening
 use Rattle.jobs.specs.declared.fault.Fault.TheVariants as fault
 
 pub grown_is_denoted : GrownIsDenoted
-grown_is_denoted p g age frames text table e saved size c told read said built holds =
-    let d = told.description in
-    let v : World = told.whole.world in
+grown_is_denoted p g age frames text table e saved size c reported read said built holds =
+    let d = reported.description in
+    let v : World = reported.whole.world in
     let gs : List Frame = built.0 in
-    let tables : told.table ≡ table = same_Some told.table table (sym told.read ∙ read) in
-    let same : IsSame d e = description_once table d e (subst (λ (ms : Members). IsDescription ms d) tables told.said) said in
-    let frames_are : plain_frames v.objects ≡ gs = described_once d (plain_frames v.objects) gs told.whole.describes.frames (same_described d e same gs built.1) in
-    let age_is : e.age ≡ v.age = sym same.age ∙ told.whole.describes.age in
+    let tables : reported.table ≡ table = same_Some reported.table table (sym reported.read ∙ read) in
+    let same : IsSame d e = description_once table d e (subst (λ (ms : Members). IsDescription ms d) tables reported.said) said in
+    let frames_are : plain_frames v.objects ≡ gs = described_once d (plain_frames v.objects) gs reported.whole.describes.frames (same_described d e same gs built.1) in
+    let age_is : e.age ≡ v.age = sym same.age ∙ reported.whole.describes.age in
     let world : world_at e.age gs ≡ v =
     ap (λ (n : ℕ). world_at n gs) age_is ∙ ap (λ (hs : List Frame). world_at v.age hs) (sym frames_are)
     ∙ ap (λ (os : List Object). let w : World = record { objects = os; age = v.age } in w) (objects_plain v.objects) in
-    let geometry : e.geometry ≡ g = sym same.geometry ∙ told.whole.describes.geometry in (
+    let geometry : e.geometry ≡ g = sym same.geometry ∙ reported.whole.describes.geometry in (
       v,
-      told.whole.grown,
+      reported.whole.grown,
       record {
         frames = first_saved e.geometry e.age gs;
         holds = subst (λ (s : SavedFrames). Holds size c s) built.3 holds;
@@ -36,18 +36,18 @@ same_ranges : (g : Geometry) (rs : List NumberRange) → grown_ranges g g rs ≡
 same_ranges g rs = grind (arith, nat_tests)
 
 pub unsized_is_whole : UnsizedIsWhole
-unsized_is_whole p age frames text sound told =
-    let same : told.whole.world ≡ world_at age frames = grown_to_itself p.geometry (world_at age frames) told.whole.world sound.sound told.whole.grown in
+unsized_is_whole p age frames text sound reported =
+    let same : reported.whole.world ≡ world_at age frames = grown_to_itself p.geometry (world_at age frames) reported.whole.world sound.sound reported.whole.grown in
     record {
-      table = told.table;
-      read = told.read;
-      description = told.description;
-      said = told.said;
-      spelled = told.spelled;
-      describes = subst (λ (w : World). Describes p.geometry w told.description) same told.whole.describes;
-      brief = told.whole.brief;
-      ranges = told.whole.ranges ∙ same_ranges p.geometry (map numbers_of p.ranges);
-      layout = told.whole.layout;
+      table = reported.table;
+      read = reported.read;
+      description = reported.description;
+      said = reported.said;
+      spelled = reported.spelled;
+      describes = subst (λ (w : World). Describes p.geometry w reported.description) same reported.whole.describes;
+      brief = reported.whole.brief;
+      ranges = reported.whole.ranges ∙ same_ranges p.geometry (map numbers_of p.ranges);
+      layout = reported.whole.layout;
     }
 
 -- A description of what is saved, renumbered.
@@ -62,7 +62,7 @@ module _ {D : Type 0} (disk : D → Disk) (device back : D) (d : Description) (s
   geometry_is = saved.whole.describes.geometry
 
   pub reads : ReadsSaved disk device back saved.state
-  reads = record { encodes = saved.encodes; sound = saved.sound; failures = saved.failures; looks = saved.looks }
+  reads = record { encodes = saved.encodes; sound = saved.sound; failures = saved.failures; only_reads = saved.only_reads }
 
   pub laid : MayBeLaid d.geometry d.ranges.items
   laid = subst (λ (h : Geometry). MayBeLaid h d.ranges.items) (sym geometry_is)
@@ -88,20 +88,20 @@ module _ {D : Type 0} (disk : D → Disk) (device back : D) (d : Description) (s
           layout = grown.same.layout ∙ saved.whole.layout;
         }
 
-    pub tells_grown : (Told : List ℕ → Type 0) → TellsText e Told → TellsWhole disk sizes device back Told
-    tells_grown Told told = record {
+    pub tells_grown : (Reported : List ℕ → Type 0) → TellsText e Reported → TellsWhole disk sizes device back Reported
+    tells_grown Reported reported = record {
       state = saved.state;
       saved = reads;
-      text = told.0;
+      text = reported.0;
       whole = record {
-        table = told.1.table;
-        read = told.1.read;
+        table = reported.1.table;
+        read = reported.1.read;
         description = e;
-        said = told.1.said;
-        spelled = told.1.spelled;
+        said = reported.1.said;
+        spelled = reported.1.spelled;
         whole = in_it;
       };
-      told = told.2;
+      reported = reported.2;
     }
 
   pub refuses_sizes : (why : GrowthFault) → IsNotRenumbered d (grown_geometry d.geometry sizes) why → RefusesSizes disk sizes device back why
@@ -125,7 +125,7 @@ module _ {D : Type 0} (disk : D → Disk) (device back : D) (d : Description) (s
     describes_image (Err fault.NoMemory) tells = absurd tells
     describes_image (Err (fault.Build why)) tells = absurd tells
     describes_image (Err (fault.Open opening.Failed)) tells = absurd tells
-    describes_image (Err (fault.Open opening.NoMemory)) tells = (record { is_why = saved.failures; looks = saved.looks }, tells)
+    describes_image (Err (fault.Open opening.NoMemory)) tells = (record { is_why = saved.failures; only_reads = saved.only_reads }, tells)
     describes_image (Err (fault.Open (opening.Bad reason))) tells = absurd tells
     describes_image (Err (fault.Upgrade why)) tells = absurd tells
     describes_image (Err (fault.Stopped stop)) tells = absurd tells

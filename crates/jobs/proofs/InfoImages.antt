@@ -37,13 +37,13 @@ pub lines_same : (p : Plan) (saved : Checkpoint) (f g : Role → ℕ) → ((r : 
 lines_same p saved f g same = rw (same role.Free, same role.Page, same role.Node, same role.Root, same role.Bank) refl
 
 -- the lines about what was read of a store are those about what its device saves
-pub lines_saved : (p : Plan) (told : Checkpoint) (s : SavedState) (hs : List ObjectHeader) (cs ds : List (Content Cap)) → p ≡ s.plan → told.generation ≡ s.header.generation → told.age ≡ s.header.age
-    → told.entries ≡ s.header.entries → ds ≡ cs → length cs ≡ length hs → frames_in hs cs ≡ s.frames → lines_over p told ds ≡ info_lines s.plan (saved_of (kept_of s))
-lines_saved p told s hs cs ds plan generation age entries contents whole frames =
+pub lines_saved : (p : Plan) (reported : Checkpoint) (s : SavedState) (hs : List ObjectHeader) (cs ds : List (Content Cap)) → p ≡ s.plan → reported.generation ≡ s.header.generation → reported.age ≡ s.header.age
+    → reported.entries ≡ s.header.entries → ds ≡ cs → length cs ≡ length hs → frames_in hs cs ≡ s.frames → lines_over p reported ds ≡ info_lines s.plan (saved_of (kept_of s))
+lines_saved p reported s hs cs ds plan generation age entries contents whole frames =
     let saved : Checkpoint = record { generation = s.header.generation; age = s.header.age; entries = s.header.entries } in
-    ap (λ (q : Plan). lines_over q told ds) plan
-    ∙ ap (λ (n : ℕ). lines_over s.plan (record { generation = n; age = told.age; entries = told.entries }) ds) generation
-    ∙ ap (λ (n : ℕ). lines_over s.plan (record { generation = s.header.generation; age = n; entries = told.entries }) ds) age
+    ap (λ (q : Plan). lines_over q reported ds) plan
+    ∙ ap (λ (n : ℕ). lines_over s.plan (record { generation = n; age = reported.age; entries = reported.entries }) ds) generation
+    ∙ ap (λ (n : ℕ). lines_over s.plan (record { generation = s.header.generation; age = n; entries = reported.entries }) ds) age
     ∙ ap (λ (n : ℕ). lines_over s.plan (record { generation = s.header.generation; age = s.header.age; entries = n }) ds) entries
     ∙ ap (λ (xs : List (Content Cap)). lines_over s.plan saved xs) contents
     ∙ lines_same s.plan saved (λ r. count_by (λ c. has_role r c) cs) (λ r. objects_with r (world_at s.header.age s.frames))
@@ -66,5 +66,5 @@ module _ {D : Type 0} (disk : D → Disk) (seen_left : (d : D) → (disk d).may_
     sound = sound disk seen_left device l wakes;
     lines_are = are;
     failures = ap (λ (d : D). (disk d).failures) same ∙ wakes.failures;
-    looks = looked disk seen_left device l wakes back same;
+    only_reads = looked disk seen_left device l wakes back same;
   }

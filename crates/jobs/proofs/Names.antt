@@ -1,6 +1,6 @@
 -- The names that the proofs here cite: of other crates, and of the definitions of this one.
 pub use Rattle.capability.specs.Parts.{AreSound, Parts, frames_of, objects_in}
-pub use Rattle.checkpoint.specs.Opened.{Looks}
+pub use Rattle.checkpoint.specs.Opened.{OnlyReads}
 pub use Rattle.checkpoint.specs.Saved.{Holds, SavedFrames, kept_of}
 pub use Rattle.checkpoint.specs.declared.committed.Checkpoint.{Checkpoint}
 pub use Rattle.checkpoint.specs.declared.open_fault.OpenFault.{OpenFault}
@@ -39,7 +39,7 @@ pub use Rattle.image_writer.specs.Written.{first_saved}
 pub use Rattle.image_writer.specs.declared.number_range.NumberRange.{NumberRange}
 pub use Rattle.kernel.specs.Opening.{Opens}
 pub use Rattle.kernel.specs.Power.{Power}
-pub use Rattle.kernel.specs.Standing.{IsDeviceOf, IsTold}
+pub use Rattle.kernel.specs.Standing.{IsDeviceOf, IsReported}
 pub use Rattle.layout.specs.Image.{Encodes, SavedState}
 pub use Rattle.layout.specs.Superblock.{Plan, version_number}
 pub use Rattle.layout.specs.declared.version.Version.{Version}

@@ -1,15 +1,15 @@
 -- What the commands that open an image come to.
-use Rattle.jobs.proofs.Names.{◌≡◌, ℕ, List, Option, Ok, Err, sym, ap, ◌∙◌, subst, Appends, Running, Saved, line_of, Disk, Parts, Checkpoint, Looks, View, Power}
-use Rattle.jobs.proofs.Names.{Opens, IsDeviceOf, IsTold, AppendsFront, ChecksImage, checked_text}
+use Rattle.jobs.proofs.Names.{◌≡◌, ℕ, List, Option, Ok, Err, sym, ap, ◌∙◌, subst, Appends, Running, Saved, line_of, Disk, Parts, Checkpoint, OnlyReads, View}
+use Rattle.jobs.proofs.Names.{Power, Opens, IsDeviceOf, IsReported, AppendsFront, ChecksImage, checked_text}
 use Rattle.std.specs.Prelude.{None, Some}
 use Rattle.kernel.specs.Power as power
 use Rattle.jobs.specs.declared.fault.Fault.TheVariants as fault
 
 module _ {D S : Type 0} (disk : D → Disk) (view : S → View D) (parts : S → Parts) (device : D) where
   -- nothing was written to the device beneath a kernel that was just opened
-  looked_at : (back : D) (p : Power D S) → Opens disk view parts device p → IsDeviceOf disk view parts p back → Looks (disk device) (disk back)
-  looked_at back (power.Up l) opens is = subst (λ (d : D). Looks (disk device) (disk d)) (sym is) opens.looks
-  looked_at back (power.Down d) opens is = subst (λ (e : D). Looks (disk device) (disk e)) (sym is) opens.looks
+  looked_at : (back : D) (p : Power D S) → Opens disk view parts device p → IsDeviceOf disk view parts p back → OnlyReads (disk device) (disk back)
+  looked_at back (power.Up l) opens is = subst (λ (d : D). OnlyReads (disk device) (disk d)) (sym is) opens.only_reads
+  looked_at back (power.Down d) opens is = subst (λ (e : D). OnlyReads (disk device) (disk e)) (sym is) opens.only_reads
   looked_at back power.Between opens is = absurd is
 
   -- and no call of it failed
@@ -19,25 +19,25 @@ module _ {D S : Type 0} (disk : D → Disk) (view : S → View D) (parts : S →
   none_failed back power.Between opens is = absurd is
 
   -- what a kernel tells that was just opened is what is saved on the device
-  text_told : (p : Power D S) (told : Checkpoint) (opens : Opens disk view parts device p) → IsTold disk view parts p (Some told) →
-      checked_text told.generation told.age told.entries ≡ checked_text opens.saved.generation opens.saved.world.age opens.saved.entries
-  text_told (power.Up l) told opens is =
+  text_reported : (p : Power D S) (reported : Checkpoint) (opens : Opens disk view parts device p) → IsReported disk view parts p (Some reported) →
+      checked_text reported.generation reported.age reported.entries ≡ checked_text opens.saved.generation opens.saved.world.age opens.saved.entries
+  text_reported (power.Up l) reported opens is =
       let same = ap (λ (r : Running). r.saved) opens.stands.1 in
-      ap (λ (g : ℕ). checked_text g told.age told.entries) (is.0 ∙ sym (ap (λ (s : Saved). s.generation) same))
-      ∙ ap (λ (a : ℕ). checked_text opens.saved.generation a told.entries) (is.1 ∙ sym (ap (λ (s : Saved). s.world.age) same))
+      ap (λ (g : ℕ). checked_text g reported.age reported.entries) (is.0 ∙ sym (ap (λ (s : Saved). s.generation) same))
+      ∙ ap (λ (a : ℕ). checked_text opens.saved.generation a reported.entries) (is.1 ∙ sym (ap (λ (s : Saved). s.world.age) same))
       ∙ ap (λ (e : ℕ). checked_text opens.saved.generation opens.saved.world.age e) (is.2 ∙ sym (ap (λ (s : Saved). s.entries) same))
-  text_told (power.Down d) told opens is = absurd opens.stands
-  text_told power.Between told opens is = absurd opens.stands
+  text_reported (power.Down d) reported opens is = absurd opens.stands
+  text_reported power.Between reported opens is = absurd opens.stands
 
-  module _ (back : D) (p : Power D S) (told : Checkpoint) (opens : Opens disk view parts device p) (is : IsTold disk view parts p (Some told)) (beneath : IsDeviceOf disk view parts p back)
+  module _ (back : D) (p : Power D S) (reported : Checkpoint) (opens : Opens disk view parts device p) (is : IsReported disk view parts p (Some reported)) (beneath : IsDeviceOf disk view parts p back)
       (output output_left : Option (List ℕ)) where
-    pub checked : Appends output output_left (line_of (checked_text told.generation told.age told.entries)) → ChecksImage disk device back output output_left (Ok tt)
-    checked written = (opens.geometry, opens.saved, opens.denoted, subst (λ (t : List ℕ). Appends output output_left (line_of t)) (text_told p told opens is) written, looked_at back p opens beneath, none_failed back p opens beneath)
+    pub checked : Appends output output_left (line_of (checked_text reported.generation reported.age reported.entries)) → ChecksImage disk device back output output_left (Ok tt)
+    checked written = (opens.geometry, opens.saved, opens.denoted, subst (λ (t : List ℕ). Appends output output_left (line_of t)) (text_reported p reported opens is) written, looked_at back p opens beneath, none_failed back p opens beneath)
 
-    pub checked_untold : AppendsFront output output_left (line_of (checked_text told.generation told.age told.entries)) → ChecksImage disk device back output output_left (Err fault.CannotWriteOutput)
-    checked_untold written = (opens.geometry, opens.saved, opens.denoted, subst (λ (t : List ℕ). AppendsFront output output_left (line_of t)) (text_told p told opens is) written, looked_at back p opens beneath, none_failed back p opens beneath)
+    pub checked_untold : AppendsFront output output_left (line_of (checked_text reported.generation reported.age reported.entries)) → ChecksImage disk device back output output_left (Err fault.CannotWriteOutput)
+    checked_untold written = (opens.geometry, opens.saved, opens.denoted, subst (λ (t : List ℕ). AppendsFront output output_left (line_of t)) (text_reported p reported opens is) written, looked_at back p opens beneath, none_failed back p opens beneath)
 
-  pub nothing_told : (p : Power D S) → Opens disk view parts device p → IsTold disk view parts p None → ⊥
-  nothing_told (power.Up l) opens is = is
-  nothing_told (power.Down d) opens is = opens.stands
-  nothing_told power.Between opens is = opens.stands
+  pub nothing_reported : (p : Power D S) → Opens disk view parts device p → IsReported disk view parts p None → ⊥
+  nothing_reported (power.Up l) opens is = is
+  nothing_reported (power.Down d) opens is = opens.stands
+  nothing_reported power.Between opens is = opens.stands

@@ -22,7 +22,7 @@ without_fault (Err why) = Err why
 
 -- what is wrong with the image on a device, which was only read, is written
 abbrev pub TellsFault : {D : Type 0} → (D → Disk) → D → D → Option ImageFault → (List ℕ → Type 0) → Type 0
-TellsFault disk device back found Told = (let r : Result (Option ImageFault) OpenFault = Ok found in Explains disk device back r) × Told (line_of (explanation_text found))
+TellsFault disk device back found Reported = (let r : Result (Option ImageFault) OpenFault = Ok found in Explains disk device back r) × Reported (line_of (explanation_text found))
 
 -- that is written; or it isn't written whole; or the device failed, or memory ran out
 abbrev pub ExplainsImage : {D : Type 0} → (D → Disk) → D → D → Option (List ℕ) → Option (List ℕ) → Result (Option ImageFault) Fault → Type 0

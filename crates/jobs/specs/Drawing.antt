@@ -50,7 +50,7 @@ KeepsPart os focus d e (Err why) = IsNoFocus os focus d why
 
 -- the graph of a part was written
 abbrev pub TellsPart : List Object → Focus → Description → (List ℕ → Type 0) → Type 0
-TellsPart os focus d Told = (e : Description) × IsFocus os focus d e × Told (graph_text e)
+TellsPart os focus d Reported = (e : Description) × IsFocus os focus d e × Reported (graph_text e)
 
 abbrev pub DrawsPart : List Object → Focus → Description → Option (List ℕ) → Option (List ℕ) → Result (Unit {0}) Fault → Type 0
 DrawsPart os focus d output output_left (Ok a) = TellsPart os focus d (Appends output output_left)
@@ -65,12 +65,12 @@ OpensWhole disk device back (Ok whole) = DescribesSaved disk device back whole.d
 OpensWhole disk device back (Err why) = RefusesToOpen disk device back why
 
 -- it was opened so, and Told holds of what is saved
-pub record OfWhole {D : Type 0} (disk : D → Disk) (device back : D) (Told : List Object → Description → Type 0) : Type 0 where
+pub record OfWhole {D : Type 0} (disk : D → Disk) (device back : D) (Reported : List Object → Description → Type 0) : Type 0 where
   pub description : Description
   pub saved : DescribesSaved disk device back description
   pub objects : List Object
   pub read : HoldsOfSaved disk device back (λ os. objects ≡ os)
-  pub told : Told objects description
+  pub reported : Reported objects description
 
 -- the graph of a part of what is saved was written; or not whole; or a number of the focus is wrong; or
 -- the device wasn't opened, or memory ran out

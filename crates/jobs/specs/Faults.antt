@@ -86,9 +86,9 @@ status_of (Ok a) = 0
 status_of (Err why) = 1
 
 -- a fault was written on a line of its own, as far as it could be written
-abbrev pub IsTold : Result (Unit {0}) Fault → Option (List ℕ) → Option (List ℕ) → Type 0
-IsTold (Ok a) old new = new ≡ old
-IsTold (Err why) old new = (wrote : Result (Unit {0}) RunFault) × Writes old new wrote (line_of (fault_text why))
+abbrev pub IsReported : Result (Unit {0}) Fault → Option (List ℕ) → Option (List ℕ) → Type 0
+IsReported (Ok a) old new = new ≡ old
+IsReported (Err why) old new = (wrote : Result (Unit {0}) RunFault) × Writes old new wrote (line_of (fault_text why))
 
 -- The status of a command once the buffer of its output is passed on: the status before, and an empty buffer if that
 -- status is 0; or 1, where it was 0 and the buffer couldn't be passed on.

@@ -13,7 +13,7 @@ pub record IsSpelling (d : Description) (text : List ℕ) : Type 0 where
   pub spelled : text ≡ description_text d
 
 abbrev pub TellsText : Description → (List ℕ → Type 0) → Type 0
-TellsText d Told = (text : List ℕ) × IsSpelling d text × Told text
+TellsText d Reported = (text : List ℕ) × IsSpelling d text × Reported text
 
 -- the text of a description was written; or it couldn't be written whole; or memory ran out
 abbrev pub TellsDescription : Description → Option (List ℕ) → Option (List ℕ) → Result (Unit {0}) Fault → Type 0
@@ -38,7 +38,7 @@ GrowsDescription sizes d e (Err (fault.Open opening.NoMemory)) = Unit {0}
 GrowsDescription sizes d e (Err _) = ⊥
 
 abbrev pub TellsGrownText : Description → Sizes → (List ℕ → Type 0) → Type 0
-TellsGrownText d sizes Told = (e : Description) × IsGrownFrom sizes d e × TellsText e Told
+TellsGrownText d sizes Reported = (e : Description) × IsGrownFrom sizes d e × TellsText e Reported
 
 -- the text of a renumbered description was written; or a fault
 abbrev pub TellsGrown : Description → Sizes → Option (List ℕ) → Option (List ℕ) → Result (Unit {0}) Fault → Type 0

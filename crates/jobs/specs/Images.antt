@@ -1,7 +1,7 @@
 -- What the commands do with images.
 use Rattle.jobs.specs.Names.{◌≡◌, ◌≢◌, ◌↔◌, ◌<◌, ℕ, List, [], ◌∷◌, codes, decimal, Bool, map, Option, Some, Result, Ok, Err, Appends, Members, parse_document}
 use Rattle.jobs.specs.Names.{Frame, Geometry, IsSoundFrames, world_at, Saved, World, Turn, line_of, spaced, Disk, Encodes, SavedState, Plan, version_number}
-use Rattle.jobs.specs.Names.{Two, Looks, OpenFault, laid_again, numbers_of, Parts, View, Power, RefusesToOpen, Opens, Denotes, IsDeviceOf, Description}
+use Rattle.jobs.specs.Names.{Two, OnlyReads, OpenFault, laid_again, numbers_of, Parts, View, Power, RefusesToOpen, Opens, Denotes, IsDeviceOf, Description}
 use Rattle.jobs.specs.Names.{IsDescription, BuildsFrom, Refuses, plan_for, GrowthFault, Sizes, Describes, IsBrief, IsGrown, IsUnsuited, grown_geometry}
 use Rattle.jobs.specs.Names.{grown_ranges, description_text, IsNotUpgraded, Upgrades, Stop, RunsOver, RunsSeen, RunFault, AppendsFront}
 use Rattle.checkpoint.specs.declared.open_fault.OpenFault.TheVariants as opening
@@ -22,7 +22,7 @@ checked_text generation age entries =
 
 -- the total of the image of a table is written
 abbrev pub TellsTotal : Members → (List ℕ → Type 0) → Type 0
-TellsTotal ms Told = (d : Description) × IsDescription ms d × Told (line_of (built_text (plan_for d).total))
+TellsTotal ms Reported = (d : Description) × IsDescription ms d × Reported (line_of (built_text (plan_for d).total))
 
 -- an image was built and its total written; or it was built, and the total couldn't be written whole; or none was
 abbrev pub BuildsImage : {D : Type 0} → (D → Disk) → Members → D → D → Option (List ℕ) → Option (List ℕ) → Result (Unit {0}) Fault → Type 0
@@ -37,8 +37,8 @@ abbrev pub upgraded_text : ℕ → List ℕ
 upgraded_text total = spaced (codes "upgraded" ∷ decimal total ∷ codes "sectors" ∷ [])
 
 abbrev pub UpgradesAndTells : {D E : Type 0} → (D → Disk) → (E → Disk) → D → E → E → (List ℕ → Type 0) → Type 0
-UpgradesAndTells disk new_disk old before new Told =
-    (done : Upgrades (disk old) (new_disk before) (new_disk new)) × Told (line_of (upgraded_text (laid_again Two done.state.plan).total))
+UpgradesAndTells disk new_disk old before new Reported =
+    (done : Upgrades (disk old) (new_disk before) (new_disk new)) × Reported (line_of (upgraded_text (laid_again Two done.state.plan).total))
 
 -- an image was upgraded and its total written; or the total couldn't be written whole; or no image was upgraded
 abbrev pub UpgradesImage : {D E : Type 0} → (D → Disk) → (E → Disk) → D → E → E → Option (List ℕ) → Option (List ℕ) → Result (Unit {0}) Fault → Type 0
@@ -94,9 +94,9 @@ module _ {D S : Type 0} (disk : D → Disk) (view : S → View D) (parts : S →
 
 -- a device was opened with no failure, nothing was written to it at any moment, and Told holds of what is saved on it
 abbrev pub TellsSaved : {D : Type 0} → (D → Disk) → D → D → (List ℕ → Type 0) → Type 0
-TellsSaved disk device back Told =
-    (geometry : Geometry) × (saved : Saved) × Denotes geometry (disk device).sectors (disk device).seen saved × Told (line_of (checked_text saved.generation saved.world.age saved.entries))
-    × Looks (disk device) (disk back) × ((disk back).failures ≡ (disk device).failures)
+TellsSaved disk device back Reported =
+    (geometry : Geometry) × (saved : Saved) × Denotes geometry (disk device).sectors (disk device).seen saved × Reported (line_of (checked_text saved.generation saved.world.age saved.entries))
+    × OnlyReads (disk device) (disk back) × ((disk back).failures ≡ (disk device).failures)
 
 -- so it was; or that couldn't be written whole; or the device wasn't opened
 abbrev pub ChecksImage : {D : Type 0} → (D → Disk) → D → D → Option (List ℕ) → Option (List ℕ) → Result (Unit {0}) Fault → Type 0
@@ -121,7 +121,7 @@ pub record DescribesSaved {D : Type 0} (disk : D → Disk) (device back : D) (de
   pub sound : IsSoundFrames state.plan.geometry state.header.age state.frames
   pub whole : IsDescriptionOf state.plan state.header.age state.frames description
   pub failures : (disk back).failures ≡ (disk device).failures
-  pub looks : Looks (disk device) (disk back)
+  pub only_reads : OnlyReads (disk device) (disk back)
 
 -- so it was; or the device wasn't opened, or memory ran out
 abbrev pub OpensAndDescribes : {D : Type 0} → (D → Disk) → D → D → Result Description OpenFault → Type 0
@@ -166,15 +166,15 @@ pub record ReadsSaved {D : Type 0} (disk : D → Disk) (device back : D) (state 
   pub encodes : Encodes (disk device).seen (disk device).sectors state
   pub sound : IsSoundFrames state.plan.geometry state.header.age state.frames
   pub failures : (disk back).failures ≡ (disk device).failures
-  pub looks : Looks (disk device) (disk back)
+  pub only_reads : OnlyReads (disk device) (disk back)
 
 -- so it was, and the description of all that is saved was written for an image of these sizes
-pub record TellsWhole {D : Type 0} (disk : D → Disk) (sizes : Sizes) (device back : D) (Told : List ℕ → Type 0) : Type 0 where
+pub record TellsWhole {D : Type 0} (disk : D → Disk) (sizes : Sizes) (device back : D) (Reported : List ℕ → Type 0) : Type 0 where
   pub state : SavedState
   pub saved : ReadsSaved disk device back state
   pub text : List ℕ
   pub whole : IsTextIn state.plan (grown_geometry state.plan.geometry sizes) state.header.age state.frames text
-  pub told : Told text
+  pub reported : Reported text
 
 -- so it was, and there is no image of these sizes for it
 abbrev pub RefusesSizes : {D : Type 0} → (D → Disk) → Sizes → D → D → GrowthFault → Type 0

@@ -1,7 +1,7 @@
 -- What is printed about an image.
 use Rattle.jobs.specs.Names.{◌≡◌, ℕ, ◌==◌, Bool, List, [], ◌∷◌, ◌++◌, codes, decimal, map, Option, Result, Ok, Err, Vec, Global, Appends, count_by, flat_map}
 use Rattle.jobs.specs.Names.{Cap, Content, Role, IsSoundFrames, Saved, role_number, role_of, line_of, spaced, World, Disk, HomeRange, Encodes, SavedState, Plan}
-use Rattle.jobs.specs.Names.{version_number, Checkpoint, OpenFault, Looks, kept_of, saved_of, RefusesToOpen, AppendsFront}
+use Rattle.jobs.specs.Names.{version_number, Checkpoint, OpenFault, OnlyReads, kept_of, saved_of, RefusesToOpen, AppendsFront}
 use Rattle.model.specs.declared.object.Role.TheVariants as role
 use Rattle.jobs.specs.declared.fault.Fault.{Fault}
 use Rattle.jobs.specs.declared.fault.Fault.TheVariants as fault
@@ -65,7 +65,7 @@ pub record InfoOf {D : Type 0} (disk : D → Disk) (device back : D) (lines : Li
   pub sound : IsSoundFrames state.plan.geometry state.header.age state.frames
   pub lines_are : lines ≡ info_lines state.plan (saved_of (kept_of state))
   pub failures : (disk back).failures ≡ (disk device).failures
-  pub looks : Looks (disk device) (disk back)
+  pub only_reads : OnlyReads (disk device) (disk back)
 
 -- so it was; or the device wasn't opened, or memory ran out
 abbrev pub OpensForInfo : {D : Type 0} → (D → Disk) → D → D → Result (Vec InfoLine Global) OpenFault → Type 0
@@ -73,7 +73,7 @@ OpensForInfo disk device back (Ok lines) = InfoOf disk device back lines.items
 OpensForInfo disk device back (Err why) = RefusesToOpen disk device back why
 
 abbrev pub TellsInfo : {D : Type 0} → (D → Disk) → D → D → (List ℕ → Type 0) → Type 0
-TellsInfo disk device back Told = (lines : List InfoLine) × InfoOf disk device back lines × Told (info_text lines)
+TellsInfo disk device back Reported = (lines : List InfoLine) × InfoOf disk device back lines × Reported (info_text lines)
 
 -- the lines were written; or couldn't be written whole; or the device wasn't opened
 abbrev pub InspectsImage : {D : Type 0} → (D → Disk) → D → D → Option (List ℕ) → Option (List ℕ) → Result (Unit {0}) Fault → Type 0

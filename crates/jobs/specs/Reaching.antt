@@ -1,6 +1,6 @@
 -- What the command says of the objects that some processes can ever change.
 use Rattle.jobs.specs.Names.{◌≡◌, ℕ, Bool, not, Option, None, Some, List, Vec, Result, Ok, Err, IsTrue, is_some, Appends, All, find, Global, is_marked, Object}
-use Rattle.jobs.specs.Names.{objects_of, IsSoundFrames, is_process, Disk, Encodes, SavedState, Looks, OpenFault, RefusesToOpen, AppendsFront, Step}
+use Rattle.jobs.specs.Names.{objects_of, IsSoundFrames, is_process, Disk, Encodes, SavedState, OnlyReads, OpenFault, RefusesToOpen, AppendsFront, Step}
 use Rattle.jobs.specs.Names.{IsShortestIfAny, chain_text, reach_text, BoundsRuns, IsReach}
 use Rattle.checkpoint.specs.declared.open_fault.OpenFault.TheVariants as opening
 use Rattle.jobs.specs.declared.fault.Fault.{Fault}
@@ -29,7 +29,7 @@ IsReachText os starts (Some o) text = IsChainText os starts o text
 
 -- the numbers are those of processes, and the text was written
 abbrev pub Reaches : List Object → List ℕ → Option ℕ → (List ℕ → Type 0) → Type 0
-Reaches os starts shows Told = AreProcesses os starts × ((text : List ℕ) × IsReachText os starts shows text × Told text)
+Reaches os starts shows Reported = AreProcesses os starts × ((text : List ℕ) × IsReachText os starts shows text × Reported text)
 
 -- so it was; or that couldn't be written whole; or a number isn't that of a process; or memory ran out
 abbrev pub TellsReach : List Object → List ℕ → Option ℕ → Option (List ℕ) → Option (List ℕ) → Result (Unit {0}) Fault → Type 0
@@ -46,7 +46,7 @@ pub record HoldsOfSaved {D : Type 0} (disk : D → Disk) (device back : D) (Hold
   pub sound : IsSoundFrames state.plan.geometry state.header.age state.frames
   pub holds : Holds (objects_of state.frames)
   pub failures : (disk back).failures ≡ (disk device).failures
-  pub looks : Looks (disk device) (disk back)
+  pub only_reads : OnlyReads (disk device) (disk back)
 
 -- all saved objects were read; or the device wasn't opened, or memory ran out
 abbrev pub OpensAndReads : {D : Type 0} → (D → Disk) → D → D → Result (Vec Object Global) OpenFault → Type 0

@@ -4,7 +4,7 @@ ghost use Rattle.toml.specs.Data.{Members};
 ghost use Rattle.device.specs.Moments.{LeavesOnly};
 ghost use Rattle.description.specs.Reading.{IsDescription};
 ghost use Rattle.image_builder.specs.Built.{IsLeftOf};
-ghost use Rattle.jobs.specs.Faults.{IsTold, status_of};
+ghost use Rattle.jobs.specs.Faults.{IsReported, status_of};
 ghost use Rattle.jobs.specs.Images.{BuildsImage};
 
 use crate::fault::{Fault, status};
@@ -56,7 +56,7 @@ pub fn build_image<D: Device, W: Write, V: Write>(
     errors: &mut V,
 ) -> u8
     ensures built { (outcome : Result (Unit {0}) Fault) × (result ≡ status_of outcome)
-        × IsTold outcome (V.contents errors.old) (V.contents errors.new)
+        × IsReported outcome (V.contents errors.old) (V.contents errors.new)
         × ((table : Members) → IsDescription table blueprint.now
         → BuildsImage D.disk table device.old device.new
         (W.contents writer.old) (W.contents writer.new) outcome) }

@@ -1,6 +1,6 @@
 // The command that checks an image.
 ghost use Rattle.std.specs.Prelude.{◌≡◌, ◌≤◌, Result, length};
-ghost use Rattle.jobs.specs.Faults.{IsTold, status_of};
+ghost use Rattle.jobs.specs.Faults.{IsReported, status_of};
 ghost use Rattle.jobs.specs.Images.{ChecksImage, checked_text};
 
 use crate::done::Done;
@@ -60,7 +60,7 @@ pub fn check_image<D: Device, W: Write, V: Write>(
     errors: &mut V,
 ) -> Done<D>
     ensures { (outcome : Result (Unit {0}) Fault) × (result.status ≡ status_of outcome)
-        × IsTold outcome (V.contents errors.old) (V.contents errors.new)
+        × IsReported outcome (V.contents errors.old) (V.contents errors.new)
         × ChecksImage D.disk device result.device (W.contents writer.old) (W.contents writer.new) outcome }
 {
     let (outcome, device) = open_and_tell(alloc, device, writer);

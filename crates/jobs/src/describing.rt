@@ -7,7 +7,7 @@ ghost use Rattle.description.specs.Reading.{IsDescription};
 ghost use Rattle.described_world.specs.Described.{HasFields};
 ghost use Rattle.image_describer.specs.Spelled.{CanBeSpelled};
 ghost use Rattle.image_describer.specs.Text.{description_text};
-ghost use Rattle.jobs.specs.Faults.{IsTold, status_of};
+ghost use Rattle.jobs.specs.Faults.{IsReported, status_of};
 ghost use Rattle.jobs.specs.Growing.{GrowsDescription, TellsDescription, TellsGrown};
 ghost use Rattle.jobs.specs.Images.{DescribesImage};
 
@@ -117,7 +117,7 @@ pub fn describe_image<D: Device, W: Write, V: Write>(
     errors: &mut V,
 ) -> Done<D>
     ensures { (outcome : Result (Unit {0}) Fault) × (result.status ≡ status_of outcome)
-        × IsTold outcome (V.contents errors.old) (V.contents errors.new)
+        × IsReported outcome (V.contents errors.old) (V.contents errors.new)
         × DescribesImage D.disk sizes device result.device (W.contents writer.old) (W.contents writer.new) outcome }
 {
     let (outcome, device) = describe_and_tell(alloc, device, sizes, writer);

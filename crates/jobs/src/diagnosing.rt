@@ -2,7 +2,7 @@
 ghost use Rattle.std.specs.Prelude.{◌≡◌, ◌≤◌, Option, Result, length};
 ghost use Rattle.image_explainer.specs.declared.fault.ImageFault.{ImageFault};
 ghost use Rattle.jobs.specs.Diagnosed.{ExplainsImage, explained_status, explanation_text, without_fault};
-ghost use Rattle.jobs.specs.Faults.{IsTold};
+ghost use Rattle.jobs.specs.Faults.{IsReported};
 
 use crate::done::Done;
 use crate::fault::{Fault, status};
@@ -54,7 +54,7 @@ pub fn explain_image<D: Device, W: Write, V: Write>(
     errors: &mut V,
 ) -> Done<D>
     ensures { (outcome : Result (Option ImageFault) Fault) × (result.status ≡ explained_status outcome)
-        × IsTold (without_fault outcome) (V.contents errors.old) (V.contents errors.new)
+        × IsReported (without_fault outcome) (V.contents errors.old) (V.contents errors.new)
         × ExplainsImage D.disk device result.device (W.contents writer.old) (W.contents writer.new) outcome }
 {
     let (outcome, device) = explain_and_tell(alloc, device, writer);

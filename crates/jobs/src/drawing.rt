@@ -6,7 +6,7 @@ ghost use Rattle.described_world.specs.Described.{HasNumbers};
 ghost use Rattle.image_drawer.specs.Graph.{graph_text};
 ghost use Rattle.reach.specs.Reached.{AreSoundObjects};
 ghost use Rattle.jobs.specs.Drawing.{DrawsImage, DrawsPart, KeepsHolders, KeepsPart, KeepsReached};
-ghost use Rattle.jobs.specs.Faults.{IsTold, status_of};
+ghost use Rattle.jobs.specs.Faults.{IsReported, status_of};
 
 use crate::done::Done;
 use crate::fault::{Fault, status};
@@ -163,7 +163,7 @@ pub fn draw_image<D: Device, W: Write, V: Write>(
     errors: &mut V,
 ) -> Done<D>
     ensures { (outcome : Result (Unit {0}) Fault) × (result.status ≡ status_of outcome)
-        × IsTold outcome (V.contents errors.old) (V.contents errors.new)
+        × IsReported outcome (V.contents errors.old) (V.contents errors.new)
         × DrawsImage D.disk focus device result.device (W.contents writer.old) (W.contents writer.new) outcome }
 {
     let (outcome, device) = draw_and_tell(alloc, device, focus, writer);

@@ -42,7 +42,7 @@ fn toml_line(alloc: Global, text: &str, error: &Error) -> Result<String, AllocEr
 
 // The explanation of the description in a text, and whether the description is accepted.
 fn explained(alloc: Global, text: &str) -> Result<(String, bool), AllocError>
-    ensures { IfOk result (λ told. TellsOf text.now told.1) }
+    ensures { IfOk result (λ reported. TellsOf text.now reported.1) }
 {
     let table = match toml::table_from_str(alloc, text) {
         Ok(table) => table,

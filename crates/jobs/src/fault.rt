@@ -2,7 +2,7 @@
 ghost use Rattle.std.specs.Prelude.{◌≡◌, ◌≤◌, length};
 ghost use Rattle.model.specs.Text.{line_of};
 ghost use Rattle.script.specs.Writing.{Writes};
-ghost use Rattle.jobs.specs.Faults.{HasStop, IsRunEnd, IsTold, build_text, fault_text, open_text, reason_number, sizes_text, status_of, stop_text, upgrade_text};
+ghost use Rattle.jobs.specs.Faults.{HasStop, IsRunEnd, IsReported, build_text, fault_text, open_text, reason_number, sizes_text, status_of, stop_text, upgrade_text};
 
 use checkpoint::OpenFault;
 use image_builder::{BuildFault, UpgradeFault};
@@ -177,12 +177,12 @@ impl Fault {
 /// a fault is written first.
 pub(crate) fn status<V: Write>(outcome: Result<(), Fault>, errors: &mut V) -> u8
     ensures status { result ≡ status_of outcome }
-    ensures told { IsTold outcome (V.contents errors.old) (V.contents errors.new) }
+    ensures reported { IsReported outcome (V.contents errors.old) (V.contents errors.new) }
 {
     match outcome {
         Ok(()) => 0,
         Err(fault) => {
-            let _told = fault.tell(errors);
+            let _reported = fault.tell(errors);
             1
         }
     }

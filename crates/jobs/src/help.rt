@@ -131,5 +131,5 @@ pub(crate) fn help_on<V: Write>(word: &[u8], notes: &mut V) {
     } else {
         text_on(word)
     };
-    let _told = write_fully(notes, text);
+    let _reported = write_fully(notes, text);
 }

@@ -4,7 +4,7 @@ ghost use Rattle.checkpoint.specs.Saved.{kept_of};
 ghost use Rattle.capability.specs.Parts.{frames_of};
 ghost use Rattle.recovery.specs.Denotes.{saved_of};
 ghost use Rattle.object_cache.specs.StoreState.{parts_of, saved_by};
-ghost use Rattle.jobs.specs.Faults.{IsTold, status_of};
+ghost use Rattle.jobs.specs.Faults.{IsReported, status_of};
 ghost use Rattle.jobs.specs.Info.{InspectsImage, OpensForInfo, info_lines};
 
 use crate::done::Done;
@@ -84,7 +84,7 @@ pub fn info_image<D: Device, W: Write, V: Write>(
     errors: &mut V,
 ) -> Done<D>
     ensures { (outcome : Result (Unit {0}) Fault) × (result.status ≡ status_of outcome)
-        × IsTold outcome (V.contents errors.old) (V.contents errors.new)
+        × IsReported outcome (V.contents errors.old) (V.contents errors.new)
         × InspectsImage D.disk device result.device (W.contents writer.old) (W.contents writer.new) outcome }
 {
     let (outcome, device) = inspect_and_tell(alloc, device, writer);

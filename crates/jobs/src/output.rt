@@ -2,7 +2,7 @@
 ghost use Rattle.std.specs.Prelude.{Result};
 ghost use Rattle.std.specs.Io.KnownBytes.{Keeps};
 ghost use Rattle.std.specs.Io.Buffered.{writer_buffer, writer_contents};
-ghost use Rattle.jobs.specs.Faults.{IsTold, PassesOn};
+ghost use Rattle.jobs.specs.Faults.{IsReported, PassesOn};
 
 use crate::fault::{Fault, status};
 use std::io::{BufWriter, Write};
@@ -16,7 +16,7 @@ pub fn finish<W: Write + Drop, V: Write>(
 ) -> u8
     ensures bytes { Keeps (writer_contents W.contents writer.old) (writer_contents W.contents writer.new) }
     ensures status { (outcome : Result (Unit {0}) Fault) × PassesOn before result (writer_buffer writer.new) outcome
-        × IsTold outcome (V.contents errors.old) (V.contents errors.new) }
+        × IsReported outcome (V.contents errors.old) (V.contents errors.new) }
 {
     match writer.flush() {
         Ok(()) => before,

@@ -4,7 +4,7 @@ ghost use Rattle.script.specs.Writing.{Writes};
 ghost use Rattle.reach.specs.ChainLines.{chain_text};
 ghost use Rattle.reach.specs.Lines.{reach_text};
 ghost use Rattle.reach.specs.Reached.{AreSoundObjects};
-ghost use Rattle.jobs.specs.Faults.{IsTold, status_of};
+ghost use Rattle.jobs.specs.Faults.{IsReported, status_of};
 ghost use Rattle.jobs.specs.Reaching.{AreProcesses, ReachesImage, TellsReach};
 
 use crate::done::Done;
@@ -143,7 +143,7 @@ pub fn reach_image<D: Device, W: Write, V: Write>(
     errors: &mut V,
 ) -> Done<D>
     ensures { (outcome : Result (Unit {0}) Fault) × (result.status ≡ status_of outcome)
-        × IsTold outcome (V.contents errors.old) (V.contents errors.new)
+        × IsReported outcome (V.contents errors.old) (V.contents errors.new)
         × ReachesImage D.disk processes.now shows device result.device (W.contents writer.old) (W.contents writer.new) outcome }
 {
     let (outcome, device) = open_and_reach(alloc, device, processes, shows, writer);

@@ -1,6 +1,6 @@
 // The commands that run a script over an image.
 ghost use Rattle.std.specs.Prelude.{◌≡◌, List, Option, ℕ, Result, None};
-ghost use Rattle.jobs.specs.Faults.{IsTold, status_of};
+ghost use Rattle.jobs.specs.Faults.{IsReported, status_of};
 ghost use Rattle.jobs.specs.Images.{EndsAs, RunsImage, SeesImage};
 ghost use Rattle.jobs.specs.Shell.{TellsUnsaved};
 ghost use Rattle.runs.specs.Tracing.{Sees, stop_of};
@@ -55,7 +55,7 @@ pub fn run_image<D: Device, S: ObjectStore<D>, R: Script, W: Output, V: Write>(
     errors: &mut V,
 ) -> Done<D>
     ensures { (outcome : Result (Unit {0}) Fault) × (result.status ≡ status_of outcome)
-        × IsTold outcome (V.contents errors.old) (V.contents errors.new)
+        × IsReported outcome (V.contents errors.old) (V.contents errors.new)
         × RunsImage D.disk S.view S.parts device result.device (R.unread reader.old)
         (R.unread reader.new) (W.contents writer.old) (W.contents writer.new) outcome }
 {
@@ -91,7 +91,7 @@ pub fn run_traced<D: Device, S: ObjectStore<D>, R: Script, W: Output, T: Write, 
     errors: &mut V,
 ) -> Done<D>
     ensures { (outcome : Result (Unit {0}) Fault) × (result.status ≡ status_of outcome)
-        × IsTold outcome (V.contents errors.old) (V.contents errors.new)
+        × IsReported outcome (V.contents errors.old) (V.contents errors.new)
         × EndsAs D.disk S.view S.parts (Sees T.contents) stop_of device result.device tracer.old tracer.new
         (R.unread reader.old) (R.unread reader.new) (W.contents writer.old) (W.contents writer.new) outcome }
 {
@@ -114,9 +114,9 @@ pub fn run_shell<D: Device, S: ObjectStore<D>, R: Script, W: Output, V: Write>(
     writer: &mut W,
     errors: &mut V,
 ) -> Done<D>
-    ensures { (outcome : Result (Unit {0}) Fault) × (told : Option (List ℕ)) × (before : Unsaved) × (after : Unsaved)
+    ensures { (outcome : Result (Unit {0}) Fault) × (reported : Option (List ℕ)) × (before : Unsaved) × (after : Unsaved)
         × (result.status ≡ status_of outcome) × (before ≡ nothing_unsaved)
-        × TellsUnsaved after (V.contents errors.old) told × IsTold outcome told (V.contents errors.new)
+        × TellsUnsaved after (V.contents errors.old) reported × IsReported outcome reported (V.contents errors.new)
         × EndsAs D.disk S.view S.parts Notes (λ _. None) device result.device before after
         (R.unread reader.old) (R.unread reader.new) (W.contents writer.old) (W.contents writer.new) outcome }
 {

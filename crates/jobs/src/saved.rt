@@ -23,7 +23,7 @@ pub(crate) fn description_in<D: Device>(
 ) -> Result<Description, AllocError>
     requires { IsSoundFrames (parts_of D.disk store.old).geometry age
         (frames_of (parts_of D.disk store.old)) }
-    ensures told { IfOk result (IsDescriptionOf store.old.durable.books.plan age
+    ensures reported { IfOk result (IsDescriptionOf store.old.durable.books.plan age
         (frames_of (parts_of D.disk store.old))) }
     ensures same { store.new.durable ≡ store.old.durable }
 {

@@ -14,7 +14,7 @@ pub(crate) fn tell_unsaved<V: Write>(unsaved: &Unsaved, errors: &mut V)
     ensures { TellsUnsaved unsaved.now (V.contents errors.old) (V.contents errors.new) }
 {
     if unsaved.is_some() {
-        let _told = write_fully(
+        let _reported = write_fully(
             errors,
             b"eros: some invocations or stores are not committed\n",
         );
@@ -77,7 +77,7 @@ impl<R: Read, V: Write> ShellInput<R, V> {
         ensures prompts { self.new.is_prompting ≡ self.old.is_prompting }
     {
         if self.is_prompting {
-            let _told = write_fully(&mut self.notes, text);
+            let _reported = write_fully(&mut self.notes, text);
         }
     }
 

@@ -5,7 +5,7 @@ ghost use Rattle.model.specs.Text.{line_of};
 ghost use Rattle.device.specs.Moments.{LeavesOnly};
 ghost use Rattle.image_builder.specs.Upgraded.{IsLeftUpgrading, IsOpenedFrom, ReadsAndCloses};
 ghost use Rattle.script.specs.Writing.{AppendsFront};
-ghost use Rattle.jobs.specs.Faults.{IsTold, status_of};
+ghost use Rattle.jobs.specs.Faults.{IsReported, status_of};
 ghost use Rattle.jobs.specs.Images.{UpgradesImage, old_failed, upgraded_text};
 
 use crate::fault::{Fault, status};
@@ -17,7 +17,7 @@ use std::io::Write;
 
 // Writes how many sectors an upgraded image has.
 fn tell_total<W: Write>(total: u64, writer: &mut W) -> Result<(), Fault>
-    ensures told { OnOk result (Appends (W.contents writer.old) (W.contents writer.new)
+    ensures reported { OnOk result (Appends (W.contents writer.old) (W.contents writer.new)
         (line_of (upgraded_text total))) }
     ensures front { OnErr result (AppendsFront (W.contents writer.old) (W.contents writer.new)
         (line_of (upgraded_text total))) }
@@ -63,7 +63,7 @@ pub fn upgrade_opened<D: ClosableDevice, E: Device, W: Write, V: Write>(
     errors: &mut V,
 ) -> u8
     ensures upgraded { (outcome : Result (Unit {0}) Fault) × (result ≡ status_of outcome)
-        × IsTold outcome (V.contents errors.old) (V.contents errors.new)
+        × IsReported outcome (V.contents errors.old) (V.contents errors.new)
         × ((old : D) → IsOpenedFrom D.disk old image
         → UpgradesImage D.disk E.disk old new.old new.new
         (W.contents writer.old) (W.contents writer.new) outcome
@@ -92,7 +92,7 @@ pub fn upgrade_image<D: ClosableDevice, E: Device, W: Write, V: Write>(
     errors: &mut V,
 ) -> u8
     ensures upgraded { (outcome : Result (Unit {0}) Fault) × (result ≡ status_of outcome)
-        × IsTold outcome (V.contents errors.old) (V.contents errors.new)
+        × IsReported outcome (V.contents errors.old) (V.contents errors.new)
         × UpgradesImage D.disk E.disk old new.old new.new
         (W.contents writer.old) (W.contents writer.new) outcome
         × ReadsAndCloses D.disk D.was_closed old (IsErrOf outcome old_failed) }

@@ -32,7 +32,7 @@ fn whole_in<D: Device>(
 ) -> Result<Whole, AllocError>
     requires { IsSoundFrames store.old.durable.books.plan.geometry age
         (frames_of (parts_of D.disk store.old)) }
-    ensures told { IfOk result (λ w. IsDescriptionOf store.old.durable.books.plan age
+    ensures reported { IfOk result (λ w. IsDescriptionOf store.old.durable.books.plan age
         (frames_of (parts_of D.disk store.old)) w.description) }
     ensures objects { IfOk result (λ w. w.objects.items ≡ objects_in (parts_of D.disk store.old)) }
     ensures same { store.new.durable ≡ store.old.durable }

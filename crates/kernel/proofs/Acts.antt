@@ -3,7 +3,7 @@ use Rattle.kernel.proofs.Names.{IsErrAnd, ◌≡◌, ◌↔◌, ◌⊎◌, inl, 
 use Rattle.kernel.proofs.Names.{refl, sym, ap, ◌∙◌, subst, arith, Answer, Refusal, Command, Frame, Geometry, objects_of, AreKeepable, IsSoundFrames, world_at}
 use Rattle.kernel.proofs.Names.{Frozen, Running, Saved, Up, touched_count, untouched, Step, moved, refusal_of, second, Failed, Image, Disk, CheckpointFault}
 use Rattle.kernel.proofs.Names.{IsCommitAnswer, IsFreezeAnswer, IsRefused, Holds, LeavesSaved, LeavesEither, Parts, frames_of, objects_in, keepable_count}
-use Rattle.kernel.proofs.Names.{Aside, FrozenFrames, IsStabilizeAnswer, Leads, MayCommit, View, freezing, left_in, moved_saved, next_saved, stabilized}
+use Rattle.kernel.proofs.Names.{Snapshots, FrozenFrames, IsStabilizeAnswer, Continues, MayCommit, View, freezing, left_in, moved_saved, next_saved, stabilized}
 use Rattle.kernel.proofs.Names.{AreCounted, BanksState, Performs, answer_of, Live, saved_of, LeavesOne, AreSoundTogether, IsUp, base_of, disk_at, frozen_of}
 use Rattle.kernel.proofs.Names.{renewed_since, running, running_of, IsCaused, ServesUp, leaves_saved, base_frozen, none_renewed}
 use Rattle.kernel.specs.Standing.{refusal_by}
@@ -30,13 +30,13 @@ with_act l s banks age = record { store = s; banks = banks; age = age; frozen_ag
 -- The parameters are ghost members and laws of a device and of an object store.
 module _ {D S : Type 0} (disk : D → Disk) (view : S → View D) (parts : S → Parts)
     (only_now : (d : D) (c : Image) → (disk d).left_since (disk d).moment c → (disk d).may_leave c)
-    (sound_holds : (s : S) (c : Image) → (view s).is_sound → (disk (view s).beneath).may_leave c → Holds (disk (view s).beneath).sectors c (view s).aside.saved) where
+    (sound_holds : (s : S) (c : Image) → (view s).is_sound → (disk (view s).beneath).may_leave c → Holds (disk (view s).beneath).sectors c (view s).snapshots.saved) where
   -- a store that is sound serves
-  pub is_up : (g : Geometry) (l : Live S) → (view l.store).is_sound → AreSoundTogether g (parts l.store) (view l.store).aside l.banks l.age l.frozen_age → IsUp disk view parts g l
+  pub is_up : (g : Geometry) (l : Live S) → (view l.store).is_sound → AreSoundTogether g (parts l.store) (view l.store).snapshots l.banks l.age l.frozen_age → IsUp disk view parts g l
   is_up g l store sound = record {
     store = store;
     sound = sound;
-    leaves = leaves_saved g (disk_at disk view parts l) (view l.store).aside.saved sound.saved (λ c left. sound_holds l.store c store left);
+    leaves = leaves_saved g (disk_at disk view parts l) (view l.store).snapshots.saved sound.saved (λ c left. sound_holds l.store c store left);
   }
 
   -- a refusal that applies
@@ -45,7 +45,7 @@ module _ {D S : Type 0} (disk : D → Disk) (view : S → View D) (parts : S →
   refused l c why applies g up = record {
     step = λ other. refused_step g (running disk view parts l) c why (applies g up);
     up = λ other. up;
-    leaves = leaves_here g (disk_at disk view parts l) (saved_of (view l.store).aside.saved ∷ []) (second (Up (running disk view parts l)) c) (only_now (view l.store).beneath) up.leaves;
+    leaves = leaves_here g (disk_at disk view parts l) (saved_of (view l.store).snapshots.saved ∷ []) (second (Up (running disk view parts l)) c) (only_now (view l.store).beneath) up.leaves;
   }
 
   -- one of a store that is as it was
@@ -56,17 +56,17 @@ module _ {D S : Type 0} (disk : D → Disk) (view : S → View D) (parts : S →
   -- a failure of the device
   pub failed : (old new : Live S) (c : Command) →
       ((g : Geometry) → IsUp disk view parts g old → LeavesOne g (disk_at disk view parts old) (disk_at disk view parts new)
-      (saved_of (view old.store).aside.saved ∷ second (Up (running disk view parts old)) c)) →
+      (saved_of (view old.store).snapshots.saved ∷ second (Up (running disk view parts old)) c)) →
       ServesUp disk view parts old c (answer.Refused refusal.Fault) new
   failed old new c leaves g up = record { step = λ other. absurd (other refl); up = λ other. absurd (other refl); leaves = leaves g up }
 
   -- ---- evictions, invocations, loads, stores and what is shown
 
-  module _ (l : Live S) (s : S) (leads : Leads disk (view l.store) (view s)) where
-    leads_along : (g : Geometry) (c : Command) → IsUp disk view parts g l →
-        LeavesOne g (disk_at disk view parts l) (disk (view s).beneath) (saved_of (view l.store).aside.saved ∷ second (Up (running disk view parts l)) c)
-    leads_along g c up =
-        leaves_along g (disk_at disk view parts l) (disk (view s).beneath) (view l.store).aside.saved (second (Up (running disk view parts l)) c) up.sound.saved leads.size (leads.any_moment up.store)
+  module _ (l : Live S) (s : S) (continues : Continues disk (view l.store) (view s)) where
+    continues_along : (g : Geometry) (c : Command) → IsUp disk view parts g l →
+        LeavesOne g (disk_at disk view parts l) (disk (view s).beneath) (saved_of (view l.store).snapshots.saved ∷ second (Up (running disk view parts l)) c)
+    continues_along g c up =
+        leaves_along g (disk_at disk view parts l) (disk (view s).beneath) (view l.store).snapshots.saved (second (Up (running disk view parts l)) c) up.sound.saved continues.size (continues.any_moment up.store)
 
     -- processes act, at an age that doesn't fall
     pub acted : (banks : BanksState) (age : ℕ) (c : Command) (a : Answer) → l.age ≤ age → Performs l.age (parts l.store) c a age (parts s) →
@@ -76,38 +76,38 @@ module _ {D S : Type 0} (disk : D → Disk) (view : S → View D) (parts : S →
         let geometry : (parts s).geometry ≡ g = serves.geometry ∙ up.sound.geometry in
         record {
           step = λ other.
-              subst (λ (x : Aside). Step g (Up (running disk view parts l)) c a (Up (running_of (parts s) x age l.frozen_age))) (sym leads.aside)
-              (subst (λ (h : Geometry). Step h (Up (running disk view parts l)) c a (Up (running_of (parts s) (view l.store).aside age l.frozen_age))) up.sound.geometry
+              subst (λ (x : Snapshots). Step g (Up (running disk view parts l)) c a (Up (running_of (parts s) x age l.frozen_age))) (sym continues.snapshots)
+              (subst (λ (h : Geometry). Step h (Up (running disk view parts l)) c a (Up (running_of (parts s) (view l.store).snapshots age l.frozen_age))) up.sound.geometry
               (subst (λ (rs : List Bool). Step (parts l.store).geometry (Up (running disk view parts l)) c a
-              (Up (record (running_of (parts s) (view l.store).aside age l.frozen_age) { renewed = rs })))
-              (renewed_on (base_of (view l.store).aside) (parts l.store) (parts s) serves.renews up.sound.risen)
-              (serves.step (renewed_since (base_of (view l.store).aside) (frames_of (parts l.store))) (frozen_of l.frozen_age (view l.store).aside.frozen) (saved_of (view l.store).aside.saved)
-              (view l.store).aside.to_move other)));
-          up = λ other. is_up g (record { store = s; banks = banks; age = age; frozen_age = l.frozen_age }) (leads.sound up.store)
-              (acts_sound g (parts l.store) (parts s) (view l.store).aside (view s).aside l.banks banks l.age age l.frozen_age leads.aside later geometry serves.renews
+              (Up (record (running_of (parts s) (view l.store).snapshots age l.frozen_age) { renewed = rs })))
+              (renewed_on (base_of (view l.store).snapshots) (parts l.store) (parts s) serves.renews up.sound.risen)
+              (serves.step (renewed_since (base_of (view l.store).snapshots) (frames_of (parts l.store))) (frozen_of l.frozen_age (view l.store).snapshots.frozen) (saved_of (view l.store).snapshots.saved)
+              (view l.store).snapshots.to_move other)));
+          up = λ other. is_up g (record { store = s; banks = banks; age = age; frozen_age = l.frozen_age }) (continues.sound up.store)
+              (acts_sound g (parts l.store) (parts s) (view l.store).snapshots (view s).snapshots l.banks banks l.age age l.frozen_age continues.snapshots later geometry serves.renews
               (subst (λ (h : Geometry). IsSoundFrames h age (frames_of (parts s))) geometry serves.sound)
               (subst (λ (h : Geometry). AreCounted h (objects_in (parts s)) banks) geometry counted) up.sound);
-          leaves = leads_along g c up;
+          leaves = continues_along g c up;
         }
 
     module _ (same : AreSame (parts l.store) (parts s)) where
       up_again : (g : Geometry) → IsUp disk view parts g l → IsUp disk view parts g (with_store l s)
-      up_again g up = is_up g (with_store l s) (leads.sound up.store)
-          (stays_sound g (parts l.store) (parts s) same (view l.store).aside (view s).aside leads.aside l.banks l.age l.frozen_age up.sound)
+      up_again g up = is_up g (with_store l s) (continues.sound up.store)
+          (stays_sound g (parts l.store) (parts s) same (view l.store).snapshots (view s).snapshots continues.snapshots l.banks l.age l.frozen_age up.sound)
 
       -- an object was put out
       pub evicted : (n : ℕ) → n < length (parts l.store).headers → ServesUp disk view parts l (command.Evict n) answer.Done (with_store l s)
       evicted n within g up = record {
         step = λ other.
             subst (λ (r : Running). Step g (Up (running disk view parts l)) (command.Evict n) answer.Done (Up r))
-            (sym (same_running g (parts l.store) (parts s) same (view l.store).aside (view s).aside leads.aside l.age l.frozen_age))
+            (sym (same_running g (parts l.store) (parts s) same (view l.store).snapshots (view s).snapshots continues.snapshots l.age l.frozen_age))
             (evict_step g (running disk view parts l) n (subst (λ (m : ℕ). n < m) (keepable_count g l.age (parts l.store) up.sound.now.keepable) within));
         up = λ other. up_again g up;
-        leaves = leads_along g (command.Evict n) up;
+        leaves = continues_along g (command.Evict n) up;
       }
 
     pub evict_failed : (n : ℕ) → ServesUp disk view parts l (command.Evict n) (answer.Refused refusal.Fault) (with_store l s)
-    evict_failed n = failed l (with_store l s) (command.Evict n) (λ g up. leads_along g (command.Evict n) up)
+    evict_failed n = failed l (with_store l s) (command.Evict n) (λ g up. continues_along g (command.Evict n) up)
 
   pub bad_number : (l : Live S) (n : ℕ) → length (parts l.store).headers ≤ n → ServesUp disk view parts l (command.Evict n) (answer.Refused refusal.BadNumber) l
   bad_number l n past = refused l (command.Evict n) refusal.BadNumber
@@ -116,21 +116,21 @@ module _ {D S : Type 0} (disk : D → Disk) (view : S → View D) (parts : S →
   -- ---- the stages of a checkpoint
 
   -- all was frozen
-  pub begun : (l : Live S) (s : S) (n : ℕ) → l.age < 2 ^ 62 → (view l.store).aside.frozen ≡ None → (view l.store).aside.saved.entries ≡ 0 →
+  pub begun : (l : Live S) (s : S) (n : ℕ) → l.age < 2 ^ 62 → (view l.store).snapshots.frozen ≡ None → (view l.store).snapshots.saved.entries ≡ 0 →
       frames_of (parts s) ≡ frames_of (parts l.store) → (parts s).touched ≡ untouched (parts l.store).geometry → (parts s).geometry ≡ (parts l.store).geometry →
       n ≡ touched_count (parts l.store).touched →
-      (view s).aside ≡ freezing (frames_of (parts l.store)) (touched_count (parts l.store).touched) (view l.store).aside → (view s).beneath ≡ (view l.store).beneath →
+      (view s).snapshots ≡ freezing (frames_of (parts l.store)) (touched_count (parts l.store).touched) (view l.store).snapshots → (view s).beneath ≡ (view l.store).beneath →
       ((view l.store).is_sound → (view s).is_sound) →
       ServesUp disk view parts l command.Checkpoint (answer.Frozen n) (record { store = s; banks = l.banks; age = l.age + 1; frozen_age = l.age + 1 })
   begun l s n young none home frames touched geometry size beside beneath sound g up =
       let p = parts l.store in
-      let a = (view l.store).aside in
+      let a = (view l.store).snapshots in
       let k = touched_count p.touched in
       let before = running disk view parts l in
       record {
         step = λ other.
-            subst (λ (m : ℕ). Step g (Up before) command.Checkpoint (answer.Frozen m) (Up (running_of (parts s) (view s).aside (l.age + 1) (l.age + 1)))) (sym size)
-            (subst (λ (x : Aside). Step g (Up before) command.Checkpoint (answer.Frozen k) (Up (running_of (parts s) x (l.age + 1) (l.age + 1)))) (sym beside)
+            subst (λ (m : ℕ). Step g (Up before) command.Checkpoint (answer.Frozen m) (Up (running_of (parts s) (view s).snapshots (l.age + 1) (l.age + 1)))) (sym size)
+            (subst (λ (x : Snapshots). Step g (Up before) command.Checkpoint (answer.Frozen k) (Up (running_of (parts s) x (l.age + 1) (l.age + 1)))) (sym beside)
             (subst (λ fs. Step g (Up before) command.Checkpoint (answer.Frozen k)
             (Up (record { now = world_at (l.age + 1) fs; touched = (parts s).touched; renewed = renewed_since (frames_of p) fs; frozen = Some (record { world = world_at (l.age + 1) (frames_of p); size = k; left = k }); saved = saved_of a.saved; to_move = a.to_move }))) (sym frames)
             (subst (λ (ts : List Bool). Step g (Up before) command.Checkpoint (answer.Frozen k)
@@ -141,7 +141,7 @@ module _ {D S : Type 0} (disk : D → Disk) (view : S → View D) (parts : S →
             (sym (none_renewed g (frames_of p) up.sound.now.keepable.count))
             (checkpoint_step g before young (frozen_none a.frozen l.frozen_age none) home)))));
         up = λ other. is_up g (record { store = s; banks = l.banks; age = l.age + 1; frozen_age = l.age + 1 }) (sound up.store)
-            (subst (λ (x : Aside). AreSoundTogether g (parts s) x l.banks (l.age + 1) (l.age + 1)) (sym beside)
+            (subst (λ (x : Snapshots). AreSoundTogether g (parts s) x l.banks (l.age + 1) (l.age + 1)) (sym beside)
             (begun_sound g p a l.banks l.age l.frozen_age up.sound (parts s) k geometry frames young));
         leaves = subst (λ (d : D). LeavesOne g (disk_at disk view parts l) (disk d) (saved_of a.saved ∷ [])) (sym beneath)
             (leaves_here g (disk_at disk view parts l) (saved_of a.saved ∷ []) [] (only_now (view l.store).beneath) up.leaves);
@@ -150,39 +150,39 @@ module _ {D S : Type 0} (disk : D → Disk) (view : S → View D) (parts : S →
   -- a stage that writes: what it leaves of the present objects, and what a crash leaves
   module _ (l : Live S) (s : S) (same : AreSame (parts l.store) (parts s)) (size : (disk (view s).beneath).sectors ≡ (disk (view l.store).beneath).sectors) where
     -- it came to another state beside the objects
-    came : (g : Geometry) (b : Aside) → (view s).aside ≡ b → (view s).is_sound → AreSoundTogether g (parts l.store) b l.banks l.age l.frozen_age → IsUp disk view parts g (with_store l s)
-    came g b beside store sound = is_up g (with_store l s) store (stays_sound g (parts l.store) (parts s) same b (view s).aside beside l.banks l.age l.frozen_age sound)
+    came : (g : Geometry) (b : Snapshots) → (view s).snapshots ≡ b → (view s).is_sound → AreSoundTogether g (parts l.store) b l.banks l.age l.frozen_age → IsUp disk view parts g (with_store l s)
+    came g b beside store sound = is_up g (with_store l s) store (stays_sound g (parts l.store) (parts s) same b (view s).snapshots beside l.banks l.age l.frozen_age sound)
 
-    stepped : (g : Geometry) (b : Aside) (c : Command) (a : Answer) → (view s).aside ≡ b → Step g (Up (running disk view parts l)) c a (Up (running_of (parts l.store) b l.age l.frozen_age)) →
+    stepped : (g : Geometry) (b : Snapshots) (c : Command) (a : Answer) → (view s).snapshots ≡ b → Step g (Up (running disk view parts l)) c a (Up (running_of (parts l.store) b l.age l.frozen_age)) →
         Step g (Up (running disk view parts l)) c a (Up (running disk view parts (with_store l s)))
     stepped g b c a beside step =
-        subst (λ (r : Running). Step g (Up (running disk view parts l)) c a (Up r)) (sym (same_running g (parts l.store) (parts s) same b (view s).aside beside l.age l.frozen_age)) step
+        subst (λ (r : Running). Step g (Up (running disk view parts l)) c a (Up r)) (sym (same_running g (parts l.store) (parts s) same b (view s).snapshots beside l.age l.frozen_age)) step
 
-    module _ (f : FrozenFrames) (frozen : (view l.store).aside.frozen ≡ Some f) where
+    module _ (f : FrozenFrames) (frozen : (view l.store).snapshots.frozen ≡ Some f) where
       now_frozen : Frozen
       now_frozen = record { world = world_at l.frozen_age f.frames; size = f.size; left = f.left }
 
       is_frozen : (running disk view parts l).frozen ≡ Some now_frozen
       unfolding now_frozen
-      is_frozen = frozen_some (view l.store).aside.frozen f l.frozen_age frozen
+      is_frozen = frozen_some (view l.store).snapshots.frozen f l.frozen_age frozen
 
       -- some more of it is in the log
-      module _ (moments : (view l.store).is_sound → LeavesSaved (disk (view l.store).beneath) (disk (view s).beneath) (view l.store).aside.saved) (n : ℕ) where
-        stabilize_along : (g : Geometry) → IsUp disk view parts g l → LeavesOne g (disk_at disk view parts l) (disk (view s).beneath) (saved_of (view l.store).aside.saved ∷ [])
-        stabilize_along g up = leaves_along g (disk_at disk view parts l) (disk (view s).beneath) (view l.store).aside.saved [] up.sound.saved size (moments up.store)
+      module _ (moments : (view l.store).is_sound → LeavesSaved (disk (view l.store).beneath) (disk (view s).beneath) (view l.store).snapshots.saved) (n : ℕ) where
+        stabilize_along : (g : Geometry) → IsUp disk view parts g l → LeavesOne g (disk_at disk view parts l) (disk (view s).beneath) (saved_of (view l.store).snapshots.saved ∷ [])
+        stabilize_along g up = leaves_along g (disk_at disk view parts l) (disk (view s).beneath) (view l.store).snapshots.saved [] up.sound.saved size (moments up.store)
 
-        pub stabilize_went : (left : ℕ) → left ≡ f.left - n → (view s).aside ≡ stabilized n f (view l.store).aside → ((view l.store).is_sound → (view s).is_sound) →
+        pub stabilize_went : (left : ℕ) → left ≡ f.left - n → (view s).snapshots ≡ stabilized n f (view l.store).snapshots → ((view l.store).is_sound → (view s).is_sound) →
             ServesUp disk view parts l (command.Stabilize n) (answer.Left left) (with_store l s)
         unfolding now_frozen
-        stabilize_went left told beside sound g up = record {
+        stabilize_went left reported beside sound g up = record {
           step = λ other.
-              stepped g (stabilized n f (view l.store).aside) (command.Stabilize n) (answer.Left left) beside
-              (subst (λ (k : ℕ). Step g (Up (running disk view parts l)) (command.Stabilize n) (answer.Left k) (Up (running_of (parts l.store) (stabilized n f (view l.store).aside) l.age l.frozen_age))) (sym told)
+              stepped g (stabilized n f (view l.store).snapshots) (command.Stabilize n) (answer.Left left) beside
+              (subst (λ (k : ℕ). Step g (Up (running disk view parts l)) (command.Stabilize n) (answer.Left k) (Up (running_of (parts l.store) (stabilized n f (view l.store).snapshots) l.age l.frozen_age))) (sym reported)
               (subst (λ (base : List Frame). Step g (Up (running disk view parts l)) (command.Stabilize n) (answer.Left (f.left - n))
-              (Up (record (running_of (parts l.store) (stabilized n f (view l.store).aside) l.age l.frozen_age) { renewed = renewed_since base (frames_of (parts l.store)) })))
-              (base_frozen (view l.store).aside f frozen)
+              (Up (record (running_of (parts l.store) (stabilized n f (view l.store).snapshots) l.age l.frozen_age) { renewed = renewed_since base (frames_of (parts l.store)) })))
+              (base_frozen (view l.store).snapshots f frozen)
               (stabilize_step g (running disk view parts l) n now_frozen is_frozen)));
-          up = λ other. came g (stabilized n f (view l.store).aside) beside (sound up.store) (stabilized_sound g (parts l.store) (view l.store).aside l.banks l.age l.frozen_age up.sound n f frozen);
+          up = λ other. came g (stabilized n f (view l.store).snapshots) beside (sound up.store) (stabilized_sound g (parts l.store) (view l.store).snapshots l.banks l.age l.frozen_age up.sound n f frozen);
           leaves = stabilize_along g up;
         }
 
@@ -190,28 +190,28 @@ module _ {D S : Type 0} (disk : D → Disk) (view : S → View D) (parts : S →
         stabilize_failed = failed l (with_store l s) (command.Stabilize n) stabilize_along
 
       -- all of it is saved
-      module _ (stable : f.left ≡ 0) (moments : LeavesEither (disk (view l.store).beneath) (disk (view s).beneath) (view l.store).aside.saved (next_saved l.frozen_age f (view l.store).aside.saved)) where
+      module _ (stable : f.left ≡ 0) (moments : LeavesEither (disk (view l.store).beneath) (disk (view s).beneath) (view l.store).snapshots.saved (next_saved l.frozen_age f (view l.store).snapshots.saved)) where
         commit_along : (g : Geometry) → IsUp disk view parts g l →
-            LeavesOne g (disk_at disk view parts l) (disk (view s).beneath) (saved_of (view l.store).aside.saved ∷ second (Up (running disk view parts l)) command.Commit)
+            LeavesOne g (disk_at disk view parts l) (disk (view s).beneath) (saved_of (view l.store).snapshots.saved ∷ second (Up (running disk view parts l)) command.Commit)
         unfolding now_frozen
         commit_along g up =
-            subst (λ (ss : List Saved). LeavesOne g (disk_at disk view parts l) (disk (view s).beneath) (saved_of (view l.store).aside.saved ∷ ss))
+            subst (λ (ss : List Saved). LeavesOne g (disk_at disk view parts l) (disk (view s).beneath) (saved_of (view l.store).snapshots.saved ∷ ss))
             (sym (second_of_commit g (running disk view parts l) now_frozen is_frozen stable))
-            (leaves_either g (disk_at disk view parts l) (disk (view s).beneath) (view l.store).aside.saved (next_saved l.frozen_age f (view l.store).aside.saved) up.sound.saved
-            (next_sound g (parts l.store) (view l.store).aside l.banks l.age l.frozen_age up.sound f frozen) size moments)
+            (leaves_either g (disk_at disk view parts l) (disk (view s).beneath) (view l.store).snapshots.saved (next_saved l.frozen_age f (view l.store).snapshots.saved) up.sound.saved
+            (next_sound g (parts l.store) (view l.store).snapshots l.banks l.age l.frozen_age up.sound f frozen) size moments)
 
-        pub commit_went : (generation : ℕ) → generation ≡ (view l.store).aside.saved.generation + 1 → (view s).aside ≡ store.aside_after_commit l.frozen_age f (view l.store).aside → (view s).is_sound →
+        pub commit_went : (generation : ℕ) → generation ≡ (view l.store).snapshots.saved.generation + 1 → (view s).snapshots ≡ store.snapshots_after_commit l.frozen_age f (view l.store).snapshots → (view s).is_sound →
             ServesUp disk view parts l command.Commit (answer.Committed generation) (with_store l s)
         unfolding now_frozen
-        commit_went generation told beside sound g up = record {
+        commit_went generation reported beside sound g up = record {
           step = λ other.
-              stepped g (store.aside_after_commit l.frozen_age f (view l.store).aside) command.Commit (answer.Committed generation) beside
-              (subst (λ (k : ℕ). Step g (Up (running disk view parts l)) command.Commit (answer.Committed k) (Up (running_of (parts l.store) (store.aside_after_commit l.frozen_age f (view l.store).aside) l.age l.frozen_age))) (sym told)
-              (subst (λ (base : List Frame). Step g (Up (running disk view parts l)) command.Commit (answer.Committed ((view l.store).aside.saved.generation + 1))
-              (Up (record (running_of (parts l.store) (store.aside_after_commit l.frozen_age f (view l.store).aside) l.age l.frozen_age) { renewed = renewed_since base (frames_of (parts l.store)) })))
-              (base_frozen (view l.store).aside f frozen)
+              stepped g (store.snapshots_after_commit l.frozen_age f (view l.store).snapshots) command.Commit (answer.Committed generation) beside
+              (subst (λ (k : ℕ). Step g (Up (running disk view parts l)) command.Commit (answer.Committed k) (Up (running_of (parts l.store) (store.snapshots_after_commit l.frozen_age f (view l.store).snapshots) l.age l.frozen_age))) (sym reported)
+              (subst (λ (base : List Frame). Step g (Up (running disk view parts l)) command.Commit (answer.Committed ((view l.store).snapshots.saved.generation + 1))
+              (Up (record (running_of (parts l.store) (store.snapshots_after_commit l.frozen_age f (view l.store).snapshots) l.age l.frozen_age) { renewed = renewed_since base (frames_of (parts l.store)) })))
+              (base_frozen (view l.store).snapshots f frozen)
               (commit_step g (running disk view parts l) now_frozen is_frozen stable)));
-          up = λ other. came g (store.aside_after_commit l.frozen_age f (view l.store).aside) beside sound (committed_sound g (parts l.store) (view l.store).aside l.banks l.age l.frozen_age up.sound f frozen);
+          up = λ other. came g (store.snapshots_after_commit l.frozen_age f (view l.store).snapshots) beside sound (committed_sound g (parts l.store) (view l.store).snapshots l.banks l.age l.frozen_age up.sound f frozen);
           leaves = commit_along g up;
         }
 
@@ -219,25 +219,25 @@ module _ {D S : Type 0} (disk : D → Disk) (view : S → View D) (parts : S →
         commit_failed = failed l (with_store l s) command.Commit commit_along
 
     -- what is saved goes home
-    module _ (n : ℕ) (moments : LeavesEither (disk (view l.store).beneath) (disk (view s).beneath) (view l.store).aside.saved (moved_saved n (view l.store).aside)) where
+    module _ (n : ℕ) (moments : LeavesEither (disk (view l.store).beneath) (disk (view s).beneath) (view l.store).snapshots.saved (moved_saved n (view l.store).snapshots)) where
       migrate_along : (g : Geometry) → IsUp disk view parts g l →
-          LeavesOne g (disk_at disk view parts l) (disk (view s).beneath) (saved_of (view l.store).aside.saved ∷ second (Up (running disk view parts l)) (command.Migrate n))
-      migrate_along g up = leaves_home g (disk_at disk view parts l) (disk (view s).beneath) (view l.store).aside n up.sound.saved size moments
+          LeavesOne g (disk_at disk view parts l) (disk (view s).beneath) (saved_of (view l.store).snapshots.saved ∷ second (Up (running disk view parts l)) (command.Migrate n))
+      migrate_along g up = leaves_home g (disk_at disk view parts l) (disk (view s).beneath) (view l.store).snapshots n up.sound.saved size moments
 
-      pub migrate_went : (left : ℕ) → left ≡ (view l.store).aside.to_move - n → (view s).aside ≡ store.moved n (view l.store).aside → (view s).is_sound →
+      pub migrate_went : (left : ℕ) → left ≡ (view l.store).snapshots.to_move - n → (view s).snapshots ≡ store.moved n (view l.store).snapshots → (view s).is_sound →
           ServesUp disk view parts l (command.Migrate n) (answer.Left left) (with_store l s)
-      migrate_went left told beside sound g up = record {
+      migrate_went left reported beside sound g up = record {
         step = λ other.
-            stepped g (store.moved n (view l.store).aside) (command.Migrate n) (answer.Left left) beside
-            (subst (λ (k : ℕ). Step g (Up (running disk view parts l)) (command.Migrate n) (answer.Left k) (Up (running_of (parts l.store) (store.moved n (view l.store).aside) l.age l.frozen_age))) (sym told)
-            (subst (λ (x : Saved). Step g (Up (running disk view parts l)) (command.Migrate n) (answer.Left ((view l.store).aside.to_move - n))
-            (Up (record (running_of (parts l.store) (store.moved n (view l.store).aside) l.age l.frozen_age) { saved = x })))
-            (sym (saved_moved (parts l.store) (view l.store).aside l.age l.frozen_age n))
-            (subst (λ (base : List Frame). Step g (Up (running disk view parts l)) (command.Migrate n) (answer.Left ((view l.store).aside.to_move - n))
-            (Up (record (running_of (parts l.store) (store.moved n (view l.store).aside) l.age l.frozen_age) { saved = moved (running disk view parts l) n; renewed = renewed_since base (frames_of (parts l.store)) })))
-            (sym (base_moved (view l.store).aside n))
+            stepped g (store.moved n (view l.store).snapshots) (command.Migrate n) (answer.Left left) beside
+            (subst (λ (k : ℕ). Step g (Up (running disk view parts l)) (command.Migrate n) (answer.Left k) (Up (running_of (parts l.store) (store.moved n (view l.store).snapshots) l.age l.frozen_age))) (sym reported)
+            (subst (λ (x : Saved). Step g (Up (running disk view parts l)) (command.Migrate n) (answer.Left ((view l.store).snapshots.to_move - n))
+            (Up (record (running_of (parts l.store) (store.moved n (view l.store).snapshots) l.age l.frozen_age) { saved = x })))
+            (sym (saved_moved (parts l.store) (view l.store).snapshots l.age l.frozen_age n))
+            (subst (λ (base : List Frame). Step g (Up (running disk view parts l)) (command.Migrate n) (answer.Left ((view l.store).snapshots.to_move - n))
+            (Up (record (running_of (parts l.store) (store.moved n (view l.store).snapshots) l.age l.frozen_age) { saved = moved (running disk view parts l) n; renewed = renewed_since base (frames_of (parts l.store)) })))
+            (sym (base_moved (view l.store).snapshots n))
             (migrate_step g (running disk view parts l) n))));
-        up = λ other. came g (store.moved n (view l.store).aside) beside sound (moved_sound g (parts l.store) (view l.store).aside l.banks l.age l.frozen_age up.sound n);
+        up = λ other. came g (store.moved n (view l.store).snapshots) beside sound (moved_sound g (parts l.store) (view l.store).snapshots l.banks l.age l.frozen_age up.sound n);
         leaves = migrate_along g up;
       }
 
@@ -248,56 +248,56 @@ module _ {D S : Type 0} (disk : D → Disk) (view : S → View D) (parts : S →
 
   module _ (l : Live S) (s : S) where
     -- nothing is frozen
-    pub freeze_refused : (why : CheckpointFault) → s ≡ l.store → l.age < 2 ^ 62 → IsFreezeAnswer {T = ℕ} (left_in (view l.store).aside) (view l.store).aside.saved.entries (Err why) →
+    pub freeze_refused : (why : CheckpointFault) → s ≡ l.store → l.age < 2 ^ 62 → IsFreezeAnswer {T = ℕ} (left_in (view l.store).snapshots) (view l.store).snapshots.saved.entries (Err why) →
         ServesUp disk view parts l command.Checkpoint (answer.Refused (refusal_by why)) (with_store l s)
-    freeze_refused fault.CheckpointRunning same young told =
-        let f = some_there (view l.store).aside.frozen told in
+    freeze_refused fault.CheckpointRunning same young reported =
+        let f = some_there (view l.store).snapshots.frozen reported in
         refused_again l s command.Checkpoint refusal.CheckpointRunning same
-        (λ g up. running_already g (running disk view parts l) young _ (frozen_some (view l.store).aside.frozen f.0 l.frozen_age f.1))
-    freeze_refused fault.MigrationPending same young told =
+        (λ g up. running_already g (running disk view parts l) young _ (frozen_some (view l.store).snapshots.frozen f.0 l.frozen_age f.1))
+    freeze_refused fault.MigrationPending same young reported =
         refused_again l s command.Checkpoint refusal.MigrationPending same
-        (λ g up. not_home g (running disk view parts l) young (frozen_none (view l.store).aside.frozen l.frozen_age (none_there (view l.store).aside.frozen told.0)) told.1)
-    freeze_refused (fault.NotStable left) same young told = absurd told
-    freeze_refused fault.NoCheckpoint same young told = absurd told
-    freeze_refused fault.Failed same young told = absurd told
+        (λ g up. not_home g (running disk view parts l) young (frozen_none (view l.store).snapshots.frozen l.frozen_age (none_there (view l.store).snapshots.frozen reported.0)) reported.1)
+    freeze_refused (fault.NotStable left) same young reported = absurd reported
+    freeze_refused fault.NoCheckpoint same young reported = absurd reported
+    freeze_refused fault.Failed same young reported = absurd reported
 
     module _ (same : AreSame (parts l.store) (parts s)) (size : (disk (view s).beneath).sectors ≡ (disk (view l.store).beneath).sectors) where
       -- nothing is written to the log, or not all of it
-      pub stabilize_refused : (why : CheckpointFault) (n : ℕ) → IsStabilizeAnswer (disk (view l.store).beneath) (disk (view s).beneath) (left_in (view l.store).aside) n (Err why) →
-          (IsRefused {T = ℕ} (Err why) → s ≡ l.store) → ((view l.store).is_sound → LeavesSaved (disk (view l.store).beneath) (disk (view s).beneath) (view l.store).aside.saved) →
+      pub stabilize_refused : (why : CheckpointFault) (n : ℕ) → IsStabilizeAnswer (disk (view l.store).beneath) (disk (view s).beneath) (left_in (view l.store).snapshots) n (Err why) →
+          (IsRefused {T = ℕ} (Err why) → s ≡ l.store) → ((view l.store).is_sound → LeavesSaved (disk (view l.store).beneath) (disk (view s).beneath) (view l.store).snapshots.saved) →
           ServesUp disk view parts l (command.Stabilize n) (answer.Refused (refusal_by why)) (with_store l s)
-      stabilize_refused fault.NoCheckpoint n told again moments =
+      stabilize_refused fault.NoCheckpoint n reported again moments =
           refused_again l s (command.Stabilize n) refusal.NoCheckpoint (again tt)
-          (λ g up. none_to_stabilize g (running disk view parts l) n (frozen_none (view l.store).aside.frozen l.frozen_age (none_there (view l.store).aside.frozen told.1)))
-      stabilize_refused fault.Failed n told again moments =
-          let f = some_there (view l.store).aside.frozen told.1 in
+          (λ g up. none_to_stabilize g (running disk view parts l) n (frozen_none (view l.store).snapshots.frozen l.frozen_age (none_there (view l.store).snapshots.frozen reported.1)))
+      stabilize_refused fault.Failed n reported again moments =
+          let f = some_there (view l.store).snapshots.frozen reported.1 in
           stabilize_failed l s same size f.0 f.1 moments n
-      stabilize_refused fault.CheckpointRunning n told again moments = absurd told
-      stabilize_refused fault.MigrationPending n told again moments = absurd told
-      stabilize_refused (fault.NotStable left) n told again moments = absurd told
+      stabilize_refused fault.CheckpointRunning n reported again moments = absurd reported
+      stabilize_refused fault.MigrationPending n reported again moments = absurd reported
+      stabilize_refused (fault.NotStable left) n reported again moments = absurd reported
 
       -- nothing is saved, or it isn't told
-      pub commit_refused : (why : CheckpointFault) → IsCommitAnswer (disk (view l.store).beneath) (disk (view s).beneath) (left_in (view l.store).aside) (view l.store).aside.saved.generation (Err why) →
-          (IsRefused {T = ℕ} (Err why) → s ≡ l.store) → ((f : FrozenFrames) → (view l.store).aside.frozen ≡ Some f → f.left ≡ 0 →
-          LeavesEither (disk (view l.store).beneath) (disk (view s).beneath) (view l.store).aside.saved (next_saved l.frozen_age f (view l.store).aside.saved)) →
+      pub commit_refused : (why : CheckpointFault) → IsCommitAnswer (disk (view l.store).beneath) (disk (view s).beneath) (left_in (view l.store).snapshots) (view l.store).snapshots.saved.generation (Err why) →
+          (IsRefused {T = ℕ} (Err why) → s ≡ l.store) → ((f : FrozenFrames) → (view l.store).snapshots.frozen ≡ Some f → f.left ≡ 0 →
+          LeavesEither (disk (view l.store).beneath) (disk (view s).beneath) (view l.store).snapshots.saved (next_saved l.frozen_age f (view l.store).snapshots.saved)) →
           ServesUp disk view parts l command.Commit (answer.Refused (refusal_by why)) (with_store l s)
-      commit_refused fault.NoCheckpoint told again moments =
+      commit_refused fault.NoCheckpoint reported again moments =
           refused_again l s command.Commit refusal.NoCheckpoint (again tt)
-          (λ g up. none_to_commit g (running disk view parts l) (frozen_none (view l.store).aside.frozen l.frozen_age (none_there (view l.store).aside.frozen told.1)))
-      commit_refused (fault.NotStable left) told again moments =
-          let f = some_left (view l.store).aside.frozen left (sym told.1) in
+          (λ g up. none_to_commit g (running disk view parts l) (frozen_none (view l.store).snapshots.frozen l.frozen_age (none_there (view l.store).snapshots.frozen reported.1)))
+      commit_refused (fault.NotStable left) reported again moments =
+          let f = some_left (view l.store).snapshots.frozen left (sym reported.1) in
           subst (λ (n : ℕ). ServesUp disk view parts l command.Commit (answer.Refused (refusal.NotStable n)) (with_store l s)) f.2
           (refused_again l s command.Commit (refusal.NotStable f.0.left) (again tt)
           (λ g up. not_stable g (running disk view parts l) (record { world = world_at l.frozen_age f.0.frames; size = f.0.size; left = f.0.left })
-          (frozen_some (view l.store).aside.frozen f.0 l.frozen_age f.1) (λ none. above left told.2 (sym f.2 ∙ none))))
+          (frozen_some (view l.store).snapshots.frozen f.0 l.frozen_age f.1) (λ none. above left reported.2 (sym f.2 ∙ none))))
         where
           above : (n : ℕ) → 0 < n → n ≡ 0 → ⊥
           above n some none = omega (arith, some, none)
-      commit_refused fault.Failed told again moments =
-          let f = some_left (view l.store).aside.frozen 0 (sym told.1) in
+      commit_refused fault.Failed reported again moments =
+          let f = some_left (view l.store).snapshots.frozen 0 (sym reported.1) in
           commit_failed l s same size f.0 f.1 f.2 (moments f.0 f.1 f.2)
-      commit_refused fault.CheckpointRunning told again moments = absurd told
-      commit_refused fault.MigrationPending told again moments = absurd told
+      commit_refused fault.CheckpointRunning reported again moments = absurd reported
+      commit_refused fault.MigrationPending reported again moments = absurd reported
 
 -- who failed is told where a store refuses
 pub refused_cause : (old new : Disk) (why : CheckpointFault) → ((why ≡ fault.Failed) × (old.failures < new.failures)) ⊎ ((why ≡ fault.Failed → ⊥) × (new.failures ≡ old.failures)) → IsCaused old new (answer.Refused (refusal_by why))
@@ -317,29 +317,29 @@ refused_cause old new why (inr other) = record {
   only_failed fault.NoCheckpoint e = cc
 
 pub freeze_cause : (old new : Disk) (left : Option ℕ) (entries : ℕ) (why : CheckpointFault) → IsFreezeAnswer {T = ℕ} left entries (Err why) → new.failures ≡ old.failures → IsCaused old new (answer.Refused (refusal_by why))
-freeze_cause old new left entries fault.CheckpointRunning told same = refused_cause old new fault.CheckpointRunning (inr (λ e. cc, same))
-freeze_cause old new left entries fault.MigrationPending told same = refused_cause old new fault.MigrationPending (inr (λ e. cc, same))
-freeze_cause old new left entries fault.Failed told same = absurd told
-freeze_cause old new left entries (fault.NotStable n) told same = absurd told
-freeze_cause old new left entries fault.NoCheckpoint told same = absurd told
+freeze_cause old new left entries fault.CheckpointRunning reported same = refused_cause old new fault.CheckpointRunning (inr (λ e. cc, same))
+freeze_cause old new left entries fault.MigrationPending reported same = refused_cause old new fault.MigrationPending (inr (λ e. cc, same))
+freeze_cause old new left entries fault.Failed reported same = absurd reported
+freeze_cause old new left entries (fault.NotStable n) reported same = absurd reported
+freeze_cause old new left entries fault.NoCheckpoint reported same = absurd reported
 
 pub stabilize_cause : (old new : Disk) (left : Option ℕ) (count : ℕ) (why : CheckpointFault) → IsStabilizeAnswer old new left count (Err why) → IsCaused old new (answer.Refused (refusal_by why))
-stabilize_cause old new left count fault.NoCheckpoint told = refused_cause old new fault.NoCheckpoint (inr (λ e. cc, told.0))
-stabilize_cause old new left count fault.Failed told = refused_cause old new fault.Failed (inl (refl, told.0))
-stabilize_cause old new left count fault.CheckpointRunning told = absurd told
-stabilize_cause old new left count fault.MigrationPending told = absurd told
-stabilize_cause old new left count (fault.NotStable n) told = absurd told
+stabilize_cause old new left count fault.NoCheckpoint reported = refused_cause old new fault.NoCheckpoint (inr (λ e. cc, reported.0))
+stabilize_cause old new left count fault.Failed reported = refused_cause old new fault.Failed (inl (refl, reported.0))
+stabilize_cause old new left count fault.CheckpointRunning reported = absurd reported
+stabilize_cause old new left count fault.MigrationPending reported = absurd reported
+stabilize_cause old new left count (fault.NotStable n) reported = absurd reported
 
 pub commit_cause : (old new : Disk) (left : Option ℕ) (saved : ℕ) (why : CheckpointFault) → IsCommitAnswer old new left saved (Err why) → IsCaused old new (answer.Refused (refusal_by why))
-commit_cause old new left saved fault.NoCheckpoint told = refused_cause old new fault.NoCheckpoint (inr (λ e. cc, told.0))
-commit_cause old new left saved (fault.NotStable n) told = refused_cause old new (fault.NotStable n) (inr (λ e. cc, told.0))
-commit_cause old new left saved fault.Failed told = refused_cause old new fault.Failed (inl (refl, told.0))
-commit_cause old new left saved fault.CheckpointRunning told = absurd told
-commit_cause old new left saved fault.MigrationPending told = absurd told
+commit_cause old new left saved fault.NoCheckpoint reported = refused_cause old new fault.NoCheckpoint (inr (λ e. cc, reported.0))
+commit_cause old new left saved (fault.NotStable n) reported = refused_cause old new (fault.NotStable n) (inr (λ e. cc, reported.0))
+commit_cause old new left saved fault.Failed reported = refused_cause old new fault.Failed (inl (refl, reported.0))
+commit_cause old new left saved fault.CheckpointRunning reported = absurd reported
+commit_cause old new left saved fault.MigrationPending reported = absurd reported
 
 -- what is frozen can be committed at its age
-pub may_commit : {D S : Type 0} (disk : D → Disk) (view : S → View D) (parts : S → Parts) (l : Live S) → ((g : Geometry) × IsUp disk view parts g l) → (f : FrozenFrames) → (view l.store).aside.frozen ≡ Some f →
-    MayCommit l.frozen_age f (view l.store).aside.saved
+pub may_commit : {D S : Type 0} (disk : D → Disk) (view : S → View D) (parts : S → Parts) (l : Live S) → ((g : Geometry) × IsUp disk view parts g l) → (f : FrozenFrames) → (view l.store).snapshots.frozen ≡ Some f →
+    MayCommit l.frozen_age f (view l.store).snapshots.saved
 may_commit disk view parts l up f frozen =
     let sound = up.1.sound in
     let held = sound.frozen f frozen in record {

@@ -1,11 +1,11 @@
 -- Result codes beside answers.
 use Rattle.kernel.proofs.Names.{◌≡◌, None, Result, Ok, Err, refl, sym, ap, ◌∙◌, IfOk, Answer, Command, Invocation, Geometry, Down, Machine, Running, Up, Failed}
-use Rattle.kernel.proofs.Names.{Disk, Parts, objects_in, View, Served, code_with, Live, HasCode, Stands, told_code}
+use Rattle.kernel.proofs.Names.{Disk, Parts, objects_in, View, Served, code_with, Live, HasCode, Stands, reported_code}
 use Rattle.model.specs.declared.command.Command.TheVariants as command
 use Rattle.kernel.specs.Power as power
 
 -- a command that isn't an invocation has none
-pub other_code : (g : Geometry) (m : Machine) (c : Command) (a : Answer) → ((i : Invocation) → c ≡ command.Invoke i → ⊥) → told_code g m c a ≡ None
+pub other_code : (g : Geometry) (m : Machine) (c : Command) (a : Answer) → ((i : Invocation) → c ≡ command.Invoke i → ⊥) → reported_code g m c a ≡ None
 other_code g (Down saved) c a other = refl
 other_code g (Up r) (command.Invoke i) a other = absurd (other i refl)
 other_code g (Up r) (command.Load p address) a other = refl
@@ -23,7 +23,7 @@ other_code g (Up r) command.Cut a other = refl
 -- an invocation by a store that is up has that of its objects
 module _ {D S : Type 0} (disk : D → Disk) (view : S → View D) (parts : S → Parts) where
   invoked_code : (l : Live S) (i : Invocation) (served : Served) → served.code ≡ code_with (parts l.store).geometry (objects_in (parts l.store)) i served.answer
-      → (g : Geometry) (m : Machine) → Stands disk view parts g (power.Up l) m → served.code ≡ told_code g m (command.Invoke i) served.answer
+      → (g : Geometry) (m : Machine) → Stands disk view parts g (power.Up l) m → served.code ≡ reported_code g m (command.Invoke i) served.answer
   invoked_code l i served is g (Up r) stands =
       is
       ∙ ap (λ (h : Geometry). code_with h (objects_in (parts l.store)) i served.answer) stands.0.sound.geometry

@@ -1,12 +1,12 @@
 -- What is counted of banks, after a store into a page.
 use Rattle.kernel.proofs.Names.{◌≡◌, ℕ, List, Result, Ok, Err, sym, subst, MemoryFault, Geometry, Object, with_word, word_frame, Parts, objects_in, AreCounted}
-use Rattle.kernel.proofs.Names.{BanksState, IsStored, counted_looked, counted_on, LooksAs}
+use Rattle.kernel.proofs.Names.{BanksState, IsStored, counted_looked, counted_on, ReadsAs}
 
 abbrev IsCountedAt : Parts → BanksState → Type 0
 IsCountedAt p s = AreCounted p.geometry (objects_in p) s
 
 -- after a look
-pub looked_counted : (old new : Parts) (s : BanksState) → LooksAs old new → IsCountedAt old s → IsCountedAt new s
+pub looked_counted : (old new : Parts) (s : BanksState) → ReadsAs old new → IsCountedAt old s → IsCountedAt new s
 looked_counted = counted_looked
 
 word_counted : (mid new : Parts) (s : BanksState) (page i word : ℕ) → new.geometry ≡ mid.geometry → objects_in new ≡ with_word (objects_in mid) page i word →

@@ -2,7 +2,7 @@
 use Rattle.kernel.proofs.Names.{◌≡◌, ◌⊎◌, inl, inr, ℕ, ◌+◌, ◌^◌, ◌<◌, ◌≤◌, Bool, true, false, Option, None, Some, Ok, Err, List, [], ◌∷◌, length, refl, sym, ap}
 use Rattle.kernel.proofs.Names.{◌∙◌, subst, arith, if◌then◌else◌, nat_lt, IsErrOf, nat_tests, Refusal, NotPage, Renewed, Geometry, Running, Saved, Up, Step}
 use Rattle.kernel.proofs.Names.{second, World, Image, Disk, journaled_saved, SavedFrames, Holds, LeavesOneOf, Parts, keepable_count, JournalFault}
-use Rattle.kernel.proofs.Names.{IsJournalAnswer, IsTurnedAway, is_page_now, is_still_saved, aside_after_journal, next_journaled, words_now, Aside, View}
+use Rattle.kernel.proofs.Names.{IsJournalAnswer, IsTurnedAway, is_page_now, is_still_saved, snapshots_after_journal, next_journaled, words_now, Snapshots, View}
 use Rattle.kernel.proofs.Names.{left_in, IsUnlooked, Live, saved_of, LeavesOne, unjournaled_by, IsUp, disk_at, running, IsCaused, ServesUp}
 use Rattle.model.specs.declared.answer.Answer.TheVariants as answer
 use Rattle.model.specs.declared.answer.Refusal.TheVariants as refusal
@@ -47,13 +47,13 @@ unlooked_same known fault.Failed same is = absurd is
 
 module _ {D S : Type 0} (disk : D → Disk) (view : S → View D) (parts : S → Parts)
     (only_now : (d : D) (c : Image) → (disk d).left_since (disk d).moment c → (disk d).may_leave c)
-    (sound_holds : (s : S) (c : Image) → (view s).is_sound → (disk (view s).beneath).may_leave c → Holds (disk (view s).beneath).sectors c (view s).aside.saved) where
+    (sound_holds : (s : S) (c : Image) → (view s).is_sound → (disk (view s).beneath).may_leave c → Holds (disk (view s).beneath).sectors c (view s).snapshots.saved) where
   pub too_old : (l : Live S) (n : ℕ) → 2 ^ 62 ≤ l.age → ServesUp disk view parts l (command.Journal n) (answer.Refused refusal.Worn) l
   too_old l n old = refused disk view parts only_now sound_holds l (command.Journal n) refusal.Worn (λ g up. journal_worn g (running disk view parts l) n old)
 
   module _ (l : Live S) (s : S) (n : ℕ) (young : l.age < 2 ^ 62) where
-    abbrev a : Aside
-    a = (view l.store).aside
+    abbrev a : Snapshots
+    a = (view l.store).snapshots
 
     abbrev age : ℕ
     age = a.saved.age + 1
@@ -72,16 +72,16 @@ module _ {D S : Type 0} (disk : D → Disk) (view : S → View D) (parts : S →
         ServesUp disk view parts l (command.Journal n) (answer.Refused why) (with_store l s)
     turned_away why same applies = refused_again disk view parts only_now sound_holds l s (command.Journal n) why same applies
 
-    module _ (same : AreSame (parts l.store) (parts s)) (size : new.sectors ≡ old.sectors) (run : LeavesOneOf (disk (view l.store).beneath) (disk (view s).beneath) (view l.store).aside.saved
-        (next_journaled ((view l.store).aside.saved.age + 1) n (words_now (parts l.store) n) (view l.store).aside.frozen (view l.store).aside.saved (is_page_now (parts l.store) n) (is_still_saved (parts l.store) (view l.store).aside.saved n)))
-        (none : (view l.store).aside.frozen ≡ None) (home : (view l.store).aside.saved.entries ≡ 0) (page : is_page_now (parts l.store) n ≡ true) where
+    module _ (same : AreSame (parts l.store) (parts s)) (size : new.sectors ≡ old.sectors) (run : LeavesOneOf (disk (view l.store).beneath) (disk (view s).beneath) (view l.store).snapshots.saved
+        (next_journaled ((view l.store).snapshots.saved.age + 1) n (words_now (parts l.store) n) (view l.store).snapshots.frozen (view l.store).snapshots.saved (is_page_now (parts l.store) n) (is_still_saved (parts l.store) (view l.store).snapshots.saved n)))
+        (none : (view l.store).snapshots.frozen ≡ None) (home : (view l.store).snapshots.saved.entries ≡ 0) (page : is_page_now (parts l.store) n ≡ true) where
       run_by : (b : Bool) → is_still_saved (parts l.store) a.saved n ≡ b → LeavesOneOf old new a.saved (if b then Some (journaled_saved age n (words_now (parts l.store) n) a.saved) else None)
       run_by b is = subst (λ (o : Option SavedFrames). LeavesOneOf old new a.saved o)
           (next_is age n (words_now (parts l.store) n) a.frozen a.saved (is_page_now (parts l.store) n) (is_still_saved (parts l.store) a.saved n) b none home page is) run
 
       -- what a crash leaves of it
       along : (b : Bool) → is_still_saved (parts l.store) a.saved n ≡ b → (g : Geometry) → IsUp disk view parts g l →
-          LeavesOne g (disk_at disk view parts l) (disk (view s).beneath) (saved_of (view l.store).aside.saved ∷ second (Up (running disk view parts l)) (command.Journal n))
+          LeavesOne g (disk_at disk view parts l) (disk (view s).beneath) (saved_of (view l.store).snapshots.saved ∷ second (Up (running disk view parts l)) (command.Journal n))
       along false is g up = leaves_along g old new a.saved (second (Up (running disk view parts l)) (command.Journal n)) up.sound.saved size (run_by false is)
       along true is g up =
           let sound = up.sound in
@@ -96,7 +96,7 @@ module _ {D S : Type 0} (disk : D → Disk) (view : S → View D) (parts : S →
       journal_failed = failed disk view parts only_now sound_holds l (with_store l s) (command.Journal n) (along (is_still_saved (parts l.store) a.saved n) refl)
 
       -- it isn't saved, or was given up since
-      pub not_saved : is_still_saved (parts l.store) (view l.store).aside.saved n ≡ false → (view s).aside ≡ (view l.store).aside → (view s).is_sound →
+      pub not_saved : is_still_saved (parts l.store) (view l.store).snapshots.saved n ≡ false → (view s).snapshots ≡ (view l.store).snapshots → (view s).is_sound →
           ServesUp disk view parts l (command.Journal n) (answer.Refused (refusal.NotJournaled Renewed)) (with_store l s)
       not_saved other beside sound g up =
           let p = parts l.store in
@@ -104,60 +104,60 @@ module _ {D S : Type 0} (disk : D → Disk) (view : S → View D) (parts : S →
           let known = known_now g p a l.banks l.age l.frozen_age up.sound n none page in
           record {
             step = λ not_fault.
-                subst (λ (x : Running). Step g (Up r) (command.Journal n) (answer.Refused (refusal.NotJournaled Renewed)) (Up x)) (sym (same_running g p (parts s) same a (view s).aside beside l.age l.frozen_age))
+                subst (λ (x : Running). Step g (Up r) (command.Journal n) (answer.Refused (refusal.NotJournaled Renewed)) (Up x)) (sym (same_running g p (parts s) same a (view s).snapshots beside l.age l.frozen_age))
                 (refused_step g r (command.Journal n) (refusal.NotJournaled Renewed)
                 (journal_renewed g r n young (frozen_none a.frozen l.frozen_age none) home known (page_now g p a l.banks l.age l.frozen_age up.sound n none page)
                 (sym (saved_is g p a l.banks l.age l.frozen_age up.sound n none known) ∙ other)));
-            up = λ not_fault. is_up disk view parts only_now sound_holds g (with_store l s) sound (stays_sound g p (parts s) same a (view s).aside beside l.banks l.age l.frozen_age up.sound);
+            up = λ not_fault. is_up disk view parts only_now sound_holds g (with_store l s) sound (stays_sound g p (parts s) same a (view s).snapshots beside l.banks l.age l.frozen_age up.sound);
             leaves = along false other g up;
           }
 
       -- it is saved
-      pub journal_went : is_still_saved (parts l.store) (view l.store).aside.saved n ≡ true → (generation : ℕ) → generation ≡ (view l.store).aside.saved.generation + 2 →
-          (view s).aside ≡ aside_after_journal ((view l.store).aside.saved.age + 1) n (words_now (parts l.store) n) (view l.store).aside → (view s).is_sound →
+      pub journal_went : is_still_saved (parts l.store) (view l.store).snapshots.saved n ≡ true → (generation : ℕ) → generation ≡ (view l.store).snapshots.saved.generation + 2 →
+          (view s).snapshots ≡ snapshots_after_journal ((view l.store).snapshots.saved.age + 1) n (words_now (parts l.store) n) (view l.store).snapshots → (view s).is_sound →
           ServesUp disk view parts l (command.Journal n) (answer.Journaled generation) (with_age l s (l.age + 1))
-      journal_went is generation told beside sound g up =
+      journal_went is generation reported beside sound g up =
           let p = parts l.store in
           let r = running disk view parts l in
-          let b = aside_after_journal age n (words_now p n) a in
+          let b = snapshots_after_journal age n (words_now p n) a in
           record {
             step = λ not_fault.
                 subst (λ (x : Running). Step g (Up r) (command.Journal n) (answer.Journaled generation) (Up x))
-                (sym (same_running g p (parts s) same b (view s).aside beside (l.age + 1) l.frozen_age ∙ running_next g p a l.banks l.age l.frozen_age up.sound n none page is young))
-                (subst (λ (k : ℕ). Step g (Up r) (command.Journal n) (answer.Journaled k) (let now : World = record { objects = r.now.objects; age = r.now.age + 1 } in Up (record r { now = now; saved = machine.journaled r n; to_move = 1 }))) (sym told)
+                (sym (same_running g p (parts s) same b (view s).snapshots beside (l.age + 1) l.frozen_age ∙ running_next g p a l.banks l.age l.frozen_age up.sound n none page is young))
+                (subst (λ (k : ℕ). Step g (Up r) (command.Journal n) (answer.Journaled k) (let now : World = record { objects = r.now.objects; age = r.now.age + 1 } in Up (record r { now = now; saved = machine.journaled r n; to_move = 1 }))) (sym reported)
                 (journal_step g r n young (frozen_none a.frozen l.frozen_age none) home (known_now g p a l.banks l.age l.frozen_age up.sound n none page)
                 (page_now g p a l.banks l.age l.frozen_age up.sound n none page) (saved_too g p a l.banks l.age l.frozen_age up.sound n none page is young)));
             up = λ not_fault. is_up disk view parts only_now sound_holds g (with_age l s (l.age + 1)) sound
-                (stays_sound g p (parts s) same b (view s).aside beside l.banks (l.age + 1) l.frozen_age (together_next g p a l.banks l.age l.frozen_age up.sound n none page is young));
+                (stays_sound g p (parts s) same b (view s).snapshots beside l.banks (l.age + 1) l.frozen_age (together_next g p a l.banks l.age l.frozen_age up.sound n none page is young));
             leaves = along true is g up;
           }
 
     -- it is refused
     pub journal_refused : (why : JournalFault) (known : Bool) → AreSame (parts l.store) (parts s) → (disk (view s).beneath).sectors ≡ (disk (view l.store).beneath).sectors →
-        IsJournalAnswer (disk (view l.store).beneath) (disk (view s).beneath) (left_in (view l.store).aside) (view l.store).aside.saved (is_page_now (parts l.store) n) (is_still_saved (parts l.store) (view l.store).aside.saved n) (Err why) →
+        IsJournalAnswer (disk (view l.store).beneath) (disk (view s).beneath) (left_in (view l.store).snapshots) (view l.store).snapshots.saved (is_page_now (parts l.store) n) (is_still_saved (parts l.store) (view l.store).snapshots.saved n) (Err why) →
         (IsTurnedAway (Err why) → s ≡ l.store) → (known ≡ true → n < length (parts l.store).headers) → (known ≡ false → length (parts l.store).headers ≤ n) →
-        (view s).aside ≡ (view l.store).aside → (IsErrOf {T = ℕ} (Err why) fault.Failed ⊎ (view s).is_sound) →
-        LeavesOneOf (disk (view l.store).beneath) (disk (view s).beneath) (view l.store).aside.saved
-        (next_journaled ((view l.store).aside.saved.age + 1) n (words_now (parts l.store) n) (view l.store).aside.frozen (view l.store).aside.saved (is_page_now (parts l.store) n) (is_still_saved (parts l.store) (view l.store).aside.saved n)) →
+        (view s).snapshots ≡ (view l.store).snapshots → (IsErrOf {T = ℕ} (Err why) fault.Failed ⊎ (view s).is_sound) →
+        LeavesOneOf (disk (view l.store).beneath) (disk (view s).beneath) (view l.store).snapshots.saved
+        (next_journaled ((view l.store).snapshots.saved.age + 1) n (words_now (parts l.store) n) (view l.store).snapshots.frozen (view l.store).snapshots.saved (is_page_now (parts l.store) n) (is_still_saved (parts l.store) (view l.store).snapshots.saved n)) →
         ServesUp disk view parts l (command.Journal n) (answer.Refused (unjournaled_by known why)) (with_store l s)
-    journal_refused fault.CheckpointRunning known same size told away within past beside sound run =
-        let f = some_there a.frozen told.1 in
+    journal_refused fault.CheckpointRunning known same size reported away within past beside sound run =
+        let f = some_there a.frozen reported.1 in
         turned_away refusal.CheckpointRunning (away tt) (λ g up. journal_running g (running disk view parts l) n young _ (frozen_some a.frozen f.0 l.frozen_age f.1))
-    journal_refused fault.MigrationPending known same size told away within past beside sound run =
+    journal_refused fault.MigrationPending known same size reported away within past beside sound run =
         turned_away refusal.MigrationPending (away tt)
-        (λ g up. journal_pending g (running disk view parts l) n young (frozen_none a.frozen l.frozen_age (none_there a.frozen told.1)) told.2)
-    journal_refused fault.NotPage true same size told away within past beside sound run =
+        (λ g up. journal_pending g (running disk view parts l) n young (frozen_none a.frozen l.frozen_age (none_there a.frozen reported.1)) reported.2)
+    journal_refused fault.NotPage true same size reported away within past beside sound run =
         turned_away (refusal.NotJournaled NotPage) (away tt)
-        (λ g up. journal_no_page g (running disk view parts l) n young (frozen_none a.frozen l.frozen_age (none_there a.frozen told.1)) told.2
+        (λ g up. journal_no_page g (running disk view parts l) n young (frozen_none a.frozen l.frozen_age (none_there a.frozen reported.1)) reported.2
         (subst (λ (m : ℕ). n < m) (keepable_count g l.age (parts l.store) up.sound.now.keepable) (within refl))
-        (sym (now_is g (parts l.store) a l.banks l.age l.frozen_age up.sound n) ∙ told.3))
-    journal_refused fault.NotPage false same size told away within past beside sound run =
+        (sym (now_is g (parts l.store) a l.banks l.age l.frozen_age up.sound n) ∙ reported.3))
+    journal_refused fault.NotPage false same size reported away within past beside sound run =
         turned_away refusal.BadNumber (away tt)
-        (λ g up. journal_unknown g (running disk view parts l) n young (frozen_none a.frozen l.frozen_age (none_there a.frozen told.1)) told.2
+        (λ g up. journal_unknown g (running disk view parts l) n young (frozen_none a.frozen l.frozen_age (none_there a.frozen reported.1)) reported.2
         (subst (λ (m : ℕ). m ≤ n) (keepable_count g l.age (parts l.store) up.sound.now.keepable) (past refl)))
-    journal_refused fault.Renewed known same size told away within past beside sound run =
-        not_saved same size run (none_there a.frozen told.1) told.2 told.3 told.4 beside (sound_still sound)
-    journal_refused fault.Failed known same size told away within past beside sound run = journal_failed same size run (none_there a.frozen told.1) told.2 told.3
+    journal_refused fault.Renewed known same size reported away within past beside sound run =
+        not_saved same size run (none_there a.frozen reported.1) reported.2 reported.3 reported.4 beside (sound_still sound)
+    journal_refused fault.Failed known same size reported away within past beside sound run = journal_failed same size run (none_there a.frozen reported.1) reported.2 reported.3
 
 other_cause : (old new : Disk) (why : Refusal) → new.failures ≡ old.failures → (answer.Refused why ≡ answer.Refused refusal.Fault → ⊥) → IsCaused old new (answer.Refused why)
 other_cause old new why same other = record {
@@ -167,12 +167,12 @@ other_cause old new why same other = record {
 
 -- who failed is told where a store refuses
 pub journal_cause : (old new : Disk) (left : Option ℕ) (s : SavedFrames) (page saved known : Bool) (why : JournalFault) → IsJournalAnswer old new left s page saved (Err why) → IsCaused old new (answer.Refused (unjournaled_by known why))
-journal_cause old new left s page saved known fault.Failed told = record {
-  later = let more = told.0 in omega (arith, more);
-  exact = (λ e. told.0, λ rose. refl);
+journal_cause old new left s page saved known fault.Failed reported = record {
+  later = let more = reported.0 in omega (arith, more);
+  exact = (λ e. reported.0, λ rose. refl);
 }
-journal_cause old new left s page saved known fault.CheckpointRunning told = other_cause old new refusal.CheckpointRunning told.0 (λ e. cc)
-journal_cause old new left s page saved known fault.MigrationPending told = other_cause old new refusal.MigrationPending told.0 (λ e. cc)
-journal_cause old new left s page saved true fault.NotPage told = other_cause old new (refusal.NotJournaled NotPage) told.0 (λ e. cc)
-journal_cause old new left s page saved false fault.NotPage told = other_cause old new refusal.BadNumber told.0 (λ e. cc)
-journal_cause old new left s page saved known fault.Renewed told = other_cause old new (refusal.NotJournaled Renewed) told.0 (λ e. cc)
+journal_cause old new left s page saved known fault.CheckpointRunning reported = other_cause old new refusal.CheckpointRunning reported.0 (λ e. cc)
+journal_cause old new left s page saved known fault.MigrationPending reported = other_cause old new refusal.MigrationPending reported.0 (λ e. cc)
+journal_cause old new left s page saved true fault.NotPage reported = other_cause old new (refusal.NotJournaled NotPage) reported.0 (λ e. cc)
+journal_cause old new left s page saved false fault.NotPage reported = other_cause old new refusal.BadNumber reported.0 (λ e. cc)
+journal_cause old new left s page saved known fault.Renewed reported = other_cause old new (refusal.NotJournaled Renewed) reported.0 (λ e. cc)

@@ -90,8 +90,8 @@ module _ {D S : Type 0} (disk : D → Disk) (view : S → View D) (parts : S →
   pub some_up : (o : Option (Live S)) (d : Option D) (l : Live S) → o ≡ Some l → IsSomeMachine disk view parts (power_of o d) → IsSomeMachine disk view parts (power.Up l)
   some_up o d l is some = subst (λ (x : Option (Live S)). IsSomeMachine disk view parts (power_of x d)) is some
 
-  pub asked_up : (o : Option (Live S)) (d : Option D) (l : Live S) → o ≡ Some l → IsSomeMachine disk view parts (power_of o d) → IsSomeUp disk view parts l
-  asked_up o d l is some = go (some_up o d l is some)
+  pub requested_up : (o : Option (Live S)) (d : Option D) (l : Live S) → o ≡ Some l → IsSomeMachine disk view parts (power_of o d) → IsSomeUp disk view parts l
+  requested_up o d l is some = go (some_up o d l is some)
     where
       go : IsSomeMachine disk view parts (power.Up l) → IsSomeUp disk view parts l
       go (g, Up r, stands) = (g, stands.0)
@@ -133,14 +133,14 @@ module _ {D S : Type 0} (disk : D → Disk) (view : S → View D) (parts : S →
 
   pub opens_up : (device : D) (l : Live S) → Recovers disk view parts device l → Opens disk view parts device (power.Up l)
   opens_up device l recovers =
-      let fs = (view l.store).aside.saved in
+      let fs = (view l.store).snapshots.saved in
       record {
         geometry = fs.geometry;
         saved = saved_of fs;
         denoted = record { frames = fs; holds = recovers.holds; sound = recovers.up.sound.saved; stands = refl };
         stands = (recovers.up, sym recovers.at_saved);
         durable = recovers.durable;
-        looks = recovers.looks;
+        only_reads = recovers.only_reads;
         failures = recovers.failures;
       }
 
@@ -148,10 +148,10 @@ module _ {D S : Type 0} (disk : D → Disk) (view : S → View D) (parts : S →
   opened_some device l recovers = let opens = opens_up device l recovers in (opens.geometry, Up (opened opens.geometry opens.saved), opens.stands)
 
   module _ (device : D) (seen_left : (disk device).may_leave (disk device).seen) (g : Geometry) (ss : List Saved) (leaves : Leaves g (disk device) ss) where
-    pub rises : (l : Live S) (generation age : ℕ) → Recovers disk view parts device l → generation ≡ (view l.store).aside.saved.generation → age ≡ (view l.store).aside.saved.age →
+    pub rises : (l : Live S) (generation age : ℕ) → Recovers disk view parts device l → generation ≡ (view l.store).snapshots.saved.generation → age ≡ (view l.store).snapshots.saved.age →
         Reopened disk view parts g ss device (answer.At generation age) (power.Up l)
     rises l generation age recovers same_generation same_age =
-        let fs = (view l.store).aside.saved in
+        let fs = (view l.store).snapshots.saved in
         let one = one_denoted g (disk device).sectors (disk device).seen ss fs (leaves (disk device).seen seen_left) recovers.holds in
         let same : fs.geometry ≡ g = one.1.geometry in
         record {
@@ -162,27 +162,27 @@ module _ {D S : Type 0} (disk : D → Disk) (view : S → View D) (parts : S →
             subst (λ (h : Geometry). opened h (saved_of fs) ≡ running disk view parts l) same (sym recovers.at_saved),
           );
           leaves = record {
-            size = recovers.looks.size;
-            any_moment = leaves_weaker {old = disk device} {new = disk (view l.store).beneath} {P = (disk device).may_leave} (DenotesOne g (disk device).sectors ss) leaves recovers.looks.any_moment;
+            size = recovers.only_reads.size;
+            any_moment = leaves_weaker {old = disk device} {new = disk (view l.store).beneath} {P = (disk device).may_leave} (DenotesOne g (disk device).sectors ss) leaves recovers.only_reads.any_moment;
           };
         }
 
     pub stays_down : (why : OpenFault) (back : D) → RefusesToOpen disk device back why → Reopened disk view parts g ss device (answer.Refused (refused_by why)) (power.Down back)
-    stays_down why back refuses = told why refuses
+    stays_down why back refuses = reported why refuses
       where
         run : LeavesOne g (disk device) (disk back) ss
         run = record {
-          size = refuses.looks.size;
-          any_moment = leaves_weaker {old = disk device} {new = disk back} {P = (disk device).may_leave} (DenotesOne g (disk device).sectors ss) leaves refuses.looks.any_moment;
+          size = refuses.only_reads.size;
+          any_moment = leaves_weaker {old = disk device} {new = disk back} {P = (disk device).may_leave} (DenotesOne g (disk device).sectors ss) leaves refuses.only_reads.any_moment;
         }
 
         still : Leaves g (disk back) ss
-        still c left = subst (λ (n : ℕ). DenotesOne g n ss c) (sym refuses.looks.size) (leaves c (refuses.looks.crash c left))
+        still c left = subst (λ (n : ℕ). DenotesOne g n ss c) (sym refuses.only_reads.size) (leaves c (refuses.only_reads.crash c left))
 
-        told : (e : OpenFault) → RefusesToOpen disk device back e → Reopened disk view parts g ss device (answer.Refused (refused_by e)) (power.Down back)
-        told fault.Failed r = record { after = Down ss; step = inr (inr (refl, refl)); stands = still; leaves = run }
-        told fault.NoMemory r = record { after = Down ss; step = inr (inl (refl, refl)); stands = still; leaves = run }
-        told (fault.Bad reason) r = absurd (one_not_bad g (disk device).sectors (disk device).seen ss reason (leaves (disk device).seen seen_left) r.is_why.1)
+        reported : (e : OpenFault) → RefusesToOpen disk device back e → Reopened disk view parts g ss device (answer.Refused (refused_by e)) (power.Down back)
+        reported fault.Failed r = record { after = Down ss; step = inr (inr (refl, refl)); stands = still; leaves = run }
+        reported fault.NoMemory r = record { after = Down ss; step = inr (inl (refl, refl)); stands = still; leaves = run }
+        reported (fault.Bad reason) r = absurd (one_not_bad g (disk device).sectors (disk device).seen ss reason (leaves (disk device).seen seen_left) r.is_why.1)
 
   -- a device that a crash of a kernel left is an image
   pub no_reason : (device back : D) (why : OpenFault) → (disk device).may_leave (disk device).seen → IsSomeDown disk device → RefusesToOpen disk device back why → IsNoReason why
@@ -196,7 +196,7 @@ module _ {D S : Type 0} (disk : D → Disk) (view : S → View D) (parts : S →
   -- what a crash leaves beneath a machine
   beneath : (g : Geometry) (p : Power D S) (m : Machine) (d : D) → Stands disk view parts g p m → IsDeviceOf disk view parts p d → Leaves g (disk d) (candidates m)
   beneath g (power.Up l) (Up r) d stands is =
-      subst (λ (x : Running). Leaves g (disk d) (x.saved ∷ [])) (sym stands.1) (subst (λ (x : D). Leaves g (disk x) (saved_of (view l.store).aside.saved ∷ [])) (sym is) stands.0.leaves)
+      subst (λ (x : Running). Leaves g (disk d) (x.saved ∷ [])) (sym stands.1) (subst (λ (x : D). Leaves g (disk x) (saved_of (view l.store).snapshots.saved ∷ [])) (sym is) stands.0.leaves)
   beneath g (power.Down e) (Down saved) d stands is = subst (λ (x : D). Leaves g (disk x) saved) (sym is) stands
   beneath g (power.Up l) (Down saved) d stands is = absurd stands
   beneath g (power.Down e) (Up r) d stands is = absurd stands

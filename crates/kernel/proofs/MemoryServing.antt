@@ -2,19 +2,19 @@
 use Rattle.kernel.proofs.Names.{◌≡◌, ◌↔◌, ℕ, ◌%◌, ◌<◌, ◌≤◌, Bool, true, List, [], ◌∷◌, Option, None, Some, Result, Ok, Err, refl, sym, ap, ◌∙◌, subst, arith}
 use Rattle.kernel.proofs.Names.{IsErrOf, Answer, MemoryFault, Refusal, Command, Frame, ObjectHeader, Geometry, Object, header_at, objects_of, IsSoundFrames}
 use Rattle.kernel.proofs.Names.{Frozen, Saved, Machine, touching, touched_count, Step, is_process, is_running_process, with_word, none_in_frame, renewing_none}
-use Rattle.kernel.proofs.Names.{word_frame, SameFrame, frame_refl, tests_at, PrepareFault, IsUnchanged, Looks, LooksUp, Parts, frames_of, objects_in, IsLoaded}
-use Rattle.kernel.proofs.Names.{IsStored, KeepsSound, OverfillsStore, renews_none, IsEarly, Performs, machine_at, renewed_by, refused_by}
+use Rattle.kernel.proofs.Names.{word_frame, SameFrame, frame_refl, tests_at, PrepareFault, IsUnchanged, OnlyReads, OnlyFetches, Parts, frames_of, objects_in}
+use Rattle.kernel.proofs.Names.{IsLoaded, IsStored, KeepsSound, OverfillsStore, renews_none, IsEarly, Performs, machine_at, renewed_by, refused_by}
 use Rattle.model.specs.declared.answer.Answer.TheVariants as answer
 use Rattle.model.specs.declared.answer.Refusal.TheVariants as refusal
 use Rattle.model.specs.declared.command.Command.TheVariants as command
 use Rattle.capability.specs.declared.present.PrepareFault.TheVariants as prepare
-use Rattle.kernel.proofs.Performing.{AreSame, refused_serves, same_frames, same_renews, same_sound, serves_looked, standing, still_machine, told_cause, unfailed}
+use Rattle.kernel.proofs.Performing.{AreSame, refused_serves, same_frames, same_renews, same_sound, serves_looked, standing, still_machine, reported_cause, unfailed}
 use Rattle.kernel.proofs.ProcessSteps.{early_fine}
 use Rattle.kernel.proofs.MemorySteps.{load_early, load_step, load_without_memory, loaded_answer, store_early, store_fault_step, store_full_step, store_step, store_without_memory}
 
 -- what was only looked at is the same
-pub looked_same : {S : Type 0} (parts : S → Parts) (Leads : S → S → Type 0) (old new : S) → LooksUp parts Leads old new → AreSame (parts old) (parts new)
-looked_same parts Leads old new aside = record { headers = aside.headers; contents = aside.contents; touched = aside.touched; geometry = aside.geometry }
+pub looked_same : {S : Type 0} (parts : S → Parts) (Continues : S → S → Type 0) (old new : S) → OnlyFetches parts Continues old new → AreSame (parts old) (parts new)
+looked_same parts Continues old new snapshots = record { headers = snapshots.headers; contents = snapshots.contents; touched = snapshots.touched; geometry = snapshots.geometry }
 
 -- and so is what wasn't changed
 unchanged_same : (old new : Parts) → new.geometry ≡ old.geometry → IsUnchanged old new → AreSame old new
@@ -50,27 +50,27 @@ machine_is age new renewed now frozen saved to_move os ts objects touched same =
     ∙ ap (λ (rs : List Bool). standing age rs frozen saved to_move (objects_in new) new.touched) same
 
 -- a process that can't act
-module _ {S : Type 0} (parts : S → Parts) (Leads : S → S → Type 0) (age : ℕ) (old new : S) (p address : ℕ) (why : Refusal)
+module _ {S : Type 0} (parts : S → Parts) (Continues : S → S → Type 0) (age : ℕ) (old new : S) (p address : ℕ) (why : Refusal)
     (sound : IsSoundFrames (parts old).geometry age (frames_of (parts old))) (early : IsEarly (objects_in (parts old)) p (Some why))
-    (aside : LooksUp parts Leads old new) (later : (parts old).failures ≤ (parts new).failures)
+    (snapshots : OnlyFetches parts Continues old new) (later : (parts old).failures ≤ (parts new).failures)
     (stayed : (parts old).failures < (parts new).failures → ⊥) where
   why_cause : (why ≡ refusal.Fault) ↔ ((parts old).failures < (parts new).failures)
-  why_cause = told_cause why (early_fine (objects_in (parts old)) p why early) stayed
+  why_cause = reported_cause why (early_fine (objects_in (parts old)) p why early) stayed
 
   pub early_load : Performs age (parts old) (command.Load p address) (answer.Refused why) age (parts new)
   early_load =
-      refused_serves age (parts old) (parts new) (command.Load p address) why (looked_same parts Leads old new aside) sound later why_cause
+      refused_serves age (parts old) (parts new) (command.Load p address) why (looked_same parts Continues old new snapshots) sound later why_cause
       (λ renewed frozen saved to_move other. load_early (parts old).geometry _ p address why early)
 
   pub early_store : (word : ℕ) → Performs age (parts old) (command.Store p address word) (answer.Refused why) age (parts new)
   early_store word =
-      refused_serves age (parts old) (parts new) (command.Store p address word) why (looked_same parts Leads old new aside) sound later why_cause
+      refused_serves age (parts old) (parts new) (command.Store p address word) why (looked_same parts Continues old new snapshots) sound later why_cause
       (λ renewed frozen saved to_move other. store_early (parts old).geometry _ p address word why early)
 
 -- what is answered to a process that runs, after a look at it, by what came of its load or store
-module _ {S : Type 0} (parts : S → Parts) (Leads : S → S → Type 0) (age : ℕ) (before between after : S) (p address : ℕ)
+module _ {S : Type 0} (parts : S → Parts) (Continues : S → S → Type 0) (age : ℕ) (before between after : S) (p address : ℕ)
     (sound : IsSoundFrames (parts before).geometry age (frames_of (parts before))) (acts : IsEarly (objects_in (parts before)) p None)
-    (aside : LooksUp parts Leads before between) (rises : (parts before).failures ≤ (parts between).failures)
+    (snapshots : OnlyFetches parts Continues before between) (rises : (parts before).failures ≤ (parts between).failures)
     (stayed : (parts before).failures < (parts between).failures → ⊥) where
   abbrev old : Parts
   old = parts before
@@ -82,7 +82,7 @@ module _ {S : Type 0} (parts : S → Parts) (Leads : S → S → Type 0) (age : 
   new = parts after
 
   same : AreSame old mid
-  same = looked_same parts Leads before between aside
+  same = looked_same parts Continues before between snapshots
 
   failures : mid.failures ≡ old.failures
   failures = unfailed old.failures mid.failures rises stayed
@@ -102,7 +102,7 @@ module _ {S : Type 0} (parts : S → Parts) (Leads : S → S → Type 0) (age : 
       Performs age old c (answer.Refused why) age new
   refused_then c why other unchanged later stayed step =
       serves_looked age age old mid new c (answer.Refused why) same failures
-      (refused_serves age mid new c why unchanged mid_sound later (told_cause why other stayed)
+      (refused_serves age mid new c why unchanged mid_sound later (reported_cause why other stayed)
       (λ renewed frozen saved to_move differs. step renewed frozen saved to_move))
 
   load_then : (loaded : Result ℕ MemoryFault) → IsLoaded (objects_in mid) p address loaded → AreSame mid new → mid.failures ≤ new.failures →
@@ -119,12 +119,12 @@ module _ {S : Type 0} (parts : S → Parts) (Leads : S → S → Type 0) (age : 
     cause = (λ e. absurd (loaded_unfailed loaded e), λ rose. absurd (stayed rose));
   })
 
-  pub load_answers : (loaded told : Result ℕ MemoryFault) → loaded ≡ told → IsLoaded (objects_in mid) p address loaded →
-      (let r : Result (Result ℕ MemoryFault) PrepareFault = Ok loaded in Looks parts Leads between after r) →
-      Performs age old (command.Load p address) (loaded_answer told) age new
-  load_answers loaded told is found looks =
+  pub load_answers : (loaded reported : Result ℕ MemoryFault) → loaded ≡ reported → IsLoaded (objects_in mid) p address loaded →
+      (let r : Result (Result ℕ MemoryFault) PrepareFault = Ok loaded in OnlyReads parts Continues between after r) →
+      Performs age old (command.Load p address) (loaded_answer reported) age new
+  load_answers loaded reported is found only_reads =
       subst (λ (r : Result ℕ MemoryFault). Performs age old (command.Load p address) (loaded_answer r) age new) is
-      (load_then loaded found (looked_same parts Leads between after looks.aside) looks.later (λ rose. ok_unfailed loaded (looks.cause.1 rose)))
+      (load_then loaded found (looked_same parts Continues between after only_reads.snapshots) only_reads.later (λ rose. ok_unfailed loaded (only_reads.cause.1 rose)))
 
   failed_then : (c : Command) → AreSame mid new → mid.failures < new.failures → Performs age old c (answer.Refused refusal.Fault) age new
   failed_then c unchanged rose =
@@ -132,20 +132,20 @@ module _ {S : Type 0} (parts : S → Parts) (Leads : S → S → Type 0) (age : 
       (refused_serves age mid new c refusal.Fault unchanged mid_sound (omega (arith, rose)) (λ e. rose, λ r. refl)
       (λ renewed frozen saved to_move other. absurd (other refl)))
 
-  load_by : (f : PrepareFault) → (let r : Result (Result ℕ MemoryFault) PrepareFault = Err f in Looks parts Leads between after r) →
+  load_by : (f : PrepareFault) → (let r : Result (Result ℕ MemoryFault) PrepareFault = Err f in OnlyReads parts Continues between after r) →
       Performs age old (command.Load p address) (answer.Refused (refused_by f)) age new
-  load_by prepare.NoMemory looks =
-      refused_then (command.Load p address) refusal.NoMemory (λ e. cc) (looked_same parts Leads between after looks.aside) looks.later
-      (λ rose. err_unfailed prepare.NoMemory (λ e. cc) (looks.cause.1 rose))
+  load_by prepare.NoMemory only_reads =
+      refused_then (command.Load p address) refusal.NoMemory (λ e. cc) (looked_same parts Continues between after only_reads.snapshots) only_reads.later
+      (λ rose. err_unfailed prepare.NoMemory (λ e. cc) (only_reads.cause.1 rose))
       (λ renewed frozen saved to_move. load_without_memory mid.geometry _ p address process)
-  load_by prepare.LogFull looks = absurd (looks.room refl)
-  load_by prepare.Failed looks = failed_then (command.Load p address) (looked_same parts Leads between after looks.aside) (looks.cause.0 refl)
+  load_by prepare.LogFull only_reads = absurd (only_reads.room refl)
+  load_by prepare.Failed only_reads = failed_then (command.Load p address) (looked_same parts Continues between after only_reads.snapshots) (only_reads.cause.0 refl)
 
   pub load_is_refused : (f : PrepareFault) (a : Answer) → a ≡ answer.Refused (refused_by f) →
-      (let r : Result (Result ℕ MemoryFault) PrepareFault = Err f in Looks parts Leads between after r) →
+      (let r : Result (Result ℕ MemoryFault) PrepareFault = Err f in OnlyReads parts Continues between after r) →
       Performs age old (command.Load p address) a age new
-  load_is_refused f a is looks =
-      subst (λ (b : Answer). Performs age old (command.Load p address) b age new) (sym is) (load_by f looks)
+  load_is_refused f a is only_reads =
+      subst (λ (b : Answer). Performs age old (command.Load p address) b age new) (sym is) (load_by f only_reads)
 
   -- a store, after which the count of failures may have risen
   module _ (word : ℕ) (geometry : new.geometry ≡ mid.geometry) (headers : new.headers ≡ mid.headers) (later : mid.failures ≤ new.failures) where
@@ -177,12 +177,12 @@ module _ {S : Type 0} (parts : S → Parts) (Leads : S → S → Type 0) (age : 
         (sym (none_renewed renewed (stored_frame (Err why) is))))
         (store_fault_step mid.geometry _ p address word process running why is.0)
 
-    pub store_answers : (stored told : Result (Unit {0}) MemoryFault) → stored ≡ told →
+    pub store_answers : (stored reported : Result (Unit {0}) MemoryFault) → stored ≡ reported →
         IsStored mid.geometry.log (objects_in mid) mid.touched p address word (objects_in new) new.touched stored →
         KeepsSound mid new →
         (let r : Result (Result (Unit {0}) MemoryFault) PrepareFault = Ok stored in IsErrOf r prepare.Failed ↔ (mid.failures < new.failures)) →
-        Performs age old (command.Store p address word) (stored_answer told) age new
-    store_answers stored told is found keeps cause =
+        Performs age old (command.Store p address word) (stored_answer reported) age new
+    store_answers stored reported is found keeps cause =
         subst (λ (r : Result (Unit {0}) MemoryFault). Performs age old (command.Store p address word) (stored_answer r) age new) is
         (serves_looked age age old mid new (command.Store p address word) (stored_answer stored) same failures (record {
           step = λ renewed frozen saved to_move other. stored_step stored found renewed frozen saved to_move;

@@ -70,9 +70,9 @@ module _ (g : Geometry) (s : Running) (p address : ℕ) where
   module _ (process : is_process s.now.objects p ≡ true) (running : is_running_process s.now.objects p ≡ true) where
     load_done : (r : Result (ℕ × Access) MemoryFault) → reached s.now.objects p address ≡ r → (a : Answer) → a ≡ (after_loading r).answer → s ≡ (after_loading r).after →
         Step g (Up s) (command.Load p address) a (Up s)
-    load_done r is a told stays =
+    load_done r is a reported stays =
         done_step g s (command.Load p address) a (Up s) (by g s (command.Load p address) p None load_order true true process running)
-        (told ∙ ap (λ (o : Outcome). o.answer) (sym (loads r is)))
+        (reported ∙ ap (λ (o : Outcome). o.answer) (sym (loads r is)))
         (ap Up (stays ∙ ap (λ (o : Outcome). o.after) (sym (loads r is))))
 
     pub load_step : (loaded : Result ℕ MemoryFault) → IsLoaded s.now.objects p address loaded → Step g (Up s) (command.Load p address) (loaded_answer loaded) (Up s)

@@ -2,7 +2,7 @@
 pub use Rattle.address_space.specs.References.{IsLoaded, IsStored, KeepsSound, OverfillsStore}
 pub use Rattle.capability.proofs.Frames.{at_set, frame_in, headers_in, process_known}
 pub use Rattle.capability.proofs.Keeping.{keepable_count, keepable_later}
-pub use Rattle.capability.specs.Parts.{IsUnchanged, Looks, LooksUp, Parts, Renews, frames_of, objects_in}
+pub use Rattle.capability.specs.Parts.{IsUnchanged, OnlyFetches, OnlyReads, Parts, Renews, frames_of, objects_in}
 pub use Rattle.capability.specs.declared.present.PrepareFault.{PrepareFault}
 pub use Rattle.checkpoint.proofs.Lists.{maps_same}
 pub use Rattle.checkpoint.specs.Refused.{IsCommitAnswer, IsFreezeAnswer, IsRefused}
@@ -17,7 +17,7 @@ pub use Rattle.device.specs.Moments.{Elapses, LeavesOnly}
 pub use Rattle.device.specs.declared.device.Failed.{Failed}
 pub use Rattle.gate.proofs.BankStates.{counted_looked, counted_on}
 pub use Rattle.gate.proofs.Known.{annex_known, one_known, same_frames}
-pub use Rattle.gate.proofs.Standing.{LooksAs, keepable_most, looked_as}
+pub use Rattle.gate.proofs.Standing.{ReadsAs, keepable_most, looked_as}
 pub use Rattle.gate.specs.Invoke.{Invoked, Invokes, KeepsSoundFrames, TellsState}
 pub use Rattle.gate.specs.declared.fault.InvokeFault.{InvokeFault}
 pub use Rattle.model.specs.Frame.{blank_frame, conveyed, frame_at, header_at, headers, held_at, object_of}
@@ -55,9 +55,10 @@ pub use Rattle.model_laws.proofs.GivenUp.{none_given_up, none_in_frame, renewing
 pub use Rattle.model_laws.proofs.InvocationFrame.{word_frame}
 pub use Rattle.model_laws.proofs.Journaling.{journal_keeps_sound}
 pub use Rattle.model_laws.proofs.Usage.{SameFrame, frame_refl, tests_at}
-pub use Rattle.object_store.specs.Journal.{IsJournalAnswer, IsTurnedAway, aside_after_journal, is_page_now, is_page_role, is_still_saved, next_journaled}
+pub use Rattle.object_store.specs.Journal.{IsJournalAnswer, IsTurnedAway, is_page_now, is_page_role, is_still_saved, next_journaled, snapshots_after_journal}
 pub use Rattle.object_store.specs.Journal.{words_now}
-pub use Rattle.object_store.specs.Store.{Aside, FrozenFrames, IsStabilizeAnswer, Leads, MayCommit, View, freezing, left_in, moved_saved, next_saved, stabilized}
+pub use Rattle.object_store.specs.Store.{Continues, FrozenFrames, IsStabilizeAnswer, MayCommit, Snapshots, View, freezing, left_in, moved_saved, next_saved}
+pub use Rattle.object_store.specs.Store.{stabilized}
 pub use Rattle.object_store.specs.declared.journal_fault.JournalFault.{JournalFault}
 pub use Rattle.recovery.proofs.Denoted.{denoted_by, leaves_saved, one_denoted, one_not_bad}
 pub use Rattle.recovery.proofs.Renewed.{allocations_at, base_by, base_frozen, base_saved, none_renewed, renewed_at, renewed_length}
@@ -84,5 +85,5 @@ pub use Rattle.kernel.specs.Machine.{IsEarly, IsUnlooked, Performs, answer_of, a
 pub use Rattle.kernel.specs.Opening.{IsNoReason, IsSomeDown, Opens, Reopened, ReopensAs}
 pub use Rattle.kernel.specs.Power.{Power, power_of}
 pub use Rattle.kernel.specs.Prepared.{refusal_by, refused_by}
-pub use Rattle.kernel.specs.Standing.{HasCode, IsCaused, IsDeviceOf, IsSomeMachine, Serves, ServesFrom, ServesUp, Stands, disk_of, told_code}
+pub use Rattle.kernel.specs.Standing.{HasCode, IsCaused, IsDeviceOf, IsSomeMachine, Serves, ServesFrom, ServesUp, Stands, disk_of, reported_code}
 pub use Rattle.kernel.specs.declared.processes.served.Served.{Served}

@@ -67,8 +67,8 @@ refused_serves age old new c why same sound later cause step = record {
 }
 
 -- a refusal other than for a failure, where the count of failures didn't rise
-pub told_cause : (why : Refusal) {X : Type 0} → (why ≡ refusal.Fault → ⊥) → (X → ⊥) → (why ≡ refusal.Fault) ↔ X
-told_cause why other stayed = (λ e. absurd (other e), λ x. absurd (stayed x))
+pub reported_cause : (why : Refusal) {X : Type 0} → (why ≡ refusal.Fault → ⊥) → (X → ⊥) → (why ≡ refusal.Fault) ↔ X
+reported_cause why other stayed = (λ e. absurd (other e), λ x. absurd (stayed x))
 
 -- a count that neither fell nor rose is the same
 pub unfailed : (m n : ℕ) → m ≤ n → (m < n → ⊥) → n ≡ m
@@ -123,13 +123,13 @@ pub no_process_serves : (p : Parts) (age : ℕ) (i : Invocation) → IsSoundFram
     Performs age p (command.Invoke i) (answer.Refused refusal.NoProcess) age p
 no_process_serves p age i sound none =
     refused_serves age p p (command.Invoke i) refusal.NoProcess (record { headers = refl; contents = refl; touched = refl; geometry = refl }) sound (omega arith)
-    (told_cause refusal.NoProcess (λ e. cc) (λ rose. absurd (omega (arith, rose))))
+    (reported_cause refusal.NoProcess (λ e. cc) (λ rose. absurd (omega (arith, rose))))
     (λ renewed frozen saved to_move other. early_step p.geometry _ i refusal.NoProcess none)
 
 -- what is answered to an invocation that wasn't carried out
-module _ {S : Type 0} (parts : S → Parts) (Leads : S → S → Type 0) (age : ℕ) (old new : S) (i : Invocation)
+module _ {S : Type 0} (parts : S → Parts) (Continues : S → S → Type 0) (age : ℕ) (old new : S) (i : Invocation)
     (process : is_process (objects_in (parts old)) i.process ≡ true) (sound : IsSoundFrames (parts old).geometry age (frames_of (parts old))) (young : age < 2 ^ 62) where
-  module _ (f : InvokeFault) (said : Invoked parts Leads old new i (Err f)) where
+  module _ (f : InvokeFault) (said : Invoked parts Continues old new i (Err f)) where
     unchanged : AreSame (parts old) (parts new)
     unchanged = record { headers = said.unchanged.headers; contents = said.unchanged.contents; touched = said.unchanged.touched; geometry = said.geometry }
 
@@ -141,7 +141,7 @@ module _ {S : Type 0} (parts : S → Parts) (Leads : S → S → Type 0) (age : 
         refused_serves age (parts old) (parts new) (command.Invoke i) why unchanged sound said.later
         (λ e. said.cause.0 (ap (λ (k : InvokeFault). let r : Result (Option ResultCode) InvokeFault = Err k in r) (same.0 e)), λ rose. let failed = said.cause.1 rose in same.1 cc) step
 
-  pub fault_serves : (f : InvokeFault) → TellsState (objects_in (parts old)) i (Err f) → Invoked parts Leads old new i (Err f) →
+  pub fault_serves : (f : InvokeFault) → TellsState (objects_in (parts old)) i (Err f) → Invoked parts Continues old new i (Err f) →
       Performs age (parts old) (command.Invoke i) (answer.Refused (refusal_by f)) age (parts new)
   fault_serves fault.NotRunning tells said =
       refused fault.NotRunning said refusal.NotRunning (λ e. cc, λ e. cc)
@@ -159,7 +159,7 @@ module _ {S : Type 0} (parts : S → Parts) (Leads : S → S → Type 0) (age : 
       refused fault.Failed said refusal.Fault (λ e. refl, λ e. refl) (λ renewed frozen saved to_move other. absurd (other refl))
 
   -- and to one that was
-  pub invoked_serves : (code : Option ResultCode) → TellsState (objects_in (parts old)) i (Ok code) → Invoked parts Leads old new i (Ok code) →
+  pub invoked_serves : (code : Option ResultCode) → TellsState (objects_in (parts old)) i (Ok code) → Invoked parts Continues old new i (Ok code) →
       Performs age (parts old) (command.Invoke i) answer.Done (age + 1) (parts new)
   invoked_serves code runs said =
       done_serves age (parts old) (parts new) i young process runs sound said.done said.sound said.renews said.geometry said.later
@@ -168,26 +168,26 @@ module _ {S : Type 0} (parts : S → Parts) (Leads : S → S → Type 0) (age : 
 -- what is shown of an object
 pub shown_serves : (age : ℕ) (old new : Parts) (n : ℕ) (a : Answer) → n < length old.headers → AreSame old new → IsSoundFrames old.geometry age (frames_of old) →
     a ≡ shown (objects_in old) n → old.failures ≤ new.failures → (old.failures < new.failures → ⊥) → Performs age old (command.Show n) a age new
-shown_serves age old new n a known same sound told later stayed = record {
+shown_serves age old new n a known same sound reported later stayed = record {
   step = λ renewed frozen saved to_move other.
       subst (λ (m : Machine). Step old.geometry (machine_at age old renewed frozen saved to_move) (command.Show n) a m) (sym (still_machine old new same age renewed frozen saved to_move))
-      (show_step old.geometry _ n (subst (λ (m : ℕ). n < m) (keepable_count old.geometry age old sound.keepable) known) a told);
+      (show_step old.geometry _ n (subst (λ (m : ℕ). n < m) (keepable_count old.geometry age old sound.keepable) known) a reported);
   renews = same_renews old new same;
   sound = same_sound old new same age sound;
   geometry = same.geometry;
   later = later;
-  cause = (λ e. let d : shown (objects_in old) n ≡ answer.Refused refusal.Fault = sym told ∙ e in cc, λ rose. absurd (stayed rose));
+  cause = (λ e. let d : shown (objects_in old) n ≡ answer.Refused refusal.Fault = sym reported ∙ e in cc, λ rose. absurd (stayed rose));
 }
 
 module _ (age : ℕ) (old new : Parts) (n : ℕ) (same : AreSame old new) (sound : IsSoundFrames old.geometry age (frames_of old)) (later : old.failures ≤ new.failures) where
   pub bad_number_serves : length old.headers ≤ n → (old.failures < new.failures → ⊥) → Performs age old (command.Show n) (answer.Refused refusal.BadNumber) age new
   bad_number_serves past stayed =
-      refused_serves age old new (command.Show n) refusal.BadNumber same sound later (told_cause refusal.BadNumber (λ e. cc) stayed)
+      refused_serves age old new (command.Show n) refusal.BadNumber same sound later (reported_cause refusal.BadNumber (λ e. cc) stayed)
       (λ renewed frozen saved to_move other. bad_number_step old.geometry _ n (subst (λ (m : ℕ). m ≤ n) (keepable_count old.geometry age old sound.keepable) past))
 
   pub show_no_memory_serves : n < length old.headers → (old.failures < new.failures → ⊥) → Performs age old (command.Show n) (answer.Refused refusal.NoMemory) age new
   show_no_memory_serves known stayed =
-      refused_serves age old new (command.Show n) refusal.NoMemory same sound later (told_cause refusal.NoMemory (λ e. cc) stayed)
+      refused_serves age old new (command.Show n) refusal.NoMemory same sound later (reported_cause refusal.NoMemory (λ e. cc) stayed)
       (λ renewed frozen saved to_move other. show_no_memory old.geometry _ n (subst (λ (m : ℕ). n < m) (keepable_count old.geometry age old sound.keepable) known))
 
   pub show_failed_serves : old.failures < new.failures → Performs age old (command.Show n) (answer.Refused refusal.Fault) age new
@@ -208,7 +208,7 @@ ok_stayed early cause x = let never : false ≡ true = cause.1 x in cc
 
 -- what was shown isn't a failure
 pub shown_fine : (os : List Object) (n : ℕ) (a : Answer) → a ≡ shown os n → a ≡ answer.Refused refusal.Fault → ⊥
-shown_fine os n a told e = let d : shown os n ≡ answer.Refused refusal.Fault = sym told ∙ e in cc
+shown_fine os n a reported e = let d : shown os n ≡ answer.Refused refusal.Fault = sym reported ∙ e in cc
 
 -- an object isn't shown
 pub show_refused : (age : ℕ) (old new : Parts) (n : ℕ) → AreSame old new → IsSoundFrames old.geometry age (frames_of old) → old.failures ≤ new.failures → n < length old.headers → (f : PrepareFault) (a : Answer) →

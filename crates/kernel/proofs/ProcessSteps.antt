@@ -19,7 +19,7 @@ refused_step g s c why is = inl (subst (AnswersBy g s c (answer.Refused why) (Up
 
 pub done_step : (g : Geometry) (s : Running) (c : Command) (a : Answer) (after : Machine) → refusal_of g s c ≡ None →
     a ≡ (carried_out g s c).answer → after ≡ Up (carried_out g s c).after → Step g (Up s) c a after
-done_step g s c a after none told then = inl (subst (AnswersBy g s c a after) (sym none) (told, then))
+done_step g s c a after none reported then = inl (subst (AnswersBy g s c a after) (sym none) (reported, then))
 
 -- an invocation, by what is known of its process, of the age and of its effect
 module _ (g : Geometry) (s : Running) (i : Invocation) where
@@ -114,9 +114,9 @@ module _ (g : Geometry) (s : Running) (i : Invocation) where
 module _ (g : Geometry) (s : Running) (n : ℕ) where
   pub show_step : n < object_count g → (a : Answer) → a ≡ shown s.now.objects n → Step g (Up s) (command.Show n) a (Up s)
   unfolding refusal_of carried_out
-  show_step within a told =
+  show_step within a reported =
       let known : nat_lt n (object_count g) ≡ true = grind (arith, nat_tests) in
-      done_step g s (command.Show n) a (Up s) (ap (λ (b : Bool). unless b refusal.BadNumber None) known) told refl
+      done_step g s (command.Show n) a (Up s) (ap (λ (b : Bool). unless b refusal.BadNumber None) known) reported refl
 
   pub bad_number_step : object_count g ≤ n → Step g (Up s) (command.Show n) (answer.Refused refusal.BadNumber) (Up s)
   unfolding refusal_of

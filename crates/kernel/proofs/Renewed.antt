@@ -2,7 +2,7 @@
 use Rattle.kernel.proofs.Names.{◌≡◌, ℕ, ◌+◌, ◌-◌, ◌<◌, ◌≤◌, ◌||◌, Bool, true, false, not, List, length, map, refl, sym, ap, ◌∙◌, arith, if◌then◌else◌}
 use Rattle.kernel.proofs.Names.{range_with_len, get_or-map, ne_eqb, ext_get_or, get_or-map-range_with_len, length-map-range_with_len, Cap, Frame, ObjectHeader}
 use Rattle.kernel.proofs.Names.{Content, blank_frame, frame_at, frames_in, header_at, renewing, is_given_up, Parts, Renews, frames_of, objects_in, headers_in}
-use Rattle.kernel.proofs.Names.{SavedFrames, home_saved, Aside, moved_saved, base_of, renewed_since, allocations_at, base_by, renewed_at, renewed_length}
+use Rattle.kernel.proofs.Names.{SavedFrames, home_saved, Snapshots, moved_saved, base_of, renewed_since, allocations_at, base_by, renewed_at, renewed_length}
 use Rattle.std.proofs.Common.{◌==◌, slice_index_or}
 use Rattle.object_store.specs.Store.{moved}
 
@@ -61,8 +61,8 @@ frames_if : (b : Bool) (fs : SavedFrames) → (if b then home_saved fs else fs).
 frames_if true fs = refl
 frames_if false fs = refl
 
-pub base_moved : (a : Aside) (n : ℕ) → base_of (moved n a) ≡ base_of a
+pub base_moved : (a : Snapshots) (n : ℕ) → base_of (moved n a) ≡ base_of a
 base_moved a n = ap (λ (fs : List Frame). base_by fs a.frozen) (moved_frames a n)
   where
-    moved_frames : (a : Aside) (n : ℕ) → (moved_saved n a).frames ≡ a.saved.frames
+    moved_frames : (a : Snapshots) (n : ℕ) → (moved_saved n a).frames ≡ a.saved.frames
     moved_frames a n = frames_if (a.to_move - n == 0) a.saved

@@ -21,9 +21,9 @@ answer_of (Ok a) = a
 answer_of (Err failed) = answer.Refused refusal.Fault
 
 -- `Fault` comes only as an error
-abbrev pub IsToldOnce : Result Answer Failed → Type 0
-IsToldOnce (Ok a) = a ≢ answer.Refused refusal.Fault
-IsToldOnce (Err failed) = Unit {0}
+abbrev pub IsReportedOnce : Result Answer Failed → Type 0
+IsReportedOnce (Ok a) = a ≢ answer.Refused refusal.Fault
+IsReportedOnce (Err failed) = Unit {0}
 
 -- the same for an answer with its result code
 abbrev pub answer_with : Result Served Failed → Answer

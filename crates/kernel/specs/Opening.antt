@@ -1,6 +1,6 @@
 -- The outcomes of opening a device, for a kernel.
-use Rattle.kernel.specs.Names.{◌≡◌, ◌⊎◌, List, Geometry, Answer, Refusal, Machine, Saved, Up, Down, opened, Reopens, Only, Disk, OpenFault, Looks, Parts, View}
-use Rattle.kernel.specs.Names.{Denotes, Leaves, LeavesOne}
+use Rattle.kernel.specs.Names.{◌≡◌, ◌⊎◌, List, Geometry, Answer, Refusal, Machine, Saved, Up, Down, opened, Reopens, Only, Disk, OpenFault, OnlyReads, Parts}
+use Rattle.kernel.specs.Names.{View, Denotes, Leaves, LeavesOne}
 use Rattle.model.specs.declared.answer.Answer.TheVariants as answer
 use Rattle.model.specs.declared.answer.Refusal.TheVariants as refusal
 use Rattle.checkpoint.specs.declared.open_fault.OpenFault.TheVariants as fault
@@ -37,7 +37,7 @@ module _ {D S : Type 0} (disk : D → Disk) (view : S → View D) (parts : S →
     pub denoted : Denotes geometry (disk device).sectors (disk device).seen saved
     pub stands : Stands disk view parts geometry p (Up (opened geometry saved))
     pub durable : Only (disk_of disk view parts p).seen (disk_of disk view parts p)
-    pub looks : Looks (disk device) (disk_of disk view parts p)
+    pub only_reads : OnlyReads (disk device) (disk_of disk view parts p)
     pub failures : (disk_of disk view parts p).failures ≡ (disk device).failures
 
   -- a device was opened again; a crash had left one of some saved parts on it

@@ -23,9 +23,9 @@ abbrev pub nothing : Disk
 nothing = record { sectors = 0; seen = λ k. []; may_leave = λ c. ⊥; moment = 0; left_since = λ t c. ⊥; failures = 0 }
 
 -- the result code beside an answer: that of an order which an invocation carried out, and else none
-abbrev pub told_code : Geometry → Machine → Command → Answer → Option ResultCode
-told_code g (Up r) (command.Invoke i) a = code_with g r.now.objects i a
-told_code g m c a = None
+abbrev pub reported_code : Geometry → Machine → Command → Answer → Option ResultCode
+reported_code g (Up r) (command.Invoke i) a = code_with g r.now.objects i a
+reported_code g m c a = None
 
 -- a command is answered with `Fault` exactly where the count of failures rises
 pub record IsCaused (old new : Disk) (a : Answer) : Type 0 where
@@ -93,12 +93,12 @@ module _ {D S : Type 0} (disk : D → Disk) (view : S → View D) (parts : S →
 
   -- it is to migrate where all that is saved is home, as the header says
   abbrev pub HasNoneToMove : Power D S → Command → Type 0
-  HasNoneToMove (power.Up l) (command.Migrate n) = (view l.store).aside.saved.entries ≡ 0
+  HasNoneToMove (power.Up l) (command.Migrate n) = (view l.store).snapshots.saved.entries ≡ 0
   HasNoneToMove _ _ = ⊥
 
   -- the code is the result code of the command, whichever machine the kernel stands for
   abbrev pub HasCode : Power D S → Command → Served → Type 0
-  HasCode p c served = (g : Geometry) (m : Machine) → Stands g p m → served.code ≡ told_code g m c served.answer
+  HasCode p c served = (g : Geometry) (m : Machine) → Stands g p m → served.code ≡ reported_code g m c served.answer
 
   -- there is a device beneath a kernel
   abbrev pub HasDevice : Power D S → Type 0
@@ -106,9 +106,9 @@ module _ {D S : Type 0} (disk : D → Disk) (view : S → View D) (parts : S →
   HasDevice _ = Unit {0}
 
   -- the checkpoint that is answered is the committed one of the machine that is up
-  abbrev pub IsTold : Power D S → Option Checkpoint → Type 0
-  IsTold (power.Up l) (Some told) =
-      (told.generation ≡ (view l.store).aside.saved.generation) × (told.age ≡ (view l.store).aside.saved.age)
-      × (told.entries ≡ (view l.store).aside.saved.entries)
-  IsTold (power.Up l) None = ⊥
-  IsTold _ told = told ≡ None
+  abbrev pub IsReported : Power D S → Option Checkpoint → Type 0
+  IsReported (power.Up l) (Some reported) =
+      (reported.generation ≡ (view l.store).snapshots.saved.generation) × (reported.age ≡ (view l.store).snapshots.saved.age)
+      × (reported.entries ≡ (view l.store).snapshots.saved.entries)
+  IsReported (power.Up l) None = ⊥
+  IsReported _ reported = reported ≡ None

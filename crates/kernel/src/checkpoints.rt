@@ -1,7 +1,7 @@
 // The stages of a checkpoint (KeyKOS: freeze, log, commit and migrate). None of them takes memory.
 ghost use Rattle.std.specs.Prelude.{◌≡◌};
 ghost use Rattle.model.specs.declared.command.Command.TheVariants as command;
-ghost use Rattle.kernel.specs.Machine.{IsToldOnce, IsUnlooked, answer_of};
+ghost use Rattle.kernel.specs.Machine.{IsReportedOnce, IsUnlooked, answer_of};
 ghost use Rattle.recovery.specs.Live.{IsSomeUp, disk_at};
 ghost use Rattle.kernel.specs.Standing.{IsCaused, ServesUp, refusal_by};
 
@@ -15,8 +15,8 @@ use recovery::Live;
 // What is answered where the store refuses.
 fn refused(fault: CheckpointFault) -> Result<Answer, Failed>
     ensures answer { answer_of result ≡ Answer.Refused (refusal_by fault) }
-    ensures looks { IsUnlooked (answer_of result) → ⊥ }
-    ensures told_once { IsToldOnce result }
+    ensures only_reads { IsUnlooked (answer_of result) → ⊥ }
+    ensures reported_once { IsReportedOnce result }
 {
     let refusal = match fault {
         CheckpointFault::CheckpointRunning => Refusal::CheckpointRunning,
@@ -38,8 +38,8 @@ pub fn checkpoint<D: Device, S: ObjectStore<D>>(live: &mut Live<S>) -> Result<An
     ensures serves { ServesUp D.disk S.view S.parts live.old command.Checkpoint (answer_of result) live.new }
     ensures cause { IsCaused (disk_at D.disk S.view S.parts live.old)
         (disk_at D.disk S.view S.parts live.new) (answer_of result) }
-    ensures looks { IsUnlooked (answer_of result) → ⊥ }
-    ensures told_once { IsToldOnce result }
+    ensures only_reads { IsUnlooked (answer_of result) → ⊥ }
+    ensures reported_once { IsReportedOnce result }
 {
     if processes::is_worn(live.age) {
         return Ok(Answer::Refused(Refusal::Worn));
@@ -65,8 +65,8 @@ pub fn stabilize<D: Device, S: ObjectStore<D>>(
     ensures serves { ServesUp D.disk S.view S.parts live.old (command.Stabilize count) (answer_of result) live.new }
     ensures cause { IsCaused (disk_at D.disk S.view S.parts live.old)
         (disk_at D.disk S.view S.parts live.new) (answer_of result) }
-    ensures looks { IsUnlooked (answer_of result) → ⊥ }
-    ensures told_once { IsToldOnce result }
+    ensures only_reads { IsUnlooked (answer_of result) → ⊥ }
+    ensures reported_once { IsReportedOnce result }
 {
     match live.store.stabilize(count) {
         Ok(left) => Ok(Answer::Left(left)),
@@ -83,8 +83,8 @@ pub fn commit<D: Device, S: ObjectStore<D>>(live: &mut Live<S>) -> Result<Answer
     ensures serves { ServesUp D.disk S.view S.parts live.old command.Commit (answer_of result) live.new }
     ensures cause { IsCaused (disk_at D.disk S.view S.parts live.old)
         (disk_at D.disk S.view S.parts live.new) (answer_of result) }
-    ensures looks { IsUnlooked (answer_of result) → ⊥ }
-    ensures told_once { IsToldOnce result }
+    ensures only_reads { IsUnlooked (answer_of result) → ⊥ }
+    ensures reported_once { IsReportedOnce result }
 {
     match live.store.commit(live.frozen_age) {
         Ok(generation) => Ok(Answer::Committed(generation)),
@@ -101,12 +101,12 @@ pub fn migrate<D: Device, S: ObjectStore<D>>(
 ) -> Result<Answer, Failed>
     requires { IsSomeUp D.disk S.view S.parts live.old }
     ensures serves { ServesUp D.disk S.view S.parts live.old (command.Migrate count) (answer_of result) live.new }
-    ensures none_to_move { (S.view live.old.store).aside.saved.entries ≡ 0
+    ensures none_to_move { (S.view live.old.store).snapshots.saved.entries ≡ 0
         → (S.view live.new.store).beneath ≡ (S.view live.old.store).beneath }
     ensures cause { IsCaused (disk_at D.disk S.view S.parts live.old)
         (disk_at D.disk S.view S.parts live.new) (answer_of result) }
-    ensures looks { IsUnlooked (answer_of result) → ⊥ }
-    ensures told_once { IsToldOnce result }
+    ensures only_reads { IsUnlooked (answer_of result) → ⊥ }
+    ensures reported_once { IsReportedOnce result }
 {
     let left = live.store.migrate(count)?;
     Ok(Answer::Left(left))

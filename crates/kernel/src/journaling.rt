@@ -1,7 +1,7 @@
 // One page is saved beside the checkpoints. It takes no memory.
 ghost use Rattle.std.specs.Prelude.{◌≡◌};
 ghost use Rattle.model.specs.declared.command.Command.TheVariants as command;
-ghost use Rattle.kernel.specs.Machine.{IsToldOnce, IsUnlooked, answer_of};
+ghost use Rattle.kernel.specs.Machine.{IsReportedOnce, IsUnlooked, answer_of};
 ghost use Rattle.recovery.specs.Live.{IsSomeUp, disk_at};
 ghost use Rattle.kernel.specs.Standing.{IsCaused, ServesUp};
 ghost use Rattle.kernel.specs.Journal.{unjournaled_by};
@@ -15,7 +15,7 @@ use recovery::Live;
 // What is answered where the store refuses, by whether an object has the number.
 fn refused(fault: JournalFault, is_known: bool) -> Result<Answer, Failed>
     ensures answer { answer_of result ≡ Answer.Refused (unjournaled_by is_known fault) }
-    ensures told_once { IsToldOnce result }
+    ensures reported_once { IsReportedOnce result }
 {
     let refusal = match fault {
         JournalFault::CheckpointRunning => Refusal::CheckpointRunning,
@@ -52,7 +52,7 @@ pub fn journal<D: Device, S: ObjectStore<D>>(
         (disk_at D.disk S.view S.parts live.new) (answer_of result) }
     ensures untouched { IsUnlooked (answer_of result)
         → (S.view live.new.store).beneath ≡ (S.view live.old.store).beneath }
-    ensures told_once { IsToldOnce result }
+    ensures reported_once { IsReportedOnce result }
 {
     if processes::is_worn(live.age) {
         return Ok(Answer::Refused(Refusal::Worn));

@@ -8,7 +8,7 @@ ghost use Rattle.kernel.specs.Machine.{IsUnlooked, NeedsNoLook};
 ghost use Rattle.recovery.specs.Denotes.{Leaves};
 ghost use Rattle.recovery.specs.Recovered.{RefusesToOpen};
 ghost use Rattle.kernel.specs.Power.{power_of};
-ghost use Rattle.kernel.specs.Standing.{HasCode, HasDevice, HasNoneToMove, IsCaused, IsDeviceOf, IsTold, SameDevice, Serves, disk_of};
+ghost use Rattle.kernel.specs.Standing.{HasCode, HasDevice, HasNoneToMove, IsCaused, IsDeviceOf, IsReported, SameDevice, Serves, disk_of};
 ghost use Rattle.kernel.specs.Opening.{IsNoReason, IsSomeDown, Opens, Reopened, refused_by};
 
 use crate::processes::Served;
@@ -68,7 +68,7 @@ fn take_device<D: Device, S: ObjectStore<D>>(
 fn refusal(fault: OpenFault) -> Refusal
     requires { IsNoReason fault }
     ensures why { result ≡ refused_by fault }
-    ensures looks { NeedsNoLook result → ⊥ }
+    ensures only_reads { NeedsNoLook result → ⊥ }
 {
     match fault {
         OpenFault::Failed => Refusal::Fault,
@@ -89,7 +89,7 @@ fn rise<D: Device, S: ObjectStore<D>>(
     requires down { live.old ≡ None }
     ensures reopened { (g : Geometry) (saved : List Saved) → Leaves g (D.disk opened) saved
         → Reopened D.disk S.view S.parts g saved opened result (power_of live.new device.new) }
-    ensures looks { IsUnlooked result → ⊥ }
+    ensures only_reads { IsUnlooked result → ⊥ }
     ensures cause { IsCaused (D.disk opened)
         (disk_of D.disk S.view S.parts (power_of live.new device.new)) result }
 {
@@ -163,7 +163,7 @@ impl<D: Device, S: ObjectStore<D>> Kernel<D, S> {
     #[inline(never)]
     fn restart(&mut self, alloc: Global) -> Answer
         ensures serves { Serves D.disk S.view S.parts self.old command.Restart result self.new }
-        ensures looks { IsUnlooked result → ⊥ }
+        ensures only_reads { IsUnlooked result → ⊥ }
         ensures cause { IsCaused (disk_of D.disk S.view S.parts self.old)
             (disk_of D.disk S.view S.parts self.new) result }
     {
@@ -181,7 +181,7 @@ impl<D: Device, S: ObjectStore<D>> Kernel<D, S> {
     #[inline(never)]
     fn cut(&mut self, alloc: Global) -> Answer
         ensures serves { Serves D.disk S.view S.parts self.old command.Cut result self.new }
-        ensures looks { IsUnlooked result → ⊥ }
+        ensures only_reads { IsUnlooked result → ⊥ }
         ensures cause { IsCaused (disk_of D.disk S.view S.parts self.old)
             (disk_of D.disk S.view S.parts self.new) result }
     {
@@ -239,7 +239,7 @@ impl<D: Device, S: ObjectStore<D>> Kernel<D, S> {
 
     /// Generation, age and entries of the committed checkpoint, where the machine is up.
     pub fn saved(&self) -> Option<Checkpoint>
-        ensures { IsTold D.disk S.view S.parts self.now result }
+        ensures { IsReported D.disk S.view S.parts self.now result }
     {
         match &self.live {
             Some(live) => Some(live.store.saved()),

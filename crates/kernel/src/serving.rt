@@ -5,7 +5,7 @@ ghost use Rattle.model.specs.declared.command.Command.TheVariants.{Invoke};
 ghost use Rattle.model.specs.declared.command.Invocation.{Invocation};
 ghost use Rattle.model.specs.Step.{opens};
 ghost use Rattle.kernel.specs.Power as power;
-ghost use Rattle.kernel.specs.Machine.{IsServedOnce, IsToldOnce, IsUnlooked, answer_of, answer_with};
+ghost use Rattle.kernel.specs.Machine.{IsServedOnce, IsReportedOnce, IsUnlooked, answer_of, answer_with};
 ghost use Rattle.recovery.specs.Live.{IsSomeUp, disk_at};
 ghost use Rattle.kernel.specs.Standing.{HasCode, HasNoneToMove, IsCaused, ServesUp};
 
@@ -27,7 +27,7 @@ fn evict<D: Device, S: ObjectStore<D>>(live: &mut Live<S>, number: u64) -> Resul
         (disk_at D.disk S.view S.parts live.new) (answer_of result) }
     ensures untouched { IsUnlooked (answer_of result)
         → (S.view live.new.store).beneath ≡ (S.view live.old.store).beneath }
-    ensures told_once { IsToldOnce result }
+    ensures reported_once { IsReportedOnce result }
 {
     if number >= live.store.table().count() {
         return Ok(Answer::Refused(Refusal::BadNumber));
@@ -53,7 +53,7 @@ fn serve_other<D: Device, S: ObjectStore<D>>(
         → (S.view live.new.store).beneath ≡ (S.view live.old.store).beneath }
     ensures none_to_move { HasNoneToMove D.disk S.view S.parts (power.Up live.old) command
         → (S.view live.new.store).beneath ≡ (S.view live.old.store).beneath }
-    ensures told_once { IsToldOnce result }
+    ensures reported_once { IsReportedOnce result }
 {
     match command {
         Command::Load { process, address } => {
@@ -94,7 +94,7 @@ pub fn serve<D: Device, S: ObjectStore<D>>(
         → (S.view live.new.store).beneath ≡ (S.view live.old.store).beneath }
     ensures none_to_move { HasNoneToMove D.disk S.view S.parts (power.Up live.old) command
         → (S.view live.new.store).beneath ≡ (S.view live.old.store).beneath }
-    ensures told_once { IsServedOnce result }
+    ensures reported_once { IsServedOnce result }
     ensures code { IfOk result (λ served. HasCode D.disk S.view S.parts (power.Up live.old) command served) }
 {
     match command {

@@ -7,7 +7,7 @@ use Rattle.layout.proofs.Numbers.{stream}
 use Rattle.layout.proofs.FrameReaders.{passed, passed_on}
 use Rattle.layout.proofs.Images.{same_plan, same_header, same_directory}
 use Rattle.layout.proofs.Superblocks.{magic, few_versions, second_of, numbers_of, eight_long, eight_ranges, length-ranges, mark_from, plan_stream}
-use Rattle.layout.proofs.Totals.{total_told}
+use Rattle.layout.proofs.Totals.{total_reported}
 
 -- the bytes of a superblock have its mark
 marked : (p : Plan) → IsPlan p → HasMark (superblock_bytes p)
@@ -39,8 +39,8 @@ module _ (c : Image) (size : ℕ) (s : SavedState) (denoted : Encodes c size s) 
   big_enough small = ⊎_elim
       (λ few. omega (arith, few, denoted.plan.least))
       (λ less.
-      let told : total_in (c 0) ≡ s.plan.total = ap total_in denoted.plan.spelt ∙ total_told s.plan denoted.plan.fits in
-      omega (arith, less, told, denoted.plan.whole))
+      let reported : total_in (c 0) ≡ s.plan.total = ap total_in denoted.plan.spelt ∙ total_reported s.plan denoted.plan.fits in
+      omega (arith, less, reported, denoted.plan.whole))
       small
 
   has_header : HasNoHeader c → ⊥

@@ -8,15 +8,15 @@ use Rattle.layout.proofs.Names.{node_frame_bytes, page_frame_bytes, IsFront, IsF
 use Rattle.layout.proofs.Names.{node_from, page_from, frame_from, sectors_from}
 use Rattle.std.specs.Prelude.{nat_lt}
 use Rattle.layout.proofs.Capabilities.{as_numbers, follows_fits, head_below, made_again, same_cap}
-use Rattle.layout.proofs.Numbers.{AllFit, stream, number_told, length-number}
+use Rattle.layout.proofs.Numbers.{AllFit, stream, number_reported, length-number}
 use Rattle.layout.proofs.Frames.{front_stream, content_again, role_again, role_fits, node_parts, front_list, length-front}
 use Rattle.layout.proofs.Pages as page
 use Rattle.layout.proofs.Keepables.{node_of_frame, page_of_frame}
 use Rattle.layout.proofs.SlotLists.{slots_bytes-cons, length-capability}
 
 -- a number, and what follows it
-pub told : (n : ℕ) (rest bytes : List ℕ) → n < 2 ^ 64 → bytes ≡ number n ++ rest → number_from bytes ≡ n
-told n rest bytes fits e = sym (number_told bytes rest n fits e)
+pub reported : (n : ℕ) (rest bytes : List ℕ) → n < 2 ^ 64 → bytes ≡ number n ++ rest → number_from bytes ≡ n
+reported n rest bytes fits e = sym (number_reported bytes rest n fits e)
 
 pub passed : (n : ℕ) (rest bytes : List ℕ) → bytes ≡ number n ++ rest → drop 8 bytes ≡ rest
 passed n rest bytes e = ap (drop 8) e ∙ drop_at (number n) rest 8 (length-number n)
@@ -41,9 +41,9 @@ cap_again g age c rest kept =
     let second : drop 8 bytes ≡ o ++ (n ++ rest) = passed (head_number c.what) (o ++ (n ++ rest)) bytes whole in
     let third : drop 16 bytes ≡ n ++ rest = passed_on 8 (number_of c.what) (n ++ rest) bytes second in
     cap_is (number_from bytes) (number_from (drop 8 bytes)) (number_from (drop 16 bytes)) c g age kept
-    (told (head_number c.what) (o ++ (n ++ rest)) bytes (head_below c.what all.head) whole)
-    (told (number_of c.what) (n ++ rest) (drop 8 bytes) all.object second)
-    (told c.count rest (drop 16 bytes) all.count third)
+    (reported (head_number c.what) (o ++ (n ++ rest)) bytes (head_below c.what all.head) whole)
+    (reported (number_of c.what) (n ++ rest) (drop 8 bytes) all.object second)
+    (reported c.count rest (drop 16 bytes) all.count third)
 
 slots_again : (g : Geometry) (age : ℕ) (cs : List Cap) (rest : List ℕ) → All (IsKeptCap g age) cs → slots_from (length cs) (slots_bytes cs ++ rest) ≡ cs
 unfolding slots_from
@@ -58,7 +58,7 @@ words_again : (ws : List ℕ) (rest : List ℕ) → AllFit ws → words_from (le
 unfolding words_from
 words_again [] rest fits = refl
 words_again (w ∷ ws) rest fits =
-    ap (λ (x : ℕ). x ∷ words_from (length ws) (drop 8 (stream (w ∷ ws) rest))) (told w (stream ws rest) (stream (w ∷ ws) rest) fits.0 refl)
+    ap (λ (x : ℕ). x ∷ words_from (length ws) (drop 8 (stream (w ∷ ws) rest))) (reported w (stream ws rest) (stream (w ∷ ws) rest) fits.0 refl)
     ∙ ap (λ (xs : List ℕ). w ∷ xs) (ap (words_from (length ws)) (passed w (stream ws rest) (stream (w ∷ ws) rest) refl) ∙ words_again ws rest fits.1)
 
 abbrev header_of : Role → ℕ → ℕ → ℕ → ObjectHeader
@@ -79,14 +79,14 @@ front_tells first h bytes rest fits is e =
     let after : drop 8 bytes ≡ stream (h.allocations ∷ h.calls ∷ h.owner ∷ []) rest = passed first (stream (h.allocations ∷ h.calls ∷ h.owner ∷ []) rest) bytes whole in
     let after' : drop 16 bytes ≡ stream (h.calls ∷ h.owner ∷ []) rest = passed_on 8 h.allocations (stream (h.calls ∷ h.owner ∷ []) rest) bytes after in
     let last : drop 24 bytes ≡ stream (h.owner ∷ []) rest = passed_on 16 h.calls (stream (h.owner ∷ []) rest) bytes after' in
-    let role : number_from bytes ≡ first = told first (stream (h.allocations ∷ h.calls ∷ h.owner ∷ []) rest) bytes fits.0 whole in
+    let role : number_from bytes ≡ first = reported first (stream (h.allocations ∷ h.calls ∷ h.owner ∷ []) rest) bytes fits.0 whole in
     record {
       first_is = role;
       header_is = same_header (role_in (number_from bytes)) h.role (number_from (drop 8 bytes)) h.allocations (number_from (drop 16 bytes)) h.calls (number_from (drop 24 bytes)) h.owner
           (ap role_in role ∙ is)
-          (told h.allocations (stream (h.calls ∷ h.owner ∷ []) rest) (drop 8 bytes) fits.1.0 after)
-          (told h.calls (stream (h.owner ∷ []) rest) (drop 16 bytes) fits.1.1.0 after')
-          (told h.owner rest (drop 24 bytes) fits.1.1.1.0 last);
+          (reported h.allocations (stream (h.calls ∷ h.owner ∷ []) rest) (drop 8 bytes) fits.1.0 after)
+          (reported h.calls (stream (h.owner ∷ []) rest) (drop 16 bytes) fits.1.1.0 after')
+          (reported h.owner rest (drop 24 bytes) fits.1.1.1.0 last);
     }
 
 record FrontIs (f : Frame) (bytes : List ℕ) : Type 0 where
@@ -179,5 +179,5 @@ first_sector true image at room = header_before (image at) (sectors_from image (
 first_sector false image at room = header_before (image at) (sectors_from image (at + 1) 8) room
 
 -- is told by its first sector
-pub told_first : (g : Geometry) (object : ℕ) (image : Image) (at : ℕ) → 32 ≤ length (image at) → (frame_from g object (sectors_from image at (frame_length g object))).header ≡ header_from (image at)
-told_first g object image at room = header_is g object (sectors_from image at (frame_length g object)) ∙ first_sector (nat_lt object g.nodes) image at room
+pub reported_first : (g : Geometry) (object : ℕ) (image : Image) (at : ℕ) → 32 ≤ length (image at) → (frame_from g object (sectors_from image at (frame_length g object))).header ≡ header_from (image at)
+reported_first g object image at room = header_is g object (sectors_from image at (frame_length g object)) ∙ first_sector (nat_lt object g.nodes) image at room

@@ -205,27 +205,27 @@ role_fits role.Root = omega arith
 role_fits role.Annex = omega arith
 role_fits role.Bank = omega arith
 
-pub front_told : (age role : ℕ) (h : ObjectHeader) (f : Frame) (x y : List ℕ) → AllFit (front_list role h) → h.role ≡ role_in role → IsFront age f
+pub front_reported : (age role : ℕ) (h : ObjectHeader) (f : Frame) (x y : List ℕ) → AllFit (front_list role h) → h.role ≡ role_in role → IsFront age f
     → front_numbers role h ++ x ≡ front_numbers (role_number f.header.role) f.header ++ y → (role ≡ role_number (role_of f.content)) × (h ≡ f.header)
-front_told age role h f x y fits is front e =
+front_reported age role h f x y fits is front e =
     let n : ℕ = role_number f.header.role in
     let s = stream_splits (front_list role h) (front_list n f.header) x y fits (role_fits f.header.role, (front.allocations.1, (front.calls.1, (front.owner, tt)))) refl
     (sym (front_stream role h x) ∙ e ∙ front_stream n f.header y) in
     let same = same_front h.role f.header.role role h.allocations h.calls h.owner n f.header.allocations f.header.calls f.header.owner s.0 is (role_again f.header.role) in
     (same.0 ∙ ap role_number front.role, same.1)
 
-pub node_told : (g : Geometry) (age role : ℕ) (h : ObjectHeader) (slots : List Cap) (f : Frame) (bytes rest : List ℕ) → AllFit (front_list role h) → h.role ≡ role_in role → AreKeptSlots g age slots
+pub node_reported : (g : Geometry) (age role : ℕ) (h : ObjectHeader) (slots : List Cap) (f : Frame) (bytes rest : List ℕ) → AllFit (front_list role h) → h.role ≡ role_in role → AreKeptSlots g age slots
     → bytes ≡ front_numbers role h ++ rest → between 32 800 bytes ≡ slots_bytes slots → IsNodeFrame g age f → bytes ≡ node_frame_bytes f → IsReadOf f role h slots
-node_told g age role h slots f bytes rest fits role_is are front middle is e =
+node_reported g age role h slots f bytes rest fits role_is are front middle is e =
     let parts = node_parts g age f bytes is e in
-    let told = front_told age role h f rest (slots_bytes (slots_of f.content) ++ zeros 224) fits role_is is.front (sym front ∙ parts.whole) in
+    let reported = front_reported age role h f rest (slots_bytes (slots_of f.content) ++ zeros 224) fits role_is is.front (sym front ∙ parts.whole) in
     let same = slots_split g age slots (slots_of f.content) [] [] are.each is.slots.each (are.count ∙ sym is.slots.count) (ap (λ (r : List ℕ). r ++ []) (sym middle ∙ parts.middle)) in
-    record { role_is = told.0; header_is = told.1; slots_are = same.0 }
+    record { role_is = reported.0; header_is = reported.1; slots_are = same.0 }
 
 -- the body that is read is that of the frame
-pub body_told : (f : Frame) (role : ℕ) (h : ObjectHeader) (slots : List Cap) (age : ℕ) → IsReadOf f role h slots → FollowsRole f.content → IsFront age f
+pub body_reported : (f : Frame) (role : ℕ) (h : ObjectHeader) (slots : List Cap) (age : ℕ) → IsReadOf f role h slots → FollowsRole f.content → IsFront age f
     → IsBody role h.owner slots (content_of (body_in role slots) slots [])
-body_told f role h slots age read follows front =
+body_reported f role h slots age read follows front =
     let same : content_of (body_in role slots) slots [] ≡ f.content =
     ap (λ (r : ℕ). content_of (body_in r slots) slots []) read.role_is ∙ ap (λ (s : List Cap). content_of (body_in (role_number (role_of f.content)) s) s []) read.slots_are ∙ content_again f.content follows in
     subst (IsBody role h.owner slots) (sym same)
@@ -270,7 +270,7 @@ node_found g age role h slots c bytes fits role_is counts are is front middle la
 pub one_node_frame : (g : Geometry) (age : ℕ) (e f : Frame) → IsNodeFrame g age e → IsNodeFrame g age f → node_frame_bytes e ≡ node_frame_bytes f → e ≡ f
 one_node_frame g age e f ie if same =
     let parts = node_parts g age e (node_frame_bytes e) ie refl in
-    let read = node_told g age (role_number e.header.role) e.header (slots_of e.content) f (node_frame_bytes e) (slots_bytes (slots_of e.content) ++ zeros 224)
+    let read = node_reported g age (role_number e.header.role) e.header (slots_of e.content) f (node_frame_bytes e) (slots_bytes (slots_of e.content) ++ zeros 224)
     (role_fits e.header.role, (ie.front.allocations.1, (ie.front.calls.1, (ie.front.owner, tt)))) (sym (role_again e.header.role)) ie.slots parts.whole parts.middle if same in
     let contents : e.content ≡ f.content = sym (content_again e.content ie.follows)
     ∙ ap (λ (r : ℕ). content_of (body_in r (slots_of e.content)) (slots_of e.content) []) (ap role_number (sym ie.front.role) ∙ read.role_is)

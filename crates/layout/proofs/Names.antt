@@ -69,7 +69,7 @@ unfoldable pub use Rattle.layout.specs.Superblock.{ranges_bytes, superblock_byte
 pub use Rattle.layout.specs.declared.bad_image.BadImage.{BadImage}
 pub use Rattle.layout.specs.declared.bad_image.BadImage.TheVariants.{BadFrame}
 pub use Rattle.layout.specs.declared.body.Body.{Body}
-pub use Rattle.layout.specs.declared.body.Room.{Room}
+pub use Rattle.layout.specs.declared.body.Scratch.{Scratch}
 pub use Rattle.layout.specs.declared.directory.Entry.{Entry}
 pub use Rattle.layout.specs.declared.extent.Extent.{Extent}
 pub use Rattle.layout.specs.declared.extent.HomeRange.{HomeRange}

@@ -151,6 +151,6 @@ all_blank bytes n len all =
     same_lists bytes (replicate n 0) (len ∙ sym (length-replicate n 0)) (λ k d lt. all k d (omega arith) ∙ sym (get_or-replicate n k 0 d (omega arith)))
 
 -- the number in bytes that begin with those of a number
-pub number_told : (bytes rest : List ℕ) (n : ℕ) → n < 2 ^ 64 → bytes ≡ number n ++ rest → n ≡ number_from bytes
+pub number_reported : (bytes rest : List ℕ) (n : ℕ) → n < 2 ^ 64 → bytes ≡ number n ++ rest → n ≡ number_from bytes
 unfolding number number_from
-number_told bytes rest n fits e = sym (ap (little_number 8) e ∙ little_number-reads_back 8 n rest fits)
+number_reported bytes rest n fits e = sym (ap (little_number 8) e ∙ little_number-reads_back 8 n rest fits)

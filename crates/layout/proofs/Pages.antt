@@ -9,7 +9,7 @@ use Rattle.layout.proofs.Names.{IsPageBody}
 use borrow.Rule.Slice.PartMut.{put_mid}
 use Rattle.model.specs.declared.object.Content.TheVariants as content
 use Rattle.layout.proofs.Numbers.{length-number, stream, AllFit, stream_splits}
-use Rattle.layout.proofs.Frames.{length-front, front_list, front_told, front_bytes_are, role_again, role_fits, drop_zeros}
+use Rattle.layout.proofs.Frames.{length-front, front_list, front_reported, front_bytes_are, role_again, role_fits, drop_zeros}
 
 pub words_bytes-nil : words_bytes [] ≡ []
 unfolding words_bytes
@@ -127,27 +127,27 @@ pub record IsPageReadOf (f : Frame) (role : ℕ) (h : ObjectHeader) (words : Lis
   pub header_is : h ≡ f.header
   pub words_are : words ≡ page_words f.content
 
-pub page_told : (age role : ℕ) (h : ObjectHeader) (words : List ℕ) (f : Frame) (bytes rest : List ℕ) → AllFit (front_list role h) → h.role ≡ role_in role → AreKeptWords 512 words
+pub page_reported : (age role : ℕ) (h : ObjectHeader) (words : List ℕ) (f : Frame) (bytes rest : List ℕ) → AllFit (front_list role h) → h.role ≡ role_in role → AreKeptWords 512 words
     → bytes ≡ front_numbers role h ++ rest → drop 512 bytes ≡ words_bytes words → IsPageFrame age f → bytes ≡ page_frame_bytes f → IsPageReadOf f role h words
-page_told age role h words f bytes rest fits role_is are front last is e =
+page_reported age role h words f bytes rest fits role_is are front last is e =
     let parts = page_parts f bytes e in
-    let told = front_told age role h f rest (zeros 480 ++ words_bytes (page_words f.content)) fits role_is is.front (sym front ∙ parts.whole) in
+    let reported = front_reported age role h f rest (zeros 480 ++ words_bytes (page_words f.content)) fits role_is is.front (sym front ∙ parts.whole) in
     let held = words_fit f.content is.holds in
     let same = stream_splits words (page_words f.content) [] [] (all_fit words are.each) (all_fit (page_words f.content) held.each) (are.count_is ∙ sym held.count_is)
     (sym (words_stream words) ∙ sym last ∙ parts.last ∙ words_stream (page_words f.content)) in
-    record { role_is = told.0; header_is = told.1; words_are = same.0 }
+    record { role_is = reported.0; header_is = reported.1; words_are = same.0 }
 
-body_told : (role owner : ℕ) (words : List ℕ) (c : Content Cap) → role ≡ role_number (role_of c) → words ≡ page_words c → HoldsPage c → (IsTrue (is_free c) → owner ≡ 0) → IsPageBody role owner words
-body_told role owner words content.Free r w h unowned = inr (r, unowned refl, w)
-body_told role owner words (content.Page _) r w h unowned = inl r
-body_told role owner words (content.Node slots) r w h unowned = absurd h
-body_told role owner words (content.Root root) r w h unowned = absurd h
-body_told role owner words (content.Annex registers) r w h unowned = absurd h
-body_told role owner words (content.Bank limit) r w h unowned = absurd h
+body_reported : (role owner : ℕ) (words : List ℕ) (c : Content Cap) → role ≡ role_number (role_of c) → words ≡ page_words c → HoldsPage c → (IsTrue (is_free c) → owner ≡ 0) → IsPageBody role owner words
+body_reported role owner words content.Free r w h unowned = inr (r, unowned refl, w)
+body_reported role owner words (content.Page _) r w h unowned = inl r
+body_reported role owner words (content.Node slots) r w h unowned = absurd h
+body_reported role owner words (content.Root root) r w h unowned = absurd h
+body_reported role owner words (content.Annex registers) r w h unowned = absurd h
+body_reported role owner words (content.Bank limit) r w h unowned = absurd h
 
-pub page_body_told : (f : Frame) (role : ℕ) (h : ObjectHeader) (words : List ℕ) (age : ℕ) → IsPageReadOf f role h words → HoldsPage f.content → IsFront age f → IsPageBody role h.owner words
-page_body_told f role h words age read holds front =
-    body_told role h.owner words f.content read.role_is read.words_are holds (λ t. ap (λ (x : ObjectHeader). x.owner) read.header_is ∙ front.unowned t)
+pub page_body_reported : (f : Frame) (role : ℕ) (h : ObjectHeader) (words : List ℕ) (age : ℕ) → IsPageReadOf f role h words → HoldsPage f.content → IsFront age f → IsPageBody role h.owner words
+page_body_reported f role h words age read holds front =
+    body_reported role h.owner words f.content read.role_is read.words_are holds (λ t. ap (λ (x : ObjectHeader). x.owner) read.header_is ∙ front.unowned t)
 
 -- what a role's number and 512 words are as a content
 record IsPageContent (role owner : ℕ) (words : List ℕ) (c : Content Cap) : Type 0 where
@@ -189,7 +189,7 @@ page_found age role h slots words b bytes fits role_is body_is counts are was fr
 pub one_page_frame : (age : ℕ) (e f : Frame) → IsPageFrame age e → IsPageFrame age f → page_frame_bytes e ≡ page_frame_bytes f → e ≡ f
 one_page_frame age e f ie if same =
     let parts = page_parts e (page_frame_bytes e) refl in
-    let read = page_told age (role_number e.header.role) e.header (page_words e.content) f (page_frame_bytes e) (zeros 480 ++ words_bytes (page_words e.content))
+    let read = page_reported age (role_number e.header.role) e.header (page_words e.content) f (page_frame_bytes e) (zeros 480 ++ words_bytes (page_words e.content))
     (role_fits e.header.role, (ie.front.allocations.1, (ie.front.calls.1, (ie.front.owner, tt)))) (sym (role_again e.header.role)) (words_fit e.content ie.holds) parts.whole parts.last if same in
     let contents : e.content ≡ f.content = sym (content_again e.content ie.holds)
     ∙ ap (λ (r : ℕ). content_of (page_body_in r) [] (page_words e.content)) (ap role_number (sym ie.front.role) ∙ read.role_is)

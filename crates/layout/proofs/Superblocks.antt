@@ -141,9 +141,9 @@ front_half n rest fits =
     ap (λ (b : List ℕ). take 4 (b ++ rest)) whole ∙ ap (take 4) (append_assoc (half_number (n % 4294967296)) (half_number (n / 4294967296)) rest)
     ∙ take_at (half_number (n % 4294967296)) (half_number (n / 4294967296) ++ rest) 4 (length-half (n % 4294967296))
 
-half_told : (m n : ℕ) → m < 2 ^ 32 → n < 2 ^ 32 → half_number m ≡ half_number n → m ≡ n
+half_reported : (m n : ℕ) → m < 2 ^ 32 → n < 2 ^ 32 → half_number m ≡ half_number n → m ≡ n
 unfolding half_number
-half_told m n fm fn e = sym (from_le_bytes-to_le_bytes_4 m fm) ∙ ap (from_le_bytes w32) e ∙ from_le_bytes-to_le_bytes_4 n fn
+half_reported m n fm fn e = sym (from_le_bytes-to_le_bytes_4 m fm) ∙ ap (from_le_bytes w32) e ∙ from_le_bytes-to_le_bytes_4 n fn
 
 pub few_versions : (v : Version) → version_number v ≤ 2
 few_versions One = omega arith
@@ -156,15 +156,15 @@ one_version Two One e = absurd (omega (arith, e))
 one_version Two Two e = refl
 
 -- the version that a second number tells
-pub version_told : (bytes : List ℕ) (second : ℕ) (v : Version) → drop 8 bytes ≡ number second ++ drop 16 bytes → second < 2 ^ 64 → second % 4294967296 ≡ version_number v
+pub version_reported : (bytes : List ℕ) (second : ℕ) (v : Version) → drop 8 bytes ≡ number second ++ drop 16 bytes → second < 2 ^ 64 → second % 4294967296 ≡ version_number v
     → take 4 (drop 8 bytes) ≡ half_number (version_number v)
-version_told bytes second v next fits is = ap (take 4) next ∙ front_half second (drop 16 bytes) fits ∙ ap half_number is
+version_reported bytes second v next fits is = ap (take 4) next ∙ front_half second (drop 16 bytes) fits ∙ ap half_number is
 
 pub mark_from : (bytes : List ℕ) (m second : ℕ) (v : Version) → bytes ≡ number m ++ drop 8 bytes → drop 8 bytes ≡ number second ++ drop 16 bytes → second < 2 ^ 64
     → m ≡ magic → second % 4294967296 ≡ version_number v → drop 256 bytes ≡ zeros 256 → HasMark bytes
-mark_from bytes m second v first next fits is told blank = record {
+mark_from bytes m second v first next fits is reported blank = record {
   magic = ap (take 8) first ∙ take_at (number m) (drop 8 bytes) 8 (length-number m) ∙ ap number is ∙ sym magic_is;
-  version = (v, version_told bytes second v next fits told);
+  version = (v, version_reported bytes second v next fits reported);
   blank = blank;
 }
 
@@ -176,22 +176,22 @@ magic_from bytes m first fits mark =
 pub version_from : (bytes : List ℕ) (second : ℕ) (v : Version) → drop 8 bytes ≡ number second ++ drop 16 bytes → second < 2 ^ 64 → take 4 (drop 8 bytes) ≡ half_number (version_number v)
     → second % 4294967296 ≡ version_number v
 version_from bytes second v next fits is =
-    half_told (second % 4294967296) (version_number v) (omega arith) (omega (arith, few_versions v)) (sym (front_half second (drop 16 bytes) fits) ∙ sym (ap (take 4) next) ∙ is)
+    half_reported (second % 4294967296) (version_number v) (omega arith) (omega (arith, few_versions v)) (sym (front_half second (drop 16 bytes) fits) ∙ sym (ap (take 4) next) ∙ is)
 
 -- ---- what an answer of a version tells of a sector
 
 module _ (bytes : List ℕ) (m second : ℕ) (first : bytes ≡ number m ++ drop 8 bytes) (next : drop 8 bytes ≡ number second ++ drop 16 bytes) (fits : second < 2 ^ 64) where
   pub marked : (found : Option Version) → m ≡ magic → drop 256 bytes ≡ zeros 256 → IfSome found (λ v. second % 4294967296 ≡ version_number v) → IfSome found (λ _. HasMark bytes)
-  marked None is blank told = told
-  marked (Some v) is blank told = mark_from bytes m second v first next fits is told blank
+  marked None is blank reported = reported
+  marked (Some v) is blank reported = mark_from bytes m second v first next fits is reported blank
 
-  pub versions_told : (found : Option Version) → IfSome found (λ v. second % 4294967296 ≡ version_number v) → IfSome found (λ v. take 4 (drop 8 bytes) ≡ half_number (version_number v))
-  versions_told None told = told
-  versions_told (Some v) told = version_told bytes second v next fits told
+  pub versions_reported : (found : Option Version) → IfSome found (λ v. second % 4294967296 ≡ version_number v) → IfSome found (λ v. take 4 (drop 8 bytes) ≡ half_number (version_number v))
+  versions_reported None reported = reported
+  versions_reported (Some v) reported = version_reported bytes second v next fits reported
 
   pub unmarked : (found : Option Version) → IfNone found ((v : Version) → second % 4294967296 ≡ version_number v → ⊥) → IfNone found (HasMark bytes → ⊥)
-  unmarked None told = λ mark. told mark.version.0 (version_from bytes second mark.version.0 next fits mark.version.1)
-  unmarked (Some v) told = told
+  unmarked None reported = λ mark. reported mark.version.0 (version_from bytes second mark.version.0 next fits mark.version.1)
+  unmarked (Some v) reported = reported
 
 -- a sector with a magic begins with its number
 pub magic_read : (bytes : List ℕ) → HasMark bytes → bytes ≡ number magic ++ drop 8 bytes
@@ -299,11 +299,11 @@ same_plan v rs a b c d e f a' b' c' d' e' f' same =
 list_tail : (a b : ℕ) (xs ys : List ℕ) → a ∷ xs ≡ b ∷ ys → (a ≡ b) × (xs ≡ ys)
 list_tail a b xs ys e = (cc, cc)
 
-pub plan_told : (p : Plan) (v : Version) (bytes : List ℕ) (m second : ℕ) (g : Geometry) (all : List HomeRange) (half_0 half_1 total : ℕ)
+pub plan_reported : (p : Plan) (v : Version) (bytes : List ℕ) (m second : ℕ) (g : Geometry) (all : List HomeRange) (half_0 half_1 total : ℕ)
     → AllFit (m ∷ second ∷ numbers_of (plan_of v g all half_0 half_1 total)) → All RangeFits all → length all ≡ 8
     → bytes ≡ stream (m ∷ second ∷ numbers_of (plan_of v g all half_0 half_1 total)) (ranges_bytes all ++ drop 256 bytes)
     → second % 4294967296 ≡ version_number v → IsPlan p → bytes ≡ superblock_bytes p → IsPlanRead p v second g all half_0 half_1 total
-plan_told p v bytes m second g all half_0 half_1 total fits ranges_fit eight read version is e =
+plan_reported p v bytes m second g all half_0 half_1 total fits ranges_fit eight read version is e =
     let pf = plan_fits p is in
     let s = stream_splits (m ∷ second ∷ numbers_of (plan_of v g all half_0 half_1 total)) (magic ∷ second_of p ∷ numbers_of p)
     (ranges_bytes all ++ drop 256 bytes) (ranges_bytes (eight_ranges p.ranges) ++ zeros 256) fits pf.numbers refl (sym read ∙ e ∙ plan_stream p is.few) in
@@ -392,13 +392,13 @@ plan_same p v second g all half_0 half_1 total read =
     ap (λ (rs : List HomeRange). plan_of v g rs half_0 half_1 total) (used_are p v second g all half_0 half_1 total read) ∙ read.plan_is
 
 pub plan_read : (bytes : List ℕ) (q : Plan) (made : Option Plan) → bytes ≡ superblock_bytes q → IfSome made (λ s. s ≡ q) → IfSome made (λ s. bytes ≡ superblock_bytes s)
-plan_read bytes q None read told = told
-plan_read bytes q (Some s) read told = read ∙ ap superblock_bytes (sym told)
+plan_read bytes q None read reported = reported
+plan_read bytes q (Some s) read reported = read ∙ ap superblock_bytes (sym reported)
 
 pub none_read_of : (bytes : List ℕ) (q : Plan) (made : Option Plan) → ((p : Plan) → IsPlan p → bytes ≡ superblock_bytes p → q ≡ p) → IfNone made (IsPlan q → ⊥)
     → IfNone made ((p : Plan) → IsPlan p → bytes ≡ superblock_bytes p → ⊥)
-none_read_of bytes q None same told = λ p is e. told (subst IsPlan (sym (same p is e)) is)
-none_read_of bytes q (Some s) same told = told
+none_read_of bytes q None same reported = λ p is e. reported (subst IsPlan (sym (same p is e)) is)
+none_read_of bytes q (Some s) same reported = reported
 
 -- ---- writing
 

@@ -1,12 +1,12 @@
 -- The total of sectors in the bytes of a superblock.
 use Rattle.layout.proofs.Names.{◌≡◌, ℕ, List, [], ◌∷◌, ◌++◌, drop, arith, zeros, Plan, IsPlan, superblock_bytes, ranges_bytes, total_in}
 use Rattle.layout.proofs.Numbers.{stream}
-use Rattle.layout.proofs.FrameReaders.{told, passed, passed_on}
+use Rattle.layout.proofs.FrameReaders.{reported, passed, passed_on}
 use Rattle.layout.proofs.Superblocks.{magic, numbers_of, second_of, eight_ranges, plan_stream}
 
 -- the bytes of a superblock have its total
-pub total_told : (p : Plan) → IsPlan p → total_in (superblock_bytes p) ≡ p.total
-total_told p is =
+pub total_reported : (p : Plan) → IsPlan p → total_in (superblock_bytes p) ≡ p.total
+total_reported p is =
     let bytes : List ℕ = superblock_bytes p in
     let rest : List ℕ = ranges_bytes (eight_ranges p.ranges) ++ zeros 256 in
     let n : ℕ = second_of p in
@@ -18,4 +18,4 @@ total_told p is =
     let e = passed_on 32 g.log (stream (p.half_0 ∷ p.half_1 ∷ p.total ∷ []) rest) bytes d in
     let f = passed_on 40 p.half_0 (stream (p.half_1 ∷ p.total ∷ []) rest) bytes e in
     let last = passed_on 48 p.half_1 (stream (p.total ∷ []) rest) bytes f in
-    told p.total rest (drop 56 bytes) (omega (arith, is.total)) last
+    reported p.total rest (drop 56 bytes) (omega (arith, is.total)) last

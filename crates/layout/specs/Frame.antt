@@ -6,7 +6,7 @@ use Rattle.model.specs.declared.object.Content.TheVariants as content
 use Rattle.model.specs.declared.object.Role.TheVariants as role
 use Rattle.layout.specs.declared.body.Body.{Body}
 use Rattle.layout.specs.declared.body.Body.TheVariants as body
-use Rattle.layout.specs.declared.body.Room.{Room}
+use Rattle.layout.specs.declared.body.Scratch.{Scratch}
 use Rattle.layout.specs.Bytes.{number, zeros}
 use Rattle.layout.specs.Capability.{capability_bytes}
 
@@ -78,7 +78,7 @@ content_of body.Annex slots words = content.Annex slots
 content_of (body.Bank limit) slots words = content.Bank limit
 
 -- the frame of a header and a body that were read
-abbrev pub frame_of : ObjectHeader × Body → Room → Frame
+abbrev pub frame_of : ObjectHeader × Body → Scratch → Frame
 frame_of read room = record { header = read.0; content = content_of read.1 room.slots room.words }
 
 -- the front of a frame with any first eight bytes, as numbers

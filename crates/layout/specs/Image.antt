@@ -88,8 +88,8 @@ or_beside (Some slot) beside = Some slot
 or_beside None beside = beside
 
 -- the slot whose sectors have the frame of an object: its own, else that one
-abbrev pub seat_in : Plan → List Entry → ℕ → Option ℕ
-seat_in p es object = or_beside (slot_in es object) (slot_beside p es object)
+abbrev pub frame_slot_in : Plan → List Entry → ℕ → Option ℕ
+frame_slot_in p es object = or_beside (slot_in es object) (slot_beside p es object)
 
 abbrev pub sector_or : Option ℕ → (ℕ → ℕ) → ℕ → ℕ
 sector_or None in_log home = home
@@ -97,7 +97,7 @@ sector_or (Some slot) in_log home = in_log slot
 
 -- the frame of an object is the one in that slot, else the home frame
 abbrev pub frame_sector : Plan → ℕ → List Entry → ℕ → ℕ
-frame_sector p generation es object = sector_or (seat_in p es object) (slot_sector p generation) (home_place p object)
+frame_sector p generation es object = sector_or (frame_slot_in p es object) (slot_sector p generation) (home_place p object)
 
 -- the bytes of a frame of a shape that lies at a sector
 abbrev pub shaped_at : Image → ℕ → Shape → List ℕ

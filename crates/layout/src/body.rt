@@ -6,7 +6,7 @@ use model::{Cap, Root, Slots, Words};
 use std::alloc::{AllocError, Global};
 
 /// What a frame holds, but for the words of a page and the slots of a node or an annex: those are
-/// left in a `Room`.
+/// left in a `Scratch`.
 #[derive(Drop)]
 pub enum Body {
     Free,
@@ -19,18 +19,18 @@ pub enum Body {
 
 /// Room for the body of any object. It is lent to what reads frames, which so takes no memory.
 #[derive(Drop)]
-pub struct Room {
+pub struct Scratch {
     pub slots: Slots<Cap>,
     pub words: Words,
 }
 
-impl Room {
+impl Scratch {
     /// Room with void slots and words of 0. Fails only where memory runs out.
-    pub fn new(alloc: Global) -> Result<Room, AllocError>
-        ensures slots { IfOk result (λ room. room.slots ≡ replicate 32 void_held) }
-        ensures words { IfOk result (λ room. room.words ≡ replicate 512 0) }
+    pub fn new(alloc: Global) -> Result<Scratch, AllocError>
+        ensures slots { IfOk result (λ scratch. scratch.slots ≡ replicate 32 void_held) }
+        ensures words { IfOk result (λ scratch. scratch.words ≡ replicate 512 0) }
     {
-        Ok(Room {
+        Ok(Scratch {
             slots: Slots::new(alloc, Cap::void())?,
             words: Words::new(alloc)?,
         })

@@ -4,7 +4,7 @@ ghost use Rattle.model.specs.declared.frame.Frame.{Frame};
 ghost use Rattle.layout.specs.Frame.{frame_bytes, frame_length, frame_of, IsFrameOf};
 
 use crate::bad_image::BadImage;
-use crate::body::{Body, Room};
+use crate::body::{Body, Scratch};
 use crate::node_frame::{decode_node_frame, encode_node_frame};
 use crate::page_frame::{decode_page_frame, encode_page_frame};
 use model::{Cap, Content, Geometry, ObjectHeader};
@@ -19,19 +19,19 @@ pub fn decode_frame(
     geometry: Geometry,
     number: u64,
     age: u64,
-    room: &mut Room,
+    scratch: &mut Scratch,
 ) -> Result<(ObjectHeader, Body), BadImage>
     requires size { length bytes.now ≡ 512 * frame_length geometry number }
     requires number { number < geometry.nodes + geometry.pages }
     ensures found { IfOk result (λ read.
-        IsFrameOf geometry age number bytes.now (frame_of read room.new)) }
+        IsFrameOf geometry age number bytes.now (frame_of read scratch.new)) }
     ensures refused { IfErr result (λ e. (e ≡ BadImage.BadFrame)
         × ((f : Frame) → IsFrameOf geometry age number bytes.now f → ⊥)) }
 {
     if number < geometry.nodes {
-        decode_node_frame(bytes, geometry, age, room)
+        decode_node_frame(bytes, geometry, age, scratch)
     } else {
-        decode_page_frame(bytes, age, room)
+        decode_page_frame(bytes, age, scratch)
     }
 }
 

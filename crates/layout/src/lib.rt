@@ -24,7 +24,7 @@ mod superblock;
 mod version;
 
 pub use bad_image::BadImage;
-pub use body::{Body, Room};
+pub use body::{Body, Scratch};
 pub use capability::{CAPABILITY_BYTES, decode_capability, encode_capability};
 pub use cluster::{CLUSTER_BYTES, pack_node, unpack_node};
 pub use directory::{ENTRY_BYTES, Entry, MAX_LOG, decode_directory, encode_directory};

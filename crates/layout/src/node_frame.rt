@@ -6,7 +6,7 @@ ghost use Rattle.layout.specs.Bytes.{zeros};
 ghost use Rattle.layout.specs.Frame.{number_held, number_cap, state_in, root_from, body_in, root_slots, slots_of, slots_bytes, content_of, frame_of, node_frame_bytes, FollowsRole, IsBody, IsNodeFrame};
 
 use crate::bad_image::BadImage;
-use crate::body::{Body, Room};
+use crate::body::{Body, Scratch};
 use crate::bytes::{blank_from, is_blank_from};
 use crate::capability::CAPABILITY_BYTES;
 use crate::front::{decode_front, encode_front, has_counts};
@@ -127,17 +127,17 @@ pub fn decode_node_frame(
     bytes: &[u8],
     geometry: Geometry,
     age: u64,
-    room: &mut Room,
+    scratch: &mut Scratch,
 ) -> Result<(ObjectHeader, Body), BadImage>
     requires { length bytes.now ≡ 1024 }
-    ensures found { IfOk result (λ read. IsNodeFrame geometry age (frame_of read room.new)
-        × (bytes.now ≡ node_frame_bytes (frame_of read room.new))) }
+    ensures found { IfOk result (λ read. IsNodeFrame geometry age (frame_of read scratch.new)
+        × (bytes.now ≡ node_frame_bytes (frame_of read scratch.new))) }
     ensures refused { IfErr result (λ e. (e ≡ BadImage.BadFrame)
         × ((f : Frame) → IsNodeFrame geometry age f → bytes.now ≡ node_frame_bytes f → ⊥)) }
 {
     let (role, header) = decode_front(bytes);
-    decode_slots(&bytes[32..800], geometry, age, &mut room.slots)?;
-    let slots = room.slots.as_slice();
+    decode_slots(&bytes[32..800], geometry, age, &mut scratch.slots)?;
+    let slots = scratch.slots.as_slice();
     let body = body_in(role, slots);
     let has_counts = has_counts(header, age);
     let is_blank = is_blank_from(bytes, 800);

@@ -8,7 +8,7 @@ ghost use Rattle.layout.specs.Bytes.{zeros};
 ghost use Rattle.layout.specs.Frame.{front_bytes, words_bytes, frame_of, page_frame_bytes, page_body_in, IsPageBody, IsPageFrame};
 
 use crate::bad_image::BadImage;
-use crate::body::{Body, Room};
+use crate::body::{Body, Scratch};
 use crate::bytes::{blank_from, blank_front, is_blank_between, number_at};
 use crate::front::{decode_front, encode_front, has_counts};
 use byteorder::{ByteOrder, LittleEndian};
@@ -64,17 +64,17 @@ fn is_body(role: u64, owner: u64, words: &[u64]) -> bool
 pub fn decode_page_frame(
     bytes: &[u8],
     age: u64,
-    room: &mut Room,
+    scratch: &mut Scratch,
 ) -> Result<(ObjectHeader, Body), BadImage>
     requires { length bytes.now ≡ 4608 }
-    ensures found { IfOk result (λ read. IsPageFrame age (frame_of read room.new)
-        × (bytes.now ≡ page_frame_bytes (frame_of read room.new))) }
+    ensures found { IfOk result (λ read. IsPageFrame age (frame_of read scratch.new)
+        × (bytes.now ≡ page_frame_bytes (frame_of read scratch.new))) }
     ensures refused { IfErr result (λ e. (e ≡ BadImage.BadFrame)
         × ((f : Frame) → IsPageFrame age f → bytes.now ≡ page_frame_bytes f → ⊥)) }
 {
     let (role, header) = decode_front(bytes);
-    decode_words(&bytes[FRONT_BYTES..], &mut room.words);
-    let words = room.words.as_slice();
+    decode_words(&bytes[FRONT_BYTES..], &mut scratch.words);
+    let words = scratch.words.as_slice();
     let has_counts = has_counts(header, age);
     let is_blank = is_blank_between(bytes, 32, FRONT_BYTES);
     if has_counts && is_blank && is_body(role, header.owner, words) {

@@ -6,7 +6,7 @@ ghost use Rattle.std.specs.Prelude.{◌≡◌, ◌≤◌, ◌<◌, ◌*◌, leng
 ghost use Rattle.layout.specs.Frame.{frame_length};
 
 use byteorder::{ByteOrder, LittleEndian};
-use layout::{NODE_FRAME_BYTES, PAGE_FRAME_BYTES, Room, decode_frame, encode_frame};
+use layout::{NODE_FRAME_BYTES, PAGE_FRAME_BYTES, Scratch, decode_frame, encode_frame};
 use model::{Access, Cap, Capability, Content, Geometry, ObjectHeader, Role, Slots, Words};
 use std::alloc::{AllocError, Global};
 
@@ -38,7 +38,7 @@ fn code(
     header: ObjectHeader,
     content: &Content<Cap>,
     bytes: &mut [u8],
-    room: &mut Room,
+    scratch: &mut Scratch,
     rounds: u64,
 ) -> u64
     requires number { number < 24 }
@@ -47,7 +47,7 @@ fn code(
     let mut done = 0;
     for _ in 0..rounds {
         encode_frame(GEOMETRY, number, header, content, bytes);
-        if decode_frame(bytes, GEOMETRY, number, AGE, room).is_ok() {
+        if decode_frame(bytes, GEOMETRY, number, AGE, scratch).is_ok() {
             done = u64::wrapping_add(done, 1);
         }
     }
@@ -69,12 +69,12 @@ fn copy_words(words: &mut [u64], bytes: &mut [u8], rounds: u64) -> u64
 
 fn page_frames(alloc: Global, rounds: u64) -> Result<u64, AllocError> {
     let mut bytes = vec![in alloc; 0; PAGE_FRAME_BYTES]?;
-    let mut room = Room::new(alloc)?;
+    let mut scratch = Scratch::new(alloc)?;
     let mut words = Words::new(alloc)?;
     words.set(3, 99);
     let page = Content::Page(words);
     let into = bytes.as_mut_slice();
-    Ok(code(PAGE, header(Role::Page), &page, into, &mut room, rounds))
+    Ok(code(PAGE, header(Role::Page), &page, into, &mut scratch, rounds))
 }
 
 fn node_frames(alloc: Global, rounds: u64) -> Result<u64, AllocError> {
@@ -86,10 +86,10 @@ fn node_frames(alloc: Global, rounds: u64) -> Result<u64, AllocError> {
         count: 7,
     };
     let mut bytes = vec![in alloc; 0; NODE_FRAME_BYTES]?;
-    let mut room = Room::new(alloc)?;
+    let mut scratch = Scratch::new(alloc)?;
     let node = Content::Node(Slots::new(alloc, held)?);
     let into = bytes.as_mut_slice();
-    Ok(code(NODE, header(Role::Node), &node, into, &mut room, rounds))
+    Ok(code(NODE, header(Role::Node), &node, into, &mut scratch, rounds))
 }
 
 fn copies(alloc: Global, words: usize, rounds: u64) -> Result<u64, AllocError>

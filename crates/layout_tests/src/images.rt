@@ -2,7 +2,7 @@
 ghost use Rattle.std.specs.Prelude.{◌≡◌, ◌<◌, length};
 
 use layout::{
-    BadImage, Body, CheckpointHeader, Entry, Gate, Half, HomeRange, Room, Shape, Superblock,
+    BadImage, Body, CheckpointHeader, Entry, Gate, Half, HomeRange, Scratch, Shape, Superblock,
     Version, decode_capability, decode_directory, decode_frame, decode_gate, decode_header,
     decode_superblock, encode_capability, encode_frame, encode_gate, encode_header,
     encode_superblock, range_extent, total_in,
@@ -43,15 +43,15 @@ fn put(rt: &impl Abort, bytes: &mut [u8], puts: &[(usize, u8)])
 fn is_node_frame(alloc: Global, bytes: &[u8]) -> Result<bool, AllocError>
     requires { length bytes.now ≡ 1024 }
 {
-    let mut room = Room::new(alloc)?;
-    Ok(decode_frame(bytes, GEOMETRY, NODE, AGE, &mut room).is_ok())
+    let mut scratch = Scratch::new(alloc)?;
+    Ok(decode_frame(bytes, GEOMETRY, NODE, AGE, &mut scratch).is_ok())
 }
 
 fn is_page_frame(alloc: Global, bytes: &[u8]) -> Result<bool, AllocError>
     requires { length bytes.now ≡ 4608 }
 {
-    let mut room = Room::new(alloc)?;
-    Ok(decode_frame(bytes, GEOMETRY, PAGE, AGE, &mut room).is_ok())
+    let mut scratch = Scratch::new(alloc)?;
+    Ok(decode_frame(bytes, GEOMETRY, PAGE, AGE, &mut scratch).is_ok())
 }
 
 // The tag of slot 0 of a node is byte 32 of its frame, its access byte 33, and its number begins at
@@ -200,8 +200,8 @@ fn capabilities_with_a_field_too_many(rt: HostRuntime) {
 fn root_frames(rt: HostRuntime) -> Result<(), Fail> {
     let mut bytes = [0; 1024];
     put(&rt, &mut bytes, ROOT);
-    let mut room = Room::new(rt.alloc())?;
-    match decode_frame(&bytes, GEOMETRY, NODE, AGE, &mut room) {
+    let mut scratch = Scratch::new(rt.alloc())?;
+    match decode_frame(&bytes, GEOMETRY, NODE, AGE, &mut scratch) {
         Ok((header, Body::Root(root))) if header.role == Role::Root => is_root(&rt, &root),
         _ => panic!(rt; "another role"),
     }
@@ -266,13 +266,13 @@ fn written_page_frame(rt: HostRuntime) -> Result<(), Fail> {
 fn read_page(rt: &impl Abort, alloc: Global, spelt: &[u8]) -> Result<(), Fail>
     requires { length spelt.now ≡ 4608 }
 {
-    let mut room = Room::new(alloc)?;
-    let header = match decode_frame(spelt, GEOMETRY, PAGE, AGE, &mut room) {
+    let mut scratch = Scratch::new(alloc)?;
+    let header = match decode_frame(spelt, GEOMETRY, PAGE, AGE, &mut scratch) {
         Ok((header, Body::Page)) => header,
         _ => panic!(rt; "another role"),
     };
     assert_eq!(rt; header, PAGE_HEADER);
-    assert!(rt; (room.words.get(510), room.words.get(511)) == (0, 99));
+    assert!(rt; (scratch.words.get(510), scratch.words.get(511)) == (0, 99));
     Ok(())
 }
 
@@ -378,8 +378,8 @@ fn directories(rt: HostRuntime) {
     let mut bytes = [0; 32];
     for (puts, is_taken, what) in DIRECTORIES {
         put(&rt, &mut bytes, puts);
-        let told = if *is_taken { Some(ENTRIES) } else { None };
-        assert!(rt; entries_of(&bytes) == told, "{what}");
+        let reported = if *is_taken { Some(ENTRIES) } else { None };
+        assert!(rt; entries_of(&bytes) == reported, "{what}");
     }
 }
 
@@ -499,8 +499,8 @@ fn refused_superblocks(rt: HostRuntime) {
         let mut bytes = [0; 512];
         put_superblock(&mut bytes, 1);
         put(&rt, &mut bytes, &[(*place, *byte)]);
-        let told = decode_superblock(&bytes).err();
-        assert!(rt; told == Some(*reason), "byte {place}");
+        let reported = decode_superblock(&bytes).err();
+        assert!(rt; reported == Some(*reason), "byte {place}");
     }
 }
 

@@ -14,8 +14,8 @@ abbrev pub memory_state : Memory → State
 memory_state m = state_of m.mirror
 
 -- how many entries its record still takes
-abbrev pub room_left : Memory → ℕ
-room_left m = m.room - vec_len m.mirror.entries
+abbrev pub capacity_left : Memory → ℕ
+capacity_left m = m.room - vec_len m.mirror.entries
 
 -- what its power cuts leave
 abbrev pub outcome_of : Memory → Outcome

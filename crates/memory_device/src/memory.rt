@@ -24,7 +24,7 @@ pub struct Memory {
 }
 
 impl Memory {
-    ghost use Rattle.memory_device.specs.Memory.{memory_disk, memory_past, room_left, outcome_of};
+    ghost use Rattle.memory_device.specs.Memory.{memory_disk, memory_past, capacity_left, outcome_of};
 
     /// A device of `sectors` sectors, all zeros and all synced. Its record has room
     /// for `room` entries, and its power cuts leave `outcome`. The only error is want of memory.
@@ -40,7 +40,7 @@ impl Memory {
         ensures durable { IfOk result (λ m. Only (memory_disk m).seen (memory_disk m)) }
         ensures past { IfOk result (λ m. memory_past m ≡ []) }
         ensures failures { IfOk result (λ m. (memory_disk m).failures ≡ 0) }
-        ensures room { IfOk result (λ m. room_left m ≡ room) }
+        ensures room { IfOk result (λ m. capacity_left m ≡ room) }
         ensures outcome { IfOk result (λ m. outcome_of m ≡ outcome) }
     {
         let first = vec![in alloc; 0; sectors as usize * SECTOR_SIZE]?;
@@ -54,8 +54,8 @@ impl Memory {
     }
 
     // Fails if the record takes fewer entries than these.
-    fn check_room(&mut self, entries: usize) -> Result<(), Failed>
-        ensures full { IsErr result ↔ (room_left self.old < entries) }
+    fn check_capacity(&mut self, entries: usize) -> Result<(), Failed>
+        ensures full { IsErr result ↔ (capacity_left self.old < entries) }
         ensures mirror { self.new.mirror ≡ self.old.mirror }
         ensures room { self.new.room ≡ self.old.room }
         ensures outcome { outcome_of self.new ≡ outcome_of self.old }
@@ -71,7 +71,7 @@ impl Memory {
 }
 
 impl Device for Memory {
-    ghost use Rattle.memory_device.specs.Memory.{memory_disk, memory_past, memory_state, room_left, outcome_of, IsUntouched};
+    ghost use Rattle.memory_device.specs.Memory.{memory_disk, memory_past, memory_state, capacity_left, outcome_of, IsUntouched};
     ghost use Rattle.memory_device.specs.PastLaws.{past_counts_now, past_only_now};
     ghost use Rattle.memory_device.specs.SoundLaws.{sound_seen_left};
     ghost use Rattle.device.specs.Calls.{image_of};
@@ -105,10 +105,10 @@ impl Device for Memory {
     fn write(&mut self, at: u64, from: &[u8]) -> Result<(), Failed>
         requires whole { length from.now % 512 ≡ 0 }
         requires inside { at + sectors_of from.now ≤ (memory_disk self.old).sectors }
-        ensures full { IsErr result ↔ (room_left self.old < sectors_of from.now) }
+        ensures full { IsErr result ↔ (capacity_left self.old < sectors_of from.now) }
         ensures past { OnOk result (memory_past self.new
             ≡ memory_past self.old ++ writes_of at (sectors_of from.now) from.now) }
-        ensures room { OnOk result (room_left self.new + sectors_of from.now ≡ room_left self.old) }
+        ensures room { OnOk result (capacity_left self.new + sectors_of from.now ≡ capacity_left self.old) }
         ensures untouched { OnErr result (IsUntouched self.old self.new) }
         ensures outcome { outcome_of self.new ≡ outcome_of self.old }
         ensures written { OnOk result (AreSectors (memory_disk self.new).seen at from.now) }
@@ -120,16 +120,16 @@ impl Device for Memory {
         ensures time { Elapses (memory_disk self.old) (memory_disk self.new) }
         ensures cause { Counts (memory_disk self.old) (memory_disk self.new) result }
     {
-        self.check_room(from.len() / SECTOR_SIZE)?;
+        self.check_capacity(from.len() / SECTOR_SIZE)?;
         self.mirror.write(at, from);
         Ok(())
     }
 
     /// It fails exactly where the record takes no more entries.
     fn sync(&mut self) -> Result<(), Failed>
-        ensures full { IsErr result ↔ (room_left self.old ≡ 0) }
+        ensures full { IsErr result ↔ (capacity_left self.old ≡ 0) }
         ensures past { OnOk result (memory_past self.new ≡ memory_past self.old ++ synced ∷ []) }
-        ensures room { OnOk result (room_left self.new + 1 ≡ room_left self.old) }
+        ensures room { OnOk result (capacity_left self.new + 1 ≡ capacity_left self.old) }
         ensures untouched { OnErr result (IsUntouched self.old self.new) }
         ensures outcome { outcome_of self.new ≡ outcome_of self.old }
         ensures durable { OnOk result (Only (memory_disk self.new).seen (memory_disk self.new)) }
@@ -141,7 +141,7 @@ impl Device for Memory {
         ensures time { Elapses (memory_disk self.old) (memory_disk self.new) }
         ensures cause { Counts (memory_disk self.old) (memory_disk self.new) result }
     {
-        self.check_room(1)?;
+        self.check_capacity(1)?;
         self.mirror.sync();
         Ok(())
     }
@@ -152,7 +152,7 @@ impl Device for Memory {
         ensures outcome_left { Agrees (memory_disk self.new).seen
             (left_by (outcome_of self.old) (memory_state self.old)) }
         ensures past { EndsCut (outcome_of self.old) (memory_past self.old) (memory_past self.new) }
-        ensures room { room_left self.new ≡ room_left self.old }
+        ensures room { capacity_left self.new ≡ capacity_left self.old }
         ensures outcome { outcome_of self.new ≡ outcome_of self.old }
         ensures left { (memory_disk self.old).may_leave (memory_disk self.new).seen }
         ensures durable { Only (memory_disk self.new).seen (memory_disk self.new) }

@@ -203,8 +203,8 @@ module _ (size : ℕ) (image : Image) (b : Books) where
   pub own_frame : (o : Option Unwritten) → IsKept size (mended image o) b → MayHaveUnwritten b o → (n s : ℕ) (read : Frame) → place_at b.frozen n ≡ Whole s → {sector : ℕ} → sector ≡ slot_sector b.plan (frozen_generation b) s
       → (u : Unwritten) × (o ≡ Some u) × (u.sector ≡ sector) → ((u : Unwritten) → o ≡ Some u → read ≡ frame_from b.plan.geometry n (shape_bytes (shape_of b.plan n) u.bytes))
       → read ≡ slot_frame (mended image o) b.plan (frozen_generation b) s n
-  own_frame o kept has n s read at here is told =
-      told is.0 is.1
+  own_frame o kept has n s read at here is reported =
+      reported is.0 is.1
       ∙ subst (λ (x : Option Unwritten). frame_from b.plan.geometry n (shape_bytes (shape_of b.plan n) is.0.bytes) ≡ slot_frame (mended image x) b.plan (frozen_generation b) s n) (sym is.1)
       (by is.0 (subst (λ (x : Option Unwritten). IsKept size (mended image x) b) is.1 kept) (subst (MayHaveUnwritten b) is.1 has) (is.2 ∙ here)) where
         by : (u : Unwritten) → IsKept size (mended image (Some u)) b → HasUnwritten b u → u.sector ≡ slot_sector b.plan (frozen_generation b) s

@@ -1,19 +1,19 @@
 -- The frozen frames become the saved ones.
 use Rattle.migrator.proofs.Names.{◌≡◌, ℕ, ◌+◌, ◌-◌, ◌%◌, ◌^◌, ◌<◌, ◌≤◌, Bool, true, false, cond, Option, Some, None, List, length, refl, sym, ap, subst, ◌∙◌}
 use Rattle.migrator.proofs.Names.{inr, arith, ◌==◌, map, replicate, range_with_len, length-replicate, Frame, frame_at, IsKeepable, AreKeepable, Image, Disk}
-use Rattle.migrator.proofs.Names.{Entry, Extent, CheckpointHeader, IsDirectory, entry_at, IsFrameOf, frame_from, IsHeader, frame_in, seat_in, slot_in}
+use Rattle.migrator.proofs.Names.{Entry, Extent, CheckpointHeader, IsDirectory, entry_at, IsFrameOf, frame_from, IsHeader, frame_in, frame_slot_in, slot_in}
 use Rattle.migrator.proofs.Names.{slot_beside, half_sector, count_of, frame_read, frames_read, IsSpelt, AreSpelt, Plan, IsApart, IsInside, half_extent, itself}
-use Rattle.migrator.proofs.Names.{apart_inside, half_within, length_read, read_at, spelt_same, spelt_at, beside_seat, places_within, header_sector, slot_extent}
-use Rattle.migrator.proofs.Names.{place_extent, directory_extent, frames_behind, frames_in_slots, directories_inside, slots_spare_directories, Place, Nowhere}
-use Rattle.migrator.proofs.Names.{Torn, Whole, place_at, slot_of, taken_count, whole_count, has_slot, entries_of, Put, Absent, put_at, put_or, overlaid}
-use Rattle.migrator.proofs.Names.{slot_bytes, put_of, puts_in, ArePut, most, Books, IsDurable, frozen_generation, working_generation, generation_after, Stored}
-use Rattle.migrator.proofs.Names.{saved_state, frozen_of, stored_in, IsRunning, IsKept, LeavesState, next_header, stored_after_commit, AreComplete, MayAdopt}
-use Rattle.migrator.proofs.Names.{MaySave, SavesOnly, SparesKept, adopted, SparesFrames, Spares, maps_same}
+use Rattle.migrator.proofs.Names.{apart_inside, half_within, length_read, read_at, spelt_same, spelt_at, beside_frame_slot, places_within, header_sector}
+use Rattle.migrator.proofs.Names.{slot_extent, place_extent, directory_extent, frames_behind, frames_in_slots, directories_inside, slots_spare_directories}
+use Rattle.migrator.proofs.Names.{Place, Nowhere, Torn, Whole, place_at, slot_of, taken_count, whole_count, has_slot, entries_of, Put, Absent, put_at, put_or}
+use Rattle.migrator.proofs.Names.{overlaid, slot_bytes, put_of, puts_in, ArePut, most, Books, IsDurable, frozen_generation, working_generation}
+use Rattle.migrator.proofs.Names.{generation_after, Stored, saved_state, frozen_of, stored_in, IsRunning, IsKept, LeavesState, next_header, stored_after_commit}
+use Rattle.migrator.proofs.Names.{AreComplete, MayAdopt, MaySave, SavesOnly, SparesKept, adopted, SparesFrames, Spares, maps_same}
 use Rattle.migrator.proofs.Tables.{all_whole, whole_taken, entries_directory, length_entries, slot_entries, blank_at, blank_table, tally-blank}
 use Rattle.migrator.proofs.Spared.{state_stays}
 use Rattle.migrator.proofs.Kept.{stored_stays, kept_on}
-use Rattle.migrator.proofs.PlacesApart.{in_slot, in_seat, at_home, frame_apart, home_apart, spares_other, homes_behind}
-use Rattle.migrator.proofs.Seats.{no_entries, seat_fits}
+use Rattle.migrator.proofs.PlacesApart.{in_slot, in_frame_slot, at_home, frame_apart, home_apart, spares_other, homes_behind}
+use Rattle.migrator.proofs.FrameSlots.{no_entries, frame_slot_fits}
 use Rattle.migrator.proofs.Putting.{put_is, other_parity, half_spares, none_spares, homes_spare}
 
 -- ---- what is kept through a directory and a header that are written
@@ -92,7 +92,7 @@ module _ (size : ℕ) (image : Image) (b : Books) (k : ℕ) (kept : IsKept size 
   fs : List Entry
   fs = entries_of b.frozen
 
-  none_saved : (n : ℕ) → seat_in b.plan b.directory n ≡ None
+  none_saved : (n : ℕ) → frame_slot_in b.plan b.directory n ≡ None
   none_saved n = no_entries b.plan b.directory n (kept.count ∙ was.0)
 
   pub fs_fit : IsDirectory b.plan.geometry (entries_of b.frozen)
@@ -120,10 +120,10 @@ module _ (size : ℕ) (image : Image) (b : Books) (k : ℕ) (kept : IsKept size 
 
       by : (o : Option ℕ) → slot_beside b.plan (entries_of b.frozen) n ≡ o → frame_in image b.plan (b.header.generation + 1) (entries_of b.frozen) n ≡ frame_in image b.plan b.header.generation b.directory n
       by None is =
-          at_home image b.plan (b.header.generation + 1) (entries_of b.frozen) n (beside_seat b.plan (entries_of b.frozen) n no_slot ∙ is)
+          at_home image b.plan (b.header.generation + 1) (entries_of b.frozen) n (beside_frame_slot b.plan (entries_of b.frozen) n no_slot ∙ is)
           ∙ sym (at_home image b.plan b.header.generation b.directory n (none_saved n))
       by (Some s) is =
-          in_seat image b.plan (b.header.generation + 1) (entries_of b.frozen) n s (beside_seat b.plan (entries_of b.frozen) n no_slot ∙ is) ∙ complete n s lt no_slot is
+          in_frame_slot image b.plan (b.header.generation + 1) (entries_of b.frozen) n s (beside_frame_slot b.plan (entries_of b.frozen) n no_slot ∙ is) ∙ complete n s lt no_slot is
           ∙ sym (at_home image b.plan b.header.generation b.directory n (none_saved n))
 
     frame_next : (n : ℕ) → n < count_of b.plan → frame_read image b.plan (b.header.generation + 1) (entries_of b.frozen) n ≡ put_or (put_at frozen_puts n) (frame_at saved_frames n)
@@ -182,7 +182,7 @@ module _ (disk : Disk) (b : Books) (k : ℕ) (kept : IsKept disk.sectors disk.se
   spares_then : SparesFrames b.plan (frozen_generation b) (entries_of b.frozen) (directory_extent b.plan (frozen_generation b) (taken_count b.frozen))
   spares_then n lt =
       frame_apart b.plan (frozen_generation b) (entries_of b.frozen) n (directory_extent b.plan (frozen_generation b) (taken_count b.frozen))
-      (λ s is. slots_apart_directory b.plan (frozen_generation b) s (taken_count b.frozen) n (seat_fits b.plan (entries_of b.frozen) n s directory_next is) kept.frozen.few)
+      (λ s is. slots_apart_directory b.plan (frozen_generation b) s (taken_count b.frozen) n (frame_slot_fits b.plan (entries_of b.frozen) n s directory_next is) kept.frozen.few)
       (λ _. home_apart b.plan (frozen_generation b) n (directory_extent b.plan (frozen_generation b) (taken_count b.frozen)) kept.plan lt inside_half)
 
   may_save : LeavesState disk (saved_state disk.seen b) → MaySave disk b.plan b.header b.directory (next_header age b) (entries_of b.frozen)

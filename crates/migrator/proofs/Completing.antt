@@ -8,7 +8,7 @@ use Rattle.migrator.proofs.Names.{slots_apart, IsFilled, IsComplete, AreComplete
 use Rattle.migrator.proofs.Names.{IsUnwritten, IfUnwritten, slot_bytes, Touches}
 use Rattle.migrator.proofs.Mended.{mended_here, mended_elsewhere, elsewhere_within, touches_within, touches_on}
 use Rattle.migrator.proofs.PlacesApart.{home_apart}
-use Rattle.migrator.proofs.Seats.{found_first}
+use Rattle.migrator.proofs.FrameSlots.{found_first}
 use Rattle.migrator.proofs.Spared.{bytes_stay}
 
 -- ---- a cluster is put together

@@ -1,12 +1,12 @@
 -- All that is saved is home, and a header says so.
 use Rattle.migrator.proofs.Names.{◌≡◌, ℕ, ◌+◌, ◌-◌, ◌*◌, ◌%◌, ◌<◌, ◌≤◌, Bool, false, cond, Option, Some, None, List, [], refl, sym, ap, subst, ◌∙◌, inr, arith}
-use Rattle.migrator.proofs.Names.{◌==◌, ne_eqb, Frame, Disk, Extent, CheckpointHeader, IsDirectory, IsHeader, frame_in, seat_in, half_sector, count_of}
-use Rattle.migrator.proofs.Names.{AreSpelt, frames_read, Plan, IsApart, IsInside, half_extent, half_within, within_inside, read_same, spelt_same, seat_entry}
-use Rattle.migrator.proofs.Names.{home_extent, directory_extent, Nowhere, place_at, Books, IsDurable, IsSoundOn, seen_by, stored_on, frozen_generation}
-use Rattle.migrator.proofs.Names.{working_generation, generation_after, Stored, saved_state, stored_in, IsRunning, IsKept, LeavesState, home_header, finished}
-use Rattle.migrator.proofs.Names.{MayAdopt, MaySave, SparesKept, SparesPuts, adopted, SparesFrames, Spares, Unwritten, mended}
+use Rattle.migrator.proofs.Names.{◌==◌, ne_eqb, Frame, Disk, Extent, CheckpointHeader, IsDirectory, IsHeader, frame_in, frame_slot_in, half_sector, count_of}
+use Rattle.migrator.proofs.Names.{AreSpelt, frames_read, Plan, IsApart, IsInside, half_extent, half_within, within_inside, read_same, spelt_same}
+use Rattle.migrator.proofs.Names.{frame_slot_entry, home_extent, directory_extent, Nowhere, place_at, Books, IsDurable, IsSoundOn, seen_by, stored_on}
+use Rattle.migrator.proofs.Names.{frozen_generation, working_generation, generation_after, Stored, saved_state, stored_in, IsRunning, IsKept, LeavesState}
+use Rattle.migrator.proofs.Names.{home_header, finished, MayAdopt, MaySave, SparesKept, SparesPuts, adopted, SparesFrames, Spares, Unwritten, mended}
 use Rattle.migrator.proofs.PlacesApart.{at_home, frame_apart, home_apart}
-use Rattle.migrator.proofs.Seats.{seat_fits}
+use Rattle.migrator.proofs.FrameSlots.{frame_slot_fits}
 use Rattle.migrator.proofs.Putting.{none_spares, half_spares, homes_spare, other_parity}
 use Rattle.migrator.proofs.Committing.{slots_apart_directory, directory_inside}
 use Rattle.migrator.proofs.Moving.{no_checkpoint}
@@ -40,11 +40,11 @@ module _ (disk : Disk) (b : Books) (is : IsDurable disk b) (some : 0 < b.header.
 
   -- an object's home frame is its saved frame
   same_frame : (n : ℕ) → n < count_of b.plan → frame_in disk.seen b.plan b.header.generation [] n ≡ frame_in disk.seen b.plan b.header.generation b.directory n
-  same_frame n lt = by (seat_in b.plan b.directory n) refl where
-    by : (o : Option ℕ) → seat_in b.plan b.directory n ≡ o → frame_in disk.seen b.plan b.header.generation [] n ≡ frame_in disk.seen b.plan b.header.generation b.directory n
+  same_frame n lt = by (frame_slot_in b.plan b.directory n) refl where
+    by : (o : Option ℕ) → frame_slot_in b.plan b.directory n ≡ o → frame_in disk.seen b.plan b.header.generation [] n ≡ frame_in disk.seen b.plan b.header.generation b.directory n
     by None is = at_home disk.seen b.plan b.header.generation [] n refl ∙ sym (at_home disk.seen b.plan b.header.generation b.directory n is)
     by (Some s) is =
-        let entry = seat_entry b.plan b.directory n s is in
+        let entry = frame_slot_entry b.plan b.directory n s is in
         at_home disk.seen b.plan b.header.generation [] n refl ∙ kept.moved entry.index (omega (arith, entry.within, kept.count, all)) n lt (sym entry.home_is)
 
   frames_home : frames_read disk.seen b.plan b.header.generation [] ≡ frames_read disk.seen b.plan b.header.generation b.directory
@@ -61,7 +61,7 @@ module _ (disk : Disk) (b : Books) (is : IsDurable disk b) (some : 0 < b.header.
     headers = (within_inside b.plan.total extent (half_extent b.plan.geometry (half_sector b.plan b.header.generation)) inside_half (half_within b.plan b.header.generation kept.plan)).0;
     directory = inr (inr (omega arith));
     frames = λ n lt. frame_apart b.plan b.header.generation b.directory n extent
-        (λ s is. slots_apart_directory b.plan b.header.generation s 0 n (seat_fits b.plan b.directory n s kept.directory is) (omega arith)) (λ _. spares_homes n lt);
+        (λ s is. slots_apart_directory b.plan b.header.generation s 0 n (frame_slot_fits b.plan b.directory n s kept.directory is) (omega arith)) (λ _. spares_homes n lt);
   }
 
   spares_then : SparesFrames b.plan b.header.generation [] extent

@@ -2,7 +2,7 @@
 use Rattle.migrator.proofs.Names.{◌≡◌, ℕ, ◌+◌, ◌-◌, None, List, length, take, refl, sym, ap, subst, ◌∙◌, arith, replicate, length-replicate, Image, Disk, Only}
 use Rattle.migrator.proofs.Names.{agrees_is, Entry, CheckpointHeader, HasPlan, Encodes, count_of, frames_read, state_in, Plan, denotes, length_read, Place}
 use Rattle.migrator.proofs.Names.{Nowhere, Whole, place_at, taken_count, has_slot, IsTable, Absent, ArePut, Holds, Books, IsDurable, stored_in, saved_state}
-use Rattle.migrator.proofs.Names.{IsKept, IsSoundOn, IsRead, OpensDurable, Looks}
+use Rattle.migrator.proofs.Names.{IsKept, IsSoundOn, IsRead, OpensDurable, OnlyReads}
 use Rattle.migrator.proofs.Tables.{blank_at, blank_table, tally-blank}
 use Rattle.migrator.proofs.Freezing.{puts_blank}
 use Rattle.migrator.proofs.GoingOn.{holds}
@@ -19,13 +19,13 @@ none_put image p generation ps blank = record {
 abbrev pub first_books : Plan → CheckpointHeader → List Entry → List Place → List Place → Books
 first_books p h es fs ws = record { plan = p; header = h; directory = take h.entries es; moved = 0; frozen = fs; size = None; working = ws; unwritten = None }
 
-module _ (old new : Disk) (p : Plan) (h : CheckpointHeader) (es : List Entry) (fs ws : List Place) (looks : Looks old new) (plan : HasPlan old.seen old.sectors p) (read : IsRead old.seen p h es)
+module _ (old new : Disk) (p : Plan) (h : CheckpointHeader) (es : List Entry) (fs ws : List Place) (only_reads : OnlyReads old new) (plan : HasPlan old.seen old.sectors p) (read : IsRead old.seen p h es)
     (frozen : fs ≡ replicate (count_of p) Nowhere) (working : ws ≡ replicate (count_of p) Nowhere) where
   same : old.seen ≡ new.seen
-  same = sym (agrees_is new.seen old.seen looks.seen)
+  same = sym (agrees_is new.seen old.seen only_reads.seen)
 
   plan_new : HasPlan new.seen new.sectors p
-  plan_new = subst (λ (i : Image). HasPlan i new.sectors p) same (subst (λ (k : ℕ). HasPlan old.seen k p) (sym looks.size) plan)
+  plan_new = subst (λ (i : Image). HasPlan i new.sectors p) same (subst (λ (k : ℕ). HasPlan old.seen k p) (sym only_reads.size) plan)
 
   read_new : IsRead new.seen p h es
   read_new = subst (λ (i : Image). IsRead i p h es) same read
@@ -69,16 +69,16 @@ module _ (old new : Disk) (p : Plan) (h : CheckpointHeader) (es : List Entry) (f
   first_durable = record { kept = first_kept; unwritten = tt }
 
 -- so a store is opened
-pub first_opens : {D : Type 0} (disk : D → Disk) (device back : D) (p : Plan) (h : CheckpointHeader) (es : List Entry) (fs ws : List Place) → Looks (disk device) (disk back) → HasPlan (disk device).seen (disk device).sectors p
+pub first_opens : {D : Type 0} (disk : D → Disk) (device back : D) (p : Plan) (h : CheckpointHeader) (es : List Entry) (fs ws : List Place) → OnlyReads (disk device) (disk back) → HasPlan (disk device).seen (disk device).sectors p
     → IsRead (disk device).seen p h es → fs ≡ replicate (count_of p) Nowhere → ws ≡ replicate (count_of p) Nowhere → Only (disk back).seen (disk back) → (disk back).failures ≡ (disk device).failures
     → OpensDurable disk device (record { beneath = back; books = first_books p h es fs ws })
-first_opens disk device back p h es fs ws looks plan read frozen working only failures = record {
-  sound = first_sound (disk device) (disk back) p h es fs ws looks plan read frozen working only;
-  holds = first_holds (disk device) (disk back) p h es fs ws looks plan read frozen working;
-  working = first_working (disk device) (disk back) p h es fs ws looks plan read frozen working;
+first_opens disk device back p h es fs ws only_reads plan read frozen working only failures = record {
+  sound = first_sound (disk device) (disk back) p h es fs ws only_reads plan read frozen working only;
+  holds = first_holds (disk device) (disk back) p h es fs ws only_reads plan read frozen working;
+  working = first_working (disk device) (disk back) p h es fs ws only_reads plan read frozen working;
   frozen = refl;
   to_move = let all : h.entries - 0 ≡ h.entries = omega arith in all;
   durable = only;
-  looks = looks;
+  only_reads = only_reads;
   failures = failures;
 }

@@ -1,9 +1,9 @@
 -- The saved frames of a cluster's nodes are put together.
 use Rattle.migrator.proofs.Names.{◌≡◌, ℕ, ◌+◌, ◌-◌, ◌*◌, ◌<◌, ◌≤◌, Option, Some, Result, Ok, Err, List, ◌++◌, length, take, drop, sym, ap, subst, ◌∙◌, inl, inr}
 use Rattle.migrator.proofs.Names.{arith, ◌↔◌, OnOk, IsErr, cases_lt, drop_at, Image, Disk, Counts, Entry, Shape, Packed, zeros, home_place, place_length}
-use Rattle.migrator.proofs.Names.{shape_of, frame_in, frame_sector, seat_in, sector_or, sectors_from, shaped_at, slot_in, slot_sector, bytes_at, shape_bytes}
-use Rattle.migrator.proofs.Names.{shape_length, Plan, IsPlan, length-zeros, ReadsOnly, WritesAt, IsObject, EndsInZeros, HaveHome, HoldsHome, IsOwn, alone}
-use Rattle.migrator.proofs.Names.{ranked, HasZerosAt, IsGathered, IsCopied, Touches}
+use Rattle.migrator.proofs.Names.{shape_of, frame_in, frame_sector, frame_slot_in, sector_or, sectors_from, shaped_at, slot_in, slot_sector, bytes_at}
+use Rattle.migrator.proofs.Names.{shape_bytes, shape_length, Plan, IsPlan, length-zeros, ReadsOnly, WritesAt, IsObject, EndsInZeros, HaveHome, HoldsHome, IsOwn}
+use Rattle.migrator.proofs.Names.{alone, ranked, HasZerosAt, IsGathered, IsCopied, Touches}
 use Rattle.std.proofs.lemmas.List.{length-append}
 use Rattle.migrator.proofs.Spared.{reads_then}
 use Rattle.migrator.proofs.PlacesApart.{in_slot}
@@ -11,11 +11,11 @@ use Rattle.migrator.proofs.PlacesApart.{in_slot}
 -- ---- one node
 
 -- what was read at the seat of a node is its saved frame
-pub seat_bytes : (image : Image) (p : Plan) (generation : ℕ) (es : List Entry) (n rank at : ℕ) (o : Option ℕ) (node : List ℕ) → shape_of p n ≡ Packed rank → o ≡ seat_in p es n → at ≡ sector_or o (slot_sector p generation) (home_place p n)
+pub frame_slot_bytes : (image : Image) (p : Plan) (generation : ℕ) (es : List Entry) (n rank at : ℕ) (o : Option ℕ) (node : List ℕ) → shape_of p n ≡ Packed rank → o ≡ frame_slot_in p es n → at ≡ sector_or o (slot_sector p generation) (home_place p n)
     → shaped_at image at (Packed rank) ≡ node → node ≡ frame_in image p generation es n
-seat_bytes image p generation es n rank at o node shape seat place read =
-    sym read ∙ ap (λ (sector : ℕ). shaped_at image sector (Packed rank)) (place ∙ ap (λ (q : Option ℕ). sector_or q (slot_sector p generation) (home_place p n)) seat)
-    ∙ ap (shaped_at image (sector_or (seat_in p es n) (slot_sector p generation) (home_place p n))) (sym shape)
+frame_slot_bytes image p generation es n rank at o node shape frame_slot place read =
+    sym read ∙ ap (λ (sector : ℕ). shaped_at image sector (Packed rank)) (place ∙ ap (λ (q : Option ℕ). sector_or q (slot_sector p generation) (home_place p n)) frame_slot)
+    ∙ ap (shaped_at image (sector_or (frame_slot_in p es n) (slot_sector p generation) (home_place p n))) (sym shape)
 
 -- 1024 bytes of a packed frame end in zeros
 pub packed_end : (bytes node : List ℕ) (s : Shape) (rank : ℕ) → s ≡ Packed rank → node ≡ shape_bytes s bytes → length node ≡ 1024 → drop 800 node ≡ zeros 224

@@ -3,15 +3,15 @@ use Rattle.migrator.proofs.Names.{◌≡◌, ◌⊎◌, ℕ, zero, suc, ◌+◌,
 use Rattle.migrator.proofs.Names.{ap, subst, ◌∙◌, inl, inr, arith, ◌==◌, if◌then◌else◌, option_map, cases_lt, cases_eq, le-ltb, get_or_past, get_or_default}
 use Rattle.migrator.proofs.Names.{Cap, Frame, ObjectHeader, Geometry, Content, frame_at, blank_frame, IsKeepable, AreKeptWords, role_of, IsOfKind, Image, Disk}
 use Rattle.migrator.proofs.Names.{LeavesOnly, leaves_weaker, leaves_on, Entry, Extent, Half, First, Second, IsDirectory, IsEntry, entry_at, IsFrameOf}
-use Rattle.migrator.proofs.Names.{page_frame_bytes, node_frame_bytes, frame_from, half_of, IsHeader, frame_in, seat_in, slot_sector, half_sector, sectors_from}
-use Rattle.migrator.proofs.Names.{shaped_at, bytes_at, count_of, frame_read, frames_read, IsSpelt, AreSpelt, Plan, IsPlan, IsInside, half_extent, half_start}
-use Rattle.migrator.proofs.Names.{slot_here, slot_behind, length_read, read_at, spelt_same, spelt_at, bytes_spelt, Shape, home_place, shape_of, IsShapeFor}
-use Rattle.migrator.proofs.Names.{page_bytes, WritesAt, slot_extent, directory_extent, slots_inside, Place, Nowhere, Torn, Whole, place_at, Put, Kept}
-use Rattle.migrator.proofs.Names.{slot_bytes, put_of, puts_in, ArePut, most, SavedFrames, Holds, LeavesSaved, LeavesEither, replaced_saved, with_words}
+use Rattle.migrator.proofs.Names.{page_frame_bytes, node_frame_bytes, frame_from, half_of, IsHeader, frame_in, frame_slot_in, slot_sector, half_sector}
+use Rattle.migrator.proofs.Names.{sectors_from, shaped_at, bytes_at, count_of, frame_read, frames_read, IsSpelt, AreSpelt, Plan, IsPlan, IsInside, half_extent}
+use Rattle.migrator.proofs.Names.{half_start, slot_here, slot_behind, length_read, read_at, spelt_same, spelt_at, bytes_spelt, Shape, home_place, shape_of}
+use Rattle.migrator.proofs.Names.{IsShapeFor, page_bytes, WritesAt, slot_extent, directory_extent, slots_inside, Place, Nowhere, Torn, Whole, place_at, Put}
+use Rattle.migrator.proofs.Names.{Kept, slot_bytes, put_of, puts_in, ArePut, most, SavedFrames, Holds, LeavesSaved, LeavesEither, replaced_saved, with_words}
 use Rattle.migrator.proofs.Names.{journaled_saved, Books, IsDurable, IsSoundOn, frozen_generation, working_generation, generation_after, FrozenPuts, Stored}
 use Rattle.migrator.proofs.Names.{saved_state, frozen_of, stored_in, stored_on, IsRunning, IsKept, LeavesState, replaced, replaced_header, stored_after_journal}
-use Rattle.migrator.proofs.Names.{first_bytes, first_frame, beside_seat, alone, IsHeaderOf, MayAdopt, MaySave, SparesKept, adopted, SparesFrames, maps_same}
-use Rattle.migrator.proofs.Names.{Unwritten, mended}
+use Rattle.migrator.proofs.Names.{first_bytes, first_frame, beside_frame_slot, alone, IsHeaderOf, MayAdopt, MaySave, SparesKept, adopted, SparesFrames}
+use Rattle.migrator.proofs.Names.{maps_same, Unwritten, mended}
 use Rattle.model.specs.declared.object.Content.TheVariants as content
 use Rattle.model.specs.declared.object.Role.TheVariants as role
 use Rattle.migrator.proofs.Spared.{touches}
@@ -19,7 +19,7 @@ use Rattle.migrator.proofs.Kept.{map_set, stored_stays, kept_on}
 use Rattle.migrator.proofs.GoingOn.{GoesOnSeen, goes_spared}
 use Rattle.migrator.proofs.Later.{keepable_later}
 use Rattle.migrator.proofs.PlacesApart.{in_slot, at_home, frame_apart, home_apart, spares_log}
-use Rattle.migrator.proofs.Seats.{none_beside, page_own, no_entries, seat_fits}
+use Rattle.migrator.proofs.FrameSlots.{none_beside, page_own, no_entries, frame_slot_fits}
 use Rattle.migrator.proofs.Putting.{other_parity, half_spares, none_spares, homes_spare}
 use Rattle.migrator.proofs.Committing.{one_more, slots_apart_directory, directory_inside}
 use Rattle.migrator.proofs.Adopting.{with_header, idle_books, kept_raw, may_adopt_idle, sound_raw}
@@ -87,7 +87,7 @@ page_spelt p age n image at f le is written =
 -- ---- where all that is saved is home
 
 module _ (size : ℕ) (image : Image) (b : Books) (kept : IsKept size image b) (home : b.header.entries ≡ 0) where
-  none_saved : (n : ℕ) → seat_in b.plan b.directory n ≡ None
+  none_saved : (n : ℕ) → frame_slot_in b.plan b.directory n ≡ None
   none_saved n = no_entries b.plan b.directory n (kept.count ∙ home)
 
   -- the saved frame of an object lies at home
@@ -248,7 +248,7 @@ module _ (disk : Disk) (b : Books) (is : IsDurable disk b) (free : b.size ≡ No
 
   frame_there : (m : ℕ) → m < count_of b.plan → (n ≡ m → ⊥) → frame_in disk.seen b.plan again (one_entry n) m ≡ frame_in disk.seen b.plan b.header.generation b.directory m
   frame_there m within other =
-      at_home disk.seen b.plan again (one_entry n) m (beside_seat b.plan (one_entry n) m (slot_behind entry [] m other) ∙ none_beside b.plan (one_entry n) m (λ i few same. other (one_page i few m within same)))
+      at_home disk.seen b.plan again (one_entry n) m (beside_frame_slot b.plan (one_entry n) m (slot_behind entry [] m other) ∙ none_beside b.plan (one_entry n) m (λ i few same. other (one_page i few m within same)))
       ∙ sym (lies_home disk.sectors disk.seen b kept home m)
 
   frames_next : frames_read disk.seen b.plan again (one_entry n) ≡ set (frames_read disk.seen b.plan b.header.generation b.directory) n (first_frame disk.seen b n)
@@ -274,7 +274,7 @@ module _ (disk : Disk) (b : Books) (is : IsDurable disk b) (free : b.size ≡ No
 
   spares_then : SparesFrames b.plan again (one_entry n) extent
   spares_then m within =
-      frame_apart b.plan again (one_entry n) m extent (λ s is. slots_apart_directory b.plan again s 1 m (seat_fits b.plan (one_entry n) m s directory_next is) some)
+      frame_apart b.plan again (one_entry n) m extent (λ s is. slots_apart_directory b.plan again s 1 m (frame_slot_fits b.plan (one_entry n) m s directory_next is) some)
       (λ _. home_apart b.plan again m extent kept.plan within inside_half)
 
   may_save : LeavesState disk (saved_state disk.seen b) → MaySave disk b.plan b.header b.directory (replaced_header age b) (one_entry n)

@@ -2,7 +2,7 @@ mod Names
 pub mod Tables
 mod Spared
 pub mod Kept
-mod Seats
+mod FrameSlots
 mod PlacesApart
 mod Gathering
 mod Mended

@@ -1,6 +1,6 @@
 -- The names that the proofs here cite: of other crates, and of the definitions of this one.
 pub use Rattle.checkpoint.proofs.Lists.{maps_same}
-pub use Rattle.checkpoint.specs.Opened.{IsBadFor, Looks}
+pub use Rattle.checkpoint.specs.Opened.{IsBadFor, OnlyReads}
 pub use Rattle.checkpoint.specs.Saved.{Holds, LeavesEither, LeavesSaved, SavedFrames, home_saved, journaled_saved, kept_of, most, replaced_saved, with_words}
 pub use Rattle.checkpoint.specs.declared.open_fault.OpenFault.{OpenFault}
 pub use Rattle.ckpt_log.proofs.BesideHeaders.{next_follows}
@@ -22,8 +22,8 @@ pub use Rattle.frame_io.specs.Calls.{ReadsOnly, WritesAt}
 pub use Rattle.frame_io.specs.Fault.{CountsFailed}
 pub use Rattle.frame_io.specs.Frames.{IsHeaderAt, IsObject, IsRefused}
 pub use Rattle.frame_io.specs.declared.fault.ReadFault.{ReadFault}
+pub use Rattle.home_ranges.proofs.FrameSlots.{beside_behind, beside_frame_slot, beside_here, frame_slot_entry, own_frame_slot, same_some}
 pub use Rattle.home_ranges.proofs.Places.{IsOwn, alone, lt_false, lt_true, one_length, places_apart, places_spare_log, places_within, ranked, zeros_home}
-pub use Rattle.home_ranges.proofs.Seats.{beside_behind, beside_here, beside_seat, own_seat, same_some, seat_entry}
 pub use Rattle.home_ranges.proofs.Shared.{begins, home_between, own_of}
 pub use Rattle.home_ranges.specs.Home.{EndsInZeros, HaveHome, HoldsHome}
 pub use Rattle.home_ranges.specs.Laws.{home_extent}
@@ -35,7 +35,7 @@ pub use Rattle.layout.proofs.Sectors.{whole_sectors}
 pub use Rattle.layout.proofs.Shapes.{page_bytes, same_shaped}
 pub use Rattle.layout.proofs.SlotsOf.{found_slot, no_slot, own_slot, rising_to, slot_behind, slot_here, two_objects}
 pub use Rattle.layout.proofs.Spelling.{bytes_spelt, denotes, length_read, read_at, read_same, spelt_at, spelt_read, spelt_same}
-pub use Rattle.layout.proofs.Totals.{total_told}
+pub use Rattle.layout.proofs.Totals.{total_reported}
 unfoldable pub use Rattle.layout.specs.Bytes.{zeros}
 pub use Rattle.layout.specs.Directory.{AreRising, IsDirectory, IsEntry, entry_at}
 unfoldable pub use Rattle.layout.specs.Directory.{directory_bytes}
@@ -46,8 +46,8 @@ pub use Rattle.layout.specs.Half.{half_of}
 pub use Rattle.layout.specs.Header.{IsHeader}
 pub use Rattle.layout.specs.Homes.{home_place, place_length, range_with, rank_in, shape_of}
 pub use Rattle.layout.specs.Image.{Encodes, HasDirectory, HasHeader, HasPlan, IsBadBy, IsTooSmall, SavedState, bytes_at, directory_in, directory_length}
-pub use Rattle.layout.specs.Image.{directory_sector, frame_in, frame_sector, half_sector, seat_in, sector_or, shaped_at, slot_beside, slot_in, slot_sector}
-pub use Rattle.layout.specs.Image.{total_in}
+pub use Rattle.layout.specs.Image.{directory_sector, frame_in, frame_sector, frame_slot_in, half_sector, sector_or, shaped_at, slot_beside, slot_in}
+pub use Rattle.layout.specs.Image.{slot_sector, total_in}
 unfoldable pub use Rattle.layout.specs.Image.{sectors_from}
 pub use Rattle.layout.specs.Shape.{IsShapeFor, node_shape, shape_bytes, shape_length}
 pub use Rattle.layout.specs.Spelt.{AreSpelt, IsSpelt, count_of, frame_read, state_in}
@@ -99,7 +99,7 @@ pub use Rattle.migrator.specs.Gathered.{HasZerosAt, IsCopied, IsFirst, IsGathere
 pub use Rattle.migrator.specs.Headers.{IsHeaderOf}
 pub use Rattle.migrator.specs.Mended.{IfUnwritten, IsSpeltIn, IsUnwritten, Unwritten, mended, unwritten_of}
 pub use Rattle.migrator.specs.Opened.{HasNoPlan, IsBadAt, IsRead, IsUnplanned, OpensDurable}
-pub use Rattle.migrator.specs.Put.{Absent, ArePut, Broken, HasRoom, Kept, Put, held_slot, kept_count, kept_frame, put_at, put_of, put_or, slot_bytes}
+pub use Rattle.migrator.specs.Put.{Absent, ArePut, Broken, HasFreeSlot, Kept, Put, held_slot, kept_count, kept_frame, put_at, put_of, put_or, slot_bytes}
 pub use Rattle.migrator.specs.Put.{slot_frame}
 unfoldable pub use Rattle.migrator.specs.Put.{overlaid, puts_in, sum_of}
 pub use Rattle.migrator.specs.Saving.{MayAdopt, MaySave, SavesOnly, SparesKept, SparesPuts, adopted}

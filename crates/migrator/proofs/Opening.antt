@@ -1,7 +1,7 @@
 -- What is read of a device as it is opened.
 use Rattle.migrator.proofs.Names.{◌≡◌, Result, Ok, Err, ℕ, ◌+◌, ◌<◌, ◌≤◌, Some, None, List, length, sym, ap, subst, ◌∙◌, append-nil, inl, inr, ⊎_elim, arith}
 use Rattle.migrator.proofs.Names.{IfErr, cases_lt, Image, Agrees, BadImage, Entry, entry_at, AreRising, HasPlan, IsBadBy, IsTooSmall, total_in, sectors_from}
-use Rattle.migrator.proofs.Names.{slot_in, Plan, IsPlan, superblock_bytes, own_slot, rising_to, no_slot, total_told, OpenFault, IsBadFor, HasNoPlan}
+use Rattle.migrator.proofs.Names.{slot_in, Plan, IsPlan, superblock_bytes, own_slot, rising_to, no_slot, total_reported, OpenFault, IsBadFor, HasNoPlan}
 use Rattle.migrator.proofs.Names.{IsUnplanned}
 use Rattle.layout.specs.Superblock.{IsRefused}
 use Rattle.layout.specs.declared.bad_image.BadImage.TheVariants as bad
@@ -62,7 +62,7 @@ refused_plan (Err why) image size none = unplanned image size why none
 pub plan_read : (image : Image) (size : ℕ) (bytes : List ℕ) (p : Plan) → image 0 ≡ bytes → 5 ≤ size → total_in bytes ≤ size → bytes ≡ superblock_bytes p → IsPlan p → HasPlan image size p
 plan_read image size bytes p is least whole spelt fits = record {
   least = least;
-  whole = let total = ap total_in spelt ∙ total_told p fits in omega (arith, whole, total);
+  whole = let total = ap total_in spelt ∙ total_reported p fits in omega (arith, whole, total);
   fits = fits;
   spelt = is ∙ spelt;
 }

@@ -1,38 +1,38 @@
 -- Places of frames that lie apart.
 use Rattle.migrator.proofs.Names.{◌≡◌, ℕ, ◌%◌, ◌<◌, ◌≤◌, Option, Some, None, List, length, refl, sym, ap, subst, ◌∙◌, inl, inr, arith, Image, Entry, Extent}
-use Rattle.migrator.proofs.Names.{CheckpointHeader, IsDirectory, home_place, place_length, bytes_at, frame_in, seat_in, slot_in, slot_sector, half_sector}
+use Rattle.migrator.proofs.Names.{CheckpointHeader, IsDirectory, home_place, place_length, bytes_at, frame_in, frame_slot_in, slot_in, slot_sector, half_sector}
 use Rattle.migrator.proofs.Names.{sector_or, count_of, Plan, IsPlan, IsApart, IsInside, half_extent, itself, apart_inside, apart_turned, within_inside}
-use Rattle.migrator.proofs.Names.{own_seat, home_extent, places_within, places_apart, places_spare_log, place_extent, directory_extent, slots_inside}
+use Rattle.migrator.proofs.Names.{own_frame_slot, home_extent, places_within, places_apart, places_spare_log, place_extent, directory_extent, slots_inside}
 use Rattle.migrator.proofs.Names.{frames_in_slots, directories_inside, halves_within, halves_apart, HomesAreBehind, slot_bytes, frame_extent, Spares}
-use Rattle.migrator.proofs.Seats.{no_entries, seats_differ, seat_fits}
+use Rattle.migrator.proofs.FrameSlots.{no_entries, frame_slots_differ, frame_slot_fits}
 
 -- ---- where the frame of an object is read
 
-pub in_seat : (image : Image) (p : Plan) (generation : ℕ) (es : List Entry) (n s : ℕ) → seat_in p es n ≡ Some s → frame_in image p generation es n ≡ slot_bytes image p generation s n
-in_seat image p generation es n s is =
+pub in_frame_slot : (image : Image) (p : Plan) (generation : ℕ) (es : List Entry) (n s : ℕ) → frame_slot_in p es n ≡ Some s → frame_in image p generation es n ≡ slot_bytes image p generation s n
+in_frame_slot image p generation es n s is =
     ap (λ (o : Option ℕ). bytes_at image (sector_or o (slot_sector p generation) (home_place p n)) p n) is
 
 pub in_slot : (image : Image) (p : Plan) (generation : ℕ) (es : List Entry) (n s : ℕ) → slot_in es n ≡ Some s → frame_in image p generation es n ≡ slot_bytes image p generation s n
-in_slot image p generation es n s is = in_seat image p generation es n s (own_seat p es n s is)
+in_slot image p generation es n s is = in_frame_slot image p generation es n s (own_frame_slot p es n s is)
 
-pub at_home : (image : Image) (p : Plan) (generation : ℕ) (es : List Entry) (n : ℕ) → seat_in p es n ≡ None → frame_in image p generation es n ≡ bytes_at image (home_place p n) p n
+pub at_home : (image : Image) (p : Plan) (generation : ℕ) (es : List Entry) (n : ℕ) → frame_slot_in p es n ≡ None → frame_in image p generation es n ≡ bytes_at image (home_place p n) p n
 at_home image p generation es n is =
     ap (λ (o : Option ℕ). bytes_at image (sector_or o (slot_sector p generation) (home_place p n)) p n) is
 
 abbrev extent_of : ℕ → ℕ → Extent
 extent_of sector length = record { sector = sector; length = length }
 
-apart_by : (o : Option ℕ) (p : Plan) (generation : ℕ) (es : List Entry) (n : ℕ) (e : Extent) → seat_in p es n ≡ o → ((s : ℕ) → seat_in p es n ≡ Some s → IsApart (place_extent p generation s n) e)
-    → (seat_in p es n ≡ None → IsApart (home_extent p n) e) → IsApart (frame_extent p generation es n) e
+apart_by : (o : Option ℕ) (p : Plan) (generation : ℕ) (es : List Entry) (n : ℕ) (e : Extent) → frame_slot_in p es n ≡ o → ((s : ℕ) → frame_slot_in p es n ≡ Some s → IsApart (place_extent p generation s n) e)
+    → (frame_slot_in p es n ≡ None → IsApart (home_extent p n) e) → IsApart (frame_extent p generation es n) e
 apart_by None p generation es n e is slot home =
     subst (λ (o : Option ℕ). IsApart (extent_of (sector_or o (slot_sector p generation) (home_place p n)) (place_length p n)) e) (sym is) (home is)
 apart_by (Some s) p generation es n e is slot home =
     subst (λ (o : Option ℕ). IsApart (extent_of (sector_or o (slot_sector p generation) (home_place p n)) (place_length p n)) e) (sym is) (slot s is)
 
 -- the frame of an object lies apart where both of its places do
-pub frame_apart : (p : Plan) (generation : ℕ) (es : List Entry) (n : ℕ) (e : Extent) → ((s : ℕ) → seat_in p es n ≡ Some s → IsApart (place_extent p generation s n) e)
-    → (seat_in p es n ≡ None → IsApart (home_extent p n) e) → IsApart (frame_extent p generation es n) e
-frame_apart p generation es n e slot home = apart_by (seat_in p es n) p generation es n e refl slot home
+pub frame_apart : (p : Plan) (generation : ℕ) (es : List Entry) (n : ℕ) (e : Extent) → ((s : ℕ) → frame_slot_in p es n ≡ Some s → IsApart (place_extent p generation s n) e)
+    → (frame_slot_in p es n ≡ None → IsApart (home_extent p n) e) → IsApart (frame_extent p generation es n) e
+frame_apart p generation es n e slot home = apart_by (frame_slot_in p es n) p generation es n e refl slot home
 
 -- ---- halves and homes
 
@@ -58,7 +58,7 @@ spares_other p h es generation e fits is few differ inside = record {
   headers = (within_inside p.total e (half_extent p.geometry (half_sector p generation)) inside (halves_within p generation fits)).0;
   directory = inr (apart_inside (directory_extent p h.generation h.entries) e (half_extent p.geometry (half_sector p h.generation)) (half_extent p.geometry (half_sector p generation))
       (directories_inside p h.generation h.entries few) inside (halves_apart p h.generation generation fits differ));
-  frames = λ n lt. frame_apart p h.generation es n e (λ s slot. other_half p h.generation generation s n e fits differ (seat_fits p es n s is slot) inside) (λ _. home_apart p generation n e fits lt inside);
+  frames = λ n lt. frame_apart p h.generation es n e (λ s slot. other_half p h.generation generation s n e fits differ (frame_slot_fits p es n s is slot) inside) (λ _. home_apart p generation n e fits lt inside);
 }
 
 -- and from both halves where all of it is home
@@ -78,8 +78,8 @@ spares_home p h es m t fits is few within has = record {
       (directories_inside p h.generation h.entries few) (itself (home_extent p m))
       (apart_turned (home_extent p m) (half_extent p.geometry (half_sector p h.generation)) (places_spare_log p m h.generation fits within)));
   frames = λ n lt. frame_apart p h.generation es n (home_extent p m)
-      (λ s slot. place_home p h.generation s n m fits (seat_fits p es n s is slot) within)
-      (λ none. places_apart p n m fits lt within (λ same. seats_differ p es n m t has none same));
+      (λ s slot. place_home p h.generation s n m fits (frame_slot_fits p es n s is slot) within)
+      (λ none. places_apart p n m fits lt within (λ same. frame_slots_differ p es n m t has none same));
 } where
   place_home : (p : Plan) (generation s n m : ℕ) → IsPlan p → s < p.geometry.log → m < count_of p → IsApart (place_extent p generation s n) (home_extent p m)
   place_home p generation s n m fits lt within = apart_turned (home_extent p m) (place_extent p generation s n) (home_apart p generation m (place_extent p generation s n) fits within (place_inside p generation s n lt))

@@ -2,7 +2,7 @@
 use Rattle.migrator.proofs.Names.{◌≡◌, ◌⊎◌, ◌∙◌, ℕ, ◌+◌, ◌<◌, ◌≤◌, Option, Some, None, Result, List, set, refl, ap, subst, arith, OnOk, OnErr, Frame}
 use Rattle.migrator.proofs.Names.{IsKeepable, Image, Disk, Failed, frame_bytes, place_length, slot_sector, count_of, WritesAt, most, Keeps, Books, Place, Torn}
 use Rattle.migrator.proofs.Names.{Whole, GoesOnDisk, IsDurable, IsRunning, frozen_generation, seen_by, stored_on, with_frozen, with_working, working_generation}
-use Rattle.migrator.proofs.Names.{Unwritten, mended, Broken, HasRoom, Kept, puts_in, slot_bytes, Touches, entries_of, slot_for}
+use Rattle.migrator.proofs.Names.{Unwritten, mended, Broken, HasFreeSlot, Kept, puts_in, slot_bytes, Touches, entries_of, slot_for}
 use Rattle.migrator.proofs.Buffered.{entry_of, held_after, held_working, without, working_again}
 use Rattle.migrator.proofs.Committing.{frozen_fits}
 use Rattle.migrator.proofs.Completed.{goes_after, kept_with, mid_kept, stored_after}
@@ -16,7 +16,7 @@ use Rattle.migrator.proofs.Working as working
 
 -- ---- among those put since
 
-module _ (old new : Disk) (b : Books) (n : ℕ) (f : Frame) (is : IsDurable old b) (lt : n < count_of b.plan) (has : HasRoom b.plan.geometry.log (stored_on old b).working n) where
+module _ (old new : Disk) (b : Books) (n : ℕ) (f : Frame) (is : IsDurable old b) (lt : n < count_of b.plan) (has : HasFreeSlot b.plan.geometry.log (stored_on old b).working n) where
   pub working_room : slot_for b.working n < b.plan.geometry.log
   working_room = slot_room (seen_by old.seen b) b.plan (working_generation b) b.plan.geometry.log b.working n is.kept.working.count lt is.kept.working.table is.kept.working.few has
 
@@ -38,7 +38,7 @@ module _ (old new : Disk) (b : Books) (n : ℕ) (f : Frame) (is : IsDurable old 
 
 -- ---- for the checkpoint on its way
 
-module _ (old : Disk) (b : Books) (n k : ℕ) (is : IsDurable old b) (size : b.size ≡ Some k) (lt : n < count_of b.plan) (has : HasRoom k (puts_in (seen_by old.seen b) b.plan (frozen_generation b) b.frozen) n) where
+module _ (old : Disk) (b : Books) (n k : ℕ) (is : IsDurable old b) (size : b.size ≡ Some k) (lt : n < count_of b.plan) (has : HasFreeSlot k (puts_in (seen_by old.seen b) b.plan (frozen_generation b) b.frozen) n) where
   was : IsRunning b (Some k)
   was = subst (IsRunning b) size is.kept.running
 

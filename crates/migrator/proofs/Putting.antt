@@ -4,7 +4,7 @@ use Rattle.migrator.proofs.Names.{inl, inr, ⊎_elim, arith, map, range_with_len
 use Rattle.migrator.proofs.Names.{get_or-map-range_with_len, Frame, Image, Extent, IsFrameOf, half_sector, count_of, entry_at, Plan, IsPlan, IsApart, IsInside}
 use Rattle.migrator.proofs.Names.{half_extent, apart_inside, home_extent, slot_extent, place_extent, frames_in_slots, slots_apart, Place, Nowhere, Torn, Whole}
 use Rattle.migrator.proofs.Names.{place_at, slot_of, has_slot, has_frame, tally, taken_count, whole_count, slot_or, slot_for, IsTable, Put, Absent, Kept}
-use Rattle.migrator.proofs.Names.{put_at, kept_frame, held_slot, sum_of, kept_count, HasRoom, slot_bytes, slot_frame, put_of, puts_in, ArePut, most, Books}
+use Rattle.migrator.proofs.Names.{put_at, kept_frame, held_slot, sum_of, kept_count, HasFreeSlot, slot_bytes, slot_frame, put_of, puts_in, ArePut, most, Books}
 use Rattle.migrator.proofs.Names.{frozen_generation, generation_after, IsRunning, IsKept, Spares, SparesPuts}
 use Rattle.migrator.proofs.Tables.{tally-set, table_set, set_here, set_there}
 use Rattle.migrator.proofs.Kept.{map_set}
@@ -71,7 +71,7 @@ room_by image p generation room n (Torn s) taken few in' has = let lt = in' s re
 room_by image p generation room n (Whole s) taken few in' has = let lt = in' s refl in omega (arith, lt, few)
 
 -- the slot of an object is one of so many
-pub slot_room : (image : Image) (p : Plan) (generation room : ℕ) (ps : List Place) (n : ℕ) → length ps ≡ count_of p → n < count_of p → IsTable ps → taken_count ps ≤ room → HasRoom room (puts_in image p generation ps) n → slot_for ps n < room
+pub slot_room : (image : Image) (p : Plan) (generation room : ℕ) (ps : List Place) (n : ℕ) → length ps ≡ count_of p → n < count_of p → IsTable ps → taken_count ps ≤ room → HasFreeSlot room (puts_in image p generation ps) n → slot_for ps n < room
 slot_room image p generation room ps n size lt table few has =
     room_by image p generation room n (place_at ps n) (taken_count ps) few (λ s is. table.few n s is)
     (⊎_elim (λ other. inl (λ none. other (put_is image p generation ps n lt ∙ none))) (λ less. inr (omega (arith, less, held_taken image p generation ps size))) has)

@@ -1,5 +1,5 @@
 -- The names of other crates that the definitions here cite.
-pub use Rattle.checkpoint.specs.Opened.{Looks}
+pub use Rattle.checkpoint.specs.Opened.{OnlyReads}
 pub use Rattle.checkpoint.specs.Saved.{Holds, LeavesSaved, SavedFrames, home_saved, kept_of, most, replaced_saved, with_words}
 pub use Rattle.checkpoint.specs.declared.open_fault.OpenFault.{OpenFault}
 pub use Rattle.ckpt_log.specs.Commit.{header_sector}

@@ -1,6 +1,6 @@
 -- The results of opening a device.
 use Rattle.migrator.specs.Names.{◌≡◌, ℕ, None, List, length, take, replicate, ⊤, Frame, Entry, CheckpointHeader, BadImage, BadFrame, IsFrameOf, AreSpelt, Plan}
-use Rattle.migrator.specs.Names.{OpenFault, Image, Disk, Only, IsBadBy, HasHeader, HasDirectory, frame_in, ReadFault, Holds, Looks}
+use Rattle.migrator.specs.Names.{OpenFault, Image, Disk, Only, IsBadBy, HasHeader, HasDirectory, frame_in, ReadFault, Holds, OnlyReads}
 use Rattle.layout.specs.declared.bad_image.BadImage.TheVariants as bad
 use Rattle.checkpoint.specs.declared.open_fault.OpenFault.TheVariants as refusal
 use Rattle.frame_io.specs.declared.fault.ReadFault.TheVariants as fault
@@ -45,5 +45,5 @@ pub record OpensDurable {D : Type 0} (disk : D → Disk) (device : D) (s : Durab
   pub frozen : (stored_of disk s).frozen ≡ None
   pub to_move : (stored_of disk s).to_move ≡ (stored_of disk s).saved.entries
   pub durable : Only (disk s.beneath).seen (disk s.beneath)
-  pub looks : Looks (disk device) (disk s.beneath)
+  pub only_reads : OnlyReads (disk device) (disk s.beneath)
   pub failures : (disk s.beneath).failures ≡ (disk device).failures

@@ -34,8 +34,8 @@ abbrev pub kept_count : List Put → ℕ
 kept_count puts = sum_of kept_frame puts
 
 -- an object has a slot, or fewer than `room` objects have one
-abbrev pub HasRoom : ℕ → List Put → ℕ → Type 0
-HasRoom room puts n = (put_at puts n ≢ Absent) ⊎ (sum_of held_slot puts < room)
+abbrev pub HasFreeSlot : ℕ → List Put → ℕ → Type 0
+HasFreeSlot room puts n = (put_at puts n ≢ Absent) ⊎ (sum_of held_slot puts < room)
 
 -- the frame that was put, or else another
 abbrev pub put_or : Put → Frame → Frame

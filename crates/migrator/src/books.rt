@@ -12,7 +12,7 @@ ghost use Rattle.frame_io.specs.Clusters.{HasZerosBeside};
 ghost use Rattle.frame_io.specs.Frames.{IsObject};
 ghost use Rattle.checkpoint.specs.Saved.{most};
 ghost use Rattle.migrator.specs.Durable.{GoesOnDisk, IsDurable, IsKept, frozen_generation, left_of, seen_by, stored_in, stored_on, with_frozen, with_working, working_generation};
-ghost use Rattle.migrator.specs.Put.{Broken, HasRoom, Kept, puts_in, slot_bytes};
+ghost use Rattle.migrator.specs.Put.{Broken, HasFreeSlot, Kept, puts_in, slot_bytes};
 ghost use Rattle.migrator.specs.Table.{slot_for};
 
 mod access;
@@ -110,7 +110,7 @@ impl Books {
         requires object { IsObject self.old.plan.geometry number }
         requires keepable { IsKeepable self.old.plan.geometry most number
             (record { header = header; content = content.now }) }
-        requires room { HasRoom self.old.plan.geometry.log
+        requires room { HasFreeSlot self.old.plan.geometry.log
             (stored_on (D.disk device.old) self.old).working number }
         ensures stands { IsDurable (D.disk device.new) self.new }
         ensures put { OnOk result (stored_on (D.disk device.new) self.new
@@ -139,7 +139,7 @@ impl Books {
         requires stands { IsDurable (D.disk device.old) self.old }
         requires running { self.old.size ≡ Some size }
         requires object { IsObject self.old.plan.geometry number }
-        requires room { HasRoom size (puts_in (seen_by (D.disk device.old).seen self.old) self.old.plan
+        requires room { HasFreeSlot size (puts_in (seen_by (D.disk device.old).seen self.old) self.old.plan
             (frozen_generation self.old) self.old.frozen) number }
         ensures stands { IsDurable (D.disk device.new) self.new }
         ensures torn { stored_on (D.disk device.new) self.new
@@ -169,7 +169,7 @@ impl Books {
         requires object { IsObject self.old.plan.geometry number }
         requires keepable { IsKeepable self.old.plan.geometry most number
             (record { header = header; content = content.now }) }
-        requires room { HasRoom size (puts_in (seen_by (D.disk device.old).seen self.old) self.old.plan
+        requires room { HasFreeSlot size (puts_in (seen_by (D.disk device.old).seen self.old) self.old.plan
             (frozen_generation self.old) self.old.frozen) number }
         ensures stands { IsDurable (D.disk device.new) self.new }
         ensures put { OnOk result (stored_on (D.disk device.new) self.new
@@ -207,7 +207,7 @@ impl Books {
         requires object { IsObject self.old.plan.geometry number }
         requires keepable { IsKeepable self.old.plan.geometry most number
             (record { header = header; content = content.now }) }
-        requires room { HasRoom size (puts_in (seen_by (D.disk device.old).seen self.old) self.old.plan
+        requires room { HasFreeSlot size (puts_in (seen_by (D.disk device.old).seen self.old) self.old.plan
             (frozen_generation self.old) self.old.frozen) number }
         ensures stands { IsDurable (D.disk device.new) self.new }
         ensures put { OnOk result (stored_on (D.disk device.new) self.new

@@ -23,8 +23,8 @@ use device::{Device, Failed};
 use frame_io::read_packed;
 use home_ranges::Home;
 use layout::{
-    Body, CLUSTER_BYTES, Entry, NODE_FRAME_BYTES, Room, Shape, Superblock, decode_frame, pack_node,
-    unpack_node,
+    Body, CLUSTER_BYTES, Entry, NODE_FRAME_BYTES, Scratch, Shape, Superblock, decode_frame,
+    pack_node, unpack_node,
 };
 use model::{Geometry, ObjectHeader};
 use std::alloc::{AllocError, Global};
@@ -146,11 +146,11 @@ impl ClusterBuffer {
         shape: Shape,
         geometry: Geometry,
         number: u64,
-        room: &mut Room,
+        scratch: &mut Scratch,
     ) -> (ObjectHeader, Body)
         requires spelt { (u : Unwritten) × (self.now ≡ Some u)
             × IsSpeltIn u shape geometry number }
-        ensures { (u : Unwritten) → self.now ≡ Some u → frame_of result room.new
+        ensures { (u : Unwritten) → self.now ≡ Some u → frame_of result scratch.new
             ≡ frame_from geometry number (shape_bytes shape u.bytes) }
     {
         let Shape::Packed(rank) = shape else {
@@ -158,7 +158,7 @@ impl ClusterBuffer {
         };
         let mut node = [0; NODE_FRAME_BYTES];
         unpack_node(&self.bytes, rank as usize, &mut node);
-        match decode_frame(&node, geometry, number, u64::MAX, room) {
+        match decode_frame(&node, geometry, number, u64::MAX, scratch) {
             Ok(read) => read,
             Err(_) => unreachable!(),
         }

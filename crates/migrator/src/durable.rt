@@ -3,7 +3,7 @@ ghost use Rattle.std.specs.Prelude.{◌≡◌, ◌⊎◌, ◌≤◌, Some, OnOk,
 ghost use Rattle.model.specs.Keepable.{IsKeepable};
 ghost use Rattle.device.specs.Calls.{Counts};
 ghost use Rattle.frame_io.specs.Frames.{IsObject};
-ghost use Rattle.migrator.specs.Put.{Broken, Kept, held_slot, sum_of, HasRoom};
+ghost use Rattle.migrator.specs.Put.{Broken, Kept, held_slot, sum_of, HasFreeSlot};
 ghost use Rattle.checkpoint.specs.Saved.{most, LeavesOneOf};
 ghost use Rattle.migrator.specs.Durable.{FrozenPuts, left_of, stored_of, is_sound, next_saved, stored_after_commit, MayCommit, with_working, with_frozen, freezing, GoesOn};
 ghost use Rattle.checkpoint.specs.Refused.{IsPutAnswer, IsFreezeAnswer, IsCommitAnswer, IsRefused};
@@ -56,7 +56,7 @@ impl<D: Device> Durable<D> {
         requires object { IsObject self.old.books.plan.geometry number }
         requires keepable { IsKeepable self.old.books.plan.geometry most number
             (record { header = header; content = content.now }) }
-        requires room { HasRoom self.old.books.plan.geometry.log
+        requires room { HasFreeSlot self.old.books.plan.geometry.log
             (stored_of D.disk self.old).working number }
         ensures put { OnOk result (stored_of D.disk self.new
             ≡ with_working number (Kept (record { header = header; content = content.now }))
@@ -84,7 +84,7 @@ impl<D: Device> Durable<D> {
         requires keepable { IsKeepable self.old.books.plan.geometry most number
             (record { header = header; content = content.now }) }
         requires room { (f : FrozenPuts) → (stored_of D.disk self.old).frozen ≡ Some f
-            → HasRoom f.size f.put number }
+            → HasFreeSlot f.size f.put number }
         ensures put { OnOk result (stored_of D.disk self.new
             ≡ with_frozen number (Kept (record { header = header; content = content.now }))
             (stored_of D.disk self.old)) }

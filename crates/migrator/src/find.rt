@@ -1,7 +1,7 @@
 // Finding the slot of an object in a directory.
 ghost use Rattle.std.specs.Prelude.{◌≡◌, ◌<◌, ◌≤◌, ℕ, None, length};
 ghost use Rattle.layout.specs.Directory.{AreRising, IsDirectory, entry_at};
-ghost use Rattle.layout.specs.Image.{seat_in, slot_beside, slot_in};
+ghost use Rattle.layout.specs.Image.{frame_slot_in, slot_beside, slot_in};
 ghost use Rattle.frame_io.specs.Frames.{IsObject};
 
 use home_ranges::Home;
@@ -63,10 +63,10 @@ fn find_beside(plan: &Superblock, entries: &[Entry], number: u64) -> Option<u64>
 
 /// The slot whose sectors have the frame of an object: its own, or else that of the least that has
 /// one of the nodes in its cluster.
-pub(crate) fn find_seat(plan: &Superblock, entries: &[Entry], number: u64) -> Option<u64>
+pub(crate) fn find_frame_slot(plan: &Superblock, entries: &[Entry], number: u64) -> Option<u64>
     requires directory { IsDirectory plan.now.geometry entries.now }
     requires object { IsObject plan.now.geometry number }
-    ensures { result ≡ seat_in plan.now entries.now number }
+    ensures { result ≡ frame_slot_in plan.now entries.now number }
 {
     match find(entries, number) {
         Some(slot) => Some(slot),

@@ -9,7 +9,7 @@ ghost use Rattle.frame_io.specs.Calls.{ReadsOnly};
 ghost use Rattle.frame_io.specs.Frames.{IsObject};
 ghost use Rattle.migrator.specs.Gathered.{IsGathered};
 
-use crate::find::find_seat;
+use crate::find::find_frame_slot;
 use ckpt_log::Log;
 use device::{Device, Failed};
 use frame_io::read_packed;
@@ -37,7 +37,7 @@ fn read_node<D: Device>(
 {
     let home = Home::new(plan);
     let log = Log::new(plan);
-    let at = match find_seat(plan, directory, number) {
+    let at = match find_frame_slot(plan, directory, number) {
         Some(slot) => log.slot_sector(generation, slot),
         None => home.place(number),
     };

@@ -8,7 +8,7 @@ ghost use Rattle.layout.specs.Spelt.{count_of, IsSpelt, AreSpelt, frame_read, fr
 ghost use Rattle.frame_io.specs.Calls.{ReadsOnly};
 ghost use Rattle.frame_io.specs.Frames.{IsObject};
 ghost use Rattle.migrator.specs.Opened.{IsBadAt, IsRead};
-ghost use Rattle.checkpoint.specs.Opened.{IsBadFor, CountsOpen, Looks};
+ghost use Rattle.checkpoint.specs.Opened.{IsBadFor, CountsOpen, OnlyReads};
 
 use crate::intake::Intake;
 use crate::read::{read_saved, superblock_of};
@@ -16,7 +16,7 @@ use checkpoint::OpenFault;
 use ckpt_log::Log;
 use device::Device;
 use frame_io::ReadFault;
-use layout::{CheckpointHeader, Entry, Room, Superblock};
+use layout::{CheckpointHeader, Entry, Scratch, Superblock};
 use std::alloc::Global;
 
 // Reads the saved frame of an object, which is taken behind those before it.
@@ -27,7 +27,7 @@ fn take_frame<D: Device, I: Intake>(
     header: CheckpointHeader,
     directory: &[Entry],
     number: u64,
-    room: &mut Room,
+    scratch: &mut Scratch,
     taken: &mut I,
 ) -> Result<(), OpenFault>
     requires directory { IsDirectory plan.now.geometry directory.now }
@@ -42,8 +42,8 @@ fn take_frame<D: Device, I: Intake>(
     ensures reads { ReadsOnly (D.disk device.old) (D.disk device.new) }
     ensures cause { CountsOpen (D.disk device.old) (D.disk device.new) result }
 {
-    match read_saved(device, plan, header, directory, number, room) {
-        Ok(read) => match taken.take(alloc, read, room) {
+    match read_saved(device, plan, header, directory, number, scratch) {
+        Ok(read) => match taken.take(alloc, read, scratch) {
             Ok(()) => Ok(()),
             Err(_) => Err(OpenFault::NoMemory),
         },
@@ -59,7 +59,7 @@ pub(crate) fn read_plan<D: Device>(device: &mut D) -> Result<Superblock, OpenFau
     ensures durable { OnOk result (Only (D.disk device.new).seen (D.disk device.new)) }
     ensures refused { IfErr result (λ e.
         IsBadFor (D.disk device.old).seen (D.disk device.old).sectors e) }
-    ensures looks { Looks (D.disk device.old) (D.disk device.new) }
+    ensures only_reads { OnlyReads (D.disk device.old) (D.disk device.new) }
     ensures cause { CountsOpen (D.disk device.old) (D.disk device.new) result }
 {
     match device.sync() {
@@ -75,7 +75,7 @@ fn take_frames<D: Device, I: Intake>(
     plan: &Superblock,
     header: CheckpointHeader,
     directory: &[Entry],
-    room: &mut Room,
+    scratch: &mut Scratch,
     taken: &mut I,
 ) -> Result<(), OpenFault>
     requires directory { IsDirectory plan.now.geometry directory.now }
@@ -92,7 +92,9 @@ fn take_frames<D: Device, I: Intake>(
 {
     let geometry = plan.geometry();
     for number in 0..geometry.nodes + geometry.pages {
-        take_frame(alloc, device, plan, header, directory, number, room, taken)?;
+        take_frame(
+            alloc, device, plan, header, directory, number, scratch, taken,
+        )?;
     }
     Ok(())
 }
@@ -104,7 +106,7 @@ pub(crate) fn read_image<D: Device, I: Intake>(
     device: &mut D,
     plan: &Superblock,
     directory: &mut [Entry],
-    room: &mut Room,
+    scratch: &mut Scratch,
     taken: &mut I,
 ) -> Result<CheckpointHeader, OpenFault>
     requires plan { HasPlan (D.disk device.old).seen (D.disk device.old).sectors plan.now }
@@ -123,7 +125,7 @@ pub(crate) fn read_image<D: Device, I: Intake>(
     match log.find_committed(device, directory) {
         Ok(header) => {
             let named = &directory[..header.entries as usize];
-            match take_frames(alloc, device, plan, header, named, room, taken) {
+            match take_frames(alloc, device, plan, header, named, scratch, taken) {
                 Ok(()) => Ok(header),
                 Err(fault) => Err(fault),
             }

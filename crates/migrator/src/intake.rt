@@ -3,7 +3,7 @@ ghost use Rattle.std.specs.Prelude.{◌≡◌, ◌+◌, ◌≤◌, ◌++◌, ◌
 ghost use Rattle.model.specs.declared.frame.Frame.{Frame};
 ghost use Rattle.layout.specs.Frame.{frame_of};
 
-use layout::{Body, Room};
+use layout::{Body, Scratch};
 use model::{Geometry, ObjectHeader};
 use std::alloc::{AllocError, Global};
 
@@ -23,10 +23,10 @@ pub trait Intake: Drop + Sized {
         &mut self,
         alloc: Global,
         read: (ObjectHeader, Body),
-        room: &Room,
+        scratch: &Scratch,
     ) -> Result<(), AllocError>
         ensures took { OnOk result ((fs : List Frame) → Took self.old fs
-            → Took self.new (fs ++ frame_of read room.now ∷ [])) };
+            → Took self.new (fs ++ frame_of read scratch.now ∷ [])) };
 }
 
 // The headers of the frames.
@@ -44,7 +44,7 @@ impl Intake for Vec<ObjectHeader> {
         &mut self,
         _alloc: Global,
         read: (ObjectHeader, Body),
-        _room: &Room,
+        _room: &Scratch,
     ) -> Result<(), AllocError> {
         self.push(read.0)?;
         Ok(())

@@ -15,14 +15,14 @@ ghost use Rattle.checkpoint.specs.Opened.{CountsOpen};
 ghost use Rattle.migrator.specs.Put.{slot_bytes, slot_frame};
 ghost use Rattle.checkpoint.specs.Saved.{most};
 
-use crate::find::find_seat;
+use crate::find::find_frame_slot;
 use checkpoint::OpenFault;
 use ckpt_log::Log;
 use device::{Device, Failed, SECTOR_SIZE};
 use frame_io::{ReadFault, read_header, read_packed, read_sectors};
 use home_ranges::Home;
 use layout::{
-    BadImage, Body, CheckpointHeader, Entry, NODE_FRAME_BYTES, Room, Shape, Superblock,
+    BadImage, Body, CheckpointHeader, Entry, NODE_FRAME_BYTES, Scratch, Shape, Superblock,
     decode_superblock, header_in, total_in,
 };
 use model::ObjectHeader;
@@ -101,14 +101,14 @@ pub(crate) fn read_saved<D: Device>(
     header: CheckpointHeader,
     directory: &[Entry],
     number: u64,
-    room: &mut Room,
+    scratch: &mut Scratch,
 ) -> Result<(ObjectHeader, Body), ReadFault>
     requires directory { IsDirectory plan.now.geometry directory.now }
     requires object { IsObject plan.now.geometry number }
     requires inside { plan.now.total ≤ (D.disk device.old).sectors }
     ensures found { IfOk result (λ read. IsFrameOf plan.now.geometry header.age number
         (frame_in (D.disk device.new).seen plan.now header.generation directory.now number)
-        (frame_of read room.new)) }
+        (frame_of read scratch.new)) }
     ensures refused { IfErr result (λ e. IsRefused plan.now.geometry header.age number
         (frame_in (D.disk device.new).seen plan.now header.generation directory.now number) e) }
     ensures reads { ReadsOnly (D.disk device.old) (D.disk device.new) }
@@ -116,9 +116,9 @@ pub(crate) fn read_saved<D: Device>(
 {
     let home = Home::new(plan);
     let log = Log::new(plan);
-    match find_seat(plan, directory, number) {
-        Some(slot) => log.read_slot(device, header.generation, slot, number, header.age, room),
-        None => home.read_frame(device, number, header.age, room),
+    match find_frame_slot(plan, directory, number) {
+        Some(slot) => log.read_slot(device, header.generation, slot, number, header.age, scratch),
+        None => home.read_frame(device, number, header.age, scratch),
     }
 }
 
@@ -139,7 +139,7 @@ pub(crate) fn read_put<D: Device>(
     generation: u64,
     slot: u64,
     number: u64,
-    room: &mut Room,
+    scratch: &mut Scratch,
 ) -> Result<(ObjectHeader, Body), Failed>
     requires object { IsObject plan.now.geometry number }
     requires slot { slot < plan.now.geometry.log }
@@ -147,13 +147,13 @@ pub(crate) fn read_put<D: Device>(
     requires spelt { IsFrameOf plan.now.geometry most number
         (slot_bytes (D.disk device.old).seen plan.now generation slot number)
         (slot_frame (D.disk device.old).seen plan.now generation slot number) }
-    ensures found { IfOk result (λ read. frame_of read room.new
+    ensures found { IfOk result (λ read. frame_of read scratch.new
         ≡ slot_frame (D.disk device.old).seen plan.now generation slot number) }
     ensures reads { ReadsOnly (D.disk device.old) (D.disk device.new) }
     ensures cause { Counts (D.disk device.old) (D.disk device.new) result }
 {
     let log = Log::new(plan);
-    match log.read_slot(device, generation, slot, number, u64::MAX, room) {
+    match log.read_slot(device, generation, slot, number, u64::MAX, scratch) {
         Ok(read) => Ok(read),
         Err(fault) => Err(failure(fault)),
     }
@@ -166,19 +166,19 @@ pub(crate) fn read_again<D: Device>(
     header: CheckpointHeader,
     directory: &[Entry],
     number: u64,
-    room: &mut Room,
+    scratch: &mut Scratch,
 ) -> Result<(ObjectHeader, Body), Failed>
     requires directory { IsDirectory plan.now.geometry directory.now }
     requires object { IsObject plan.now.geometry number }
     requires inside { plan.now.total ≤ (D.disk device.old).sectors }
     requires spelt { IsSpelt (D.disk device.old).seen plan.now header.age header.generation
         directory.now number }
-    ensures found { IfOk result (λ read. frame_of read room.new
+    ensures found { IfOk result (λ read. frame_of read scratch.new
         ≡ frame_read (D.disk device.old).seen plan.now header.generation directory.now number) }
     ensures reads { ReadsOnly (D.disk device.old) (D.disk device.new) }
     ensures cause { Counts (D.disk device.old) (D.disk device.new) result }
 {
-    match read_saved(device, plan, header, directory, number, room) {
+    match read_saved(device, plan, header, directory, number, scratch) {
         Ok(read) => Ok(read),
         Err(fault) => Err(failure(fault)),
     }

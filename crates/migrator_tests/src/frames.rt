@@ -5,7 +5,7 @@ ghost use Rattle.model.specs.Keepable.{IsKeepable};
 ghost use Rattle.migrator_tests.specs.Rig.{IsPage};
 
 use device::Failed;
-use layout::{Body, Room};
+use layout::{Body, Scratch};
 use model::{Cap, Content, Geometry, ObjectHeader, Role, Words};
 use std::alloc::{AllocError, Global};
 
@@ -56,10 +56,10 @@ pub(crate) fn frame(
 }
 
 /// The value of a frame that was read. `None` where it is another kind of object.
-pub(crate) fn value_of(body: &Body, room: &Room) -> Option<u64> {
+pub(crate) fn value_of(body: &Body, scratch: &Scratch) -> Option<u64> {
     match body {
         Body::Bank { limit } => Some(*limit),
-        Body::Page => Some(room.words.get(0)),
+        Body::Page => Some(scratch.words.get(0)),
         _ => None,
     }
 }

@@ -5,7 +5,7 @@ ghost use Rattle.migrator.specs.Durable.{stored_of, MayJournal};
 use crate::frames::{frame, value_of};
 use checkpoint::{Checkpoint, CheckpointFault, OpenFault, OpenRefused};
 use device::{Device, Failed};
-use layout::Room;
+use layout::Scratch;
 use migrator::{Durable, Opened};
 use model::{MAX_AGE, ObjectHeader, Role};
 use std::alloc::Global;
@@ -18,7 +18,7 @@ use std::marker::Model;
 #[derive(Drop)]
 pub(crate) struct Rig<D: Device> {
     store: Durable<D>,
-    room: Room,
+    scratch: Scratch,
     /// Whether no commit, no journal and no migration failed.
     sound: bool,
     /// How many slots are used at most by what was put since the last checkpoint began, and by
@@ -42,7 +42,7 @@ impl<D: Device> Model for Rig<D> {
 impl<D: Device> Rig<D> {
     /// Opens a device.
     pub(crate) fn open(alloc: Global, device: D) -> Result<Self, OpenRefused<D>> {
-        let Ok(room) = Room::new(alloc) else {
+        let Ok(scratch) = Scratch::new(alloc) else {
             return Err(OpenRefused {
                 fault: OpenFault::NoMemory,
                 device,
@@ -51,7 +51,7 @@ impl<D: Device> Rig<D> {
         let Opened { store, .. } = Durable::open::<Vec<ObjectHeader>>(alloc, device)?;
         Ok(Rig {
             store,
-            room,
+            scratch,
             sound: true,
             working: 0,
             frozen: 0,
@@ -76,8 +76,8 @@ impl<D: Device> Rig<D> {
         if number >= geometry.nodes + geometry.pages {
             return Err(Failed);
         }
-        let (_, body) = self.store.fetch(number, &mut self.room)?;
-        value_of(&body, &self.room).ok_or(Failed)
+        let (_, body) = self.store.fetch(number, &mut self.scratch)?;
+        value_of(&body, &self.scratch).ok_or(Failed)
     }
 
     /// Puts a frame of an object, with a value.
@@ -178,8 +178,8 @@ impl<D: Device> Rig<D> {
         if !self.may_journal(number, age) || !self.sound {
             return Err(CheckpointFault::Failed);
         }
-        self.room.words.set(0, value);
-        match self.store.journal(number, &self.room.words, age) {
+        self.scratch.words.set(0, value);
+        match self.store.journal(number, &self.scratch.words, age) {
             Ok(generation) => Ok(generation),
             Err(refusal) => {
                 self.sound = refusal != CheckpointFault::Failed;

@@ -15,7 +15,7 @@ use Rattle.model.specs.declared.order.ResultCode.TheVariants as code
 use Rattle.model.specs.Bank.{chain, is_under, usage}
 use Rattle.model.specs.Capability.{full}
 use Rattle.model.specs.Object.{all_slots, is_free, limit_in, zero_words}
-use Rattle.model.specs.OrderOutcome.{OrderOutcome, refused, told_three, made}
+use Rattle.model.specs.OrderOutcome.{OrderOutcome, refused, replying_three, made}
 use Rattle.model.specs.Revoke.{rescind}
 use Rattle.model.specs.World.{annex_at, content_at, object_at, owner_at}
 
@@ -30,8 +30,8 @@ unfoldable pub free_pages : Geometry → List Object → List ℕ
 free_pages g os = are_free os (range_with_len g.nodes g.pages)
 
 -- whether this number of further objects of a bank stays within the limit of each bank in its chain
-unfoldable pub has_room : List Object → ℕ → ℕ → Bool
-has_room os b count = list_all (λ c. nat_le (usage os c + count) (limit_in (content_at os c))) (chain os b)
+unfoldable pub has_quota : List Object → ℕ → ℕ → Bool
+has_quota os b count = list_all (λ c. nat_le (usage os c + count) (limit_in (content_at os c))) (chain os b)
 
 -- the contents of new objects
 abbrev pub new_page : Content Capability
@@ -83,11 +83,11 @@ unfoldable pub owned_by : List Object → ℕ → List ℕ
 owned_by os b = filter (λ n. not (is_free (content_at os n)) && (owner_at os n == b)) (range_with_len 0 (length os))
 
 -- the objects with the owner of a bank in its place
-abbrev pub handed_on : ℕ → ℕ → Object → Object
-handed_on b parent o = if not (is_free o.content) && (o.owner == b) then record { owner = parent; content = o.content } else o
+abbrev pub transferred : ℕ → ℕ → Object → Object
+transferred b parent o = if not (is_free o.content) && (o.owner == b) then record { owner = parent; content = o.content } else o
 
 unfoldable pub inherited : List Object → ℕ → List Object
-inherited os b = map (handed_on b (owner_at os b)) os
+inherited os b = map (transferred b (owner_at os b)) os
 
 -- what is below the limit of a bank, and the least of it in a chain
 abbrev pub left_of : List Object → ℕ → ℕ
@@ -109,13 +109,13 @@ freed os b (n ∷ ns) = if owner_at os n == b then made (rescind (n ∷ ns) os) 
 -- chain of 16 banks already.
 unfoldable pub on_bank : Geometry → List Object → ℕ → BankOrder → Arguments → OrderOutcome
 on_bank g os b bank.NewPage args =
-    if has_room os b 1 then allocated os b (free_pages g os) new_page (λ n. Page n full) else refused os code.Limit
+    if has_quota os b 1 then allocated os b (free_pages g os) new_page (λ n. Page n full) else refused os code.Limit
 on_bank g os b bank.NewNode args =
-    if has_room os b 1 then allocated os b (free_nodes g os) new_node (λ n. Node n full) else refused os code.Limit
-on_bank g os b bank.NewProcess args = if has_room os b 2 then process_allocated os b (free_nodes g os) else refused os code.Limit
-on_bank g os b bank.NewBank args = if has_room os b 1 then bank_allocated os b (free_nodes g os) args.first else refused os code.Limit
+    if has_quota os b 1 then allocated os b (free_nodes g os) new_node (λ n. Node n full) else refused os code.Limit
+on_bank g os b bank.NewProcess args = if has_quota os b 2 then process_allocated os b (free_nodes g os) else refused os code.Limit
+on_bank g os b bank.NewBank args = if has_quota os b 1 then bank_allocated os b (free_nodes g os) args.first else refused os code.Limit
 on_bank g os b bank.Free args = freed os b (freed_by os args.capability)
 on_bank g os b bank.Destroy args = if b == 0 then refused os code.PrimeBank else made (rescind (under os b) os) (under os b) Void
 on_bank g os b bank.ReturnToParent args =
     if b == 0 then refused os code.PrimeBank else made (rescind (b ∷ []) (inherited os b)) (b ∷ owned_by os b) Void
-on_bank g os b bank.Remaining args = told_three os (remaining os b) (usage os b) (limit_in (content_at os b))
+on_bank g os b bank.Remaining args = replying_three os (remaining os b) (usage os b) (limit_in (content_at os b))

@@ -19,7 +19,7 @@ use Rattle.model.specs.declared.order.ProcessOrder.TheVariants as process
 use Rattle.model.specs.Banking.{on_bank}
 use Rattle.model.specs.Capability.{union, diminished, access_bits, tag_of}
 use Rattle.model.specs.Object.{state_number}
-use Rattle.model.specs.OrderOutcome.{OrderOutcome, refused, told, given, wrote}
+use Rattle.model.specs.OrderOutcome.{OrderOutcome, refused, replying, given, wrote}
 use Rattle.model.specs.World.{word_at, slot_at, root_at, annex_at, register_at, with_word, with_slot, with_root, with_state}
 use Rattle.model.specs.Revoke.{consume}
 
@@ -54,7 +54,7 @@ abbrev pub reduces : ℕ → Bool
 reduces w = (w == 1) || (w == 3)
 
 unfoldable pub on_page : List Object → ℕ → Access → PageOrder → Arguments → OrderOutcome
-on_page os o a page.Read args = if nat_lt args.first 512 then told os (word_at os o args.first) 0 else refused os code.BadIndex
+on_page os o a page.Read args = if nat_lt args.first 512 then replying os (word_at os o args.first) 0 else refused os code.BadIndex
 on_page os o a page.Write args =
     if not (a.0 == 0) then refused os code.NoAccess
     else if nat_lt args.first 512 then wrote (with_word os o args.first args.second) o
@@ -99,11 +99,11 @@ on_process os p process.PutRegister args =
     if (args.first == 0) || not (nat_lt args.first 32) then refused os code.BadIndex
     else wrote (with_slot os (annex_at os p) args.first args.capability) (annex_at os p)
 on_process os p process.GetWord args =
-    if nat_lt args.first 4 then told os (slice_index (root_at os p).words args.first) 0 else refused os code.BadIndex
+    if nat_lt args.first 4 then replying os (slice_index (root_at os p).words args.first) 0 else refused os code.BadIndex
 on_process os p process.PutWord args =
     if nat_lt args.first 4 then wrote (with_root os p (with_root_word (root_at os p) args.first args.second)) p else refused os code.BadIndex
 on_process os p process.MakeStart args = if nat_lt args.first 65536 then given os (Start p args.first) else refused os code.BadIndex
-on_process os p process.GetState args = told os (state_number (root_at os p).state) (root_at os p).key
+on_process os p process.GetState args = replying os (state_number (root_at os p).state) (root_at os p).key
 on_process os p process.SetState args =
     if args.first == 0 then wrote (consume p (with_state os p Available)) p
     else if args.first == 1 then wrote (consume p (with_state os p Running)) p
@@ -116,15 +116,15 @@ on_process os p process.SetSpace args =
 -- resume capability is no kernel object, and is never asked here.
 unfoldable pub order : Geometry → List Object → Capability → ℕ → Arguments → OrderOutcome
 order g os Void w args = refused os code.VoidCapability
-order g os (Number n) w args = if w == 1 then told os n 0 else refused os code.NoOrder
-order g os (Page o a) w args = elim (page_order w) [ None ↦ refused os code.NoOrder | Some asked ↦ on_page os o a asked args ]
-order g os (Node o a) w args = elim (node_order w) [ None ↦ refused os code.NoOrder | Some asked ↦ on_node os o a asked args ]
+order g os (Number n) w args = if w == 1 then replying os n 0 else refused os code.NoOrder
+order g os (Page o a) w args = elim (page_order w) [ None ↦ refused os code.NoOrder | Some requested ↦ on_page os o a requested args ]
+order g os (Node o a) w args = elim (node_order w) [ None ↦ refused os code.NoOrder | Some requested ↦ on_node os o a requested args ]
 order g os (Space o h a) w args =
     if w == 3
     then (if reduces args.first then given os (Space o h (union a args.first)) else refused os code.BadIndex)
     else refused os code.NoOrder
-order g os (Process p) w args = elim (process_order w) [ None ↦ refused os code.NoOrder | Some asked ↦ on_process os p asked args ]
+order g os (Process p) w args = elim (process_order w) [ None ↦ refused os code.NoOrder | Some requested ↦ on_process os p requested args ]
 order g os (Start p key) w args = refused os code.NoOrder
 order g os (Resume p) w args = refused os code.NoOrder
-order g os (Bank b) w args = elim (bank_order w) [ None ↦ refused os code.NoOrder | Some asked ↦ on_bank g os b asked args ]
-order g os Discrim w args = if w == 1 then told os (tag_of args.capability) (access_bits args.capability) else refused os code.NoOrder
+order g os (Bank b) w args = elim (bank_order w) [ None ↦ refused os code.NoOrder | Some requested ↦ on_bank g os b requested args ]
+order g os Discrim w args = if w == 1 then replying os (tag_of args.capability) (access_bits args.capability) else refused os code.NoOrder

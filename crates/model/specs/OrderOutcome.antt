@@ -33,8 +33,8 @@ abbrev pub refused : List Object → ResultCode → OrderOutcome
 refused os why = record { code = why; words = 0 ∷ 0 ∷ 0 ∷ []; capability = Void; objects = os; written = [] }
 
 -- one that tells two words
-abbrev pub told : List Object → ℕ → ℕ → OrderOutcome
-told os first second = record { code = code.Done; words = first ∷ second ∷ 0 ∷ []; capability = Void; objects = os; written = [] }
+abbrev pub replying : List Object → ℕ → ℕ → OrderOutcome
+replying os first second = record { code = code.Done; words = first ∷ second ∷ 0 ∷ []; capability = Void; objects = os; written = [] }
 
 -- one that gives a capability
 abbrev pub given : List Object → Capability → OrderOutcome
@@ -45,8 +45,8 @@ abbrev pub wrote : List Object → ℕ → OrderOutcome
 wrote os n = record { code = code.Done; words = 0 ∷ 0 ∷ 0 ∷ []; capability = Void; objects = os; written = n ∷ [] }
 
 -- one that tells three
-abbrev pub told_three : List Object → ℕ → ℕ → ℕ → OrderOutcome
-told_three os first second third = record { code = code.Done; words = first ∷ second ∷ third ∷ []; capability = Void; objects = os; written = [] }
+abbrev pub replying_three : List Object → ℕ → ℕ → ℕ → OrderOutcome
+replying_three os first second third = record { code = code.Done; words = first ∷ second ∷ third ∷ []; capability = Void; objects = os; written = [] }
 
 -- one that writes these objects and gives a capability
 abbrev pub made : List Object → List ℕ → Capability → OrderOutcome

@@ -3,8 +3,8 @@ use Rattle.model_laws.proofs.Names.{◌≡◌, ◌≢◌, inl, inr, ℕ, zero, s
 use Rattle.model_laws.proofs.Names.{refl, sym, ap, subst, arith, ◌∙◌, if◌then◌else◌, IsTrue, false≢true, cases_Bool, cases_eq, and_right, or_right}
 use Rattle.model_laws.proofs.Names.{false_from_ne_true, eq-eqb, ne_eqb, eqb-true, eqb-false, length-map, Contains-from_any, Capability, Void, Geometry, Content}
 use Rattle.model_laws.proofs.Names.{Object, Arguments, free, is_free, is_root, is_annex, is_bank, role_of, root_in, limit_in, made, object_at, content_at}
-use Rattle.model_laws.proofs.Names.{owner_at, slot_at, root_at, annex_at, chain, chain_within, is_under, usage, freed_by, under, owned_by, handed_on, inherited}
-use Rattle.model_laws.proofs.Names.{freed, on_bank, is_member, rescind, IsOfKind}
+use Rattle.model_laws.proofs.Names.{owner_at, slot_at, root_at, annex_at, chain, chain_within, is_under, usage, freed_by, under, owned_by, transferred}
+use Rattle.model_laws.proofs.Names.{inherited, freed, on_bank, is_member, rescind, IsOfKind}
 use Rattle.model.specs.declared.object.Content.TheVariants as content
 use Rattle.model.specs.declared.order.BankOrder.TheVariants as bank
 use Rattle.model_laws.proofs.SoundParts.{IsHeld, IsFilled, IsFramed, Waits, held_to, held_void}
@@ -27,11 +27,11 @@ heir_of b parent n e = rw (eq-eqb n b e) refl
 heir_other : (b parent n : ℕ) → n ≢ b → heir b parent n ≡ n
 heir_other b parent n e = rw (ne_eqb n b e) refl
 
-pub handed_content : (b parent : ℕ) (o : Object) → (handed_on b parent o).content ≡ o.content
-handed_content b parent o = one_of (λ x. x.content ≡ o.content) (not (is_free o.content) && (o.owner == b)) _ o refl refl
+pub transferred_content : (b parent : ℕ) (o : Object) → (transferred b parent o).content ≡ o.content
+transferred_content b parent o = one_of (λ x. x.content ≡ o.content) (not (is_free o.content) && (o.owner == b)) _ o refl refl
 
-handed_owner : (b parent : ℕ) (o : Object) → b ≢ 0 → (is_free o.content ≡ true → o.owner ≡ 0) → (handed_on b parent o).owner ≡ heir b parent o.owner
-handed_owner b parent o on unowned = go (is_free o.content) refl
+transferred_owner : (b parent : ℕ) (o : Object) → b ≢ 0 → (is_free o.content ≡ true → o.owner ≡ 0) → (transferred b parent o).owner ≡ heir b parent o.owner
+transferred_owner b parent o on unowned = go (is_free o.content) refl
   where
     go : (t : Bool) → is_free o.content ≡ t → (if not t && (o.owner == b) then record { owner = parent; content = o.content } else o).owner ≡ heir b parent o.owner
     go true gone = sym (heir_other b parent o.owner (λ e. on (sym e ∙ unowned gone)))
@@ -43,19 +43,19 @@ handed_owner b parent o on unowned = go (is_free o.content) refl
 
 -- the objects after a bank's are handed on
 module _ (os : List Object) (t : IsTree os) (b : ℕ) (is : IsTrue (is_bank (content_at os b))) (on : b ≢ 0) where
-  pub inherited_object : (n : ℕ) → object_at (inherited os b) n ≡ handed_on b (owner_at os b) (object_at os n)
+  pub inherited_object : (n : ℕ) → object_at (inherited os b) n ≡ transferred b (owner_at os b) (object_at os n)
   unfolding inherited
-  inherited_object n = at_map (handed_on b (owner_at os b)) os n free refl
+  inherited_object n = at_map (transferred b (owner_at os b)) os n free refl
 
   pub inherited_content : (n : ℕ) → content_at (inherited os b) n ≡ content_at os n
-  inherited_content n = ap (λ (o : Object). o.content) (inherited_object n) ∙ handed_content b (owner_at os b) (object_at os n)
+  inherited_content n = ap (λ (o : Object). o.content) (inherited_object n) ∙ transferred_content b (owner_at os b) (object_at os n)
 
   pub inherited_owner : (n : ℕ) → owner_at (inherited os b) n ≡ heir b (owner_at os b) (owner_at os n)
-  inherited_owner n = ap (λ (o : Object). o.owner) (inherited_object n) ∙ handed_owner b (owner_at os b) (object_at os n) on (t.unowned n)
+  inherited_owner n = ap (λ (o : Object). o.owner) (inherited_object n) ∙ transferred_owner b (owner_at os b) (object_at os n) on (t.unowned n)
 
   pub length_inherited : length (inherited os b) ≡ length os
   unfolding inherited
-  length_inherited = length-map os (handed_on b (owner_at os b))
+  length_inherited = length-map os (transferred b (owner_at os b))
 
   -- a bank doesn't own itself
   parent_other : owner_at os b ≢ b

@@ -3,7 +3,7 @@ use Rattle.model_laws.proofs.Names.{◌≡◌, ◌≢◌, inl, inr, ℕ, ◌+◌
 use Rattle.model_laws.proofs.Names.{refl, sym, ap, subst, arith, ◌∙◌, IsTrue, if◌then◌else◌, nat_le, nat_lt, filter, list_any, list_all, range_with_len}
 use Rattle.model_laws.proofs.Names.{cases_eq, eq-eqb, ne_eqb, and_right, false_from_ne_true, Capability, Void, Page, Node, Process, Bank, Geometry, Content}
 use Rattle.model_laws.proofs.Names.{Object, Arguments, BankOrder, ResultCode, full, free, is_bank, is_free, object_at, content_at, owner_at, chain, is_under}
-use Rattle.model_laws.proofs.Names.{usage, OrderOutcome, refused, made, are_free, free_nodes, free_pages, has_room, with_new, new_page, new_node, allocated}
+use Rattle.model_laws.proofs.Names.{usage, OrderOutcome, refused, made, are_free, free_nodes, free_pages, has_quota, with_new, new_page, new_node, allocated}
 use Rattle.model_laws.proofs.Names.{process_allocated, bank_allocated, freed_by, freed, under, owned_by, left_of, least, remaining, on_bank, is_member, rescind}
 use Rattle.std.specs.Prelude.{nat_eq}
 use Rattle.model.specs.declared.object.Content.TheVariants as content
@@ -91,8 +91,8 @@ module _ (os us : List Object) (s : SameFrame os us) where
   unfolding free_pages
   pages_alike g = free_alike (range_with_len g.nodes g.pages)
 
-  pub room_alike : (b count : ℕ) → has_room us b count ≡ has_room os b count
-  unfolding has_room
+  pub room_alike : (b count : ℕ) → has_quota us b count ≡ has_quota os b count
+  unfolding has_quota
   room_alike b count = λ k. list_all (λ c. nat_le (usage_same os us s c k + count) ((s.alike c).limit k)) (chain_same os us s b k)
 
   pub freed_alike : (c : Capability) → freed_by us c ≡ freed_by os c
@@ -161,19 +161,19 @@ module _ (os us : List Object) (s : SameFrame os us) where
           (same_made (rescind (k ∷ ks) os) (rescind (k ∷ ks) us) (k ∷ ks) Void) (same_refused code.NotFromThisBank)
 
   -- a bank that is asked where the frame is the same tells and writes the same
-  pub on_bank_same : (g : Geometry) (b : ℕ) (asked : BankOrder) (args : Arguments) → SameOutcome (on_bank g os b asked args) (on_bank g us b asked args)
+  pub on_bank_same : (g : Geometry) (b : ℕ) (requested : BankOrder) (args : Arguments) → SameOutcome (on_bank g os b requested args) (on_bank g us b requested args)
   unfolding on_bank
   on_bank_same g b bank.NewPage args =
-      same_either (has_room os b 1) (has_room us b 1) _ _ _ _ (room_alike b 1)
+      same_either (has_quota os b 1) (has_quota us b 1) _ _ _ _ (room_alike b 1)
       (same_allocated b new_page (λ n. Page n full) (free_pages g os) (free_pages g us) (pages_alike g)) (same_refused code.Limit)
   on_bank_same g b bank.NewNode args =
-      same_either (has_room os b 1) (has_room us b 1) _ _ _ _ (room_alike b 1)
+      same_either (has_quota os b 1) (has_quota us b 1) _ _ _ _ (room_alike b 1)
       (same_allocated b new_node (λ n. Node n full) (free_nodes g os) (free_nodes g us) (nodes_alike g)) (same_refused code.Limit)
   on_bank_same g b bank.NewProcess args =
-      same_either (has_room os b 2) (has_room us b 2) _ _ _ _ (room_alike b 2)
+      same_either (has_quota os b 2) (has_quota us b 2) _ _ _ _ (room_alike b 2)
       (same_process b (free_nodes g os) (free_nodes g us) (nodes_alike g)) (same_refused code.Limit)
   on_bank_same g b bank.NewBank args =
-      same_either (has_room os b 1) (has_room us b 1) _ _ _ _ (room_alike b 1)
+      same_either (has_quota os b 1) (has_quota us b 1) _ _ _ _ (room_alike b 1)
       (same_bank b args.first (free_nodes g os) (free_nodes g us) (nodes_alike g)) (same_refused code.Limit)
   on_bank_same g b bank.Free args =
       same_freed b (freed_by os args.capability) (freed_by us args.capability) (freed_alike args.capability)

@@ -2,7 +2,7 @@
 use Rattle.model_laws.proofs.Names.{◌≡◌, ◌≢◌, ℕ, ◌+◌, ◌<◌, ◌≤◌, ◌==◌, Bool, true, false, List, [], ◌∷◌, refl, sym, ap, subst, arith, ◌∙◌, IsTrue, nat_lt}
 use Rattle.model_laws.proofs.Names.{range_with_len, All-cons, All-filter, All-nil, filter_passes, get_or-range_with_len, length-range_with_len, Capability}
 use Rattle.model_laws.proofs.Names.{Geometry, Content, Object, Arguments, BankOrder, chain, allocated, are_free, bank_allocated, freed, freed_by, free_nodes}
-use Rattle.model_laws.proofs.Names.{free_pages, handed_on, has_room, inherited, new_annex, new_root, on_bank, owned_by, process_allocated, under, with_new}
+use Rattle.model_laws.proofs.Names.{free_pages, transferred, has_quota, inherited, new_annex, new_root, on_bank, owned_by, process_allocated, under, with_new}
 use Rattle.model_laws.proofs.Names.{free, is_bank, is_free, is_root, root_in, OrderOutcome, is_member, names_member, rescind, without, NamesItsKind, annex_at}
 use Rattle.model_laws.proofs.Names.{content_at, is_process, object_at, owner_at}
 use Rattle.std.proofs.Common.{if◌then◌else◌}
@@ -12,7 +12,7 @@ use Rattle.model.specs.declared.object.Content.TheVariants as content
 use Rattle.model.specs.declared.order.BankOrder.TheVariants as bank
 use Rattle.model_laws.proofs.Cases.{one_of}
 use Rattle.model_laws.proofs.BankFreed.{freed_within, owned_within, under_within, used_within}
-use Rattle.model_laws.proofs.BankReturn.{handed_content}
+use Rattle.model_laws.proofs.BankReturn.{transferred_content}
 use Rattle.model_laws.proofs.BankTree.{at_other}
 use Rattle.model_laws.proofs.Revoking.{at_rescind}
 use Rattle.model_laws.proofs.Mapped.{at_map, without_mapped}
@@ -38,7 +38,7 @@ rescind_annexes set os p before is =
 
 inherited_content : (os : List Object) (b n : ℕ) → content_at (inherited os b) n ≡ content_at os n
 unfolding inherited
-inherited_content os b n = ap (λ (o : Object). o.content) (at_map (handed_on b (owner_at os b)) os n free refl) ∙ handed_content b (owner_at os b) (object_at os n)
+inherited_content os b n = ap (λ (o : Object). o.content) (at_map (transferred b (owner_at os b)) os n free refl) ∙ transferred_content b (owner_at os b) (object_at os n)
 
 inherited_annexes : (b : ℕ) (os : List Object) → KeepsAnnexes os (rescind (b ∷ []) (inherited os b))
 inherited_annexes b os p before is =
@@ -88,13 +88,13 @@ module _ (os : List Object) (b : ℕ) where
   unfolding free_pages
   pages_unused g = filter_passes (λ n. is_free (content_at os n)) (range_with_len g.nodes g.pages)
 
-pub annex_kept : (g : Geometry) (os : List Object) (b : ℕ) (asked : BankOrder) (args : Arguments) (p : ℕ) → is_process os p ≡ true → is_process (on_bank g os b asked args).objects p ≡ true →
-    annex_at (on_bank g os b asked args).objects p ≡ annex_at os p
+pub annex_kept : (g : Geometry) (os : List Object) (b : ℕ) (requested : BankOrder) (args : Arguments) (p : ℕ) → is_process os p ≡ true → is_process (on_bank g os b requested args).objects p ≡ true →
+    annex_at (on_bank g os b requested args).objects p ≡ annex_at os p
 unfolding on_bank
-annex_kept g os b bank.NewPage args = one_of (Kept os b) (has_room os b 1) _ _ (allocated_annexes os b (free_pages g os) _ _ (pages_unused os b g)) (same os b)
-annex_kept g os b bank.NewNode args = one_of (Kept os b) (has_room os b 1) _ _ (allocated_annexes os b (free_nodes g os) _ _ (nodes_unused os b g)) (same os b)
-annex_kept g os b bank.NewProcess args = one_of (Kept os b) (has_room os b 2) _ _ (process_annexes os b (free_nodes g os) (nodes_unused os b g)) (same os b)
-annex_kept g os b bank.NewBank args = one_of (Kept os b) (has_room os b 1) _ _ (bank_annexes os b (free_nodes g os) args.first (nodes_unused os b g)) (same os b)
+annex_kept g os b bank.NewPage args = one_of (Kept os b) (has_quota os b 1) _ _ (allocated_annexes os b (free_pages g os) _ _ (pages_unused os b g)) (same os b)
+annex_kept g os b bank.NewNode args = one_of (Kept os b) (has_quota os b 1) _ _ (allocated_annexes os b (free_nodes g os) _ _ (nodes_unused os b g)) (same os b)
+annex_kept g os b bank.NewProcess args = one_of (Kept os b) (has_quota os b 2) _ _ (process_annexes os b (free_nodes g os) (nodes_unused os b g)) (same os b)
+annex_kept g os b bank.NewBank args = one_of (Kept os b) (has_quota os b 1) _ _ (bank_annexes os b (free_nodes g os) args.first (nodes_unused os b g)) (same os b)
 annex_kept g os b bank.Free args = freed_annexes os b (freed_by os args.capability)
 annex_kept g os b bank.Destroy args = one_of (Kept os b) (b == 0) _ _ (same os b) (rescind_annexes (under os b) os)
 annex_kept g os b bank.ReturnToParent args = one_of (Kept os b) (b == 0) _ _ (same os b) (inherited_annexes b os)
@@ -137,13 +137,13 @@ freed_inside : (g : Geometry) (os : List Object) (b : ℕ) (c : Capability) (ns 
 freed_inside g os b c [] h kind is = none_within os
 freed_inside g os b c (n ∷ ns) h kind is = one_of (Within os) (owner_at os n == b) _ _ (freed_within g os c n ns h is kind) (none_within os)
 
-pub written_within : (g : Geometry) (os : List Object) (b : ℕ) (asked : BankOrder) (args : Arguments) → IsNow g os → IsTrue (is_bank (content_at os b)) → NamesItsKind os args.capability →
-    All (λ n. n < length os) (on_bank g os b asked args).written
+pub written_within : (g : Geometry) (os : List Object) (b : ℕ) (requested : BankOrder) (args : Arguments) → IsNow g os → IsTrue (is_bank (content_at os b)) → NamesItsKind os args.capability →
+    All (λ n. n < length os) (on_bank g os b requested args).written
 unfolding on_bank free_nodes free_pages
-written_within g os b bank.NewPage args h is kind = one_of (Within os) (has_room os b 1) _ _ (allocated_within os b _ _ _ (range_within os g.nodes g.pages (omega (arith, h.frame.size)))) (none_within os)
-written_within g os b bank.NewNode args h is kind = one_of (Within os) (has_room os b 1) _ _ (allocated_within os b _ _ _ (range_within os 0 g.nodes (omega (arith, h.frame.size)))) (none_within os)
-written_within g os b bank.NewProcess args h is kind = one_of (Within os) (has_room os b 2) _ _ (process_within os b _ (range_within os 0 g.nodes (omega (arith, h.frame.size)))) (none_within os)
-written_within g os b bank.NewBank args h is kind = one_of (Within os) (has_room os b 1) _ _ (bank_within os b _ args.first (range_within os 0 g.nodes (omega (arith, h.frame.size)))) (none_within os)
+written_within g os b bank.NewPage args h is kind = one_of (Within os) (has_quota os b 1) _ _ (allocated_within os b _ _ _ (range_within os g.nodes g.pages (omega (arith, h.frame.size)))) (none_within os)
+written_within g os b bank.NewNode args h is kind = one_of (Within os) (has_quota os b 1) _ _ (allocated_within os b _ _ _ (range_within os 0 g.nodes (omega (arith, h.frame.size)))) (none_within os)
+written_within g os b bank.NewProcess args h is kind = one_of (Within os) (has_quota os b 2) _ _ (process_within os b _ (range_within os 0 g.nodes (omega (arith, h.frame.size)))) (none_within os)
+written_within g os b bank.NewBank args h is kind = one_of (Within os) (has_quota os b 1) _ _ (bank_within os b _ args.first (range_within os 0 g.nodes (omega (arith, h.frame.size)))) (none_within os)
 written_within g os b bank.Free args h is kind = freed_inside g os b args.capability (freed_by os args.capability) h kind refl
 written_within g os b bank.Destroy args h is kind = one_of (Within os) (b == 0) _ _ (none_within os) (under_within os b)
 written_within g os b bank.ReturnToParent args h is kind =

@@ -3,7 +3,7 @@ use Rattle.model_laws.proofs.Names.{◌≡◌, ◌≢◌, ℕ, ◌==◌, ◌<◌
 use Rattle.model_laws.proofs.Names.{IsTrue, if◌then◌else◌, nat_lt, slice_index_or, slice_set, range_with_len, cases_Bool, cases_eq, eqb-false, ext_get_or}
 use Rattle.model_laws.proofs.Names.{get_or-set_other, get_or-set_same, get_or-map-range_with_len, length-map-range_with_len, Capability, Bank, Process, Void}
 use Rattle.model_laws.proofs.Names.{Geometry, Content, Object, Arguments, BankOrder, ResultCode, chain, allocated, bank_allocated, freed, freed_by, free_nodes}
-use Rattle.model_laws.proofs.Names.{free_pages, has_room, inherited, new_annex, new_node, new_page, new_root, on_bank, owned_by, process_allocated, under}
+use Rattle.model_laws.proofs.Names.{free_pages, has_quota, inherited, new_annex, new_node, new_page, new_root, on_bank, owned_by, process_allocated, under}
 use Rattle.model_laws.proofs.Names.{with_new, renewing, free, is_bank, is_free, OrderOutcome, made, refused, is_given_up, is_member, rescind, NamesItsKind}
 use Rattle.model_laws.proofs.Names.{content_at, object_at, owner_at, GivesUpNothing, GivesUpRescinded, rescinded_by, or-false}
 use Rattle.std.specs.Prelude.{length, map}
@@ -118,17 +118,17 @@ freed_used g os c h names [] frees n member = cc
 freed_used g os c h names (m ∷ ns) frees n member = (freed_set g os h.frame c m ns names frees).given_up.used n member
 
 -- what an order of a bank gives up
-pub order_gives_up : (g : Geometry) (os : List Object) (b : ℕ) (asked : BankOrder) (args : Arguments) (n : ℕ) → IsNow g os → IsTrue (is_bank (content_at os b)) → NamesItsKind os args.capability
-    → GivesUp os n (rescinded_by os b asked args) (on_bank g os b asked args)
+pub order_gives_up : (g : Geometry) (os : List Object) (b : ℕ) (requested : BankOrder) (args : Arguments) (n : ℕ) → IsNow g os → IsTrue (is_bank (content_at os b)) → NamesItsKind os args.capability
+    → GivesUp os n (rescinded_by os b requested args) (on_bank g os b requested args)
 unfolding on_bank
 order_gives_up g os b bank.NewPage args n h is names =
-    one_of (GivesUp os n []) (has_room os b 1) _ _ (allocated_gives os n b (free_pages g os) new_page _ refl) (by_none os n [] code.Limit (λ e. cc))
+    one_of (GivesUp os n []) (has_quota os b 1) _ _ (allocated_gives os n b (free_pages g os) new_page _ refl) (by_none os n [] code.Limit (λ e. cc))
 order_gives_up g os b bank.NewNode args n h is names =
-    one_of (GivesUp os n []) (has_room os b 1) _ _ (allocated_gives os n b (free_nodes g os) new_node _ refl) (by_none os n [] code.Limit (λ e. cc))
+    one_of (GivesUp os n []) (has_quota os b 1) _ _ (allocated_gives os n b (free_nodes g os) new_node _ refl) (by_none os n [] code.Limit (λ e. cc))
 order_gives_up g os b bank.NewProcess args n h is names =
-    one_of (GivesUp os n []) (has_room os b 2) _ _ (process_gives os n b (free_nodes g os)) (by_none os n [] code.Limit (λ e. cc))
+    one_of (GivesUp os n []) (has_quota os b 2) _ _ (process_gives os n b (free_nodes g os)) (by_none os n [] code.Limit (λ e. cc))
 order_gives_up g os b bank.NewBank args n h is names =
-    one_of (GivesUp os n []) (has_room os b 1) _ _ (bank_gives os n b (free_nodes g os) args.first) (by_none os n [] code.Limit (λ e. cc))
+    one_of (GivesUp os n []) (has_quota os b 1) _ _ (bank_gives os n b (free_nodes g os) args.first) (by_none os n [] code.Limit (λ e. cc))
 order_gives_up g os b bank.Free args n h is names =
     freed_gives os n b (freed_by os args.capability) (freed_used g os args.capability h names (freed_by os args.capability) refl)
 order_gives_up g os b bank.Destroy args n h is names =
@@ -139,7 +139,7 @@ order_gives_up g os b bank.ReturnToParent args n h is names =
 order_gives_up g os b bank.Remaining args n h is names = (λ done. none_given_up os os n (λ used. used), λ undone. none_given_up os os n (λ used. used))
 
 pub gives_up_rescinded : GivesUpRescinded
-gives_up_rescinded g w b asked args n sound is held = order_gives_up g w.objects b asked args n (nearly_from g w sound) is held.1
+gives_up_rescinded g w b requested args n sound is held = order_gives_up g w.objects b requested args n (nearly_from g w sound) is held.1
 
 pub gives_up_nothing : GivesUpNothing
 gives_up_nothing g w i e n sound fits runs other done = none_in_frame w.objects e.objects (invocation_frame g w.objects i e (nearly_from g w sound) fits runs other done) n

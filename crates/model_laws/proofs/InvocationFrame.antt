@@ -50,7 +50,7 @@ deliver_frame os p m is =
 abbrev LeavesFrame : List Object → OrderOutcome → Type 0
 LeavesFrame os o = SameFrame os o.objects
 
-page_frame : (os : List Object) (o : ℕ) (a : Access) (asked : PageOrder) (args : Arguments) → LeavesFrame os (on_page os o a asked args)
+page_frame : (os : List Object) (o : ℕ) (a : Access) (requested : PageOrder) (args : Arguments) → LeavesFrame os (on_page os o a requested args)
 unfolding on_page
 page_frame os o a page.Read args = one_of (LeavesFrame os) (nat_lt args.first 512) _ _ (frame_refl os) (frame_refl os)
 page_frame os o a page.Write args =
@@ -62,7 +62,7 @@ stored_frame : (os : List Object) (o : ℕ) (a : Access) (slot : ℕ) (c : Capab
 stored_frame os o a slot c =
     one_of (LeavesFrame os) (not (a.0 == 0)) _ _ (frame_refl os) (one_of (LeavesFrame os) (nat_lt slot 32) _ _ (slot_frame os o slot c) (frame_refl os))
 
-node_frame : (os : List Object) (o : ℕ) (a : Access) (asked : NodeOrder) (args : Arguments) → LeavesFrame os (on_node os o a asked args)
+node_frame : (os : List Object) (o : ℕ) (a : Access) (requested : NodeOrder) (args : Arguments) → LeavesFrame os (on_node os o a requested args)
 unfolding on_node
 node_frame os o a node.Fetch args = one_of (LeavesFrame os) (nat_lt args.first 32) _ _ (frame_refl os) (frame_refl os)
 node_frame os o a node.Store args = stored_frame os o a args.first args.capability
@@ -73,7 +73,7 @@ node_frame os o a node.PutNumber args = stored_frame os o a args.first (Number a
 pub set_frame : (os : List Object) (p : ℕ) (s : State) → IsTrue (is_process os p) → SameFrame os (consume p (with_state os p s))
 set_frame os p s is = frame_trans os (with_state os p s) (consume p (with_state os p s)) (state_frame os p s is) (frame_consume p (with_state os p s))
 
-process_frame : (os : List Object) (p : ℕ) (asked : ProcessOrder) (args : Arguments) → IsTrue (is_process os p) → LeavesFrame os (on_process os p asked args)
+process_frame : (os : List Object) (p : ℕ) (requested : ProcessOrder) (args : Arguments) → IsTrue (is_process os p) → LeavesFrame os (on_process os p requested args)
 unfolding on_process
 process_frame os p process.GetRegister args is = one_of (LeavesFrame os) (nat_lt args.first 32) _ _ (frame_refl os) (frame_refl os)
 process_frame os p process.PutRegister args is =
@@ -90,7 +90,7 @@ process_frame os p process.SetSpace args is = one_of (LeavesFrame os) (is_space 
 
 bank_refused : (g : Geometry) (os : List Object) (b w : ℕ) (args : Arguments) → bank_order w ≡ None → order g os (Bank b) w args ≡ refused os code.NoOrder
 unfolding order
-bank_refused g os b w args is = ap (λ (found : Option BankOrder). elim found [ None ↦ refused os code.NoOrder | Some asked ↦ on_bank g os b asked args ]) is
+bank_refused g os b w args is = ap (λ (found : Option BankOrder). elim found [ None ↦ refused os code.NoOrder | Some requested ↦ on_bank g os b requested args ]) is
 
 -- what isn't asked of a bank: the frame stays
 pub order_frame : (g : Geometry) (W : ℕ → Type 0) (os : List Object) (c : Capability) (w : ℕ) (args : Arguments) → IsHeld os W c → IsNoBankOrder c w
@@ -98,13 +98,13 @@ pub order_frame : (g : Geometry) (W : ℕ → Type 0) (os : List Object) (c : Ca
 unfolding order
 order_frame g W os (Number n) w args held other = one_of (LeavesFrame os) (w == 1) _ _ (frame_refl os) (frame_refl os)
 order_frame g W os (Page o a) w args held other =
-    found_or (LeavesFrame os) (page_order w) _ (λ asked. on_page os o a asked args) (frame_refl os) (λ asked. page_frame os o a asked args)
+    found_or (LeavesFrame os) (page_order w) _ (λ requested. on_page os o a requested args) (frame_refl os) (λ requested. page_frame os o a requested args)
 order_frame g W os (Node o a) w args held other =
-    found_or (LeavesFrame os) (node_order w) _ (λ asked. on_node os o a asked args) (frame_refl os) (λ asked. node_frame os o a asked args)
+    found_or (LeavesFrame os) (node_order w) _ (λ requested. on_node os o a requested args) (frame_refl os) (λ requested. node_frame os o a requested args)
 order_frame g W os (Space o k a) w args held other =
     one_of (LeavesFrame os) (w == 3) _ _ (one_of (LeavesFrame os) (reduces args.first) _ _ (frame_refl os) (frame_refl os)) (frame_refl os)
 order_frame g W os (Process p) w args held other =
-    found_or (LeavesFrame os) (process_order w) _ (λ asked. on_process os p asked args) (frame_refl os) (λ asked. process_frame os p asked args held.names)
+    found_or (LeavesFrame os) (process_order w) _ (λ requested. on_process os p requested args) (frame_refl os) (λ requested. process_frame os p requested args held.names)
 order_frame g W os (Bank b) w args held other = subst (λ (o : OrderOutcome). SameFrame os o.objects) (sym (bank_refused g os b w args other)) (frame_refl os)
 order_frame g W os Discrim w args held other = one_of (LeavesFrame os) (w == 1) _ _ (frame_refl os) (frame_refl os)
 order_frame g W os c w args held other = frame_refl os

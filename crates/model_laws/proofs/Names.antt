@@ -1,9 +1,9 @@
 -- The names that the proofs here cite: of other crates, and of the definitions of this one.
 pub use Rattle.model.specs.Bank.{chain_within, is_under}
 unfoldable pub use Rattle.model.specs.Bank.{chain, usage}
-pub use Rattle.model.specs.Banking.{allocated, are_free, bank_allocated, freed, freed_by, handed_on, least, left_of, new_annex, new_node, new_page, new_root}
-pub use Rattle.model.specs.Banking.{process_allocated}
-unfoldable pub use Rattle.model.specs.Banking.{free_nodes, free_pages, has_room, inherited, on_bank, owned_by, remaining, under, with_new}
+pub use Rattle.model.specs.Banking.{allocated, are_free, bank_allocated, freed, freed_by, least, left_of, new_annex, new_node, new_page, new_root}
+pub use Rattle.model.specs.Banking.{process_allocated, transferred}
+unfoldable pub use Rattle.model.specs.Banking.{free_nodes, free_pages, has_quota, inherited, on_bank, owned_by, remaining, under, with_new}
 pub use Rattle.model.specs.Capability.{IsAccess, IsWellFormed, access_bits, diminished, full, named, tag_of, union, weak}
 pub use Rattle.model.specs.Invoke.{Effect, after_gate, after_order, can_start, is_return, ordered, replied, reply_of, sent_by, sent_to_gate}
 unfoldable pub use Rattle.model.specs.Invoke.{deliver, invoke, on_kernel_object, through_gate}
@@ -15,7 +15,7 @@ unfoldable pub use Rattle.model.specs.Object.{all_slots, zero_words}
 pub use Rattle.model.specs.Order.{IsNoBankOrder, bank_order, fetched, is_space, node_order, page_order, process_order, reduces, stored, with_root_word}
 pub use Rattle.model.specs.Order.{with_space}
 unfoldable pub use Rattle.model.specs.Order.{on_node, on_page, on_process, order}
-pub use Rattle.model.specs.OrderOutcome.{OrderOutcome, code_number, given, made, refused, told, wrote}
+pub use Rattle.model.specs.OrderOutcome.{OrderOutcome, code_number, given, made, refused, replying, wrote}
 pub use Rattle.model.specs.Revoke.{is_given_up, is_member, names_member, resumes, void_where, without}
 unfoldable pub use Rattle.model.specs.Revoke.{consume, rescind}
 pub use Rattle.model.specs.Sound.{HasShape, IsOfKind, IsSound, IsSpace, MayBeHeld, NamesItsKind, object_count}

@@ -1,7 +1,7 @@
 -- A worked row is proved by computing it: where it is wrong, the error shows the line.
 use Rattle.model_laws.proofs.Names.{◌≡◌, ℕ, ◌<◌, ◌^◌, Bool, true, false, ◌&&◌, List, [], ◌∷◌, nat_eq, length, codes, All, bytes_eq, refl, ap₂, arith, digits}
 use Rattle.model_laws.proofs.Names.{list_all, and_parts, eqb-true, ltb-true, All-nil, All-cons, All-weaker, AllPass-from_list_all, bytes_eq-Decides, all_slots}
-use Rattle.model_laws.proofs.Names.{zero_words, with_content, with_word, with_slot, with_root, with_state, chain, usage, on_bank, has_room, free_nodes}
+use Rattle.model_laws.proofs.Names.{zero_words, with_content, with_word, with_slot, with_root, with_state, chain, usage, on_bank, has_quota, free_nodes}
 use Rattle.model_laws.proofs.Names.{free_pages, with_new, owned_by, inherited, under, rescind, consume, walk, on_page, on_node, on_process, order, deliver}
 use Rattle.model_laws.proofs.Names.{through_gate, on_kernel_object, invoke, renewing, untouched, refusal_of, carried_out, f0, i0, Command, Fits, command_words}
 use Rattle.model_laws.proofs.Names.{spelling, capability_text, word_lines, capability_lines, object_text, printed, bad_line, line_of, Row, IsRow, answered, row}
@@ -14,7 +14,7 @@ use Prim.Native.String.{String}
 
 -- `unfolding machine` lets `refl` compute what the machine answers
 unfoldable pub machine : Unit {0}
-unfolding digits all_slots zero_words with_content with_word with_slot with_root with_state chain usage rescind consume walk on_bank has_room free_nodes free_pages with_new under owned_by inherited on_page on_node on_process order deliver through_gate on_kernel_object invoke untouched renewing refusal_of carried_out command_words command_of spelling capability_text word_lines capability_lines object_text printed bad_line f0 i0 s0 b0
+unfolding digits all_slots zero_words with_content with_word with_slot with_root with_state chain usage rescind consume walk on_bank has_quota free_nodes free_pages with_new under owned_by inherited on_page on_node on_process order deliver through_gate on_kernel_object invoke untouched renewing refusal_of carried_out command_words command_of spelling capability_text word_lines capability_lines object_text printed bad_line f0 i0 s0 b0
 machine = tt
 
 -- whether numbers are below a bound, and whether a command has a spelling

@@ -5,7 +5,7 @@ use Rattle.model_laws.proofs.Names.{cases_eq, cases_Bool, and_parts, ltb-true, A
 use Rattle.model_laws.proofs.Names.{length-range_with_len, get_or-range_with_len, AllPairs-filter, Capability, Void, Page, Node, Space, Process, Start, Resume}
 use Rattle.model_laws.proofs.Names.{Bank, Geometry, Content, Object, Arguments, BankOrder, full, named, is_free, is_page, is_node, is_root, is_annex, is_bank}
 use Rattle.model_laws.proofs.Names.{role_of, words_in, slots_in, limit_in, root_in, object_at, content_at, owner_at, annex_at, root_at, is_process, chain}
-use Rattle.model_laws.proofs.Names.{usage, made, are_free, free_nodes, free_pages, has_room, with_new, new_page, new_node, new_root, new_annex, allocated}
+use Rattle.model_laws.proofs.Names.{usage, made, are_free, free_nodes, free_pages, has_quota, with_new, new_page, new_node, new_root, new_annex, allocated}
 use Rattle.model_laws.proofs.Names.{process_allocated, bank_allocated, left_of, least, remaining, on_bank, is_member, IsOfKind, HasShape}
 use Rattle.std.specs.List.{All}
 use Rattle.std.proofs.lemmas.Bool.{leb-true}
@@ -177,9 +177,9 @@ member_passes test (y ∷ ys) x all member =
     ]
 
 -- where there is room, no bank of the chain passes its limit
-room_at : (os : List Object) (b count x : ℕ) → has_room os b count ≡ true → is_member (chain os b) x ≡ true → usage os x + count ≤ limit_in (content_at os x)
-unfolding has_room
-room_at os b count x room member =
+spare_body_at : (os : List Object) (b count x : ℕ) → has_quota os b count ≡ true → is_member (chain os b) x ≡ true → usage os x + count ≤ limit_in (content_at os x)
+unfolding has_quota
+spare_body_at os b count x room member =
     leb-true (usage os x + count) (limit_in (content_at os x))
     (member_passes (λ c. nat_le (usage os c + count) (limit_in (content_at os c))) (chain os b) x room member)
 
@@ -225,16 +225,16 @@ module _ (g : Geometry) (os : List Object) (n b : ℕ) (c : Content Capability) 
     | inr differ ↦ subst (P x) (sym (at_other os n b c x differ)) (old x differ)
   ]
 
-  one_limits : has_room os b 1 ≡ true → (x : ℕ) → IsTrue (is_bank (content_at (with_new os n b c) x)) → usage (with_new os n b c) x ≤ limit_in (content_at (with_new os n b c) x)
+  one_limits : has_quota os b 1 ≡ true → (x : ℕ) → IsTrue (is_bank (content_at (with_new os n b c) x)) → usage (with_new os n b c) x ≤ limit_in (content_at (with_new os n b c) x)
   one_limits room = one_at (λ x o. IsTrue (is_bank o.content) → usage (with_new os n b c) x ≤ limit_in o.content)
       (λ is. omega (arith, usage_new_bank os n b c (tree_of g os h.frame) bank inside unused used short is))
       (λ x differ is. go x is (is_member (chain os b) x) refl)
     where
       go : (x : ℕ) → IsTrue (is_bank (content_at os x)) → (m : Bool) → is_member (chain os b) x ≡ m → usage (with_new os n b c) x ≤ limit_in (content_at os x)
-      go x is true e = rw (usage_new os n b c (tree_of g os h.frame) bank inside unused used short x is, e) (room_at os b 1 x room e)
+      go x is true e = rw (usage_new os n b c (tree_of g os h.frame) bank inside unused used short x is, e) (spare_body_at os b 1 x room e)
       go x is false e = rw (usage_new os n b c (tree_of g os h.frame) bank inside unused used short x is, e) (omega (arith, h.frame.limits x is))
 
-  one_now : has_room os b 1 ≡ true → IsOfKind g n c → IsFilled (with_new os n b c) (Waits (with_new os n b c)) c → is_root c ≡ false → is_annex c ≡ false
+  one_now : has_quota os b 1 ≡ true → IsOfKind g n c → IsFilled (with_new os n b c) (Waits (with_new os n b c)) c → is_root c ≡ false → is_annex c ≡ false
       → IsNow g (with_new os n b c)
   one_now room kind filled no_root no_annex = grown_now g os (with_new os n b c) h (record {
     size = length_new os n b c;
@@ -312,11 +312,11 @@ module _ (g : Geometry) (os : List Object) (p a b : ℕ) (h : IsNow g os) (bank 
       let same = chain_new os p b (new_root a) (tree_of g os h.frame) bank p_inside p_unused refl (λ e. cc) b bank in
       rw (second, first, same) refl
 
-  two_limits : has_room os b 2 ≡ true → (x : ℕ) → IsTrue (is_bank (content_at whole x)) → usage whole x ≤ limit_in (content_at whole x)
+  two_limits : has_quota os b 2 ≡ true → (x : ℕ) → IsTrue (is_bank (content_at whole x)) → usage whole x ≤ limit_in (content_at whole x)
   two_limits room = two_at (λ x o. IsTrue (is_bank o.content) → usage whole x ≤ limit_in o.content) (λ is. cc) (λ is. cc) (λ x is. go x is (is_member (chain os b) x) refl)
     where
       go : (x : ℕ) → IsTrue (is_bank (content_at os x)) → (m : Bool) → is_member (chain os b) x ≡ m → usage whole x ≤ limit_in (content_at os x)
-      go x is true e = rw (two_usage x is, e) (omega (arith, room_at os b 2 x room e))
+      go x is true e = rw (two_usage x is, e) (omega (arith, spare_body_at os b 2 x room e))
       go x is false e = rw (two_usage x is, e) (omega (arith, h.frame.limits x is))
 
   -- the one new process
@@ -338,7 +338,7 @@ module _ (g : Geometry) (os : List Object) (p a b : ℕ) (h : IsNow g os) (bank 
       (λ gone is. (p, ap (λ (o : Object). is_root o.content) root_there, ap (λ (o : Object). (root_in o.content).annex) root_there))
       (λ q gone is. let both : true ≡ false = sym gone ∙ used_where is_annex refl (content_at os q) is in cc)
 
-  two_now : has_room os b 2 ≡ true → p < g.nodes → a < g.nodes → IsNow g whole
+  two_now : has_quota os b 2 ≡ true → p < g.nodes → a < g.nodes → IsNow g whole
   two_now room p_node a_node = grown_now g os whole h (record {
     size = length_new rooted a b new_annex ∙ length_new os p b (new_root a);
     kept = λ x old. old_there x (λ e. apart x a e a_unused old) (λ e. apart x p e p_unused old);
@@ -369,9 +369,9 @@ module _ (g : Geometry) (os : List Object) (b : ℕ) (args : Arguments) (h : IsN
   pub page_allocated_keeps : IsOutcome g (on_bank g os b bank.NewPage args)
   unfolding on_bank free_pages
   page_allocated_keeps =
-      chosen (IsOutcome g) (has_room os b 1) _ _ (λ room. go room (free_pages g os) refl) (λ _. refused_keeps g os code.Limit h)
+      chosen (IsOutcome g) (has_quota os b 1) _ _ (λ room. go room (free_pages g os) refl) (λ _. refused_keeps g os code.Limit h)
     where
-      go : has_room os b 1 ≡ true → (ns : List ℕ) → are_free os (range_with_len g.nodes g.pages) ≡ ns → IsOutcome g (allocated os b ns new_page (λ n. Page n full))
+      go : has_quota os b 1 ≡ true → (ns : List ℕ) → are_free os (range_with_len g.nodes g.pages) ≡ ns → IsOutcome g (allocated os b ns new_page (λ n. Page n full))
       go room [] e = refused_keeps g os code.NoFrame h
       go room (n ∷ ns) e =
           let found = free_first os g.nodes g.pages n ns e in
@@ -384,9 +384,9 @@ module _ (g : Geometry) (os : List Object) (b : ℕ) (args : Arguments) (h : IsN
   pub node_allocated_keeps : IsOutcome g (on_bank g os b bank.NewNode args)
   unfolding on_bank free_nodes
   node_allocated_keeps =
-      chosen (IsOutcome g) (has_room os b 1) _ _ (λ room. go room (free_nodes g os) refl) (λ _. refused_keeps g os code.Limit h)
+      chosen (IsOutcome g) (has_quota os b 1) _ _ (λ room. go room (free_nodes g os) refl) (λ _. refused_keeps g os code.Limit h)
     where
-      go : has_room os b 1 ≡ true → (ns : List ℕ) → are_free os (range_with_len 0 g.nodes) ≡ ns → IsOutcome g (allocated os b ns new_node (λ n. Node n full))
+      go : has_quota os b 1 ≡ true → (ns : List ℕ) → are_free os (range_with_len 0 g.nodes) ≡ ns → IsOutcome g (allocated os b ns new_node (λ n. Node n full))
       go room [] e = refused_keeps g os code.NoFrame h
       go room (n ∷ ns) e =
           let found = free_first os 0 g.nodes n ns e in
@@ -399,9 +399,9 @@ module _ (g : Geometry) (os : List Object) (b : ℕ) (args : Arguments) (h : IsN
   pub bank_allocated_keeps : IsOutcome g (on_bank g os b bank.NewBank args)
   unfolding on_bank free_nodes
   bank_allocated_keeps =
-      chosen (IsOutcome g) (has_room os b 1) _ _ (λ room. go room (free_nodes g os) refl) (λ _. refused_keeps g os code.Limit h)
+      chosen (IsOutcome g) (has_quota os b 1) _ _ (λ room. go room (free_nodes g os) refl) (λ _. refused_keeps g os code.Limit h)
     where
-      go : has_room os b 1 ≡ true → (ns : List ℕ) → are_free os (range_with_len 0 g.nodes) ≡ ns → IsOutcome g (bank_allocated os b ns args.first)
+      go : has_quota os b 1 ≡ true → (ns : List ℕ) → are_free os (range_with_len 0 g.nodes) ≡ ns → IsOutcome g (bank_allocated os b ns args.first)
       go room [] e = refused_keeps g os code.NoFrame h
       go room (n ∷ ns) e =
           let found = free_first os 0 g.nodes n ns e in
@@ -416,9 +416,9 @@ module _ (g : Geometry) (os : List Object) (b : ℕ) (args : Arguments) (h : IsN
   pub process_allocated_keeps : IsOutcome g (on_bank g os b bank.NewProcess args)
   unfolding on_bank free_nodes
   process_allocated_keeps =
-      chosen (IsOutcome g) (has_room os b 2) _ _ (λ room. go room (free_nodes g os) refl) (λ _. refused_keeps g os code.Limit h)
+      chosen (IsOutcome g) (has_quota os b 2) _ _ (λ room. go room (free_nodes g os) refl) (λ _. refused_keeps g os code.Limit h)
     where
-      go : has_room os b 2 ≡ true → (ns : List ℕ) → are_free os (range_with_len 0 g.nodes) ≡ ns → IsOutcome g (process_allocated os b ns)
+      go : has_quota os b 2 ≡ true → (ns : List ℕ) → are_free os (range_with_len 0 g.nodes) ≡ ns → IsOutcome g (process_allocated os b ns)
       go room [] e = refused_keeps g os code.NoFrame h
       go room (p ∷ []) e = refused_keeps g os code.NoFrame h
       go room (p ∷ a ∷ ns) e =
@@ -454,8 +454,8 @@ module _ (g : Geometry) (os : List Object) (b : ℕ) (args : Arguments) (h : IsN
       }
 
 -- whatever a bank is asked keeps sound objects sound
-pub on_bank_keeps : (g : Geometry) (os : List Object) (b : ℕ) (asked : BankOrder) (args : Arguments) → IsNow g os → IsTrue (is_bank (content_at os b))
-    → AreArguments os args → IsOutcome g (on_bank g os b asked args)
+pub on_bank_keeps : (g : Geometry) (os : List Object) (b : ℕ) (requested : BankOrder) (args : Arguments) → IsNow g os → IsTrue (is_bank (content_at os b))
+    → AreArguments os args → IsOutcome g (on_bank g os b requested args)
 on_bank_keeps g os b bank.NewPage args h is fits = page_allocated_keeps g os b args h is fits
 on_bank_keeps g os b bank.NewNode args h is fits = node_allocated_keeps g os b args h is fits
 on_bank_keeps g os b bank.NewProcess args h is fits = process_allocated_keeps g os b args h is fits

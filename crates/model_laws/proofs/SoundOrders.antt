@@ -3,7 +3,7 @@ use Rattle.model_laws.proofs.Names.{◌∙◌, IsTrue, nat_lt, slice_index, bit_
 use Rattle.model_laws.proofs.Names.{Capability, Void, Number, Page, Node, Space, Start, Geometry, Content, Object, Root, State, Available, Running, ResultCode}
 use Rattle.model_laws.proofs.Names.{PageOrder, NodeOrder, ProcessOrder, IsAccess, union, diminished, weak, is_root, is_node, is_annex, is_waiting, root_in}
 use Rattle.model_laws.proofs.Names.{state_number, content_at, word_at, slot_at, root_at, annex_at, register_at, is_process, with_state, consume, HasShape}
-use Rattle.model_laws.proofs.Names.{IsSpace, Arguments, OrderOutcome, refused, told, given, wrote, reduces, fetched, stored, is_space, with_root_word}
+use Rattle.model_laws.proofs.Names.{IsSpace, Arguments, OrderOutcome, refused, replying, given, wrote, reduces, fetched, stored, is_space, with_root_word}
 use Rattle.model_laws.proofs.Names.{with_space, on_page, on_node, on_process}
 use Rattle.model.specs.declared.object.Content.TheVariants as content
 use Rattle.model.specs.declared.order.PageOrder.TheVariants as page
@@ -39,8 +39,8 @@ three_words a b c p q r (suc (suc (suc i))) = omega arith
 pub refused_keeps : (g : Geometry) (os : List Object) (why : ResultCode) → IsNow g os → IsOutcome g (refused os why)
 refused_keeps g os why h = record { now = h; count = refl; words = three_words 0 0 0 (omega arith) (omega arith) (omega arith); held = held_void os (Waits os) }
 
-pub told_keeps : (g : Geometry) (os : List Object) (a b : ℕ) → IsNow g os → a < 2 ^ 64 → b < 2 ^ 64 → IsOutcome g (told os a b)
-told_keeps g os a b h p q = record { now = h; count = refl; words = three_words a b 0 p q (omega arith); held = held_void os (Waits os) }
+pub replying_keeps : (g : Geometry) (os : List Object) (a b : ℕ) → IsNow g os → a < 2 ^ 64 → b < 2 ^ 64 → IsOutcome g (replying os a b)
+replying_keeps g os a b h p q = record { now = h; count = refl; words = three_words a b 0 p q (omega arith); held = held_void os (Waits os) }
 
 pub given_keeps : (g : Geometry) (os : List Object) (c : Capability) → IsNow g os → IsHeld os (Waits os) c → IsOutcome g (given os c)
 given_keeps g os c h held = record { now = h; count = refl; words = three_words 0 0 0 (omega arith) (omega arith) (omega arith); held = held }
@@ -85,11 +85,11 @@ held_fetched os W a c h = one_of (IsHeld os W) (a.0 == 3) (diminished c) c (held
 
 -- pages
 
-pub on_page_keeps : (g : Geometry) (os : List Object) (o : ℕ) (a : Access) (asked : PageOrder) (args : Arguments) → IsNow g os
-    → IsHeld os (Waits os) (Page o a) → AreArguments os args → IsOutcome g (on_page os o a asked args)
+pub on_page_keeps : (g : Geometry) (os : List Object) (o : ℕ) (a : Access) (requested : PageOrder) (args : Arguments) → IsNow g os
+    → IsHeld os (Waits os) (Page o a) → AreArguments os args → IsOutcome g (on_page os o a requested args)
 unfolding on_page
 on_page_keeps g os o a page.Read args h held fits =
-    chosen (IsOutcome g) (nat_lt args.first 512) _ _ (λ _. told_keeps g os (word_at os o args.first) 0 h ((h.filled o).words args.first) (omega arith)) (λ _. refused_keeps g os _ h)
+    chosen (IsOutcome g) (nat_lt args.first 512) _ _ (λ _. replying_keeps g os (word_at os o args.first) 0 h ((h.filled o).words args.first) (omega arith)) (λ _. refused_keeps g os _ h)
 on_page_keeps g os o a page.Write args h held fits =
     chosen (IsOutcome g) (not (a.0 == 0)) _ _ (λ _. refused_keeps g os _ h) (λ _.
     chosen (IsOutcome g) (nat_lt args.first 512) _ _
@@ -121,8 +121,8 @@ height_fits k e =
     let below = ltb-true k 5 (not-false (nat_lt k 5) parts.1) in
     (grind arith, omega arith)
 
-pub on_node_keeps : (g : Geometry) (os : List Object) (o : ℕ) (a : Access) (asked : NodeOrder) (args : Arguments) → IsNow g os
-    → IsHeld os (Waits os) (Node o a) → AreArguments os args → IsOutcome g (on_node os o a asked args)
+pub on_node_keeps : (g : Geometry) (os : List Object) (o : ℕ) (a : Access) (requested : NodeOrder) (args : Arguments) → IsNow g os
+    → IsHeld os (Waits os) (Node o a) → AreArguments os args → IsOutcome g (on_node os o a requested args)
 unfolding on_node
 on_node_keeps g os o a node.Fetch args h held fits =
     chosen (IsOutcome g) (nat_lt args.first 32) _ _
@@ -183,8 +183,8 @@ space_fits (Page o a) e = tt
 space_fits (Space o k a) e = tt
 space_fits c e = cc
 
-pub on_process_keeps : (g : Geometry) (os : List Object) (p : ℕ) (asked : ProcessOrder) (args : Arguments) → IsNow g os
-    → IsTrue (is_process os p) → AreArguments os args → IsOutcome g (on_process os p asked args)
+pub on_process_keeps : (g : Geometry) (os : List Object) (p : ℕ) (requested : ProcessOrder) (args : Arguments) → IsNow g os
+    → IsTrue (is_process os p) → AreArguments os args → IsOutcome g (on_process os p requested args)
 unfolding on_process
 on_process_keeps g os p process.GetRegister args h is fits =
     chosen (IsOutcome g) (nat_lt args.first 32) _ _ (λ _. given_keeps g os (register_at os p args.first) h ((h.filled (annex_at os p)).slots args.first)) (λ _. refused_keeps g os _ h)
@@ -195,7 +195,7 @@ on_process_keeps g os p process.PutRegister args h is fits =
     (λ _. eqb-false args.first 0 (or_parts (args.first == 0) (not (nat_lt args.first 32)) e).0))))
 on_process_keeps g os p process.GetWord args h is fits =
     chosen (IsOutcome g) (nat_lt args.first 4) _ _
-    (λ _. told_keeps g os (slice_index (root_at os p).words args.first) 0 h ((root_now g (Waits os) os p h is).words args.first) (omega arith))
+    (λ _. replying_keeps g os (slice_index (root_at os p).words args.first) 0 h ((root_now g (Waits os) os p h is).words args.first) (omega arith))
     (λ _. refused_keeps g os _ h)
 on_process_keeps g os p process.PutWord args h is fits =
     let r = root_now g (Waits os) os p h is in
@@ -217,7 +217,7 @@ on_process_keeps g os p process.MakeStart args h is fits =
     (λ _. refused_keeps g os _ h)
 on_process_keeps g os p process.GetState args h is fits =
     let r = root_now g (Waits os) os p h is in
-    told_keeps g os (state_number (root_at os p).state) (root_at os p).key h (state_fits (root_at os p).state) (omega (arith, r.key))
+    replying_keeps g os (state_number (root_at os p).state) (root_at os p).key h (state_fits (root_at os p).state) (omega (arith, r.key))
 on_process_keeps g os p process.SetState args h is fits =
     chosen (IsOutcome g) (args.first == 0) _ _ (λ _. wrote_keeps g _ p (consumed_now g os p Available h is)) (λ _.
     chosen (IsOutcome g) (args.first == 1) _ _ (λ _. wrote_keeps g _ p (consumed_now g os p Running h is)) (λ _. refused_keeps g os _ h))

@@ -35,13 +35,13 @@ refusals_hold = rows_hold refusals (All-from_recursion IsRight refusals (refl, (
 abbrev comes_to : Machine → Outcome → Option Refusal → Outcome
 comes_to s o r = elim r [ Some why ↦ outcome (answer.Refused why) s | None ↦ o ]
 
-abbrev IsTold : Machine → Outcome → Option Refusal → Answer → UpOrDown → Type 0
-IsTold s o r a after = elim r [
+abbrev IsReplying : Machine → Outcome → Option Refusal → Answer → UpOrDown → Type 0
+IsReplying s o r a after = elim r [
   | Some why ↦ (a ≡ answer.Refused why) × (after ≡ Up s)
   | None ↦ (a ≡ o.answer) × (after ≡ Up o.after)
 ]
 
-answers_of : (s : Machine) (o : Outcome) (r : Option Refusal) → IsTold s o r (comes_to s o r).answer (Up (comes_to s o r).after)
+answers_of : (s : Machine) (o : Outcome) (r : Option Refusal) → IsReplying s o r (comes_to s o r).answer (Up (comes_to s o r).after)
 answers_of s o None = (refl, refl)
 answers_of s o (Some why) = (refl, refl)
 
@@ -77,19 +77,19 @@ pub says_nothing : SaysNothing
 says_nothing = ((omega arith, tt), (omega arith, refl), (omega arith, refl))
 
 -- where a text spells a command, its words tell which
-told_by_words : (text : List ℕ) (c : Command) → Fits c → text ≡ spelling c → command_of (split text) ≡ c
-told_by_words text c fits e = ap (λ t. command_of (split t)) e ∙ reads_spelling c fits
+replying_by_words : (text : List ℕ) (c : Command) → Fits c → text ≡ spelling c → command_of (split text) ≡ c
+replying_by_words text c fits e = ap (λ t. command_of (split t)) e ∙ reads_spelling c fits
 
 -- a text that isn't the spelling of the command that its words tell spells none
 spells_another : (text : List ℕ) → bytes_eq text (spelling (command_of (split text))) ≡ false → (c : Command) → Fits c → text ≢ spelling c
 spells_another text differs c fits e =
-    let spelled : text ≡ spelling (command_of (split text)) = e ∙ ap spelling (sym (told_by_words text c fits e)) in
+    let spelled : text ≡ spelling (command_of (split text)) = e ∙ ap spelling (sym (replying_by_words text c fits e)) in
     let same : bytes_eq text (spelling (command_of (split text))) ≡ true = (bytes_eq-Decides text (spelling (command_of (split text)))).1 spelled in
     cc
 
 -- nor does one where that command has no spelling
 does_not_fit : (text : List ℕ) → (Fits (command_of (split text)) → ⊥) → (c : Command) → Fits c → text ≢ spelling c
-does_not_fit text unfit c fits e = unfit (subst Fits (sym (told_by_words text c fits e)) fits)
+does_not_fit text unfit c fits e = unfit (subst Fits (sym (replying_by_words text c fits e)) fits)
 
 pub says_bad : SaysBad
 unfolding machine command_of
@@ -131,11 +131,11 @@ unfolding machine
 wants_memory = (
   inr (inl (refl, refl, refl)),
   inr (inl (refl, refl, refl)),
-  λ m step. elim step [ inl told ↦ cc | inr other ↦ elim other [ inl want ↦ cc | inr fault ↦ cc ] ],
-  λ m step. elim step [ inl told ↦ cc | inr other ↦ elim other [ inl want ↦ cc | inr fault ↦ cc ] ],
-  λ m step. elim step [ inl told ↦ cc | inr other ↦ elim other [ inl want ↦ cc | inr fault ↦ cc ] ],
-  λ m step. elim step [ inl told ↦ cc | inr other ↦ elim other [ inl want ↦ cc | inr fault ↦ cc ] ],
-  λ m step. elim step [ inl told ↦ cc | inr other ↦ elim other [ inl want ↦ cc | inr fault ↦ cc ] ],
+  λ m step. elim step [ inl replying ↦ cc | inr other ↦ elim other [ inl want ↦ cc | inr fault ↦ cc ] ],
+  λ m step. elim step [ inl replying ↦ cc | inr other ↦ elim other [ inl want ↦ cc | inr fault ↦ cc ] ],
+  λ m step. elim step [ inl replying ↦ cc | inr other ↦ elim other [ inl want ↦ cc | inr fault ↦ cc ] ],
+  λ m step. elim step [ inl replying ↦ cc | inr other ↦ elim other [ inl want ↦ cc | inr fault ↦ cc ] ],
+  λ m step. elim step [ inl replying ↦ cc | inr other ↦ elim other [ inl want ↦ cc | inr fault ↦ cc ] ],
 )
 
 pub prints_refusals : PrintsRefusals

@@ -54,11 +54,11 @@ rescinded_by os b _ args = []
 
 -- an order of a bank that is done gives up what it rescinds and nothing else, and one that isn't gives nothing up
 abbrev pub GivesUpRescinded : Type 0
-GivesUpRescinded = (g : Geometry) (w : World) (b : ℕ) (asked : BankOrder) (args : Arguments) (n : ℕ) →
+GivesUpRescinded = (g : Geometry) (w : World) (b : ℕ) (requested : BankOrder) (args : Arguments) (n : ℕ) →
     IsSound g w → IsTrue (is_bank (content_at w.objects b)) → MayBeHeld w.objects args.capability →
-    ((on_bank g w.objects b asked args).code ≡ code.Done →
-    is_given_up w.objects (on_bank g w.objects b asked args).objects n ≡ is_member (rescinded_by w.objects b asked args) n)
-    × (((on_bank g w.objects b asked args).code ≡ code.Done → ⊥) → is_given_up w.objects (on_bank g w.objects b asked args).objects n ≡ false)
+    ((on_bank g w.objects b requested args).code ≡ code.Done →
+    is_given_up w.objects (on_bank g w.objects b requested args).objects n ≡ is_member (rescinded_by w.objects b requested args) n)
+    × (((on_bank g w.objects b requested args).code ≡ code.Done → ⊥) → is_given_up w.objects (on_bank g w.objects b requested args).objects n ≡ false)
 
 -- an invocation of a running process that asks no bank, through a gate or not, gives nothing up
 abbrev pub GivesUpNothing : Type 0

@@ -23,8 +23,8 @@ after s [] = s
 after s (c ∷ cs) = after (answered s c).after cs
 
 -- generation, age and entries of each saved part
-abbrev pub told_saved : List Saved → List (ℕ × ℕ × ℕ)
-told_saved saved = map (λ at. (at.generation, at.world.age, at.entries)) saved
+abbrev pub replying_saved : List Saved → List (ℕ × ℕ × ℕ)
+replying_saved saved = map (λ at. (at.generation, at.world.age, at.entries)) saved
 
 -- the outcome of a command is a step of the machine
 abbrev pub AnswersBySteps : Type 0
@@ -44,16 +44,16 @@ committed = after stable (command.Commit ∷ [])
 -- migration of the last object, its entries are counted or not; elsewhere nothing is in doubt
 abbrev pub FailsBetween : Type 0
 FailsBetween =
-    (told_saved (candidates (Up stable) ++ second (Up stable) command.Commit) ≡ (0, 0, 0) ∷ (1, 2, 3) ∷ [])
-    × (told_saved (second (Up stable) (command.Stabilize 1)) ≡ [])
-    × (told_saved (second (Up frozen) command.Commit) ≡ [])
-    × (told_saved (second (Up committed) (command.Migrate 2)) ≡ [])
-    × (told_saved (second (Up committed) (command.Migrate 9)) ≡ (1, 2, 0) ∷ [])
-    × (told_saved (second (Up (at_world f0)) (command.Migrate 9)) ≡ [])
-    × (told_saved (second (Up stable) (command.Journal 16)) ≡ [])
-    × (told_saved (second (Up committed) (command.Journal 16)) ≡ [])
-    × (told_saved (second (Up (after committed (command.Migrate 9 ∷ []))) (command.Journal 16)) ≡ (3, 3, 1) ∷ [])
-    × (told_saved (second (Up (at_world f0)) (command.Journal 5)) ≡ [])
+    (replying_saved (candidates (Up stable) ++ second (Up stable) command.Commit) ≡ (0, 0, 0) ∷ (1, 2, 3) ∷ [])
+    × (replying_saved (second (Up stable) (command.Stabilize 1)) ≡ [])
+    × (replying_saved (second (Up frozen) command.Commit) ≡ [])
+    × (replying_saved (second (Up committed) (command.Migrate 2)) ≡ [])
+    × (replying_saved (second (Up committed) (command.Migrate 9)) ≡ (1, 2, 0) ∷ [])
+    × (replying_saved (second (Up (at_world f0)) (command.Migrate 9)) ≡ [])
+    × (replying_saved (second (Up stable) (command.Journal 16)) ≡ [])
+    × (replying_saved (second (Up committed) (command.Journal 16)) ≡ [])
+    × (replying_saved (second (Up (after committed (command.Migrate 9 ∷ []))) (command.Journal 16)) ≡ (3, 3, 1) ∷ [])
+    × (replying_saved (second (Up (at_world f0)) (command.Journal 5)) ≡ [])
 
 -- a machine that is down says so, and is opened at one of its saved parts
 abbrev pub OpensAgain : Type 0

@@ -1,12 +1,12 @@
 -- What an object was frozen as is kept apart from what it holds.
 use Rattle.object_cache.proofs.Names.{◌≡◌, inr, ℕ, ◌<◌, Bool, true, false, List, length, map, set, Option, Some, None, option_map, refl, sym, ap, ◌∙◌, arith}
 use Rattle.object_cache.proofs.Names.{length-set, get_or-map, get_or-set_same, get_or-set_other, map-set, set-get_or, none-some, same_Some, Cap, Content}
-use Rattle.object_cache.proofs.Names.{header_at, Disk, DurableState, Stored, below_at, stored_of, Entry, entry_at, with_entry, keeping, present_of, room_of}
+use Rattle.object_cache.proofs.Names.{header_at, Disk, DurableState, Stored, below_at, stored_of, Entry, entry_at, with_entry, keeping, present_of, buffer_of}
 use Rattle.object_cache.proofs.Names.{Memory, Shared, Apart, mark_at, present_body, newest_body, below_body, apart_body, frozen_body, frozen_frame, owed_of}
-use Rattle.object_cache.proofs.Names.{owed_body, owed_in_memory, owed_in, StoreState, IsCache, IsFetchedIn, cache_of, owed_at, seats_in, some_of}
+use Rattle.object_cache.proofs.Names.{owed_body, owed_in_memory, owed_in, StoreState, IsCache, IsFetchedIn, cache_of, owed_at, cached_in, some_of}
 use Rattle.object_cache.proofs.Changing.{with_objects}
 use Rattle.object_cache.proofs.Objects.{has_entry, fetched_known}
-use Rattle.object_cache.proofs.Seating.{Reseats, seated_cache, owed_changed, seen_seated, owed_entry}
+use Rattle.object_cache.proofs.Caching.{Recaches, cached_cache, owed_changed, seen_cached, owed_entry}
 
 -- a body that is both is of an object that is pending and wasn't written since it was frozen
 shared_owed : (e : Entry) (pending touched : Bool) → owed_of (Some e) pending touched ≡ Shared → (pending ≡ true) × (touched ≡ false) × (e.kept ≡ None)
@@ -18,16 +18,16 @@ shared_owed e true touched is = let p = go e.kept touched is in (refl, p.0, p.1)
     go None true same = cc
     go None false same = (refl, refl)
 
-room_keeps : (k : Option (Content Cap)) (o : Option Entry) → option_map room_of (option_map (keeping k) o) ≡ option_map room_of o
+room_keeps : (k : Option (Content Cap)) (o : Option Entry) → option_map buffer_of (option_map (keeping k) o) ≡ option_map buffer_of o
 room_keeps k None = refl
 room_keeps k (Some e) = refl
 
-pub seats_keep : (k : Option (Content Cap)) (n : ℕ) (es : List (Option Entry)) → seats_in (with_entry (keeping k) n es) ≡ seats_in es
-unfolding seats_in
-seats_keep k n es =
-    map-set (option_map room_of) es n (option_map (keeping k) (entry_at es n))
-    ∙ ap (set (map (option_map room_of) es) n) (room_keeps k (entry_at es n) ∙ sym (get_or-map (option_map room_of) es n None))
-    ∙ set-get_or (map (option_map room_of) es) n None
+pub cached_keep : (k : Option (Content Cap)) (n : ℕ) (es : List (Option Entry)) → cached_in (with_entry (keeping k) n es) ≡ cached_in es
+unfolding cached_in
+cached_keep k n es =
+    map-set (option_map buffer_of) es n (option_map (keeping k) (entry_at es n))
+    ∙ ap (set (map (option_map buffer_of) es) n) (room_keeps k (entry_at es n) ∙ sym (get_or-map (option_map buffer_of) es n None))
+    ∙ set-get_or (map (option_map buffer_of) es) n None
 
 module _ (s : Stored) (m : Memory) (n : ℕ) (within : n < length m.entries) (e : Entry) (at : entry_at m.entries n ≡ Some e) (shared : owed_in_memory m n ≡ Shared) where
   abbrev apart : List (Option Entry)
@@ -46,7 +46,7 @@ module _ (s : Stored) (m : Memory) (n : ℕ) (within : n < length m.entries) (e 
       ∙ ap (λ (t : Bool). apart_body e.kept t e.present (below_body s m n)) facts.1
       ∙ ap (λ (k : Option (Content Cap)). apart_body k false e.present (below_body s m n)) facts.2)
 
-  pub keeps_apart : Reseats s m apart n
+  pub keeps_apart : Recaches s m apart n
   keeps_apart = record {
     count = length-set m.entries n (option_map (keeping (Some e.present)) (entry_at m.entries n));
     entries = λ k other. get_or-set_other m.entries n k (option_map (keeping (Some e.present)) (entry_at m.entries n)) None other;
@@ -85,17 +85,17 @@ module _ {D : Type 0} (disk : D → Disk) (d : DurableState D) (m : Memory) (lef
   entries_are : with_entry (keeping (Some x)) n m.entries ≡ with_entry (keeping (Some entry_here.0.present)) n m.entries
   entries_are = ap (λ (c : Content Cap). with_entry (keeping (Some c)) n m.entries) (sym body_is)
 
-  reseats : Reseats (stored_of disk d) m (with_entry (keeping (Some entry_here.0.present)) n m.entries) n
-  reseats = keeps_apart (stored_of disk d) m n entry_within entry_here.0 entry_here.1 shared_here
+  recaches : Recaches (stored_of disk d) m (with_entry (keeping (Some entry_here.0.present)) n m.entries) n
+  recaches = keeps_apart (stored_of disk d) m n entry_within entry_here.0 entry_here.1 shared_here
 
   pub apart_stands : IsCache (stored_of disk d) (with_objects m m.headers (with_entry (keeping (Some x)) n m.entries)) left count
-  apart_stands = rw entries_are (seated_cache (stored_of disk d) m (with_entry (keeping (Some entry_here.0.present)) n m.entries) n reseats left count is)
+  apart_stands = rw entries_are (cached_cache (stored_of disk d) m (with_entry (keeping (Some entry_here.0.present)) n m.entries) n recaches left count is)
 
   pub apart_seen : cache_of disk d (with_objects m m.headers (with_entry (keeping (Some x)) n m.entries)) left order most_entries ≡ record s { owed = set s.owed n Apart }
   apart_seen =
       let es = with_entry (keeping (Some entry_here.0.present)) n m.entries in
       ap (λ (fs : List (Option Entry)). cache_of disk d (with_objects m m.headers fs) left order most_entries) entries_are
-      ∙ seen_seated disk d m left order most_entries es n reseats (set (owed_in m) n Apart)
-      (owed_changed (stored_of disk d) m es n reseats Apart known_here (owed_apart (stored_of disk d) m n entry_within entry_here.0 entry_here.1 shared_here))
-      ∙ ap (λ (rs : List (Option (Content Cap))). record (cache_of disk d m left order most_entries) { seats = rs; owed = set (owed_in m) n Apart }) (seats_keep (Some entry_here.0.present) n m.entries)
+      ∙ seen_cached disk d m left order most_entries es n recaches (set (owed_in m) n Apart)
+      (owed_changed (stored_of disk d) m es n recaches Apart known_here (owed_apart (stored_of disk d) m n entry_within entry_here.0 entry_here.1 shared_here))
+      ∙ ap (λ (rs : List (Option (Content Cap))). record (cache_of disk d m left order most_entries) { cached = rs; owed = set (owed_in m) n Apart }) (cached_keep (Some entry_here.0.present) n m.entries)
       ∙ ap (λ (t : StoreState D). record t { owed = set t.owed n Apart }) view

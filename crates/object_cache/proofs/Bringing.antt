@@ -2,14 +2,14 @@
 use Rattle.object_cache.proofs.Names.{◌≡◌, ◌↔◌, inl, inr, ℕ, zero, suc, ◌+◌, ◌<◌, ◌≤◌, nat_eq, Bool, true, false, ◌||◌, true≢false, List, [], ◌∷◌, length, set}
 use Rattle.object_cache.proofs.Names.{take, Option, Some, None, IsSome, is_some, Result, Ok, Err, refl, sym, ap, subst, ◌∙◌, arith, IsErrOf, OnOk, OnErr}
 use Rattle.object_cache.proofs.Names.{slice_index_or, Contains, cases_eq, cases_lt, eq-eqb, get_or_past, get_or_default, get_or-set_same, get_or-set_other}
-use Rattle.object_cache.proofs.Names.{length-map, Cap, Geometry, Content, AreKeepable, is_member, Image, Disk, most, DurableState, stored_of, frames_of, Aside}
-use Rattle.object_cache.proofs.Names.{Entry, room_of, Memory, without, StoreState, IsCache, IsFetchedIn, GoesOnIn, cache_of, parts_of, seat_at, seats_in}
-use Rattle.object_cache.proofs.Names.{with_seat, IsRecentIn, on_device_with, goes_on_same, front_without}
+use Rattle.object_cache.proofs.Names.{length-map, Cap, Geometry, Content, AreKeepable, is_member, Image, Disk, most, DurableState, stored_of, frames_of}
+use Rattle.object_cache.proofs.Names.{Snapshots, Entry, buffer_of, Memory, without, StoreState, IsCache, IsFetchedIn, GoesOnIn, cache_of, parts_of, cached_at}
+use Rattle.object_cache.proofs.Names.{cached_in, with_cached, IsRecentIn, on_device_with, goes_on_same, front_without}
 use Rattle.std.specs.Prelude.{option_map}
 use Rattle.model.specs.declared.object.Content.TheVariants as content
 use Rattle.capability.specs.declared.present.PrepareFault.TheVariants as fault
 use Rattle.object_cache.proofs.Objects.{contents_count}
-use Rattle.object_cache.proofs.Leading.{leads_seats}
+use Rattle.object_cache.proofs.Leading.{continues_cached}
 
 -- ---- the front of an order
 
@@ -53,43 +53,43 @@ front_used n m j (suc k) ns below is = elim (cases_eq m n) [
 
 -- ---- numbers that have an entry
 
-pub seat_within : (ss : List (Option (Content Cap))) (n : ℕ) → IsSome (seat_at ss n) → n < length ss
-seat_within ss n some = elim (cases_lt n (length ss)) [
+pub cached_within : (ss : List (Option (Content Cap))) (n : ℕ) → IsSome (cached_at ss n) → n < length ss
+cached_within ss n some = elim (cases_lt n (length ss)) [
   | inl within ↦ within
   | inr past ↦ absurd (true≢false (sym some ∙ ap is_some (get_or_past ss n None past)))
 ]
 
-pub still_seated : (ss : List (Option (Content Cap))) (n m : ℕ) (c : Content Cap) → IsSome (seat_at ss m) → IsSome (seat_at (set ss n (Some c)) m)
-still_seated ss n m c some = elim (cases_eq m n) [
-  | inl same ↦ subst (λ (k : ℕ). IsSome (seat_at (set ss k (Some c)) m)) same
-      (ap is_some (get_or-set_same ss m (Some c) None (seat_within ss m some)))
+pub still_cached : (ss : List (Option (Content Cap))) (n m : ℕ) (c : Content Cap) → IsSome (cached_at ss m) → IsSome (cached_at (set ss n (Some c)) m)
+still_cached ss n m c some = elim (cases_eq m n) [
+  | inl same ↦ subst (λ (k : ℕ). IsSome (cached_at (set ss k (Some c)) m)) same
+      (ap is_some (get_or-set_same ss m (Some c) None (cached_within ss m some)))
   | inr other ↦ ap is_some (get_or-set_other ss n m (Some c) None other) ∙ some
 ]
 
 module _ {D : Type 0} where
   pub place_recent : (s t : StoreState D) → t ≡ on_device_with s t → take 7 t.order ≡ take 7 s.order →
-      ((n : ℕ) → is_member (take 7 s.order) n ≡ true → seat_at t.seats n ≡ seat_at s.seats n) → (k n : ℕ) → k ≤ 7 → IsRecentIn s k n → IsRecentIn t k n
+      ((n : ℕ) → is_member (take 7 s.order) n ≡ true → cached_at t.cached n ≡ cached_at s.cached n) → (k n : ℕ) → k ≤ 7 → IsRecentIn s k n → IsRecentIn t k n
   place_recent s t rest order others k n few recent = (
     record {
       header = omega (arith, recent.0.header, ap (λ (x : StoreState D). length x.headers) rest);
       content = omega (arith, recent.0.content, ap (λ (x : StoreState D). length x.contents) rest);
-      seat = ap is_some (others n (front_within k 7 n s.order few recent.1)) ∙ recent.0.seat;
+      cached = ap is_some (others n (front_within k 7 n s.order few recent.1)) ∙ recent.0.cached;
     },
     ap (λ (ns : List ℕ). is_member ns n) (front_same k 7 s.order t.order few order) ∙ recent.1,
   )
 
   pub use_first : (s : StoreState D) (n k : ℕ) → IsFetchedIn s n → 0 < k → IsRecentIn (record s { order = n ∷ without n s.order }) k n
-  use_first s n k there some = (record { header = there.header; content = there.content; seat = there.seat }, front_first n k (without n s.order) some)
+  use_first s n k there some = (record { header = there.header; content = there.content; cached = there.cached }, front_first n k (without n s.order) some)
 
   pub use_recent : (s : StoreState D) (n j k m : ℕ) → j < k → IsRecentIn s j m → IsRecentIn (record s { order = n ∷ without n s.order }) k m
-  use_recent s n j k m below recent = (record { header = recent.0.header; content = recent.0.content; seat = recent.0.seat }, front_used n m j k s.order below recent.1)
+  use_recent s n j k m below recent = (record { header = recent.0.header; content = recent.0.content; cached = recent.0.cached }, front_used n m j k s.order below recent.1)
 
   pub read_recent : (s t : StoreState D) (j n : ℕ) → t ≡ record s { durable = t.durable } → IsRecentIn s j n → IsRecentIn t j n
   read_recent s t j n is recent = (
     record {
       header = omega (arith, recent.0.header, ap (λ (x : StoreState D). length x.headers) is);
       content = omega (arith, recent.0.content, ap (λ (x : StoreState D). length x.contents) is);
-      seat = ap (λ (x : StoreState D). is_some (seat_at x.seats n)) is ∙ recent.0.seat;
+      cached = ap (λ (x : StoreState D). is_some (cached_at x.cached n)) is ∙ recent.0.cached;
     },
     ap (λ (x : StoreState D). is_member (take j x.order) n) is ∙ recent.1,
   )
@@ -103,57 +103,57 @@ module _ {D : Type 0} where
       is ∙ ap (λ (x : StoreState D). record x { durable = u.durable }) first
       ∙ ap (λ (x : StoreState D). record (on_device_with s x) { durable = u.durable }) (sym is)
 
-  pub seat_rest : {T E : Type 0} (r : Result T E) (s t : StoreState D) (n : ℕ) → OnOk r (t ≡ with_seat n s) → OnErr r (t ≡ s) → t ≡ on_device_with s t
-  seat_rest (Ok x) s t n ok err = ok ∙ ap (on_device_with s) (sym ok)
-  seat_rest (Err e) s t n ok err = err ∙ ap (on_device_with s) (sym err)
+  pub cached_rest : {T E : Type 0} (r : Result T E) (s t : StoreState D) (n : ℕ) → OnOk r (t ≡ with_cached n s) → OnErr r (t ≡ s) → t ≡ on_device_with s t
+  cached_rest (Ok x) s t n ok err = ok ∙ ap (on_device_with s) (sym ok)
+  cached_rest (Err e) s t n ok err = err ∙ ap (on_device_with s) (sym err)
 
-  pub seat_hand : {T E : Type 0} (r : Result T E) (s t : StoreState D) (n : ℕ) → OnOk r (t ≡ with_seat n s) → OnErr r (t ≡ s) → t.hand ≡ s.hand
-  seat_hand (Ok x) s t n ok err = ap (λ (x : StoreState D). x.hand) ok
-  seat_hand (Err e) s t n ok err = ap (λ (x : StoreState D). x.hand) err
+  pub cached_staging : {T E : Type 0} (r : Result T E) (s t : StoreState D) (n : ℕ) → OnOk r (t ≡ with_cached n s) → OnErr r (t ≡ s) → t.staging ≡ s.staging
+  cached_staging (Ok x) s t n ok err = ap (λ (x : StoreState D). x.staging) ok
+  cached_staging (Err e) s t n ok err = ap (λ (x : StoreState D). x.staging) err
 
-  pub seat_first : (s t : StoreState D) (n k : ℕ) → t ≡ with_seat n s → IsFetchedIn t n → 0 < k → IsRecentIn t k n
-  seat_first s t n k is there some = (there, ap (λ (x : StoreState D). is_member (take k x.order) n) is ∙ front_first n k s.order some)
+  pub cached_first : (s t : StoreState D) (n k : ℕ) → t ≡ with_cached n s → IsFetchedIn t n → 0 < k → IsRecentIn t k n
+  cached_first s t n k is there some = (there, ap (λ (x : StoreState D). is_member (take k x.order) n) is ∙ front_first n k s.order some)
 
-  pub seat_recent : (s t : StoreState D) (n j k m : ℕ) → t ≡ with_seat n s → j < k → IsRecentIn s j m → IsRecentIn t k m
-  seat_recent s t n j k m is below recent = (
+  pub cached_recent : (s t : StoreState D) (n j k m : ℕ) → t ≡ with_cached n s → j < k → IsRecentIn s j m → IsRecentIn t k m
+  cached_recent s t n j k m is below recent = (
     record {
       header = omega (arith, recent.0.header, ap (λ (x : StoreState D). length x.headers) is);
       content = omega (arith, recent.0.content, ap (λ (x : StoreState D). length x.contents) is);
-      seat = ap (λ (x : StoreState D). is_some (seat_at x.seats m)) is ∙ still_seated s.seats n m content.Free recent.0.seat;
+      cached = ap (λ (x : StoreState D). is_some (cached_at x.cached m)) is ∙ still_cached s.cached n m content.Free recent.0.cached;
     },
     ap (λ (x : StoreState D). is_member (take k x.order) m) is ∙ front_pushed n m j k s.order below recent.1,
   )
 
-seats_count : (es : List (Option Entry)) → length (seats_in es) ≡ length es
-unfolding seats_in
-seats_count es = length-map es (option_map room_of)
+cached_count : (es : List (Option Entry)) → length (cached_in es) ≡ length es
+unfolding cached_in
+cached_count es = length-map es (option_map buffer_of)
 
 module _ {D : Type 0} (disk : D → Disk) (d : DurableState D) (m : Memory) (left count : ℕ) (order : List ℕ) (most_entries : ℕ) (s : StoreState D)
     (view : cache_of disk d m left order most_entries ≡ s) (is : IsCache (stored_of disk d) m left count) (n : ℕ) (known : n < length s.headers) where
-  known_seat : n < length s.seats
-  known_seat = omega (arith, known, ap (λ (t : StoreState D). length t.headers) view, ap (λ (t : StoreState D). length t.seats) view, seats_count m.entries, is.headers, is.entries)
+  known_cached : n < length s.cached
+  known_cached = omega (arith, known, ap (λ (t : StoreState D). length t.headers) view, ap (λ (t : StoreState D). length t.cached) view, cached_count m.entries, is.headers, is.entries)
 
-  pub seat_fetched : IsFetchedIn (with_seat n s) n
-  seat_fetched = record {
+  pub cached_fetched : IsFetchedIn (with_cached n s) n
+  cached_fetched = record {
     header = known;
     content = omega (arith, known, ap (λ (t : StoreState D). length t.headers) view, ap (λ (t : StoreState D). length t.contents) view, contents_count (stored_of disk d) m);
-    seat = ap is_some (get_or-set_same s.seats n (Some content.Free) None known_seat);
+    cached = ap is_some (get_or-set_same s.cached n (Some content.Free) None known_cached);
   }
 
 -- ---- what leads on, and why a call failed
 
 module _ {D : Type 0} (disk : D → Disk) where
-  pub seat_leads : ((d : D) (c : Image) → (disk d).left_since (disk d).moment c → (disk d).may_leave c) → {T E : Type 0} (r : Result T E) (s t : StoreState D) (n : ℕ) →
-      OnOk r (t ≡ with_seat n s) → OnErr r (t ≡ s) → GoesOnIn disk s t
-  seat_leads only_now (Ok x) s t n ok err = subst (GoesOnIn disk s) (sym ok)
-      (leads_seats disk s s (with_seat n s).seats (with_seat n s).owed (with_seat n s).order (goes_on_same disk only_now s))
-  seat_leads only_now (Err e) s t n ok err = subst (GoesOnIn disk s) (sym err) (goes_on_same disk only_now s)
+  pub cached_continues : ((d : D) (c : Image) → (disk d).left_since (disk d).moment c → (disk d).may_leave c) → {T E : Type 0} (r : Result T E) (s t : StoreState D) (n : ℕ) →
+      OnOk r (t ≡ with_cached n s) → OnErr r (t ≡ s) → GoesOnIn disk s t
+  cached_continues only_now (Ok x) s t n ok err = subst (GoesOnIn disk s) (sym ok)
+      (continues_cached disk s s (with_cached n s).cached (with_cached n s).owed (with_cached n s).order (goes_on_same disk only_now s))
+  cached_continues only_now (Err e) s t n ok err = subst (GoesOnIn disk s) (sym err) (goes_on_same disk only_now s)
 
   -- what can be kept can be kept once other things are in memory
   pub keepable_on : (s t : StoreState D) → t ≡ on_device_with s t → GoesOnIn disk s t → AreKeepable (parts_of disk s).geometry most (frames_of (parts_of disk s)) →
       AreKeepable (parts_of disk t).geometry most (frames_of (parts_of disk t))
-  keepable_on s t rest leads keepable =
-      subst (λ (h : Geometry). AreKeepable h most (frames_of (parts_of disk t))) (sym (ap (λ (a : Aside). a.saved.geometry) leads.aside))
+  keepable_on s t rest continues keepable =
+      subst (λ (h : Geometry). AreKeepable h most (frames_of (parts_of disk t))) (sym (ap (λ (a : Snapshots). a.saved.geometry) continues.snapshots))
       (subst (λ (x : StoreState D). AreKeepable (parts_of disk s).geometry most (frames_of (parts_of disk x))) (sym rest) keepable)
 
 -- a call that succeeded had no failure of the device

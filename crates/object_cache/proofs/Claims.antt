@@ -2,17 +2,17 @@
 use Rattle.object_cache.proofs.Names.{◌≡◌, ◌≢◌, ℕ, ◌<◌, Bool, true≢false, cond, List, length, set, Option, Some, None, IsSome, is_some, option_map, refl, sym}
 use Rattle.object_cache.proofs.Names.{ap, ◌∙◌, arith, length-set, lt-ltb, le-ltb, get_or-set_same, get_or-set_other, none-some, same_Some, Cap, ObjectHeader}
 use Rattle.object_cache.proofs.Names.{Geometry, Content, Role, blank_header, header_at, void_held, all_slots, zero_words, Disk, DurableState, stored_of, Fresh}
-use Rattle.object_cache.proofs.Names.{IsFreshAt, room_at, room_for, Entry, entry_at, with_entry, holding, reserving, room_of, Memory, present_body, newest_body}
-use Rattle.object_cache.proofs.Names.{contents_in, StoreState, IsCache, IsFetchedIn, IsAnnouncedIn, cache_of, seat_at, seats_in}
+use Rattle.object_cache.proofs.Names.{IsFreshAt, spare_body_at, spare_body_for, Entry, entry_at, with_entry, holding, reserving, buffer_of, Memory}
+use Rattle.object_cache.proofs.Names.{present_body, newest_body, contents_in, StoreState, IsCache, IsFetchedIn, IsAnnouncedIn, cache_of, cached_at, cached_in}
 use Rattle.model.specs.declared.object.Content.TheVariants as content
 use Rattle.model.specs.declared.object.Role.TheVariants as role
 use Rattle.capability.specs.declared.present.Fresh.TheVariants as fresh
 use Rattle.object_cache.proofs.Changing.{Changes, kept_of, with_objects, still_cache, contents_changed}
-use Rattle.object_cache.proofs.Objects.{has_entry, known, seat_in, seats_stay, seen_changed}
-use Rattle.object_cache.proofs.Seating.{seats_set}
+use Rattle.object_cache.proofs.Objects.{has_entry, known, frame_slot_in, cached_stay, seen_changed}
+use Rattle.object_cache.proofs.Caching.{cached_set}
 
 -- the room of a kind of number is that of what a number of the kind becomes
-room_fits : (g : Geometry) (n : ℕ) (f : Fresh) → IsFreshAt g n f → room_at g n ≡ room_for f
+room_fits : (g : Geometry) (n : ℕ) (f : Fresh) → IsFreshAt g n f → spare_body_at g n ≡ spare_body_for f
 room_fits g n fresh.Page place = ap (λ (t : Bool). cond t (content.Node (all_slots void_held)) (content.Page zero_words)) (le-ltb n g.nodes place)
 room_fits g n fresh.Node place = ap (λ (t : Bool). cond t (content.Node (all_slots void_held)) (content.Page zero_words)) (lt-ltb n g.nodes place)
 room_fits g n (fresh.Root annex) place = ap (λ (t : Bool). cond t (content.Node (all_slots void_held)) (content.Page zero_words)) (lt-ltb n g.nodes place)
@@ -45,15 +45,15 @@ module _ (left c : Content Cap) (n : ℕ) (es : List (Option Entry)) (within : n
   kept_filled None = refl
   kept_filled (Some e) = refl
 
-  room_filled : (o : Option Entry) → IsSome o → option_map room_of (option_map (reserving left) o) ≡ Some left
+  room_filled : (o : Option Entry) → IsSome o → option_map buffer_of (option_map (reserving left) o) ≡ Some left
   room_filled None some = absurd (true≢false (sym some))
   room_filled (Some e) some = refl
 
-  seats_filled : IsSome (entry_at es n) → seats_in (filling left c n es) ≡ set (seats_in es) n (Some left)
-  seats_filled some =
-      seats_stay c n (with_entry (reserving left) n es)
-      ∙ seats_set es n (option_map (reserving left) (entry_at es n))
-      ∙ ap (set (seats_in es) n) (room_filled (entry_at es n) some)
+  cached_filled : IsSome (entry_at es n) → cached_in (filling left c n es) ≡ set (cached_in es) n (Some left)
+  cached_filled some =
+      cached_stay c n (with_entry (reserving left) n es)
+      ∙ cached_set es n (option_map (reserving left) (entry_at es n))
+      ∙ ap (set (cached_in es) n) (room_filled (entry_at es n) some)
 
   not_none : IsSome (entry_at es n) → entry_at (filling left c n es) n ≡ None → ⊥
   not_none some none = go (entry_at es n) some (sym filled_entry ∙ none)
@@ -86,10 +86,10 @@ module _ {D : Type 0} (disk : D → Disk) (d : DurableState D) (m : Memory) (lef
 
   -- the room that is taken is the one for what the number becomes
   pub room_taken : (f : Fresh) → IsFreshAt (stored_of disk s.durable).saved.geometry n f → (header_at s.headers n).role ≡ role.Free →
-      (room : Content Cap) → option_map room_of (entry_at m.entries n) ≡ Some room → room ≡ room_for f
+      (room : Content Cap) → option_map buffer_of (entry_at m.entries n) ≡ Some room → room ≡ spare_body_for f
   room_taken f place free room taken =
-      let seat : seat_at s.seats n ≡ Some room = ap (λ (t : StoreState D). seat_at t.seats n) (sym view) ∙ seat_in m.entries n ∙ taken in
-      same_Some room (room_at (stored_of disk s.durable).saved.geometry n) (sym seat ∙ announced.room free (ap is_some seat))
+      let cached : cached_at s.cached n ≡ Some room = ap (λ (t : StoreState D). cached_at t.cached n) (sym view) ∙ frame_slot_in m.entries n ∙ taken in
+      same_Some room (spare_body_at (stored_of disk s.durable).saved.geometry n) (sym cached ∙ announced.room free (ap is_some cached))
       ∙ room_fits (stored_of disk s.durable).saved.geometry n f place
 
   module _ (h : ObjectHeader) (c : Content Cap) where
@@ -102,16 +102,16 @@ module _ {D : Type 0} (disk : D → Disk) (d : DurableState D) (m : Memory) (lef
         still_cache (stored_of disk d) m (set m.headers n h) (filling content.Free c n m.entries) n change left count is k.dirty
 
     pub claim_seen : cache_of disk d (with_objects m (set m.headers n h) (filling content.Free c n m.entries)) left order most_entries
-        ≡ record s { headers = set s.headers n h; contents = set s.contents n c; seats = set s.seats n (Some content.Free) }
+        ≡ record s { headers = set s.headers n h; contents = set s.contents n c; cached = set s.cached n (Some content.Free) }
     claim_seen =
         let k = known disk d m left count order most_entries s view is n announced in
         let hs = set m.headers n h in
         let es = filling content.Free c n m.entries in
         let old = cache_of disk d m left order most_entries in
         seen_changed disk d m left order most_entries hs es n change k.touched
-        ∙ ap (λ (cs : List (Content Cap)). record old { headers = hs; contents = cs; seats = seats_in es })
+        ∙ ap (λ (cs : List (Content Cap)). record old { headers = hs; contents = cs; cached = cached_in es })
         (contents_changed (stored_of disk d) m hs es n change c k.header
         (body_filled content.Free c n m.entries k.entry (header_at hs n).role (newest_body (stored_of disk d) m n) some_here))
-        ∙ ap (λ (rs : List (Option (Content Cap))). record old { headers = hs; contents = set (contents_in (stored_of disk d) m) n c; seats = rs })
-        (seats_filled content.Free c n m.entries k.entry some_here)
-        ∙ ap (λ (t : StoreState D). record t { headers = set t.headers n h; contents = set t.contents n c; seats = set t.seats n (Some content.Free) }) view
+        ∙ ap (λ (rs : List (Option (Content Cap))). record old { headers = hs; contents = set (contents_in (stored_of disk d) m) n c; cached = rs })
+        (cached_filled content.Free c n m.entries k.entry some_here)
+        ∙ ap (λ (t : StoreState D). record t { headers = set t.headers n h; contents = set t.contents n c; cached = set t.cached n (Some content.Free) }) view

@@ -1,33 +1,33 @@
 -- What an object without an entry holds is read: nothing that is seen is another.
 use Rattle.object_cache.proofs.Names.{◌≡◌, ℕ, ◌<◌, ◌≤◌, List, length, Option, None, refl, sym, ap, subst, ◌∙◌, arith, header_at, held_at, object_count, Disk}
-use Rattle.object_cache.proofs.Names.{put_at, DurableState, Stored, ReadsStore, below_at, newest, stored_of, Entry, Held, Memory, masked, in_hand, put_body}
-use Rattle.object_cache.proofs.Names.{present_body, newest_body, contents_in, StoreState, IsCache, GoesOnIn, cache_of, frozen_seen, seat_at}
+use Rattle.object_cache.proofs.Names.{put_at, DurableState, Stored, ReadsStore, below_at, newest, stored_of, Entry, Held, Memory, masked, in_staging, put_body}
+use Rattle.object_cache.proofs.Names.{present_body, newest_body, contents_in, StoreState, IsCache, GoesOnIn, cache_of, frozen_seen, cached_at}
 use Rattle.object_cache.proofs.Freezing.{put_or_body}
 use Rattle.object_cache.proofs.Objects.{content_in}
-use Rattle.object_cache.proofs.Seating.{no_entry}
+use Rattle.object_cache.proofs.Caching.{no_entry}
 
 module _ {D : Type 0} (disk : D → Disk) (d : DurableState D) (m : Memory) (left count : ℕ) (order : List ℕ) (most_entries : ℕ) (s : StoreState D)
     (view : cache_of disk d m left order most_entries ≡ s) (is : IsCache (stored_of disk d) m left count) where
-  module _ (n : ℕ) (known : n < length s.headers) (unseated : seat_at s.seats n ≡ None) (empty : s.hand ≡ None) where
+  module _ (n : ℕ) (known : n < length s.headers) (uncached : cached_at s.cached n ≡ None) (empty : s.staging ≡ None) where
     known_here : n < length m.headers
     known_here = omega (arith, known, ap (λ (t : StoreState D). length t.headers) view)
 
     pub read_known : n < object_count (stored_of disk d).saved.geometry
     read_known = omega (arith, known_here, is.headers)
 
-    hand_is : m.hand ≡ None
-    hand_is = ap (λ (t : StoreState D). t.hand) view ∙ empty
+    staging_is : m.staging ≡ None
+    staging_is = ap (λ (t : StoreState D). t.staging) view ∙ empty
 
     newest_is : newest_body (stored_of disk d) m n ≡ (newest (stored_of disk d) n).content
     newest_is =
-        ap (λ (h : Option Held). put_body (put_at (stored_of disk d).working n) (in_hand h n (below_at (stored_of disk d) n).content)) hand_is
+        ap (λ (h : Option Held). put_body (put_at (stored_of disk d).working n) (in_staging h n (below_at (stored_of disk d) n).content)) staging_is
         ∙ sym (put_or_body (put_at (stored_of disk d).working n) (below_at (stored_of disk d) n))
 
     -- what is read is what it holds, or it is free
     pub read_holds : masked (header_at m.headers n).role (newest (stored_of disk d) n).content ≡ held_at s.contents n
     read_holds =
         ap (masked (header_at m.headers n).role) (sym newest_is)
-        ∙ sym (ap (λ (o : Option Entry). present_body o (header_at m.headers n).role (newest_body (stored_of disk d) m n)) (no_entry disk d m left count order most_entries s view is n unseated))
+        ∙ sym (ap (λ (o : Option Entry). present_body o (header_at m.headers n).role (newest_body (stored_of disk d) m n)) (no_entry disk d m left count order most_entries s view is n uncached))
         ∙ sym (content_in (stored_of disk d) m n known_here)
         ∙ ap (λ (t : StoreState D). held_at t.contents n) view
 
@@ -41,12 +41,12 @@ module _ {D : Type 0} (disk : D → Disk) (d : DurableState D) (m : Memory) (lef
         ap (λ (t : Stored). record old { durable = new; contents = contents_in t m; frozen = frozen_seen t m left }) reads.stored
         ∙ ap (λ (t : StoreState D). record t { durable = new }) view
 
-    pub read_leads : (disk d.beneath).failures ≤ (disk new.beneath).failures → GoesOnIn disk s (cache_of disk new m left order most_entries)
-    read_leads later = subst (λ (t : StoreState D). GoesOnIn disk t (cache_of disk new m left order most_entries)) view (record {
+    pub read_continues : (disk d.beneath).failures ≤ (disk new.beneath).failures → GoesOnIn disk s (cache_of disk new m left order most_entries)
+    read_continues later = subst (λ (t : StoreState D). GoesOnIn disk t (cache_of disk new m left order most_entries)) view (record {
       goes_on = reads.goes_on;
-      aside = ap (λ (t : Stored). record { frozen = frozen_seen t m left; saved = t.saved; to_move = t.to_move }) reads.stored;
+      snapshots = ap (λ (t : Stored). record { frozen = frozen_seen t m left; saved = t.saved; to_move = t.to_move }) reads.stored;
       later = later;
       grows = omega arith;
       most = refl;
-      looks = λ none idle. reads.any_moment;
+      only_reads = λ none idle. reads.any_moment;
     })

@@ -5,14 +5,14 @@ use Rattle.object_cache.proofs.Names.{length-replicate, get_or-replicate, get_or
 use Rattle.object_cache.proofs.Names.{get_or-map-range_with_len, sum_by-cons, none-some, same_Some, Cap, Frame, ObjectHeader, Content, Role, blank_frame}
 use Rattle.object_cache.proofs.Names.{frame_at, frames_in, header_at, AreKeepable, touched_count, untouched, object_count, Disk, role_of, Put, Absent, Broken}
 use Rattle.object_cache.proofs.Names.{Kept, put_at, put_or, held_slot, sum_of, most, DurableState, FrozenPuts, Stored, below_at, freezing, frozen_put}
-use Rattle.object_cache.proofs.Names.{stored_of, maps_same, frame_in, length_in, Entry, entry_at, Memory, mark_at, masked, in_hand, put_body, present_body}
+use Rattle.object_cache.proofs.Names.{stored_of, maps_same, frame_in, length_in, Entry, entry_at, Memory, mark_at, masked, in_staging, put_body, present_body}
 use Rattle.object_cache.proofs.Names.{content_at, present_at, newest_body, below_body, apart_body, frozen_body, frozen_frame, frozen_at, contents_in, frozen_in}
-use Rattle.object_cache.proofs.Names.{StoreState, IsCache, AreFrozen, aside_of, cache_of, frozen_seen, is_kept}
+use Rattle.object_cache.proofs.Names.{StoreState, IsCache, AreFrozen, snapshots_of, cache_of, frozen_seen, is_kept}
 use Rattle.model.specs.declared.object.Content.TheVariants as content
 use Rattle.object_store.specs.Store as store
 use Rattle.object_cache.proofs.Objects.{content_in}
 use Rattle.object_cache.proofs.Puts.{held_touched}
-use Rattle.object_cache.proofs.Seating.{no_hand}
+use Rattle.object_cache.proofs.Caching.{no_staging}
 
 -- what has the role of its header is what the mask leaves of it
 pub masked_same : (r : Role) (c : Content Cap) → r ≡ role_of c → masked r c ≡ c
@@ -80,8 +80,8 @@ module _ (s : Stored) (m : Memory) (left count : ℕ) (is : IsCache s m left cou
   abbrev now : Memory
   now = frozen_memory fh m
 
-  hand_none : (n : ℕ) (c : Content Cap) → in_hand m.hand n c ≡ c
-  hand_none n c = no_hand m.hand m.pending is.held n c (is.idle none n)
+  staging_none : (n : ℕ) (c : Content Cap) → in_staging m.staging n c ≡ c
+  staging_none n c = no_staging m.staging m.pending is.held n c (is.idle none n)
 
   below_was : (n : ℕ) → below_at s n ≡ frame_at s.saved.frames n
   below_was n = ap (λ (o : Option FrozenPuts). put_or (frozen_put o n) (frame_at s.saved.frames n)) none
@@ -89,9 +89,9 @@ module _ (s : Stored) (m : Memory) (left count : ℕ) (is : IsCache s m left cou
   -- what lies below now is the newest there was
   below_now : (n : ℕ) → below_body begun now n ≡ newest_body s m n
   below_now n =
-      hand_none n (put_or (put_at s.working n) (frame_at s.saved.frames n)).content
+      staging_none n (put_or (put_at s.working n) (frame_at s.saved.frames n)).content
       ∙ put_or_body (put_at s.working n) (frame_at s.saved.frames n)
-      ∙ sym (ap (put_body (put_at s.working n)) (hand_none n (below_at s n).content ∙ ap (λ (f : Frame). f.content) (below_was n)))
+      ∙ sym (ap (put_body (put_at s.working n)) (staging_none n (below_at s n).content ∙ ap (λ (f : Frame). f.content) (below_was n)))
 
   newest_same : (n : ℕ) → newest_body begun now n ≡ newest_body s m n
   newest_same n = ap (λ (p : Put). put_body p (below_body begun now n)) (none_put (length s.working) n) ∙ below_now n
@@ -255,13 +255,13 @@ module _ {D : Type 0} (disk : D → Disk) (d : DurableState D) (m : Memory) (lef
     unfolding untouched
     freeze_touched = ap (λ (k : ℕ). replicate k false) is.marks ∙ ap (λ (t : StoreState D). replicate (object_count (stored_of disk t.durable).saved.geometry) false) view
 
-    pub freeze_aside : aside_of disk (cache_of disk new (frozen_memory fh m) count order most_entries) ≡ store.freezing (frames_in s.headers s.contents) (touched_count s.touched) (aside_of disk s)
-    freeze_aside =
+    pub freeze_snapshots : snapshots_of disk (cache_of disk new (frozen_memory fh m) count order most_entries) ≡ store.freezing (frames_in s.headers s.contents) (touched_count s.touched) (snapshots_of disk s)
+    freeze_snapshots =
         ap (λ (t : Stored). record { frozen = frozen_seen t (frozen_memory fh m) count; saved = t.saved; to_move = t.to_move }) begun
         ∙ ap (λ (fs : List Frame). record { frozen = Some (record { frames = fs; size = count; left = count }); saved = (stored_of disk d).saved; to_move = (stored_of disk d).to_move })
         (begun_frozen (stored_of disk d) m left count is none fh fh_count same_headers kept)
         ∙ ap (λ (k : ℕ). record { frozen = Some (record { frames = frames_in m.headers (contents_in (stored_of disk d) m); size = k; left = k }); saved = (stored_of disk d).saved; to_move = (stored_of disk d).to_move }) is.counted
-        ∙ ap (λ (t : StoreState D). store.freezing (frames_in t.headers t.contents) (touched_count t.touched) (aside_of disk t)) view
+        ∙ ap (λ (t : StoreState D). store.freezing (frames_in t.headers t.contents) (touched_count t.touched) (snapshots_of disk t)) view
 
     pub freeze_saved : (stored_of disk new).saved ≡ (stored_of disk s.durable).saved
     freeze_saved = ap (λ (t : Stored). t.saved) begun ∙ ap (λ (t : StoreState D). (stored_of disk t.durable).saved) view

@@ -3,8 +3,8 @@ use Rattle.object_cache.proofs.Names.{◌≡◌, ◌≢◌, inl, inr, ℕ, zero,
 use Rattle.object_cache.proofs.Names.{Option, Some, None, option_map, refl, sym, ap, subst, ◌∙◌, arith, length-set, count_by, range_with_len, cases_eq}
 use Rattle.object_cache.proofs.Names.{get_or-set_same, get_or-set_other, sum_by-cons, none-some, same_Some, Cap, Frame, Content, frame_at, header_at}
 use Rattle.object_cache.proofs.Names.{AreKeepable, Put, Absent, Broken, Kept, put_at, put_or, most, FrozenPuts, Stored, below_at, frozen_put, with_frozen}
-use Rattle.object_cache.proofs.Names.{with_put, maps_same, map_set, Entry, Held, entry_at, Memory, Nothing, owed_of, owed_in_memory, owed_in, mark_at, in_hand}
-use Rattle.object_cache.proofs.Names.{put_body, present_body, content_at, present_at, newest_body, below_body, frozen_body, frozen_frame, frozen_at}
+use Rattle.object_cache.proofs.Names.{with_put, maps_same, map_set, Entry, Held, entry_at, Memory, Nothing, owed_of, owed_in_memory, owed_in, mark_at}
+use Rattle.object_cache.proofs.Names.{in_staging, put_body, present_body, content_at, present_at, newest_body, below_body, frozen_body, frozen_frame, frozen_at}
 use Rattle.object_cache.proofs.Names.{contents_in, frozen_in, IsCache, AreFrozen, is_kept, frozen_seen}
 
 -- one mark less
@@ -38,20 +38,20 @@ abbrev pub with_frame : ℕ → Stored → Memory → Stored
 with_frame n s m = with_frozen n (Kept (frozen_at s m n)) s
 
 abbrev pub without_pending : ℕ → List (Option Entry) → Option Held → Memory → Memory
-without_pending n es hand m = record m { pending = set m.pending n false; entries = es; hand = hand }
+without_pending n es staging m = record m { pending = set m.pending n false; entries = es; staging = staging }
 
 -- what is left in memory of a number of which the frozen frame was put: what it holds stays, and nothing is kept apart
-pub record Releases (s : Stored) (m : Memory) (n : ℕ) (es : List (Option Entry)) (hand : Option Held) : Type 0 where
+pub record Releases (s : Stored) (m : Memory) (n : ℕ) (es : List (Option Entry)) (staging : Option Held) : Type 0 where
   pub count : length es ≡ length m.entries
   pub entries : (k : ℕ) → k ≢ n → entry_at es k ≡ entry_at m.entries k
   pub kept : (e : Entry) → entry_at es n ≡ Some e → e.kept ≡ None
-  pub others : (k : ℕ) (c : Content Cap) → k ≢ n → in_hand hand k c ≡ in_hand m.hand k c
-  pub let_go : (h : Held) → hand ≡ Some h → (h.number ≢ n) × (mark_at m.pending h.number ≡ true)
-  pub content : content_at (with_frame n s m) (without_pending n es hand m) n ≡ content_at s m n
+  pub others : (k : ℕ) (c : Content Cap) → k ≢ n → in_staging staging k c ≡ in_staging m.staging k c
+  pub let_go : (h : Held) → staging ≡ Some h → (h.number ≢ n) × (mark_at m.pending h.number ≡ true)
+  pub content : content_at (with_frame n s m) (without_pending n es staging m) n ≡ content_at s m n
 
 module _ (s : Stored) (m : Memory) (left count : ℕ) (is : IsCache s m left count) (n : ℕ) (within : n < length m.headers)
     (f : FrozenPuts) (f_is : s.frozen ≡ Some f) (pending : mark_at m.pending n ≡ true)
-    (es : List (Option Entry)) (hand : Option Held) (rest : Releases s m n es hand) where
+    (es : List (Option Entry)) (staging : Option Held) (rest : Releases s m n es staging) where
   abbrev frame : Frame
   frame = frozen_at s m n
 
@@ -59,7 +59,7 @@ module _ (s : Stored) (m : Memory) (left count : ℕ) (is : IsCache s m left cou
   after = with_frame n s m
 
   abbrev memory : Memory
-  memory = without_pending n es hand m
+  memory = without_pending n es staging m
 
   frozen_now : after.frozen ≡ Some (with_put n (Kept frame) f)
   frozen_now = ap (option_map (with_put n (Kept frame))) f_is
@@ -83,7 +83,7 @@ module _ (s : Stored) (m : Memory) (left count : ℕ) (is : IsCache s m left cou
   below_elsewhere k other = ap (λ (p : Put). put_or p (frame_at s.saved.frames k)) (put_elsewhere k other)
 
   body_elsewhere : (k : ℕ) → k ≢ n → below_body after memory k ≡ below_body s m k
-  body_elsewhere k other = ap (λ (g : Frame). in_hand hand k g.content) (below_elsewhere k other) ∙ rest.others k (below_at s k).content other
+  body_elsewhere k other = ap (λ (g : Frame). in_staging staging k g.content) (below_elsewhere k other) ∙ rest.others k (below_at s k).content other
 
   pending_now : mark_at memory.pending n ≡ false
   pending_now = get_or-set_same m.pending n false false in_pending

@@ -2,7 +2,7 @@
 use Rattle.object_cache.proofs.Names.{◌≡◌, ◌≢◌, inl, inr, ℕ, ◌<◌, Bool, true, ◌||◌, List, length, set, Option, Some, option_map, sym, ap, subst, ◌∙◌, arith}
 use Rattle.object_cache.proofs.Names.{length-set, count_by, cases_eq, get_or-set_other, none-some, same_Some, Cap, Frame, Content, frame_at, header_at}
 use Rattle.object_cache.proofs.Names.{AreKeepable, Put, Absent, Broken, Kept, put_at, put_or, most, FrozenPuts, Stored, below_at, frozen_put, with_frozen}
-use Rattle.object_cache.proofs.Names.{with_put, maps_same, entry_at, Memory, mark_at, in_hand, put_body, present_body, content_at, present_at, frozen_body}
+use Rattle.object_cache.proofs.Names.{with_put, maps_same, entry_at, Memory, mark_at, in_staging, put_body, present_body, content_at, present_at, frozen_body}
 use Rattle.object_cache.proofs.Names.{frozen_frame, frozen_at, contents_in, frozen_in, IsCache, AreFrozen, is_kept, frozen_seen}
 
 module _ (s : Stored) (m : Memory) (left count : ℕ) (is : IsCache s m left count) (n : ℕ) (within : n < length m.headers)
@@ -24,7 +24,7 @@ module _ (s : Stored) (m : Memory) (left count : ℕ) (is : IsCache s m left cou
   content_stays : (k : ℕ) → content_at after m k ≡ content_at s m k
   content_stays k = elim (cases_eq k n) [
     | inl same ↦ ap (content_at after m) same ∙ content_here ∙ ap (content_at s m) (sym same)
-    | inr other ↦ ap (λ (g : Frame). present_body (entry_at m.entries k) (header_at m.headers k).role (put_body (put_at s.working k) (in_hand m.hand k g.content))) (below_elsewhere k other)
+    | inr other ↦ ap (λ (g : Frame). present_body (entry_at m.entries k) (header_at m.headers k).role (put_body (put_at s.working k) (in_staging m.staging k g.content))) (below_elsewhere k other)
   ]
 
   present_stays : (k : ℕ) → present_at after m k ≡ present_at s m k
@@ -33,7 +33,7 @@ module _ (s : Stored) (m : Memory) (left count : ℕ) (is : IsCache s m left cou
   frozen_stays : (k : ℕ) → frozen_at after m k ≡ frozen_at s m k
   frozen_stays k = elim (cases_eq k n) [
     | inl same ↦ ap (frozen_at after m) same ∙ frozen_here ∙ ap (frozen_at s m) (sym same)
-    | inr other ↦ ap (λ (g : Frame). frozen_frame (mark_at m.pending k) (header_at m.frozen_headers k) (frozen_body (entry_at m.entries k) (mark_at m.touched k) (in_hand m.hand k g.content)) g) (below_elsewhere k other)
+    | inr other ↦ ap (λ (g : Frame). frozen_frame (mark_at m.pending k) (header_at m.frozen_headers k) (frozen_body (entry_at m.entries k) (mark_at m.touched k) (in_staging m.staging k g.content)) g) (below_elsewhere k other)
   ]
 
   pub torn_frozen_same : frozen_in after m ≡ frozen_in s m

@@ -5,8 +5,8 @@ use Rattle.object_cache.proofs.Names.{cases_lt, length-map, same_lists, get_or_p
 use Rattle.object_cache.proofs.Names.{none-some, same_Some, Cap, Frame, Content, blank_frame, frame_at, header_at, AreKeepable, Disk, Put, Absent, Broken, Kept}
 use Rattle.object_cache.proofs.Names.{put_at, put_or, overlaid, kept_count, sum_of, SavedFrames, LeavesEither, LeavesOneOf, home_saved, DurableState}
 use Rattle.object_cache.proofs.Names.{FrozenPuts, Stored, below_at, frozen_put, left_of, moved, stored_after_commit, stored_of, maps_same, FrozenFrames}
-use Rattle.object_cache.proofs.Names.{entry_at, Memory, mark_at, in_hand, put_body, present_body, content_at, present_at, frozen_body, frozen_frame, frozen_at}
-use Rattle.object_cache.proofs.Names.{contents_in, frozen_in, StoreState, IsCache, aside_of, cache_of, frozen_seen, is_kept}
+use Rattle.object_cache.proofs.Names.{entry_at, Memory, mark_at, in_staging, put_body, present_body, content_at, present_at, frozen_body, frozen_frame}
+use Rattle.object_cache.proofs.Names.{frozen_at, contents_in, frozen_in, StoreState, IsCache, snapshots_of, cache_of, frozen_seen, is_kept}
 use Rattle.std.proofs.Common.{OnOk, OnErr}
 use Rattle.migrator.specs.Durable as durable
 use Rattle.object_store.specs.Store as store
@@ -102,16 +102,16 @@ module _ {D : Type 0} (disk : D → Disk) (d : DurableState D) (m : Memory) (lef
     moved_seen (Ok x) done left_over = home_seen ((stored_of disk d).to_move - amount == 0) ((stored_of disk d).to_move - amount) done
     moved_seen (Err e) done left_over = home_seen false left_over.0 left_over.2
 
-    pub moved_aside : {T E : Type 0} (r : Result T E) → OnOk r (stored_of disk new ≡ moved amount (stored_of disk d)) → OnOk r (aside_of disk (record s { durable = new }) ≡ store.moved amount (aside_of disk s))
-    moved_aside (Ok x) done =
+    pub moved_snapshots : {T E : Type 0} (r : Result T E) → OnOk r (stored_of disk new ≡ moved amount (stored_of disk d)) → OnOk r (snapshots_of disk (record s { durable = new }) ≡ store.moved amount (snapshots_of disk s))
+    moved_snapshots (Ok x) done =
         ap (λ (t : Stored). record { frozen = s.frozen; saved = t.saved; to_move = t.to_move }) done
         ∙ ap (λ (t : StoreState D). store.moved amount (record { frozen = s.frozen; saved = (stored_of disk t.durable).saved; to_move = (stored_of disk t.durable).to_move })) view
-    moved_aside (Err e) done = tt
+    moved_snapshots (Err e) done = tt
 
     pub moved_then : {T E : Type 0} (r : Result T E) → OnOk r (stored_of disk new ≡ moved amount (stored_of disk d)) →
         OnErr r ((k : ℕ) × (k ≤ (stored_of disk d).to_move) × (stored_of disk new ≡ record (stored_of disk d) { to_move = k })) →
-        OnOk r (aside_of disk (cache_of disk new m left order most_entries) ≡ store.moved amount (aside_of disk s))
-    moved_then r done left_over = subst (λ (t : StoreState D). OnOk r (aside_of disk t ≡ store.moved amount (aside_of disk s))) (sym (moved_seen r done left_over)) (moved_aside r done)
+        OnOk r (snapshots_of disk (cache_of disk new m left order most_entries) ≡ store.moved amount (snapshots_of disk s))
+    moved_then r done left_over = subst (λ (t : StoreState D). OnOk r (snapshots_of disk t ≡ store.moved amount (snapshots_of disk s))) (sym (moved_seen r done left_over)) (moved_snapshots r done)
 
 -- ---- what is frozen is saved
 
@@ -158,7 +158,7 @@ module _ (s : Stored) (m : Memory) (count : ℕ) (is : IsCache s m 0 count) (f :
   frozen_overlaid =
       ap (λ (k : ℕ). map (frozen_at s m) (range_with_len 0 k)) (is.headers ∙ sym is.frames)
       ∙ maps_same (frozen_at s m) (λ n. put_or (put_at f.put n) (frame_at s.saved.frames n)) (length s.saved.frames) (λ n below.
-      ap (λ (p : Bool). frozen_frame p (header_at m.frozen_headers n) (frozen_body (entry_at m.entries n) (mark_at m.touched n) (in_hand m.hand n (below_at s n).content)) (below_at s n)) (none_pending n)
+      ap (λ (p : Bool). frozen_frame p (header_at m.frozen_headers n) (frozen_body (entry_at m.entries n) (mark_at m.touched n) (in_staging m.staging n (below_at s n).content)) (below_at s n)) (none_pending n)
       ∙ ap (λ (o : Option FrozenPuts). put_or (frozen_put o n) (frame_at s.saved.frames n)) f_is)
 
   module _ (age : ℕ) where
@@ -183,13 +183,13 @@ module _ (s : Stored) (m : Memory) (count : ℕ) (is : IsCache s m 0 count) (f :
     ]
 
     content_stays : (n : ℕ) → content_at after m n ≡ content_at s m n
-    content_stays n = ap (λ (g : Frame). present_body (entry_at m.entries n) (header_at m.headers n).role (put_body (put_at s.working n) (in_hand m.hand n g.content))) (below_stays n)
+    content_stays n = ap (λ (g : Frame). present_body (entry_at m.entries n) (header_at m.headers n).role (put_body (put_at s.working n) (in_staging m.staging n g.content))) (below_stays n)
 
     present_stays : (n : ℕ) → present_at after m n ≡ present_at s m n
     present_stays n = ap (λ (c : Content Cap). record { header = header_at m.headers n; content = c }) (content_stays n)
 
     frozen_stays : (n : ℕ) → frozen_at after m n ≡ frozen_at s m n
-    frozen_stays n = ap (λ (g : Frame). frozen_frame (mark_at m.pending n) (header_at m.frozen_headers n) (frozen_body (entry_at m.entries n) (mark_at m.touched n) (in_hand m.hand n g.content)) g) (below_stays n)
+    frozen_stays n = ap (λ (g : Frame). frozen_frame (mark_at m.pending n) (header_at m.frozen_headers n) (frozen_body (entry_at m.entries n) (mark_at m.touched n) (in_staging m.staging n g.content)) g) (below_stays n)
 
     pub contents_saved : contents_in after m ≡ contents_in s m
     unfolding contents_in
@@ -296,13 +296,13 @@ module _ {D : Type 0} (disk : D → Disk) (d : DurableState D) (m : Memory) (lef
           ap (λ (cs : List (Content Cap)). record old { durable = new; contents = cs; frozen = frozen_seen (stored_of disk new) m left }) contents
           ∙ ap (λ (t : StoreState D). record t { durable = new; contents = s.contents; frozen = frozen_seen (stored_of disk new) m left }) view
 
-      pub save_aside : {T E : Type 0} (r : Result T E) → ((h : FrozenPuts) → (stored_of disk d).frozen ≡ Some h → OnOk r (stored_of disk new ≡ stored_after_commit age h (stored_of disk d))) →
-          OnOk r (aside_of disk (cache_of disk new m left order most_entries) ≡ store.aside_after_commit age f (aside_of disk s))
-      save_aside (Ok x) done =
+      pub save_snapshots : {T E : Type 0} (r : Result T E) → ((h : FrozenPuts) → (stored_of disk d).frozen ≡ Some h → OnOk r (stored_of disk new ≡ stored_after_commit age h (stored_of disk d))) →
+          OnOk r (snapshots_of disk (cache_of disk new m left order most_entries) ≡ store.snapshots_after_commit age f (snapshots_of disk s))
+      save_snapshots (Ok x) done =
           ap (λ (t : Stored). record { frozen = frozen_seen t m left; saved = t.saved; to_move = t.to_move }) (done found.0 found.1)
           ∙ ap (λ (saved : SavedFrames). record { frozen = None; saved = saved; to_move = found.0.size }) (next_are found.0 found.1)
           ∙ ap (λ (g : FrozenFrames). record { frozen = None; saved = store.next_saved age f (stored_of disk s.durable).saved; to_move = g.size }) found.2
-      save_aside (Err e) done = tt
+      save_snapshots (Err e) done = tt
 
 -- a checkpoint on its way, of which none is left, may be committed where each that is may be
 pub ready_of : (o : Option FrozenFrames) (saved : SavedFrames) (age k : ℕ) → option_map (λ (f : FrozenFrames). f.left) o ≡ Some k → k ≡ 0 → ((f : FrozenFrames) → o ≡ Some f → store.MayCommit age f saved) →

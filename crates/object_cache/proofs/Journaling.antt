@@ -2,13 +2,13 @@
 use Rattle.object_cache.proofs.Names.{◌≡◌, ◌≢◌, ◌⊎◌, inl, inr, ℕ, ◌<◌, Bool, true, false, List, length, set, length-set, Option, Some, None, option_map, Result}
 use Rattle.object_cache.proofs.Names.{Ok, Err, refl, sym, ap, subst, ◌∙◌, arith, cases_eq, get_or-set_same, get_or-set_other, none-some, Cap, Frame}
 use Rattle.object_cache.proofs.Names.{ObjectHeader, Content, Role, blank_frame, frame_at, frames_in, header_at, held_at, AreKeepable, is_page, role_of}
-use Rattle.object_cache.proofs.Names.{words_in, object_count, Image, Disk, LeavesOnly, leaves_on, leaves_weaker, Body, Room, content_of, frame_of, Put, Absent}
-use Rattle.object_cache.proofs.Names.{Broken, Kept, put_at, put_or, most, SavedFrames, Holds, LeavesEither, LeavesOneOf, journaled_saved, with_words}
+use Rattle.object_cache.proofs.Names.{words_in, object_count, Image, Disk, LeavesOnly, leaves_on, leaves_weaker, Body, Scratch, content_of, frame_of, Put}
+use Rattle.object_cache.proofs.Names.{Absent, Broken, Kept, put_at, put_or, most, SavedFrames, Holds, LeavesEither, LeavesOneOf, journaled_saved, with_words}
 use Rattle.object_cache.proofs.Names.{DurableState, FrozenPuts, Stored, below_at, ReadsStore, frozen_put, is_sound, left_of, stored_after_journal, stored_of}
-use Rattle.object_cache.proofs.Names.{maps_same, frame_in, JournalFault, is_page_role, next_journaled, Aside, FrozenFrames, page_is, role_is_page}
-use Rattle.object_cache.proofs.Names.{content_is_page, known_page, next_same, Entry, entry_at, entry_body, held_now, Memory, mark_at, masked, in_hand, put_body}
-use Rattle.object_cache.proofs.Names.{newest_body, below_body, present_body, content_at, present_at, frozen_body, frozen_frame, frozen_at, contents_in}
-use Rattle.object_cache.proofs.Names.{frozen_in, StoreState, IsCache, aside_of, cache_of, frozen_seen}
+use Rattle.object_cache.proofs.Names.{maps_same, frame_in, JournalFault, is_page_role, next_journaled, Snapshots, FrozenFrames, page_is, role_is_page}
+use Rattle.object_cache.proofs.Names.{content_is_page, known_page, next_same, Entry, entry_at, entry_body, held_now, Memory, mark_at, masked, in_staging}
+use Rattle.object_cache.proofs.Names.{put_body, newest_body, below_body, present_body, content_at, present_at, frozen_body, frozen_frame, frozen_at}
+use Rattle.object_cache.proofs.Names.{contents_in, frozen_in, StoreState, IsCache, snapshots_of, cache_of, frozen_seen}
 use Rattle.std.proofs.Common.{OnOk, OnErr}
 use Rattle.model.specs.declared.object.Role.TheVariants as role
 use Rattle.layout.specs.declared.body.Body.TheVariants as body
@@ -16,22 +16,22 @@ use Rattle.object_store.specs.declared.journal_fault.JournalFault.TheVariants as
 use Rattle.object_store.specs.Journal as journal
 use Rattle.object_cache.proofs.Freezing.{put_or_body}
 use Rattle.object_cache.proofs.Objects.{content_in}
-use Rattle.object_cache.proofs.Seating.{no_hand}
+use Rattle.object_cache.proofs.Caching.{no_staging}
 
 as_page : (o : Option Entry) (c : Content Cap) → present_body o role.Page c ≡ entry_body o c
 as_page None c = refl
 as_page (Some e) c = refl
 
 module _ (s : Stored) (m : Memory) (left count : ℕ) (is : IsCache s m left count) (none : s.frozen ≡ None) (n : ℕ) (role_is : (header_at m.headers n).role ≡ role.Page) where
-  hand_none : (k : ℕ) (c : Content Cap) → in_hand m.hand k c ≡ c
-  hand_none k c = no_hand m.hand m.pending is.held k c (is.idle none k)
+  staging_none : (k : ℕ) (c : Content Cap) → in_staging m.staging k c ≡ c
+  staging_none k c = no_staging m.staging m.pending is.held k c (is.idle none k)
 
   -- what it holds now
   pub page_held : content_at s m n ≡ held_now m.entries s n
   page_held =
       ap (λ (r : Role). present_body (entry_at m.entries n) r (newest_body s m n)) role_is
       ∙ as_page (entry_at m.entries n) (newest_body s m n)
-      ∙ ap (λ (c : Content Cap). entry_body (entry_at m.entries n) (put_body (put_at s.working n) c)) (hand_none n (below_at s n).content)
+      ∙ ap (λ (c : Content Cap). entry_body (entry_at m.entries n) (put_body (put_at s.working n) c)) (staging_none n (below_at s n).content)
       ∙ ap (entry_body (entry_at m.entries n)) (sym (put_or_body (put_at s.working n) (below_at s n)))
 
   module _ (age : ℕ) (holds : is_page (content_at s m n) ≡ true) where
@@ -60,8 +60,8 @@ module _ (s : Stored) (m : Memory) (left count : ℕ) (is : IsCache s m left cou
     below_here = below_now n ∙ get_or-set_same s.saved.frames n page blank_frame within
 
     -- the body that lies below is that of the page now
-    body_here : in_hand m.hand n (below_at after n).content ≡ content_at s m n
-    body_here = hand_none n (below_at after n).content ∙ ap (λ (f : Frame). f.content) below_here ∙ sym (page_is (content_at s m n) holds)
+    body_here : in_staging m.staging n (below_at after n).content ≡ content_at s m n
+    body_here = staging_none n (below_at after n).content ∙ ap (λ (f : Frame). f.content) below_here ∙ sym (page_is (content_at s m n) holds)
 
     masked_here : masked (header_at m.headers n).role (content_at s m n) ≡ content_at s m n
     masked_here = ap (λ (r : Role). masked r (content_at s m n)) role_is
@@ -89,7 +89,7 @@ module _ (s : Stored) (m : Memory) (left count : ℕ) (is : IsCache s m left cou
     content_same : (k : ℕ) → content_at after m k ≡ content_at s m k
     content_same k = elim (cases_eq k n) [
       | inl same ↦ ap (content_at after m) same ∙ content_here ∙ sym (ap (content_at s m) same)
-      | inr other ↦ ap (λ (f : Frame). present_body (entry_at m.entries k) (header_at m.headers k).role (put_body (put_at s.working k) (in_hand m.hand k f.content))) (below_other k other)
+      | inr other ↦ ap (λ (f : Frame). present_body (entry_at m.entries k) (header_at m.headers k).role (put_body (put_at s.working k) (in_staging m.staging k f.content))) (below_other k other)
     ]
 
     present_same : (k : ℕ) → present_at after m k ≡ present_at s m k
@@ -153,13 +153,13 @@ module _ (s : Stored) (m : Memory) (left count : ℕ) (is : IsCache s m left cou
 -- an answer tells whether a checkpoint is on its way, and nothing else of it
 pub answer_same : {F : Type 0} (f g : F → ℕ) (o : Option F) (old new : Disk) (saved : SavedFrames) (is_page is_saved : Bool) (r : Result ℕ JournalFault) →
     journal.IsJournalAnswer old new (option_map f o) saved is_page is_saved r → journal.IsJournalAnswer old new (option_map g o) saved is_page is_saved r
-answer_same f g None old new saved is_page is_saved r told = told
-answer_same f g (Some x) old new saved is_page is_saved (Ok generation) told = absurd (none-some (f x) (sym told.1))
-answer_same f g (Some x) old new saved is_page is_saved (Err fault.CheckpointRunning) told = (told.0, λ e. none-some (g x) (sym e))
-answer_same f g (Some x) old new saved is_page is_saved (Err fault.MigrationPending) told = absurd (none-some (f x) (sym told.1))
-answer_same f g (Some x) old new saved is_page is_saved (Err fault.NotPage) told = absurd (none-some (f x) (sym told.1))
-answer_same f g (Some x) old new saved is_page is_saved (Err fault.Renewed) told = absurd (none-some (f x) (sym told.1))
-answer_same f g (Some x) old new saved is_page is_saved (Err fault.Failed) told = absurd (none-some (f x) (sym told.1))
+answer_same f g None old new saved is_page is_saved r reported = reported
+answer_same f g (Some x) old new saved is_page is_saved (Ok generation) reported = absurd (none-some (f x) (sym reported.1))
+answer_same f g (Some x) old new saved is_page is_saved (Err fault.CheckpointRunning) reported = (reported.0, λ e. none-some (g x) (sym e))
+answer_same f g (Some x) old new saved is_page is_saved (Err fault.MigrationPending) reported = absurd (none-some (f x) (sym reported.1))
+answer_same f g (Some x) old new saved is_page is_saved (Err fault.NotPage) reported = absurd (none-some (f x) (sym reported.1))
+answer_same f g (Some x) old new saved is_page is_saved (Err fault.Renewed) reported = absurd (none-some (f x) (sym reported.1))
+answer_same f g (Some x) old new saved is_page is_saved (Err fault.Failed) reported = absurd (none-some (f x) (sym reported.1))
 
 -- which words it has is asked of a page alone
 next_words : {F : Type 0} (age n : ℕ) (ws vs : List ℕ) (o : Option F) (saved : SavedFrames) (is_page is_saved : Bool) → (o ≡ None → is_page ≡ true → ws ≡ vs) →
@@ -244,24 +244,24 @@ module _ {D : Type 0} (disk : D → Disk) (d : DurableState D) (m : Memory) (lef
         ap (λ (t : Stored). record old { durable = new; contents = contents_in t m; frozen = frozen_seen t m left }) undone
         ∙ ap (λ (t : StoreState D). record t { durable = new }) view
 
-    aside_own : {T E : Type 0} (r : Result T E) → OnOk r IsThere → OnOk r IsDone →
-        OnOk r (aside_of disk (record s { durable = new }) ≡ journal.aside_after_journal age n (words_in (held_at s.contents n)) (aside_of disk s))
-    aside_own (Ok x) there done =
-        ap (λ (t : Stored). let a : Aside = record { frozen = s.frozen; saved = t.saved; to_move = t.to_move } in a) done
-        ∙ ap (λ (ws : List ℕ). journal.aside_after_journal age n ws (record { frozen = s.frozen; saved = st.saved; to_move = st.to_move })) (words_seen (none_in st.frozen there.0) there.1)
-        ∙ ap (λ (t : StoreState D). journal.aside_after_journal age n (words_in (held_at s.contents n)) (record { frozen = s.frozen; saved = (stored_of disk t.durable).saved; to_move = (stored_of disk t.durable).to_move })) view
-    aside_own (Err e) there done = tt
+    snapshots_own : {T E : Type 0} (r : Result T E) → OnOk r IsThere → OnOk r IsDone →
+        OnOk r (snapshots_of disk (record s { durable = new }) ≡ journal.snapshots_after_journal age n (words_in (held_at s.contents n)) (snapshots_of disk s))
+    snapshots_own (Ok x) there done =
+        ap (λ (t : Stored). let a : Snapshots = record { frozen = s.frozen; saved = t.saved; to_move = t.to_move } in a) done
+        ∙ ap (λ (ws : List ℕ). journal.snapshots_after_journal age n ws (record { frozen = s.frozen; saved = st.saved; to_move = st.to_move })) (words_seen (none_in st.frozen there.0) there.1)
+        ∙ ap (λ (t : StoreState D). journal.snapshots_after_journal age n (words_in (held_at s.contents n)) (record { frozen = s.frozen; saved = (stored_of disk t.durable).saved; to_move = (stored_of disk t.durable).to_move })) view
+    snapshots_own (Err e) there done = tt
 
-    pub aside_after : {T E : Type 0} (r : Result T E) → OnOk r IsThere → OnOk r IsDone → OnErr r (stored_of disk new ≡ st) →
-        OnOk r (aside_of disk (cache_of disk new m left order most_entries) ≡ journal.aside_after_journal age n (words_in (held_at s.contents n)) (aside_of disk s))
-    aside_after r there done undone = subst (λ (t : StoreState D). OnOk r (aside_of disk t ≡ journal.aside_after_journal age n (words_in (held_at s.contents n)) (aside_of disk s)))
-        (sym (seen_after r there done undone)) (aside_own r there done)
+    pub snapshots_after : {T E : Type 0} (r : Result T E) → OnOk r IsThere → OnOk r IsDone → OnErr r (stored_of disk new ≡ st) →
+        OnOk r (snapshots_of disk (cache_of disk new m left order most_entries) ≡ journal.snapshots_after_journal age n (words_in (held_at s.contents n)) (snapshots_of disk s))
+    snapshots_after r there done undone = subst (λ (t : StoreState D). OnOk r (snapshots_of disk t ≡ journal.snapshots_after_journal age n (words_in (held_at s.contents n)) (snapshots_of disk s)))
+        (sym (seen_after r there done undone)) (snapshots_own r there done)
 
-    pub aside_stays : {T E : Type 0} (r : Result T E) → OnErr r (stored_of disk new ≡ stored_of disk d) → OnErr r (aside_of disk (cache_of disk new m left order most_entries) ≡ aside_of disk s)
-    aside_stays (Ok x) undone = tt
-    aside_stays (Err e) undone =
-        ap (λ (t : Stored). let a : Aside = record { frozen = frozen_seen t m left; saved = t.saved; to_move = t.to_move } in a) undone
-        ∙ ap (λ (t : StoreState D). aside_of disk t) view
+    pub snapshots_stays : {T E : Type 0} (r : Result T E) → OnErr r (stored_of disk new ≡ stored_of disk d) → OnErr r (snapshots_of disk (cache_of disk new m left order most_entries) ≡ snapshots_of disk s)
+    snapshots_stays (Ok x) undone = tt
+    snapshots_stays (Err e) undone =
+        ap (λ (t : Stored). let a : Snapshots = record { frozen = frozen_seen t m left; saved = t.saved; to_move = t.to_move } in a) undone
+        ∙ ap (λ (t : StoreState D). snapshots_of disk t) view
 
     abbrev answer_of : StoreState D → Result ℕ JournalFault → Type 0
     answer_of t r = journal.IsJournalAnswer (disk t.durable.beneath) (disk new.beneath) (option_map (λ (f : FrozenFrames). f.left) t.frozen) (stored_of disk t.durable).saved
@@ -276,12 +276,12 @@ module _ {D : Type 0} (disk : D → Disk) (d : DurableState D) (m : Memory) (lef
         (is_page_role (header_at m.headers n).role) (journal.is_same_page (header_at m.headers n).allocations (frame_at (stored_of disk d).saved.frames n)) r →
         journal.IsJournalAnswer (disk s.durable.beneath) (disk new.beneath) (option_map (λ (f : FrozenFrames). f.left) s.frozen) (stored_of disk s.durable).saved
         (is_page_role (header_at s.headers n).role) (journal.is_same_page (header_at s.headers n).allocations (frame_at (stored_of disk s.durable).saved.frames n)) r
-    answer_seen r told =
+    answer_seen r reported =
         let is_page = is_page_role header.role in
         let is_saved = journal.is_same_page header.allocations (frame_at st.saved.frames n) in
         subst (λ (t : StoreState D). answer_of t r) view
         (subst (λ (o : Option ℕ). journal.IsJournalAnswer (disk d.beneath) (disk new.beneath) o st.saved is_page is_saved r) (sym (left_seen st.frozen))
-        (answer_same left_of (λ (f : FrozenPuts). left) st.frozen (disk d.beneath) (disk new.beneath) st.saved is_page is_saved r told))
+        (answer_same left_of (λ (f : FrozenPuts). left) st.frozen (disk d.beneath) (disk new.beneath) st.saved is_page is_saved r reported))
 
     abbrev moments_of : StoreState D → List ℕ → Type 0
     moments_of t ws = LeavesOneOf (disk t.durable.beneath) (disk new.beneath) (stored_of disk t.durable).saved
@@ -313,7 +313,7 @@ words_read (body.Root root) slots ws page = absurd cc
 words_read body.Annex slots ws page = absurd cc
 words_read (body.Bank limit) slots ws page = absurd cc
 
-pub read_words : (read : ObjectHeader × Body) (room : Room) (f : Frame) → frame_of read room ≡ f → is_page f.content ≡ true → room.words ≡ words_in f.content
+pub read_words : (read : ObjectHeader × Body) (room : Scratch) (f : Frame) → frame_of read room ≡ f → is_page f.content ≡ true → room.words ≡ words_in f.content
 read_words read room f found page =
     let same : content_of read.1 room.slots room.words ≡ f.content = ap (λ (g : Frame). g.content) found in
     words_read read.1 room.slots room.words (subst (λ (c : Content Cap). is_page c ≡ true) (sym same) page) ∙ ap words_in same

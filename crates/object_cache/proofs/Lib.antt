@@ -2,7 +2,7 @@ mod Names
 mod Outcomes
 mod Changing
 mod Objects
-mod Seating
+mod Caching
 mod Puts
 mod Claims
 mod Apart

@@ -5,7 +5,7 @@ use Rattle.object_cache.proofs.Names.{get_or_past, Cap, Frame, ObjectHeader, Con
 use Rattle.object_cache.proofs.Names.{FrozenPuts, Stored, below_at, stored_of, maps_same, length-touching, set-marked, Entry, entry_at, Memory, Owed, Shared}
 use Rattle.object_cache.proofs.Names.{mark_at, apart_body, below_body, frozen_body, frozen_frame, frozen_at, owed_of, owed_body, owed_in_memory, contents_in}
 use Rattle.object_cache.proofs.Names.{frozen_in, owed_in, StoreState, IsCache, cache_of, owed_at}
-use Rattle.object_cache.proofs.Seating.{owed_entry}
+use Rattle.object_cache.proofs.Caching.{owed_entry}
 
 -- a mark is as it was, or is of a number that was listed
 marked_or : (ts : List Bool) (ns : List ℕ) (k : ℕ) → (mark_at (touching ts ns) k ≡ mark_at ts k) ⊎ Contains ns k

@@ -2,17 +2,17 @@
 pub use Rattle.cache_entries.proofs.Arenas.{some_of, some_within}
 pub use Rattle.cache_entries.proofs.Orders.{length_without}
 pub use Rattle.cache_entries.proofs.Recent.{front_apart, front_stays, front_without, listed_member}
-pub use Rattle.cache_entries.specs.Entries.{entry_at, holding, keeping, present_of, reserving, room_of, with_entry}
+pub use Rattle.cache_entries.specs.Entries.{buffer_of, entry_at, holding, keeping, present_of, reserving, with_entry}
 pub use Rattle.cache_entries.specs.Order.{AreOrdered, EntriesState, used_in_turn, used_longest_ago, used_now, with_new, without}
 pub use Rattle.cache_entries.specs.declared.entry.Entry.{Entry}
 pub use Rattle.capability.proofs.Frames.{frame_in, length_in}
 pub use Rattle.capability.proofs.Keeping.{keepable_at}
 pub use Rattle.capability.proofs.Touched.{length-touching, set-marked}
 pub use Rattle.capability.specs.Parts.{HaveTheirRoles, IsFreshAt, frames_of, fresh_content}
-pub use Rattle.capability.specs.Plain.{room_at, room_for}
+pub use Rattle.capability.specs.Plain.{spare_body_at, spare_body_for}
 pub use Rattle.capability.specs.declared.present.Fresh.{Fresh}
 pub use Rattle.checkpoint.proofs.Lists.{maps_same}
-pub use Rattle.checkpoint.specs.Opened.{Looks}
+pub use Rattle.checkpoint.specs.Opened.{OnlyReads}
 pub use Rattle.checkpoint.specs.Refused.{IsCommitAnswer}
 pub use Rattle.checkpoint.specs.Saved.{Holds, LeavesEither, LeavesOneOf, LeavesSaved, SavedFrames, home_saved, journaled_saved, most, with_words}
 pub use Rattle.device.proofs.Moments.{counted_ok, counts_on, leaves_on, leaves_weaker, peeks_started}
@@ -21,13 +21,13 @@ pub use Rattle.device.specs.Disk.{Disk, Image}
 pub use Rattle.device.specs.Moments.{LeavesOnly}
 pub use Rattle.layout.specs.Frame.{content_of, frame_of}
 pub use Rattle.layout.specs.declared.body.Body.{Body}
-pub use Rattle.layout.specs.declared.body.Room.{Room}
+pub use Rattle.layout.specs.declared.body.Scratch.{Scratch}
 pub use Rattle.migrator.proofs.Kept.{map_set}
 pub use Rattle.migrator.proofs.Moving.{goes_none, goes_trans}
 pub use Rattle.migrator.specs.Durable.{DurableState, FrozenPuts, GoesOn, ReadsStore, Stored, below_at, freezing, frozen_put, is_sound, left_of, moved, newest}
 pub use Rattle.migrator.specs.Durable.{stored_after_commit, stored_after_journal, stored_of, with_frozen, with_put, with_working}
 pub use Rattle.migrator.specs.Opened.{OpensDurable}
-pub use Rattle.migrator.specs.Put.{Absent, Broken, HasRoom, Kept, Put, held_slot, kept_count, put_at, put_or}
+pub use Rattle.migrator.specs.Put.{Absent, Broken, HasSpareBody, Kept, Put, held_slot, kept_count, put_at, put_or}
 unfoldable pub use Rattle.migrator.specs.Put.{overlaid, sum_of}
 pub use Rattle.model.specs.Frame.{blank_frame, blank_header, called, claimed, frame_at, given_up, header_at, headers, held_at, owned_by, void_held}
 unfoldable pub use Rattle.model.specs.Frame.{frames_in}
@@ -47,7 +47,7 @@ pub use Rattle.model.specs.declared.object.Role.{Role}
 pub use Rattle.number_set.specs.Marks.{HasNoneMarked, IsNextMarked}
 pub use Rattle.object_store.proofs.Journaling.{content_is_page, journal_there, known_page, next_same, page_is, role_is_page}
 pub use Rattle.object_store.specs.Journal.{is_page_role, next_journaled}
-pub use Rattle.object_store.specs.Store.{Aside, FrozenFrames, MayCommit, OpensStore, next_saved, stabilized}
+pub use Rattle.object_store.specs.Store.{FrozenFrames, MayCommit, OpensStore, Snapshots, next_saved, stabilized}
 pub use Rattle.object_store.specs.declared.journal_fault.JournalFault.{JournalFault}
 pub use Rattle.std.proofs.Common.{Bool, Err, IsSome, List, None, Ok, Option, Result, Some, [], ap, arith, cond, false, inl, inr, is_some, length, length-set}
 pub use Rattle.std.proofs.Common.{map, nat_eq, option_map, refl, replicate, rules, set, subst, suc, sym, take, true, true≢false, zero, ℕ, ◌++◌, ◌+◌, ◌-◌, ◌<◌}
@@ -64,13 +64,14 @@ pub use Rattle.std.specs.List.{All, Contains, range_with_len, slice_get}
 pub use Rattle.std.specs.Prelude.{IsErrOf, OnErr, OnOk, count_by, option_copied, slice_index_or, ◌==◌}
 pub use Rattle.object_cache.specs.Journaled.{entry_body, held_now}
 pub use Rattle.object_cache.specs.Memory.{Apart, Memory, Nothing, Owed, Shared, apart_body, below_body, content_at, frozen_at, frozen_body, frozen_frame}
-pub use Rattle.object_cache.specs.Memory.{in_hand, is_owing, is_shared, let_go, mark_at, masked, memory_of, newest_body, owed_body, owed_in_memory, owed_of}
+pub use Rattle.object_cache.specs.Memory.{in_staging, is_owing, is_shared, let_go, mark_at, masked, memory_of, newest_body, owed_body, owed_in_memory, owed_of}
 pub use Rattle.object_cache.specs.Memory.{own_body, own_frame, present_at, present_body, put_body}
 unfoldable pub use Rattle.object_cache.specs.Memory.{contents_in, frozen_in, owed_in}
-pub use Rattle.object_cache.specs.Prepared.{HasRoomIn, IsRecentIn, on_device_with, readied}
+pub use Rattle.object_cache.specs.Prepared.{HasSpareBodyIn, IsRecentIn, on_device_with, readied}
 pub use Rattle.object_cache.specs.PresentLaws.{goes_on_same, goes_on_twice}
 pub use Rattle.object_cache.specs.StoreState.{AreFrozen, GoesOnIn, IsAnnouncedIn, IsBounded, IsCache, IsFetchedIn, IsJustOpened, IsMadeOver, IsOpenOver}
-pub use Rattle.object_cache.specs.StoreState.{IsWhole, PutsBy, StoreState, aside_of, bodies_of, cache_of, frozen_seen, is_kept, newly_owed, on_device}
-pub use Rattle.object_cache.specs.StoreState.{on_device_frozen, owed_at, parts_of, pending_count, seat_at, view_of, with_content_in, with_seat, without_seat}
-unfoldable pub use Rattle.object_cache.specs.StoreState.{seats_in}
+pub use Rattle.object_cache.specs.StoreState.{IsWhole, PutsBy, StoreState, bodies_of, cache_of, cached_at, frozen_seen, is_kept, newly_owed, on_device}
+pub use Rattle.object_cache.specs.StoreState.{on_device_frozen, owed_at, parts_of, pending_count, snapshots_of, view_of, with_cached, with_content_in}
+pub use Rattle.object_cache.specs.StoreState.{without_cached}
+unfoldable pub use Rattle.object_cache.specs.StoreState.{cached_in}
 pub use Rattle.object_cache.specs.declared.held.Held.{Held}

@@ -3,8 +3,8 @@ use Rattle.object_cache.proofs.Names.{◌≡◌, inl, inr, ℕ, ◌<◌, true, L
 use Rattle.object_cache.proofs.Names.{sym, ap, subst, ◌∙◌, arith, length-set, none-some, same_Some, get_or-map-range_with_len, length-map-range_with_len}
 use Rattle.object_cache.proofs.Names.{get_or-map, get_or-set_same, get_or-set_other, map-set, set-get_or, Cap, Frame, ObjectHeader, Content, Role, blank_header}
 use Rattle.object_cache.proofs.Names.{header_at, held_at, Disk, DurableState, FrozenPuts, Stored, stored_of, Entry, entry_at, with_entry, holding, present_of}
-use Rattle.object_cache.proofs.Names.{room_of, AreOrdered, Memory, Owed, mark_at, present_body, content_at, newest_body, contents_in, owed_in, StoreState}
-use Rattle.object_cache.proofs.Names.{IsBounded, IsCache, IsAnnouncedIn, IsFetchedIn, cache_of, seats_in, seat_at, with_content_in}
+use Rattle.object_cache.proofs.Names.{buffer_of, AreOrdered, Memory, Owed, mark_at, present_body, content_at, newest_body, contents_in, owed_in, StoreState}
+use Rattle.object_cache.proofs.Names.{IsBounded, IsCache, IsAnnouncedIn, IsFetchedIn, cache_of, cached_in, cached_at, with_content_in}
 use Rattle.model.specs.declared.object.Content.TheVariants as content
 use Rattle.model.specs.declared.object.Role.TheVariants as role
 use Rattle.object_cache.proofs.Changing.{Changes, kept_of, with_objects, still_cache, contents_changed, contents_same, frozen_same, owed_same}
@@ -29,16 +29,16 @@ pub present_kept : (c : Content Cap) (n : ℕ) (es : List (Option Entry)) → n 
 present_kept c n es within = ap (option_map kept_of) (get_or-set_same es n (option_map (holding c) (entry_at es n)) None within) ∙ kept_stays c (entry_at es n)
 
 -- the rooms of entries stay
-room_stays : (c : Content Cap) (o : Option Entry) → option_map room_of (option_map (holding c) o) ≡ option_map room_of o
+room_stays : (c : Content Cap) (o : Option Entry) → option_map buffer_of (option_map (holding c) o) ≡ option_map buffer_of o
 room_stays c None = refl
 room_stays c (Some e) = refl
 
-pub seats_stay : (c : Content Cap) (n : ℕ) (es : List (Option Entry)) → seats_in (with_entry (holding c) n es) ≡ seats_in es
-unfolding seats_in
-seats_stay c n es =
-    map-set (option_map room_of) es n (option_map (holding c) (entry_at es n))
-    ∙ ap (set (map (option_map room_of) es) n) (room_stays c (entry_at es n) ∙ sym (get_or-map (option_map room_of) es n None))
-    ∙ set-get_or (map (option_map room_of) es) n None
+pub cached_stay : (c : Content Cap) (n : ℕ) (es : List (Option Entry)) → cached_in (with_entry (holding c) n es) ≡ cached_in es
+unfolding cached_in
+cached_stay c n es =
+    map-set (option_map buffer_of) es n (option_map (holding c) (entry_at es n))
+    ∙ ap (set (map (option_map buffer_of) es) n) (room_stays c (entry_at es n) ∙ sym (get_or-map (option_map buffer_of) es n None))
+    ∙ set-get_or (map (option_map buffer_of) es) n None
 
 -- an object given up, or with another present body
 pub free_changes : (m : Memory) (n : ℕ) (h : ObjectHeader) → n < length m.headers → n < length m.entries → h.role ≡ role.Free → Changes m (set m.headers n h) (with_entry (holding content.Free) n m.entries) n
@@ -90,18 +90,18 @@ module _ {D : Type 0} (disk : D → Disk) (d : DurableState D) (m : Memory) (lef
 
   -- all that is seen but for headers, contents and rooms
   pub seen_changed : (hs : List ObjectHeader) (es : List (Option Entry)) (n : ℕ) → Changes m hs es n → mark_at m.touched n ≡ true →
-      cache_of disk d (with_objects m hs es) left order most_entries ≡ record old { headers = hs; contents = contents_in (stored_of disk d) (with_objects m hs es); seats = seats_in es }
+      cache_of disk d (with_objects m hs es) left order most_entries ≡ record old { headers = hs; contents = contents_in (stored_of disk d) (with_objects m hs es); cached = cached_in es }
   seen_changed hs es n change touched =
       let s = stored_of disk d in
       let t = with_objects m hs es in
       ap (λ (fs : List Frame). record old {
         headers = hs;
         contents = contents_in s t;
-        seats = seats_in es;
+        cached = cached_in es;
         owed = owed_in t;
         frozen = option_map (λ (f : FrozenPuts). record { frames = fs; size = f.size; left = left }) s.frozen;
       }) (frozen_same s m hs es n change touched)
-      ∙ ap (λ (os : List Owed). record old { headers = hs; contents = contents_in s t; seats = seats_in es; owed = os }) (owed_same s m hs es n change touched)
+      ∙ ap (λ (os : List Owed). record old { headers = hs; contents = contents_in s t; cached = cached_in es; owed = os }) (owed_same s m hs es n change touched)
 
   -- an object with another header
   pub seen_header : (n : ℕ) (h : ObjectHeader) → n < length m.headers → h.role ≡ (header_at m.headers n).role → mark_at m.touched n ≡ true →
@@ -123,9 +123,9 @@ module _ {D : Type 0} (disk : D → Disk) (d : DurableState D) (m : Memory) (lef
       let hs = set m.headers n h in
       let es = with_entry (holding content.Free) n m.entries in
       seen_changed hs es n change touched
-      ∙ ap (λ (cs : List (Content Cap)). record old { headers = hs; contents = cs; seats = seats_in es })
+      ∙ ap (λ (cs : List (Content Cap)). record old { headers = hs; contents = cs; cached = cached_in es })
       (contents_changed (stored_of disk d) m hs es n change content.Free within (free_content (stored_of disk d) m n h within entry_within free))
-      ∙ ap (λ (rs : List (Option (Content Cap))). record old { headers = hs; contents = set (contents_in (stored_of disk d) m) n content.Free; seats = rs }) (seats_stay content.Free n m.entries)
+      ∙ ap (λ (rs : List (Option (Content Cap))). record old { headers = hs; contents = set (contents_in (stored_of disk d) m) n content.Free; cached = rs }) (cached_stay content.Free n m.entries)
 
   -- one with another body
   pub seen_body : (n : ℕ) (c : Content Cap) → n < length m.headers → n < length m.entries → IsSome (entry_at m.entries n) → mark_at m.touched n ≡ true →
@@ -134,9 +134,9 @@ module _ {D : Type 0} (disk : D → Disk) (d : DurableState D) (m : Memory) (lef
       let change = body_changes m n c entry_within in
       let es = with_entry (holding c) n m.entries in
       seen_changed m.headers es n change touched
-      ∙ ap (λ (cs : List (Content Cap)). record old { contents = cs; seats = seats_in es })
+      ∙ ap (λ (cs : List (Content Cap)). record old { contents = cs; cached = cached_in es })
       (contents_changed (stored_of disk d) m m.headers es n change c within (body_content (stored_of disk d) m n c entry_within some))
-      ∙ ap (λ (rs : List (Option (Content Cap))). record old { contents = set (contents_in (stored_of disk d) m) n c; seats = rs }) (seats_stay c n m.entries)
+      ∙ ap (λ (rs : List (Option (Content Cap))). record old { contents = set (contents_in (stored_of disk d) m) n c; cached = rs }) (cached_stay c n m.entries)
 
 -- what is known of a number that may be written
 pub record Known (m : Memory) (n : ℕ) : Type 0 where
@@ -172,15 +172,15 @@ body_stands s m left count is n c entry_within dirty = still_cache s m m.headers
 
 -- ---- an object that is fetched
 
-some_room : (o : Option Entry) → IsSome (option_map room_of o) → IsSome o
+some_room : (o : Option Entry) → IsSome (option_map buffer_of o) → IsSome o
 some_room None some = some
 some_room (Some e) some = refl
 
-pub seat_in : (es : List (Option Entry)) (n : ℕ) → seat_at (seats_in es) n ≡ option_map room_of (entry_at es n)
-unfolding seats_in
-seat_in es n = get_or-map (option_map room_of) es n None
+pub frame_slot_in : (es : List (Option Entry)) (n : ℕ) → cached_at (cached_in es) n ≡ option_map buffer_of (entry_at es n)
+unfolding cached_in
+frame_slot_in es n = get_or-map (option_map buffer_of) es n None
 
-same_room : (o : Option Entry) → is_some (option_map room_of o) ≡ is_some o
+same_room : (o : Option Entry) → is_some (option_map buffer_of o) ≡ is_some o
 same_room None = refl
 same_room (Some e) = refl
 
@@ -188,7 +188,7 @@ same_room (Some e) = refl
 pub bounded_seen : {D : Type 0} (disk : D → Disk) (d : DurableState D) (m : Memory) (left : ℕ) (order : List ℕ) (most_entries : ℕ) (s : StoreState D) → cache_of disk d m left order most_entries ≡ s
     → AreOrdered (record { at = m.entries; order = order; most = most_entries }) → IsBounded s
 bounded_seen {D} disk d m left order most_entries s view are = subst (λ (t : StoreState D). IsBounded t) view (record {
-  listed = λ n. are.listed n ∙ sym (ap is_some (seat_in m.entries n) ∙ same_room (entry_at m.entries n));
+  listed = λ n. are.listed n ∙ sym (ap is_some (frame_slot_in m.entries n) ∙ same_room (entry_at m.entries n));
   once = are.once;
   few = are.few;
 })
@@ -207,7 +207,7 @@ contents_count s m = length-map-range_with_len (content_at s m) 0 (length m.head
 
 module _ {D : Type 0} (disk : D → Disk) (d : DurableState D) (m : Memory) (left : ℕ) (order : List ℕ) (most_entries : ℕ) (s : StoreState D) (view : cache_of disk d m left order most_entries ≡ s) (n : ℕ) (fetched : IsFetchedIn s n) where
   pub has_entry : IsSome (entry_at m.entries n)
-  has_entry = some_room (entry_at m.entries n) (ap is_some (sym (seat_in m.entries n) ∙ ap (λ (t : StoreState D). seat_at t.seats n) view) ∙ fetched.seat)
+  has_entry = some_room (entry_at m.entries n) (ap is_some (sym (frame_slot_in m.entries n) ∙ ap (λ (t : StoreState D). cached_at t.cached n) view) ∙ fetched.cached)
 
   pub fetched_known : n < length m.headers
   fetched_known = omega (arith, fetched.header, ap (λ (t : StoreState D). length t.headers) view)

@@ -2,11 +2,11 @@
 use Rattle.object_cache.proofs.Names.{◌≡◌, inl, inr, ℕ, ◌<◌, Bool, false, true≢false, List, [], ◌∷◌, length, replicate, Option, None, option_map, refl, sym, ap}
 use Rattle.object_cache.proofs.Names.{subst, ◌∙◌, arith, get_or-map, cases_lt, ext_get_or, get_or-replicate, get_or_past, length-map, length-replicate}
 use Rattle.object_cache.proofs.Names.{none-some, Cap, Frame, ObjectHeader, Content, blank_frame, frame_at, frames_in, header_at, headers, untouched, role_of}
-use Rattle.object_cache.proofs.Names.{object_count, Image, Disk, Only, Looks, Put, Absent, put_at, put_or, SavedFrames, Holds, OpensDurable, DurableState}
+use Rattle.object_cache.proofs.Names.{object_count, Image, Disk, Only, OnlyReads, Put, Absent, put_at, put_or, SavedFrames, Holds, OpensDurable, DurableState}
 use Rattle.object_cache.proofs.Names.{FrozenPuts, Stored, below_at, frozen_put, is_sound, stored_of, HaveTheirRoles, frame_in, length_in, OpensStore, Entry}
-use Rattle.object_cache.proofs.Names.{entry_at, room_of, Memory, memory_of, mark_at, masked, put_body, newest_body, below_body, present_body, content_at}
+use Rattle.object_cache.proofs.Names.{entry_at, buffer_of, Memory, memory_of, mark_at, masked, put_body, newest_body, below_body, present_body, content_at}
 use Rattle.object_cache.proofs.Names.{present_at, frozen_body, frozen_frame, frozen_at, contents_in, frozen_in, StoreState, IsCache, IsFetchedIn, IsJustOpened}
-use Rattle.object_cache.proofs.Names.{IsMadeOver, IsOpenOver, IsWhole, bodies_of, cache_of, frozen_seen, parts_of, seat_at, seats_in, view_of}
+use Rattle.object_cache.proofs.Names.{IsMadeOver, IsOpenOver, IsWhole, bodies_of, cache_of, frozen_seen, parts_of, cached_at, cached_in, view_of}
 use Rattle.model.specs.declared.object.Content.TheVariants as content
 use Rattle.object_cache.proofs.Freezing.{masked_same, none_counted, none_marked, none_put}
 use Rattle.object_cache.proofs.Objects.{content_in, contents_count}
@@ -105,19 +105,19 @@ module _ (s : Stored) (hs fh : List ObjectHeader) (fh_count : length fh ≡ leng
   }
 
   pub made_over : {D : Type 0} (disk : D → Disk) (d : DurableState D) (most : ℕ) → stored_of disk d ≡ s → IsMadeOver disk d most (cache_of disk d (blank_memory hs fh) 0 [] most)
-  unfolding untouched seats_in
+  unfolding untouched cached_in
   made_over disk d most same = record {
     durable = refl;
     headers_are = is.headers_are ∙ ap (λ (t : Stored). headers t.saved.frames) (sym same);
     contents = ap (λ (t : Stored). contents_in t m) same ∙ open_contents ∙ ap (λ (t : Stored). bodies_of t.saved.frames) (sym same);
     touched = ap (λ (k : ℕ). replicate k false) (each ∙ is.frames) ∙ ap (λ (t : Stored). untouched t.saved.geometry) (sym same);
     idle = ap (λ (t : Stored). frozen_seen t m 0) same ∙ ap (option_map (λ (f : FrozenPuts). record { frames = frozen_in s m; size = f.size; left = 0 })) is.idle;
-    unseated = unseated_here;
+    uncached = uncached_here;
     order = refl;
     same_most = refl;
   } where
-    unseated_here : (n : ℕ) → seat_at (seats_in m.entries) n ≡ None
-    unseated_here n = get_or-map (option_map room_of) m.entries n None ∙ ap (option_map room_of) (none_entered (length hs) n)
+    uncached_here : (n : ℕ) → cached_at (cached_in m.entries) n ≡ None
+    uncached_here n = get_or-map (option_map buffer_of) m.entries n None ∙ ap (option_map buffer_of) (none_entered (length hs) n)
 
 -- what is in a durable store that was opened
 module _ {D : Type 0} (disk : D → Disk) (device : D) (d : DurableState D) (hs : List ObjectHeader) (opened : OpensDurable disk device d) (took : hs ≡ headers (stored_of disk d).saved.frames) where
@@ -141,7 +141,7 @@ module _ {D : Type 0} (disk : D → Disk) (device : D) (d : DurableState D) (hs 
         frozen = over.idle;
         to_move = subst (λ (x : Stored). x.to_move ≡ x.saved.entries) (sym same) opened.to_move;
         durable = subst (λ (x : DurableState D). Only (disk x.beneath).seen (disk x.beneath)) (sym over.durable) opened.durable;
-        looks = subst (λ (x : DurableState D). Looks (disk device) (disk x.beneath)) (sym over.durable) opened.looks;
+        only_reads = subst (λ (x : DurableState D). OnlyReads (disk device) (disk x.beneath)) (sym over.durable) opened.only_reads;
         failures = ap (λ (x : DurableState D). (disk x.beneath).failures) over.durable ∙ opened.failures;
       } where
         frames_are : frames_in s.headers s.contents ≡ (stored_of disk s.durable).saved.frames
@@ -164,7 +164,7 @@ module _ {D : Type 0} (disk : D → Disk) where
     same_most = made.same_most;
   }
 
-  pub over_filled : (all : Bool) (d : DurableState D) (most : ℕ) (s t : StoreState D) → t ≡ record s { seats = t.seats; owed = t.owed; order = t.order } → IsWhole t → IsMadeOver disk d most s → IsOpenOver all disk d most t
+  pub over_filled : (all : Bool) (d : DurableState D) (most : ℕ) (s t : StoreState D) → t ≡ record s { cached = t.cached; owed = t.owed; order = t.order } → IsWhole t → IsMadeOver disk d most s → IsOpenOver all disk d most t
   over_filled all d most s t is whole made = record {
     durable = ap (λ (x : StoreState D). x.durable) is ∙ made.durable;
     headers_are = ap (λ (x : StoreState D). x.headers) is ∙ made.headers_are;

@@ -2,11 +2,11 @@
 use Rattle.object_cache.proofs.Names.{◌≡◌, ◌≢◌, inl, inr, ℕ, zero, suc, ◌-◌, ◌<◌, ◌≤◌, Bool, true, false, true≢false, List, [], ◌∷◌, length, set, take, Option}
 use Rattle.object_cache.proofs.Names.{Some, None, IsSome, is_some, option_map, refl, sym, ap, subst, ◌∙◌, arith, length-set, slice_get, get_or_past}
 use Rattle.object_cache.proofs.Names.{get_or-set_same, get_or-set_other, length-map-range_with_len, cases_eq, cases_lt, none-some, Cap, Content, is_member}
-use Rattle.object_cache.proofs.Names.{Disk, DurableState, stored_of, Entry, entry_at, room_of, Memory, Owed, Nothing, Shared, Apart, mark_at, is_owing}
+use Rattle.object_cache.proofs.Names.{Disk, DurableState, stored_of, Entry, entry_at, buffer_of, Memory, Owed, Nothing, Shared, Apart, mark_at, is_owing}
 use Rattle.object_cache.proofs.Names.{is_shared, owed_of, content_at, contents_in, AreOrdered, used_longest_ago, without, StoreState, IsCache, IsFetchedIn}
-use Rattle.object_cache.proofs.Names.{cache_of, owed_at, seat_at, some_within, length_without, listed_member, front_stays, front_apart}
-use Rattle.object_cache.proofs.Objects.{seat_in}
-use Rattle.object_cache.proofs.Seating.{owed_entry}
+use Rattle.object_cache.proofs.Names.{cache_of, owed_at, cached_at, some_within, length_without, listed_member, front_stays, front_apart}
+use Rattle.object_cache.proofs.Objects.{frame_slot_in}
+use Rattle.object_cache.proofs.Caching.{owed_entry}
 
 pub owing_yes : (o : Owed) (b : Bool) → b ≡ is_owing o → b ≡ true → o ≢ Nothing
 owing_yes o b is marked none = true≢false (sym marked ∙ is ∙ ap is_owing none)
@@ -30,28 +30,28 @@ nothing_apart o none same = nothing_shared (sym none ∙ same)
     nothing_shared : Nothing ≡ Shared → ⊥
     nothing_shared x = cc
 
-pub seat_gone : (ss : List (Option (Content Cap))) (n : ℕ) → seat_at (set ss n None) n ≡ None
-seat_gone ss n = elim (cases_lt n (length ss)) [
+pub cached_gone : (ss : List (Option (Content Cap))) (n : ℕ) → cached_at (set ss n None) n ≡ None
+cached_gone ss n = elim (cases_lt n (length ss)) [
   | inl within ↦ get_or-set_same ss n None None within
   | inr past ↦ get_or_past (set ss n None) n None (let size = length-set ss n None in omega (arith, size, past))
 ]
 
-pub still_unseated : (ss : List (Option (Content Cap))) (n k : ℕ) → seat_at ss k ≡ None → seat_at (set ss n None) k ≡ None
-still_unseated ss n k none = elim (cases_eq k n) [
-  | inl same ↦ ap (seat_at (set ss n None)) same ∙ seat_gone ss n
+pub still_uncached : (ss : List (Option (Content Cap))) (n k : ℕ) → cached_at ss k ≡ None → cached_at (set ss n None) k ≡ None
+still_uncached ss n k none = elim (cases_eq k n) [
+  | inl same ↦ ap (cached_at (set ss n None)) same ∙ cached_gone ss n
   | inr other ↦ get_or-set_other ss n k None None other ∙ none
 ]
 
 pub none_there : (o : Option Entry) → IsSome o → o ≡ None → ⊥
 none_there o some none = true≢false (sym some ∙ ap is_some none)
 
-no_seat : (o : Option Entry) → is_some o ≡ false → option_map room_of o ≡ None
-no_seat None is = refl
-no_seat (Some e) is = absurd (true≢false is)
+no_cached : (o : Option Entry) → is_some o ≡ false → option_map buffer_of o ≡ None
+no_cached None is = refl
+no_cached (Some e) is = absurd (true≢false is)
 
-has_seat : (o : Option Entry) → IsSome o → IsSome (option_map room_of o)
-has_seat None is = is
-has_seat (Some e) is = refl
+has_cached : (o : Option Entry) → IsSome o → IsSome (option_map buffer_of o)
+has_cached None is = is
+has_cached (Some e) is = refl
 
 module _ {D : Type 0} (disk : D → Disk) (d : DurableState D) (m : Memory) (left count : ℕ) (order : List ℕ) (most_entries : ℕ) (s : StoreState D)
     (view : cache_of disk d m left order most_entries ≡ s) (is : IsCache (stored_of disk d) m left count) (n : ℕ) where
@@ -80,11 +80,11 @@ module _ {D : Type 0} (disk : D → Disk) (d : DurableState D) (m : Memory) (lef
     fetched_by some = record {
       header = known;
       content = omega (arith, known_there, contents_count, ap (λ (t : StoreState D). length t.contents) view);
-      seat = subst (λ (t : StoreState D). IsSome (seat_at t.seats n)) view (subst IsSome (sym (seat_in m.entries n)) (has_seat (entry_at m.entries n) some));
+      cached = subst (λ (t : StoreState D). IsSome (cached_at t.cached n)) view (subst IsSome (sym (frame_slot_in m.entries n)) (has_cached (entry_at m.entries n) some));
     }
 
-  pub unseated_by : is_some (entry_at m.entries n) ≡ false → seat_at s.seats n ≡ None
-  unseated_by none = ap (λ (t : StoreState D). seat_at t.seats n) (sym view) ∙ seat_in m.entries n ∙ no_seat (entry_at m.entries n) none
+  pub uncached_by : is_some (entry_at m.entries n) ≡ false → cached_at s.cached n ≡ None
+  uncached_by none = ap (λ (t : StoreState D). cached_at t.cached n) (sym view) ∙ frame_slot_in m.entries n ∙ no_cached (entry_at m.entries n) none
 
 -- the entry that was used longest ago
 module _ {D : Type 0} (disk : D → Disk) (d : DurableState D) (m : Memory) (left count : ℕ) (order : List ℕ) (most_entries : ℕ) (s : StoreState D)
@@ -126,6 +126,6 @@ module _ {D : Type 0} (disk : D → Disk) (d : DurableState D) (m : Memory) (lef
         ∙ front_stays n order (length order - 1) 7 (omega (arith, long)) ordered.once (sym at) (omega (arith, long))
         ∙ ap (take 7) (sym seen)
 
-    pub least_others : (k : ℕ) → is_member (take 7 s.order) k ≡ true → seat_at (set s.seats n None) k ≡ seat_at s.seats k
-    least_others k recent = get_or-set_other s.seats n k None None
+    pub least_others : (k : ℕ) → is_member (take 7 s.order) k ≡ true → cached_at (set s.cached n None) k ≡ cached_at s.cached k
+    least_others k recent = get_or-set_other s.cached n k None None
         (front_apart n order (length order - 1) 7 k (omega (arith, long)) ordered.once (sym at) (omega (arith, long)) (ap (λ (ns : List ℕ). is_member (take 7 ns) k) (sym seen) ∙ recent))

@@ -2,7 +2,7 @@
 use Rattle.object_cache.proofs.Names.{◌≡◌, ◌∙◌, inl, inr, ℕ, Bool, false, cond, List, Result, Ok, Err, Some, None, length, set, refl, sym, ap, subst, arith}
 use Rattle.object_cache.proofs.Names.{length-set, OnOk, OnErr, cases_lt, eq-eqb, get_or_past, get_or-set_same, header_at, held_at, IsKeepable, Disk, Counts}
 use Rattle.object_cache.proofs.Names.{most, stored_of, without, Held, Owed, Nothing, let_go, mark_at, masked, StoreState, GoesOnIn, IsFetchedIn, on_device}
-use Rattle.object_cache.proofs.Names.{owed_at, without_seat}
+use Rattle.object_cache.proofs.Names.{owed_at, without_cached}
 use Rattle.object_cache.proofs.Freezing.{masked_same}
 use Rattle.object_cache.proofs.Leading.{same_put, geometry_stays}
 
@@ -32,25 +32,25 @@ ok_counts {old = old} {new = new} same = record {
 module _ {D : Type 0} where
   -- the frozen frame that an entry owes
   module _ {T E : Type 0} (r : Result T E) (s t : StoreState D) (n : ℕ)
-      (put : OnOk r (t ≡ record s { durable = t.durable; pending = set s.pending n false; owed = set s.owed n Nothing; hand = let_go n s.hand }))
+      (put : OnOk r (t ≡ record s { durable = t.durable; pending = set s.pending n false; owed = set s.owed n Nothing; staging = let_go n s.staging }))
       (unput : OnErr r (t ≡ record s { durable = t.durable })) where
     pub paid : OnOk r (owed_at t.owed n ≡ Nothing)
     paid = go r put where
-      go : (x : Result T E) → OnOk x (t ≡ record s { durable = t.durable; pending = set s.pending n false; owed = set s.owed n Nothing; hand = let_go n s.hand }) → OnOk x (owed_at t.owed n ≡ Nothing)
+      go : (x : Result T E) → OnOk x (t ≡ record s { durable = t.durable; pending = set s.pending n false; owed = set s.owed n Nothing; staging = let_go n s.staging }) → OnOk x (owed_at t.owed n ≡ Nothing)
       go (Ok x) is = ap (λ (c : StoreState D). owed_at c.owed n) is ∙ owed_paid s.owed n
       go (Err e) is = tt
 
     pub paid_put : t ≡ on_device s t
     paid_put = go r put unput where
-      go : (x : Result T E) → OnOk x (t ≡ record s { durable = t.durable; pending = set s.pending n false; owed = set s.owed n Nothing; hand = let_go n s.hand }) → OnErr x (t ≡ record s { durable = t.durable }) → t ≡ on_device s t
-      go (Ok x) is none = same_put s t s.dirty (set s.pending n false) (set s.owed n Nothing) (let_go n s.hand) is
-      go (Err e) none is = same_put s t s.dirty s.pending s.owed s.hand is
+      go : (x : Result T E) → OnOk x (t ≡ record s { durable = t.durable; pending = set s.pending n false; owed = set s.owed n Nothing; staging = let_go n s.staging }) → OnErr x (t ≡ record s { durable = t.durable }) → t ≡ on_device s t
+      go (Ok x) is none = same_put s t s.dirty (set s.pending n false) (set s.owed n Nothing) (let_go n s.staging) is
+      go (Err e) none is = same_put s t s.dirty s.pending s.owed s.staging is
 
-    pub paid_empty : s.hand ≡ None → t.hand ≡ None
+    pub paid_empty : s.staging ≡ None → t.staging ≡ None
     paid_empty empty = go r put unput where
-      go : (x : Result T E) → OnOk x (t ≡ record s { durable = t.durable; pending = set s.pending n false; owed = set s.owed n Nothing; hand = let_go n s.hand }) → OnErr x (t ≡ record s { durable = t.durable }) → t.hand ≡ None
-      go (Ok x) is none = ap (λ (c : StoreState D). c.hand) is ∙ ap (let_go n) empty
-      go (Err e) none is = ap (λ (c : StoreState D). c.hand) is ∙ empty
+      go : (x : Result T E) → OnOk x (t ≡ record s { durable = t.durable; pending = set s.pending n false; owed = set s.owed n Nothing; staging = let_go n s.staging }) → OnErr x (t ≡ record s { durable = t.durable }) → t.staging ≡ None
+      go (Ok x) is none = ap (λ (c : StoreState D). c.staging) is ∙ ap (let_go n) empty
+      go (Err e) none is = ap (λ (c : StoreState D). c.staging) is ∙ empty
 
   -- the body that it has
   module _ {T E : Type 0} (r : Result T E) (s t : StoreState D) (n : ℕ)
@@ -62,34 +62,34 @@ module _ {D : Type 0} where
       go (Ok x) is = ap (λ (c : StoreState D). mark_at c.dirty n) is ∙ mark_gone s.dirty n
       go (Err e) is = tt
 
-    pub written_same : (t.owed ≡ s.owed) × (t.hand ≡ s.hand) × (t ≡ on_device s t)
+    pub written_same : (t.owed ≡ s.owed) × (t.staging ≡ s.staging) × (t ≡ on_device s t)
     written_same = go r put unput where
-      go : (x : Result T E) → OnOk x (t ≡ record s { durable = t.durable; dirty = set s.dirty n false }) → OnErr x (t ≡ record s { durable = t.durable }) → (t.owed ≡ s.owed) × (t.hand ≡ s.hand) × (t ≡ on_device s t)
-      go (Ok x) is none = (ap (λ (c : StoreState D). c.owed) is, ap (λ (c : StoreState D). c.hand) is, same_put s t (set s.dirty n false) s.pending s.owed s.hand is)
-      go (Err e) none is = (ap (λ (c : StoreState D). c.owed) is, ap (λ (c : StoreState D). c.hand) is, same_put s t s.dirty s.pending s.owed s.hand is)
+      go : (x : Result T E) → OnOk x (t ≡ record s { durable = t.durable; dirty = set s.dirty n false }) → OnErr x (t ≡ record s { durable = t.durable }) → (t.owed ≡ s.owed) × (t.staging ≡ s.staging) × (t ≡ on_device s t)
+      go (Ok x) is none = (ap (λ (c : StoreState D). c.owed) is, ap (λ (c : StoreState D). c.staging) is, same_put s t (set s.dirty n false) s.pending s.owed s.staging is)
+      go (Err e) none is = (ap (λ (c : StoreState D). c.owed) is, ap (λ (c : StoreState D). c.staging) is, same_put s t s.dirty s.pending s.owed s.staging is)
 
   -- what it is after the device was written to
   pub fetched_on : (s t : StoreState D) (n : ℕ) → t ≡ on_device s t → IsFetchedIn s n → IsFetchedIn t n
-  fetched_on s t n is there = subst (λ (c : StoreState D). IsFetchedIn c n) (sym is) (record { header = there.header; content = there.content; seat = there.seat })
+  fetched_on s t n is there = subst (λ (c : StoreState D). IsFetchedIn c n) (sym is) (record { header = there.header; content = there.content; cached = there.cached })
 
   -- and once it is dropped
-  pub away_on : (s t u : StoreState D) (n : ℕ) → t ≡ on_device s t → u ≡ record t { seats = set t.seats n None; order = without n t.order } → u ≡ without_seat n (on_device s u)
+  pub away_on : (s t u : StoreState D) (n : ℕ) → t ≡ on_device s t → u ≡ record t { cached = set t.cached n None; order = without n t.order } → u ≡ without_cached n (on_device s u)
   away_on s t u n put is =
-      is ∙ ap (λ (c : StoreState D). record c { seats = set c.seats n None; order = without n c.order }) put
-      ∙ ap (λ (c : StoreState D). without_seat n (on_device s c)) (sym is)
+      is ∙ ap (λ (c : StoreState D). record c { cached = set c.cached n None; order = without n c.order }) put
+      ∙ ap (λ (c : StoreState D). without_cached n (on_device s c)) (sym is)
 
   -- of what else is in memory entries and their order alone are others
-  pub away_rest : {T E : Type 0} (r : Result T E) (s u : StoreState D) (n : ℕ) → OnOk r (u ≡ without_seat n (on_device s u)) → OnErr r (u ≡ on_device s u) → u ≡ record (on_device s u) { seats = u.seats; order = u.order }
-  away_rest (Ok x) s u n away stays = away ∙ ap (λ (c : StoreState D). record (on_device s u) { seats = c.seats; order = c.order }) (sym away)
-  away_rest (Err e) s u n away stays = stays ∙ ap (λ (c : StoreState D). record (on_device s u) { seats = c.seats; order = c.order }) (sym stays)
+  pub away_rest : {T E : Type 0} (r : Result T E) (s u : StoreState D) (n : ℕ) → OnOk r (u ≡ without_cached n (on_device s u)) → OnErr r (u ≡ on_device s u) → u ≡ record (on_device s u) { cached = u.cached; order = u.order }
+  away_rest (Ok x) s u n away stays = away ∙ ap (λ (c : StoreState D). record (on_device s u) { cached = c.cached; order = c.order }) (sym away)
+  away_rest (Err e) s u n away stays = stays ∙ ap (λ (c : StoreState D). record (on_device s u) { cached = c.cached; order = c.order }) (sym stays)
 
 module _ {D : Type 0} (disk : D → Disk) where
   pub keepable_on : (s t : StoreState D) (n : ℕ) → t ≡ on_device s t → GoesOnIn disk s t
       → IsKeepable (stored_of disk s.durable).saved.geometry most n (record { header = header_at s.headers n; content = held_at s.contents n })
       → IsKeepable (stored_of disk t.durable).saved.geometry most n (record { header = header_at t.headers n; content = held_at t.contents n })
-  keepable_on s t n put leads keepable =
+  keepable_on s t n put continues keepable =
       subst (λ (c : StoreState D). IsKeepable (stored_of disk t.durable).saved.geometry most n (record { header = header_at c.headers n; content = held_at c.contents n })) (sym put)
-      (subst (λ g. IsKeepable g most n (record { header = header_at s.headers n; content = held_at s.contents n })) (sym (geometry_stays disk s t leads)) keepable)
+      (subst (λ g. IsKeepable g most n (record { header = header_at s.headers n; content = held_at s.contents n })) (sym (geometry_stays disk s t continues)) keepable)
 
   pub masked_on : (s t : StoreState D) (n : ℕ) → t ≡ on_device s t
       → IsKeepable (stored_of disk s.durable).saved.geometry most n (record { header = header_at s.headers n; content = held_at s.contents n })

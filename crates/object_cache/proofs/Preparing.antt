@@ -1,7 +1,7 @@
 -- The parts of preparing, one after the other.
 use Rattle.object_cache.proofs.Names.{◌≡◌, ◌∙◌, inl, inr, ℕ, ◌+◌, ◌<◌, ◌≤◌, Bool, List, Result, Ok, Err, sym, ap, subst, arith, OnOk, OnErr, slice_index_or}
 use Rattle.object_cache.proofs.Names.{cases_lt, touched_count, Disk, Image, stored_of, StoreState, GoesOnIn, on_device_with, readied, goes_on_same}
-use Rattle.object_cache.proofs.Leading.{geometry_stays, leads_seats}
+use Rattle.object_cache.proofs.Leading.{geometry_stays, continues_cached}
 
 -- what holds of the items before one holds of those before the next
 pub items_more : (P Q : ℕ → Type 0) (ns : List ℕ) (i : ℕ) → ((n : ℕ) → P n → Q n) → Q (slice_index_or ns i 0) → ((k : ℕ) → k < i → P (slice_index_or ns k 0))
@@ -17,11 +17,11 @@ module _ {D : Type 0} where
   rest_alone s t is = is ∙ ap (λ (x : StoreState D). record (on_device_with s t) { touched = x.touched }) (sym is)
 
   -- what is to be marked was made ready
-  pub rest_ready : (s t : StoreState D) → t ≡ record s { owed = t.owed; seats = t.seats } → t ≡ readied s t
+  pub rest_ready : (s t : StoreState D) → t ≡ record s { owed = t.owed; cached = t.cached } → t ≡ readied s t
   rest_ready s t is = is ∙ ap (λ (x : StoreState D). record (readied s t) { touched = x.touched; dirty = x.dirty }) (sym is)
 
   -- and was marked, or not
-  pub rest_marked : {T E : Type 0} (r : Result T E) (s t u : StoreState D) (ts ds : List Bool) → t ≡ record s { owed = t.owed; seats = t.seats }
+  pub rest_marked : {T E : Type 0} (r : Result T E) (s t u : StoreState D) (ts ds : List Bool) → t ≡ record s { owed = t.owed; cached = t.cached }
       → OnOk r (u ≡ record t { touched = ts; dirty = ds }) → OnErr r (u ≡ t) → u ≡ readied s u
   rest_marked (Ok x) s t u ts ds first is none =
       is ∙ ap (λ (x : StoreState D). record x { touched = ts; dirty = ds }) first
@@ -34,8 +34,8 @@ module _ {D : Type 0} where
       is ∙ ap (λ (x : StoreState D). readied x u) first
       ∙ ap (λ (x : StoreState D). record (on_device_with s x) { touched = u.touched }) (sym is)
 
-  pub seats_on : (s t u : StoreState D) → t ≡ record s { seats = t.seats } → u ≡ record t { seats = u.seats } → u ≡ record s { seats = u.seats }
-  seats_on s t u first is = is ∙ ap (λ (x : StoreState D). record x { seats = u.seats }) first
+  pub cached_on : (s t u : StoreState D) → t ≡ record s { cached = t.cached } → u ≡ record t { cached = u.cached } → u ≡ record s { cached = u.cached }
+  cached_on s t u first is = is ∙ ap (λ (x : StoreState D). record x { cached = u.cached }) first
 
   pub owed_on : (s t u : StoreState D) → t ≡ record s { owed = t.owed } → u ≡ record t { owed = u.owed } → u ≡ record s { owed = u.owed }
   owed_on s t u first is = is ∙ ap (λ (x : StoreState D). record x { owed = u.owed }) first
@@ -47,13 +47,13 @@ module _ {D : Type 0} where
 module _ {D : Type 0} (disk : D → Disk) where
   pub within_on : (s t : StoreState D) → t ≡ on_device_with s t → GoesOnIn disk s t
       → touched_count s.touched ≤ (stored_of disk s.durable).saved.geometry.log → touched_count t.touched ≤ (stored_of disk t.durable).saved.geometry.log
-  within_on s t is leads within =
+  within_on s t is continues within =
       subst (λ (x : StoreState D). touched_count x.touched ≤ (stored_of disk t.durable).saved.geometry.log) (sym is)
-      (subst (λ g. touched_count s.touched ≤ g.log) (sym (geometry_stays disk s t leads)) within)
+      (subst (λ g. touched_count s.touched ≤ g.log) (sym (geometry_stays disk s t continues)) within)
 
-  pub within_ready : (s t : StoreState D) → t ≡ record s { owed = t.owed; seats = t.seats }
+  pub within_ready : (s t : StoreState D) → t ≡ record s { owed = t.owed; cached = t.cached }
       → touched_count s.touched ≤ (stored_of disk s.durable).saved.geometry.log → touched_count t.touched ≤ (stored_of disk t.durable).saved.geometry.log
   within_ready s t is within = subst (λ (x : StoreState D). touched_count x.touched ≤ (stored_of disk x.durable).saved.geometry.log) (sym is) within
 
-  pub leads_ready : ((d : D) (c : Image) → (disk d).left_since (disk d).moment c → (disk d).may_leave c) → (s t : StoreState D) → t ≡ record s { owed = t.owed; seats = t.seats } → GoesOnIn disk s t
-  leads_ready only_now s t is = subst (GoesOnIn disk s) (sym is) (leads_seats disk s s t.seats t.owed s.order (goes_on_same disk only_now s))
+  pub continues_ready : ((d : D) (c : Image) → (disk d).left_since (disk d).moment c → (disk d).may_leave c) → (s t : StoreState D) → t ≡ record s { owed = t.owed; cached = t.cached } → GoesOnIn disk s t
+  continues_ready only_now s t is = subst (GoesOnIn disk s) (sym is) (continues_cached disk s s t.cached t.owed s.order (goes_on_same disk only_now s))

@@ -4,7 +4,7 @@ use Rattle.object_cache.proofs.Names.{cases_eq, get_or-set_same, get_or-set_othe
 use Rattle.object_cache.proofs.Names.{Image, Disk, peeks_started, goes_none, Fresh, fresh_content, StoreState, IsFetchedIn, IsAnnouncedIn, GoesOnIn}
 use Rattle.model.specs.declared.object.Role.TheVariants as role
 use Rattle.capability.specs.declared.present.Fresh.TheVariants as fresh
-use Rattle.object_cache.proofs.Bringing.{still_seated}
+use Rattle.object_cache.proofs.Bringing.{still_cached}
 
 -- a header of the same role leaves all roles
 role_stays : (hs : List ObjectHeader) (n m : ℕ) (h : ObjectHeader) → m < length hs → h.role ≡ (header_at hs n).role → (header_at (set hs n h) m).role ≡ (header_at hs m).role
@@ -31,7 +31,7 @@ module _ {D : Type 0} where
   fetched_header s n h m there = record {
     header = omega (arith, there.header, length-set s.headers n h);
     content = there.content;
-    seat = there.seat;
+    cached = there.cached;
   }
 
   -- nothing where something was
@@ -39,16 +39,16 @@ module _ {D : Type 0} where
   fetched_reset s n h c m there = record {
     header = omega (arith, there.header, length-set s.headers n h);
     content = omega (arith, there.content, length-set s.contents n c);
-    seat = there.seat;
+    cached = there.cached;
   }
 
   -- a new object
   pub fetched_claim : (s : StoreState D) (n : ℕ) (h : ObjectHeader) (c r : Content Cap) (m : ℕ) → IsFetchedIn s m →
-      IsFetchedIn (record s { headers = set s.headers n h; contents = set s.contents n c; seats = set s.seats n (Some r) }) m
+      IsFetchedIn (record s { headers = set s.headers n h; contents = set s.contents n c; cached = set s.cached n (Some r) }) m
   fetched_claim s n h c r m there = record {
     header = omega (arith, there.header, length-set s.headers n h);
     content = omega (arith, there.content, length-set s.contents n c);
-    seat = still_seated s.seats n m r there.seat;
+    cached = still_cached s.cached n m r there.cached;
   }
 
 module _ {D : Type 0} (disk : D → Disk) where
@@ -71,7 +71,7 @@ module _ {D : Type 0} (disk : D → Disk) where
   }
 
   pub announced_claim : (s : StoreState D) (n : ℕ) (h : ObjectHeader) (c r : Content Cap) → h.role ≢ role.Free → (m : ℕ) → IsAnnouncedIn disk s m →
-      IsAnnouncedIn disk (record s { headers = set s.headers n h; contents = set s.contents n c; seats = set s.seats n (Some r) }) m
+      IsAnnouncedIn disk (record s { headers = set s.headers n h; contents = set s.contents n c; cached = set s.cached n (Some r) }) m
   announced_claim s n h c r used m there = record {
     header = omega (arith, there.header, length-set s.headers n h);
     content = omega (arith, there.content, length-set s.contents n c);
@@ -82,19 +82,19 @@ module _ {D : Type 0} (disk : D → Disk) where
           ∙ ap (λ (k : ℕ). (header_at (set s.headers k h) m).role) here
           ∙ free)))
       | inr other ↦
-          let stays = get_or-set_other s.seats n m (Some r) None other in
+          let stays = get_or-set_other s.cached n m (Some r) None other in
           (λ free some. stays ∙ there.room (sym (ap (λ (x : ObjectHeader). x.role) (get_or-set_other s.headers n m h blank_header other)) ∙ free) (sym (ap is_some stays) ∙ some))
     ];
   }
 
   -- present objects aren't looked at
-  pub leads_objects : ((d : D) (c : Image) → (disk d).left_since (disk d).moment c → (disk d).may_leave c) → (s : StoreState D) (hs : List ObjectHeader) (cs : List (Content Cap)) (ss : List (Option (Content Cap))) →
-      GoesOnIn disk s (record s { headers = hs; contents = cs; seats = ss })
-  leads_objects only_now s hs cs ss = record {
+  pub continues_objects : ((d : D) (c : Image) → (disk d).left_since (disk d).moment c → (disk d).may_leave c) → (s : StoreState D) (hs : List ObjectHeader) (cs : List (Content Cap)) (ss : List (Option (Content Cap))) →
+      GoesOnIn disk s (record s { headers = hs; contents = cs; cached = ss })
+  continues_objects only_now s hs cs ss = record {
     goes_on = goes_none (disk s.durable.beneath) s.durable.books (only_now s.durable.beneath);
-    aside = refl;
+    snapshots = refl;
     later = omega arith;
     grows = omega arith;
     most = refl;
-    looks = λ none idle. peeks_started (disk s.durable.beneath) (only_now s.durable.beneath);
+    only_reads = λ none idle. peeks_started (disk s.durable.beneath) (only_now s.durable.beneath);
   }

@@ -2,10 +2,10 @@
 use Rattle.object_cache.proofs.Names.{◌≡◌, ◌≢◌, ◌⊎◌, inl, inr, ℕ, zero, suc, ◌<◌, ◌≤◌, Bool, true, false, true≢false, cond, List, [], ◌∷◌, length, set, Option}
 use Rattle.object_cache.proofs.Names.{Some, option_map, refl, sym, ap, subst, ◌∙◌, arith, length-set, cases_eq, get_or-set_same, get_or-set_other, get_or_past}
 use Rattle.object_cache.proofs.Names.{sum_by-cons, none-some, Cap, Frame, ObjectHeader, Content, header_at, held_at, IsKeepable, touched_count, Disk, Put}
-use Rattle.object_cache.proofs.Names.{Absent, Broken, Kept, put_at, held_slot, sum_of, HasRoom, most, DurableState, Stored, GoesOn, stored_of, with_working}
-use Rattle.object_cache.proofs.Names.{maps_same, Entry, entry_at, present_of, Memory, mark_at, put_body, present_body, content_at, present_at, newest_body}
-use Rattle.object_cache.proofs.Names.{below_body, contents_in, frozen_in, owed_in, StoreState, IsCache, IsFetchedIn, GoesOnIn, cache_of, is_kept, frozen_seen}
-use Rattle.object_cache.proofs.Names.{some_of}
+use Rattle.object_cache.proofs.Names.{Absent, Broken, Kept, put_at, held_slot, sum_of, HasSpareBody, most, DurableState, Stored, GoesOn, stored_of}
+use Rattle.object_cache.proofs.Names.{with_working, maps_same, Entry, entry_at, present_of, Memory, mark_at, put_body, present_body, content_at, present_at}
+use Rattle.object_cache.proofs.Names.{newest_body, below_body, contents_in, frozen_in, owed_in, StoreState, IsCache, IsFetchedIn, GoesOnIn, cache_of, is_kept}
+use Rattle.object_cache.proofs.Names.{frozen_seen, some_of}
 use Rattle.object_cache.proofs.Objects.{has_entry, fetched_known, content_in, present_is}
 
 -- ---- slots
@@ -56,10 +56,10 @@ held_short (p ∷ ps) (false ∷ ts) (suc n) count each marked none =
     let no_slot : held_slot p ≡ 0 = ap held_slot (each zero refl) in
     omega (arith, total, rest, no_slot)
 
-pub has_room : (room : ℕ) (ps : List Put) (ts : List Bool) (n : ℕ) → length ps ≡ length ts → ((k : ℕ) → mark_at ts k ≡ false → put_at ps k ≡ Absent) → mark_at ts n ≡ true → touched_count ts ≤ room → HasRoom room ps n
-has_room room ps ts n count each marked within = go (put_at ps n) refl
+pub has_quota : (room : ℕ) (ps : List Put) (ts : List Bool) (n : ℕ) → length ps ≡ length ts → ((k : ℕ) → mark_at ts k ≡ false → put_at ps k ≡ Absent) → mark_at ts n ≡ true → touched_count ts ≤ room → HasSpareBody room ps n
+has_quota room ps ts n count each marked within = go (put_at ps n) refl
   where
-    go : (p : Put) → put_at ps n ≡ p → HasRoom room ps n
+    go : (p : Put) → put_at ps n ≡ p → HasSpareBody room ps n
     go Absent is = let short = held_short ps ts n count each marked is in inr (omega (arith, short, within))
     go Broken is = inl (λ none. broken_absent (sym is ∙ none))
       where
@@ -180,8 +180,8 @@ module _ {D : Type 0} (disk : D → Disk) (d : DurableState D) (m : Memory) (lef
   touched_here : mark_at m.touched n ≡ true
   touched_here = is.marked n dirty_here
 
-  pub room_here : HasRoom (stored_of disk d).saved.geometry.log (stored_of disk d).working n
-  room_here = has_room (stored_of disk d).saved.geometry.log (stored_of disk d).working m.touched n (is.puts ∙ sym is.marks) is.unput touched_here (omega (arith, is.within, is.counted))
+  pub room_here : HasSpareBody (stored_of disk d).saved.geometry.log (stored_of disk d).working n
+  room_here = has_quota (stored_of disk d).saved.geometry.log (stored_of disk d).working m.touched n (is.puts ∙ sym is.marks) is.unput touched_here (omega (arith, is.within, is.counted))
 
   module _ (header : ObjectHeader) (x : Content Cap) (header_is : header ≡ header_at m.headers n) (x_is : option_map present_of (entry_at m.entries n) ≡ Some x) where
     abbrev frame : Frame
@@ -211,16 +211,16 @@ module _ {D : Type 0} (disk : D → Disk) (d : DurableState D) (m : Memory) (lef
             seen_put (stored_of disk d) m left count is n known_here entry_here.0 entry_here.1 dirty_here p ds size others here disk d new order most_entries refl put
             ∙ ap (λ (t : StoreState D). record t { durable = new; dirty = ds }) view
 
-        leads_then : GoesOn disk d new → (disk d.beneath).failures ≤ (disk new.beneath).failures → GoesOnIn disk s (cache_of disk new (with_dirty m ds) left order most_entries)
-        leads_then goes later = subst (GoesOnIn disk s) (sym seen_then) (record {
+        continues_then : GoesOn disk d new → (disk d.beneath).failures ≤ (disk new.beneath).failures → GoesOnIn disk s (cache_of disk new (with_dirty m ds) left order most_entries)
+        continues_then goes later = subst (GoesOnIn disk s) (sym seen_then) (record {
           goes_on = subst (λ (t : StoreState D). GoesOn disk t.durable new) view goes;
-          aside =
+          snapshots =
               ap (λ (u : Stored). record { frozen = s.frozen; saved = u.saved; to_move = u.to_move }) put
               ∙ ap (λ (t : StoreState D). record { frozen = s.frozen; saved = (stored_of disk t.durable).saved; to_move = (stored_of disk t.durable).to_move }) view;
           later = subst (λ (t : StoreState D). (disk t.durable.beneath).failures ≤ (disk new.beneath).failures) view later;
           grows = omega arith;
           most = refl;
-          looks = λ none idle. absurd (omega (arith, none, some_touched s.touched n (ap (λ (t : StoreState D). mark_at t.touched n) (sym view) ∙ touched_here)));
+          only_reads = λ none idle. absurd (omega (arith, none, some_touched s.touched n (ap (λ (t : StoreState D). mark_at t.touched n) (sym view) ∙ touched_here)));
         })
 
       -- it is put
@@ -236,8 +236,8 @@ module _ {D : Type 0} (disk : D → Disk) (d : DurableState D) (m : Memory) (lef
             seen_then (Kept frame) (set m.dirty n false) (length-set m.dirty n false) others_stay (inr (ap Kept frame_is)) put
             ∙ ap (λ (t : StoreState D). record s { durable = new; dirty = set t.dirty n false }) view
 
-        pub ok_leads : GoesOn disk d new → (disk d.beneath).failures ≤ (disk new.beneath).failures → GoesOnIn disk s (cache_of disk new (with_dirty m (set m.dirty n false)) left order most_entries)
-        ok_leads = leads_then (Kept frame) (set m.dirty n false) (length-set m.dirty n false) others_stay (inr (ap Kept frame_is)) put
+        pub ok_continues : GoesOn disk d new → (disk d.beneath).failures ≤ (disk new.beneath).failures → GoesOnIn disk s (cache_of disk new (with_dirty m (set m.dirty n false)) left order most_entries)
+        ok_continues = continues_then (Kept frame) (set m.dirty n false) (length-set m.dirty n false) others_stay (inr (ap Kept frame_is)) put
 
       -- or its slot may hold any bytes
       module _ (put : stored_of disk new ≡ with_working n Broken (stored_of disk d)) where
@@ -247,5 +247,5 @@ module _ {D : Type 0} (disk : D → Disk) (d : DurableState D) (m : Memory) (lef
         pub err_seen : cache_of disk new m left order most_entries ≡ record s { durable = new }
         err_seen = seen_then Broken m.dirty refl (λ k other. refl) (inl dirty_here) put ∙ ap (λ (t : StoreState D). record s { durable = new; dirty = t.dirty }) view
 
-        pub err_leads : GoesOn disk d new → (disk d.beneath).failures ≤ (disk new.beneath).failures → GoesOnIn disk s (cache_of disk new m left order most_entries)
-        err_leads = leads_then Broken m.dirty refl (λ k other. refl) (inl dirty_here) put
+        pub err_continues : GoesOn disk d new → (disk d.beneath).failures ≤ (disk new.beneath).failures → GoesOnIn disk s (cache_of disk new m left order most_entries)
+        err_continues = continues_then Broken m.dirty refl (λ k other. refl) (inl dirty_here) put

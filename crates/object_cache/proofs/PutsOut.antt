@@ -3,30 +3,30 @@ use Rattle.object_cache.proofs.Names.{◌≡◌, ◌≢◌, inl, inr, ℕ, ◌<�
 use Rattle.object_cache.proofs.Names.{option_map, refl, sym, ap, subst, ◌∙◌, arith, length-set, count_by, range_with_len, cases_eq, cases_lt, eq-eqb, ne_eqb}
 use Rattle.object_cache.proofs.Names.{get_or-set_same, get_or-set_other, get_or_past, length-map-range_with_len, get_or-map-range_with_len, none-some}
 use Rattle.object_cache.proofs.Names.{same_Some, Cap, Frame, ObjectHeader, Content, blank_frame, header_at, IsKeepable, Disk, Put, Absent, Broken, Kept, put_at}
-use Rattle.object_cache.proofs.Names.{HasRoom, most, DurableState, FrozenPuts, Stored, GoesOn, below_at, stored_of, with_frozen, FrozenFrames, Entry, Held}
-use Rattle.object_cache.proofs.Names.{entry_at, with_entry, keeping, Memory, Owed, Nothing, mark_at, in_hand, let_go, own_body, own_frame, present_body}
+use Rattle.object_cache.proofs.Names.{HasSpareBody, most, DurableState, FrozenPuts, Stored, GoesOn, below_at, stored_of, with_frozen, FrozenFrames, Entry, Held}
+use Rattle.object_cache.proofs.Names.{entry_at, with_entry, keeping, Memory, Owed, Nothing, mark_at, in_staging, let_go, own_body, own_frame, present_body}
 use Rattle.object_cache.proofs.Names.{content_at, newest_body, below_body, apart_body, frozen_body, frozen_frame, frozen_at, owed_of, owed_body, owed_in_memory}
 use Rattle.object_cache.proofs.Names.{contents_in, frozen_in, owed_in, StoreState, IsCache, IsFetchedIn, GoesOnIn, cache_of, frozen_seen, is_kept, owed_at}
-use Rattle.object_cache.proofs.Names.{seats_in}
-use Rattle.object_cache.proofs.Apart.{seats_keep}
+use Rattle.object_cache.proofs.Names.{cached_in}
+use Rattle.object_cache.proofs.Apart.{cached_keep}
 use Rattle.object_cache.proofs.FrozenPuts.{Releases, one_fewer, with_frame, without_pending, frozen_put_cache, contents_same, frozen_seen_same, owed_now}
 use Rattle.object_cache.proofs.FrozenTorn.{torn_cache, torn_contents_same, torn_seen_same}
 use Rattle.object_cache.proofs.Objects.{fetched_known}
-use Rattle.object_cache.proofs.Puts.{has_room}
-use Rattle.object_cache.proofs.Seating.{owed_entry}
+use Rattle.object_cache.proofs.Puts.{has_quota}
+use Rattle.object_cache.proofs.Caching.{owed_entry}
 
 -- ---- what is in the hand, once it has let go of a number
 
-pub let_go_others : (hand : Option Held) (n k : ℕ) (c : Content Cap) → k ≢ n → in_hand (let_go n hand) k c ≡ in_hand hand k c
+pub let_go_others : (staging : Option Held) (n k : ℕ) (c : Content Cap) → k ≢ n → in_staging (let_go n staging) k c ≡ in_staging staging k c
 let_go_others None n k c other = refl
 let_go_others (Some h) n k c other = elim (cases_eq h.number n) [
   | inl same ↦
-      ap (λ (b : Bool). in_hand (cond b None (Some h)) k c) (eq-eqb h.number n same)
+      ap (λ (b : Bool). in_staging (cond b None (Some h)) k c) (eq-eqb h.number n same)
       ∙ sym (ap (λ (b : Bool). cond b h.content c) (ne_eqb h.number k (λ is. other (sym is ∙ same))))
-  | inr differs ↦ ap (λ (b : Bool). in_hand (cond b None (Some h)) k c) (ne_eqb h.number n differs)
+  | inr differs ↦ ap (λ (b : Bool). in_staging (cond b None (Some h)) k c) (ne_eqb h.number n differs)
 ]
 
-pub let_go_of : (hand : Option Held) (n : ℕ) (h : Held) → let_go n hand ≡ Some h → (h.number ≢ n) × (hand ≡ Some h)
+pub let_go_of : (staging : Option Held) (n : ℕ) (h : Held) → let_go n staging ≡ Some h → (h.number ≢ n) × (staging ≡ Some h)
 let_go_of None n h is = absurd (none-some h is)
 let_go_of (Some g) n h is = elim (cases_eq g.number n) [
   | inl same ↦ absurd (none-some h (sym (ap (λ (b : Bool). cond b None (Some g)) (eq-eqb g.number n same)) ∙ is))
@@ -53,13 +53,13 @@ module _ {D : Type 0} (disk : D → Disk) (d : DurableState D) (m : Memory) (lef
       go None none = absurd (true≢false (sym pending ∙ is.idle none n))
       go (Some f) some = (f, some)
 
-  pub frozen_room : (f : FrozenPuts) → (stored_of disk d).frozen ≡ Some f → HasRoom f.size f.put n
+  pub frozen_room : (f : FrozenPuts) → (stored_of disk d).frozen ≡ Some f → HasSpareBody f.size f.put n
   frozen_room f f_is =
       let are = is.running f f_is in
       let written : ℕ → Bool = (λ k. mark_at m.pending k || is_kept (put_at f.put k)) in
       let marks = map (λ k. mark_at m.pending k || is_kept (put_at f.put k)) (range_with_len 0 (length m.pending)) in
       let there : n < length m.pending = omega (arith, known, is.headers, is.pending_marks) in
-      has_room f.size f.put marks n
+      has_quota f.size f.put marks n
       (are.each ∙ sym (length-map-range_with_len (λ k. mark_at m.pending k || is_kept (put_at f.put k)) 0 (length m.pending)))
       (λ k none. elim (cases_lt k (length m.pending)) [
         | inl below ↦ no_put (mark_at m.pending k) (put_at f.put k)
@@ -78,17 +78,17 @@ module _ {D : Type 0} (disk : D → Disk) (d : DurableState D) (m : Memory) (lef
       ((is.keepable running_here.0 running_here.1).each n (omega (arith, known, is.headers)))
 
   -- the store goes on while the frozen frame is put
-  pub put_leads : (new : DurableState D) (p : Put) → stored_of disk new ≡ with_frozen n p (stored_of disk d) → GoesOn disk d new → (disk d.beneath).failures ≤ (disk new.beneath).failures →
-      (ps : List Bool) (os : List Owed) (hand : Option Held) → GoesOnIn disk s (record s { durable = new; pending = ps; owed = os; hand = hand })
-  put_leads new p put goes later ps os hand = record {
+  pub put_continues : (new : DurableState D) (p : Put) → stored_of disk new ≡ with_frozen n p (stored_of disk d) → GoesOn disk d new → (disk d.beneath).failures ≤ (disk new.beneath).failures →
+      (ps : List Bool) (os : List Owed) (staging : Option Held) → GoesOnIn disk s (record s { durable = new; pending = ps; owed = os; staging = staging })
+  put_continues new p put goes later ps os staging = record {
     goes_on = subst (λ (t : StoreState D). GoesOn disk t.durable new) view goes;
-    aside =
+    snapshots =
         ap (λ (u : Stored). record { frozen = s.frozen; saved = u.saved; to_move = u.to_move }) put
         ∙ ap (λ (t : StoreState D). record { frozen = s.frozen; saved = (stored_of disk t.durable).saved; to_move = (stored_of disk t.durable).to_move }) view;
     later = subst (λ (t : StoreState D). (disk t.durable.beneath).failures ≤ (disk new.beneath).failures) view later;
     grows = omega arith;
     most = refl;
-    looks = λ none idle. absurd (none-some (record { frames = frozen_in (stored_of disk d) m; size = running_here.0.size; left = left })
+    only_reads = λ none idle. absurd (none-some (record { frames = frozen_in (stored_of disk d) m; size = running_here.0.size; left = left })
         (sym (sym (ap (option_map (λ (f : FrozenPuts). record { frames = frozen_in (stored_of disk d) m; size = f.size; left = left })) running_here.1) ∙ ap (λ (t : StoreState D). t.frozen) view ∙ idle)));
   }
 
@@ -121,15 +121,15 @@ module _ (s : Stored) (m : Memory) (left count : ℕ) (is : IsCache s m left cou
   entry_now : entry_at (with_entry (keeping None) n m.entries) n ≡ Some (keeping None e)
   entry_now = get_or-set_same m.entries n (option_map (keeping None) (entry_at m.entries n)) None in_entries ∙ ap (option_map (keeping None)) at
 
-  pub releases : Releases s m n (with_entry (keeping None) n m.entries) (let_go n m.hand)
+  pub releases : Releases s m n (with_entry (keeping None) n m.entries) (let_go n m.staging)
   releases = record {
     count = length-set m.entries n (option_map (keeping None) (entry_at m.entries n));
     entries = λ k other. get_or-set_other m.entries n k (option_map (keeping None) (entry_at m.entries n)) None other;
     kept = λ g g_is. ap (λ (x : Entry). x.kept) (same_Some g (keeping None e) (sym g_is ∙ entry_now));
-    others = λ k c other. let_go_others m.hand n k c other;
-    let_go = λ h h_is. let was = let_go_of m.hand n h h_is in (was.0, is.held h was.1);
+    others = λ k c other. let_go_others m.staging n k c other;
+    let_go = λ h h_is. let was = let_go_of m.staging n h h_is in (was.0, is.held h was.1);
     content =
-        ap (λ (o : Option Entry). present_body o (header_at m.headers n).role (newest_body (with_frame n s m) (without_pending n (with_entry (keeping None) n m.entries) (let_go n m.hand) m) n)) entry_now
+        ap (λ (o : Option Entry). present_body o (header_at m.headers n).role (newest_body (with_frame n s m) (without_pending n (with_entry (keeping None) n m.entries) (let_go n m.staging) m) n)) entry_now
         ∙ sym (ap (λ (o : Option Entry). present_body o (header_at m.headers n).role (newest_body s m n)) at);
   }
 
@@ -158,7 +158,7 @@ module _ {D : Type 0} (disk : D → Disk) (d : DurableState D) (m : Memory) (lef
   pub own_fewer : count_by (λ b. b) (set m.pending n false) < count_by (λ b. b) s.pending
   own_fewer = omega (arith, one_fewer m.pending n pending_here, ap (λ (t : StoreState D). count_by (λ b. b) t.pending) view)
 
-  pub own_room : (f : FrozenPuts) → (stored_of disk d).frozen ≡ Some f → HasRoom f.size f.put n
+  pub own_room : (f : FrozenPuts) → (stored_of disk d).frozen ≡ Some f → HasSpareBody f.size f.put n
   own_room = frozen_room disk d m left count order most_entries s view is n known_here pending_here
 
   pub own_keepable : IsKeepable (stored_of disk d).saved.geometry most n (own_frame header e)
@@ -170,36 +170,36 @@ module _ {D : Type 0} (disk : D → Disk) (d : DurableState D) (m : Memory) (lef
       es = with_entry (keeping None) n m.entries
 
       abbrev then : Memory
-      then = without_pending n (with_entry (keeping None) n m.entries) (let_go n m.hand) m
+      then = without_pending n (with_entry (keeping None) n m.entries) (let_go n m.staging) m
 
-      rest : Releases (stored_of disk d) m n (with_entry (keeping None) n m.entries) (let_go n m.hand)
+      rest : Releases (stored_of disk d) m n (with_entry (keeping None) n m.entries) (let_go n m.staging)
       rest = releases (stored_of disk d) m left count is n known_here e at owed_here
 
       after_is : stored_of disk new ≡ with_frame n (stored_of disk d) m
       after_is = put ∙ ap (λ (g : Frame). with_frozen n (Kept g) (stored_of disk d)) frame_is
 
-      pub out_stands : IsCache (stored_of disk new) (without_pending n (with_entry (keeping None) n m.entries) (let_go n m.hand) m) left count
+      pub out_stands : IsCache (stored_of disk new) (without_pending n (with_entry (keeping None) n m.entries) (let_go n m.staging) m) left count
       out_stands = subst (λ (t : Stored). IsCache t then left count) (sym after_is)
-          (frozen_put_cache (stored_of disk d) m left count is n known_here own_running.0 own_running.1 pending_here es (let_go n m.hand) rest)
+          (frozen_put_cache (stored_of disk d) m left count is n known_here own_running.0 own_running.1 pending_here es (let_go n m.staging) rest)
 
-      pub out_seen : cache_of disk new (without_pending n (with_entry (keeping None) n m.entries) (let_go n m.hand) m) left order most_entries ≡ record s { durable = new; pending = set s.pending n false; owed = set s.owed n Nothing; hand = let_go n s.hand }
+      pub out_seen : cache_of disk new (without_pending n (with_entry (keeping None) n m.entries) (let_go n m.staging) m) left order most_entries ≡ record s { durable = new; pending = set s.pending n false; owed = set s.owed n Nothing; staging = let_go n s.staging }
       out_seen =
           let old = cache_of disk d m left order most_entries in
           let ps = set m.pending n false in
-          ap (λ (t : Stored). record old { durable = new; contents = contents_in t then; pending = ps; seats = seats_in es; owed = owed_in then; frozen = frozen_seen t then left; hand = let_go n m.hand }) after_is
-          ∙ ap (λ (cs : List (Content Cap)). record old { durable = new; contents = cs; pending = ps; seats = seats_in es; owed = owed_in then; frozen = frozen_seen (with_frame n (stored_of disk d) m) then left; hand = let_go n m.hand })
-          (contents_same (stored_of disk d) m left count is n known_here own_running.0 own_running.1 pending_here es (let_go n m.hand) rest)
-          ∙ ap (λ (fs : Option FrozenFrames). record old { durable = new; pending = ps; seats = seats_in es; owed = owed_in then; frozen = fs; hand = let_go n m.hand })
-          (frozen_seen_same (stored_of disk d) m left count is n known_here own_running.0 own_running.1 pending_here es (let_go n m.hand) rest)
-          ∙ ap (λ (rs : List (Option (Content Cap))). record old { durable = new; pending = ps; seats = rs; owed = owed_in then; hand = let_go n m.hand }) (seats_keep None n m.entries)
-          ∙ ap (λ (os : List Owed). record old { durable = new; pending = ps; owed = os; hand = let_go n m.hand })
-          (owed_now (stored_of disk d) m left count is n known_here own_running.0 own_running.1 pending_here es (let_go n m.hand) rest)
-          ∙ ap (λ (t : StoreState D). record t { durable = new; pending = set t.pending n false; owed = set t.owed n Nothing; hand = let_go n t.hand }) view
+          ap (λ (t : Stored). record old { durable = new; contents = contents_in t then; pending = ps; cached = cached_in es; owed = owed_in then; frozen = frozen_seen t then left; staging = let_go n m.staging }) after_is
+          ∙ ap (λ (cs : List (Content Cap)). record old { durable = new; contents = cs; pending = ps; cached = cached_in es; owed = owed_in then; frozen = frozen_seen (with_frame n (stored_of disk d) m) then left; staging = let_go n m.staging })
+          (contents_same (stored_of disk d) m left count is n known_here own_running.0 own_running.1 pending_here es (let_go n m.staging) rest)
+          ∙ ap (λ (fs : Option FrozenFrames). record old { durable = new; pending = ps; cached = cached_in es; owed = owed_in then; frozen = fs; staging = let_go n m.staging })
+          (frozen_seen_same (stored_of disk d) m left count is n known_here own_running.0 own_running.1 pending_here es (let_go n m.staging) rest)
+          ∙ ap (λ (rs : List (Option (Content Cap))). record old { durable = new; pending = ps; cached = rs; owed = owed_in then; staging = let_go n m.staging }) (cached_keep None n m.entries)
+          ∙ ap (λ (os : List Owed). record old { durable = new; pending = ps; owed = os; staging = let_go n m.staging })
+          (owed_now (stored_of disk d) m left count is n known_here own_running.0 own_running.1 pending_here es (let_go n m.staging) rest)
+          ∙ ap (λ (t : StoreState D). record t { durable = new; pending = set t.pending n false; owed = set t.owed n Nothing; staging = let_go n t.staging }) view
 
-      pub out_leads : GoesOn disk d new → (disk d.beneath).failures ≤ (disk new.beneath).failures →
-          GoesOnIn disk s (cache_of disk new (without_pending n (with_entry (keeping None) n m.entries) (let_go n m.hand) m) left order most_entries)
-      out_leads goes later = subst (GoesOnIn disk s) (sym out_seen)
-          (put_leads disk d m left count order most_entries s view is n known_here pending_here new (Kept (own_frame header e)) put goes later (set s.pending n false) (set s.owed n Nothing) (let_go n s.hand))
+      pub out_continues : GoesOn disk d new → (disk d.beneath).failures ≤ (disk new.beneath).failures →
+          GoesOnIn disk s (cache_of disk new (without_pending n (with_entry (keeping None) n m.entries) (let_go n m.staging) m) left order most_entries)
+      out_continues goes later = subst (GoesOnIn disk s) (sym out_seen)
+          (put_continues disk d m left count order most_entries s view is n known_here pending_here new (Kept (own_frame header e)) put goes later (set s.pending n false) (set s.owed n Nothing) (let_go n s.staging))
 
     module _ (put : stored_of disk new ≡ with_frozen n Broken (stored_of disk d)) where
       content_torn : content_at (with_frozen n Broken (stored_of disk d)) m n ≡ content_at (stored_of disk d) m n
@@ -226,6 +226,6 @@ module _ {D : Type 0} (disk : D → Disk) (d : DurableState D) (m : Memory) (lef
           (torn_seen_same (stored_of disk d) m left count is n known_here own_running.0 own_running.1 pending_here content_torn frozen_torn)
           ∙ ap (λ (t : StoreState D). record t { durable = new }) view
 
-      pub torn_leads : GoesOn disk d new → (disk d.beneath).failures ≤ (disk new.beneath).failures → GoesOnIn disk s (cache_of disk new m left order most_entries)
-      torn_leads goes later = subst (GoesOnIn disk s) (sym torn_seen)
-          (put_leads disk d m left count order most_entries s view is n known_here pending_here new Broken put goes later s.pending s.owed s.hand)
+      pub torn_continues : GoesOn disk d new → (disk d.beneath).failures ≤ (disk new.beneath).failures → GoesOnIn disk s (cache_of disk new m left order most_entries)
+      torn_continues goes later = subst (GoesOnIn disk s) (sym torn_seen)
+          (put_continues disk d m left count order most_entries s view is n known_here pending_here new Broken put goes later s.pending s.owed s.staging)

@@ -1,41 +1,41 @@
 -- Numbers are made ready to be written: room, and what was frozen, are put aside, and marks come last.
 use Rattle.object_cache.proofs.Names.{◌≡◌, ◌≢◌, inl, inr, ℕ, ◌<◌, ◌≤◌, Bool, List, length, set, Option, Some, None, IsSome, is_some, true, true≢false, refl}
 use Rattle.object_cache.proofs.Names.{sym, ap, subst, ◌∙◌, arith, Contains, cases_eq, get_or-set_same, get_or-set_other, length-map-range_with_len, Cap}
-use Rattle.object_cache.proofs.Names.{Content, header_at, touched_count, touching, Image, Disk, peeks_started, DurableState, stored_of, goes_none, room_at}
-use Rattle.object_cache.proofs.Names.{Memory, content_at, contents_in, mark_at, StoreState, IsCache, IsFetchedIn, IsAnnouncedIn, GoesOnIn, cache_of, on_device}
-use Rattle.object_cache.proofs.Names.{seat_at, HasRoomIn, on_device_with, goes_on_same}
+use Rattle.object_cache.proofs.Names.{Content, header_at, touched_count, touching, Image, Disk, peeks_started, DurableState, stored_of, goes_none}
+use Rattle.object_cache.proofs.Names.{spare_body_at, Memory, content_at, contents_in, mark_at, StoreState, IsCache, IsFetchedIn, IsAnnouncedIn, GoesOnIn}
+use Rattle.object_cache.proofs.Names.{cache_of, on_device, cached_at, HasSpareBodyIn, on_device_with, goes_on_same}
 use Rattle.model.specs.declared.object.Role.TheVariants as role
-use Rattle.object_cache.proofs.Bringing.{seat_within, still_seated}
-use Rattle.object_cache.proofs.Leading.{leads_seats}
+use Rattle.object_cache.proofs.Bringing.{cached_within, still_cached}
+use Rattle.object_cache.proofs.Leading.{continues_cached}
 use Rattle.object_cache.proofs.Marks.{all_marked, listed_is_marked}
 
 module _ {D : Type 0} where
-  pub fetched_same : (s t : StoreState D) (n : ℕ) → t.headers ≡ s.headers → t.contents ≡ s.contents → t.seats ≡ s.seats → IsFetchedIn s n → IsFetchedIn t n
-  fetched_same s t n headers contents seats there = record {
+  pub fetched_same : (s t : StoreState D) (n : ℕ) → t.headers ≡ s.headers → t.contents ≡ s.contents → t.cached ≡ s.cached → IsFetchedIn s n → IsFetchedIn t n
+  fetched_same s t n headers contents cached there = record {
     header = omega (arith, there.header, ap length headers);
     content = omega (arith, there.content, ap length contents);
-    seat = ap (λ (ss : List (Option (Content Cap))). is_some (seat_at ss n)) seats ∙ there.seat;
+    cached = ap (λ (ss : List (Option (Content Cap))). is_some (cached_at ss n)) cached ∙ there.cached;
   }
 
   pub rest_of : (s t : StoreState D) → t ≡ on_device s t → t ≡ on_device_with s t
-  rest_of s t put = put ∙ ap (λ (x : StoreState D). record (on_device s t) { seats = x.seats; order = x.order }) (sym put)
+  rest_of s t put = put ∙ ap (λ (x : StoreState D). record (on_device s t) { cached = x.cached; order = x.order }) (sym put)
 
-  pub no_seat : (s : StoreState D) (n : ℕ) → seat_at s.seats n ≡ None → IsSome (seat_at s.seats n) → ⊥
-  no_seat s n none some = true≢false (sym some ∙ ap is_some none)
+  pub no_cached : (s : StoreState D) (n : ℕ) → cached_at s.cached n ≡ None → IsSome (cached_at s.cached n) → ⊥
+  no_cached s n none some = true≢false (sym some ∙ ap is_some none)
 
 module _ {D : Type 0} (disk : D → Disk) where
   abbrev pub with_room_in : StoreState D → ℕ → StoreState D
-  with_room_in s n = record s { seats = set s.seats n (Some (room_at (stored_of disk s.durable).saved.geometry n)) }
+  with_room_in s n = record s { cached = set s.cached n (Some (spare_body_at (stored_of disk s.durable).saved.geometry n)) }
 
-  pub reserved_room : (s : StoreState D) (n : ℕ) → IsFetchedIn s n → HasRoomIn disk (with_room_in s n) n
+  pub reserved_room : (s : StoreState D) (n : ℕ) → IsFetchedIn s n → HasSpareBodyIn disk (with_room_in s n) n
   reserved_room s n there = λ free some.
-      get_or-set_same s.seats n (Some (room_at (stored_of disk s.durable).saved.geometry n)) None (seat_within s.seats n there.seat)
+      get_or-set_same s.cached n (Some (spare_body_at (stored_of disk s.durable).saved.geometry n)) None (cached_within s.cached n there.cached)
 
-  pub reserved_others : (s : StoreState D) (n : ℕ) → IsFetchedIn s n → (m : ℕ) → HasRoomIn disk s m → HasRoomIn disk (with_room_in s n) m
+  pub reserved_others : (s : StoreState D) (n : ℕ) → IsFetchedIn s n → (m : ℕ) → HasSpareBodyIn disk s m → HasSpareBodyIn disk (with_room_in s n) m
   reserved_others s n there m has = elim (cases_eq m n) [
-    | inl same ↦ subst (λ (k : ℕ). HasRoomIn disk (with_room_in s n) k) (sym same) (reserved_room s n there)
+    | inl same ↦ subst (λ (k : ℕ). HasSpareBodyIn disk (with_room_in s n) k) (sym same) (reserved_room s n there)
     | inr other ↦
-        let stays = get_or-set_other s.seats n m (Some (room_at (stored_of disk s.durable).saved.geometry n)) None other in
+        let stays = get_or-set_other s.cached n m (Some (spare_body_at (stored_of disk s.durable).saved.geometry n)) None other in
         (λ free some. stays ∙ has free (sym (ap is_some stays) ∙ some))
   ]
 
@@ -43,21 +43,21 @@ module _ {D : Type 0} (disk : D → Disk) where
   reserved_fetched s n m there = record {
     header = there.header;
     content = there.content;
-    seat = still_seated s.seats n m (room_at (stored_of disk s.durable).saved.geometry n) there.seat;
+    cached = still_cached s.cached n m (spare_body_at (stored_of disk s.durable).saved.geometry n) there.cached;
   }
 
   module _ (only_now : (d : D) (c : Image) → (disk d).left_since (disk d).moment c → (disk d).may_leave c) where
-    pub ready_leads : (s t : StoreState D) → t ≡ record s { owed = t.owed; seats = t.seats } → GoesOnIn disk s t
-    ready_leads s t is = subst (GoesOnIn disk s) (sym is) (leads_seats disk s s t.seats t.owed s.order (goes_on_same disk only_now s))
+    pub ready_continues : (s t : StoreState D) → t ≡ record s { owed = t.owed; cached = t.cached } → GoesOnIn disk s t
+    ready_continues s t is = subst (GoesOnIn disk s) (sym is) (continues_cached disk s s t.cached t.owed s.order (goes_on_same disk only_now s))
 
-    pub mark_leads : (s : StoreState D) (ts ds : List Bool) → touched_count s.touched ≤ touched_count ts → GoesOnIn disk s (record s { touched = ts; dirty = ds })
-    mark_leads s ts ds grows = record {
+    pub mark_continues : (s : StoreState D) (ts ds : List Bool) → touched_count s.touched ≤ touched_count ts → GoesOnIn disk s (record s { touched = ts; dirty = ds })
+    mark_continues s ts ds grows = record {
       goes_on = goes_none (disk s.durable.beneath) s.durable.books (only_now s.durable.beneath);
-      aside = refl;
+      snapshots = refl;
       later = omega arith;
       grows = grows;
       most = refl;
-      looks = λ none idle. peeks_started (disk s.durable.beneath) (only_now s.durable.beneath);
+      only_reads = λ none idle. peeks_started (disk s.durable.beneath) (only_now s.durable.beneath);
     }
 
 module _ {D : Type 0} (disk : D → Disk) (d : DurableState D) (m : Memory) (left count : ℕ) (order : List ℕ) (most_entries : ℕ) (s : StoreState D)
@@ -67,7 +67,7 @@ module _ {D : Type 0} (disk : D → Disk) (d : DurableState D) (m : Memory) (lef
   contents_count = length-map-range_with_len (content_at (stored_of disk d) m) 0 (length m.headers)
 
   -- what is marked may be written
-  pub marked_announced : (ns : List ℕ) (n : ℕ) → n < length s.headers → Contains ns n → HasRoomIn disk s n →
+  pub marked_announced : (ns : List ℕ) (n : ℕ) → n < length s.headers → Contains ns n → HasSpareBodyIn disk s n →
       IsAnnouncedIn disk (record s { touched = touching s.touched ns; dirty = touching s.dirty ns }) n
   marked_announced ns n known has room = record {
     header = known;

@@ -1,12 +1,12 @@
 -- Another room lies aside for a number that has an entry.
 use Rattle.object_cache.proofs.Names.{◌≡◌, inl, inr, ℕ, ◌<◌, Bool, true, false, List, length, set, Option, Some, None, option_map, refl, sym, ap, ◌∙◌, arith}
 use Rattle.object_cache.proofs.Names.{length-set, get_or-set_same, get_or-set_other, none-some, same_Some, Cap, Content, header_at, Disk, DurableState, Stored}
-use Rattle.object_cache.proofs.Names.{below_at, stored_of, Entry, entry_at, with_entry, reserving, room_of, Memory, mark_at, present_body, newest_body}
+use Rattle.object_cache.proofs.Names.{below_at, stored_of, Entry, entry_at, with_entry, reserving, buffer_of, Memory, mark_at, present_body, newest_body}
 use Rattle.object_cache.proofs.Names.{below_body, frozen_body, frozen_frame, owed_of, owed_in_memory, owed_in, StoreState, IsCache, IsFetchedIn, cache_of}
-use Rattle.object_cache.proofs.Names.{seats_in, some_of}
+use Rattle.object_cache.proofs.Names.{cached_in, some_of}
 use Rattle.object_cache.proofs.Changing.{with_objects}
 use Rattle.object_cache.proofs.Objects.{has_entry, fetched_known}
-use Rattle.object_cache.proofs.Seating.{Reseats, seated_cache, owed_stay, seen_seated, seats_set}
+use Rattle.object_cache.proofs.Caching.{Recaches, cached_cache, owed_stay, seen_cached, cached_set}
 
 module _ (s : Stored) (m : Memory) (left count : ℕ) (is : IsCache s m left count) (n : ℕ) (within : n < length m.headers) (e : Entry) (at : entry_at m.entries n ≡ Some e) (room : Content Cap) where
   abbrev with_room : List (Option Entry)
@@ -15,7 +15,7 @@ module _ (s : Stored) (m : Memory) (left count : ℕ) (is : IsCache s m left cou
   now : entry_at with_room n ≡ Some (reserving room e)
   now = get_or-set_same m.entries n (option_map (reserving room) (entry_at m.entries n)) None (omega (arith, within, is.headers, is.entries)) ∙ ap (option_map (reserving room)) at
 
-  pub reserves : Reseats s m with_room n
+  pub reserves : Recaches s m with_room n
   reserves = record {
     count = length-set m.entries n (option_map (reserving room) (entry_at m.entries n));
     entries = λ k other. get_or-set_other m.entries n k (option_map (reserving room) (entry_at m.entries n)) None other;
@@ -51,19 +51,19 @@ module _ {D : Type 0} (disk : D → Disk) (d : DurableState D) (m : Memory) (lef
   entry_here : (e : Entry) × (entry_at m.entries n ≡ Some e)
   entry_here = some_of (entry_at m.entries n) (has_entry disk d m left order most_entries s view n fetched)
 
-  change : Reseats (stored_of disk d) m (with_entry (reserving room) n m.entries) n
+  change : Recaches (stored_of disk d) m (with_entry (reserving room) n m.entries) n
   change = reserves (stored_of disk d) m left count is n known_here entry_here.0 entry_here.1 room
 
   pub reserve_stands : IsCache (stored_of disk d) (with_objects m m.headers (with_entry (reserving room) n m.entries)) left count
-  reserve_stands = seated_cache (stored_of disk d) m (with_entry (reserving room) n m.entries) n change left count is
+  reserve_stands = cached_cache (stored_of disk d) m (with_entry (reserving room) n m.entries) n change left count is
 
-  pub reserve_seen : cache_of disk d (with_objects m m.headers (with_entry (reserving room) n m.entries)) left order most_entries ≡ record s { seats = set s.seats n (Some room) }
+  pub reserve_seen : cache_of disk d (with_objects m m.headers (with_entry (reserving room) n m.entries)) left order most_entries ≡ record s { cached = set s.cached n (Some room) }
   reserve_seen =
       let es = with_entry (reserving room) n m.entries in
       let old = cache_of disk d m left order most_entries in
-      seen_seated disk d m left order most_entries es n change (owed_in m)
+      seen_cached disk d m left order most_entries es n change (owed_in m)
       (owed_stay (stored_of disk d) m es n change (owed_reserved (stored_of disk d) m left count is n known_here entry_here.0 entry_here.1 room))
-      ∙ ap (λ (rs : List (Option (Content Cap))). record old { seats = rs })
-      (seats_set m.entries n (option_map (reserving room) (entry_at m.entries n))
-      ∙ ap (λ (o : Option Entry). set (seats_in m.entries) n (option_map room_of (option_map (reserving room) o))) entry_here.1)
-      ∙ ap (λ (t : StoreState D). record t { seats = set t.seats n (Some room) }) view
+      ∙ ap (λ (rs : List (Option (Content Cap))). record old { cached = rs })
+      (cached_set m.entries n (option_map (reserving room) (entry_at m.entries n))
+      ∙ ap (λ (o : Option Entry). set (cached_in m.entries) n (option_map buffer_of (option_map (reserving room) o))) entry_here.1)
+      ∙ ap (λ (t : StoreState D). record t { cached = set t.cached n (Some room) }) view

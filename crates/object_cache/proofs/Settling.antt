@@ -2,17 +2,17 @@
 use Rattle.object_cache.proofs.Names.{◌≡◌, ◌⊎◌, inl, inr, ℕ, ◌<◌, ◌≤◌, Bool, true, false, true≢false, cond, List, length, set, Option, Some, None, option_map}
 use Rattle.object_cache.proofs.Names.{refl, sym, ap, subst, ◌∙◌, arith, count_by, cases_lt, eq-eqb, ne_eqb, get_or-set_same, get_or_past, none-some, same_Some}
 use Rattle.object_cache.proofs.Names.{Cap, Frame, ObjectHeader, Content, Role, frame_at, header_at, IsKeepable, Disk, Put, Absent, Broken, Kept, put_at, put_or}
-use Rattle.object_cache.proofs.Names.{HasRoom, most, DurableState, FrozenPuts, Stored, GoesOn, below_at, frozen_put, stored_of, with_frozen, with_put}
-use Rattle.object_cache.proofs.Names.{FrozenFrames, Entry, Held, entry_at, Memory, Owed, Nothing, mark_at, masked, in_hand, put_body, present_body, content_at}
-use Rattle.object_cache.proofs.Names.{newest_body, below_body, apart_body, frozen_body, frozen_frame, frozen_at, owed_of, owed_in_memory, contents_in, owed_in}
-use Rattle.object_cache.proofs.Names.{StoreState, IsCache, GoesOnIn, cache_of, frozen_seen, is_kept, on_device, owed_at}
+use Rattle.object_cache.proofs.Names.{HasSpareBody, most, DurableState, FrozenPuts, Stored, GoesOn, below_at, frozen_put, stored_of, with_frozen, with_put}
+use Rattle.object_cache.proofs.Names.{FrozenFrames, Entry, Held, entry_at, Memory, Owed, Nothing, mark_at, masked, in_staging, put_body, present_body}
+use Rattle.object_cache.proofs.Names.{content_at, newest_body, below_body, apart_body, frozen_body, frozen_frame, frozen_at, owed_of, owed_in_memory}
+use Rattle.object_cache.proofs.Names.{contents_in, owed_in, StoreState, IsCache, GoesOnIn, cache_of, frozen_seen, is_kept, on_device, owed_at}
 use Rattle.model.specs.declared.object.Content.TheVariants as content
 use Rattle.model.specs.declared.object.Role.TheVariants as role
 use Rattle.object_cache.proofs.FrozenPuts.{Releases, one_fewer, with_frame, without_pending, frozen_put_cache, contents_same, frozen_seen_same, owed_now}
 use Rattle.object_cache.proofs.FrozenTorn.{torn_cache, torn_contents_same, torn_seen_same}
 use Rattle.object_cache.proofs.Leading.{same_put}
-use Rattle.object_cache.proofs.PutsOut.{running_here, frozen_room, frozen_keepable, put_leads}
-use Rattle.object_cache.proofs.Seating.{nothing_owed, owed_entry}
+use Rattle.object_cache.proofs.PutsOut.{running_here, frozen_room, frozen_keepable, put_continues}
+use Rattle.object_cache.proofs.Caching.{nothing_owed, owed_entry}
 
 -- a body that was frozen as free isn't looked at, or the object is free
 mask_under : (fr r : Role) (c : Content Cap) → (fr ≡ role.Free → r ≡ role.Free) → masked r (masked fr c) ≡ masked r c
@@ -34,16 +34,16 @@ marked_within ts n marked = elim (cases_lt n (length ts)) [
   | inr past ↦ absurd (true≢false (sym marked ∙ get_or_past ts n false past))
 ]
 
-module _ (s : Stored) (m : Memory) (left count : ℕ) (is : IsCache s m left count) (h : Held) (hand : m.hand ≡ Some h) (owed : owed_in_memory m h.number ≡ Nothing) where
+module _ (s : Stored) (m : Memory) (left count : ℕ) (is : IsCache s m left count) (h : Held) (staging : m.staging ≡ Some h) (owed : owed_in_memory m h.number ≡ Nothing) where
   pub held_pending : mark_at m.pending h.number ≡ true
-  held_pending = is.held h hand
+  held_pending = is.held h staging
 
   pub held_within : h.number < length m.headers
   held_within = omega (arith, marked_within m.pending h.number held_pending, is.headers, is.pending_marks)
 
   below_is : (t : Stored) → below_body t m h.number ≡ h.content
   below_is t =
-      ap (λ (o : Option Held). in_hand o h.number (below_at t h.number).content) hand
+      ap (λ (o : Option Held). in_staging o h.number (below_at t h.number).content) staging
       ∙ ap (λ (b : Bool). cond b h.content (below_at t h.number).content) (eq-eqb h.number h.number refl)
 
   -- an entry has nothing of it
@@ -88,7 +88,7 @@ module _ (s : Stored) (m : Memory) (left count : ℕ) (is : IsCache s m left cou
       entries = λ k other. refl;
       kept = λ e at. (bare e at).1;
       others = λ k c other.
-          sym (ap (λ (o : Option Held). in_hand o k c) hand
+          sym (ap (λ (o : Option Held). in_staging o k c) staging
           ∙ ap (λ (b : Bool). cond b h.content c) (ne_eqb h.number k (λ same. other (sym same))));
       let_go = λ g gone. absurd (none-some g gone);
       content = content_put (entry_at m.entries h.number) refl;
@@ -96,25 +96,25 @@ module _ (s : Stored) (m : Memory) (left count : ℕ) (is : IsCache s m left cou
 
 -- the number of the body in the hand is known
 module _ {D : Type 0} (disk : D → Disk) (d : DurableState D) (m : Memory) (left count : ℕ) (order : List ℕ) (most_entries : ℕ) (s : StoreState D)
-    (view : cache_of disk d m left order most_entries ≡ s) (is : IsCache (stored_of disk d) m left count) (h : Held) (hand : m.hand ≡ Some h) where
+    (view : cache_of disk d m left order most_entries ≡ s) (is : IsCache (stored_of disk d) m left count) (h : Held) (staging : m.staging ≡ Some h) where
   pub held_frozen : h.number < length m.frozen_headers
-  held_frozen = omega (arith, marked_within m.pending h.number (is.held h hand), is.frozen_headers, is.pending_marks)
+  held_frozen = omega (arith, marked_within m.pending h.number (is.held h staging), is.frozen_headers, is.pending_marks)
 
   pub held_number : h.number < length s.headers
   held_number = omega (arith, held_frozen, is.headers, is.frozen_headers, ap (λ (t : StoreState D). length t.headers) view)
 
   pub settled_fewer : count_by (λ b. b) (set m.pending h.number false) < count_by (λ b. b) s.pending
-  settled_fewer = omega (arith, one_fewer m.pending h.number (is.held h hand), ap (λ (t : StoreState D). count_by (λ b. b) t.pending) view)
+  settled_fewer = omega (arith, one_fewer m.pending h.number (is.held h staging), ap (λ (t : StoreState D). count_by (λ b. b) t.pending) view)
 
-  pub held_owed : ((g : Held) × (s.hand ≡ Some g) × (owed_at s.owed g.number ≡ Nothing)) → owed_at s.owed h.number ≡ Nothing
-  held_owed seen = subst (λ (x : Held). owed_at s.owed x.number ≡ Nothing) (same_Some seen.0 h (sym seen.1 ∙ ap (λ (t : StoreState D). t.hand) (sym view) ∙ hand)) seen.2
+  pub held_owed : ((g : Held) × (s.staging ≡ Some g) × (owed_at s.owed g.number ≡ Nothing)) → owed_at s.owed h.number ≡ Nothing
+  held_owed seen = subst (λ (x : Held). owed_at s.owed x.number ≡ Nothing) (same_Some seen.0 h (sym seen.1 ∙ ap (λ (t : StoreState D). t.staging) (sym view) ∙ staging)) seen.2
 
 -- the same by what is seen
 module _ {D : Type 0} (disk : D → Disk) (d : DurableState D) (m : Memory) (left count : ℕ) (order : List ℕ) (most_entries : ℕ) (s : StoreState D)
-    (view : cache_of disk d m left order most_entries ≡ s) (is : IsCache (stored_of disk d) m left count) (h : Held) (hand : m.hand ≡ Some h) (owed : owed_at s.owed h.number ≡ Nothing)
+    (view : cache_of disk d m left order most_entries ≡ s) (is : IsCache (stored_of disk d) m left count) (h : Held) (staging : m.staging ≡ Some h) (owed : owed_at s.owed h.number ≡ Nothing)
     (header : ObjectHeader) (header_is : header ≡ header_at m.frozen_headers h.number) where
   pending_there : mark_at m.pending h.number ≡ true
-  pending_there = is.held h hand
+  pending_there = is.held h staging
 
   known_there : h.number < length m.headers
   known_there = omega (arith, marked_within m.pending h.number pending_there, is.headers, is.pending_marks)
@@ -125,7 +125,7 @@ module _ {D : Type 0} (disk : D → Disk) (d : DurableState D) (m : Memory) (lef
   frame_is : record { header = header; content = masked header.role h.content } ≡ frozen_at (stored_of disk d) m h.number
   frame_is =
       ap (λ (i : ObjectHeader). record { header = i; content = masked i.role h.content }) header_is
-      ∙ sym (frozen_is_held (stored_of disk d) m left count is h hand owed_there (stored_of disk d))
+      ∙ sym (frozen_is_held (stored_of disk d) m left count is h staging owed_there (stored_of disk d))
 
   pub held_known : h.number < length m.headers
   held_known = known_there
@@ -133,7 +133,7 @@ module _ {D : Type 0} (disk : D → Disk) (d : DurableState D) (m : Memory) (lef
   pub held_running : (f : FrozenPuts) × ((stored_of disk d).frozen ≡ Some f)
   held_running = running_here disk d m left count order most_entries s view is h.number known_there pending_there
 
-  pub held_room : (f : FrozenPuts) → (stored_of disk d).frozen ≡ Some f → HasRoom f.size f.put h.number
+  pub held_room : (f : FrozenPuts) → (stored_of disk d).frozen ≡ Some f → HasSpareBody f.size f.put h.number
   held_room = frozen_room disk d m left count order most_entries s view is h.number known_there pending_there
 
   pub held_keepable : IsKeepable (stored_of disk d).saved.geometry most h.number (record { header = header; content = masked header.role h.content })
@@ -145,7 +145,7 @@ module _ {D : Type 0} (disk : D → Disk) (d : DurableState D) (m : Memory) (lef
       then = without_pending h.number m.entries None m
 
       rest : Releases (stored_of disk d) m h.number m.entries None
-      rest = releases_held (stored_of disk d) m left count is h hand owed_there held_running.0 held_running.1
+      rest = releases_held (stored_of disk d) m left count is h staging owed_there held_running.0 held_running.1
 
       after_is : stored_of disk new ≡ with_frame h.number (stored_of disk d) m
       after_is = put ∙ ap (λ (g : Frame). with_frozen h.number (Kept g) (stored_of disk d)) frame_is
@@ -155,37 +155,37 @@ module _ {D : Type 0} (disk : D → Disk) (d : DurableState D) (m : Memory) (lef
           (frozen_put_cache (stored_of disk d) m left count is h.number known_there held_running.0 held_running.1 pending_there m.entries None rest)
 
       pub settled_seen : cache_of disk new (without_pending h.number m.entries None m) left order most_entries
-          ≡ record s { durable = new; pending = set s.pending h.number false; owed = set s.owed h.number Nothing; hand = None }
+          ≡ record s { durable = new; pending = set s.pending h.number false; owed = set s.owed h.number Nothing; staging = None }
       settled_seen =
           let old = cache_of disk d m left order most_entries in
           let ps = set m.pending h.number false in
-          ap (λ (t : Stored). record old { durable = new; contents = contents_in t then; pending = ps; owed = owed_in then; frozen = frozen_seen t then left; hand = None }) after_is
-          ∙ ap (λ (cs : List (Content Cap)). record old { durable = new; contents = cs; pending = ps; owed = owed_in then; frozen = frozen_seen (with_frame h.number (stored_of disk d) m) then left; hand = None })
+          ap (λ (t : Stored). record old { durable = new; contents = contents_in t then; pending = ps; owed = owed_in then; frozen = frozen_seen t then left; staging = None }) after_is
+          ∙ ap (λ (cs : List (Content Cap)). record old { durable = new; contents = cs; pending = ps; owed = owed_in then; frozen = frozen_seen (with_frame h.number (stored_of disk d) m) then left; staging = None })
           (contents_same (stored_of disk d) m left count is h.number known_there held_running.0 held_running.1 pending_there m.entries None rest)
-          ∙ ap (λ (fs : Option FrozenFrames). record old { durable = new; pending = ps; owed = owed_in then; frozen = fs; hand = None })
+          ∙ ap (λ (fs : Option FrozenFrames). record old { durable = new; pending = ps; owed = owed_in then; frozen = fs; staging = None })
           (frozen_seen_same (stored_of disk d) m left count is h.number known_there held_running.0 held_running.1 pending_there m.entries None rest)
-          ∙ ap (λ (os : List Owed). record old { durable = new; pending = ps; owed = os; hand = None })
+          ∙ ap (λ (os : List Owed). record old { durable = new; pending = ps; owed = os; staging = None })
           (owed_now (stored_of disk d) m left count is h.number known_there held_running.0 held_running.1 pending_there m.entries None rest)
-          ∙ ap (λ (t : StoreState D). record t { durable = new; pending = set t.pending h.number false; owed = set t.owed h.number Nothing; hand = None }) view
+          ∙ ap (λ (t : StoreState D). record t { durable = new; pending = set t.pending h.number false; owed = set t.owed h.number Nothing; staging = None }) view
 
       pub settled_put : cache_of disk new (without_pending h.number m.entries None m) left order most_entries ≡ on_device s (cache_of disk new (without_pending h.number m.entries None m) left order most_entries)
       settled_put = same_put s (cache_of disk new (without_pending h.number m.entries None m) left order most_entries) s.dirty (set s.pending h.number false) (set s.owed h.number Nothing) None settled_seen
 
-      pub settled_leads : GoesOn disk d new → (disk d.beneath).failures ≤ (disk new.beneath).failures →
+      pub settled_continues : GoesOn disk d new → (disk d.beneath).failures ≤ (disk new.beneath).failures →
           GoesOnIn disk s (cache_of disk new (without_pending h.number m.entries None m) left order most_entries)
-      settled_leads goes later = subst (GoesOnIn disk s) (sym settled_seen)
-          (put_leads disk d m left count order most_entries s view is h.number known_there pending_there new (Kept (record { header = header; content = masked header.role h.content })) put goes later
+      settled_continues goes later = subst (GoesOnIn disk s) (sym settled_seen)
+          (put_continues disk d m left count order most_entries s view is h.number known_there pending_there new (Kept (record { header = header; content = masked header.role h.content })) put goes later
           (set s.pending h.number false) (set s.owed h.number Nothing) None)
 
     module _ (put : stored_of disk new ≡ with_frozen h.number Broken (stored_of disk d)) where
       content_torn : content_at (with_frozen h.number Broken (stored_of disk d)) m h.number ≡ content_at (stored_of disk d) m h.number
       content_torn = ap (λ (c : Content Cap). present_body (entry_at m.entries h.number) (header_at m.headers h.number).role (put_body (put_at (stored_of disk d).working h.number) c))
-          (below_is (stored_of disk d) m left count is h hand owed_there (with_frozen h.number Broken (stored_of disk d)) ∙ sym (below_is (stored_of disk d) m left count is h hand owed_there (stored_of disk d)))
+          (below_is (stored_of disk d) m left count is h staging owed_there (with_frozen h.number Broken (stored_of disk d)) ∙ sym (below_is (stored_of disk d) m left count is h staging owed_there (stored_of disk d)))
 
       frozen_torn : frozen_at (with_frozen h.number Broken (stored_of disk d)) m h.number ≡ frozen_at (stored_of disk d) m h.number
       frozen_torn =
-          frozen_is_held (stored_of disk d) m left count is h hand owed_there (with_frozen h.number Broken (stored_of disk d))
-          ∙ sym (frozen_is_held (stored_of disk d) m left count is h hand owed_there (stored_of disk d))
+          frozen_is_held (stored_of disk d) m left count is h staging owed_there (with_frozen h.number Broken (stored_of disk d))
+          ∙ sym (frozen_is_held (stored_of disk d) m left count is h staging owed_there (stored_of disk d))
 
       pub unsettled_stands : IsCache (stored_of disk new) m left count
       unsettled_stands = subst (λ (t : Stored). IsCache t m left count) (sym put)
@@ -202,8 +202,8 @@ module _ {D : Type 0} (disk : D → Disk) (d : DurableState D) (m : Memory) (lef
           ∙ ap (λ (t : StoreState D). record t { durable = new }) view
 
       pub unsettled_put : cache_of disk new m left order most_entries ≡ on_device s (cache_of disk new m left order most_entries)
-      unsettled_put = same_put s (cache_of disk new m left order most_entries) s.dirty s.pending s.owed s.hand unsettled_seen
+      unsettled_put = same_put s (cache_of disk new m left order most_entries) s.dirty s.pending s.owed s.staging unsettled_seen
 
-      pub unsettled_leads : GoesOn disk d new → (disk d.beneath).failures ≤ (disk new.beneath).failures → GoesOnIn disk s (cache_of disk new m left order most_entries)
-      unsettled_leads goes later = subst (GoesOnIn disk s) (sym unsettled_seen)
-          (put_leads disk d m left count order most_entries s view is h.number known_there pending_there new Broken put goes later s.pending s.owed s.hand)
+      pub unsettled_continues : GoesOn disk d new → (disk d.beneath).failures ≤ (disk new.beneath).failures → GoesOnIn disk s (cache_of disk new m left order most_entries)
+      unsettled_continues goes later = subst (GoesOnIn disk s) (sym unsettled_seen)
+          (put_continues disk d m left count order most_entries s view is h.number known_there pending_there new Broken put goes later s.pending s.owed s.staging)

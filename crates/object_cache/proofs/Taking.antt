@@ -2,22 +2,22 @@
 use Rattle.object_cache.proofs.Names.{◌≡◌, inl, inr, ℕ, ◌<◌, ◌≤◌, Bool, true, cond, List, length, Option, Some, None, option_map, refl, sym, ap, subst, ◌∙◌}
 use Rattle.object_cache.proofs.Names.{arith, cases_eq, eq-eqb, ne_eqb, same_Some, Cap, Frame, Content, header_at, AreKeepable, object_count, Disk, Kept, put_at}
 use Rattle.object_cache.proofs.Names.{most, DurableState, FrozenPuts, Stored, ReadsStore, below_at, stored_of, maps_same, Held, entry_at, Memory, Owed, mark_at}
-use Rattle.object_cache.proofs.Names.{in_hand, put_body, below_body, present_body, content_at, present_at, frozen_body, frozen_frame, frozen_at, contents_in}
+use Rattle.object_cache.proofs.Names.{in_staging, put_body, below_body, present_body, content_at, present_at, frozen_body, frozen_frame, frozen_at, contents_in}
 use Rattle.object_cache.proofs.Names.{frozen_in, owed_in, StoreState, IsCache, GoesOnIn, cache_of, frozen_seen}
-use Rattle.object_cache.proofs.Fetched.{read_seen, read_leads}
-use Rattle.object_cache.proofs.Leading.{leads_hand}
+use Rattle.object_cache.proofs.Fetched.{read_seen, read_continues}
+use Rattle.object_cache.proofs.Leading.{continues_staging}
 use Rattle.object_cache.proofs.Settling.{marked_within}
 
 abbrev pub holding_up : ℕ → Content Cap → Memory → Memory
-holding_up n c m = record m { hand = Some (record { number = n; content = c }) }
+holding_up n c m = record m { staging = Some (record { number = n; content = c }) }
 
-module _ (s : Stored) (m : Memory) (left count : ℕ) (is : IsCache s m left count) (n : ℕ) (pending : mark_at m.pending n ≡ true) (empty : m.hand ≡ None)
+module _ (s : Stored) (m : Memory) (left count : ℕ) (is : IsCache s m left count) (n : ℕ) (pending : mark_at m.pending n ≡ true) (empty : m.staging ≡ None)
     (c : Content Cap) (read : c ≡ (below_at s n).content) where
   abbrev then : Memory
   then = holding_up n c m
 
-  in_hand_same : (k : ℕ) → in_hand (Some (record { number = n; content = c })) k (below_at s k).content ≡ (below_at s k).content
-  in_hand_same k = elim (cases_eq n k) [
+  in_staging_same : (k : ℕ) → in_staging (Some (record { number = n; content = c })) k (below_at s k).content ≡ (below_at s k).content
+  in_staging_same k = elim (cases_eq n k) [
     | inl same ↦
         ap (λ (b : Bool). cond b c (below_at s k).content) (eq-eqb n k same)
         ∙ read ∙ ap (λ (i : ℕ). (below_at s i).content) same
@@ -25,7 +25,7 @@ module _ (s : Stored) (m : Memory) (left count : ℕ) (is : IsCache s m left cou
   ]
 
   below_same : (k : ℕ) → below_body s then k ≡ below_body s m k
-  below_same k = in_hand_same k ∙ sym (ap (λ (o : Option Held). in_hand o k (below_at s k).content) empty)
+  below_same k = in_staging_same k ∙ sym (ap (λ (o : Option Held). in_staging o k (below_at s k).content) empty)
 
   content_same : (k : ℕ) → content_at s then k ≡ content_at s m k
   content_same k = ap (λ (x : Content Cap). present_body (entry_at m.entries k) (header_at m.headers k).role (put_body (put_at s.working k) x)) (below_same k)
@@ -84,28 +84,28 @@ module _ {D : Type 0} (disk : D → Disk) (d : DurableState D) (m : Memory) (lef
   pub pending_known : n < length s.headers
   pending_known = omega (arith, pending_object, is.headers, ap (λ (t : StoreState D). length t.headers) view)
 
-  module _ (empty : s.hand ≡ None) (new : DurableState D) (reads : ReadsStore disk d new) (c : Content Cap) (read : c ≡ (below_at (stored_of disk d) n).content) where
-    empty_here : m.hand ≡ None
-    empty_here = ap (λ (t : StoreState D). t.hand) view ∙ empty
+  module _ (empty : s.staging ≡ None) (new : DurableState D) (reads : ReadsStore disk d new) (c : Content Cap) (read : c ≡ (below_at (stored_of disk d) n).content) where
+    empty_here : m.staging ≡ None
+    empty_here = ap (λ (t : StoreState D). t.staging) view ∙ empty
 
     pub taken_stands : IsCache (stored_of disk new) (holding_up n c m) left count
     taken_stands = subst (λ (t : Stored). IsCache t (holding_up n c m) left count) (sym reads.stored)
         (taken_cache (stored_of disk d) m left count is n pending_here empty_here c read)
 
-    pub taken_seen : cache_of disk new (holding_up n c m) left order most_entries ≡ record s { durable = new; hand = Some (record { number = n; content = c }) }
+    pub taken_seen : cache_of disk new (holding_up n c m) left order most_entries ≡ record s { durable = new; staging = Some (record { number = n; content = c }) }
     taken_seen =
         let old = cache_of disk d m left order most_entries in
         let then = holding_up n c m in
-        ap (λ (t : Stored). record old { durable = new; contents = contents_in t then; owed = owed_in then; frozen = frozen_seen t then left; hand = then.hand }) reads.stored
-        ∙ ap (λ (cs : List (Content Cap)). record old { durable = new; contents = cs; owed = owed_in then; frozen = frozen_seen (stored_of disk d) then left; hand = then.hand })
+        ap (λ (t : Stored). record old { durable = new; contents = contents_in t then; owed = owed_in then; frozen = frozen_seen t then left; staging = then.staging }) reads.stored
+        ∙ ap (λ (cs : List (Content Cap)). record old { durable = new; contents = cs; owed = owed_in then; frozen = frozen_seen (stored_of disk d) then left; staging = then.staging })
         (taken_contents (stored_of disk d) m left count is n pending_here empty_here c read)
-        ∙ ap (λ (fs : List Frame). record old { durable = new; owed = owed_in then; frozen = option_map (λ (f : FrozenPuts). record { frames = fs; size = f.size; left = left }) (stored_of disk d).frozen; hand = then.hand })
+        ∙ ap (λ (fs : List Frame). record old { durable = new; owed = owed_in then; frozen = option_map (λ (f : FrozenPuts). record { frames = fs; size = f.size; left = left }) (stored_of disk d).frozen; staging = then.staging })
         (taken_frozen (stored_of disk d) m left count is n pending_here empty_here c read)
-        ∙ ap (λ (os : List Owed). record old { durable = new; owed = os; hand = then.hand })
+        ∙ ap (λ (os : List Owed). record old { durable = new; owed = os; staging = then.staging })
         (taken_owed (stored_of disk d) m left count is n pending_here empty_here c read)
-        ∙ ap (λ (t : StoreState D). record t { durable = new; hand = Some (record { number = n; content = c }) }) view
+        ∙ ap (λ (t : StoreState D). record t { durable = new; staging = Some (record { number = n; content = c }) }) view
 
-    pub taken_leads : (disk d.beneath).failures ≤ (disk new.beneath).failures → GoesOnIn disk s (cache_of disk new (holding_up n c m) left order most_entries)
-    taken_leads later = subst (GoesOnIn disk s) (sym taken_seen)
-        (leads_hand disk s (record s { durable = new }) (Some (record { number = n; content = c }))
-        (subst (GoesOnIn disk s) (read_seen disk d m left count order most_entries s view is new reads) (read_leads disk d m left count order most_entries s view is new reads later)))
+    pub taken_continues : (disk d.beneath).failures ≤ (disk new.beneath).failures → GoesOnIn disk s (cache_of disk new (holding_up n c m) left order most_entries)
+    taken_continues later = subst (GoesOnIn disk s) (sym taken_seen)
+        (continues_staging disk s (record s { durable = new }) (Some (record { number = n; content = c }))
+        (subst (GoesOnIn disk s) (read_seen disk d m left count order most_entries s view is new reads) (read_continues disk d m left count order most_entries s view is new reads later)))

@@ -1,8 +1,8 @@
 -- Frozen frames are put in turn, and as many fewer are said to be left.
 use Rattle.object_cache.proofs.Names.{◌≡◌, ℕ, ◌+◌, ◌-◌, ◌<◌, ◌≤◌, Bool, false, true≢false, List, [], Option, Some, None, option_map, is_some, refl, sym, ap}
 use Rattle.object_cache.proofs.Names.{subst, ◌∙◌, arith, count_by, none-some, same_Some, HasNoneMarked, Frame, Image, Disk, DurableState, FrozenPuts, stored_of}
-use Rattle.object_cache.proofs.Names.{goes_trans, FrozenFrames, Aside, stabilized, Held, Memory, frozen_in, StoreState, IsCache, AreFrozen, GoesOnIn, PutsBy}
-use Rattle.object_cache.proofs.Names.{aside_of, cache_of, on_device, on_device_frozen, pending_count, goes_on_same}
+use Rattle.object_cache.proofs.Names.{goes_trans, FrozenFrames, Snapshots, stabilized, Held, Memory, frozen_in, StoreState, IsCache, AreFrozen, GoesOnIn}
+use Rattle.object_cache.proofs.Names.{PutsBy, snapshots_of, cache_of, on_device, on_device_frozen, pending_count, goes_on_same}
 use Rattle.object_cache.proofs.Freezing.{fewer_of}
 
 pub empty_of : (o : Option Held) → is_some o ≡ false → o ≡ None
@@ -13,9 +13,9 @@ pub none_marked : (ts : List Bool) → HasNoneMarked ts 0 → count_by (λ b. b)
 none_marked ts none = fewer_of ts [] (λ k marked. absurd (true≢false (sym marked ∙ none k (omega arith))))
 
 -- so many may be put where so many are left
-pub asked_by : (o : Option FrozenFrames) (k n : ℕ) → option_map (λ (f : FrozenFrames). f.left) o ≡ Some k → n ≤ k → (f : FrozenFrames) × (o ≡ Some f) × (n ≤ f.left)
-asked_by None k n told within = absurd (none-some k told)
-asked_by (Some f) k n told within = (f, refl, omega (arith, within, same_Some f.left k told))
+pub requested_by : (o : Option FrozenFrames) (k n : ℕ) → option_map (λ (f : FrozenFrames). f.left) o ≡ Some k → n ≤ k → (f : FrozenFrames) × (o ≡ Some f) × (n ≤ f.left)
+requested_by None k n reported within = absurd (none-some k reported)
+requested_by (Some f) k n reported within = (f, refl, omega (arith, within, same_Some f.left k reported))
 
 running_in : (fs : List Frame) (left : ℕ) (o : Option FrozenPuts) (f : FrozenFrames) → option_map (λ (h : FrozenPuts). record { frames = fs; size = h.size; left = left }) o ≡ Some f →
     (h : FrozenPuts) × (o ≡ Some h) × (record { frames = fs; size = h.size; left = left } ≡ f)
@@ -80,9 +80,9 @@ module _ {D : Type 0} (disk : D → Disk) where
     -- one was put, and one fewer is left
     pub turned_puts : (s0 : StoreState D) → s0.frozen ≡ Some f → s ≡ on_device s0 s → GoesOnIn disk s0 s → PutsBy disk s0 (cache_of disk d m (left - 1) order most_entries) 1
     turned_puts s0 f0 put goes = subst (λ (t : StoreState D). PutsBy disk s0 t 1) (sym turned_seen) (record {
-      aside = λ g g_is.
-          ap (λ (a : Aside). record { frozen = Some (one_less_left f); saved = a.saved; to_move = a.to_move }) goes.aside
-          ∙ ap (λ (x : FrozenFrames). record { frozen = Some (one_less_left x); saved = (aside_of disk s0).saved; to_move = (aside_of disk s0).to_move }) (same_Some f g (sym f0 ∙ g_is));
+      snapshots = λ g g_is.
+          ap (λ (a : Snapshots). record { frozen = Some (one_less_left f); saved = a.saved; to_move = a.to_move }) goes.snapshots
+          ∙ ap (λ (x : FrozenFrames). record { frozen = Some (one_less_left x); saved = (snapshots_of disk s0).saved; to_move = (snapshots_of disk s0).to_move }) (same_Some f g (sym f0 ∙ g_is));
       rest = ap (λ (t : StoreState D). record t { frozen = Some (one_less_left f) }) put;
       goes_on = goes.goes_on;
     })
@@ -90,10 +90,10 @@ module _ {D : Type 0} (disk : D → Disk) where
   -- none was put
   pub unturned_puts : (s0 s : StoreState D) → s ≡ on_device s0 s → GoesOnIn disk s0 s → PutsBy disk s0 s 0
   unturned_puts s0 s put goes = record {
-    aside = λ g g_is.
-        goes.aside
-        ∙ ap (λ (o : Option FrozenFrames). record { frozen = o; saved = (aside_of disk s0).saved; to_move = (aside_of disk s0).to_move }) g_is
-        ∙ ap (λ (k : ℕ). record { frozen = Some (record { frames = g.frames; size = g.size; left = k }); saved = (aside_of disk s0).saved; to_move = (aside_of disk s0).to_move }) (same g.left);
+    snapshots = λ g g_is.
+        goes.snapshots
+        ∙ ap (λ (o : Option FrozenFrames). record { frozen = o; saved = (snapshots_of disk s0).saved; to_move = (snapshots_of disk s0).to_move }) g_is
+        ∙ ap (λ (k : ℕ). record { frozen = Some (record { frames = g.frames; size = g.size; left = k }); saved = (snapshots_of disk s0).saved; to_move = (snapshots_of disk s0).to_move }) (same g.left);
     rest = put ∙ ap (λ (o : Option FrozenFrames). record (on_device s0 s) { frozen = o }) (sym (ap (λ (t : StoreState D). t.frozen) put));
     goes_on = goes.goes_on;
   } where
@@ -105,23 +105,23 @@ module _ {D : Type 0} (disk : D → Disk) where
 
   pub puts_more : (a b c : StoreState D) (f : FrozenFrames) (i k : ℕ) → a.frozen ≡ Some f → PutsBy disk a b i → PutsBy disk b c k → PutsBy disk a c (i + k)
   puts_more a b c f i k is_some first second = record {
-    aside = λ g is_g.
+    snapshots = λ g is_g.
         let mid : FrozenFrames = record { frames = g.frames; size = g.size; left = g.left - i } in
-        let one = first.aside g is_g in
-        second.aside mid (ap (λ (x : Aside). x.frozen) one)
-        ∙ ap (λ (x : Aside). stabilized k mid x) one
-        ∙ ap (λ (n : ℕ). record { frozen = Some (record { frames = g.frames; size = g.size; left = n }); saved = (aside_of disk a).saved; to_move = (aside_of disk a).to_move }) (total g);
+        let one = first.snapshots g is_g in
+        second.snapshots mid (ap (λ (x : Snapshots). x.frozen) one)
+        ∙ ap (λ (x : Snapshots). stabilized k mid x) one
+        ∙ ap (λ (n : ℕ). record { frozen = Some (record { frames = g.frames; size = g.size; left = n }); saved = (snapshots_of disk a).saved; to_move = (snapshots_of disk a).to_move }) (total g);
     rest = second.rest ∙ ap (λ (x : StoreState D). on_device_frozen x c) first.rest;
     goes_on = goes_trans (disk a.durable.beneath) (disk b.durable.beneath) (disk c.durable.beneath) a.durable.books b.durable.books c.durable.books
-        (ap (λ (x : Aside). x.saved) (first.aside f is_some)) first.goes_on second.goes_on;
+        (ap (λ (x : Snapshots). x.saved) (first.snapshots f is_some)) first.goes_on second.goes_on;
   } where
     total : (g : FrozenFrames) → g.left - i - k ≡ g.left - (i + k)
     total g = omega arith
 
   -- the next one may be put
-  pub next_asked : (a b : StoreState D) (count i : ℕ) → ((f : FrozenFrames) × (a.frozen ≡ Some f) × (count ≤ f.left)) → PutsBy disk a b i → i < count → (f : FrozenFrames) × (b.frozen ≡ Some f) × (0 < f.left)
-  next_asked a b count i asked so_far lt = (
-    record { frames = asked.0.frames; size = asked.0.size; left = asked.0.left - i },
-    ap (λ (x : Aside). x.frozen) (so_far.aside asked.0 asked.1),
-    omega (arith, asked.2, lt),
+  pub next_requested : (a b : StoreState D) (count i : ℕ) → ((f : FrozenFrames) × (a.frozen ≡ Some f) × (count ≤ f.left)) → PutsBy disk a b i → i < count → (f : FrozenFrames) × (b.frozen ≡ Some f) × (0 < f.left)
+  next_requested a b count i requested so_far lt = (
+    record { frames = requested.0.frames; size = requested.0.size; left = requested.0.left - i },
+    ap (λ (x : Snapshots). x.frozen) (so_far.snapshots requested.0 requested.1),
+    omega (arith, requested.2, lt),
   )

@@ -15,17 +15,17 @@ pub record Memory : Type 0 where
   pub dirty : List Bool
   pub pending : List Bool
   pub entries : List (Option Entry)
-  pub hand : Option Held
+  pub staging : Option Held
 
 abbrev pub memory_of : List ObjectHeader → List ObjectHeader → List Bool → List Bool → List Bool → List (Option Entry) → Option Held → Memory
-memory_of headers frozen_headers touched dirty pending entries hand = record {
+memory_of headers frozen_headers touched dirty pending entries staging = record {
   headers = headers;
   frozen_headers = frozen_headers;
   touched = touched;
   dirty = dirty;
   pending = pending;
   entries = entries;
-  hand = hand;
+  staging = staging;
 }
 
 abbrev pub mark_at : List Bool → ℕ → Bool
@@ -37,9 +37,9 @@ masked role.Free c = content.Free
 masked _ c = c
 
 -- the body in the hand, if it is of the number, or else another
-abbrev pub in_hand : Option Held → ℕ → Content Cap → Content Cap
-in_hand None n c = c
-in_hand (Some h) n c = if h.number == n then h.content else c
+abbrev pub in_staging : Option Held → ℕ → Content Cap → Content Cap
+in_staging None n c = c
+in_staging (Some h) n c = if h.number == n then h.content else c
 
 -- the hand once it has let go of a number
 abbrev pub let_go : ℕ → Option Held → Option Held
@@ -54,7 +54,7 @@ put_body (Kept f) c = f.content
 
 -- the body that lies below the ones in entries: in the hand, or else the frozen one that was put, or the saved one
 abbrev pub below_body : Stored → Memory → ℕ → Content Cap
-below_body s m n = in_hand m.hand n (below_at s n).content
+below_body s m n = in_staging m.staging n (below_at s n).content
 
 -- the newest body without those in entries
 abbrev pub newest_body : Stored → Memory → ℕ → Content Cap

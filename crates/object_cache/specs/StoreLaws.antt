@@ -1,11 +1,11 @@
 -- What a store promises of its device while its present objects change.
-use Rattle.object_cache.specs.Names.{refl, Image, Disk, saved_state, seen_of, stored_of, is_sound, Holds, Leads}
+use Rattle.object_cache.specs.Names.{refl, Image, Disk, saved_state, seen_of, stored_of, is_sound, Holds, Continues}
 use Rattle.object_cache.specs.StoreState.{StoreState, GoesOnIn, view_of}
 
 module _ {D : Type 0} (disk : D → Disk) where
-  pub leads_by : (s t : StoreState D) → GoesOnIn disk s t → Leads disk (view_of disk s) (view_of disk t)
-  leads_by s t goes = record {
-    aside = goes.aside;
+  pub continues_by : (s t : StoreState D) → GoesOnIn disk s t → Continues disk (view_of disk s) (view_of disk t)
+  continues_by s t goes = record {
+    snapshots = goes.snapshots;
     size = goes.goes_on.size;
     later = goes.later;
     sound = goes.goes_on.sound;

@@ -3,7 +3,7 @@ use Rattle.object_cache.specs.Names.{◌≡◌, ◌⊎◌, ℕ, ◌<◌, Bool, t
 use Rattle.object_cache.specs.Names.{replicate, slice_index_or, slice_set, ◌||◌, range_with_len, Cap, ObjectHeader, Content, Frame, header_at, headers}
 use Rattle.object_cache.specs.Names.{AreKeepable, touched_count, untouched, is_member, object_count, Disk, Peeks, Put, Absent, Broken, Kept, put_at, most}
 use Rattle.object_cache.specs.Names.{DurableState, FrozenPuts, Stored, GoesOn, saved_state, seen_of, stored_of, is_sound, SavedState, Parts, HaveTheirRoles}
-use Rattle.object_cache.specs.Names.{room_at, FrozenFrames, Aside, View, stabilized, Entry, entry_at, room_of, AllDiffer, without}
+use Rattle.object_cache.specs.Names.{spare_body_at, FrozenFrames, Snapshots, View, stabilized, Entry, entry_at, buffer_of, AllDiffer, without}
 use Rattle.std.specs.Prelude.{◌≤◌}
 use Rattle.model.specs.declared.object.Content.TheVariants as content
 use Rattle.model.specs.declared.object.Role.TheVariants as role
@@ -14,8 +14,8 @@ use Rattle.object_cache.specs.Memory.{Memory, Owed, Nothing, owed_body, mark_at,
 -- ---- what is seen of it
 
 -- what the fields of entries are seen as: by number, the room of the entry, if there is one
-unfoldable pub seats_in : List (Option Entry) → List (Option (Content Cap))
-seats_in es = map (option_map room_of) es
+unfoldable pub cached_in : List (Option Entry) → List (Option (Content Cap))
+cached_in es = map (option_map buffer_of) es
 
 pub record StoreState (D : Type 0) : Type 0 where
   pub durable : DurableState D
@@ -24,10 +24,10 @@ pub record StoreState (D : Type 0) : Type 0 where
   pub touched : List Bool
   pub dirty : List Bool
   pub pending : List Bool
-  pub seats : List (Option (Content Cap))
+  pub cached : List (Option (Content Cap))
   pub owed : List Owed
   pub frozen : Option FrozenFrames
-  pub hand : Option Held
+  pub staging : Option Held
   pub order : List ℕ
   pub most : ℕ
 
@@ -44,10 +44,10 @@ module _ {D : Type 0} (disk : D → Disk) where
     touched = m.touched;
     dirty = m.dirty;
     pending = m.pending;
-    seats = seats_in m.entries;
+    cached = cached_in m.entries;
     owed = owed_in m;
     frozen = frozen_seen (stored_of disk d) m left;
-    hand = m.hand;
+    staging = m.staging;
     order = order;
     most = most;
   }
@@ -66,28 +66,28 @@ module _ {D : Type 0} (disk : D → Disk) where
   abbrev pub saved_by : StoreState D → SavedState
   saved_by s = saved_state (seen_of disk s.durable) s.durable.books
 
-  abbrev pub aside_of : StoreState D → Aside
-  aside_of s = record { frozen = s.frozen; saved = (stored_of disk s.durable).saved; to_move = (stored_of disk s.durable).to_move }
+  abbrev pub snapshots_of : StoreState D → Snapshots
+  snapshots_of s = record { frozen = s.frozen; saved = (stored_of disk s.durable).saved; to_move = (stored_of disk s.durable).to_move }
 
   abbrev pub view_of : StoreState D → View D
-  view_of s = record { beneath = s.durable.beneath; aside = aside_of s; is_sound = is_sound disk s.durable }
+  view_of s = record { beneath = s.durable.beneath; snapshots = snapshots_of s; is_sound = is_sound disk s.durable }
 
   -- the present objects went on, and nothing else that is seen of the store: the device went on from what is saved, and
   -- was only read where nothing was written since and no checkpoint is on its way
   pub record GoesOnIn (s t : StoreState D) : Type 0 where
     pub goes_on : GoesOn disk s.durable t.durable
-    pub aside : aside_of t ≡ aside_of s
+    pub snapshots : snapshots_of t ≡ snapshots_of s
     pub later : (disk s.durable.beneath).failures ≤ (disk t.durable.beneath).failures
     pub grows : touched_count s.touched ≤ touched_count t.touched
     pub most : t.most ≡ s.most
-    pub looks : touched_count t.touched ≡ 0 → s.frozen ≡ None → Peeks (disk s.durable.beneath) (disk t.durable.beneath)
+    pub only_reads : touched_count t.touched ≡ 0 → s.frozen ≡ None → Peeks (disk s.durable.beneath) (disk t.durable.beneath)
 
-abbrev pub seat_at : List (Option (Content Cap)) → ℕ → Option (Content Cap)
-seat_at seats n = slice_index_or seats n None
+abbrev pub cached_at : List (Option (Content Cap)) → ℕ → Option (Content Cap)
+cached_at cached n = slice_index_or cached n None
 
 -- the number of entries is at most the capacity: each number with an entry stands once in the order of use
 pub record IsBounded {D : Type 0} (s : StoreState D) : Type 0 where
-  pub listed : (n : ℕ) → is_member s.order n ≡ is_some (seat_at s.seats n)
+  pub listed : (n : ℕ) → is_member s.order n ≡ is_some (cached_at s.cached n)
   pub once : AllDiffer s.order
   pub few : length s.order ≤ s.most
 
@@ -104,16 +104,16 @@ abbrev pub pending_count : {D : Type 0} → StoreState D → ℕ
 pending_count s = count_by (λ b. b) s.pending
 
 -- a number that had no entry has one, which was used last
-abbrev pub with_seat : {D : Type 0} → ℕ → StoreState D → StoreState D
-with_seat n s = record s {
-  seats = slice_set s.seats n (Some content.Free);
+abbrev pub with_cached : {D : Type 0} → ℕ → StoreState D → StoreState D
+with_cached n s = record s {
+  cached = slice_set s.cached n (Some content.Free);
   owed = slice_set s.owed n (newly_owed (mark_at s.pending n) (mark_at s.touched n));
   order = n ∷ s.order;
 }
 
 -- what is on the device of the one, and all else of the other
 abbrev pub on_device : {D : Type 0} → StoreState D → StoreState D → StoreState D
-on_device s t = record s { durable = t.durable; dirty = t.dirty; pending = t.pending; owed = t.owed; hand = t.hand }
+on_device s t = record s { durable = t.durable; dirty = t.dirty; pending = t.pending; owed = t.owed; staging = t.staging }
 
 -- the same, where more frozen frames may be in the log
 abbrev pub on_device_frozen : {D : Type 0} → StoreState D → StoreState D → StoreState D
@@ -121,33 +121,33 @@ on_device_frozen s t = record (on_device s t) { frozen = t.frozen }
 
 -- `k` more of the frozen frames are in the log, and nothing else that is seen changes
 pub record PutsBy {D : Type 0} (disk : D → Disk) (s t : StoreState D) (k : ℕ) : Type 0 where
-  pub aside : (f : FrozenFrames) → s.frozen ≡ Some f → aside_of disk t ≡ stabilized k f (aside_of disk s)
+  pub snapshots : (f : FrozenFrames) → s.frozen ≡ Some f → snapshots_of disk t ≡ stabilized k f (snapshots_of disk s)
   pub rest : t ≡ on_device_frozen s t
   pub goes_on : GoesOn disk s.durable t.durable
 
 -- without the entry of a number
-abbrev pub without_seat : {D : Type 0} → ℕ → StoreState D → StoreState D
-without_seat n s = record s { seats = slice_set s.seats n None; order = without n s.order }
+abbrev pub without_cached : {D : Type 0} → ℕ → StoreState D → StoreState D
+without_cached n s = record s { cached = slice_set s.cached n None; order = without n s.order }
 
 -- a number is fetched where it has an entry
 pub record IsFetchedIn {D : Type 0} (s : StoreState D) (n : ℕ) : Type 0 where
   pub header : n < length s.headers
   pub content : n < length s.contents
-  pub seat : IsSome (seat_at s.seats n)
+  pub cached : IsSome (cached_at s.cached n)
 
 -- a number may be written where it is to be put, and where a free one with an entry has room
 pub record IsAnnouncedIn {D : Type 0} (disk : D → Disk) (s : StoreState D) (n : ℕ) : Type 0 where
   pub header : n < length s.headers
   pub content : n < length s.contents
   pub dirty : mark_at s.dirty n ≡ true
-  pub room : (header_at s.headers n).role ≡ role.Free → IsSome (seat_at s.seats n) → seat_at s.seats n ≡ Some (room_at (stored_of disk s.durable).saved.geometry n)
+  pub room : (header_at s.headers n).role ≡ role.Free → IsSome (cached_at s.cached n) → cached_at s.cached n ≡ Some (spare_body_at (stored_of disk s.durable).saved.geometry n)
 
 -- every object has an entry
 abbrev pub IsWhole : {D : Type 0} → StoreState D → Type 0
 IsWhole s = (n : ℕ) → n < length s.headers → IsFetchedIn s n
 
 -- the present objects went on; a store that keeps all of them made no call of the device
-pub record LeadsIn {D : Type 0} (all : Bool) (disk : D → Disk) (s t : StoreState D) : Type 0 where
+pub record ContinuesIn {D : Type 0} (all : Bool) (disk : D → Disk) (s t : StoreState D) : Type 0 where
   pub goes_on : GoesOnIn disk s t
   pub still : all ≡ true → t.durable ≡ s.durable
 
@@ -175,7 +175,7 @@ pub record IsMadeOver {D : Type 0} (disk : D → Disk) (d : DurableState D) (mos
   pub contents : s.contents ≡ bodies_of (stored_of disk d).saved.frames
   pub touched : s.touched ≡ untouched (stored_of disk d).saved.geometry
   pub idle : s.frozen ≡ None
-  pub unseated : (n : ℕ) → seat_at s.seats n ≡ None
+  pub uncached : (n : ℕ) → cached_at s.cached n ≡ None
   pub order : s.order ≡ []
   pub same_most : s.most ≡ most
 
@@ -232,7 +232,7 @@ pub record IsCache (s : Stored) (m : Memory) (left count : ℕ) : Type 0 where
   pub idle : s.frozen ≡ None → (n : ℕ) → mark_at m.pending n ≡ false
   pub running : (f : FrozenPuts) → s.frozen ≡ Some f → AreFrozen f m.pending left
   pub keepable : (f : FrozenPuts) → s.frozen ≡ Some f → AreKeepable s.saved.geometry most (frozen_in s m)
-  pub held : (h : Held) → m.hand ≡ Some h → mark_at m.pending h.number ≡ true
+  pub held : (h : Held) → m.staging ≡ Some h → mark_at m.pending h.number ≡ true
   pub apart : (n : ℕ) (e : Entry) → entry_at m.entries n ≡ Some e → (e.kept ≡ None) ⊎ (mark_at m.pending n ≡ true)
   -- a body on the device that is frozen as free isn't wanted
   pub freed : (n : ℕ) → entry_at m.entries n ≡ None → mark_at m.pending n ≡ true → (header_at m.frozen_headers n).role ≡ role.Free →

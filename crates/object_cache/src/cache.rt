@@ -14,14 +14,14 @@ ghost use Rattle.model.specs.Machine.{touched_count};
 ghost use Rattle.migrator.specs.Durable.{stored_of};
 
 use crate::frozen::put_own;
-use crate::hand::Hand;
 use crate::headers::Headers;
 use crate::owed::is_owing;
+use crate::staging::Staging;
 use cache_entries::{Entries, Entry};
-use capability::plain::rooms::filled;
+use capability::plain::spare_bodies::filled;
 use capability::{Fresh, ObjectTable};
 use device::{Device, Failed};
-use layout::Room;
+use layout::Scratch;
 use migrator::Durable;
 use model::{Cap, Content, Geometry, Role};
 use number_set::NumberSet;
@@ -29,13 +29,13 @@ use std::alloc::{AllocError, Global};
 use std::marker::Model;
 
 mod fetch;
-mod hand;
 mod journal;
 mod open;
 mod prepare;
 mod read;
 mod stabilize;
 mod stages;
+mod staging;
 
 /// An object store that keeps a bounded number of objects in memory. The others lie on the device.
 ///
@@ -58,8 +58,8 @@ pub struct Cache<D: Device> {
     /// How many objects of a checkpoint on its way are said to be left.
     left: u64,
     /// A body that is in no entry, and perhaps no longer in its slot.
-    hand: Hand,
-    room: Room,
+    staging: Staging,
+    scratch: Scratch,
 }
 
 impl<D: Device> Model for Cache<D> {
@@ -71,17 +71,17 @@ impl<D: Device> Model for Cache<D> {
     ghost Value = { StoreState D };
 
     ghost view = { λ s. cache_of D.disk s.durable
-        (memory_of s.table s.frozen_headers s.touched s.dirty s.pending s.entries.at s.hand)
+        (memory_of s.table s.frozen_headers s.touched s.dirty s.pending s.entries.at s.staging)
         s.left s.entries.order s.entries.most };
 
     ghost invariant = { λ s. IsCache (stored_of D.disk s.durable)
-        (memory_of s.table s.frozen_headers s.touched s.dirty s.pending s.entries.at s.hand)
+        (memory_of s.table s.frozen_headers s.touched s.dirty s.pending s.entries.at s.staging)
         s.left s.count × (8 ≤ s.entries.most) };
 }
 
 impl<D: Device> Cache<D> {
     ghost use Rattle.object_cache.specs.Memory.{Nothing, Shared, Apart, let_go, mark_at, masked};
-    ghost use Rattle.object_cache.specs.StoreState.{GoesOnIn, IsBounded, IsFetchedIn, IsAnnouncedIn, on_device, owed_at, parts_of, pending_count, seat_at, with_content_in, with_seat, without_seat};
+    ghost use Rattle.object_cache.specs.StoreState.{GoesOnIn, IsBounded, IsFetchedIn, IsAnnouncedIn, on_device, owed_at, parts_of, pending_count, cached_at, with_content_in, with_cached, without_cached};
     ghost use Rattle.cache_entries.specs.Order.{without};
     ghost use Rattle.object_cache.specs.contracts.cache.Cache.{the_row};
 
@@ -160,11 +160,11 @@ impl<D: Device> Cache<D> {
           headers = slice_set self.old.headers number (claimed
               (role_of (fresh_content void_held fresh)) owner (header_at self.old.headers number));
           contents = slice_set self.old.contents number (fresh_content void_held fresh);
-          seats = slice_set self.old.seats number (Some Content.Free);
+          cached = slice_set self.old.cached number (Some Content.Free);
         } }
     {
-        let room = self.entries.replace_room(number, Content::Free);
-        let content = filled(room, fresh);
+        let scratch = self.entries.replace_buffer(number, Content::Free);
+        let content = filled(scratch, fresh);
         self.table.claim(number, content.role(), owner);
         *self.entries.present_mut(number) = content;
     }
@@ -185,12 +185,12 @@ impl<D: Device> Cache<D> {
 
     // Makes what an object without an entry holds, which was read, an entry. Fails only where memory
     // runs out, and then all is as it was.
-    pub(crate) fn seat(&mut self, number: u64, content: Content<Cap>) -> Result<(), AllocError>
+    pub(crate) fn cached(&mut self, number: u64, content: Content<Cap>) -> Result<(), AllocError>
         requires known { number < length self.old.headers }
-        requires unseated { seat_at self.old.seats number ≡ None }
+        requires uncached { cached_at self.old.cached number ≡ None }
         requires room { length self.old.order < self.old.most }
         requires read { content ≡ held_at self.old.contents number }
-        ensures seated { OnOk result (self.new ≡ with_seat number self.old) }
+        ensures cached { OnOk result (self.new ≡ with_cached number self.old) }
         ensures fetched { OnOk result (IsFetchedIn self.new number) }
         ensures unchanged { OnErr result (self.new ≡ self.old) }
     {
@@ -198,7 +198,7 @@ impl<D: Device> Cache<D> {
             number,
             present: content,
             kept: None,
-            room: Content::Free,
+            scratch: Content::Free,
         })
     }
 
@@ -206,7 +206,7 @@ impl<D: Device> Cache<D> {
     pub(crate) fn use_now(&mut self, number: u64) -> bool
         requires { number < length self.old.headers }
         ensures fetched { result ≡ true → IsFetchedIn self.old number }
-        ensures unseated { result ≡ false → seat_at self.old.seats number ≡ None }
+        ensures uncached { result ≡ false → cached_at self.old.cached number ≡ None }
         ensures used { result ≡ true → self.new
             ≡ record self.old { order = number ∷ without number self.old.order } }
         ensures unchanged { result ≡ false → self.new ≡ self.old }
@@ -237,7 +237,7 @@ impl<D: Device> Cache<D> {
         requires masked { masked (header_at self.old.headers number).role (held_at self.old.contents number)
             ≡ held_at self.old.contents number }
         ensures { self.new ≡ record self.old {
-          seats = slice_set self.old.seats number None;
+          cached = slice_set self.old.cached number None;
           order = without number self.old.order;
         } }
     {
@@ -255,7 +255,7 @@ impl<D: Device> Cache<D> {
           dirty = slice_set self.old.dirty number false;
         }) }
         ensures unput { OnErr result (self.new ≡ record self.old { durable = self.new.durable }) }
-        ensures leads { GoesOnIn D.disk self.old self.new }
+        ensures continues { GoesOnIn D.disk self.old self.new }
         ensures cause { Counts (D.disk self.old.durable.beneath) (D.disk self.new.durable.beneath) result }
     {
         let header = self.table.header(number);
@@ -274,11 +274,11 @@ impl<D: Device> Cache<D> {
           durable = self.new.durable;
           pending = slice_set self.old.pending number false;
           owed = slice_set self.old.owed number Nothing;
-          hand = let_go number self.old.hand;
+          staging = let_go number self.old.staging;
         }) }
         ensures fewer { OnOk result (pending_count self.new < pending_count self.old) }
         ensures unput { OnErr result (self.new ≡ record self.old { durable = self.new.durable }) }
-        ensures leads { GoesOnIn D.disk self.old self.new }
+        ensures continues { GoesOnIn D.disk self.old self.new }
         ensures cause { Counts (D.disk self.old.durable.beneath) (D.disk self.new.durable.beneath) result }
     {
         let header = self.frozen_headers.header(number);
@@ -288,7 +288,7 @@ impl<D: Device> Cache<D> {
         put_own(&mut self.durable, number, header, entry)?;
         self.pending.set(number as usize, false);
         self.entries.set_kept(number, None);
-        self.hand.release(number);
+        self.staging.release(number);
         Ok(())
     }
 
@@ -313,8 +313,8 @@ impl<D: Device> Cache<D> {
         requires { IsFetchedIn self.old number }
         ensures paid { OnOk result (owed_at self.new.owed number ≡ Nothing) }
         ensures put { self.new ≡ on_device self.old self.new }
-        ensures empty { self.old.hand ≡ None → self.new.hand ≡ None }
-        ensures leads { GoesOnIn D.disk self.old self.new }
+        ensures empty { self.old.staging ≡ None → self.new.staging ≡ None }
+        ensures continues { GoesOnIn D.disk self.old self.new }
         ensures cause { Counts (D.disk self.old.durable.beneath) (D.disk self.new.durable.beneath) result }
     {
         if self.owes(number) {
@@ -331,8 +331,8 @@ impl<D: Device> Cache<D> {
         ensures clean { OnOk result (mark_at self.new.dirty number ≡ false) }
         ensures owed { self.new.owed ≡ self.old.owed }
         ensures put { self.new ≡ on_device self.old self.new }
-        ensures hand { self.new.hand ≡ self.old.hand }
-        ensures leads { GoesOnIn D.disk self.old self.new }
+        ensures staging { self.new.staging ≡ self.old.staging }
+        ensures continues { GoesOnIn D.disk self.old self.new }
         ensures cause { Counts (D.disk self.old.durable.beneath) (D.disk self.new.durable.beneath) result }
     {
         if self.dirty.contains(number as usize) {
@@ -346,10 +346,10 @@ impl<D: Device> Cache<D> {
         requires fetched { IsFetchedIn self.old number }
         requires keepable { IsKeepable (stored_of D.disk self.old.durable).saved.geometry most number
             (record { header = header_at self.old.headers number; content = held_at self.old.contents number }) }
-        ensures away { OnOk result (self.new ≡ without_seat number (on_device self.old self.new)) }
+        ensures away { OnOk result (self.new ≡ without_cached number (on_device self.old self.new)) }
         ensures stays { OnErr result (self.new ≡ on_device self.old self.new) }
-        ensures empty { self.old.hand ≡ None → self.new.hand ≡ None }
-        ensures leads { GoesOnIn D.disk self.old self.new }
+        ensures empty { self.old.staging ≡ None → self.new.staging ≡ None }
+        ensures continues { GoesOnIn D.disk self.old self.new }
         ensures cause { Counts (D.disk self.old.durable.beneath) (D.disk self.new.durable.beneath) result }
     {
         self.pay(number)?;
@@ -364,17 +364,17 @@ impl<D: Device> Cache<D> {
         requires keepable { AreKeepable (parts_of D.disk self.old).geometry most
             (frames_of (parts_of D.disk self.old)) }
         ensures room { OnOk result (length self.new.order < self.new.most) }
-        ensures unseated { (n : ℕ) → seat_at self.old.seats n ≡ None
-            → seat_at self.new.seats n ≡ None }
+        ensures uncached { (n : ℕ) → cached_at self.old.cached n ≡ None
+            → cached_at self.new.cached n ≡ None }
         ensures others { (n : ℕ) → is_member (take 7 self.old.order) n ≡ true
-            → seat_at self.new.seats n ≡ seat_at self.old.seats n }
+            → cached_at self.new.cached n ≡ cached_at self.old.cached n }
         ensures order { take 7 self.new.order ≡ take 7 self.old.order }
         ensures rest { self.new ≡ record (on_device self.old self.new) {
-          seats = self.new.seats;
+          cached = self.new.cached;
           order = self.new.order;
         } }
-        ensures empty { self.old.hand ≡ None → self.new.hand ≡ None }
-        ensures leads { GoesOnIn D.disk self.old self.new }
+        ensures empty { self.old.staging ≡ None → self.new.staging ≡ None }
+        ensures continues { GoesOnIn D.disk self.old self.new }
         ensures cause { Counts (D.disk self.old.durable.beneath) (D.disk self.new.durable.beneath) result }
     {
         if self.entries.is_full() {
@@ -389,17 +389,17 @@ impl<D: Device> Cache<D> {
         requires keepable { AreKeepable (parts_of D.disk self.old).geometry most
             (frames_of (parts_of D.disk self.old)) }
         ensures room { OnOk result (length self.new.order < self.new.most) }
-        ensures unseated { (n : ℕ) → seat_at self.old.seats n ≡ None
-            → seat_at self.new.seats n ≡ None }
+        ensures uncached { (n : ℕ) → cached_at self.old.cached n ≡ None
+            → cached_at self.new.cached n ≡ None }
         ensures others { (n : ℕ) → is_member (take 7 self.old.order) n ≡ true
-            → seat_at self.new.seats n ≡ seat_at self.old.seats n }
+            → cached_at self.new.cached n ≡ cached_at self.old.cached n }
         ensures order { take 7 self.new.order ≡ take 7 self.old.order }
         ensures rest { self.new ≡ record (on_device self.old self.new) {
-          seats = self.new.seats;
+          cached = self.new.cached;
           order = self.new.order;
         } }
-        ensures empty { self.old.hand ≡ None → self.new.hand ≡ None }
-        ensures leads { GoesOnIn D.disk self.old self.new }
+        ensures empty { self.old.staging ≡ None → self.new.staging ≡ None }
+        ensures continues { GoesOnIn D.disk self.old self.new }
         ensures cause { Counts (D.disk self.old.durable.beneath) (D.disk self.new.durable.beneath) result }
     {
         let Some(number) = self.entries.least() else {
@@ -414,12 +414,12 @@ impl<D: Device> Cache<D> {
         requires known { number < length self.old.headers }
         requires keepable { AreKeepable (parts_of D.disk self.old).geometry most
             (frames_of (parts_of D.disk self.old)) }
-        ensures gone { OnOk result (seat_at self.new.seats number ≡ None) }
+        ensures gone { OnOk result (cached_at self.new.cached number ≡ None) }
         ensures rest { self.new ≡ record (on_device self.old self.new) {
-          seats = self.new.seats;
+          cached = self.new.cached;
           order = self.new.order;
         } }
-        ensures leads { GoesOnIn D.disk self.old self.new }
+        ensures continues { GoesOnIn D.disk self.old self.new }
         ensures cause { Counts (D.disk self.old.durable.beneath) (D.disk self.new.durable.beneath) result }
     {
         if self.entries.holds(number) {

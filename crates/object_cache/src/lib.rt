@@ -5,13 +5,13 @@ mod all_objects;
 mod body;
 mod cache;
 mod frozen;
-mod hand;
 mod headers;
 mod held;
 mod owed;
 mod page;
 mod policy;
 mod saved_objects;
+mod staging;
 mod store;
 
 pub use all_objects::AllObjects;

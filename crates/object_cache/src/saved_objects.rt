@@ -2,7 +2,7 @@
 
 use crate::body::held;
 use crate::policy::Policy;
-use layout::{Body, Room};
+use layout::{Body, Scratch};
 use migrator::Intake;
 use model::{Cap, Content, Geometry, ObjectHeader};
 use std::alloc::{AllocError, Global};
@@ -38,10 +38,10 @@ impl<P: Policy> Intake for SavedObjects<P> {
         &mut self,
         alloc: Global,
         read: (ObjectHeader, Body),
-        room: &Room,
+        scratch: &Scratch,
     ) -> Result<(), AllocError> {
         if P::KEEPS_ALL {
-            let body = held(alloc, read.1, room)?;
+            let body = held(alloc, read.1, scratch)?;
             self.bodies.push(body)?;
         }
         self.headers.push(read.0)?;

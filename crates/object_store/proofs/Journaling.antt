@@ -65,5 +65,5 @@ leaves_one old new saved (Some next) leaves =
 -- it is done where no checkpoint is on its way, and the object is a page
 pub journal_there : (old new : Disk) (left : Option ℕ) (saved : SavedFrames) (is_page is_saved : Bool) (r : Result ℕ JournalFault) → journal.IsJournalAnswer old new left saved is_page is_saved r →
     OnOk r ((left ≡ None) × (is_page ≡ true))
-journal_there old new left saved is_page is_saved (Ok generation) told = (told.1, told.3)
-journal_there old new left saved is_page is_saved (Err why) told = tt
+journal_there old new left saved is_page is_saved (Ok generation) reported = (reported.1, reported.3)
+journal_there old new left saved is_page is_saved (Err why) reported = tt

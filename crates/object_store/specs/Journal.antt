@@ -10,7 +10,7 @@ use Rattle.checkpoint.specs.Saved.{SavedFrames, journaled_saved}
 use Rattle.capability.specs.Parts.{Parts}
 use Rattle.object_store.specs.declared.journal_fault.JournalFault.{JournalFault}
 use Rattle.object_store.specs.declared.journal_fault.JournalFault.TheVariants as fault
-use Rattle.object_store.specs.Store.{Aside}
+use Rattle.object_store.specs.Store.{Snapshots}
 
 abbrev pub is_page_role : Role → Bool
 is_page_role role.Page = true
@@ -32,8 +32,8 @@ abbrev pub is_still_saved : Parts → SavedFrames → ℕ → Bool
 is_still_saved p s n = is_same_page (header_at p.headers n).allocations (frame_at s.frames n)
 
 -- the page is saved with the words that it has now, and nothing else is saved anew
-abbrev pub aside_after_journal : ℕ → ℕ → List ℕ → Aside → Aside
-aside_after_journal age n words c = record { frozen = c.frozen; saved = journaled_saved age n words c.saved; to_move = 1 }
+abbrev pub snapshots_after_journal : ℕ → ℕ → List ℕ → Snapshots → Snapshots
+snapshots_after_journal age n words c = record { frozen = c.frozen; saved = journaled_saved age n words c.saved; to_move = 1 }
 
 -- what is saved then, where nothing refuses it
 abbrev pub saved_next : ℕ → ℕ → List ℕ → SavedFrames → (is_page is_saved : Bool) → Option SavedFrames

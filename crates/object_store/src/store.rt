@@ -6,11 +6,11 @@ ghost use Rattle.device.specs.Disk.{Image};
 ghost use Rattle.device.specs.Calls.{Counts};
 ghost use Rattle.device.specs.Moments.{Peeks};
 ghost use Rattle.checkpoint.specs.Saved.{Holds, LeavesSaved, LeavesEither, LeavesOneOf};
-ghost use Rattle.object_store.specs.Journal.{IsJournalAnswer, IsTurnedAway, is_page_now, is_still_saved, aside_after_journal, next_journaled, words_now};
+ghost use Rattle.object_store.specs.Journal.{IsJournalAnswer, IsTurnedAway, is_page_now, is_still_saved, snapshots_after_journal, next_journaled, words_now};
 ghost use Rattle.checkpoint.specs.Opened.{Refuses};
 ghost use Rattle.capability.specs.Parts.{frames_of};
 ghost use Rattle.checkpoint.specs.Refused.{IsCommitAnswer, IsFreezeAnswer, IsRefused};
-ghost use Rattle.object_store.specs.Store.{FrozenFrames, View, Leads, OpensStore, freezing, stabilized, next_saved, aside_after_commit, IsStabilizeAnswer, MayCommit, left_in, moved, moved_saved};
+ghost use Rattle.object_store.specs.Store.{FrozenFrames, View, Continues, OpensStore, freezing, stabilized, next_saved, snapshots_after_commit, IsStabilizeAnswer, MayCommit, left_in, moved, moved_saved};
 
 use crate::journal_fault::JournalFault;
 use capability::PresentFrames;
@@ -49,13 +49,13 @@ pub trait ObjectStore<D: Device>: PresentFrames + Sized {
 
     /// The generation, the age and the number of entries of the committed checkpoint.
     fn saved(&self) -> Checkpoint
-        ensures generation { result.generation ≡ (view self.now).aside.saved.generation }
-        ensures age { result.age ≡ (view self.now).aside.saved.age }
-        ensures entries { result.entries ≡ (view self.now).aside.saved.entries };
+        ensures generation { result.generation ≡ (view self.now).snapshots.saved.generation }
+        ensures age { result.age ≡ (view self.now).snapshots.saved.age }
+        ensures entries { result.entries ≡ (view self.now).snapshots.saved.entries };
 
     /// How many objects of a checkpoint on its way aren't in the log, where there is one.
     fn left(&self) -> Option<u64>
-        ensures { result ≡ left_in (view self.now).aside };
+        ensures { result ≡ left_in (view self.now).snapshots };
 
     /// Puts an object out of memory, where the store may. Fails exactly where the device does.
     fn evict(&mut self, number: u64) -> Result<(), Failed>
@@ -66,7 +66,7 @@ pub trait ObjectStore<D: Device>: PresentFrames + Sized {
         ensures contents { (Self.parts self.new).contents ≡ (Self.parts self.old).contents }
         ensures touched { (Self.parts self.new).touched ≡ (Self.parts self.old).touched }
         ensures geometry { (Self.parts self.new).geometry ≡ (Self.parts self.old).geometry }
-        ensures leads { Self.LeadsTo self.old self.new }
+        ensures continues { Self.ContinuesTo self.old self.new }
         ensures cause { Counts (D.disk (view self.old).beneath) (D.disk (view self.new).beneath) result };
 
     /// Begins a checkpoint: all objects are frozen as they are. Answers how many were written since
@@ -77,8 +77,8 @@ pub trait ObjectStore<D: Device>: PresentFrames + Sized {
     fn freeze(&mut self) -> Result<u64, CheckpointFault>
         requires keepable { AreKeepable (Self.parts self.old).geometry u64.MAX
             (frames_of (Self.parts self.old)) }
-        ensures answer { IsFreezeAnswer (left_in (view self.old).aside)
-            (view self.old).aside.saved.entries result }
+        ensures answer { IsFreezeAnswer (left_in (view self.old).snapshots)
+            (view self.old).snapshots.saved.entries result }
         ensures unchanged { OnErr result (self.new ≡ self.old) }
         ensures size { IfOk result (λ n. n ≡ touched_count (Self.parts self.old).touched) }
         ensures headers { (Self.parts self.new).headers ≡ (Self.parts self.old).headers }
@@ -86,8 +86,8 @@ pub trait ObjectStore<D: Device>: PresentFrames + Sized {
         ensures touched { OnOk result
             ((Self.parts self.new).touched ≡ untouched (Self.parts self.old).geometry) }
         ensures geometry { (Self.parts self.new).geometry ≡ (Self.parts self.old).geometry }
-        ensures aside { OnOk result ((view self.new).aside
-            ≡ freezing (frames_of (Self.parts self.old)) (touched_count (Self.parts self.old).touched) (view self.old).aside) }
+        ensures snapshots { OnOk result ((view self.new).snapshots
+            ≡ freezing (frames_of (Self.parts self.old)) (touched_count (Self.parts self.old).touched) (view self.old).snapshots) }
         ensures beneath { (view self.new).beneath ≡ (view self.old).beneath }
         ensures sound { (view self.old).is_sound → (view self.new).is_sound };
 
@@ -98,21 +98,21 @@ pub trait ObjectStore<D: Device>: PresentFrames + Sized {
     /// written.
     fn stabilize(&mut self, count: u64) -> Result<u64, CheckpointFault>
         ensures answer { IsStabilizeAnswer (D.disk (view self.old).beneath) (D.disk (view self.new).beneath)
-            (left_in (view self.old).aside) count result }
+            (left_in (view self.old).snapshots) count result }
         ensures unchanged { IsRefused result → self.new ≡ self.old }
         ensures headers { (Self.parts self.new).headers ≡ (Self.parts self.old).headers }
         ensures contents { (Self.parts self.new).contents ≡ (Self.parts self.old).contents }
         ensures touched { (Self.parts self.new).touched ≡ (Self.parts self.old).touched }
         ensures geometry { (Self.parts self.new).geometry ≡ (Self.parts self.old).geometry }
-        ensures aside { (f : FrozenFrames) → (view self.old).aside.frozen ≡ Some f
-            → OnOk result ((view self.new).aside ≡ stabilized count f (view self.old).aside) }
-        ensures stopped { (f : FrozenFrames) → (view self.old).aside.frozen ≡ Some f
+        ensures snapshots { (f : FrozenFrames) → (view self.old).snapshots.frozen ≡ Some f
+            → OnOk result ((view self.new).snapshots ≡ stabilized count f (view self.old).snapshots) }
+        ensures stopped { (f : FrozenFrames) → (view self.old).snapshots.frozen ≡ Some f
             → OnErr result ((k : ℕ) × (k ≤ count)
-            × ((view self.new).aside ≡ stabilized k f (view self.old).aside)) }
+            × ((view self.new).snapshots ≡ stabilized k f (view self.old).snapshots)) }
         ensures sound { (view self.old).is_sound → (view self.new).is_sound }
         ensures size { (D.disk (view self.new).beneath).sectors ≡ (D.disk (view self.old).beneath).sectors }
         ensures any_moment { (view self.old).is_sound
-            → LeavesSaved (D.disk (view self.old).beneath) (D.disk (view self.new).beneath) (view self.old).aside.saved };
+            → LeavesSaved (D.disk (view self.old).beneath) (D.disk (view self.new).beneath) (view self.old).snapshots.saved };
 
     /// Commits the checkpoint on its way: its frames are saved, at an age. Answers its generation.
     ///
@@ -122,22 +122,22 @@ pub trait ObjectStore<D: Device>: PresentFrames + Sized {
     /// saved or what is frozen.
     fn commit(&mut self, age: u64) -> Result<u64, CheckpointFault>
         requires sound { (view self.old).is_sound }
-        requires ready { (f : FrozenFrames) → (view self.old).aside.frozen ≡ Some f
-            → MayCommit age f (view self.old).aside.saved }
+        requires ready { (f : FrozenFrames) → (view self.old).snapshots.frozen ≡ Some f
+            → MayCommit age f (view self.old).snapshots.saved }
         ensures answer { IsCommitAnswer (D.disk (view self.old).beneath) (D.disk (view self.new).beneath)
-            (left_in (view self.old).aside) (view self.old).aside.saved.generation result }
+            (left_in (view self.old).snapshots) (view self.old).snapshots.saved.generation result }
         ensures unchanged { IsRefused result → self.new ≡ self.old }
         ensures headers { (Self.parts self.new).headers ≡ (Self.parts self.old).headers }
         ensures contents { (Self.parts self.new).contents ≡ (Self.parts self.old).contents }
         ensures touched { (Self.parts self.new).touched ≡ (Self.parts self.old).touched }
         ensures geometry { (Self.parts self.new).geometry ≡ (Self.parts self.old).geometry }
-        ensures aside { (f : FrozenFrames) → (view self.old).aside.frozen ≡ Some f
-            → OnOk result ((view self.new).aside ≡ aside_after_commit age f (view self.old).aside) }
+        ensures snapshots { (f : FrozenFrames) → (view self.old).snapshots.frozen ≡ Some f
+            → OnOk result ((view self.new).snapshots ≡ snapshots_after_commit age f (view self.old).snapshots) }
         ensures sound { OnOk result ((view self.new).is_sound) }
         ensures size { (D.disk (view self.new).beneath).sectors ≡ (D.disk (view self.old).beneath).sectors }
-        ensures any_moment { (f : FrozenFrames) → (view self.old).aside.frozen ≡ Some f → f.left ≡ 0
+        ensures any_moment { (f : FrozenFrames) → (view self.old).snapshots.frozen ≡ Some f → f.left ≡ 0
             → LeavesEither (D.disk (view self.old).beneath) (D.disk (view self.new).beneath)
-            (view self.old).aside.saved (next_saved age f (view self.old).aside.saved) };
+            (view self.old).snapshots.saved (next_saved age f (view self.old).snapshots.saved) };
 
     /// Copies `count` of the saved objects home, and answers how many are left. Fails exactly where
     /// the device does, and then a crash leaves what was saved, or the same with all of it home
@@ -149,13 +149,13 @@ pub trait ObjectStore<D: Device>: PresentFrames + Sized {
         ensures contents { (Self.parts self.new).contents ≡ (Self.parts self.old).contents }
         ensures touched { (Self.parts self.new).touched ≡ (Self.parts self.old).touched }
         ensures geometry { (Self.parts self.new).geometry ≡ (Self.parts self.old).geometry }
-        ensures left { IfOk result (λ n. n ≡ (view self.old).aside.to_move - count) }
-        ensures aside { OnOk result ((view self.new).aside ≡ moved count (view self.old).aside) }
-        ensures untouched { (view self.old).aside.saved.entries ≡ 0 → self.new ≡ self.old }
+        ensures left { IfOk result (λ n. n ≡ (view self.old).snapshots.to_move - count) }
+        ensures snapshots { OnOk result ((view self.new).snapshots ≡ moved count (view self.old).snapshots) }
+        ensures untouched { (view self.old).snapshots.saved.entries ≡ 0 → self.new ≡ self.old }
         ensures sound { OnOk result ((view self.new).is_sound) }
         ensures size { (D.disk (view self.new).beneath).sectors ≡ (D.disk (view self.old).beneath).sectors }
         ensures any_moment { LeavesEither (D.disk (view self.old).beneath) (D.disk (view self.new).beneath)
-            (view self.old).aside.saved (moved_saved count (view self.old).aside) }
+            (view self.old).snapshots.saved (moved_saved count (view self.old).snapshots) }
         ensures cause { Counts (D.disk (view self.old).beneath) (D.disk (view self.new).beneath) result };
 
     /// Saves a page with the words that it has now, at an age; of the page nothing else, and of the
@@ -172,38 +172,38 @@ pub trait ObjectStore<D: Device>: PresentFrames + Sized {
         requires keepable { AreKeepable (Self.parts self.old).geometry u64.MAX
             (frames_of (Self.parts self.old)) }
         requires sound { (view self.old).is_sound }
-        requires later { (view self.old).aside.saved.age < age }
+        requires later { (view self.old).snapshots.saved.age < age }
         requires most { age ≤ 2 ^ 62 }
         ensures answer { IsJournalAnswer (D.disk (view self.old).beneath) (D.disk (view self.new).beneath)
-            (left_in (view self.old).aside) (view self.old).aside.saved
+            (left_in (view self.old).snapshots) (view self.old).snapshots.saved
             (is_page_now (Self.parts self.old) number)
-            (is_still_saved (Self.parts self.old) (view self.old).aside.saved number) result }
+            (is_still_saved (Self.parts self.old) (view self.old).snapshots.saved number) result }
         ensures turned_away { IsTurnedAway result → self.new ≡ self.old }
         ensures headers { (Self.parts self.new).headers ≡ (Self.parts self.old).headers }
         ensures contents { (Self.parts self.new).contents ≡ (Self.parts self.old).contents }
         ensures touched { (Self.parts self.new).touched ≡ (Self.parts self.old).touched }
         ensures geometry { (Self.parts self.new).geometry ≡ (Self.parts self.old).geometry }
-        ensures aside { OnOk result ((view self.new).aside ≡ aside_after_journal age number
-            (words_now (Self.parts self.old) number) (view self.old).aside) }
-        ensures unchanged { OnErr result ((view self.new).aside ≡ (view self.old).aside) }
+        ensures snapshots { OnOk result ((view self.new).snapshots ≡ snapshots_after_journal age number
+            (words_now (Self.parts self.old) number) (view self.old).snapshots) }
+        ensures unchanged { OnErr result ((view self.new).snapshots ≡ (view self.old).snapshots) }
         ensures sound { IsErrOf result JournalFault.Failed ⊎ (view self.new).is_sound }
         ensures size { (D.disk (view self.new).beneath).sectors ≡ (D.disk (view self.old).beneath).sectors }
         ensures any_moment { LeavesOneOf (D.disk (view self.old).beneath) (D.disk (view self.new).beneath)
-            (view self.old).aside.saved (next_journaled age number
-            (words_now (Self.parts self.old) number) (view self.old).aside.frozen
-            (view self.old).aside.saved (is_page_now (Self.parts self.old) number)
-            (is_still_saved (Self.parts self.old) (view self.old).aside.saved number)) };
+            (view self.old).snapshots.saved (next_journaled age number
+            (words_now (Self.parts self.old) number) (view self.old).snapshots.frozen
+            (view self.old).snapshots.saved (is_page_now (Self.parts self.old) number)
+            (is_still_saved (Self.parts self.old) (view self.old).snapshots.saved number)) };
 
     /// What happens to the present objects leaves the rest alone.
-    ghost leads: { (s t : Self) → Self.LeadsTo s t → Leads D.disk (view s) (view t) };
+    ghost continues: { (s t : Self) → Self.ContinuesTo s t → Continues D.disk (view s) (view t) };
 
     /// Where nothing was written since and no checkpoint is on its way, the device was only read.
-    ghost leads_peeks: { (s t : Self) → Self.LeadsTo s t → touched_count (Self.parts t).touched ≡ 0 → (view s).aside.frozen ≡ None → Peeks (D.disk (view s).beneath) (D.disk (view t).beneath) };
+    ghost continues_peeks: { (s t : Self) → Self.ContinuesTo s t → touched_count (Self.parts t).touched ≡ 0 → (view s).snapshots.frozen ≡ None → Peeks (D.disk (view s).beneath) (D.disk (view t).beneath) };
 
     /// A sound store: a crash leaves what is saved.
-    ghost sound_holds: { (s : Self) (c : Image) → (view s).is_sound → (D.disk (view s).beneath).may_leave c → Holds (D.disk (view s).beneath).sectors c (view s).aside.saved };
+    ghost sound_holds: { (s : Self) (c : Image) → (view s).is_sound → (D.disk (view s).beneath).may_leave c → Holds (D.disk (view s).beneath).sectors c (view s).snapshots.saved };
 
     ghost failures_are: { (s : Self) → (Self.parts s).failures ≡ (D.disk (view s).beneath).failures };
 
-    ghost geometry_is: { (s : Self) → (Self.parts s).geometry ≡ (view s).aside.saved.geometry };
+    ghost geometry_is: { (s : Self) → (Self.parts s).geometry ≡ (view s).snapshots.saved.geometry };
 }

@@ -25,20 +25,20 @@ stays_inside inside Discrim conveyed = inl tt
 
 -- the slots of an object
 slots_inside : (os : List Object) (inside : ℕ → Bool) (n i : ℕ) (x : Content Capability) → ((w : Way) (m : ℕ) → IsWay os n x w m → IsTrue (inside m)) → StaysInside inside (slice_index_or (slots_in x) i Void)
-slots_inside os inside n i content.Free leads = inl tt
-slots_inside os inside n i (content.Page words) leads = inl tt
-slots_inside os inside n i (content.Node slots) leads = stays_inside inside (slice_index_or slots i Void) (λ m conveys. leads (way.Slot i (slice_index_or slots i Void)) m (refl, conveys))
-slots_inside os inside n i (content.Root root) leads = inl tt
-slots_inside os inside n i (content.Annex slots) leads = stays_inside inside (slice_index_or slots i Void) (λ m conveys. leads (way.Slot i (slice_index_or slots i Void)) m (refl, conveys))
-slots_inside os inside n i (content.Bank limit) leads = inl tt
+slots_inside os inside n i content.Free continues = inl tt
+slots_inside os inside n i (content.Page words) continues = inl tt
+slots_inside os inside n i (content.Node slots) continues = stays_inside inside (slice_index_or slots i Void) (λ m conveys. continues (way.Slot i (slice_index_or slots i Void)) m (refl, conveys))
+slots_inside os inside n i (content.Root root) continues = inl tt
+slots_inside os inside n i (content.Annex slots) continues = stays_inside inside (slice_index_or slots i Void) (λ m conveys. continues (way.Slot i (slice_index_or slots i Void)) m (refl, conveys))
+slots_inside os inside n i (content.Bank limit) continues = inl tt
 
 -- a set that no step leaves is closed
 pub closed_by_steps : (os : List Object) (inside : ℕ → Bool) → ((s : Step) → IsStep os s → IsTrue (inside s.from) → IsTrue (inside s.to)) → IsClosed os inside
-closed_by_steps os inside leads = record {
-  annexes = λ p is root. leads (record { from = p; way = way.Annex; to = annex_at os p }) (root, refl) is;
-  owned = λ b n is bank free owned. leads (record { from = b; way = way.Owner; to = n }) (bank, free, owned) is;
-  slots = λ n i is. slots_inside os inside n i (content_at os n) (λ w m by. leads (record { from = n; way = w; to = m }) by is);
-  spaces = λ p is. stays_inside inside (root_at os p).space (λ m conveys. leads (record { from = p; way = way.Space (root_at os p).space; to = m }) (refl, conveys) is);
+closed_by_steps os inside continues = record {
+  annexes = λ p is root. continues (record { from = p; way = way.Annex; to = annex_at os p }) (root, refl) is;
+  owned = λ b n is bank free owned. continues (record { from = b; way = way.Owner; to = n }) (bank, free, owned) is;
+  slots = λ n i is. slots_inside os inside n i (content_at os n) (λ w m by. continues (record { from = n; way = w; to = m }) by is);
+  spaces = λ p is. stays_inside inside (root_at os p).space (λ m conveys. continues (record { from = p; way = way.Space (root_at os p).space; to = m }) (refl, conveys) is);
 }
 
 -- no step leaves a closed set
@@ -75,7 +75,7 @@ module _ (os : List Object) (inside : ℕ → Bool) (closed : IsClosed os inside
       path_inside steps chain.0 o chain.2 start
 
 pub steps_are_authority : StepsAreAuthority
-steps_are_authority os inside = (λ closed. step_inside os inside closed, λ leads. closed_by_steps os inside leads)
+steps_are_authority os inside = (λ closed. step_inside os inside closed, λ continues. closed_by_steps os inside continues)
 
 -- the steps back from an object
 pub record IsBack (os : List Object) (l : Levels) (o at : ℕ) (steps : List Step) : Type 0 where
@@ -86,22 +86,22 @@ pub record IsBack (os : List Object) (l : Levels) (o at : ℕ) (steps : List Ste
 
 -- All was searched.
 module _ (os : List Object) (starts : List ℕ) (level : ℕ) (l : Levels) (over : l.greatest < level) (searched : IsSearched os starts level l) where
-  leads_on : (n k : ℕ) → IsFoundIn l n k → (s : Step) → IsFrom os n s → IsFoundIn l s.to (k + 1)
-  leads_on n k found s from =
+  continues_on : (n k : ℕ) → IsFoundIn l n k → (s : Step) → IsFrom os n s → IsFoundIn l s.to (k + 1)
+  continues_on n k found s from =
       let deep : found.0.level ≤ l.greatest = searched.within n found.0 found.1 in
-      let next = searched.leads n found.0 found.1 (omega (arith, deep, over)) s from in
+      let next = searched.continues n found.0 found.1 (omega (arith, deep, over)) s from in
       (next.0, next.1, omega (arith, next.2, found.2))
 
-  leads_along : (ss : List Step) (n k m : ℕ) → IsFoundIn l n k → IsPath os n ss m → IsFoundIn l m (k + length ss)
-  leads_along [] n k m found path = subst (λ (j : ℕ). IsFoundIn l j (k + 0)) path (found.0, found.1, omega (arith, found.2))
-  leads_along (s ∷ ss) n k m found path =
-      let end = leads_along ss s.to (k + 1) m (leads_on n k found s (path.0, path.1)) path.2 in
+  continues_along : (ss : List Step) (n k m : ℕ) → IsFoundIn l n k → IsPath os n ss m → IsFoundIn l m (k + length ss)
+  continues_along [] n k m found path = subst (λ (j : ℕ). IsFoundIn l j (k + 0)) path (found.0, found.1, omega (arith, found.2))
+  continues_along (s ∷ ss) n k m found path =
+      let end = continues_along ss s.to (k + 1) m (continues_on n k found s (path.0, path.1)) path.2 in
       (end.0, end.1, omega (arith, end.2))
 
   pub found_by_chain : (steps : List Step) (o : ℕ) → IsChain os starts steps o → IsFoundIn l o (length steps)
   found_by_chain steps o chain =
       let start = subst (λ (k : ℕ). IsFoundIn l k 0) chain.1.2 (searched.begins chain.1.0 chain.0 chain.1.1) in
-      let end = leads_along steps chain.0 0 o start chain.2 in
+      let end = continues_along steps chain.0 0 o start chain.2 in
       (end.0, end.1, omega (arith, end.2))
 
   found_some : (n : ℕ) (f : Found) → found_at l n ≡ Some f → IsTrue (is_some (found_at l n))
@@ -114,7 +114,7 @@ module _ (os : List Object) (starts : List ℕ) (level : ℕ) (l : Levels) (over
   found_closed : IsClosed os (λ n. is_some (found_at l n))
   found_closed = closed_by_steps os (λ n. is_some (found_at l n)) (λ s by member.
       let found = some_found s.from member in
-      let next = leads_on s.from found.0.level (found.0, found.1, omega arith) s (refl, by) in
+      let next = continues_on s.from found.0.level (found.0, found.1, omega arith) s (refl, by) in
       found_some s.to next.0 next.1)
 
   pub reached_found : (inside : ℕ → Bool) (o : ℕ) → IsReach os starts inside → IsTrue (inside o) → IsTrue (is_some (found_at l o))

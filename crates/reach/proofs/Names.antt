@@ -1,8 +1,8 @@
 -- The names that the proofs here cite: of other crates, and of the definitions of this one.
-pub use Rattle.capability.proofs.Asides.{looks_twice}
 pub use Rattle.capability.proofs.Frames.{length_objects}
 pub use Rattle.capability.proofs.Keeping.{keepable_later, keepable_roles}
-pub use Rattle.capability.specs.Parts.{AreSound, HaveTheirRoles, Looks, LooksUp, Parts, frames_of, objects_in}
+pub use Rattle.capability.proofs.SnapshotLaws.{only_reads_twice}
+pub use Rattle.capability.specs.Parts.{AreSound, HaveTheirRoles, OnlyFetches, OnlyReads, Parts, frames_of, objects_in}
 pub use Rattle.capability.specs.declared.present.PrepareFault.{PrepareFault}
 pub use Rattle.confinement.proofs.Runs.{run_confined}
 pub use Rattle.confinement.specs.Confinement.{AreBy, IsKept, with_free}

@@ -95,7 +95,7 @@ searched_first os starts i l begun whole = record {
   count = begun.count;
   begins = λ k d lt. begun.begun k d (omega (arith, whole, lt));
   linked = λ n f is. inl (begun.first n f is);
-  leads = λ n f is lt. absurd (omega (arith, lt));
+  continues = λ n f is lt. absurd (omega (arith, lt));
   deepest = λ n f is. let level : f.level ≡ 0 = (begun.first n f is).0.level in omega (arith, level);
   within = λ n f is. let level : f.level ≡ 0 = (begun.first n f is).0.level in omega (arith, level);
   few = omega (arith, begun.work, begun.greatest);
@@ -138,18 +138,18 @@ module _ (os : List Object) (starts : List ℕ) (level : ℕ) (old new : Levels)
   deepest_now : (n : ℕ) (f : Found) → found_at new n ≡ Some f → f.level ≤ level + 1
   deepest_now n f is = ⊎_elim (λ before. omega (arith, searched.deepest n f before)) (λ now. omega (arith, now.at)) (finds.each n f is)
 
-  leads_here : (n : ℕ) (f : Found) → found_at old n ≡ Some f → f.level ≡ level → (s : Step) → IsFrom os n s → IsFoundIn new s.to (f.level + 1)
-  leads_here n f is at s from =
+  continues_here : (n : ℕ) (f : Found) → found_at old n ≡ Some f → f.level ≡ level → (s : Step) → IsFrom os n s → IsFoundIn new s.to (f.level + 1)
+  continues_here n f is at s from =
       let lt : n < length old.found.items = found_below old.found.items n f is in
       let found = finds.all s (subst (λ (k : ℕ). IsAt old k level) (sym from.0) (f, is, at), omega (arith, from.0, lt, searched.count), from.1) in
       let deep : found.0.level ≤ level + 1 = deepest_now s.to found.0 found.1 in
       (found.0, found.1, omega (arith, deep, at))
 
-  leads_now : (n : ℕ) (f : Found) → found_at new n ≡ Some f → f.level < level + 1 → (s : Step) → IsFrom os n s → IsFoundIn new s.to (f.level + 1)
-  leads_now n f is lt s from = ⊎_elim
+  continues_now : (n : ℕ) (f : Found) → found_at new n ≡ Some f → f.level < level + 1 → (s : Step) → IsFrom os n s → IsFoundIn new s.to (f.level + 1)
+  continues_now n f is lt s from = ⊎_elim
       (λ before. elim (cases_lt f.level level) [
-        | inl below ↦ kept_in s.to (f.level + 1) (searched.leads n f before below s from)
-        | inr past ↦ leads_here n f before (omega (arith, past, lt)) s from
+        | inl below ↦ kept_in s.to (f.level + 1) (searched.continues n f before below s from)
+        | inr past ↦ continues_here n f before (omega (arith, past, lt)) s from
       ])
       (λ now. absurd (omega (arith, now.at, lt))) (finds.each n f is)
 
@@ -160,7 +160,7 @@ module _ (os : List Object) (starts : List ℕ) (level : ℕ) (old new : Levels)
     linked = λ n f is. ⊎_elim
         (λ before. ⊎_elim (λ first. inl first) (λ after. inr (after_before n f after)) (searched.linked n f before))
         (λ now. inr (after_now n f now)) (finds.each n f is);
-    leads = leads_now;
+    continues = continues_now;
     deepest = deepest_now;
     within = λ n f is. ⊎_elim (λ before. omega (arith, searched.within n f before, finds.later)) (λ now. now) (finds.within n f is);
     few = omega (arith, finds.work, searched.few);

@@ -92,7 +92,7 @@ pub record IsSearched (os : List Object) (starts : List ℕ) (level : ℕ) (l : 
   pub count : length l.found.items ≡ length os
   pub begins : All (λ p. IsFoundIn l p 0) starts
   pub linked : (n : ℕ) (f : Found) → found_at l n ≡ Some f → (IsFirst n f × Contains starts n) ⊎ IsAfter os l n f
-  pub leads : (n : ℕ) (f : Found) → found_at l n ≡ Some f → f.level < level → (s : Step) → IsFrom os n s → IsFoundIn l s.to (f.level + 1)
+  pub continues : (n : ℕ) (f : Found) → found_at l n ≡ Some f → f.level < level → (s : Step) → IsFrom os n s → IsFoundIn l s.to (f.level + 1)
   pub deepest : (n : ℕ) (f : Found) → found_at l n ≡ Some f → f.level ≤ level
   pub within : (n : ℕ) (f : Found) → found_at l n ≡ Some f → f.level ≤ l.greatest
   pub few : missing l.found.items + l.greatest ≤ length os

@@ -1,7 +1,7 @@
 // The objects of a store, in a list.
 ghost use Rattle.std.specs.Prelude.{◌≡◌, ◌<◌, length, IfOk};
 ghost use Rattle.model.specs.World.{object_at};
-ghost use Rattle.capability.specs.Parts.{AreSound, Looks, objects_in};
+ghost use Rattle.capability.specs.Parts.{AreSound, OnlyReads, objects_in};
 
 use capability::{PrepareFault, PresentFrames, objects, view};
 use model::Object;
@@ -16,7 +16,7 @@ fn object<F: PresentFrames>(
     requires sound { AreSound (F.parts store.old) }
     requires known { number < length (F.parts store.old).headers }
     ensures object { IfOk result (λ object. object ≡ object_at (objects_in (F.parts store.old)) number) }
-    ensures looks { Looks F.parts F.LeadsTo store.old store.new result }
+    ensures only_reads { OnlyReads F.parts F.ContinuesTo store.old store.new result }
 {
     objects::fetch(store, alloc, &[number])?;
     match view::object(alloc, store, number) {
@@ -34,7 +34,7 @@ pub fn read_objects<F: PresentFrames>(
 ) -> Result<Vec<Object>, PrepareFault>
     requires { AreSound (F.parts store.old) }
     ensures objects { IfOk result (λ objects. objects.items ≡ objects_in (F.parts store.old)) }
-    ensures looks { Looks F.parts F.LeadsTo store.old store.new result }
+    ensures only_reads { OnlyReads F.parts F.ContinuesTo store.old store.new result }
 {
     let mut objects = Vec::new(alloc);
     for number in 0..store.table().count() {

@@ -16,10 +16,10 @@ use Rattle.device.specs.Moments.{Peeks}
 use Rattle.device.proofs.Moments.{CountsNow, ends, leaves_on, leaves_weaker}
 use Rattle.checkpoint.specs.declared.open_fault.OpenFault.{OpenFault}
 use Rattle.checkpoint.specs.declared.open_fault.OpenFault.TheVariants as fault
-use Rattle.checkpoint.specs.Opened.{Looks}
+use Rattle.checkpoint.specs.Opened.{OnlyReads}
 use Rattle.checkpoint.specs.Saved.{Holds}
-use Rattle.capability.specs.Parts.{LooksUp, Parts, frames_of, objects_in}
-use Rattle.object_store.specs.Store.{Aside, FrozenFrames, Leads, OpensStore, View}
+use Rattle.capability.specs.Parts.{OnlyFetches, Parts, frames_of, objects_in}
+use Rattle.object_store.specs.Store.{Snapshots, FrozenFrames, Continues, OpensStore, View}
 use Rattle.space_bank.specs.Banks.{AreCounted, BanksState}
 use Rattle.recovery.specs.declared.live.Live.{Live}
 use Rattle.recovery.specs.Denotes.{saved_of, IsSoundSaved}
@@ -46,8 +46,8 @@ opened_by : (g : Geometry) (at : Saved) (now : World) (touched renewed : List Bo
 opened_by g at now touched renewed frozen to_move a b c d e = cc
 
 -- two looks at a device are one, where a crash leaves what a read gives
-looks_on : (old mid new : Disk) → Looks old mid → Only mid.seen mid → new.sectors ≡ mid.sectors → Peeks mid new → CountsNow new → new.may_leave new.seen → Looks old new
-looks_on old mid new first durable size peeks counts_now seen_left =
+only_reads_on : (old mid new : Disk) → OnlyReads old mid → Only mid.seen mid → new.sectors ≡ mid.sectors → Peeks mid new → CountsNow new → new.may_leave new.seen → OnlyReads old new
+only_reads_on old mid new first durable size peeks counts_now seen_left =
     let crash : (c : Image) → new.may_leave c → mid.may_leave c = λ c left. ends {old = mid} {new = new} {P = mid.may_leave} peeks counts_now c left in
     record {
       size = size ∙ first.size;
@@ -66,72 +66,72 @@ durable_on mid new durable peeks counts_now seen_left c left i =
 module _ {D S : Type 0} (disk : D → Disk) (view : S → View D) (parts : S → Parts)
     (counts_now : (d : D) (t : ℕ) (c : Image) → t ≤ (disk d).moment → (disk d).may_leave c → (disk d).left_since t c)
     (seen_left : (d : D) → (disk d).may_leave (disk d).seen)
-    (sound_holds : (s : S) (c : Image) → (view s).is_sound → (disk (view s).beneath).may_leave c → Holds (disk (view s).beneath).sectors c (view s).aside.saved)
-    (geometry_is : (s : S) → (parts s).geometry ≡ (view s).aside.saved.geometry)
-    (device : D) (s t : S) (opens : OpensStore disk device (parts s) (view s)) {Goes : S → S → Type 0} (same : LooksUp parts Goes s t) (leads : Leads disk (view s) (view t))
-    (peeks : touched_count (parts t).touched ≡ 0 → (view s).aside.frozen ≡ None → Peeks (disk (view s).beneath) (disk (view t).beneath)) where
+    (sound_holds : (s : S) (c : Image) → (view s).is_sound → (disk (view s).beneath).may_leave c → Holds (disk (view s).beneath).sectors c (view s).snapshots.saved)
+    (geometry_is : (s : S) → (parts s).geometry ≡ (view s).snapshots.saved.geometry)
+    (device : D) (s t : S) (opens : OpensStore disk device (parts s) (view s)) {Goes : S → S → Type 0} (same : OnlyFetches parts Goes s t) (continues : Continues disk (view s) (view t))
+    (peeks : touched_count (parts t).touched ≡ 0 → (view s).snapshots.frozen ≡ None → Peeks (disk (view s).beneath) (disk (view t).beneath)) where
   same_frames : frames_of (parts t) ≡ frames_of (parts s)
   same_frames = ap (λ (hs : List ObjectHeader). frames_in hs (parts t).contents) same.headers ∙ ap (frames_in (parts s).headers) same.contents
 
   still_untouched : touched_count (parts t).touched ≡ 0
-  still_untouched = ap touched_count (same.touched ∙ opens.touched) ∙ untouched_count (view s).aside.saved.geometry
+  still_untouched = ap touched_count (same.touched ∙ opens.touched) ∙ untouched_count (view s).snapshots.saved.geometry
 
-  looked : Looks (disk device) (disk (view t).beneath)
-  looked = looks_on (disk device) (disk (view s).beneath) (disk (view t).beneath) opens.looks opens.durable leads.size (peeks still_untouched opens.frozen)
+  looked : OnlyReads (disk device) (disk (view t).beneath)
+  looked = only_reads_on (disk device) (disk (view s).beneath) (disk (view t).beneath) opens.only_reads opens.durable continues.size (peeks still_untouched opens.frozen)
       (counts_now (view t).beneath) (seen_left (view t).beneath)
 
   -- it was refused
   pub refuses : (why : OpenFault) → (disk (view s).beneath).failures ≤ (disk (view t).beneath).failures → ((why ≡ fault.Failed) ↔ ((disk (view s).beneath).failures < (disk (view t).beneath).failures)) →
       IsUnfit (frames_of (parts s)) why → (back : D) → back ≡ (view t).beneath → RefusesToOpen disk device back why
-  refuses why later cause unfit back is = subst (λ (d : D). RefusesToOpen disk device d why) (sym is) (record { is_why = told why later cause unfit; looks = looked })
+  refuses why later cause unfit back is = subst (λ (d : D). RefusesToOpen disk device d why) (sym is) (record { is_why = reported why later cause unfit; only_reads = looked })
     where
       stayed : (why : OpenFault) → (why ≡ fault.Failed → ⊥) → (disk (view s).beneath).failures ≤ (disk (view t).beneath).failures →
           ((why ≡ fault.Failed) ↔ ((disk (view s).beneath).failures < (disk (view t).beneath).failures)) → (disk (view t).beneath).failures ≡ (disk device).failures
       stayed why other later cause = unfailed (disk (view s).beneath).failures (disk (view t).beneath).failures later (λ rose. other (cause.1 rose)) ∙ opens.failures
 
-      told : (why : OpenFault) → (disk (view s).beneath).failures ≤ (disk (view t).beneath).failures → ((why ≡ fault.Failed) ↔ ((disk (view s).beneath).failures < (disk (view t).beneath).failures)) →
+      reported : (why : OpenFault) → (disk (view s).beneath).failures ≤ (disk (view t).beneath).failures → ((why ≡ fault.Failed) ↔ ((disk (view s).beneath).failures < (disk (view t).beneath).failures)) →
           IsUnfit (frames_of (parts s)) why → IsWhy (disk device) (disk (view t).beneath) why
-      told fault.Failed later cause unfit = subst (λ (n : ℕ). n < (disk (view t).beneath).failures) opens.failures (cause.0 refl)
-      told fault.NoMemory later cause unfit = stayed fault.NoMemory (λ e. cc) later cause
-      told (fault.Bad reason) later cause unfit = (
+      reported fault.Failed later cause unfit = subst (λ (n : ℕ). n < (disk (view t).beneath).failures) opens.failures (cause.0 refl)
+      reported fault.NoMemory later cause unfit = stayed fault.NoMemory (λ e. cc) later cause
+      reported (fault.Bad reason) later cause unfit = (
         stayed (fault.Bad reason) (λ e. cc) later cause,
-        inr ((view s).aside.saved, opens.holds, subst (λ (fs : List Frame). IsUnfit fs (fault.Bad reason)) opens.frames unfit),
+        inr ((view s).snapshots.saved, opens.holds, subst (λ (fs : List Frame). IsUnfit fs (fault.Bad reason)) opens.frames unfit),
       )
 
   -- it was opened
-  module _ (banks : BanksState) (age : ℕ) (age_is : age ≡ (view s).aside.saved.age) (failures : (disk (view t).beneath).failures ≡ (disk (view s).beneath).failures)
+  module _ (banks : BanksState) (age : ℕ) (age_is : age ≡ (view s).snapshots.saved.age) (failures : (disk (view t).beneath).failures ≡ (disk (view s).beneath).failures)
       (sound : IsSoundFrames (parts s).geometry age (frames_of (parts s))) (counted : AreCounted (parts s).geometry (objects_in (parts s)) banks) where
     live : Live S
     live = record { store = t; banks = banks; age = age; frozen_age = age }
 
-    geometry : (parts s).geometry ≡ (view t).aside.saved.geometry
+    geometry : (parts s).geometry ≡ (view t).snapshots.saved.geometry
     geometry = sym same.geometry ∙ geometry_is t
 
-    frames : frames_of (parts t) ≡ (view t).aside.saved.frames
-    frames = same_frames ∙ opens.frames ∙ ap (λ (a : Aside). a.saved.frames) (sym leads.aside)
+    frames : frames_of (parts t) ≡ (view t).snapshots.saved.frames
+    frames = same_frames ∙ opens.frames ∙ ap (λ (a : Snapshots). a.saved.frames) (sym continues.snapshots)
 
-    age_saved : age ≡ (view t).aside.saved.age
-    age_saved = age_is ∙ ap (λ (a : Aside). a.saved.age) (sym leads.aside)
+    age_saved : age ≡ (view t).snapshots.saved.age
+    age_saved = age_is ∙ ap (λ (a : Snapshots). a.saved.age) (sym continues.snapshots)
 
-    frozen : (view t).aside.frozen ≡ None
-    frozen = ap (λ (a : Aside). a.frozen) leads.aside ∙ opens.frozen
+    frozen : (view t).snapshots.frozen ≡ None
+    frozen = ap (λ (a : Snapshots). a.frozen) continues.snapshots ∙ opens.frozen
 
-    now_sound : IsSoundFrames (view t).aside.saved.geometry age (frames_of (parts t))
+    now_sound : IsSoundFrames (view t).snapshots.saved.geometry age (frames_of (parts t))
     now_sound =
         subst (λ (g : Geometry). IsSoundFrames g age (frames_of (parts t))) geometry
         (subst (λ (fs : List Frame). IsSoundFrames (parts s).geometry age fs) (sym same_frames) sound)
 
-    saved_sound : IsSoundSaved (view t).aside.saved.geometry (view t).aside.saved
+    saved_sound : IsSoundSaved (view t).snapshots.saved.geometry (view t).snapshots.saved
     saved_sound = record {
       geometry = refl;
-      sound = subst (λ (n : ℕ). IsSoundFrames (view t).aside.saved.geometry n (view t).aside.saved.frames) age_saved
-          (subst (λ (fs : List Frame). IsSoundFrames (view t).aside.saved.geometry age fs) frames now_sound);
+      sound = subst (λ (n : ℕ). IsSoundFrames (view t).snapshots.saved.geometry n (view t).snapshots.saved.frames) age_saved
+          (subst (λ (fs : List Frame). IsSoundFrames (view t).snapshots.saved.geometry age fs) frames now_sound);
     }
 
-    base_is : base_of (view t).aside ≡ frames_of (parts t)
-    base_is = base_saved (view t).aside frozen ∙ sym frames
+    base_is : base_of (view t).snapshots ≡ frames_of (parts t)
+    base_is = base_saved (view t).snapshots frozen ∙ sym frames
 
-    is_sound : AreSoundTogether (view t).aside.saved.geometry (parts t) (view t).aside banks age age
+    is_sound : AreSoundTogether (view t).snapshots.saved.geometry (parts t) (view t).snapshots banks age age
     is_sound = record {
       geometry = geometry_is t;
       now = now_sound;
@@ -146,31 +146,31 @@ module _ {D S : Type 0} (disk : D → Disk) (view : S → View D) (parts : S →
         never : (f : FrozenFrames) → None ≡ Some f → ⊥
         never f e = cc
 
-    at_saved : running disk view parts live ≡ opened (view t).aside.saved.geometry (saved_of (view t).aside.saved)
+    at_saved : running disk view parts live ≡ opened (view t).snapshots.saved.geometry (saved_of (view t).snapshots.saved)
     unfolding live
     at_saved =
-        let a = (view t).aside in
+        let a = (view t).snapshots in
         let g = a.saved.geometry in
         opened_by g (saved_of a.saved) (world_at age (frames_of (parts t))) (parts t).touched (renewed_since (base_of a) (frames_of (parts t))) (frozen_of age a.frozen) a.to_move
         (ap (λ (n : ℕ). world_at n (frames_of (parts t))) age_saved ∙ ap (world_at a.saved.age) frames)
-        (same.touched ∙ opens.touched ∙ ap (λ (x : Aside). untouched x.saved.geometry) (sym leads.aside))
+        (same.touched ∙ opens.touched ∙ ap (λ (x : Snapshots). untouched x.saved.geometry) (sym continues.snapshots))
         (ap (λ (fs : List Frame). renewed_since fs (frames_of (parts t))) base_is ∙ none_renewed g (frames_of (parts t)) now_sound.keepable.count)
         (ap (frozen_of age) frozen)
-        (ap (λ (x : Aside). x.to_move) leads.aside ∙ opens.to_move ∙ ap (λ (x : Aside). x.saved.entries) (sym leads.aside))
+        (ap (λ (x : Snapshots). x.to_move) continues.snapshots ∙ opens.to_move ∙ ap (λ (x : Snapshots). x.saved.entries) (sym continues.snapshots))
 
     pub recovers : Recovers disk view parts device (record { store = t; banks = banks; age = age; frozen_age = age })
     unfolding live
     recovers = record {
-      holds = subst (λ (a : Aside). Holds (disk device).sectors (disk device).seen a.saved) (sym leads.aside) opens.holds;
+      holds = subst (λ (a : Snapshots). Holds (disk device).sectors (disk device).seen a.saved) (sym continues.snapshots) opens.holds;
       up = record {
-        store = leads.sound opens.sound;
+        store = continues.sound opens.sound;
         sound = is_sound;
-        leaves = leaves_saved (view t).aside.saved.geometry (disk (view t).beneath) (view t).aside.saved saved_sound (λ c left. sound_holds t c (leads.sound opens.sound) left);
+        leaves = leaves_saved (view t).snapshots.saved.geometry (disk (view t).beneath) (view t).snapshots.saved saved_sound (λ c left. sound_holds t c (continues.sound opens.sound) left);
       };
       frames = frames;
       at_saved = at_saved;
       durable = durable_on (disk (view s).beneath) (disk (view t).beneath) opens.durable (peeks still_untouched opens.frozen) (counts_now (view t).beneath) (seen_left (view t).beneath);
-      looks = looked;
+      only_reads = looked;
       failures = failures ∙ opens.failures;
     }
 
@@ -186,5 +186,5 @@ module _ (p q : Parts) (old new : Disk) (before : p.failures ≡ old.failures) (
   pub refused_cause : {T : Type 0} (why : OpenFault) → ((let r : Result T OpenFault = Err why in IsErrOf r fault.Failed) ↔ (p.failures < q.failures)) → (why ≡ fault.Failed) ↔ (old.failures < new.failures)
   refused_cause {T} why cause = (
     λ is. let rose : p.failures < q.failures = cause.0 (ap (λ (e : OpenFault). let r : Result T OpenFault = Err e in r) is) in omega (arith, rose, before, after),
-    λ rose. let told = cause.1 (omega (arith, rose, before, after)) in cc,
+    λ rose. let reported = cause.1 (omega (arith, rose, before, after)) in cc,
   )

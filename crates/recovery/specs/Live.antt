@@ -1,6 +1,6 @@
 -- The machine that an open store stands for.
 use Rattle.recovery.specs.Names.{◌≡◌, ℕ, ◌<◌, ◌≤◌, ◌==◌, Bool, not, Option, None, Some, List, [], ◌∷◌, length, map, range_with_len, Frame, Geometry, frame_at}
-use Rattle.recovery.specs.Names.{IsSoundFrames, world_at, Frozen, Running, Disk, Parts, frames_of, objects_in, Aside, FrozenFrames, View, AreCounted}
+use Rattle.recovery.specs.Names.{IsSoundFrames, world_at, Frozen, Running, Disk, Parts, frames_of, objects_in, Snapshots, FrozenFrames, View, AreCounted}
 use Rattle.recovery.specs.Names.{BanksState}
 use Rattle.recovery.specs.declared.live.Live.{Live}
 use Rattle.recovery.specs.Denotes.{saved_of, IsSoundSaved, Leaves}
@@ -11,7 +11,7 @@ frozen_of age None = None
 frozen_of age (Some f) = Some (record { world = world_at age f.frames; size = f.size; left = f.left })
 
 -- the frames that the last checkpoint or restart began from
-abbrev pub base_of : Aside → List Frame
+abbrev pub base_of : Snapshots → List Frame
 base_of a = elim a.frozen [ None ↦ a.saved.frames | Some f ↦ f.frames ]
 
 -- the numbers whose counts of allocations have risen since
@@ -19,14 +19,14 @@ unfoldable pub renewed_since : List Frame → List Frame → List Bool
 renewed_since base fs = map (λ n. not ((frame_at fs n).header.allocations == (frame_at base n).header.allocations)) (range_with_len 0 (length base))
 
 -- the machine of present frames and of what is kept beside them
-abbrev pub running_of : Parts → Aside → ℕ → ℕ → Running
-running_of p aside age frozen_age = record {
+abbrev pub running_of : Parts → Snapshots → ℕ → ℕ → Running
+running_of p snapshots age frozen_age = record {
   now = world_at age (frames_of p);
   touched = p.touched;
-  renewed = renewed_since (base_of aside) (frames_of p);
-  frozen = frozen_of frozen_age aside.frozen;
-  saved = saved_of aside.saved;
-  to_move = aside.to_move;
+  renewed = renewed_since (base_of snapshots) (frames_of p);
+  frozen = frozen_of frozen_age snapshots.frozen;
+  saved = saved_of snapshots.saved;
+  to_move = snapshots.to_move;
 }
 
 -- frozen frames are sound at their age, which lies between that of what is saved and that of now
@@ -36,20 +36,20 @@ pub record IsSoundFrozen (g : Geometry) (saved_age frozen_age age : ℕ) (f : Fr
   pub sound : IsSoundFrames g frozen_age f.frames
 
 -- all that a kernel keeps is sound, what is counted of banks is what there is, and no count of allocations has fallen
-pub record AreSoundTogether (g : Geometry) (p : Parts) (aside : Aside) (banks : BanksState) (age frozen_age : ℕ) : Type 0 where
+pub record AreSoundTogether (g : Geometry) (p : Parts) (snapshots : Snapshots) (banks : BanksState) (age frozen_age : ℕ) : Type 0 where
   pub geometry : p.geometry ≡ g
   pub now : IsSoundFrames g age (frames_of p)
   pub counted : AreCounted g (objects_in p) banks
-  pub frozen : (f : FrozenFrames) → aside.frozen ≡ Some f → IsSoundFrozen g aside.saved.age frozen_age age f
-  pub saved : IsSoundSaved g aside.saved
-  pub order : aside.saved.age ≤ age
-  pub risen : (n : ℕ) → (frame_at (base_of aside) n).header.allocations ≤ (frame_at (frames_of p) n).header.allocations
+  pub frozen : (f : FrozenFrames) → snapshots.frozen ≡ Some f → IsSoundFrozen g snapshots.saved.age frozen_age age f
+  pub saved : IsSoundSaved g snapshots.saved
+  pub order : snapshots.saved.age ≤ age
+  pub risen : (n : ℕ) → (frame_at (base_of snapshots) n).header.allocations ≤ (frame_at (frames_of p) n).header.allocations
 
 -- The parameters are ghost members of a device and of an object store.
 module _ {D S : Type 0} (disk : D → Disk) (view : S → View D) (parts : S → Parts) where
   -- the machine that is up
   abbrev pub running : Live S → Running
-  running l = running_of (parts l.store) (view l.store).aside l.age l.frozen_age
+  running l = running_of (parts l.store) (view l.store).snapshots l.age l.frozen_age
 
   abbrev pub disk_at : Live S → Disk
   disk_at l = disk (view l.store).beneath
@@ -57,8 +57,8 @@ module _ {D S : Type 0} (disk : D → Disk) (view : S → View D) (parts : S →
   -- a store that serves: a crash leaves what is saved
   pub record IsUp (g : Geometry) (l : Live S) : Type 0 where
     pub store : (view l.store).is_sound
-    pub sound : AreSoundTogether g (parts l.store) (view l.store).aside l.banks l.age l.frozen_age
-    pub leaves : Leaves g (disk_at l) (saved_of (view l.store).aside.saved ∷ [])
+    pub sound : AreSoundTogether g (parts l.store) (view l.store).snapshots l.banks l.age l.frozen_age
+    pub leaves : Leaves g (disk_at l) (saved_of (view l.store).snapshots.saved ∷ [])
 
   abbrev pub IsSomeUp : Live S → Type 0
   IsSomeUp l = (g : Geometry) × IsUp g l

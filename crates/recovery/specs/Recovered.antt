@@ -1,5 +1,5 @@
 -- The outcomes of opening a device.
-use Rattle.recovery.specs.Names.{◌≡◌, ◌⊎◌, ℕ, ◌<◌, List, Frame, opened, Only, Image, Disk, BadImage, IsBadBy, OpenFault, Looks, SavedFrames, Holds, Parts}
+use Rattle.recovery.specs.Names.{◌≡◌, ◌⊎◌, ℕ, ◌<◌, List, Frame, opened, Only, Image, Disk, BadImage, IsBadBy, OpenFault, OnlyReads, SavedFrames, Holds, Parts}
 use Rattle.recovery.specs.Names.{frames_of, View, CheckFault, Inconsistency, BadCapability, BadProcess, BadBank, IsInconsistent}
 use Rattle.layout.specs.declared.bad_image.BadImage.TheVariants as bad
 use Rattle.checkpoint.specs.declared.open_fault.OpenFault.TheVariants as fault
@@ -41,16 +41,16 @@ IsWhy old new (fault.Bad reason) = (new.failures ≡ old.failures) × IsBad old.
 -- a device wasn't opened, and nothing was written
 pub record RefusesToOpen {D : Type 0} (disk : D → Disk) (device back : D) (why : OpenFault) : Type 0 where
   pub is_why : IsWhy (disk device) (disk back) why
-  pub looks : Looks (disk device) (disk back)
+  pub only_reads : OnlyReads (disk device) (disk back)
 
 -- The parameters are ghost members of a device and of an object store.
 module _ {D S : Type 0} (disk : D → Disk) (view : S → View D) (parts : S → Parts) where
   -- a device was opened, and nothing was written: the store is up at what is saved, and a crash leaves what a read gives
   pub record Recovers (device : D) (l : Live S) : Type 0 where
-    pub holds : Holds (disk device).sectors (disk device).seen (view l.store).aside.saved
-    pub up : IsUp disk view parts (view l.store).aside.saved.geometry l
-    pub frames : frames_of (parts l.store) ≡ (view l.store).aside.saved.frames
-    pub at_saved : running disk view parts l ≡ opened (view l.store).aside.saved.geometry (saved_of (view l.store).aside.saved)
+    pub holds : Holds (disk device).sectors (disk device).seen (view l.store).snapshots.saved
+    pub up : IsUp disk view parts (view l.store).snapshots.saved.geometry l
+    pub frames : frames_of (parts l.store) ≡ (view l.store).snapshots.saved.frames
+    pub at_saved : running disk view parts l ≡ opened (view l.store).snapshots.saved.geometry (saved_of (view l.store).snapshots.saved)
     pub durable : Only (disk_at disk view parts l).seen (disk_at disk view parts l)
-    pub looks : Looks (disk device) (disk_at disk view parts l)
+    pub only_reads : OnlyReads (disk device) (disk_at disk view parts l)
     pub failures : (disk_at disk view parts l).failures ≡ (disk device).failures

@@ -1,7 +1,7 @@
 // Opening a device.
 ghost use Rattle.std.specs.Prelude.{◌≡◌, ◌↔◌, ◌<◌, ◌≤◌, ◌^◌, IfOk, IfErr, OnOk, IsErrOf};
 ghost use Rattle.model.specs.Keepable.{AreKeepable, IsSoundFrames};
-ghost use Rattle.capability.specs.Parts.{LooksUp, frames_of, objects_in};
+ghost use Rattle.capability.specs.Parts.{OnlyFetches, frames_of, objects_in};
 ghost use Rattle.space_bank.specs.Banks.{AreCounted};
 ghost use Rattle.recovery.specs.Recovered.{IsUnfit, Recovers, RefusesToOpen, fault_of};
 
@@ -42,7 +42,7 @@ fn examine<F: PresentFrames>(alloc: Global, store: &mut F, age: u64) -> Result<B
     ensures counted { IfOk result (AreCounted (F.parts store.old).geometry
         (objects_in (F.parts store.old))) }
     ensures bad { IfErr result (IsUnfit (frames_of (F.parts store.old))) }
-    ensures aside { LooksUp F.parts F.LeadsTo store.old store.new }
+    ensures snapshots { OnlyFetches F.parts F.ContinuesTo store.old store.new }
     ensures later { (F.parts store.old).failures ≤ (F.parts store.new).failures }
     ensures cause { IsErrOf result OpenFault.Failed
         ↔ ((F.parts store.old).failures < (F.parts store.new).failures) }

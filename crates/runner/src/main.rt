@@ -372,7 +372,7 @@ fn capacity_of(cache: Option<u64>) -> Result<Option<Capacity>, u8> {
 
 // Tells why the file that is to be explained can't be read, and gives the status.
 fn refuse_file(file: &str, cause: &io::Error, errors: &mut Stderr) -> u8 {
-    let _told = writeln!(errors, "eros: {file}: {cause}");
+    let _reported = writeln!(errors, "eros: {file}: {cause}");
     1
 }
 
@@ -407,7 +407,7 @@ fn explain_file(
         Ok(device) => Ok(explain_image(rt.alloc(), device, writer, errors).status),
         Err(FileFault::NoMemory) => Err(Fault::NoMemory),
         Err(fault) => {
-            let _told = writeln!(errors, "eros: {image}: {fault}");
+            let _reported = writeln!(errors, "eros: {image}: {fault}");
             Ok(1)
         }
     }
@@ -554,7 +554,7 @@ fn main(rt: HostRuntime) -> ExitCode {
     let status = match work(&rt) {
         Ok(status) => status,
         Err(fault) => {
-            let _told = fault.tell(&mut rt.stderr());
+            let _reported = fault.tell(&mut rt.stderr());
             1
         }
     };

@@ -6,10 +6,10 @@ pub use Rattle.device.proofs.Moments.{leaves_weaker, started}
 pub use Rattle.device.specs.Disk.{Disk, Image}
 pub use Rattle.device.specs.Moments.{LeavesOnly}
 pub use Rattle.kernel.specs.Power.{Power}
-pub use Rattle.kernel.specs.Standing.{IsCaused, Serves, Stands, disk_of, told_code}
+pub use Rattle.kernel.specs.Standing.{IsCaused, Serves, Stands, disk_of, reported_code}
 pub use Rattle.memchr.specs.Find.{IsFirstByte, Nowhere, Passes, is_byte}
 pub use Rattle.model.specs.Machine.{Down, Machine, Running, Saved, Up, candidates}
-pub use Rattle.model.specs.Run.{BadLine, IsRun, IsTurn, Nothing, Replies, Reply, Told, Turn, lines_of, output_of, reply_text}
+pub use Rattle.model.specs.Run.{BadLine, IsRun, IsTurn, Nothing, Replies, Reply, Reported, Turn, lines_of, output_of, reply_text}
 pub use Rattle.model.specs.Sound.{IsSound}
 pub use Rattle.model.specs.Step.{second}
 pub use Rattle.model.specs.Text.{Says, line_of, spaced}
@@ -42,7 +42,7 @@ pub use Rattle.std.specs.Io.KnownBytes.{Appends, Consumes, IsAtEnd, Keeps}
 pub use Rattle.std.specs.List.{All, flat_map}
 pub use Rattle.std.specs.Prelude.{IfErr, IfNone, IfSome, IsTrue, Result, slice_index_or, ◌↔◌}
 pub use Rattle.runs.specs.KernelRuns.{AreAll, AreFirst, AreLines, AreLinesBy, AreSeen, AreTurnsOf, BeginsWith, Does, EndsBy, IsConfined, IsCutShort, IsLeftIn}
-pub use Rattle.runs.specs.KernelRuns.{IsRunOf, IsToldBy, IsTurnOf, RunsOver, RunsSeen, lines_in, tells_fault}
+pub use Rattle.runs.specs.KernelRuns.{IsReportedBy, IsRunOf, IsTurnOf, RunsOver, RunsSeen, lines_in, tells_fault}
 pub use Rattle.runs.specs.Taking.{Ended, IsWritten, ReadsPiece, SoFar, Stopped, StopsBy, TakesLine, TakesTurn}
 pub use Rattle.runs.specs.Tracing.{Ends, EndsIf, IsCauseIn, IsCauseOf, IsOutcome, IsTrace, IsTraced, Notes, Sees, cause_text, place_text}
 pub use Rattle.runs.specs.declared.cause.Cause.{Cause}

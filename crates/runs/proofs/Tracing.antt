@@ -1,7 +1,7 @@
 -- What a tracer makes of a turn.
 use Rattle.runs.proofs.Names.{◌≡◌, ℕ, ◌+◌, ◌-◌, ◌^◌, min, Bool, true, false, not, Option, None, Some, List, [], ◌∷◌, ◌++◌, codes, refl, sym, ap, ◌∙◌, subst}
-use Rattle.runs.proofs.Names.{IfNone, IfSome, Answer, Command, Geometry, ResultCode, Reply, Nothing, BadLine, Told, Turn, Says, line_of, spaced, says_one}
-use Rattle.runs.proofs.Names.{LineFault, command_name, IsFaultOf, Cause, Stop, Tracer, told_code, Ends, EndsIf, IsCauseIn, IsCauseOf, IsOutcome, IsTrace}
+use Rattle.runs.proofs.Names.{IfNone, IfSome, Answer, Command, Geometry, ResultCode, Reply, Nothing, BadLine, Reported, Turn, Says, line_of, spaced, says_one}
+use Rattle.runs.proofs.Names.{LineFault, command_name, IsFaultOf, Cause, Stop, Tracer, reported_code, Ends, EndsIf, IsCauseIn, IsCauseOf, IsOutcome, IsTrace}
 use Rattle.runs.proofs.Names.{IsTraced, Notes, Sees, cause_text, place_text}
 use Rattle.model.specs.declared.line.Line.TheVariants as line
 use Rattle.runs.specs.declared.cause.Cause.TheVariants as cause
@@ -44,37 +44,37 @@ module _ {V : Type 0} (contents : V → Option (List ℕ)) (g : Geometry) (t : T
     }
 
     -- a command
-    module _ (c : Command) (a : Answer) (told : Option ResultCode) (says : Says t.line (line.Command c)) (reply : t.reply ≡ Told a) (coded : told_code g t.before c a ≡ told) where
-      causes : (w : Cause) → IsCauseIn a told w → IsCauseOf g t w
+    module _ (c : Command) (a : Answer) (reported : Option ResultCode) (says : Says t.line (line.Command c)) (reply : t.reply ≡ Reported a) (coded : reported_code g t.before c a ≡ reported) where
+      causes : (w : Cause) → IsCauseIn a reported w → IsCauseOf g t w
       causes (cause.BadLine fault) is = absurd is
       causes (cause.Refused r) is = (c, says, a, reply, is)
       causes (cause.Code k) is = (c, says, a, reply, (coded ∙ is.0, is.1))
 
-      some_causes : (w : Option Cause) → IfSome w (IsCauseIn a told) → IfSome w (IsCauseOf g t)
+      some_causes : (w : Option Cause) → IfSome w (IsCauseIn a reported) → IfSome w (IsCauseOf g t)
       some_causes None is = tt
       some_causes (Some w) is = causes w is
 
       same_command : (d : Command) → Says t.line (line.Command d) → d ≡ c
       same_command d said = let is = says_one t.line (line.Command d) (line.Command c) said says in cc
 
-      same_answer : (b : Answer) → t.reply ≡ Told b → b ≡ a
-      same_answer b is = let same : Told b ≡ Told a = sym is ∙ reply in cc
+      same_answer : (b : Answer) → t.reply ≡ Reported b → b ≡ a
+      same_answer b is = let same : Reported b ≡ Reported a = sym is ∙ reply in cc
 
-      is_cause_in : (w : Cause) → IsCauseOf g t w → IsCauseIn a told w
-      is_cause_in (cause.BadLine fault) is = let never : Told a ≡ BadLine = sym reply ∙ is.0 in absurd cc
+      is_cause_in : (w : Cause) → IsCauseOf g t w → IsCauseIn a reported w
+      is_cause_in (cause.BadLine fault) is = let never : Reported a ≡ BadLine = sym reply ∙ is.0 in absurd cc
       is_cause_in (cause.Refused r) is = sym (same_answer is.2 is.3) ∙ is.4
       is_cause_in (cause.Code k) is = (
-        sym coded ∙ subst (λ (d : Command). told_code g t.before d a ≡ Some k) (same_command is.0 is.1)
-            (subst (λ (b : Answer). told_code g t.before is.0 b ≡ Some k) (same_answer is.2 is.3) is.4.0),
+        sym coded ∙ subst (λ (d : Command). reported_code g t.before d a ≡ Some k) (same_command is.0 is.1)
+            (subst (λ (b : Answer). reported_code g t.before is.0 b ≡ Some k) (same_answer is.2 is.3) is.4.0),
         is.4.1,
       )
 
-      no_causes : (w : Option Cause) → IfNone w ((v : Cause) → IsCauseIn a told v → ⊥) → IfNone w ((v : Cause) → IsCauseOf g t v → ⊥)
+      no_causes : (w : Option Cause) → IfNone w ((v : Cause) → IsCauseIn a reported v → ⊥) → IfNone w ((v : Cause) → IsCauseOf g t v → ⊥)
       no_causes None none = λ v is. none v (is_cause_in v is)
       no_causes (Some w) none = tt
 
-      pub answer_seen : (outcome : List ℕ) → IsOutcome told a outcome → text ≡ spaced (place_text place ∷ (command_name c ++ codes ":") ∷ outcome ∷ []) →
-          IfSome why (IsCauseIn a told) → IfNone why ((w : Cause) → IsCauseIn a told w → ⊥) → Sees contents g t old new on
+      pub answer_seen : (outcome : List ℕ) → IsOutcome reported a outcome → text ≡ spaced (place_text place ∷ (command_name c ++ codes ":") ∷ outcome ∷ []) →
+          IfSome why (IsCauseIn a reported) → IfNone why ((w : Cause) → IsCauseIn a reported w → ⊥) → Sees contents g t old new on
       answer_seen outcome is spelt some none =
           seen (subst (λ (r : Reply). IsTrace g place t r (line_of text)) (sym reply)
           (c, says, outcome, subst (λ (k : Option ResultCode). IsOutcome k a outcome) (sym coded) is, ap line_of spelt)) (some_causes why some) (no_causes why none)
@@ -105,8 +105,8 @@ module _ {V : Type 0} (contents : V → Option (List ℕ)) (g : Geometry) (t : T
 
       no_cause : (w : Cause) → IsCauseOf g t w → ⊥
       no_cause (cause.BadLine fault) is = let never : Nothing ≡ BadLine = sym reply ∙ is.0 in absurd cc
-      no_cause (cause.Refused r) is = let never : Nothing ≡ Told is.2 = sym reply ∙ is.3 in absurd cc
-      no_cause (cause.Code k) is = let never : Nothing ≡ Told is.2 = sym reply ∙ is.3 in absurd cc
+      no_cause (cause.Refused r) is = let never : Nothing ≡ Reported is.2 = sym reply ∙ is.3 in absurd cc
+      no_cause (cause.Code k) is = let never : Nothing ≡ Reported is.2 = sym reply ∙ is.3 in absurd cc
 
       never_ends : (strict : Bool) → Ends g new.line t strict true new.stop
       never_ends false = refl

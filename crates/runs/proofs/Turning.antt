@@ -2,11 +2,11 @@
 use Rattle.runs.proofs.Names.{◌≡◌, ◌≢◌, ◌⊎◌, ℕ, ◌<◌, suc, take, drop, length, Bool, true, false, List, [], ◌∷◌, ◌++◌, Option, None, Some, Ok, Err, refl, sym}
 use Rattle.runs.proofs.Names.{ap, ◌∙◌, subst, ⊎_elim, inl, inr, append_assoc, append-nil, arith, ◌↔◌, slice_index_or, IfErr, IsTrue, Result, Consumes-trans}
 use Rattle.runs.proofs.Names.{Appends, Consumes, IsAtEnd, Keeps, Answer, Command, Geometry, Line, ResultCode, Machine, Running, Saved, Up, Down, candidates}
-use Rattle.runs.proofs.Names.{Reply, Nothing, BadLine, Told, Turn, Replies, lines_of, reply_text, output_of, second, Says, bad_line, Image, Disk, LeavesOnly}
-use Rattle.runs.proofs.Names.{leaves_weaker, started, Parts, View, Power, DenotesOne, saved_of, IsCaused, Serves, Stands, disk_of, RunFault, LineBuffer, Holds}
-use Rattle.runs.proofs.Names.{IsOneLine, AppendsFront, AreFirst, AreLines, AreSeen, AreTurnsOf, BeginsWith, Does, IsCutShort, IsLeftIn, IsRunOf, IsToldBy}
-use Rattle.runs.proofs.Names.{IsTurnOf, EndsBy, RunsOver, RunsSeen, lines_in, tells_fault, told_code, Ended, IsWritten, SoFar, Stopped, StopsBy, TakesLine}
-use Rattle.runs.proofs.Names.{TakesTurn}
+use Rattle.runs.proofs.Names.{Reply, Nothing, BadLine, Reported, Turn, Replies, lines_of, reply_text, output_of, second, Says, bad_line, Image, Disk}
+use Rattle.runs.proofs.Names.{LeavesOnly, leaves_weaker, started, Parts, View, Power, DenotesOne, saved_of, IsCaused, Serves, Stands, disk_of, RunFault}
+use Rattle.runs.proofs.Names.{LineBuffer, Holds, IsOneLine, AppendsFront, AreFirst, AreLines, AreSeen, AreTurnsOf, BeginsWith, Does, IsCutShort, IsLeftIn}
+use Rattle.runs.proofs.Names.{IsRunOf, IsReportedBy, IsTurnOf, EndsBy, RunsOver, RunsSeen, lines_in, tells_fault, reported_code, Ended, IsWritten, SoFar}
+use Rattle.runs.proofs.Names.{Stopped, StopsBy, TakesLine, TakesTurn}
 use Rattle.model.specs.declared.answer.Answer.TheVariants as answer
 use Rattle.model.specs.declared.answer.Refusal.TheVariants as refusal
 use Rattle.model.specs.declared.line.Line.TheVariants as line
@@ -25,21 +25,21 @@ split_one g size c (s ∷ ss) ts one = ⊎_elim (λ here. inl (inl here)) (λ th
 -- ---- failures
 
 -- an answer tells of a failure exactly where there was one
-answer_told : (old new : Disk) (a : Answer) → IsCaused old new a → IsToldBy old new (Told a)
-answer_told old new a caused = record {
+answer_reported : (old new : Disk) (a : Answer) → IsCaused old new a → IsReportedBy old new (Reported a)
+answer_reported old new a caused = record {
   later = caused.later;
-  exact = (λ told. caused.exact.0 (is_fault a told), λ rose. subst (λ (b : Answer). tells_fault (Told b) ≡ true) (sym (caused.exact.1 rose)) refl);
+  exact = (λ reported. caused.exact.0 (is_fault a reported), λ rose. subst (λ (b : Answer). tells_fault (Reported b) ≡ true) (sym (caused.exact.1 rose)) refl);
 }
   where
-    is_fault : (b : Answer) → tells_fault (Told b) ≡ true → b ≡ answer.Refused refusal.Fault
-    is_fault (answer.Refused refusal.Fault) told = refl
-    is_fault _ told = cc
+    is_fault : (b : Answer) → tells_fault (Reported b) ≡ true → b ≡ answer.Refused refusal.Fault
+    is_fault (answer.Refused refusal.Fault) reported = refl
+    is_fault _ reported = cc
 
 -- where no call is made none fails
-none_told : (disk : Disk) (reply : Reply) → tells_fault reply ≡ false → IsToldBy disk disk reply
-none_told disk reply fine = record {
+none_reported : (disk : Disk) (reply : Reply) → tells_fault reply ≡ false → IsReportedBy disk disk reply
+none_reported disk reply fine = record {
   later = omega arith;
-  exact = (λ told. let never : true ≡ false = sym told ∙ fine in cc, λ rose. absurd (omega (arith, rose)));
+  exact = (λ reported. let never : true ≡ false = sym reported ∙ fine in cc, λ rose. absurd (omega (arith, rose)));
 }
 
 -- ---- what an observer saw
@@ -74,7 +74,7 @@ module _ {D S O : Type 0} (disk : D → Disk) (view : S → View D) (parts : S �
       LeavesOnly (disk_of disk view parts p) (disk_of disk view parts p) (DenotesOne g (disk_of disk view parts p).sectors (candidates m))
   here g (Up r) (power.Up l) stands =
       subst (λ (x : Running). LeavesOnly (disk (view l.store).beneath) (disk (view l.store).beneath) (DenotesOne g (disk (view l.store).beneath).sectors (x.saved ∷ []))) (sym stands.1)
-      (started (disk (view l.store).beneath) (DenotesOne g (disk (view l.store).beneath).sectors (saved_of (view l.store).aside.saved ∷ [])) (only_now (view l.store).beneath) stands.0.leaves)
+      (started (disk (view l.store).beneath) (DenotesOne g (disk (view l.store).beneath).sectors (saved_of (view l.store).snapshots.saved ∷ [])) (only_now (view l.store).beneath) stands.0.leaves)
   here g (Down saved) (power.Down d) stands = started (disk d) (DenotesOne g (disk d).sectors saved) (only_now d) stands
   here g (Down saved) (power.Up l) stands = absurd stands
   here g (Up r) (power.Down d) stands = absurd stands
@@ -95,7 +95,7 @@ module _ {D S O : Type 0} (disk : D → Disk) (view : S → View D) (parts : S �
         size = refl;
         any_moment = leaves_weaker {old = d} {new = d} {P = DenotesOne g size (candidates m)}
             (λ c. DenotesOne g size (candidates m) c ⊎ ((command : Command) × (says ≡ line.Command command) × DenotesOne g size (second m command) c)) (λ c one. inl one) (here g m p stands);
-        faults = none_told d reply fine;
+        faults = none_reported d reply fine;
         on = on;
         is_seen = is_seen;
         writes = writes;
@@ -116,15 +116,15 @@ module _ {D S O : Type 0} (disk : D → Disk) (view : S → View D) (parts : S �
 
   pub answered : (g : Geometry) (m : Machine) (text : List ℕ) (says : Line) (c : Command) (a : Answer) (code : Option ResultCode) (p q : Power D S) (before seen : O) (on : Bool)
       (written wrote : Option (List ℕ)) (result : Result Bool RunFault) → says ≡ line.Command c → Says text says →
-      Stands disk view parts g p m → Serves disk view parts p c a q → IsCaused (disk_of disk view parts p) (disk_of disk view parts q) a → code ≡ told_code g m c a →
-      ((t : Turn) → Says t.line (line.Command c) → t.reply ≡ Told a → told_code g t.before c a ≡ code → sees g t before seen on) →
-      IsWritten written wrote result on (reply_text (Told a)) → TakesTurn disk view parts sees g m text says p q before seen written wrote result
+      Stands disk view parts g p m → Serves disk view parts p c a q → IsCaused (disk_of disk view parts p) (disk_of disk view parts q) a → code ≡ reported_code g m c a →
+      ((t : Turn) → Says t.line (line.Command c) → t.reply ≡ Reported a → reported_code g t.before c a ≡ code → sees g t before seen on) →
+      IsWritten written wrote result on (reply_text (Reported a)) → TakesTurn disk view parts sees g m text says p q before seen written wrote result
   answered g m text says c a code p q before seen on written wrote result is said stands serves caused coded saw writes =
       let s = serves g m stands in
       let old = disk_of disk view parts p in
       let new = disk_of disk view parts q in
       subst (λ (x : Line). TakesTurn disk view parts sees g m text x p q before seen written wrote result) (sym is) (record {
-        reply = Told a;
+        reply = Reported a;
         after = s.after;
         replies = (a, refl, s.step);
         stands = s.stands;
@@ -132,9 +132,9 @@ module _ {D S O : Type 0} (disk : D → Disk) (view : S → View D) (parts : S �
         any_moment = leaves_weaker {old = old} {new = new} {P = DenotesOne g old.sectors (candidates m ++ second m c)}
             (λ x. DenotesOne g old.sectors (candidates m) x ⊎ ((command : Command) × (line.Command c ≡ line.Command command) × DenotesOne g old.sectors (second m command) x))
             (λ x one. ⊎_elim (λ first. inl first) (λ last. inr (c, refl, last)) (split_one g old.sectors x (candidates m) (second m c) one)) s.leaves.any_moment;
-        faults = answer_told old new a caused;
+        faults = answer_reported old new a caused;
         on = on;
-        is_seen = saw (record { line = text; before = m; reply = Told a; after = s.after }) (subst (Says text) is said) refl (sym coded);
+        is_seen = saw (record { line = text; before = m; reply = Reported a; after = s.after }) (subst (Says text) is said) refl (sym coded);
         writes = writes;
       })
 
@@ -220,7 +220,7 @@ module _ {D S O : Type 0} (disk : D → Disk) (view : S → View D) (parts : S �
       front = so_far.turns;
       last = turn_of;
       turns_are = refl;
-      told = cut.0;
+      reported = cut.0;
       cut = cut.1;
       answer = cut.2;
       written = appends_more output written wrote (output_of so_far.turns) cut.0 so_far.written cut.3;
@@ -464,7 +464,7 @@ module _ {D S O : Type 0} (disk : D → Disk) (view : S → View D) (parts : S �
       (is_empty : Bool) (tells : (l : List ℕ) → Holds line l → (IsTrue is_empty ↔ (l ≡ []))) (some : is_empty ≡ false) (result : Result Bool RunFault)
       (turn : (g : Geometry) (m : Machine) (held : List ℕ) → Stands disk view parts g k m → Holds line held → TakesLine disk view parts sees g m held k new before seen written wrote result) where
     not_none : (l : List ℕ) → Holds line l → l ≡ [] → ⊥
-    not_none l held none = let told : IsTrue is_empty = (tells l held).1 none in cc
+    not_none l held none = let reported : IsTrue is_empty = (tells l held).1 none in cc
 
     pub rest_ends : result ≡ Ok true → (g : Geometry) (m : Machine) (start : Power D S) (begins : O) (text : List ℕ) (output : Option (List ℕ)) →
         SoFar disk view parts sees g m start k begins before text line output written → Ended disk view parts sees g m start new begins seen text output wrote

@@ -1,6 +1,6 @@
 -- Runs of a script over a kernel.
 use Rattle.runs.specs.Names.{◌≡◌, ◌⊎◌, ◌↔◌, ℕ, ◌<◌, ◌≤◌, Bool, true, false, List, [], ◌∷◌, ◌++◌, map, Option, Result, Ok, Err, All, flat_map, Appends, Consumes}
-use Rattle.runs.specs.Names.{IsAtEnd, Command, Geometry, Line, IsClosed, Machine, Running, Up, candidates, Reply, Told, Turn, IsRun, lines_of, reply_text}
+use Rattle.runs.specs.Names.{IsAtEnd, Command, Geometry, Line, IsClosed, Machine, Running, Up, candidates, Reply, Reported, Turn, IsRun, lines_of, reply_text}
 use Rattle.runs.specs.Names.{output_of, second, Says, line_of, object_at, Image, Disk, LeavesOnly, IsKept, IsLineBy, with_free, Parts, View, Power, DenotesOne}
 use Rattle.runs.specs.Names.{Stands, disk_of, RunFault, IsOneLine}
 use Rattle.model.specs.declared.answer.Answer.TheVariants as answer
@@ -10,7 +10,7 @@ use Rattle.script.specs.declared.fault.RunFault.TheVariants as fault
 
 -- whether a line was answered `fault`
 abbrev pub tells_fault : Reply → Bool
-tells_fault (Told (answer.Refused refusal.Fault)) = true
+tells_fault (Reported (answer.Refused refusal.Fault)) = true
 tells_fault _ = false
 
 -- an image denotes what a command may save besides
@@ -50,10 +50,10 @@ pub record IsCutShort (turns : List Turn) (output output_left : Option (List ℕ
   pub front : List Turn
   pub last : Turn
   pub turns_are : turns ≡ front ++ last ∷ []
-  pub told : List ℕ
+  pub reported : List ℕ
   pub cut : List ℕ
-  pub answer : reply_text last.reply ≡ told ++ cut
-  pub written : Appends output output_left (output_of front ++ told)
+  pub answer : reply_text last.reply ≡ reported ++ cut
+  pub written : Appends output output_left (output_of front ++ reported)
 
 -- What a run with these turns read and wrote. At Ok all of the input was read, and each line of it is a turn whose
 -- answer was written. Where the reader failed the same holds of the lines read whole. Where the writer failed the
@@ -72,7 +72,7 @@ Does turns input input_left output output_left (Err fault.Stopped) =
     (text : List ℕ) × Consumes input input_left text × AreFirst text input_left (lines_in turns) × Appends output output_left (output_of turns)
 
 -- the device failed exactly where that was answered
-pub record IsToldBy (old new : Disk) (reply : Reply) : Type 0 where
+pub record IsReportedBy (old new : Disk) (reply : Reply) : Type 0 where
   pub later : old.failures ≤ new.failures
   pub exact : (tells_fault reply ≡ true) ↔ (old.failures < new.failures)
 
@@ -106,7 +106,7 @@ module _ {D S : Type 0} (disk : D → Disk) (view : S → View D) (parts : S →
     pub stands : Stands disk view parts g new t.after
     pub size : (disk_of disk view parts new).sectors ≡ (disk_of disk view parts old).sectors
     pub any_moment : LeavesOnly (disk_of disk view parts old) (disk_of disk view parts new) (IsLeftIn g (disk_of disk view parts old).sectors t)
-    pub faults : IsToldBy (disk_of disk view parts old) (disk_of disk view parts new) t.reply
+    pub faults : IsReportedBy (disk_of disk view parts old) (disk_of disk view parts new) t.reply
 
   -- one turn after another, and nothing besides
   abbrev pub AreTurnsOf : Geometry → Power D S → Power D S → List Turn → Type 0

@@ -4,11 +4,11 @@ pub use Rattle.confinement.specs.Confinement.{IsKept, IsLineBy, with_free}
 pub use Rattle.device.specs.Disk.{Disk, Image}
 pub use Rattle.device.specs.Moments.{LeavesOnly}
 pub use Rattle.kernel.specs.Power.{Power}
-pub use Rattle.kernel.specs.Standing.{Stands, disk_of, told_code}
+pub use Rattle.kernel.specs.Standing.{Stands, disk_of, reported_code}
 pub use Rattle.model.specs.Closed.{IsClosed}
 pub use Rattle.model.specs.Machine.{Machine, Running, Up, candidates}
 pub use Rattle.model.specs.OrderOutcome.{code_number}
-pub use Rattle.model.specs.Run.{BadLine, IsRun, Nothing, Replies, Reply, Told, Turn, lines_of, output_of, reply_text}
+pub use Rattle.model.specs.Run.{BadLine, IsRun, Nothing, Replies, Reply, Reported, Turn, lines_of, output_of, reply_text}
 pub use Rattle.model.specs.Step.{second}
 pub use Rattle.model.specs.Text.{Says, line_of, refusal_text, spaced}
 pub use Rattle.model.specs.World.{object_at}

@@ -6,7 +6,7 @@ use Rattle.model.specs.declared.line.Line.TheVariants as line
 use Rattle.script.specs.declared.fault.RunFault.TheVariants as fault
 use Rattle.runs.specs.declared.script_pieces.Piece.{Piece}
 use Rattle.runs.specs.declared.script_pieces.Piece.TheVariants as piece
-use Rattle.runs.specs.KernelRuns.{AreLines, AreSeen, IsCutShort, IsRunOf, IsToldBy, lines_in}
+use Rattle.runs.specs.KernelRuns.{AreLines, AreSeen, IsCutShort, IsRunOf, IsReportedBy, lines_in}
 
 -- bytes were read, or none
 abbrev pub ReadsPiece : Option (List ℕ) → Option (List ℕ) → List ℕ → Result Piece RunFault → Type 0
@@ -31,7 +31,7 @@ module _ {D S O : Type 0} (disk : D → Disk) (view : S → View D) (parts : S �
     pub size : (disk_of disk view parts new).sectors ≡ (disk_of disk view parts old).sectors
     pub any_moment : LeavesOnly (disk_of disk view parts old) (disk_of disk view parts new) (λ c. DenotesOne g (disk_of disk view parts old).sectors (candidates m) c
         ⊎ ((command : Command) × (says ≡ line.Command command) × DenotesOne g (disk_of disk view parts old).sectors (second m command) c))
-    pub faults : IsToldBy (disk_of disk view parts old) (disk_of disk view parts new) reply
+    pub faults : IsReportedBy (disk_of disk view parts old) (disk_of disk view parts new) reply
     pub on : Bool
     pub is_seen : sees g (record { line = text; before = m; reply = reply; after = after }) before seen on
     pub writes : IsWritten written wrote result on (reply_text reply)

@@ -1,7 +1,7 @@
 -- What a trace says of a run, and where a strict run ends.
 use Rattle.runs.specs.Names.{◌≡◌, ◌≢◌, ℕ, ◌+◌, ◌-◌, ◌^◌, min, Bool, true, false, Option, None, Some, List, [], ◌∷◌, ◌++◌, codes, decimal, Appends, Answer}
-use Rattle.runs.specs.Names.{Command, Geometry, ResultCode, code_number, Reply, Nothing, BadLine, Told, Turn, Says, line_of, refusal_text, spaced, LineFault}
-use Rattle.runs.specs.Names.{IsAnswerText, command_name, IsFaultOf, line_fault_text, AppendsFront, told_code}
+use Rattle.runs.specs.Names.{Command, Geometry, ResultCode, code_number, Reply, Nothing, BadLine, Reported, Turn, Says, line_of, refusal_text, spaced}
+use Rattle.runs.specs.Names.{LineFault, IsAnswerText, command_name, IsFaultOf, line_fault_text, AppendsFront, reported_code}
 use Rattle.model.specs.declared.answer.Answer.TheVariants as answer
 use Rattle.model.specs.declared.line.Line.TheVariants as line
 use Rattle.model.specs.declared.order.ResultCode.TheVariants as code
@@ -50,23 +50,23 @@ abbrev pub IsTrace : Geometry → ℕ → Turn → Reply → List ℕ → Type 0
 IsTrace g place t Nothing text = text ≡ []
 IsTrace g place t BadLine text =
     (why : LineFault) × IsFaultOf t.line why × (text ≡ line_of (spaced (place_text place ∷ cause_text (cause.BadLine why) ∷ [])))
-IsTrace g place t (Told a) text =
-    (c : Command) × Says t.line (line.Command c) × (outcome : List ℕ) × IsOutcome (told_code g t.before c a) a outcome
+IsTrace g place t (Reported a) text =
+    (c : Command) × Says t.line (line.Command c) × (outcome : List ℕ) × IsOutcome (reported_code g t.before c a) a outcome
     × (text ≡ line_of (spaced (place_text place ∷ (command_name c ++ codes ":") ∷ outcome ∷ [])))
 
 -- Where a strict run ends
 
 -- an answer, with its result code, is such a cause
 abbrev pub IsCauseIn : Answer → Option ResultCode → Cause → Type 0
-IsCauseIn a told (cause.BadLine why) = ⊥
-IsCauseIn a told (cause.Refused why) = a ≡ answer.Refused why
-IsCauseIn a told (cause.Code c) = (told ≡ Some c) × (c ≢ code.Done)
+IsCauseIn a reported (cause.BadLine why) = ⊥
+IsCauseIn a reported (cause.Refused why) = a ≡ answer.Refused why
+IsCauseIn a reported (cause.Code c) = (reported ≡ Some c) × (c ≢ code.Done)
 
 -- and a turn is one
 abbrev pub IsCauseOf : Geometry → Turn → Cause → Type 0
 IsCauseOf g t (cause.BadLine why) = (t.reply ≡ BadLine) × IsFaultOf t.line why
 IsCauseOf g t why =
-    (c : Command) × Says t.line (line.Command c) × (a : Answer) × (t.reply ≡ Told a) × IsCauseIn a (told_code g t.before c a) why
+    (c : Command) × Says t.line (line.Command c) × (a : Answer) × (t.reply ≡ Reported a) × IsCauseIn a (reported_code g t.before c a) why
 
 -- the run ends at this turn with this number exactly where it is strict and the turn is a cause
 abbrev pub Ends : Geometry → ℕ → Turn → Bool → Bool → Option Stop → Type 0

@@ -1,5 +1,5 @@
 -- What a run did that isn't committed.
-use Rattle.runs.specs.Names.{◌≡◌, Bool, true, false, Answer, Command, Geometry, Reply, Told, Turn, Says}
+use Rattle.runs.specs.Names.{◌≡◌, Bool, true, false, Answer, Command, Geometry, Reply, Reported, Turn, Says}
 use Rattle.model.specs.declared.answer.Answer.TheVariants as answer
 use Rattle.model.specs.declared.command.Command.TheVariants as command
 use Rattle.model.specs.declared.line.Line.TheVariants as line
@@ -20,7 +20,7 @@ unsaved_after c a old = old
 
 -- a line that is no command changes nothing
 abbrev pub NotesReply : Turn → Reply → Unsaved → Unsaved → Type 0
-NotesReply t (Told a) old new = (c : Command) × Says t.line (line.Command c) × (new ≡ unsaved_after c a old)
+NotesReply t (Reported a) old new = (c : Command) × Says t.line (line.Command c) × (new ≡ unsaved_after c a old)
 NotesReply t reply old new = new ≡ old
 
 -- what is noted of a turn; the run goes on

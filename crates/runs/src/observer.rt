@@ -1,9 +1,9 @@
 // What watches a run.
 ghost use Rattle.std.specs.Prelude.{◌≡◌, Bool, true, false, IfSome, option_map};
 ghost use Rattle.model.specs.declared.geometry.Geometry.{Geometry};
-ghost use Rattle.model.specs.Run.{BadLine, Nothing, Told, Turn};
+ghost use Rattle.model.specs.Run.{BadLine, Nothing, Reported, Turn};
 ghost use Rattle.model.specs.Text.{Says};
-ghost use Rattle.kernel.specs.Standing.{told_code};
+ghost use Rattle.kernel.specs.Standing.{reported_code};
 ghost use Rattle.script.specs.Lines.{IsTextOf};
 
 use model::{Answer, Command, Line, ResultCode};
@@ -32,7 +32,7 @@ pub trait Observer {
     /// Sees a command, its answer, and the result code of the order that an invocation gave.
     fn answer(&mut self, command: &Command, answer: &Answer, code: Option<ResultCode>) -> bool
         ensures seen { (g : Geometry) (t : Turn) → Says t.line (Line.Command command.now)
-            → t.reply ≡ Told answer.now → told_code g t.before command.now answer.now ≡ code
+            → t.reply ≡ Reported answer.now → reported_code g t.before command.now answer.now ≡ code
             → sees g t self.old self.new result }
         ensures goes_on { may_end ≡ false → result ≡ true };
 }

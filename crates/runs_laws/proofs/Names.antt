@@ -9,7 +9,7 @@ pub use Rattle.kernel.specs.Opening.{IsNoReason, Opens}
 pub use Rattle.kernel.specs.Power.{Power}
 pub use Rattle.kernel.specs.Standing.{Stands, disk_of}
 pub use Rattle.model.specs.Machine.{Down, Machine, Running, Saved, Up, candidates, opened}
-pub use Rattle.model.specs.Run.{IsRun, Replies, Reply, Told, Turn, output_of, reply_text}
+pub use Rattle.model.specs.Run.{IsRun, Replies, Reply, Reported, Turn, output_of, reply_text}
 pub use Rattle.model.specs.Step.{Answers, Outcome, Step, second}
 unfoldable pub use Rattle.model.specs.Step.{carried_out, refusal_of}
 pub use Rattle.model.specs.Text.{Says}

@@ -8,7 +8,7 @@ use Rattle.model.specs.declared.geometry.Geometry.{Geometry}
 use Rattle.model.specs.declared.line.Line.TheVariants as line
 use Rattle.model.specs.Closed.{IsClosed}
 use Rattle.model.specs.Machine.{Machine, Running, Saved, Up, candidates, opened}
-use Rattle.model.specs.Run.{Reply, Told, Turn, IsRun, output_of}
+use Rattle.model.specs.Run.{Reply, Reported, Turn, IsRun, output_of}
 use Rattle.model.specs.Step.{second}
 use Rattle.model.specs.Text.{Says}
 use Rattle.model.specs.World.{object_at}
@@ -27,8 +27,8 @@ use Rattle.runs.specs.KernelRuns.{IsRunOf, lines_in}
 
 -- neither memory ran out nor the device failed
 abbrev pub is_steady : Reply → Bool
-is_steady (Told (answer.Refused refusal.NoMemory)) = false
-is_steady (Told (answer.Refused refusal.Fault)) = false
+is_steady (Reported (answer.Refused refusal.NoMemory)) = false
+is_steady (Reported (answer.Refused refusal.Fault)) = false
 is_steady _ = true
 
 abbrev pub AreSteady : List Turn → Type 0

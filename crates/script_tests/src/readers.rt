@@ -30,7 +30,7 @@ struct Pieces<'a> {
     interrupts: bool,
     interrupted: bool,
     at_end: Option<ErrorKind>,
-    asked_otherwise: bool,
+    requested_otherwise: bool,
 }
 
 impl Pieces<'_> {
@@ -43,14 +43,14 @@ impl Pieces<'_> {
             interrupts,
             interrupted: false,
             at_end: None,
-            asked_otherwise: false,
+            requested_otherwise: false,
         }
     }
 }
 
 impl Read for Pieces<'_> {
     fn read(&mut self, buf: &mut [u8]) -> io::Result<usize> {
-        self.asked_otherwise = self.asked_otherwise || buf.len() != ASKED;
+        self.requested_otherwise = self.requested_otherwise || buf.len() != ASKED;
         self.interrupted = self.interrupts && !self.interrupted;
         if self.interrupted {
             return Err(io::Error::from(ErrorKind::Interrupted));
@@ -85,7 +85,7 @@ fn is_answered(
     let outcome = run_over(alloc, device_of(alloc, plain)?, &mut script, &mut answers)?;
     assert_eq!(rt; outcome, ends);
     assert_eq!(rt; answers.as_slice(), expected);
-    assert!(rt; !reader.asked_otherwise);
+    assert!(rt; !reader.requested_otherwise);
     Ok(())
 }
 

@@ -2,7 +2,7 @@
 use Rattle.sector_faults.proofs.Names.{◌≡◌, ℕ, ◌+◌, ◌-◌, ◌*◌, List, [], ◌∷◌, ◌++◌, length, replicate, take, drop, refl, sym, ap, subst, ◌∙◌, ⊎_elim}
 use Rattle.sector_faults.proofs.Names.{append_assoc, length-append, take_at, drop_at, arith, codes, length-replicate, Image, HomeRange, half_number, number}
 use Rattle.sector_faults.proofs.Names.{zeros, HasPlan, IsTooSmall, total_in, HasMark, IsPlan, Plan, ranges_bytes, superblock_bytes, unused, version_number}
-use Rattle.sector_faults.proofs.Names.{total_told}
+use Rattle.sector_faults.proofs.Names.{total_reported}
 
 long : (n : ℕ) → length (number n) ≡ 8
 unfolding number
@@ -82,5 +82,5 @@ module _ (size : ℕ) (image : Image) (p : Plan) (plan : HasPlan image size p) w
   pub not_small : IsTooSmall image size → ⊥
   not_small small = ⊎_elim
       (λ few. omega (arith, few, plan.least))
-      (λ less. let total : total_in (image 0) ≡ p.total = ap total_in plan.spelt ∙ total_told p plan.fits in omega (arith, less, total, plan.whole))
+      (λ less. let total : total_in (image 0) ≡ p.total = ap total_in plan.spelt ∙ total_reported p plan.fits in omega (arith, less, total, plan.whole))
       small

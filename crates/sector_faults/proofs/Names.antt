@@ -5,7 +5,7 @@ pub use Rattle.device.specs.Disk.{Image}
 pub use Rattle.layout.proofs.Directories.{directory_fits, entry_read, none_read, one_directory}
 pub use Rattle.layout.proofs.Halves.{half_within}
 pub use Rattle.layout.proofs.Images.{same_directory, same_header, same_plan}
-pub use Rattle.layout.proofs.Totals.{total_told}
+pub use Rattle.layout.proofs.Totals.{total_reported}
 unfoldable pub use Rattle.layout.specs.Bytes.{half_number, number, zeros}
 unfoldable pub use Rattle.layout.specs.Capability.{capability_bytes}
 pub use Rattle.layout.specs.Directory.{AllFitting, IsDirectory, IsEntry, entry_at}

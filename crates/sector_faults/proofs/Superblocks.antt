@@ -1,6 +1,6 @@
 -- What is wrong with the size of an image or with its superblock.
 use Rattle.sector_faults.proofs.Names.{◌≡◌, ℕ, ◌<◌, ◌≤◌, Bool, List, Result, Ok, Err, refl, sym, ap, subst, ◌∙◌, inl, inr, ⊎_elim, arith, IfErr, IfOk}
-use Rattle.sector_faults.proofs.Names.{if◌then◌else◌, lt-ltb, le-ltb, Image, HasPlan, IsTooSmall, total_in, IsPlan, Plan, superblock_bytes, total_told}
+use Rattle.sector_faults.proofs.Names.{if◌then◌else◌, lt-ltb, le-ltb, Image, HasPlan, IsTooSmall, total_in, IsPlan, Plan, superblock_bytes, total_reported}
 use Rattle.sector_faults.proofs.Names.{SectorFault, IsFault, BreaksSector}
 use Rattle.sector_faults.specs.declared.fault.SectorFault.TheVariants as fault
 
@@ -9,20 +9,20 @@ few_sectors size image few = (inl few, (refl, ap (λ (t : Bool). if t then 5 els
 
 module _ (size : ℕ) (image : Image) (sector : List ℕ) (is : sector ≡ image 0) (least : 5 ≤ size) where
   pub too_small : (needed : ℕ) → needed ≡ total_in sector → size < needed → IsFault size image (fault.Small size needed)
-  too_small needed told less =
-      let total : needed ≡ total_in (image 0) = told ∙ ap total_in is in
+  too_small needed reported less =
+      let total : needed ≡ total_in (image 0) = reported ∙ ap total_in is in
       (inr (omega (arith, total, less)), (refl, total ∙ ap (λ (t : Bool). if t then 5 else total_in (image 0)) (sym (le-ltb size 5 least)), less))
 
-  module _ (needed : ℕ) (told : needed ≡ total_in sector) (large : needed ≤ size) where
+  module _ (needed : ℕ) (reported : needed ≡ total_in sector) (large : needed ≤ size) where
     large_enough : IsTooSmall image size → ⊥
     large_enough small = ⊎_elim
         (λ few. omega (arith, few, least))
-        (λ less. let total : needed ≡ total_in (image 0) = told ∙ ap total_in is in omega (arith, less, total, large))
+        (λ less. let total : needed ≡ total_in (image 0) = reported ∙ ap total_in is in omega (arith, less, total, large))
         small
 
     total_fits : (p : Plan) → IsPlan p → sector ≡ superblock_bytes p → p.total ≤ size
     total_fits p fits spelt =
-        let total : needed ≡ p.total = told ∙ ap total_in spelt ∙ total_told p fits in
+        let total : needed ≡ p.total = reported ∙ ap total_in spelt ∙ total_reported p fits in
         omega (arith, total, large)
 
     pub plan_found : (r : Result Plan SectorFault) → IfOk r (λ p. sector ≡ superblock_bytes p) → IfOk r IsPlan → IfOk r (HasPlan image size)
@@ -45,5 +45,5 @@ module _ (size : ℕ) (image : Image) (sector : List ℕ) (is : sector ≡ image
 -- the superblock that was read lies on the device
 pub plan_fits : (size needed : ℕ) (sector : List ℕ) → needed ≡ total_in sector → needed ≤ size → (r : Result Plan SectorFault) → IfOk r (λ p. sector ≡ superblock_bytes p) → IfOk r IsPlan
     → IfOk r (λ p. IsPlan p × (p.total ≤ size))
-plan_fits size needed sector told large (Ok p) spelt fits = (fits, (let total : needed ≡ p.total = told ∙ ap total_in spelt ∙ total_told p fits in omega (arith, total, large)))
-plan_fits size needed sector told large (Err f) spelt fits = tt
+plan_fits size needed sector reported large (Ok p) spelt fits = (fits, (let total : needed ≡ p.total = reported ∙ ap total_in spelt ∙ total_reported p fits in omega (arith, total, large)))
+plan_fits size needed sector reported large (Err f) spelt fits = tt

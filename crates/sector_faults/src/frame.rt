@@ -10,7 +10,7 @@ ghost use Rattle.sector_faults.specs.Finding.{BreaksSlots, FitsOr};
 
 use crate::fault::FramePart;
 use crate::reading::number_at;
-use layout::{CAPABILITY_BYTES, Room, decode_capability, decode_frame};
+use layout::{CAPABILITY_BYTES, Scratch, decode_capability, decode_frame};
 use model::Geometry;
 
 // Where the first slot of a node's frame begins.
@@ -75,13 +75,13 @@ pub(crate) fn find_part(
     geometry: Geometry,
     number: u64,
     age: u64,
-    room: &mut Room,
+    scratch: &mut Scratch,
 ) -> Option<FramePart>
     requires size { length bytes.now ≡ 512 * frame_length geometry number }
     requires number { number < geometry.nodes + geometry.pages }
     ensures { FitsOr geometry age number bytes.now result }
 {
-    match decode_frame(bytes, geometry, number, age, room) {
+    match decode_frame(bytes, geometry, number, age, scratch) {
         Ok(_) => None,
         Err(_) => Some(frame_part(bytes, geometry, number, age)),
     }

@@ -3,7 +3,7 @@ ghost use Rattle.std.specs.Prelude.{◌≡◌, ◌+◌, ◌≤◌, ◌<◌, IfSo
 ghost use Rattle.std.specs.List.{All};
 ghost use Rattle.layout.specs.Directory.{IsDirectory, IsEntry};
 ghost use Rattle.layout.specs.Homes.{place_length};
-ghost use Rattle.layout.specs.Image.{frame_sector, seat_in, slot_beside, slot_in};
+ghost use Rattle.layout.specs.Image.{frame_sector, frame_slot_in, slot_beside, slot_in};
 ghost use Rattle.sector_faults.specs.Finding.{IsSlotOf};
 ghost use Rattle.frame_io.specs.Frames.{IsObject};
 
@@ -42,10 +42,10 @@ fn slot_beside(plan: &Superblock, entries: &[Entry], number: u64) -> Option<u64>
 }
 
 // The slot whose sectors have the frame of an object, if the frame isn't at home.
-fn seat_in(plan: &Superblock, entries: &[Entry], number: u64) -> Option<u64>
+fn frame_slot_in(plan: &Superblock, entries: &[Entry], number: u64) -> Option<u64>
     requires entries { All (IsEntry plan.now.geometry) entries.now }
     requires object { IsObject plan.now.geometry number }
-    ensures value { result ≡ seat_in plan.now entries.now number }
+    ensures value { result ≡ frame_slot_in plan.now entries.now number }
     ensures slot { IfSome result (λ slot. slot < plan.now.geometry.log) }
 {
     match slot_in(entries, number) {
@@ -67,7 +67,7 @@ pub(crate) fn frame_sector(
     ensures value { result ≡ frame_sector plan.now header.generation entries.now number }
     ensures inside { result + place_length plan.now number ≤ plan.now.total }
 {
-    match seat_in(plan, entries, number) {
+    match frame_slot_in(plan, entries, number) {
         Some(slot) => Log::new(plan).slot_sector(header.generation, slot),
         None => Home::new(plan).place(number),
     }

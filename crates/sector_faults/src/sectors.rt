@@ -19,7 +19,7 @@ use crate::reading::sectors;
 use crate::superblock::superblock_in;
 use ckpt_log::Log;
 use layout::{
-    CheckpointHeader, ENTRY_BYTES, Entry, NODE_FRAME_BYTES, Room, Shape, Superblock, total_in,
+    CheckpointHeader, ENTRY_BYTES, Entry, NODE_FRAME_BYTES, Scratch, Shape, Superblock, total_in,
     unpack_node,
 };
 use model::Geometry;
@@ -112,7 +112,7 @@ fn find_at(
     geometry: Geometry,
     number: u64,
     age: u64,
-    room: &mut Room,
+    scratch: &mut Scratch,
 ) -> Option<FramePart>
     requires shape { IsShapeFor geometry number shape }
     requires object { IsObject geometry number }
@@ -121,13 +121,13 @@ fn find_at(
         → FitsOr geometry age number (shaped_at image sector shape) result }
 {
     match shape {
-        Shape::Node => find_part(sectors(bytes, sector, 2), geometry, number, age, room),
+        Shape::Node => find_part(sectors(bytes, sector, 2), geometry, number, age, scratch),
         Shape::Packed(rank) => {
             let mut node = [0; NODE_FRAME_BYTES];
             unpack_node(sectors(bytes, sector, 8), rank as usize, &mut node);
-            find_part(&node, geometry, number, age, room)
+            find_part(&node, geometry, number, age, scratch)
         }
-        Shape::Page => find_part(sectors(bytes, sector, 9), geometry, number, age, room),
+        Shape::Page => find_part(sectors(bytes, sector, 9), geometry, number, age, scratch),
     }
 }
 
@@ -139,7 +139,7 @@ fn find_frame(
     header: CheckpointHeader,
     entries: &[Entry],
     number: u64,
-    room: &mut Room,
+    scratch: &mut Scratch,
 ) -> Result<(), SectorFault>
     requires size { length bytes.now ≡ 512 * size }
     requires inside { superblock.now.total ≤ size }
@@ -154,7 +154,7 @@ fn find_frame(
     let sector = frame_sector(superblock, header, entries, number);
     let geometry = superblock.geometry();
     let shape = superblock.shape(number);
-    match find_at(bytes, sector, shape, geometry, number, header.age, room) {
+    match find_at(bytes, sector, shape, geometry, number, header.age, scratch) {
         None => Ok(()),
         Some(part) => Err(SectorFault::Frame {
             number,
@@ -171,7 +171,7 @@ fn find_frames(
     superblock: &Superblock,
     header: CheckpointHeader,
     entries: &[Entry],
-    room: &mut Room,
+    scratch: &mut Scratch,
 ) -> Result<(), SectorFault>
     requires size { length bytes.now ≡ 512 * size }
     requires inside { superblock.now.total ≤ size }
@@ -185,7 +185,7 @@ fn find_frames(
 {
     let geometry = superblock.geometry();
     for number in 0..geometry.nodes + geometry.pages {
-        find_frame(bytes, size, superblock, header, entries, number, room)?;
+        find_frame(bytes, size, superblock, header, entries, number, scratch)?;
     }
     Ok(())
 }
@@ -196,7 +196,7 @@ pub fn find_in_sectors(
     bytes: &[u8],
     size: u64,
     entries: &mut [Entry],
-    room: &mut Room,
+    scratch: &mut Scratch,
 ) -> Result<(), SectorFault>
     requires size { length bytes.now ≡ 512 * size }
     requires entries { length entries.old ≡ 4096 }
@@ -207,5 +207,5 @@ pub fn find_in_sectors(
     let header = find_header(bytes, size, &superblock)?;
     let named = &mut entries[..header.entries as usize];
     find_directory(bytes, size, &superblock, header, named)?;
-    find_frames(bytes, size, &superblock, header, named, room)
+    find_frames(bytes, size, &superblock, header, named, scratch)
 }

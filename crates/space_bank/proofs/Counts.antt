@@ -71,8 +71,8 @@ pub numbers_fit : (p : Parts) (hs : List ObjectHeader) (h : Geometry) (count : �
 numbers_fit p hs h count table is fits same all =
     omega (arith, ap (λ (ks : List ObjectHeader). length ks) table, ap (λ (k : Geometry). k.nodes) same, ap (λ (k : Geometry). k.pages) same)
 
-pub room_told : (count room : ℕ) → SomeIff (Some room) (count + 2 < 2 ^ 64) (count + 2) → room ≡ count + 2
-room_told count room is = is.1
+pub room_replying : (count room : ℕ) → SomeIff (Some room) (count + 2 < 2 ^ 64) (count + 2) → room ≡ count + 2
+room_replying count room is = is.1
 
 -- what is counted, part by part
 module _ (g : Geometry) (os : List Object) (s : BanksState) (below : (b : ℕ) → IsTrue (is_bank (content_at os b)) → b < g.nodes)

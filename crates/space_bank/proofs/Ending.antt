@@ -3,7 +3,7 @@ use Rattle.space_bank.proofs.Names.{◌≡◌, ℕ, zero, suc, ◌+◌, ◌-◌,
 use Rattle.space_bank.proofs.Names.{subst, arith, ◌∙◌, IsTrue, if◌then◌else◌, slice_index, slice_index_or, All, eq-eqb, false_from_ne_true, false≢true}
 use Rattle.space_bank.proofs.Names.{take_rest, list_any_at, Capability, Geometry, Content, Object, chain, usage, header_at, AreCurrent, AreKeepable, free}
 use Rattle.space_bank.proofs.Names.{is_bank, is_free, is_root, limit_in, is_member, names_member, rescind, void_where, without, content_at, object_at}
-use Rattle.space_bank.proofs.Names.{AllDiffer, chain_banks, member_tail, free_rescinded, at_rescind, AreGivenUp, IsOnce, KeepsAside, Parts, frames_of}
+use Rattle.space_bank.proofs.Names.{AllDiffer, chain_banks, member_tail, free_rescinded, at_rescind, AreGivenUp, IsOnce, KeepsRest, Parts, frames_of}
 use Rattle.space_bank.proofs.Names.{objects_in, IsMapped, without_mapped, AreCounted, BanksState, KeepsObjects, CarriesOut, MayGiveUp, MayServe, marks_of}
 use Rattle.space_bank.proofs.Names.{IsRaised, is_marked}
 use Rattle.std.specs.Prelude.{nat_eq}
@@ -108,12 +108,12 @@ enough_used p s above list asks gives x member =
     omega (arith, asks.counted.usage x bank, gives.lowered x bank (gives.apart x member), all)
 
 -- what lies beside the objects where a set is given up
-module _ {S : Type 0} (parts : S → Parts) (Fetched Announced : S → ℕ → Type 0) (Leads : S → S → Type 0) where
-  pub ended_aside : (old new : S) (set : List ℕ) → AreGivenUp set (parts old) (parts new) → objects_in (parts new) ≡ rescind set (objects_in (parts old))
+module _ {S : Type 0} (parts : S → Parts) (Fetched Announced : S → ℕ → Type 0) (Continues : S → S → Type 0) where
+  pub ended_snapshots : (old new : S) (set : List ℕ) → AreGivenUp set (parts old) (parts new) → objects_in (parts new) ≡ rescind set (objects_in (parts old))
       → ((n : ℕ) → is_member set n ≡ true → is_free (content_at (objects_in (parts old)) n) ≡ false)
       → ((n : ℕ) → is_member set n ≡ false → Fetched old n → Fetched new n) → ((n : ℕ) → is_member set n ≡ false → Announced old n → Announced new n)
-      → Leads old new → KeepsObjects parts Fetched Announced Leads old new
-  ended_aside old new set given objects used fetched announced leads = record {
+      → Continues old new → KeepsObjects parts Fetched Announced Continues old new
+  ended_snapshots old new set given objects used fetched announced continues = record {
     count = given.header_count;
     renews = renews_rescinded (parts old) (parts new) set given objects used;
     touched = given.touched;
@@ -121,15 +121,15 @@ module _ {S : Type 0} (parts : S → Parts) (Fetched Announced : S → ℕ → T
     failures = given.failures;
     fetched = λ n used f. fetched n (stays n used) f;
     announced = λ n used f. announced n (stays n used) f;
-    leads = leads;
+    continues = continues;
   }
     where
       stays : (n : ℕ) → is_free (content_at (objects_in (parts new)) n) ≡ false → is_member set n ≡ false
       stays n used = used_stays set (objects_in (parts old)) n (sym (ap (λ (os : List Object). is_free (content_at os n)) objects) ∙ used)
 
-  pub aside_then_ended : (twice : (s t u : S) → Leads s t → Leads t u → Leads s u) (old mid new : S) → KeepsAside parts Fetched Announced Leads old mid
-      → SameFree (parts old) (parts mid) → KeepsObjects parts Fetched Announced Leads mid new → KeepsObjects parts Fetched Announced Leads old new
-  aside_then_ended twice old mid new a free b = record {
+  pub snapshots_then_ended : (twice : (s t u : S) → Continues s t → Continues t u → Continues s u) (old mid new : S) → KeepsRest parts Fetched Announced Continues old mid
+      → SameFree (parts old) (parts mid) → KeepsObjects parts Fetched Announced Continues mid new → KeepsObjects parts Fetched Announced Continues old new
+  snapshots_then_ended twice old mid new a free b = record {
     count = b.count ∙ a.count;
     renews = renews_after (parts old) (parts mid) (parts new) a.allocations free b.renews;
     touched = b.touched ∙ a.touched;
@@ -137,13 +137,13 @@ module _ {S : Type 0} (parts : S → Parts) (Fetched Announced : S → ℕ → T
     failures = b.failures ∙ a.failures;
     fetched = λ n used f. b.fetched n used (a.fetched n f);
     announced = λ n used f. b.announced n used (a.announced n f);
-    leads = twice old mid new a.leads b.leads;
+    continues = twice old mid new a.continues b.continues;
   }
 
-  pub aside_alone : (old new : S) → KeepsAside parts Fetched Announced Leads old new
+  pub snapshots_alone : (old new : S) → KeepsRest parts Fetched Announced Continues old new
       → ((n : ℕ) → is_free (content_at (objects_in (parts old)) n) ≡ false → is_free (content_at (objects_in (parts new)) n) ≡ false)
-      → KeepsObjects parts Fetched Announced Leads old new
-  aside_alone old new a stays = record {
+      → KeepsObjects parts Fetched Announced Continues old new
+  snapshots_alone old new a stays = record {
     count = a.count;
     renews = renews_none (parts old) (parts new) a.allocations stays;
     touched = a.touched;
@@ -151,7 +151,7 @@ module _ {S : Type 0} (parts : S → Parts) (Fetched Announced : S → ℕ → T
     failures = a.failures;
     fetched = λ n used f. a.fetched n f;
     announced = λ n used f. a.announced n f;
-    leads = a.leads;
+    continues = a.continues;
   }
 
 -- the rest of a list, as a slice of it

@@ -1,10 +1,10 @@
 -- What orders plan may be made.
 use Rattle.space_bank.proofs.Names.{◌≡◌, ◌≢◌, ℕ, ◌+◌, ◌<◌, ◌≤◌, Bool, true, false, not, List, [], ◌∷◌, Some, length, refl, sym, ap, subst, arith, ◌∙◌, IsTrue}
 use Rattle.space_bank.proofs.Names.{nat_lt, range_with_len, false≢true, ltb-true, Capability, Void, Number, Page, Node, Space, Process, Start, Resume, Bank}
-use Rattle.space_bank.proofs.Names.{Discrim, Geometry, Object, chain, are_free, free_nodes, free_pages, freed_by, has_room, owned_by, under, is_bank, is_free}
+use Rattle.space_bank.proofs.Names.{Discrim, Geometry, Object, chain, are_free, free_nodes, free_pages, freed_by, has_quota, owned_by, under, is_bank, is_free}
 use Rattle.space_bank.proofs.Names.{is_member, NamesItsKind, content_at, owner_at, member_head, member_tail, owner_bank, tree_of, freed_alike, owned_alike}
 use Rattle.space_bank.proofs.Names.{room_alike, under_alike, AllDiffer, filter_once, found_in, IsNow, SameFrame, tests_at, BankChange, Make, MakeProcess, Fresh}
-use Rattle.space_bank.proofs.Names.{IsFreshAt, New, count_of, is_deep, made_for, new_at, numbers_of, process_at, GivesUp, HandsOn, IsMadeUnder, MayGiveUp}
+use Rattle.space_bank.proofs.Names.{IsFreshAt, New, count_of, is_deep, made_for, new_at, numbers_of, process_at, GivesUp, Transfers, IsMadeUnder, MayGiveUp}
 use Rattle.space_bank.proofs.Names.{MayMake}
 use Rattle.capability.specs.declared.present.Fresh.TheVariants as fresh
 use Rattle.space_bank.specs.declared.planning_new.New.TheVariants as new
@@ -26,7 +26,7 @@ first_free : (os : List Object) (from count n : ℕ) (ns : List ℕ) → are_fre
 first_free os from count n ns are = free_among os from count n (ap (λ (xs : List ℕ). is_member xs n) are ∙ member_head n n ns refl)
 
 -- one new object, at the first of the free numbers
-one_may : (g : Geometry) (os : List Object) (b from count : ℕ) (f : Fresh) (c : BankChange) → IsTrue (is_bank (content_at os b)) → IsTrue (has_room os b 1)
+one_may : (g : Geometry) (os : List Object) (b from count : ℕ) (f : Fresh) (c : BankChange) → IsTrue (is_bank (content_at os b)) → IsTrue (has_quota os b 1)
     → ((n : ℕ) → IsFreeAmong os from count n → IsFreshAt g n f) → IsMadeUnder os b f → (ns : List ℕ) → are_free os (range_with_len from count) ≡ ns
     → new_at b f ns ≡ Some c → MayMake g os (numbers_of c) c
 one_may g os b from count f c bank room place kind [] are is = cc
@@ -36,7 +36,7 @@ one_may g os b from count f c bank room place kind (n ∷ ns) are is =
     subst (λ (x : BankChange). MayMake g os (numbers_of x) x) e (record { listed = refl; bank = bank; room = room; unused = free.unused; place = place n free; kind = kind })
 
 -- a new process, at the first two
-two_may : (g : Geometry) (os : List Object) (b : ℕ) (c : BankChange) → IsTrue (is_bank (content_at os b)) → IsTrue (has_room os b 2) → (ns : List ℕ)
+two_may : (g : Geometry) (os : List Object) (b : ℕ) (c : BankChange) → IsTrue (is_bank (content_at os b)) → IsTrue (has_quota os b 2) → (ns : List ℕ)
     → are_free os (range_with_len 0 g.nodes) ≡ ns → process_at b ns ≡ Some c → MayMake g os (numbers_of c) c
 two_may g os b c bank room [] are is = cc
 two_may g os b c bank room (r ∷ []) are is = cc
@@ -61,7 +61,7 @@ short_chain : (length_of : ℕ) (short : Bool) → nat_lt length_of 16 ≡ short
 short_chain n true is e = ltb-true n 16 is
 short_chain n false is e = cc
 
-new_may : (g : Geometry) (os : List Object) (b : ℕ) (c : BankChange) → IsTrue (is_bank (content_at os b)) → (kind : New) → IsTrue (has_room os b (count_of kind))
+new_may : (g : Geometry) (os : List Object) (b : ℕ) (c : BankChange) → IsTrue (is_bank (content_at os b)) → (kind : New) → IsTrue (has_quota os b (count_of kind))
     → made_for g os b kind ≡ Some c → is_deep os b kind ≡ false → MayMake g os (numbers_of c) c
 unfolding free_nodes free_pages
 new_may g os b c bank new.Page room some short =
@@ -90,7 +90,7 @@ module _ (g : Geometry) (os : List Object) (b : ℕ) (bank : IsTrue (is_bank (co
   bank_there : IsTrue (is_bank (content_at us b))
   bank_there = (tests_at os us frame b).bank ∙ bank
 
-  pub may_new : (kind : New) (c : BankChange) → has_room os b (count_of kind) ≡ true → made_for g os b kind ≡ Some c → is_deep os b kind ≡ false → MayMake g us (numbers_of c) c
+  pub may_new : (kind : New) (c : BankChange) → has_quota os b (count_of kind) ≡ true → made_for g os b kind ≡ Some c → is_deep os b kind ≡ false → MayMake g us (numbers_of c) c
   may_new kind c room some short =
       new_may g us b c bank_there kind (room_alike os us frame b (count_of kind) ∙ room) (made_alike os us frame g b kind ∙ some) (deep_alike os us frame g b kind ∙ short)
 
@@ -109,5 +109,5 @@ module _ (g : Geometry) (os : List Object) (b : ℕ) (bank : IsTrue (is_bank (co
             (subst (λ (ns : List ℕ). MayGiveUp us (owner_at us b) ns) (under_alike os us frame b) (destroyed_gives g us b now bank_there on));
       }
 
-  pub may_return : b ≢ 0 → HandsOn us (b ∷ owned_by os b) b
+  pub may_return : b ≢ 0 → Transfers us (b ∷ owned_by os b) b
   may_return on = record { bank = bank_there; other = on; listed = ap (λ (ns : List ℕ). b ∷ ns) (sym (owned_alike os us frame b)) }

@@ -1,27 +1,27 @@
 -- The names that the proofs here cite: of other crates, and of the definitions of this one.
-pub use Rattle.capability.proofs.Asides.{keeps_twice, looks_twice}
 pub use Rattle.capability.proofs.Frames.{bank_used, content_there, length_objects, owner_read}
 pub use Rattle.capability.proofs.Keeping.{keepable_at, keepable_count, keepable_later, keepable_roles}
 pub use Rattle.capability.proofs.KindNumbers.{bank_number, root_number}
 pub use Rattle.capability.proofs.Mapped.{mapped}
 pub use Rattle.capability.proofs.Roles.{role_bank, role_free, role_no_bank, role_read, role_used}
+pub use Rattle.capability.proofs.SnapshotLaws.{keeps_twice, only_reads_twice}
 pub use Rattle.capability.specs.Changes.{bank_changed, reply_of_code}
-pub use Rattle.capability.specs.Parts.{AreGivenUp, FreshFits, HaveTheirRoles, IsFreshAt, IsOnce, KeepsAside, LooksUp, Parts, Renews, frames_of, fresh_content}
-pub use Rattle.capability.specs.Parts.{objects_in}
+pub use Rattle.capability.specs.Parts.{AreGivenUp, FreshFits, HaveTheirRoles, IsFreshAt, IsOnce, KeepsRest, OnlyFetches, Parts, Renews, frames_of}
+pub use Rattle.capability.specs.Parts.{fresh_content, objects_in}
 pub use Rattle.capability.specs.declared.order.BankChange.{BankChange}
-pub use Rattle.capability.specs.declared.order.BankChange.TheVariants.{GiveUp, HandOn, Make, MakeProcess}
+pub use Rattle.capability.specs.declared.order.BankChange.TheVariants.{GiveUp, Make, MakeProcess, Transfer}
 pub use Rattle.capability.specs.declared.order.OrderPlan.{OrderPlan}
 pub use Rattle.capability.specs.declared.present.Fresh.{Fresh}
 pub use Rattle.model.specs.Bank.{chain_within, is_under}
 unfoldable pub use Rattle.model.specs.Bank.{chain, usage}
-pub use Rattle.model.specs.Banking.{allocated, are_free, bank_allocated, freed, freed_by, handed_on, least, left_of, new_annex, new_root, process_allocated}
-unfoldable pub use Rattle.model.specs.Banking.{free_nodes, free_pages, has_room, inherited, on_bank, owned_by, remaining, under, with_new}
+pub use Rattle.model.specs.Banking.{allocated, are_free, bank_allocated, freed, freed_by, least, left_of, new_annex, new_root, process_allocated, transferred}
+unfoldable pub use Rattle.model.specs.Banking.{free_nodes, free_pages, has_quota, inherited, on_bank, owned_by, remaining, under, with_new}
 pub use Rattle.model.specs.Capability.{full}
 pub use Rattle.model.specs.Frame.{conveyed, given_up, header_at, held_at}
 unfoldable pub use Rattle.model.specs.Frame.{frames_in, objects_of}
 pub use Rattle.model.specs.Keepable.{AreCurrent, AreKeepable, IsSoundFrames, world_at}
 pub use Rattle.model.specs.Object.{free, is_bank, is_free, is_root, limit_in, map_content, role_of, root_in}
-pub use Rattle.model.specs.OrderOutcome.{OrderOutcome, made, refused, told_three}
+pub use Rattle.model.specs.OrderOutcome.{OrderOutcome, made, refused, replying_three}
 pub use Rattle.model.specs.Revoke.{is_given_up, is_member, names_member, void_where, without}
 unfoldable pub use Rattle.model.specs.Revoke.{rescind}
 pub use Rattle.model.specs.Sound.{HasShape, IsOfKind, MayBeHeld, NamesItsKind, object_count}
@@ -74,8 +74,8 @@ pub use Rattle.std.specs.Prelude.{IfSome, IsTrue, if◌then◌else◌, nat_le, n
 pub use Rattle.std.specs.Vec.{vec_capacity}
 pub use Rattle.space_bank.specs.Allocating.{allocated_by, allocating, count_of, given_by, given_for, is_deep, made_for, new_at, new_of, numbers_of, process_at}
 pub use Rattle.space_bank.specs.Banks.{AreCounted, BanksState, KeepsObjects, MayAsk}
-pub use Rattle.space_bank.specs.Carrying.{AreHandedOn, CarriesOut, GivesUp, HandsOn, IsAlone, IsFreedOf, IsMadeUnder, IsPlanned, MayGiveUp, MayMake, MayServe}
-pub use Rattle.space_bank.specs.Carrying.{PlansAs, marks_of}
+pub use Rattle.space_bank.specs.Carrying.{AreTransferred, CarriesOut, GivesUp, IsAlone, IsFreedOf, IsMadeUnder, IsPlanned, MayGiveUp, MayMake, MayServe}
+pub use Rattle.space_bank.specs.Carrying.{PlansAs, Transfers, marks_of}
 pub use Rattle.space_bank.specs.Chains.{IsRaised}
 pub use Rattle.space_bank.specs.Counting.{AreKept, AreMarked, kept_number}
 pub use Rattle.space_bank.specs.Planning.{AreFree, HasNoneUsed, IsBankOf, IsNextUsed, annex_among, annex_of}

@@ -1,28 +1,28 @@
 -- Objects that are handed on to another bank, one after another.
 use Rattle.space_bank.proofs.Names.{◌≡◌, inl, inr, ℕ, ◌+◌, ◌<◌, ◌||◌, Bool, true, false, List, take, length, refl, sym, ap, ◌∙◌, if◌then◌else◌, slice_index}
 use Rattle.space_bank.proofs.Names.{slice_set, cases_eq, eq-eqb, ne_eqb, get_or-set_other, get_or-set_same, length-set, list_any_more, Capability, Content}
-use Rattle.space_bank.proofs.Names.{Object, free, is_free, is_member, content_at, object_at, AreHandedOn}
+use Rattle.space_bank.proofs.Names.{Object, free, is_free, is_member, content_at, object_at, AreTransferred}
 use Rattle.std.specs.Prelude.{nat_eq}
 
 -- an object with another owner, where it is handed on
-abbrev pub handed : Bool → ℕ → Object → Object
-handed goes b o = if goes then record { owner = b; content = o.content } else o
+abbrev pub transferred : Bool → ℕ → Object → Object
+transferred goes b o = if goes then record { owner = b; content = o.content } else o
 
-pub handed_content : (goes : Bool) (b : ℕ) (o : Object) → (handed goes b o).content ≡ o.content
-handed_content true b o = refl
-handed_content false b o = refl
+pub transferred_content : (goes : Bool) (b : ℕ) (o : Object) → (transferred goes b o).content ≡ o.content
+transferred_content true b o = refl
+transferred_content false b o = refl
 
 -- objects that are handed on hold what they held
-pub handed_same : (list : List ℕ) (b : ℕ) (os us : List Object) → AreHandedOn list b os us → (n : ℕ) → content_at us n ≡ content_at os n
-handed_same list b os us are n = ap (λ (o : Object). o.content) (are.each n) ∙ handed_content (is_member list n) b (object_at os n)
+pub transferred_same : (list : List ℕ) (b : ℕ) (os us : List Object) → AreTransferred list b os us → (n : ℕ) → content_at us n ≡ content_at os n
+transferred_same list b os us are n = ap (λ (o : Object). o.content) (are.each n) ∙ transferred_content (is_member list n) b (object_at os n)
 
-pub handed_used : (list : List ℕ) (b : ℕ) (os us : List Object) → AreHandedOn list b os us → (n : ℕ) → is_free (content_at os n) ≡ false → is_free (content_at us n) ≡ false
-handed_used list b os us are n used = ap (λ (c : Content Capability). is_free c) (handed_same list b os us are n) ∙ used
+pub transferred_used : (list : List ℕ) (b : ℕ) (os us : List Object) → AreTransferred list b os us → (n : ℕ) → is_free (content_at os n) ≡ false → is_free (content_at us n) ≡ false
+transferred_used list b os us are n used = ap (λ (c : Content Capability). is_free c) (transferred_same list b os us are n) ∙ used
 
 -- one more of a list
-pub handed_more : (list : List ℕ) (i b : ℕ) (os us vs : List Object) → i < length list → slice_index list i < length us → AreHandedOn (take i list) b os us
-    → vs ≡ slice_set us (slice_index list i) (record { owner = b; content = content_at us (slice_index list i) }) → AreHandedOn (take (i + 1) list) b os vs
-handed_more list i b os us vs inside known are is =
+pub transferred_more : (list : List ℕ) (i b : ℕ) (os us vs : List Object) → i < length list → slice_index list i < length us → AreTransferred (take i list) b os us
+    → vs ≡ slice_set us (slice_index list i) (record { owner = b; content = content_at us (slice_index list i) }) → AreTransferred (take (i + 1) list) b os vs
+transferred_more list i b os us vs inside known are is =
     let m = slice_index list i in
     let next : Object = record { owner = b; content = content_at us m } in
     record {
@@ -36,12 +36,12 @@ handed_more list i b os us vs inside known are is =
                 let here : object_at (slice_set us m next) n ≡ next = ap (λ (k : ℕ). object_at (slice_set us m next) k) e ∙ get_or-set_same us m next free known in
                 here
                 ∙ (ap (λ (c : Content Capability). let o : Object = record { owner = b; content = c } in o)
-                (handed_same (take i list) b os us are m ∙ ap (λ (k : ℕ). content_at os k) (sym e))
-                ∙ sym (ap (λ (goes : Bool). handed goes b (object_at os n)) now))
+                (transferred_same (take i list) b os us are m ∙ ap (λ (k : ℕ). content_at os k) (sym e))
+                ∙ sym (ap (λ (goes : Bool). transferred goes b (object_at os n)) now))
             | inr differ ↦
                 let same : is_member (take (i + 1) list) n ≡ is_member (take i list) n =
                 more ∙ (ap (λ b. is_member (take i list) n || b) (ne_eqb n m differ) ∙ neither (is_member (take i list) n)) in
-                get_or-set_other us m n next free differ ∙ (are.each n ∙ sym (ap (λ (goes : Bool). handed goes b (object_at os n)) same))
+                get_or-set_other us m n next free differ ∙ (are.each n ∙ sym (ap (λ (goes : Bool). transferred goes b (object_at os n)) same))
           ];
     }
   where

@@ -2,13 +2,13 @@
 use Rattle.space_bank.proofs.Names.{◌≡◌, ◌+◌, ◌<◌, ◌≤◌, ◌++◌, ◌∙◌, ℕ, Bool, true, false, List, [], ◌∷◌, None, Some, length, refl, sym, ap, subst, arith, IsTrue}
 use Rattle.space_bank.proofs.Names.{if◌then◌else◌, nat_lt, eq-eqb, ne_eqb, append-nil, length-append, Capability, Void, Number, Page, Node, Space, Process}
 use Rattle.space_bank.proofs.Names.{Start, Resume, Bank, Discrim, Geometry, Content, Object, Arguments, BankOrder, ResultCode, chain, usage, allocated}
-use Rattle.space_bank.proofs.Names.{bank_allocated, free_nodes, free_pages, freed, freed_by, has_room, inherited, on_bank, owned_by, process_allocated}
-use Rattle.space_bank.proofs.Names.{remaining, under, with_new, full, OrderOutcome, made, refused, told_three, is_bank, is_root, limit_in, rescind, MayBeHeld}
-use Rattle.space_bank.proofs.Names.{content_at, owner_at, BankChange, OrderPlan, Fresh, bank_changed, reply_of_code, HaveTheirRoles, Parts, frames_of}
-use Rattle.space_bank.proofs.Names.{fresh_content, objects_in, freed_alike, nodes_alike, owned_alike, pages_alike, remaining_alike, room_alike, under_alike}
-use Rattle.space_bank.proofs.Names.{IsNow, SameFrame, chain_same, frame_refl, usage_same, keepable_count, keepable_roles, root_number, New, allocated_by}
-use Rattle.space_bank.proofs.Names.{allocating, count_of, given_by, given_for, is_deep, made_for, new_at, new_of, numbers_of, process_at, BanksState, MayAsk}
-use Rattle.space_bank.proofs.Names.{IsPlanned, MayMake, PlansAs, IsBankOf, annex_among, annex_of}
+use Rattle.space_bank.proofs.Names.{bank_allocated, free_nodes, free_pages, freed, freed_by, has_quota, inherited, on_bank, owned_by, process_allocated}
+use Rattle.space_bank.proofs.Names.{remaining, under, with_new, full, OrderOutcome, made, refused, replying_three, is_bank, is_root, limit_in, rescind}
+use Rattle.space_bank.proofs.Names.{MayBeHeld, content_at, owner_at, BankChange, OrderPlan, Fresh, bank_changed, reply_of_code, HaveTheirRoles, Parts}
+use Rattle.space_bank.proofs.Names.{frames_of, fresh_content, objects_in, freed_alike, nodes_alike, owned_alike, pages_alike, remaining_alike, room_alike}
+use Rattle.space_bank.proofs.Names.{under_alike, IsNow, SameFrame, chain_same, frame_refl, usage_same, keepable_count, keepable_roles, root_number, New}
+use Rattle.space_bank.proofs.Names.{allocated_by, allocating, count_of, given_by, given_for, is_deep, made_for, new_at, new_of, numbers_of, process_at}
+use Rattle.space_bank.proofs.Names.{BanksState, MayAsk, IsPlanned, MayMake, PlansAs, IsBankOf, annex_among, annex_of}
 use Rattle.std.specs.Prelude.{not}
 use Rattle.model.specs.declared.object.Content.TheVariants as content
 use Rattle.model.specs.declared.order.BankOrder.TheVariants as bank
@@ -36,8 +36,8 @@ module _ (g : Geometry) (os : List Object) (b : ℕ) (order : BankOrder) (args :
       → ((us : List Object) → SameFrame os us → IsNow g us → MayMake g us list x) → plan ≡ making c x → PlansAs g os b order args list plan
   made_as list c x is may plans = subst (λ (q : OrderPlan). PlansAs g os b order args list q) (sym plans) (record { outcome = is; may = may })
 
-  pub told_as : (x y z : ℕ) → ((us : List Object) → SameFrame os us → on_bank g us b order args ≡ told_three us x y z) → plan ≡ answer (x ∷ y ∷ z ∷ []) → PlansAs g os b order args [] plan
-  told_as x y z is plans = subst (λ (q : OrderPlan). PlansAs g os b order args [] q) (sym plans) (record { outcome = is; may = λ us frame now. refl })
+  pub replying_as : (x y z : ℕ) → ((us : List Object) → SameFrame os us → on_bank g us b order args ≡ replying_three us x y z) → plan ≡ answer (x ∷ y ∷ z ∷ []) → PlansAs g os b order args [] plan
+  replying_as x y z is plans = subst (λ (q : OrderPlan). PlansAs g os b order args [] q) (sym plans) (record { outcome = is; may = λ us frame now. refl })
 
 -- what is planned as a list of numbers, and listed
 module _ (p : Parts) (b : ℕ) (order : BankOrder) (args : Arguments) (first list : List ℕ) (plan : OrderPlan) where
@@ -78,19 +78,19 @@ unfolding on_bank
 allocating_is g os b bank.NewPage args kind is =
     let e : new.Page ≡ kind = cc in
     subst (λ (k : New). on_bank g os b bank.NewPage args ≡ allocating g os b k) e
-    (ap (λ (o : OrderOutcome). if has_room os b 1 then o else refused os code.Limit) (one_allocated os b fresh.Page (λ n. Page n full) (λ n. refl) (free_pages g os)))
+    (ap (λ (o : OrderOutcome). if has_quota os b 1 then o else refused os code.Limit) (one_allocated os b fresh.Page (λ n. Page n full) (λ n. refl) (free_pages g os)))
 allocating_is g os b bank.NewNode args kind is =
     let e : new.Node ≡ kind = cc in
     subst (λ (k : New). on_bank g os b bank.NewNode args ≡ allocating g os b k) e
-    (ap (λ (o : OrderOutcome). if has_room os b 1 then o else refused os code.Limit) (one_allocated os b fresh.Node (λ n. Node n full) (λ n. refl) (free_nodes g os)))
+    (ap (λ (o : OrderOutcome). if has_quota os b 1 then o else refused os code.Limit) (one_allocated os b fresh.Node (λ n. Node n full) (λ n. refl) (free_nodes g os)))
 allocating_is g os b bank.NewProcess args kind is =
     let e : new.Process ≡ kind = cc in
     subst (λ (k : New). on_bank g os b bank.NewProcess args ≡ allocating g os b k) e
-    (ap (λ (o : OrderOutcome). if has_room os b 2 then o else refused os code.Limit) (two_allocated os b (free_nodes g os)))
+    (ap (λ (o : OrderOutcome). if has_quota os b 2 then o else refused os code.Limit) (two_allocated os b (free_nodes g os)))
 allocating_is g os b bank.NewBank args kind is =
     let e : new.Bank args.first ≡ kind = cc in
     subst (λ (k : New). on_bank g os b bank.NewBank args ≡ allocating g os b k) e
-    (ap (λ (o : OrderOutcome). if has_room os b 1 then o else refused os code.Limit) (deep_allocated os b args.first (free_nodes g os)))
+    (ap (λ (o : OrderOutcome). if has_quota os b 1 then o else refused os code.Limit) (deep_allocated os b args.first (free_nodes g os)))
 allocating_is g os b bank.Free args kind is = cc
 allocating_is g os b bank.Destroy args kind is = cc
 allocating_is g os b bank.ReturnToParent args kind is = cc
@@ -112,18 +112,18 @@ module _ (os us : List Object) (frame : SameFrame os us) (g : Geometry) (b : ℕ
 
 -- by the tests that the code makes
 module _ (g : Geometry) (os : List Object) (b : ℕ) (order : BankOrder) (args : Arguments) (kind : New) (is : new_of order args ≡ Some kind) (us : List Object) (frame : SameFrame os us) where
-  pub new_limit : has_room os b (count_of kind) ≡ false → on_bank g us b order args ≡ refused us code.Limit
+  pub new_limit : has_quota os b (count_of kind) ≡ false → on_bank g us b order args ≡ refused us code.Limit
   new_limit full = allocating_is g us b order args kind is ∙ rw (room_alike os us frame b (count_of kind), full) refl
 
-  pub new_none : has_room os b (count_of kind) ≡ true → made_for g os b kind ≡ None → on_bank g us b order args ≡ refused us code.NoFrame
+  pub new_none : has_quota os b (count_of kind) ≡ true → made_for g os b kind ≡ None → on_bank g us b order args ≡ refused us code.NoFrame
   new_none room none = allocating_is g us b order args kind is ∙ rw (room_alike os us frame b (count_of kind), room, made_alike os us frame g b kind, none) refl
 
-  pub new_deep : (c : BankChange) → has_room os b (count_of kind) ≡ true → made_for g os b kind ≡ Some c → is_deep os b kind ≡ true → on_bank g us b order args ≡ refused us code.TooDeep
+  pub new_deep : (c : BankChange) → has_quota os b (count_of kind) ≡ true → made_for g os b kind ≡ Some c → is_deep os b kind ≡ true → on_bank g us b order args ≡ refused us code.TooDeep
   new_deep c room some deep =
       allocating_is g us b order args kind is
       ∙ rw (room_alike os us frame b (count_of kind), room, made_alike os us frame g b kind, some, deep_alike os us frame g b kind, deep) refl
 
-  pub new_made : (c : BankChange) → has_room os b (count_of kind) ≡ true → made_for g os b kind ≡ Some c → is_deep os b kind ≡ false
+  pub new_made : (c : BankChange) → has_quota os b (count_of kind) ≡ true → made_for g os b kind ≡ Some c → is_deep os b kind ≡ false
       → on_bank g us b order args ≡ made (bank_changed us (numbers_of c) c) (numbers_of c) (given_by c)
   new_made c room some short =
       allocating_is g us b order args kind is
@@ -167,9 +167,9 @@ module _ (g : Geometry) (os : List Object) (b : ℕ) (args : Arguments) where
   unfolding on_bank
   return_all other = rw (ne_eqb b 0 other) refl
 
-  pub remaining_told : on_bank g os b bank.Remaining args ≡ told_three os (remaining os b) (usage os b) (limit_in (content_at os b))
+  pub remaining_replying : on_bank g os b bank.Remaining args ≡ replying_three os (remaining os b) (usage os b) (limit_in (content_at os b))
   unfolding on_bank
-  remaining_told = refl
+  remaining_replying = refl
 
 -- the same where the frame is the same, by what was read before
 module _ (g : Geometry) (os : List Object) (b : ℕ) (args : Arguments) (us : List Object) (frame : SameFrame os us) where
@@ -190,8 +190,8 @@ module _ (g : Geometry) (os : List Object) (b : ℕ) (args : Arguments) (us : Li
   pub return_there : (b ≡ 0 → ⊥) → on_bank g us b bank.ReturnToParent args ≡ made (rescind (b ∷ []) (inherited us b)) (b ∷ owned_by os b) Void
   return_there other = return_all g us b args other ∙ ap (λ (ns : List ℕ). made (rescind (b ∷ []) (inherited us b)) (b ∷ ns) Void) (owned_alike os us frame b)
 
-  pub remaining_there : on_bank g us b bank.Remaining args ≡ told_three us (remaining os b) (usage os b) (limit_in (content_at os b))
-  remaining_there = remaining_told g us b args ∙ rw (remaining_alike os us frame b, usage_same os us frame b, (frame.alike b).limit) refl
+  pub remaining_there : on_bank g us b bank.Remaining args ≡ replying_three us (remaining os b) (usage os b) (limit_in (content_at os b))
+  remaining_there = remaining_replying g us b args ∙ rw (remaining_alike os us frame b, usage_same os us frame b, (frame.alike b).limit) refl
 
 -- what a bank that is asked leaves room for, and what its frames are
 module _ (p : Parts) (s : BanksState) (b : ℕ) (h : IsBankOf p s b) where
@@ -233,5 +233,5 @@ annex_kept p s b (Bank m) h sent = refl
 annex_kept p s b Discrim h sent = refl
 
 -- a bank that may be asked is one
-pub bank_asked : (p : Parts) (s : BanksState) (b : ℕ) (args : Arguments) → MayAsk p s b args → IsBankOf p s b
-bank_asked p s b args h = record { sound = h.sound; counted = h.counted; bank = h.bank }
+pub bank_requested : (p : Parts) (s : BanksState) (b : ℕ) (args : Arguments) → MayAsk p s b args → IsBankOf p s b
+bank_requested p s b args h = record { sound = h.sound; counted = h.counted; bank = h.bank }

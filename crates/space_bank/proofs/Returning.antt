@@ -1,13 +1,13 @@
 -- A bank that is returned to its parent.
 use Rattle.space_bank.proofs.Names.{◌≡◌, ◌≢◌, inl, inr, ℕ, zero, suc, ◌+◌, ◌-◌, ◌^◌, ◌<◌, ◌≤◌, ◌==◌, ◌&&◌, Bool, true, false, not, List, [], ◌∷◌, drop, length}
 use Rattle.space_bank.proofs.Names.{refl, sym, ap, subst, add-one, arith, ◌∙◌, IsTrue, if◌then◌else◌, slice_index, slice_set, All, cases_Bool, cases_eq}
-use Rattle.space_bank.proofs.Names.{false_from_ne_true, false≢true, ext_get_or, get_or-set_other, get_or-set_same, length-map, Object, chain, usage, handed_on}
-use Rattle.space_bank.proofs.Names.{inherited, owned_by, header_at, AreCurrent, AreKeepable, free, is_bank, is_free, is_member, rescind, content_at, object_at}
-use Rattle.space_bank.proofs.Names.{owner_at, owned_found, used_where, returned_fits, usage_returned, chain_banks, chain_once, member_head, member_tail}
-use Rattle.space_bank.proofs.Names.{owner_bank, all_members, found_in, only_member, stands_in, at_map, Parts, frames_of, objects_in, AreCounted, BanksState}
-use Rattle.space_bank.proofs.Names.{AreHandedOn, CarriesOut, MayServe, is_marked}
+use Rattle.space_bank.proofs.Names.{false_from_ne_true, false≢true, ext_get_or, get_or-set_other, get_or-set_same, length-map, Object, chain, usage}
+use Rattle.space_bank.proofs.Names.{transferred, inherited, owned_by, header_at, AreCurrent, AreKeepable, free, is_bank, is_free, is_member, rescind}
+use Rattle.space_bank.proofs.Names.{content_at, object_at, owner_at, owned_found, used_where, returned_fits, usage_returned, chain_banks, chain_once}
+use Rattle.space_bank.proofs.Names.{member_head, member_tail, owner_bank, all_members, found_in, only_member, stands_in, at_map, Parts, frames_of, objects_in}
+use Rattle.space_bank.proofs.Names.{AreCounted, BanksState, AreTransferred, CarriesOut, MayServe, is_marked}
 use Rattle.space_bank.proofs.Ending.{IsReleased, counted_gone}
-use Rattle.space_bank.proofs.Owners.{handed_same}
+use Rattle.space_bank.proofs.Owners.{transferred_same}
 use Rattle.space_bank.proofs.Standing.{few_allocations, few_calls, serve_now, serve_tree}
 
 -- lists
@@ -65,15 +65,15 @@ owned_member os b n inside =
           false_from_ne_true _ (λ member. false≢true (sym fails ∙ (found_in test 0 (length os) n member).2)) ∙ sym fails
     ]
 
-pub inherited_by : (os us : List Object) (b : ℕ) → AreHandedOn (owned_by os b) (owner_at os b) os us → us ≡ inherited os b
+pub inherited_by : (os us : List Object) (b : ℕ) → AreTransferred (owned_by os b) (owner_at os b) os us → us ≡ inherited os b
 unfolding inherited
 inherited_by os us b are =
-    let change : Object → Object = handed_on b (owner_at os b) in
-    ext_get_or free us (inherited os b) (are.size ∙ sym (length-map os (handed_on b (owner_at os b))))
+    let change : Object → Object = transferred b (owner_at os b) in
+    ext_get_or free us (inherited os b) (are.size ∙ sym (length-map os (transferred b (owner_at os b))))
     (λ n inside.
     are.each n
     ∙ (ap (λ t. if t then record { owner = owner_at os b; content = content_at os n } else object_at os n) (owned_member os b n (omega (arith, are.size)))
-    ∙ sym (at_map (handed_on b (owner_at os b)) os n free refl)))
+    ∙ sym (at_map (transferred b (owner_at os b)) os n free refl)))
 
 module _ (p : Parts) (s : BanksState) (b : ℕ) (asks : MayServe p s b) (on : b ≢ 0) where
   abbrev before : List Object
@@ -89,14 +89,14 @@ module _ (p : Parts) (s : BanksState) (b : ℕ) (asks : MayServe p s b) (on : b 
       omega (arith, asks.counted.usage x bank, returned_fits p.geometry before b (serve_now p s b asks) asks.bank on x differ, all)
 
   -- what is left once the bank is gone
-  pub returned_carried : (q : Parts) (t : BanksState) (us : List Object) → AreHandedOn (owned_by before b) (owner_at before b) before us
+  pub returned_carried : (q : Parts) (t : BanksState) (us : List Object) → AreTransferred (owned_by before b) (owner_at before b) before us
       → IsReleased (chain before (owner_at before b)) 1 s t (b ∷ []) → objects_in q ≡ rescind (b ∷ []) us → AreCurrent (frames_of q)
       → ((age : ℕ) → age + 1 < 2 ^ 64 → AreKeepable p.geometry age (frames_of p) → AreKeepable p.geometry (age + 1) (frames_of q)) → CarriesOut p q t
   returned_carried q t us are released objects current keepable =
       let is = inherited_by before us b are in
       record {
         counted = subst (λ (vs : List Object). AreCounted p.geometry vs t) (sym objects)
-            (counted_gone p.geometry before us s t (b ∷ []) (chain before (owner_at before b)) 1 asks.counted (handed_same (owned_by before b) (owner_at before b) before us are) released
+            (counted_gone p.geometry before us s t (b ∷ []) (chain before (owner_at before b)) 1 asks.counted (transferred_same (owned_by before b) (owner_at before b) before us are) released
             (λ x bank stays.
             let differ : x ≢ b = λ e. false≢true (sym stays ∙ member_head x b [] e) in
             let after : usage (rescind (b ∷ []) us) x ≡ usage (rescind (b ∷ []) (inherited before b)) x = ap (λ (vs : List Object). usage (rescind (b ∷ []) vs) x) is in
@@ -112,10 +112,10 @@ module _ (p : Parts) (s : BanksState) (b : ℕ) (asks : MayServe p s b) (on : b 
 
   -- the bank's counts can rise after what it owns is handed on
   module _ (q : Parts) (keepable : (age : ℕ) → AreKeepable p.geometry age (frames_of p) → AreKeepable p.geometry age (frames_of q)) (known : b < length q.headers) where
-    pub handed_allocations : (header_at q.headers b).allocations < 2 ^ 64 - 1
-    handed_allocations =
+    pub transferred_allocations : (header_at q.headers b).allocations < 2 ^ 64 - 1
+    transferred_allocations =
         omega (arith, few_allocations p.geometry asks.sound.0 q (keepable asks.sound.0 asks.sound.1.keepable) b known, asks.sound.1.sound.age)
 
-    pub handed_calls : (header_at q.headers b).calls < 2 ^ 64 - 1
-    handed_calls =
+    pub transferred_calls : (header_at q.headers b).calls < 2 ^ 64 - 1
+    transferred_calls =
         omega (arith, few_calls p.geometry asks.sound.0 q (keepable asks.sound.0 asks.sound.1.keepable) b known, asks.sound.1.sound.age)

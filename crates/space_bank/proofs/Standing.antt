@@ -1,6 +1,6 @@
 -- What sound frames that are counted tell of their objects.
 use Rattle.space_bank.proofs.Names.{◌≡◌, ◌≢◌, ℕ, ◌+◌, ◌^◌, ◌<◌, ◌≤◌, true, false, List, length, refl, sym, ap, arith, ◌∙◌, IsTrue, nat_le, slice_index}
-use Rattle.space_bank.proofs.Names.{leb-true, Cap, Capability, Frame, Geometry, Content, Object, chain, usage, has_room, conveyed, header_at, held_at}
+use Rattle.space_bank.proofs.Names.{leb-true, Cap, Capability, Frame, Geometry, Content, Object, chain, usage, has_quota, conveyed, header_at, held_at}
 use Rattle.space_bank.proofs.Names.{objects_of, AreKeepable, IsSoundFrames, world_at, is_bank, is_free, limit_in, map_content, role_of, is_member, HasShape}
 use Rattle.space_bank.proofs.Names.{IsOfKind, object_count, content_at, IsTree, chain_banks, tree_of, member_passes, IsNow, IsFramed, nearly_from, Parts}
 use Rattle.space_bank.proofs.Names.{frames_of, objects_in, content_there, keepable_at, keepable_count, BanksState, MayServe}
@@ -61,8 +61,8 @@ limit_shape (content.Annex registers) shape = omega arith
 limit_shape (content.Bank limit) shape = shape
 
 -- room in a chain
-pub room_within : (os : List Object) (b count x : ℕ) → IsTrue (has_room os b count) → is_member (chain os b) x ≡ true → usage os x + count ≤ limit_in (content_at os x)
-unfolding has_room
+pub room_within : (os : List Object) (b count x : ℕ) → IsTrue (has_quota os b count) → is_member (chain os b) x ≡ true → usage os x + count ≤ limit_in (content_at os x)
+unfolding has_quota
 room_within os b count x room member =
     leb-true (usage os x + count) (limit_in (content_at os x))
     (member_passes (λ c. nat_le (usage os c + count) (limit_in (content_at os c))) (chain os b) x room member)
@@ -81,7 +81,7 @@ module _ (p : Parts) (s : BanksState) (b : ℕ) (asks : MayServe p s b) where
   serve_count = keepable_count p.geometry asks.sound.0 p asks.sound.1.keepable
 
   -- what a chain accounts for stays a number of 64 bits
-  pub room_fits : (count : ℕ) → IsTrue (has_room (objects_in p) b count) → (x : ℕ) → is_member (chain (objects_in p) b) x ≡ true →
+  pub room_fits : (count : ℕ) → IsTrue (has_quota (objects_in p) b count) → (x : ℕ) → is_member (chain (objects_in p) b) x ≡ true →
       slice_index s.usages x + count < 2 ^ 64
   room_fits count room x member =
       let os = objects_in p in

@@ -1,7 +1,7 @@
 -- Chains of banks, walked from owner to owner.
 use Rattle.space_bank.proofs.Names.{◌≡◌, ◌+◌, ◌-◌, ◌<◌, ◌≤◌, ◌∙◌, ℕ, suc, Bool, true, false, List, [], ◌∷◌, length, map, min, nat_eq, refl, sym, ap, subst}
 use Rattle.space_bank.proofs.Names.{arith, IsTrue, nat_le, slice_index, list_all, list_any, eq-eqb, le-leb, lt-leb, ne_eqb, ObjectHeader, Object, chain}
-use Rattle.space_bank.proofs.Names.{chain_within, usage, has_room, least, left_of, remaining, is_bank, limit_in, content_at, owner_at, Parts, objects_in}
+use Rattle.space_bank.proofs.Names.{chain_within, usage, has_quota, least, left_of, remaining, is_bank, limit_in, content_at, owner_at, Parts, objects_in}
 use Rattle.space_bank.proofs.Names.{bank_used, length_objects, bank_number, BanksState, IsBankOf}
 
 -- a number past which the table has none, and before which it has all
@@ -64,8 +64,8 @@ module _ (os : List Object) (i b sought : ℕ) (other : b ≡ sought → ⊥) wh
 abbrev pub fits : List Object → ℕ → ℕ → Bool
 fits os count c = nat_le (usage os c + count) (limit_in (content_at os c))
 
-pub room_begun : (os : List Object) (b count : ℕ) → has_room os b count ≡ list_all (fits os count) (chain_within (16 - 0) os b)
-unfolding has_room
+pub room_begun : (os : List Object) (b count : ℕ) → has_quota os b count ≡ list_all (fits os count) (chain_within (16 - 0) os b)
+unfolding has_quota
 room_begun os b count = ap (list_all (fits os count)) (chain_begun os b)
 
 pub room_refused : (os : List Object) (i b count : ℕ) → i < 16 → left_of os b < count → list_all (fits os count) (chain_within (16 - i) os b) ≡ false

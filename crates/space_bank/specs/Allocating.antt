@@ -1,6 +1,6 @@
 -- The four orders that allocate, as one.
 use Rattle.space_bank.specs.Names.{ℕ, nat_lt, Bool, false, not, if◌then◌else◌, Option, None, Some, List, [], ◌∷◌, length, Capability, Void, Page, Node, Process}
-use Rattle.space_bank.specs.Names.{Bank, Geometry, Object, Arguments, BankOrder, chain, free_nodes, free_pages, has_room, full, OrderOutcome, made, refused}
+use Rattle.space_bank.specs.Names.{Bank, Geometry, Object, Arguments, BankOrder, chain, free_nodes, free_pages, has_quota, full, OrderOutcome, made, refused}
 use Rattle.space_bank.specs.Names.{BankChange, Fresh, bank_changed}
 use Rattle.model.specs.declared.order.BankOrder.TheVariants as order
 use Rattle.model.specs.declared.order.ResultCode.TheVariants as code
@@ -48,7 +48,7 @@ abbrev pub numbers_of : BankChange → List ℕ
 numbers_of (bank.Make n f b) = n ∷ []
 numbers_of (bank.MakeProcess r a b) = r ∷ a ∷ []
 numbers_of (bank.GiveUp above) = []
-numbers_of (bank.HandOn b) = []
+numbers_of (bank.Transfer b) = []
 
 abbrev pub given_for : ℕ → Fresh → Capability
 given_for n fresh.Page = Page n full
@@ -61,7 +61,7 @@ abbrev pub given_by : BankChange → Capability
 given_by (bank.Make n f b) = given_for n f
 given_by (bank.MakeProcess r a b) = Process r
 given_by (bank.GiveUp above) = Void
-given_by (bank.HandOn b) = Void
+given_by (bank.Transfer b) = Void
 
 -- whether it is a bank under a chain of 16 banks
 abbrev pub is_deep : List Object → ℕ → New → Bool
@@ -76,4 +76,4 @@ allocated_by os deep None = refused os code.NoFrame
 allocated_by os deep (Some c) = if deep then refused os code.TooDeep else made (bank_changed os (numbers_of c) c) (numbers_of c) (given_by c)
 
 abbrev pub allocating : Geometry → List Object → ℕ → New → OrderOutcome
-allocating g os b n = if has_room os b (count_of n) then allocated_by os (is_deep os b n) (made_for g os b n) else refused os code.Limit
+allocating g os b n = if has_quota os b (count_of n) then allocated_by os (is_deep os b n) (made_for g os b n) else refused os code.Limit

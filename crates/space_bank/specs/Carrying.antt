@@ -1,6 +1,6 @@
 -- What the orders of a bank ask, and what they leave.
 use Rattle.space_bank.specs.Names.{◌≡◌, ◌≢◌, [], ◌∷◌, ℕ, ◌+◌, ◌^◌, ◌<◌, ◌++◌, Bool, true, false, List, length, slice_index, if◌then◌else◌, IsTrue, Capability}
-use Rattle.space_bank.specs.Names.{Geometry, Object, Arguments, BankOrder, chain, usage, freed_by, has_room, on_bank, owned_by, AreCurrent, AreKeepable}
+use Rattle.space_bank.specs.Names.{Geometry, Object, Arguments, BankOrder, chain, usage, freed_by, has_quota, on_bank, owned_by, AreCurrent, AreKeepable}
 use Rattle.space_bank.specs.Names.{is_bank, is_free, is_member, rescind, MayBeHeld, content_at, object_at, owner_at, IsNow, SameFrame, BankChange, Change}
 use Rattle.space_bank.specs.Names.{OrderPlan, Fresh, outcome_by, AreSound, IsFreshAt, IsOnce, Parts, frames_of, objects_in}
 use Rattle.capability.specs.declared.order.BankChange.TheVariants as bank
@@ -48,7 +48,7 @@ pub record MayGiveUp (os : List Object) (above : ℕ) (list : List ℕ) : Type 0
       usage (rescind list os) x + (if is_member (chain os above) x then length list else 0) ≡ usage os x
 
 -- objects that a list names are a bank's, and the others as they were
-pub record AreHandedOn (list : List ℕ) (b : ℕ) (old new : List Object) : Type 0 where
+pub record AreTransferred (list : List ℕ) (b : ℕ) (old new : List Object) : Type 0 where
   pub size : length new ≡ length old
   pub each : (n : ℕ) → object_at new n ≡ (if is_member list n then record { owner = b; content = content_at old n } else object_at old n)
 
@@ -64,7 +64,7 @@ IsMadeUnder os b fresh.Annex = ⊥
 pub record MakesOne (g : Geometry) (os : List Object) (list : List ℕ) (n : ℕ) (f : Fresh) (b : ℕ) : Type 0 where
   pub listed : list ≡ n ∷ []
   pub bank : IsTrue (is_bank (content_at os b))
-  pub room : IsTrue (has_room os b 1)
+  pub room : IsTrue (has_quota os b 1)
   pub unused : IsTrue (is_free (content_at os n))
   pub place : IsFreshAt g n f
   pub kind : IsMadeUnder os b f
@@ -72,7 +72,7 @@ pub record MakesOne (g : Geometry) (os : List Object) (list : List ℕ) (n : ℕ
 pub record MakesTwo (g : Geometry) (os : List Object) (list : List ℕ) (r a b : ℕ) : Type 0 where
   pub listed : list ≡ r ∷ a ∷ []
   pub bank : IsTrue (is_bank (content_at os b))
-  pub room : IsTrue (has_room os b 2)
+  pub room : IsTrue (has_quota os b 2)
   pub unused : IsTrue (is_free (content_at os r))
   pub annex_unused : IsTrue (is_free (content_at os a))
   pub two : a ≢ r
@@ -83,7 +83,7 @@ pub record GivesUp (os : List Object) (list : List ℕ) (above : ℕ) : Type 0 w
   pub bank : IsTrue (is_bank (content_at os above))
   pub gives : MayGiveUp os above list
 
-pub record HandsOn (os : List Object) (list : List ℕ) (b : ℕ) : Type 0 where
+pub record Transfers (os : List Object) (list : List ℕ) (b : ℕ) : Type 0 where
   pub bank : IsTrue (is_bank (content_at os b))
   pub other : b ≢ 0
   pub listed : list ≡ b ∷ owned_by os b
@@ -93,7 +93,7 @@ abbrev pub MayMake : Geometry → List Object → List ℕ → BankChange → Ty
 MayMake g os list (bank.Make n f b) = MakesOne g os list n f b
 MayMake g os list (bank.MakeProcess r a b) = MakesTwo g os list r a b
 MayMake g os list (bank.GiveUp above) = GivesUp os list above
-MayMake g os list (bank.HandOn b) = HandsOn os list b
+MayMake g os list (bank.Transfer b) = Transfers os list b
 
 -- a change that an order of a bank may make
 abbrev pub IsForBank : Geometry → List Object → List ℕ → Change → Type 0

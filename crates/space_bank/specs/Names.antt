@@ -7,7 +7,7 @@ pub use Rattle.capability.specs.declared.order.OrderPlan.{OrderPlan}
 pub use Rattle.capability.specs.declared.present.Fresh.{Fresh}
 unfoldable pub use Rattle.model.specs.Bank.{chain, usage}
 pub use Rattle.model.specs.Banking.{freed_by}
-unfoldable pub use Rattle.model.specs.Banking.{free_nodes, free_pages, has_room, on_bank, owned_by}
+unfoldable pub use Rattle.model.specs.Banking.{free_nodes, free_pages, has_quota, on_bank, owned_by}
 pub use Rattle.model.specs.Capability.{full}
 pub use Rattle.model.specs.Keepable.{AreCurrent, AreKeepable}
 pub use Rattle.model.specs.Object.{is_bank, is_free, limit_in, root_in}

@@ -1,7 +1,7 @@
 // What the banks of a chain account for, where objects of one of them come and go.
 ghost use Rattle.std.specs.Prelude.{◌≡◌, ℕ, ◌≤◌, true, slice_index, IsTrue};
 ghost use Rattle.model.specs.Bank.{chain};
-ghost use Rattle.model.specs.Banking.{has_room};
+ghost use Rattle.model.specs.Banking.{has_quota};
 ghost use Rattle.model.specs.Revoke.{is_member};
 ghost use Rattle.capability.specs.Parts.{objects_in};
 ghost use Rattle.space_bank.specs.Carrying.{MayServe};
@@ -16,7 +16,7 @@ impl Banks {
     /// limits is passed.
     pub(crate) fn account<F: PresentFrames>(&mut self, store: &F, bank: u64, count: u64)
         requires asks { MayServe (F.parts store.now) self.old bank }
-        requires room { IsTrue (has_room (objects_in (F.parts store.now)) bank count) }
+        requires room { IsTrue (has_quota (objects_in (F.parts store.now)) bank count) }
         ensures usages { IsRaised (chain (objects_in (F.parts store.now)) bank) count
             self.old.usages self.new.usages }
         ensures kept { self.new ≡ record self.old { usages = self.new.usages } }

@@ -1,12 +1,12 @@
 // New objects of a bank.
 ghost use Rattle.std.specs.Prelude.{◌≡◌, ◌≢◌, ℕ, ◌+◌, ◌<◌, false, length, slice_set, IsTrue};
 ghost use Rattle.model.specs.Bank.{chain};
-ghost use Rattle.model.specs.Banking.{has_room, new_annex, new_root, with_new};
+ghost use Rattle.model.specs.Banking.{has_quota, new_annex, new_root, with_new};
 ghost use Rattle.model.specs.Frame.{header_at};
 ghost use Rattle.model.specs.Keepable.{AreCurrent, AreKeepable};
 ghost use Rattle.model.specs.Object.{is_free};
 ghost use Rattle.model.specs.World.{content_at};
-ghost use Rattle.capability.specs.Parts.{FreshFits, IsFreshAt, KeepsAside, frames_of, fresh_content, objects_in};
+ghost use Rattle.capability.specs.Parts.{FreshFits, IsFreshAt, KeepsRest, frames_of, fresh_content, objects_in};
 ghost use Rattle.space_bank.specs.Carrying.{CarriesOut, IsAlone, MayServe, marks_of};
 
 use crate::banks::Banks;
@@ -26,7 +26,7 @@ impl Banks {
         bank: u64,
     )
         requires asks { MayServe (F.parts store.old) self.old bank }
-        requires room { IsTrue (has_room (objects_in (F.parts store.old)) bank 1) }
+        requires room { IsTrue (has_quota (objects_in (F.parts store.old)) bank 1) }
         requires free { IsTrue
             (is_free (content_at (objects_in (F.parts store.old)) number)) }
         requires alone { IsAlone fresh }
@@ -37,7 +37,7 @@ impl Banks {
             ≡ with_new (objects_in (F.parts store.old)) number bank
             (fresh_content Capability.Void fresh) }
         ensures carried { CarriesOut (F.parts store.old) (F.parts store.new) self.new }
-        ensures aside { KeepsAside F.parts F.IsFetched F.IsAnnounced F.LeadsTo store.old store.new }
+        ensures snapshots { KeepsRest F.parts F.IsFetched F.IsAnnounced F.ContinuesTo store.old store.new }
     {
         self.account(store, bank, 1);
         self.make(store, number, fresh, bank);
@@ -53,7 +53,7 @@ impl Banks {
         bank: u64,
     )
         requires asks { MayServe (F.parts store.old) self.old bank }
-        requires room { IsTrue (has_room (objects_in (F.parts store.old)) bank 2) }
+        requires room { IsTrue (has_quota (objects_in (F.parts store.old)) bank 2) }
         requires free { IsTrue
             (is_free (content_at (objects_in (F.parts store.old)) root)) }
         requires annex_free { IsTrue
@@ -70,7 +70,7 @@ impl Banks {
             (with_new (objects_in (F.parts store.old)) root bank (new_root annex)) annex
             bank new_annex }
         ensures carried { CarriesOut (F.parts store.old) (F.parts store.new) self.new }
-        ensures aside { KeepsAside F.parts F.IsFetched F.IsAnnounced F.LeadsTo store.old store.new }
+        ensures snapshots { KeepsRest F.parts F.IsFetched F.IsAnnounced F.ContinuesTo store.old store.new }
     {
         self.account(store, bank, 2);
         self.make(store, root, Fresh::Root { annex }, bank);
@@ -82,7 +82,7 @@ impl Banks {
     /// reached, and that has fewer than 16 banks.
     pub fn sub_bank<F: PresentFrames>(&mut self, store: &mut F, number: u64, bank: u64, limit: u64)
         requires asks { MayServe (F.parts store.old) self.old bank }
-        requires room { IsTrue (has_room (objects_in (F.parts store.old)) bank 1) }
+        requires room { IsTrue (has_quota (objects_in (F.parts store.old)) bank 1) }
         requires short { length (chain (objects_in (F.parts store.old)) bank) < 16 }
         requires free { IsTrue
             (is_free (content_at (objects_in (F.parts store.old)) number)) }
@@ -93,7 +93,7 @@ impl Banks {
             ≡ with_new (objects_in (F.parts store.old)) number bank
             (Content.Bank limit) }
         ensures carried { CarriesOut (F.parts store.old) (F.parts store.new) self.new }
-        ensures aside { KeepsAside F.parts F.IsFetched F.IsAnnounced F.LeadsTo store.old store.new }
+        ensures snapshots { KeepsRest F.parts F.IsFetched F.IsAnnounced F.ContinuesTo store.old store.new }
     {
         self.account(store, bank, 1);
         self.make(store, number, Fresh::Bank { limit }, bank);
@@ -117,7 +117,7 @@ impl Banks {
         ensures keepable { (age : ℕ) → FreshFits fresh
             → AreKeepable (F.parts store.old).geometry age (frames_of (F.parts store.old))
             → AreKeepable (F.parts store.old).geometry age (frames_of (F.parts store.new)) }
-        ensures aside { KeepsAside F.parts F.IsFetched F.IsAnnounced F.LeadsTo store.old store.new }
+        ensures snapshots { KeepsRest F.parts F.IsFetched F.IsAnnounced F.ContinuesTo store.old store.new }
         ensures nodes { length self.new.free_nodes ≡ length self.old.free_nodes }
         ensures pages { length self.new.free_pages ≡ length self.old.free_pages }
         ensures marks { marks_of self.new ≡ slice_set (marks_of self.old) number false }

@@ -6,7 +6,7 @@ ghost use Rattle.model.specs.Keepable.{AreKeepable};
 ghost use Rattle.model.specs.Object.{is_bank as counts_as_bank, limit_in};
 ghost use Rattle.model.specs.World.{content_at};
 ghost use Rattle.model_laws.proofs.BankTree.{IsTree};
-ghost use Rattle.capability.specs.Parts.{AreSound, HaveTheirRoles, Looks, LooksUp, frames_of, objects_in};
+ghost use Rattle.capability.specs.Parts.{AreSound, HaveTheirRoles, OnlyReads, OnlyFetches, frames_of, objects_in};
 ghost use Rattle.space_bank.specs.Banks.{AreCounted};
 ghost use Rattle.space_bank.specs.Counting.{AreKept, AreMarked, kept_number};
 
@@ -76,7 +76,7 @@ fn read_number<F: PresentFrames>(
         (frames_of (F.parts store.old)) }
     ensures kept { IfOk result (λ kept. kept
         ≡ kept_number role (content_at (objects_in (F.parts store.old)) number)) }
-    ensures looks { Looks F.parts F.LeadsTo store.old store.new result }
+    ensures only_reads { OnlyReads F.parts F.ContinuesTo store.old store.new result }
 {
     if !is_kept(store, number, role) {
         return Ok(0);
@@ -105,7 +105,7 @@ pub fn read_numbers<F: PresentFrames>(
     ensures kept { let objects = objects_in (F.parts store.old) in
         IfOk result (λ kept. kept.items
         ≡ map (λ n. kept_number role (content_at objects n)) (range_with_len 0 count)) }
-    ensures looks { Looks F.parts F.LeadsTo store.old store.new result }
+    ensures only_reads { OnlyReads F.parts F.ContinuesTo store.old store.new result }
 {
     let mut kept = match Vec::with_capacity(alloc, count as usize) {
         Ok(kept) => kept,
@@ -140,7 +140,7 @@ pub fn read_limits<F: PresentFrames>(
     ensures cause { IsErrOf result PrepareFault.Failed
         ↔ ((F.parts store.old).failures < (F.parts store.new).failures) }
     ensures later { (F.parts store.old).failures ≤ (F.parts store.new).failures }
-    ensures aside { LooksUp F.parts F.LeadsTo store.old store.new }
+    ensures snapshots { OnlyFetches F.parts F.ContinuesTo store.old store.new }
 {
     read_numbers(alloc, store, count, Role::Bank)
 }
@@ -218,7 +218,7 @@ fn read_all<F: PresentFrames>(
         (frames_of (F.parts store.old)) }
     ensures kept { IfOk result (λ kept. AreKept (objects_in (F.parts store.old)) nodes
         kept.0.items kept.1.items) }
-    ensures looks { Looks F.parts F.LeadsTo store.old store.new result }
+    ensures only_reads { OnlyReads F.parts F.ContinuesTo store.old store.new result }
 {
     let limits = match read_numbers(alloc, store, nodes, Role::Bank) {
         Ok(limits) => limits,
@@ -245,7 +245,7 @@ impl Banks {
         ensures cause { IsErrOf result PrepareFault.Failed
             ↔ ((F.parts store.old).failures < (F.parts store.new).failures) }
         ensures later { (F.parts store.old).failures ≤ (F.parts store.new).failures }
-        ensures aside { LooksUp F.parts F.LeadsTo store.old store.new }
+        ensures snapshots { OnlyFetches F.parts F.ContinuesTo store.old store.new }
     {
         let nodes = store.geometry().nodes;
         match read_all(alloc, store, nodes) {

@@ -8,8 +8,8 @@ ghost use Rattle.space_bank.specs.Banks.{KeepsObjects};
 ghost use Rattle.space_bank.specs.Carrying.{CarriesOut, IsFreedOf, MayGiveUp, MayServe};
 
 use crate::banks::Banks;
-use crate::handing::hand_on;
 use crate::marking::{mark, mark_free};
+use crate::transferring::transfer;
 use capability::PresentFrames;
 use capability::objects::rescind;
 
@@ -24,7 +24,7 @@ impl Banks {
         ensures objects { objects_in (F.parts store.new)
             ≡ rescinded (drop skip self.old.listed) (objects_in (F.parts store.old)) }
         ensures carried { CarriesOut (F.parts store.old) (F.parts store.new) self.new }
-        ensures aside { KeepsObjects F.parts F.IsFetched F.IsAnnounced F.LeadsTo store.old
+        ensures snapshots { KeepsObjects F.parts F.IsFetched F.IsAnnounced F.ContinuesTo store.old
             store.new }
     {
         self.give_up(store, skip, bank);
@@ -43,7 +43,7 @@ impl Banks {
         ensures objects { let objects = objects_in (F.parts store.old) in
             objects_in (F.parts store.new) ≡ rescinded (under objects bank) objects }
         ensures carried { CarriesOut (F.parts store.old) (F.parts store.new) self.new }
-        ensures aside { KeepsObjects F.parts F.IsFetched F.IsAnnounced F.LeadsTo store.old
+        ensures snapshots { KeepsObjects F.parts F.IsFetched F.IsAnnounced F.ContinuesTo store.old
             store.new }
     {
         let parent = store.table().header(bank).owner;
@@ -61,12 +61,12 @@ impl Banks {
         ensures objects { objects_in (F.parts store.new)
             ≡ rescinded (bank ∷ []) (inherited (objects_in (F.parts store.old)) bank) }
         ensures carried { CarriesOut (F.parts store.old) (F.parts store.new) self.new }
-        ensures aside { KeepsObjects F.parts F.IsFetched F.IsAnnounced F.LeadsTo store.old
+        ensures snapshots { KeepsObjects F.parts F.IsFetched F.IsAnnounced F.ContinuesTo store.old
             store.new }
     {
         let parent = store.table().header(bank).owner;
         self.release(store, parent, 1);
-        hand_on(store, &self.listed[skip + 1..], parent);
+        transfer(store, &self.listed[skip + 1..], parent);
         rescind(store, &[bank]);
         let first_page = self.limits.len();
         mark(&mut self.nodes, &mut self.pages, first_page, bank, true);
@@ -82,7 +82,7 @@ impl Banks {
         ensures objects { objects_in (F.parts store.new)
             ≡ rescinded (drop skip self.old.listed) (objects_in (F.parts store.old)) }
         ensures carried { CarriesOut (F.parts store.old) (F.parts store.new) self.new }
-        ensures aside { KeepsObjects F.parts F.IsFetched F.IsAnnounced F.LeadsTo store.old
+        ensures snapshots { KeepsObjects F.parts F.IsFetched F.IsAnnounced F.ContinuesTo store.old
             store.new }
     {
         let count = (self.listed.len() - skip) as u64;

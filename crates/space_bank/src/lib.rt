@@ -9,11 +9,11 @@ mod carrying;
 mod chains;
 mod counting;
 mod giving_up;
-mod handing;
 mod listing;
 mod marking;
 mod planning;
 mod planning_new;
+mod transferring;
 mod walking;
 
 pub use banks::Banks;

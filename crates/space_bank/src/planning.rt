@@ -41,7 +41,7 @@ impl Banks {
     ///
     /// Changes nothing else and takes no memory. A new object is planned at the least number that
     /// is free. If more than one code applies, the plan has the least.
-    #[tactic(auto, using(crate::proofs::Plans::bank_asked))]
+    #[tactic(auto, using(crate::proofs::Plans::bank_requested))]
     pub fn plan<F: PresentFrames>(
         &mut self,
         store: &F,
@@ -66,7 +66,7 @@ impl Banks {
             BankOrder::Free => self.plan_free(store, bank, arguments.capability),
             BankOrder::Destroy => self.plan_destroy(store, bank),
             BankOrder::ReturnToParent => self.plan_return(store, bank),
-            BankOrder::Remaining => OrderPlan::told_three(self.remaining(store, bank)),
+            BankOrder::Remaining => OrderPlan::replying_three(self.remaining(store, bank)),
         }
     }
 
@@ -156,6 +156,6 @@ impl Banks {
         }
         self.list(bank);
         self.list_owned(store, bank);
-        OrderPlan::changed(Change::Bank(BankChange::HandOn { bank }))
+        OrderPlan::changed(Change::Bank(BankChange::Transfer { bank }))
     }
 }

@@ -82,7 +82,7 @@ fn given_by(change: BankChange) -> Capability
     match change {
         BankChange::Make { number, fresh, .. } => given_for(number, fresh),
         BankChange::MakeProcess { root, .. } => Capability::Process(root),
-        BankChange::GiveUp { .. } | BankChange::HandOn { .. } => Capability::Void,
+        BankChange::GiveUp { .. } | BankChange::Transfer { .. } => Capability::Void,
     }
 }
 
@@ -138,7 +138,7 @@ impl Banks {
                 self.list(root);
                 self.list(annex);
             }
-            BankChange::GiveUp { .. } | BankChange::HandOn { .. } => {}
+            BankChange::GiveUp { .. } | BankChange::Transfer { .. } => {}
         }
     }
 
@@ -151,7 +151,7 @@ impl Banks {
             → IsPlanned (F.parts store.now) bank order args self.old.listed result self.new.listed }
         ensures kept { self.new ≡ record self.old { listed = self.new.listed } }
     {
-        if !self.has_room(store, bank, new.count()) {
+        if !self.has_quota(store, bank, new.count()) {
             return OrderPlan::refused(ResultCode::Limit);
         }
         match self.next_free(store, bank, new) {

@@ -2,7 +2,7 @@
 ghost use Rattle.std.specs.Prelude.{◌≡◌, ◌-◌, ◌<◌, ◌≤◌, length, nat_eq, slice_index};
 ghost use Rattle.std.specs.List.{list_any};
 ghost use Rattle.model.specs.Bank.{chain, is_under as lies_under};
-ghost use Rattle.model.specs.Banking.{has_room as is_room, remaining};
+ghost use Rattle.model.specs.Banking.{has_quota as is_room, remaining};
 ghost use Rattle.model.specs.Object.{is_free as counts_as_free};
 ghost use Rattle.model.specs.World.{content_at, object_at, owner_at};
 ghost use Rattle.capability.specs.Parts.{HaveTheirRoles, frames_of, objects_in};
@@ -85,7 +85,7 @@ impl Banks {
     }
 
     // Whether `count` more objects of a bank pass the limit of no bank in its chain.
-    pub(crate) fn has_room<F: PresentFrames>(&self, store: &F, bank: u64, count: u64) -> bool
+    pub(crate) fn has_quota<F: PresentFrames>(&self, store: &F, bank: u64, count: u64) -> bool
         requires { IsBankOf (F.parts store.now) self.now bank }
         ensures { result ≡ is_room (objects_in (F.parts store.now)) bank count }
     {

@@ -17,11 +17,11 @@ fn upgrade_once(
     new_calls: u64,
     outcome: Outcome,
     task: &Task<'_>,
-    told: &mut Vec<u8>,
+    reported: &mut Vec<u8>,
 ) -> anyhow::Result<bool> {
     let old = device_with(alloc, task.image, Outcome::Drop, old_calls)?;
     let new = device_with(alloc, task.script, outcome, new_calls)?;
-    Ok(run_upgrade(alloc, old, new, task.last, told)?)
+    Ok(run_upgrade(alloc, old, new, task.last, reported)?)
 }
 
 // Does a deed once, over devices that pass some calls, and answers whether one stopped.
@@ -31,19 +31,19 @@ fn do_once(
     calls: u64,
     outcome: Outcome,
     task: &Task<'_>,
-    told: &mut Vec<u8>,
+    reported: &mut Vec<u8>,
 ) -> anyhow::Result<bool> {
     match deed {
         Deed::Run(None) => {
             let device = device_with(alloc, task.image, outcome, calls)?;
-            run_task::<_, PlainStore<_>>(alloc, device, (), calls, task, told)
+            run_task::<_, PlainStore<_>>(alloc, device, (), calls, task, reported)
         }
         Deed::Run(Some(capacity)) => {
             let device = device_with(alloc, task.image, outcome, calls)?;
-            run_task::<_, BoundedCache<_>>(alloc, device, *capacity, calls, task, told)
+            run_task::<_, BoundedCache<_>>(alloc, device, *capacity, calls, task, reported)
         }
-        Deed::StopOld => upgrade_once(alloc, calls, u64::MAX, outcome, task, told),
-        Deed::StopNew => upgrade_once(alloc, u64::MAX, calls, outcome, task, told),
+        Deed::StopOld => upgrade_once(alloc, calls, u64::MAX, outcome, task, reported),
+        Deed::StopNew => upgrade_once(alloc, u64::MAX, calls, outcome, task, reported),
     }
 }
 
@@ -56,9 +56,9 @@ fn write_once<W: Write>(
     task: &Task<'_>,
     writer: &mut W,
 ) -> anyhow::Result<bool> {
-    let mut told = Vec::new(alloc);
-    let is_stopped = do_once(alloc, deed, calls, outcome, task, &mut told)?;
-    writer.write_all(&told)?;
+    let mut reported = Vec::new(alloc);
+    let is_stopped = do_once(alloc, deed, calls, outcome, task, &mut reported)?;
+    writer.write_all(&reported)?;
     Ok(is_stopped)
 }
 

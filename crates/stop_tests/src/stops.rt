@@ -13,20 +13,20 @@ use std::io::Write;
 const FAULT: &[u8] = b"fault\n";
 
 // Tells where a kernel stands.
-fn tell_saved(saved: Option<Checkpoint>, told: &mut Vec<u8>) -> Result<(), RunFault> {
+fn tell_saved(saved: Option<Checkpoint>, reported: &mut Vec<u8>) -> Result<(), RunFault> {
     let Some(saved) = saved else {
-        return writeln!(told, "= down").or(Err(RunFault::Write));
+        return writeln!(reported, "= down").or(Err(RunFault::Write));
     };
     let (generation, age, entries) = (saved.generation, saved.age, saved.entries);
-    writeln!(told, "= left {generation} {age} {entries}").or(Err(RunFault::Write))
+    writeln!(reported, "= left {generation} {age} {entries}").or(Err(RunFault::Write))
 }
 
 // Tells in which line of a script there was a fault.
-fn tell_stop(stop: Option<usize>, told: &mut Vec<u8>) -> Result<(), RunFault> {
+fn tell_stop(stop: Option<usize>, reported: &mut Vec<u8>) -> Result<(), RunFault> {
     let Some(line) = stop else {
-        return writeln!(told, "= whole").or(Err(RunFault::Write));
+        return writeln!(reported, "= whole").or(Err(RunFault::Write));
     };
-    writeln!(told, "= stopped {line}").or(Err(RunFault::Write))
+    writeln!(reported, "= stopped {line}").or(Err(RunFault::Write))
 }
 
 // Tells what is answered to a line, and answers whether that is a fault.
@@ -34,11 +34,11 @@ fn tell_line<D: Device, S: ObjectStore<D>>(
     alloc: Global,
     kernel: &mut Kernel<D, S>,
     line: &[u8],
-    told: &mut Vec<u8>,
+    reported: &mut Vec<u8>,
 ) -> Result<bool, RunFault> {
-    let (mut reader, before) = (ScriptReader::new(line), told.len());
-    run(alloc, kernel, &mut reader, told)?;
-    Ok(told.get(before..) == Some(FAULT))
+    let (mut reader, before) = (ScriptReader::new(line), reported.len());
+    run(alloc, kernel, &mut reader, reported)?;
+    Ok(reported.get(before..) == Some(FAULT))
 }
 
 // Tells what is answered to a script up to the first fault, and gives the number of its line.
@@ -46,10 +46,10 @@ fn tell_to_fault<D: Device, S: ObjectStore<D>>(
     alloc: Global,
     kernel: &mut Kernel<D, S>,
     script: &[u8],
-    told: &mut Vec<u8>,
+    reported: &mut Vec<u8>,
 ) -> Result<Option<usize>, RunFault> {
     for (number, line) in script.split_inclusive(|byte| *byte == b'\n').enumerate() {
-        if tell_line(alloc, kernel, line, told)? {
+        if tell_line(alloc, kernel, line, reported)? {
             return Ok(Some(number));
         }
     }
@@ -61,11 +61,11 @@ fn tell_standing<D: Device, S: ObjectStore<D>>(
     alloc: Global,
     kernel: &mut Kernel<D, S>,
     script: &[u8],
-    told: &mut Vec<u8>,
+    reported: &mut Vec<u8>,
 ) -> Result<(), RunFault> {
     let mut reader = ScriptReader::new(script);
-    tell_saved(kernel.saved(), told)?;
-    run(alloc, kernel, &mut reader, told)
+    tell_saved(kernel.saved(), reported)?;
+    run(alloc, kernel, &mut reader, reported)
 }
 
 /// Tells what a power cut leaves of a device, and what a kernel answers that opens it.
@@ -73,18 +73,18 @@ pub(crate) fn tell_left<D: Device>(
     alloc: Global,
     device: D,
     last: &[u8],
-    told: &mut Vec<u8>,
+    reported: &mut Vec<u8>,
 ) -> Result<(), RunFault> {
     let mut device = device;
     device.power_cut();
     match Kernel::<D, PlainStore<D>>::open(alloc, device, ()) {
         Ok(kernel) => {
             let mut kernel = kernel;
-            tell_standing(alloc, &mut kernel, last, told)
+            tell_standing(alloc, &mut kernel, last, reported)
         }
         Err(refused) => {
             let fault = refused.fault;
-            writeln!(told, "= refused {fault}").or(Err(RunFault::Write))
+            writeln!(reported, "= refused {fault}").or(Err(RunFault::Write))
         }
     }
 }
@@ -94,11 +94,11 @@ fn tell_task<D: Device, S: ObjectStore<D>>(
     alloc: Global,
     kernel: &mut Kernel<D, S>,
     task: &Task<'_>,
-    told: &mut Vec<u8>,
+    reported: &mut Vec<u8>,
 ) -> Result<bool, RunFault> {
-    let stop = tell_to_fault(alloc, kernel, task.script, told)?;
-    tell_stop(stop, told)?;
-    tell_standing(alloc, kernel, task.tail, told)?;
+    let stop = tell_to_fault(alloc, kernel, task.script, reported)?;
+    tell_stop(stop, reported)?;
+    tell_standing(alloc, kernel, task.tail, reported)?;
     Ok(stop.is_some())
 }
 
@@ -107,11 +107,11 @@ fn tell_all<D: Device, S: ObjectStore<D>>(
     alloc: Global,
     kernel: Kernel<D, S>,
     task: &Task<'_>,
-    told: &mut Vec<u8>,
+    reported: &mut Vec<u8>,
 ) -> Result<bool, RunFault> {
     let mut kernel = kernel;
-    let is_stopped = tell_task(alloc, &mut kernel, task, told)?;
-    tell_left(alloc, kernel.into_device(), task.last, told)?;
+    let is_stopped = tell_task(alloc, &mut kernel, task, reported)?;
+    tell_left(alloc, kernel.into_device(), task.last, reported)?;
     Ok(is_stopped)
 }
 
@@ -123,12 +123,12 @@ pub(crate) fn run_task<D: Device, S: ObjectStore<D>>(
     setting: S::Setting,
     calls: u64,
     task: &Task<'_>,
-    told: &mut Vec<u8>,
+    reported: &mut Vec<u8>,
 ) -> anyhow::Result<bool> {
     match Kernel::<D, S>::open(alloc, device, setting) {
         Ok(kernel) => {
-            writeln!(told, "= calls {calls}")?;
-            Ok(tell_all(alloc, kernel, task, told)?)
+            writeln!(reported, "= calls {calls}")?;
+            Ok(tell_all(alloc, kernel, task, reported)?)
         }
         Err(refused) => match refused.fault {
             OpenFault::Failed => Ok(true),

@@ -7,11 +7,11 @@ use std::alloc::Global;
 use std::io::Write;
 
 // Tells what an upgrade came to.
-fn tell_outcome(outcome: Result<(), UpgradeFault>, told: &mut Vec<u8>) -> Result<(), RunFault> {
+fn tell_outcome(outcome: Result<(), UpgradeFault>, reported: &mut Vec<u8>) -> Result<(), RunFault> {
     let Err(fault) = outcome else {
-        return writeln!(told, "= upgraded").or(Err(RunFault::Write));
+        return writeln!(reported, "= upgraded").or(Err(RunFault::Write));
     };
-    writeln!(told, "= {fault}").or(Err(RunFault::Write))
+    writeln!(reported, "= {fault}").or(Err(RunFault::Write))
 }
 
 /// Upgrades the image of one device to another one. Tells what that came to and what a power cut
@@ -21,11 +21,11 @@ pub(crate) fn run_upgrade<D: Device, E: Device>(
     old: D,
     new: E,
     last: &[u8],
-    told: &mut Vec<u8>,
+    reported: &mut Vec<u8>,
 ) -> Result<bool, RunFault> {
     let mut new = new;
     let outcome = upgrade(alloc, old, &mut new);
-    tell_outcome(outcome, told)?;
-    tell_left(alloc, new, last, told)?;
+    tell_outcome(outcome, reported)?;
+    tell_left(alloc, new, last, reported)?;
     Ok(outcome.is_err())
 }

@@ -1,7 +1,7 @@
 // Why a process can't act.
 ghost use Rattle.std.specs.Prelude.{◌≡◌, ◌↔◌, ◌<◌, ◌≤◌, IfOk, IfSome, IsErr};
 ghost use Rattle.model.specs.Keepable.{IsSoundFrames};
-ghost use Rattle.capability.specs.Parts.{LooksUp, frames_of, objects_in};
+ghost use Rattle.capability.specs.Parts.{OnlyFetches, frames_of, objects_in};
 ghost use Rattle.kernel.specs.Machine.{IsEarly, NeedsNoLook};
 
 use capability::{PrepareFault, PresentFrames, objects, roots};
@@ -20,9 +20,9 @@ pub fn early<F: PresentFrames>(
     requires sound { IsSoundFrames (F.parts store.old).geometry age
         (frames_of (F.parts store.old)) }
     ensures why { IfOk result (λ why. IsEarly (objects_in (F.parts store.old)) process why) }
-    ensures untouched { IfOk result (λ why. IfSome why (λ told. NeedsNoLook told
+    ensures untouched { IfOk result (λ why. IfSome why (λ reported. NeedsNoLook reported
         → store.new ≡ store.old)) }
-    ensures aside { LooksUp F.parts F.LeadsTo store.old store.new }
+    ensures snapshots { OnlyFetches F.parts F.ContinuesTo store.old store.new }
     ensures later { (F.parts store.old).failures ≤ (F.parts store.new).failures }
     ensures cause { IsErr result ↔ ((F.parts store.old).failures < (F.parts store.new).failures) }
 {

@@ -2,7 +2,7 @@
 ghost use Rattle.std.specs.Prelude.{◌≡◌, ◌≤◌, ◌^◌, None, IfOk};
 ghost use Rattle.model.specs.declared.command.Command.TheVariants as command;
 ghost use Rattle.model.specs.Keepable.{IsSoundFrames};
-ghost use Rattle.capability.specs.Parts.{LooksUp, frames_of, objects_in};
+ghost use Rattle.capability.specs.Parts.{OnlyFetches, frames_of, objects_in};
 ghost use Rattle.space_bank.specs.Banks.{AreCounted};
 ghost use Rattle.kernel.specs.Prepared.{refusal_by};
 ghost use Rattle.kernel.specs.Machine.{IsServedOnce, IsUnlooked, Performs, answer_with, code_with};
@@ -20,8 +20,8 @@ use std::alloc::Global;
 // What is answered to an invocation that isn't carried out.
 fn unserved(fault: InvokeFault) -> Result<Served, Failed>
     ensures answer { answer_with result ≡ Answer.Refused (refusal_by fault) }
-    ensures looks { IsUnlooked (answer_with result) → ⊥ }
-    ensures told_once { IsServedOnce result }
+    ensures only_reads { IsUnlooked (answer_with result) → ⊥ }
+    ensures reported_once { IsServedOnce result }
     ensures code { IfOk result (λ served. served.code ≡ None) }
 {
     match fault {
@@ -47,10 +47,10 @@ fn refuse_worn<F: PresentFrames>(
     ensures serves { Performs age (F.parts store.old) (command.Invoke invocation) (answer_with result)
         age (F.parts store.new) }
     ensures untouched { IsUnlooked (answer_with result) → store.new ≡ store.old }
-    ensures told_once { IsServedOnce result }
+    ensures reported_once { IsServedOnce result }
     ensures code { IfOk result (λ served. served.code ≡ code_with
         (F.parts store.old).geometry (objects_in (F.parts store.old)) invocation served.answer) }
-    ensures aside { LooksUp F.parts F.LeadsTo store.old store.new }
+    ensures snapshots { OnlyFetches F.parts F.ContinuesTo store.old store.new }
 {
     match early(alloc, store, age, invocation.process)? {
         Some(refusal) => Ok(Served::refused(refusal)),
@@ -80,13 +80,13 @@ pub fn invoke<F: PresentFrames>(
     ensures serves { Performs age.old (F.parts store.old) (command.Invoke invocation) (answer_with result)
         age.new (F.parts store.new) }
     ensures untouched { IsUnlooked (answer_with result) → store.new ≡ store.old }
-    ensures told_once { IsServedOnce result }
+    ensures reported_once { IsServedOnce result }
     ensures code { IfOk result (λ served. served.code ≡ code_with
         (F.parts store.old).geometry (objects_in (F.parts store.old)) invocation served.answer) }
     ensures later { age.old ≤ age.new }
     ensures counted { AreCounted (F.parts store.new).geometry
         (objects_in (F.parts store.new)) banks.new }
-    ensures leads { F.LeadsTo store.old store.new }
+    ensures continues { F.ContinuesTo store.old store.new }
 {
     if is_worn(*age) {
         return refuse_worn(alloc, store, *age, invocation);

@@ -2,9 +2,9 @@
 ghost use Rattle.std.specs.Prelude.{◌≡◌};
 ghost use Rattle.model.specs.declared.command.Command.TheVariants as command;
 ghost use Rattle.model.specs.Keepable.{IsSoundFrames};
-ghost use Rattle.capability.specs.Parts.{LooksUp, frames_of, objects_in};
+ghost use Rattle.capability.specs.Parts.{OnlyFetches, frames_of, objects_in};
 ghost use Rattle.space_bank.specs.Banks.{AreCounted, BanksState};
-ghost use Rattle.kernel.specs.Machine.{IsToldOnce, IsUnlooked, Performs, answer_of};
+ghost use Rattle.kernel.specs.Machine.{IsReportedOnce, IsUnlooked, Performs, answer_of};
 ghost use Rattle.kernel.specs.Prepared.{refused_by};
 
 use crate::processes::early::early;
@@ -16,8 +16,8 @@ use std::alloc::Global;
 /// What is answered where objects weren't prepared.
 pub(crate) fn refused(fault: PrepareFault) -> Result<Answer, Failed>
     ensures answer { answer_of result ≡ Answer.Refused (refused_by fault) }
-    ensures looks { IsUnlooked (answer_of result) → ⊥ }
-    ensures told_once { IsToldOnce result }
+    ensures only_reads { IsUnlooked (answer_of result) → ⊥ }
+    ensures reported_once { IsReportedOnce result }
 {
     match fault {
         PrepareFault::NoMemory => Ok(Answer::Refused(Refusal::NoMemory)),
@@ -42,9 +42,9 @@ pub fn load<F: PresentFrames>(
     ensures serves { Performs age (F.parts store.old) (command.Load process address) (answer_of result)
         age (F.parts store.new) }
     ensures untouched { IsUnlooked (answer_of result) → store.new ≡ store.old }
-    ensures told_once { IsToldOnce result }
-    ensures aside { LooksUp F.parts F.LeadsTo store.old store.new }
-    ensures leads { F.LeadsTo store.old store.new }
+    ensures reported_once { IsReportedOnce result }
+    ensures snapshots { OnlyFetches F.parts F.ContinuesTo store.old store.new }
+    ensures continues { F.ContinuesTo store.old store.new }
 {
     if let Some(refusal) = early(alloc, store, age, process)? {
         return Ok(Answer::Refused(refusal));
@@ -74,12 +74,12 @@ pub fn store<F: PresentFrames>(
     ensures serves { Performs age (F.parts store.old) (command.Store process address word)
         (answer_of result) age (F.parts store.new) }
     ensures untouched { IsUnlooked (answer_of result) → store.new ≡ store.old }
-    ensures told_once { IsToldOnce result }
+    ensures reported_once { IsReportedOnce result }
     ensures counted { (banks : BanksState) → AreCounted (F.parts store.old).geometry
         (objects_in (F.parts store.old)) banks
         → AreCounted (F.parts store.new).geometry
         (objects_in (F.parts store.new)) banks }
-    ensures leads { F.LeadsTo store.old store.new }
+    ensures continues { F.ContinuesTo store.old store.new }
 {
     if let Some(refusal) = early(alloc, store, age, process)? {
         return Ok(Answer::Refused(refusal));

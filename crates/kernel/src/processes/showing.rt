@@ -5,9 +5,9 @@ ghost use Rattle.model.specs.Keepable.{AreKeepable, IsSoundFrames};
 ghost use Rattle.model.specs.Step.{shown};
 ghost use Rattle.model.specs.Object.{is_annex, is_bank, slots_in};
 ghost use Rattle.model.specs.World.{content_at};
-ghost use Rattle.capability.specs.Parts.{Looks, LooksUp, frames_of, objects_in};
+ghost use Rattle.capability.specs.Parts.{OnlyReads, OnlyFetches, frames_of, objects_in};
 ghost use Rattle.space_bank.specs.Banks.{AreCounted};
-ghost use Rattle.kernel.specs.Machine.{IsToldOnce, IsUnlooked, Performs, answer_of};
+ghost use Rattle.kernel.specs.Machine.{IsReportedOnce, IsUnlooked, Performs, answer_of};
 
 use crate::processes::memory::refused;
 use capability::{PrepareFault, PresentFrames, objects, view};
@@ -37,7 +37,7 @@ fn registers_of<F: PresentFrames>(
     requires annex { IsTrue (is_annex
         (content_at (objects_in (F.parts store.old)) annex)) }
     ensures registers { IfOk result (λ registers. registers ≡ slots_in (content_at (objects_in (F.parts store.old)) annex)) }
-    ensures looks { Looks F.parts F.LeadsTo store.old store.new result }
+    ensures only_reads { OnlyReads F.parts F.ContinuesTo store.old store.new result }
 {
     objects::fetch(store, alloc, &[annex])?;
     match view::registers(alloc, store, annex) {
@@ -61,7 +61,7 @@ fn shown<F: PresentFrames>(
         (objects_in (F.parts store.old)) banks.now }
     requires known { number < length (F.parts store.old).headers }
     ensures answer { IfOk result (λ answer. answer ≡ shown (objects_in (F.parts store.old)) number) }
-    ensures looks { Looks F.parts F.LeadsTo store.old store.new result }
+    ensures only_reads { OnlyReads F.parts F.ContinuesTo store.old store.new result }
 {
     objects::fetch(store, alloc, &[number])?;
     let Ok(object) = view::object(alloc, store, number) else {
@@ -102,8 +102,8 @@ pub fn show<F: PresentFrames>(
     ensures serves { Performs age (F.parts store.old) (command.Show number) (answer_of result) age
         (F.parts store.new) }
     ensures untouched { IsUnlooked (answer_of result) → store.new ≡ store.old }
-    ensures told_once { IsToldOnce result }
-    ensures aside { LooksUp F.parts F.LeadsTo store.old store.new }
+    ensures reported_once { IsReportedOnce result }
+    ensures snapshots { OnlyFetches F.parts F.ContinuesTo store.old store.new }
 {
     if number >= store.table().count() {
         return Ok(Answer::Refused(Refusal::BadNumber));

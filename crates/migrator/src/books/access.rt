@@ -14,7 +14,7 @@ use crate::read::{read_again, read_put};
 use crate::table::Place;
 use ckpt_log::Log;
 use device::{Device, Failed};
-use layout::{Body, Room};
+use layout::{Body, Scratch};
 use model::ObjectHeader;
 
 impl Books {
@@ -23,17 +23,17 @@ impl Books {
         &self,
         device: &mut D,
         number: u64,
-        room: &mut Room,
+        scratch: &mut Scratch,
     ) -> Result<(ObjectHeader, Body), Failed>
         requires stands { IsDurable (D.disk device.old) self.now }
         requires object { IsObject self.now.plan.geometry number }
-        ensures found { IfOk result (λ read. frame_of read room.new
+        ensures found { IfOk result (λ read. frame_of read scratch.new
             ≡ frame_at (stored_on (D.disk device.old) self.now).saved.frames number) }
         ensures reads { ReadsOnly (D.disk device.old) (D.disk device.new) }
         ensures cause { Counts (D.disk device.old) (D.disk device.new) result }
     {
         let named = self.directory.as_slice();
-        read_again(device, &self.plan, self.header, named, number, room)
+        read_again(device, &self.plan, self.header, named, number, scratch)
     }
 
     // Reads the frozen frame of an object, which was put into a slot: from memory where the device failed to write the
@@ -43,12 +43,12 @@ impl Books {
         device: &mut D,
         slot: u64,
         number: u64,
-        room: &mut Room,
+        scratch: &mut Scratch,
     ) -> Result<(ObjectHeader, Body), Failed>
         requires stands { IsDurable (D.disk device.old) self.now }
         requires object { IsObject self.now.plan.geometry number }
         requires place { place_at self.now.frozen number ≡ Place.Whole slot }
-        ensures found { IfOk result (λ read. frame_of read room.new
+        ensures found { IfOk result (λ read. frame_of read scratch.new
             ≡ slot_frame (seen_by (D.disk device.old).seen self.now) self.now.plan
             (frozen_generation self.now) slot number) }
         ensures reads { ReadsOnly (D.disk device.old) (D.disk device.new) }
@@ -61,10 +61,10 @@ impl Books {
             let shape = self.plan.shape(number);
             return Ok(
                 self.unwritten
-                    .read(shape, self.plan.geometry(), number, room),
+                    .read(shape, self.plan.geometry(), number, scratch),
             );
         }
-        read_put(device, &self.plan, generation, slot, number, room)
+        read_put(device, &self.plan, generation, slot, number, scratch)
     }
 
     /// Reads the frozen frame of an object, or else the saved one. The slots of a node or an annex and the words of a
@@ -73,19 +73,19 @@ impl Books {
         &self,
         device: &mut D,
         number: u64,
-        room: &mut Room,
+        scratch: &mut Scratch,
     ) -> Result<(ObjectHeader, Body), Failed>
         requires stands { IsDurable (D.disk device.old) self.now }
         requires object { IsObject self.now.plan.geometry number }
-        ensures found { IfOk result (λ read. frame_of read room.new
+        ensures found { IfOk result (λ read. frame_of read scratch.new
             ≡ below_at (stored_on (D.disk device.old) self.now) number) }
         ensures reads { ReadsOnly (D.disk device.old) (D.disk device.new) }
         ensures cause { Counts (D.disk device.old) (D.disk device.new) result }
     {
         match self.frozen.place(number) {
-            Place::Whole(slot) => self.read_frozen(device, slot, number, room),
-            Place::Torn(_) => self.fetch_saved(device, number, room),
-            Place::Nowhere => self.fetch_saved(device, number, room),
+            Place::Whole(slot) => self.read_frozen(device, slot, number, scratch),
+            Place::Torn(_) => self.fetch_saved(device, number, scratch),
+            Place::Nowhere => self.fetch_saved(device, number, scratch),
         }
     }
 
@@ -94,20 +94,20 @@ impl Books {
         &self,
         device: &mut D,
         number: u64,
-        room: &mut Room,
+        scratch: &mut Scratch,
     ) -> Result<(ObjectHeader, Body), Failed>
         requires stands { IsDurable (D.disk device.old) self.now }
         requires object { IsObject self.now.plan.geometry number }
-        ensures found { IfOk result (λ read. frame_of read room.new
+        ensures found { IfOk result (λ read. frame_of read scratch.new
             ≡ newest (stored_on (D.disk device.old) self.now) number) }
         ensures reads { ReadsOnly (D.disk device.old) (D.disk device.new) }
         ensures cause { Counts (D.disk device.old) (D.disk device.new) result }
     {
         let generation = self.working_generation();
         match self.working.place(number) {
-            Place::Whole(slot) => read_put(device, &self.plan, generation, slot, number, room),
-            Place::Torn(_) => self.fetch_below(device, number, room),
-            Place::Nowhere => self.fetch_below(device, number, room),
+            Place::Whole(slot) => read_put(device, &self.plan, generation, slot, number, scratch),
+            Place::Torn(_) => self.fetch_below(device, number, scratch),
+            Place::Nowhere => self.fetch_below(device, number, scratch),
         }
     }
 }

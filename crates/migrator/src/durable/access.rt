@@ -8,7 +8,7 @@ ghost use Rattle.migrator.specs.Durable.{below_at, stored_of, newest, left_of, R
 use crate::durable::Durable;
 use checkpoint::Checkpoint;
 use device::{Device, Failed};
-use layout::{Body, Entry, Room, Superblock};
+use layout::{Body, Entry, Scratch, Superblock};
 use model::{Geometry, ObjectHeader};
 
 impl<D: Device> Durable<D> {
@@ -75,27 +75,31 @@ impl<D: Device> Durable<D> {
     pub fn fetch_below(
         &mut self,
         number: u64,
-        room: &mut Room,
+        scratch: &mut Scratch,
     ) -> Result<(ObjectHeader, Body), Failed>
         requires { IsObject self.old.books.plan.geometry number }
-        ensures found { IfOk result (λ read. frame_of read room.new
+        ensures found { IfOk result (λ read. frame_of read scratch.new
             ≡ below_at (stored_of D.disk self.old) number) }
         ensures reads { ReadsStore D.disk self.old self.new }
         ensures cause { Counts (D.disk self.old.beneath) (D.disk self.new.beneath) result }
     {
-        self.books.fetch_below(&mut self.device, number, room)
+        self.books.fetch_below(&mut self.device, number, scratch)
     }
 
     /// Reads the newest frame of an object: the one that was put last, else the frozen one, else
     /// the saved one. The slots of a node or an annex and the words of a page are left in `room`,
     /// and no memory is taken. It is refused exactly where the device failed.
-    pub fn fetch(&mut self, number: u64, room: &mut Room) -> Result<(ObjectHeader, Body), Failed>
+    pub fn fetch(
+        &mut self,
+        number: u64,
+        scratch: &mut Scratch,
+    ) -> Result<(ObjectHeader, Body), Failed>
         requires { IsObject self.old.books.plan.geometry number }
-        ensures found { IfOk result (λ read. frame_of read room.new
+        ensures found { IfOk result (λ read. frame_of read scratch.new
             ≡ newest (stored_of D.disk self.old) number) }
         ensures reads { ReadsStore D.disk self.old self.new }
         ensures cause { Counts (D.disk self.old.beneath) (D.disk self.new.beneath) result }
     {
-        self.books.fetch(&mut self.device, number, room)
+        self.books.fetch(&mut self.device, number, scratch)
     }
 }

@@ -7,7 +7,7 @@ ghost use Rattle.layout.specs.Superblock.{Plan};
 ghost use Rattle.frame_io.specs.Calls.{ReadsOnly};
 ghost use Rattle.migrator.specs.Durable.{stored_of};
 ghost use Rattle.migrator.specs.Opened.{IsRead, OpensDurable};
-ghost use Rattle.checkpoint.specs.Opened.{IsBadFor, CountsOpen, Looks, Refuses};
+ghost use Rattle.checkpoint.specs.Opened.{IsBadFor, CountsOpen, OnlyReads, Refuses};
 ghost use Rattle.migrator.specs.Reserve.{IsReserve};
 
 use crate::books::Books;
@@ -19,7 +19,7 @@ use crate::intake::Intake;
 use crate::table::{Place, Table};
 use checkpoint::{OpenFault, OpenRefused};
 use device::Device;
-use layout::{CheckpointHeader, Entry, Room, Superblock};
+use layout::{CheckpointHeader, Entry, Scratch, Superblock};
 use model::Geometry;
 use std::alloc::{AllocError, Global};
 
@@ -56,7 +56,7 @@ struct Reserve {
 #[derive(Drop)]
 struct Sink<I: Intake> {
     taken: I,
-    room: Room,
+    scratch: Scratch,
 }
 
 // What was read of a device, and the memory for a store over it.
@@ -114,7 +114,7 @@ impl<I: Intake> Sink<I> {
     {
         Ok(Sink {
             taken: I::new(alloc, geometry)?,
-            room: Room::new(alloc)?,
+            scratch: Scratch::new(alloc)?,
         })
     }
 }
@@ -126,7 +126,7 @@ fn read_into<D: Device, I: Intake>(
     plan: Superblock,
     reserve: Reserve,
     taken: I,
-    room: &mut Room,
+    scratch: &mut Scratch,
 ) -> Result<Parts<I>, OpenFault>
     requires plan { HasPlan (D.disk device.old).seen (D.disk device.old).sectors plan }
     requires reserved { IsReserve plan reserve }
@@ -145,7 +145,7 @@ fn read_into<D: Device, I: Intake>(
     let mut reserve = reserve;
     let mut taken = taken;
     let saved = &mut reserve.directories.saved;
-    match read_image(alloc, device, &plan, saved, room, &mut taken) {
+    match read_image(alloc, device, &plan, saved, scratch, &mut taken) {
         Ok(header) => Ok(Parts {
             plan,
             header,
@@ -178,8 +178,8 @@ fn read_with_sink<D: Device, I: Intake>(
 {
     match Sink::new(alloc, plan.geometry()) {
         Ok(sink) => {
-            let Sink { taken, mut room } = sink;
-            read_into(alloc, device, plan, reserve, taken, &mut room)
+            let Sink { taken, mut scratch } = sink;
+            read_into(alloc, device, plan, reserve, taken, &mut scratch)
         }
         Err(_) => Err(OpenFault::NoMemory),
     }
@@ -197,7 +197,7 @@ fn read_parts<D: Device, I: Intake>(alloc: Global, device: &mut D) -> Result<Par
     ensures durable { OnOk result (Only (D.disk device.new).seen (D.disk device.new)) }
     ensures refused { IfErr result (λ e.
         IsBadFor (D.disk device.old).seen (D.disk device.old).sectors e) }
-    ensures looks { Looks (D.disk device.old) (D.disk device.new) }
+    ensures only_reads { OnlyReads (D.disk device.old) (D.disk device.new) }
     ensures cause { CountsOpen (D.disk device.old) (D.disk device.new) result }
 {
     match read_plan(device) {

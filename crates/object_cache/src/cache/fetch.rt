@@ -5,7 +5,7 @@ ghost use Rattle.model.specs.Frame.{held_at};
 ghost use Rattle.model.specs.Keepable.{AreKeepable};
 ghost use Rattle.capability.specs.Parts.{frames_of};
 ghost use Rattle.checkpoint.specs.Saved.{most};
-ghost use Rattle.object_cache.specs.StoreState.{GoesOnIn, IsFetchedIn, parts_of, seat_at, with_seat};
+ghost use Rattle.object_cache.specs.StoreState.{GoesOnIn, IsFetchedIn, parts_of, cached_at, with_cached};
 ghost use Rattle.object_cache.specs.Prepared.{IsRecentIn, on_device_with};
 
 use crate::cache::Cache;
@@ -20,11 +20,11 @@ impl<D: Device> Cache<D> {
         requires keepable { AreKeepable (parts_of D.disk self.old).geometry most
             (frames_of (parts_of D.disk self.old)) }
         ensures room { OnOk result (length self.new.order < self.new.most) }
-        ensures unseated { (n : ℕ) → seat_at self.old.seats n ≡ None → seat_at self.new.seats n ≡ None }
+        ensures uncached { (n : ℕ) → cached_at self.old.cached n ≡ None → cached_at self.new.cached n ≡ None }
         ensures recent { (k n : ℕ) → k ≤ 7 → IsRecentIn self.old k n → IsRecentIn self.new k n }
         ensures rest { self.new ≡ on_device_with self.old self.new }
-        ensures empty { self.old.hand ≡ None → self.new.hand ≡ None }
-        ensures leads { GoesOnIn D.disk self.old self.new }
+        ensures empty { self.old.staging ≡ None → self.new.staging ≡ None }
+        ensures continues { GoesOnIn D.disk self.old self.new }
         ensures full { IsErrOf result PrepareFault.LogFull → ⊥ }
         ensures cause { IsErrOf result PrepareFault.Failed
             ↔ ((D.disk self.old.durable.beneath).failures < (D.disk self.new.durable.beneath).failures) }
@@ -38,16 +38,16 @@ impl<D: Device> Cache<D> {
     // Makes what was read an entry, as a part of preparing.
     fn take_in(&mut self, number: u64, content: Content<Cap>) -> Result<(), PrepareFault>
         requires known { number < length self.old.headers }
-        requires unseated { seat_at self.old.seats number ≡ None }
+        requires uncached { cached_at self.old.cached number ≡ None }
         requires room { length self.old.order < self.old.most }
         requires read { content ≡ held_at self.old.contents number }
         ensures fetched { OnOk result (IsFetchedIn self.new number) }
-        ensures seated { OnOk result (self.new ≡ with_seat number self.old) }
+        ensures cached { OnOk result (self.new ≡ with_cached number self.old) }
         ensures unchanged { OnErr result (self.new ≡ self.old) }
         ensures full { IsErrOf result PrepareFault.LogFull → ⊥ }
         ensures cause { IsErrOf result PrepareFault.Failed → ⊥ }
     {
-        match self.seat(number, content) {
+        match self.cached(number, content) {
             Ok(()) => Ok(()),
             Err(_) => Err(PrepareFault::NoMemory),
         }
@@ -58,16 +58,16 @@ impl<D: Device> Cache<D> {
     #[inline(never)]
     fn bring(&mut self, alloc: Global, number: u64) -> Result<(), PrepareFault>
         requires known { number < length self.old.headers }
-        requires unseated { seat_at self.old.seats number ≡ None }
-        requires empty { self.old.hand ≡ None }
+        requires uncached { cached_at self.old.cached number ≡ None }
+        requires empty { self.old.staging ≡ None }
         requires keepable { AreKeepable (parts_of D.disk self.old).geometry most
             (frames_of (parts_of D.disk self.old)) }
         ensures first { OnOk result ((k : ℕ) → 0 < k → IsRecentIn self.new k number) }
         ensures recent { OnOk result ((j k n : ℕ) → j ≤ 7 → j < k → IsRecentIn self.old j n
             → IsRecentIn self.new k n) }
         ensures rest { self.new ≡ on_device_with self.old self.new }
-        ensures empty { self.new.hand ≡ None }
-        ensures leads { GoesOnIn D.disk self.old self.new }
+        ensures empty { self.new.staging ≡ None }
+        ensures continues { GoesOnIn D.disk self.old self.new }
         ensures full { IsErrOf result PrepareFault.LogFull → ⊥ }
         ensures cause { IsErrOf result PrepareFault.Failed
             ↔ ((D.disk self.old.durable.beneath).failures < (D.disk self.new.durable.beneath).failures) }
@@ -80,15 +80,15 @@ impl<D: Device> Cache<D> {
     // Brings an object into memory, or says that it was used last.
     fn fetch_one(&mut self, alloc: Global, number: u64) -> Result<(), PrepareFault>
         requires known { number < length self.old.headers }
-        requires empty { self.old.hand ≡ None }
+        requires empty { self.old.staging ≡ None }
         requires keepable { AreKeepable (parts_of D.disk self.old).geometry most
             (frames_of (parts_of D.disk self.old)) }
         ensures first { OnOk result ((k : ℕ) → 0 < k → IsRecentIn self.new k number) }
         ensures recent { OnOk result ((j k n : ℕ) → j ≤ 7 → j < k → IsRecentIn self.old j n
             → IsRecentIn self.new k n) }
         ensures rest { self.new ≡ on_device_with self.old self.new }
-        ensures empty { self.new.hand ≡ None }
-        ensures leads { GoesOnIn D.disk self.old self.new }
+        ensures empty { self.new.staging ≡ None }
+        ensures continues { GoesOnIn D.disk self.old self.new }
         ensures full { IsErrOf result PrepareFault.LogFull → ⊥ }
         ensures cause { IsErrOf result PrepareFault.Failed
             ↔ ((D.disk self.old.durable.beneath).failures < (D.disk self.new.durable.beneath).failures) }
@@ -103,12 +103,12 @@ impl<D: Device> Cache<D> {
     pub(crate) fn fetch_all(&mut self, alloc: Global, fetched: &[u64]) -> Result<(), PrepareFault>
         requires few { length fetched.now ≤ MAX_FETCHED }
         requires known { All (λ n. n < length self.old.headers) fetched.now }
-        requires empty { self.old.hand ≡ None }
+        requires empty { self.old.staging ≡ None }
         requires keepable { AreKeepable (parts_of D.disk self.old).geometry most
             (frames_of (parts_of D.disk self.old)) }
         ensures fetched { OnOk result ((n : ℕ) → Contains fetched.now n → IsFetchedIn self.new n) }
         ensures rest { self.new ≡ on_device_with self.old self.new }
-        ensures leads { GoesOnIn D.disk self.old self.new }
+        ensures continues { GoesOnIn D.disk self.old self.new }
         ensures full { IsErrOf result PrepareFault.LogFull → ⊥ }
         ensures cause { IsErrOf result PrepareFault.Failed
             ↔ ((D.disk self.old.durable.beneath).failures < (D.disk self.new.durable.beneath).failures) }

@@ -9,7 +9,7 @@ ghost use Rattle.device.specs.Calls.{Counts};
 ghost use Rattle.capability.specs.Parts.{frames_of};
 ghost use Rattle.checkpoint.specs.Saved.{LeavesEither, LeavesOneOf, journaled_saved};
 ghost use Rattle.migrator.specs.Durable.{stored_of, is_sound, left_of, newest, stored_after_journal};
-ghost use Rattle.object_store.specs.Journal.{IsJournalAnswer, IsTurnedAway, aside_after_journal, is_page_now, is_page_role, is_same_page, is_still_saved, next_journaled, words_now};
+ghost use Rattle.object_store.specs.Journal.{IsJournalAnswer, IsTurnedAway, snapshots_after_journal, is_page_now, is_page_role, is_same_page, is_still_saved, next_journaled, words_now};
 ghost use Rattle.object_store.specs.Store.{left_in};
 ghost use Rattle.object_cache.specs.Journaled.{held_now};
 ghost use Rattle.object_cache.specs.StoreState.{parts_of, view_of};
@@ -19,14 +19,14 @@ use crate::page::{may_journal, save_content, save_words};
 use cache_entries::Entries;
 use capability::ObjectTable;
 use device::{Device, Failed};
-use layout::Room;
+use layout::Scratch;
 use migrator::Durable;
 use object_store::JournalFault;
 
 // Saves a page with the words that it has on the device. Fails exactly where the device does.
 fn save_read<D: Device>(
     durable: &mut Durable<D>,
-    room: &mut Room,
+    scratch: &mut Scratch,
     number: u64,
     age: u64,
 ) -> Result<u64, Failed>
@@ -53,8 +53,8 @@ fn save_read<D: Device>(
         (stored_of D.disk durable.old).saved) }
     ensures cause { Counts (D.disk durable.old.beneath) (D.disk durable.new.beneath) result }
 {
-    match durable.fetch(number, room) {
-        Ok(_) => save_words(durable, &room.words, number, age),
+    match durable.fetch(number, scratch) {
+        Ok(_) => save_words(durable, &scratch.words, number, age),
         Err(_) => Err(Failed),
     }
 }
@@ -63,7 +63,7 @@ fn save_read<D: Device>(
 fn save_present<D: Device>(
     durable: &mut Durable<D>,
     entries: &Entries,
-    room: &mut Room,
+    scratch: &mut Scratch,
     number: u64,
     age: u64,
 ) -> Result<u64, Failed>
@@ -94,7 +94,7 @@ fn save_present<D: Device>(
 {
     match entries.get(number) {
         Some(entry) => save_content(durable, &entry.present, number, age),
-        None => save_read(durable, room, number, age),
+        None => save_read(durable, scratch, number, age),
     }
 }
 
@@ -103,7 +103,7 @@ fn journal_page<D: Device>(
     durable: &mut Durable<D>,
     table: &ObjectTable,
     entries: &Entries,
-    room: &mut Room,
+    scratch: &mut Scratch,
     number: u64,
     age: u64,
 ) -> Result<u64, JournalFault>
@@ -137,7 +137,7 @@ fn journal_page<D: Device>(
 {
     let header = table.header(number);
     match may_journal(durable, header, number) {
-        Ok(()) => match save_present(durable, entries, room, number, age) {
+        Ok(()) => match save_present(durable, entries, scratch, number, age) {
             Ok(generation) => Ok(generation),
             Err(_) => Err(JournalFault::Failed),
         },
@@ -158,32 +158,32 @@ impl<D: Device> Cache<D> {
         requires keepable { AreKeepable (parts_of D.disk self.old).geometry u64.MAX
             (frames_of (parts_of D.disk self.old)) }
         requires sound { (view_of D.disk self.old).is_sound }
-        requires later { (view_of D.disk self.old).aside.saved.age < age }
+        requires later { (view_of D.disk self.old).snapshots.saved.age < age }
         requires most { age ≤ 2 ^ 62 }
         ensures answer { IsJournalAnswer (D.disk self.old.durable.beneath) (D.disk self.new.durable.beneath)
-            (left_in (view_of D.disk self.old).aside) (view_of D.disk self.old).aside.saved
+            (left_in (view_of D.disk self.old).snapshots) (view_of D.disk self.old).snapshots.saved
             (is_page_now (parts_of D.disk self.old) number)
-            (is_still_saved (parts_of D.disk self.old) (view_of D.disk self.old).aside.saved number) result }
+            (is_still_saved (parts_of D.disk self.old) (view_of D.disk self.old).snapshots.saved number) result }
         ensures turned_away { IsTurnedAway result → self.new ≡ self.old }
         ensures rest { self.new ≡ record self.old { durable = self.new.durable } }
         ensures geometry { (stored_of D.disk self.new.durable).saved.geometry
             ≡ (stored_of D.disk self.old.durable).saved.geometry }
-        ensures aside { OnOk result ((view_of D.disk self.new).aside ≡ aside_after_journal age number
-            (words_now (parts_of D.disk self.old) number) (view_of D.disk self.old).aside) }
-        ensures unchanged { OnErr result ((view_of D.disk self.new).aside ≡ (view_of D.disk self.old).aside) }
+        ensures snapshots { OnOk result ((view_of D.disk self.new).snapshots ≡ snapshots_after_journal age number
+            (words_now (parts_of D.disk self.old) number) (view_of D.disk self.old).snapshots) }
+        ensures unchanged { OnErr result ((view_of D.disk self.new).snapshots ≡ (view_of D.disk self.old).snapshots) }
         ensures sound { IsErrOf result JournalFault.Failed ⊎ (view_of D.disk self.new).is_sound }
         ensures size { (D.disk self.new.durable.beneath).sectors ≡ (D.disk self.old.durable.beneath).sectors }
         ensures any_moment { LeavesOneOf (D.disk self.old.durable.beneath) (D.disk self.new.durable.beneath)
-            (view_of D.disk self.old).aside.saved (next_journaled age number
-            (words_now (parts_of D.disk self.old) number) (view_of D.disk self.old).aside.frozen
-            (view_of D.disk self.old).aside.saved (is_page_now (parts_of D.disk self.old) number)
-            (is_still_saved (parts_of D.disk self.old) (view_of D.disk self.old).aside.saved number)) }
+            (view_of D.disk self.old).snapshots.saved (next_journaled age number
+            (words_now (parts_of D.disk self.old) number) (view_of D.disk self.old).snapshots.frozen
+            (view_of D.disk self.old).snapshots.saved (is_page_now (parts_of D.disk self.old) number)
+            (is_still_saved (parts_of D.disk self.old) (view_of D.disk self.old).snapshots.saved number)) }
     {
         journal_page(
             &mut self.durable,
             &self.table,
             &self.entries,
-            &mut self.room,
+            &mut self.scratch,
             number,
             age,
         )

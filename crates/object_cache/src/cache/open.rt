@@ -1,15 +1,15 @@
 // A cache is made over a store that was opened, and filled.
 ghost use Rattle.std.specs.Prelude.{◌≡◌, ℕ, ◌≤◌, [], None, false, length, replicate, IfOk, IfErr, OnOk};
 ghost use Rattle.migrator.specs.Durable.{stored_of};
-ghost use Rattle.object_cache.specs.StoreState.{IsJustOpened, IsMadeOver, IsWhole, seat_at};
+ghost use Rattle.object_cache.specs.StoreState.{IsJustOpened, IsMadeOver, IsWhole, cached_at};
 
 use crate::cache::Cache;
-use crate::hand::Hand;
 use crate::headers::Headers;
+use crate::staging::Staging;
 use cache_entries::{Capacity, Entries};
 use capability::ObjectTable;
 use device::Device;
-use layout::Room;
+use layout::Scratch;
 use migrator::Durable;
 use model::{Cap, Content, ObjectHeader};
 use number_set::NumberSet;
@@ -42,8 +42,8 @@ impl Marks {
 #[derive(Drop)]
 struct Bodies {
     entries: Entries,
-    hand: Hand,
-    room: Room,
+    staging: Staging,
+    scratch: Scratch,
 }
 
 impl Bodies {
@@ -53,13 +53,13 @@ impl Bodies {
           order = [];
           most = capacity;
         }) }
-        ensures hand { IfOk result (λ bodies. bodies.hand ≡ None) }
+        ensures staging { IfOk result (λ bodies. bodies.staging ≡ None) }
         ensures least { OnOk result (8 ≤ capacity) }
     {
         Ok(Bodies {
             entries: Entries::new(alloc, capacity, count)?,
-            hand: Hand::new(alloc)?,
-            room: Room::new(alloc)?,
+            staging: Staging::new(alloc)?,
+            scratch: Scratch::new(alloc)?,
         })
     }
 }
@@ -90,7 +90,7 @@ impl Reserve {
           order = [];
           most = capacity;
         }) }
-        ensures hand { IfOk result (λ reserve. reserve.bodies.hand ≡ None) }
+        ensures staging { IfOk result (λ reserve. reserve.bodies.staging ≡ None) }
         ensures least { OnOk result (8 ≤ capacity) }
     {
         let count = headers.len();
@@ -132,8 +132,8 @@ impl<D: Device> Cache<D> {
                     pending: marks.pending,
                     frozen_headers,
                     left: 0,
-                    hand: bodies.hand,
-                    room: bodies.room,
+                    staging: bodies.staging,
+                    scratch: bodies.scratch,
                 })
             }
             Err(_) => Err(durable),
@@ -144,16 +144,16 @@ impl<D: Device> Cache<D> {
     pub(crate) fn fill(&mut self, bodies: Vec<Content<Cap>>) -> Result<(), AllocError>
         requires bodies { bodies.items ≡ self.old.contents }
         requires each { length self.old.contents ≡ length self.old.headers }
-        requires unseated { (n : ℕ) → seat_at self.old.seats n ≡ None }
+        requires uncached { (n : ℕ) → cached_at self.old.cached n ≡ None }
         requires none { self.old.order ≡ [] }
         requires room { length self.old.headers ≤ self.old.most }
         ensures whole { OnOk result (IsWhole self.new) }
-        ensures rest { self.new ≡ record self.old { seats = self.new.seats; owed = self.new.owed; order = self.new.order } }
+        ensures rest { self.new ≡ record self.old { cached = self.new.cached; owed = self.new.owed; order = self.new.order } }
     {
         let mut bodies = bodies;
         for number in 0..bodies.len() {
             let body = mem::replace(&mut bodies[number], Content::Free);
-            self.seat(number as u64, body)?;
+            self.cached(number as u64, body)?;
         }
         Ok(())
     }

@@ -4,17 +4,17 @@ ghost use Rattle.std.specs.List.{All, Contains};
 ghost use Rattle.model.specs.Keepable.{AreKeepable};
 ghost use Rattle.model.specs.Machine.{touching, touched_count};
 ghost use Rattle.capability.specs.Parts.{frames_of};
-ghost use Rattle.capability.specs.Plain.{room_at};
+ghost use Rattle.capability.specs.Plain.{spare_body_at};
 ghost use Rattle.checkpoint.specs.Saved.{most};
 ghost use Rattle.migrator.specs.Durable.{stored_of};
 ghost use Rattle.cache_entries.specs.Order.{used_in_turn};
 ghost use Rattle.object_cache.specs.Memory.{Shared};
 ghost use Rattle.object_cache.specs.StoreState.{GoesOnIn, IsAnnouncedIn, IsFetchedIn, owed_at, parts_of};
-ghost use Rattle.object_cache.specs.Prepared.{HasRoomIn, on_device_with, readied};
+ghost use Rattle.object_cache.specs.Prepared.{HasSpareBodyIn, on_device_with, readied};
 
 use crate::cache::Cache;
 use crate::owed::is_shared;
-use capability::plain::rooms::blank;
+use capability::plain::spare_bodies::blank;
 use capability::plain::touched::{are_ready, fresh_count, mark};
 use capability::{MAX_FETCHED, PrepareFault};
 use device::Device;
@@ -31,7 +31,7 @@ impl<D: Device> Cache<D> {
         ensures rest { self.new ≡ record self.old { order = self.new.order } }
         ensures within { touched_count self.old.touched
             ≤ (stored_of D.disk self.old.durable).saved.geometry.log }
-        ensures leads { GoesOnIn D.disk self.old self.new }
+        ensures continues { GoesOnIn D.disk self.old self.new }
     {
         self.entries.use_again(numbers)
     }
@@ -62,11 +62,11 @@ impl<D: Device> Cache<D> {
         }) }
         ensures unchanged { OnErr result (self.new ≡ self.old) }
         ensures announced { OnOk result ((n : ℕ) → Contains written.now n
-            → HasRoomIn D.disk self.old n → IsAnnouncedIn D.disk self.new n) }
+            → HasSpareBodyIn D.disk self.old n → IsAnnouncedIn D.disk self.new n) }
         ensures fetched { (n : ℕ) → IsFetchedIn self.old n → IsFetchedIn self.new n }
         ensures within { touched_count self.new.touched
             ≤ (stored_of D.disk self.new.durable).saved.geometry.log }
-        ensures leads { GoesOnIn D.disk self.old self.new }
+        ensures continues { GoesOnIn D.disk self.old self.new }
         ensures full { IsErrOf result PrepareFault.LogFull
             ↔ ((stored_of D.disk self.old.durable).saved.geometry.log
             < touched_count (touching self.old.touched written.now)) }
@@ -134,23 +134,23 @@ impl<D: Device> Cache<D> {
     pub(crate) fn reserve(&mut self, alloc: Global, number: u64) -> Result<(), AllocError>
         requires { IsFetchedIn self.old number }
         ensures reserved { OnOk result (self.new ≡ record self.old {
-          seats = slice_set self.old.seats number
-              (Some (room_at (stored_of D.disk self.old.durable).saved.geometry number));
+          cached = slice_set self.old.cached number
+              (Some (spare_body_at (stored_of D.disk self.old.durable).saved.geometry number));
         }) }
         ensures unchanged { OnErr result (self.new ≡ self.old) }
     {
         let room = blank(alloc, self.durable.geometry(), number)?;
-        drop(self.entries.replace_room(number, room));
+        drop(self.entries.replace_buffer(number, room));
         Ok(())
     }
 
     // Puts a blank body aside for a number, where it has an entry.
-    fn reserve_seated(&mut self, alloc: Global, number: u64) -> Result<(), AllocError>
+    fn reserve_cached(&mut self, alloc: Global, number: u64) -> Result<(), AllocError>
         requires { number < length self.old.headers }
-        ensures room { OnOk result (HasRoomIn D.disk self.new number) }
-        ensures others { (n : ℕ) → HasRoomIn D.disk self.old n → HasRoomIn D.disk self.new n }
+        ensures room { OnOk result (HasSpareBodyIn D.disk self.new number) }
+        ensures others { (n : ℕ) → HasSpareBodyIn D.disk self.old n → HasSpareBodyIn D.disk self.new n }
         ensures fetched { (n : ℕ) → IsFetchedIn self.old n → IsFetchedIn self.new n }
-        ensures rest { self.new ≡ record self.old { seats = self.new.seats } }
+        ensures rest { self.new ≡ record self.old { cached = self.new.cached } }
     {
         if self.entries.holds(number) {
             return self.reserve(alloc, number);
@@ -161,13 +161,13 @@ impl<D: Device> Cache<D> {
     // Does so where the number is free.
     fn reserve_free(&mut self, alloc: Global, number: u64) -> Result<(), AllocError>
         requires { number < length self.old.headers }
-        ensures room { OnOk result (HasRoomIn D.disk self.new number) }
-        ensures others { (n : ℕ) → HasRoomIn D.disk self.old n → HasRoomIn D.disk self.new n }
+        ensures room { OnOk result (HasSpareBodyIn D.disk self.new number) }
+        ensures others { (n : ℕ) → HasSpareBodyIn D.disk self.old n → HasSpareBodyIn D.disk self.new n }
         ensures fetched { (n : ℕ) → IsFetchedIn self.old n → IsFetchedIn self.new n }
-        ensures rest { self.new ≡ record self.old { seats = self.new.seats } }
+        ensures rest { self.new ≡ record self.old { cached = self.new.cached } }
     {
         if let Role::Free = self.table.header(number).role {
-            return self.reserve_seated(alloc, number);
+            return self.reserve_cached(alloc, number);
         }
         Ok(())
     }
@@ -176,9 +176,9 @@ impl<D: Device> Cache<D> {
     fn reserve_all(&mut self, alloc: Global, written: &[u64]) -> Result<(), AllocError>
         requires { All (λ n. n < length self.old.headers) written.now }
         ensures room { OnOk result ((n : ℕ) → Contains written.now n
-            → HasRoomIn D.disk self.new n) }
+            → HasSpareBodyIn D.disk self.new n) }
         ensures fetched { (n : ℕ) → IsFetchedIn self.old n → IsFetchedIn self.new n }
-        ensures rest { self.new ≡ record self.old { seats = self.new.seats } }
+        ensures rest { self.new ≡ record self.old { cached = self.new.cached } }
     {
         for number in written {
             self.reserve_free(alloc, *number)?;
@@ -188,14 +188,14 @@ impl<D: Device> Cache<D> {
 
     // Keeps apart what the numbers of a list were frozen as, and puts room aside for those that are
     // free.
-    fn set_aside(&mut self, alloc: Global, written: &[u64]) -> Result<(), AllocError>
+    fn copy_frozen_bodies(&mut self, alloc: Global, written: &[u64]) -> Result<(), AllocError>
         requires { All (λ n. n < length self.old.headers) written.now }
         ensures apart { OnOk result ((n : ℕ) → Contains written.now n
             → owed_at self.new.owed n ≢ Shared) }
         ensures room { OnOk result ((n : ℕ) → Contains written.now n
-            → HasRoomIn D.disk self.new n) }
+            → HasSpareBodyIn D.disk self.new n) }
         ensures fetched { (n : ℕ) → IsFetchedIn self.old n → IsFetchedIn self.new n }
-        ensures rest { self.new ≡ record self.old { owed = self.new.owed; seats = self.new.seats } }
+        ensures rest { self.new ≡ record self.old { owed = self.new.owed; cached = self.new.cached } }
     {
         self.keep_all_apart(alloc, written)?;
         self.reserve_all(alloc, written)
@@ -208,30 +208,30 @@ impl<D: Device> Cache<D> {
         ensures apart { OnOk result ((n : ℕ) → Contains written.now n
             → owed_at self.new.owed n ≢ Shared) }
         ensures room { OnOk result ((n : ℕ) → Contains written.now n
-            → HasRoomIn D.disk self.new n) }
+            → HasSpareBodyIn D.disk self.new n) }
         ensures fetched { (n : ℕ) → IsFetchedIn self.old n → IsFetchedIn self.new n }
-        ensures rest { self.new ≡ record self.old { owed = self.new.owed; seats = self.new.seats } }
+        ensures rest { self.new ≡ record self.old { owed = self.new.owed; cached = self.new.cached } }
         ensures full { IsErrOf result PrepareFault.LogFull → ⊥ }
         ensures cause { IsErrOf result PrepareFault.Failed → ⊥ }
     {
-        match self.set_aside(alloc, written) {
+        match self.copy_frozen_bodies(alloc, written) {
             Ok(()) => Ok(()),
             Err(_) => Err(PrepareFault::NoMemory),
         }
     }
 
     // Leaves no body in the hand, as a part of preparing.
-    fn free_hand(&mut self) -> Result<(), PrepareFault>
-        ensures empty { OnOk result (self.new.hand ≡ None) }
+    fn free_staging(&mut self) -> Result<(), PrepareFault>
+        ensures empty { OnOk result (self.new.staging ≡ None) }
         ensures within { touched_count self.old.touched
             ≤ (stored_of D.disk self.old.durable).saved.geometry.log }
         ensures rest { self.new ≡ on_device_with self.old self.new }
-        ensures leads { GoesOnIn D.disk self.old self.new }
+        ensures continues { GoesOnIn D.disk self.old self.new }
         ensures full { IsErrOf result PrepareFault.LogFull → ⊥ }
         ensures cause { IsErrOf result PrepareFault.Failed
             ↔ ((D.disk self.old.durable.beneath).failures < (D.disk self.new.durable.beneath).failures) }
     {
-        match self.empty_hand() {
+        match self.empty_staging() {
             Ok(()) => Ok(()),
             Err(_) => Err(PrepareFault::Failed),
         }
@@ -247,12 +247,12 @@ impl<D: Device> Cache<D> {
         ensures within { touched_count self.old.touched
             ≤ (stored_of D.disk self.old.durable).saved.geometry.log }
         ensures rest { self.new ≡ on_device_with self.old self.new }
-        ensures leads { GoesOnIn D.disk self.old self.new }
+        ensures continues { GoesOnIn D.disk self.old self.new }
         ensures full { IsErrOf result PrepareFault.LogFull → ⊥ }
         ensures cause { IsErrOf result PrepareFault.Failed
             ↔ ((D.disk self.old.durable.beneath).failures < (D.disk self.new.durable.beneath).failures) }
     {
-        self.free_hand()?;
+        self.free_staging()?;
         self.fetch_all(alloc, fetched)
     }
 
@@ -267,7 +267,7 @@ impl<D: Device> Cache<D> {
         ensures within { touched_count self.old.touched
             ≤ (stored_of D.disk self.old.durable).saved.geometry.log }
         ensures rest { self.new ≡ on_device_with self.old self.new }
-        ensures leads { GoesOnIn D.disk self.old self.new }
+        ensures continues { GoesOnIn D.disk self.old self.new }
         ensures full { IsErrOf result PrepareFault.LogFull → ⊥ }
         ensures cause { IsErrOf result PrepareFault.Failed
             ↔ ((D.disk self.old.durable.beneath).failures < (D.disk self.new.durable.beneath).failures) }
@@ -299,7 +299,7 @@ impl<D: Device> Cache<D> {
             ≤ (stored_of D.disk self.old.durable).saved.geometry.log }
         ensures fetched { (n : ℕ) → IsFetchedIn self.old n → IsFetchedIn self.new n }
         ensures rest { self.new ≡ readied self.old self.new }
-        ensures leads { GoesOnIn D.disk self.old self.new }
+        ensures continues { GoesOnIn D.disk self.old self.new }
         ensures full { IsErrOf result PrepareFault.LogFull
             → (stored_of D.disk self.old.durable).saved.geometry.log
             < touched_count (touching self.old.touched written.now) }
@@ -344,7 +344,7 @@ impl<D: Device> Cache<D> {
             < touched_count (touching self.old.touched written.now) }
         ensures cause { IsErrOf result PrepareFault.Failed
             ↔ ((D.disk self.old.durable.beneath).failures < (D.disk self.new.durable.beneath).failures) }
-        ensures leads { GoesOnIn D.disk self.old self.new }
+        ensures continues { GoesOnIn D.disk self.old self.new }
     {
         self.fetch(alloc, fetched)?;
         self.make_writable(alloc, written)

@@ -14,29 +14,29 @@ use checkpoint::CheckpointFault;
 use device::{Device, Failed};
 
 impl<D: Device> Cache<D> {
-    // Reads a pending object's frozen body into `hand`. After `Failed`, `hand` is still empty.
+    // Reads a pending object's frozen body into `staging`. After `Failed`, `staging` is still empty.
     fn take_below(&mut self, number: u64) -> Result<(), Failed>
         requires pending { mark_at self.old.pending number ≡ true }
-        requires empty { self.old.hand ≡ None }
-        ensures held { OnOk result ((h : Held) × (self.new.hand ≡ Some h) × (h.number ≡ number)) }
-        ensures rest { self.new ≡ record self.old { durable = self.new.durable; hand = self.new.hand } }
-        ensures leads { GoesOnIn D.disk self.old self.new }
+        requires empty { self.old.staging ≡ None }
+        ensures held { OnOk result ((h : Held) × (self.new.staging ≡ Some h) × (h.number ≡ number)) }
+        ensures rest { self.new ≡ record self.old { durable = self.new.durable; staging = self.new.staging } }
+        ensures continues { GoesOnIn D.disk self.old self.new }
         ensures cause { Counts (D.disk self.old.durable.beneath) (D.disk self.new.durable.beneath) result }
     {
-        let read = self.durable.fetch_below(number, &mut self.room)?;
-        self.hand.take_up(number, read.1, &mut self.room);
+        let read = self.durable.fetch_below(number, &mut self.scratch)?;
+        self.staging.take_up(number, read.1, &mut self.scratch);
         Ok(())
     }
 
     // Writes the frozen frame of a pending object whose frozen body is in no cache entry. After
-    // `Failed` the body is in `hand`, or where it was.
+    // `Failed` the body is in `staging`, or where it was.
     fn put_below(&mut self, number: u64) -> Result<(), Failed>
         requires pending { mark_at self.old.pending number ≡ true }
-        requires empty { self.old.hand ≡ None }
+        requires empty { self.old.staging ≡ None }
         requires owed { owed_at self.old.owed number ≡ Nothing }
         ensures fewer { OnOk result (pending_count self.new < pending_count self.old) }
         ensures put { self.new ≡ on_device self.old self.new }
-        ensures leads { GoesOnIn D.disk self.old self.new }
+        ensures continues { GoesOnIn D.disk self.old self.new }
         ensures cause { Counts (D.disk self.old.durable.beneath) (D.disk self.new.durable.beneath) result }
     {
         self.take_below(number)?;
@@ -46,10 +46,10 @@ impl<D: Device> Cache<D> {
     // Puts the frozen frame of an object, where no body is in the hand.
     fn put_pending(&mut self, number: u64) -> Result<(), Failed>
         requires pending { mark_at self.old.pending number ≡ true }
-        requires empty { self.old.hand ≡ None }
+        requires empty { self.old.staging ≡ None }
         ensures fewer { OnOk result (pending_count self.new < pending_count self.old) }
         ensures put { self.new ≡ on_device self.old self.new }
-        ensures leads { GoesOnIn D.disk self.old self.new }
+        ensures continues { GoesOnIn D.disk self.old self.new }
         ensures cause { Counts (D.disk self.old.durable.beneath) (D.disk self.new.durable.beneath) result }
     {
         let _ = &self.durable;
@@ -65,11 +65,11 @@ impl<D: Device> Cache<D> {
         ensures fewer { OnOk result (pending_count self.new ≤ pending_count self.old - 1) }
         ensures few { (f : FrozenFrames) → self.old.frozen ≡ Some f → pending_count self.old ≤ f.left }
         ensures put { self.new ≡ on_device self.old self.new }
-        ensures leads { GoesOnIn D.disk self.old self.new }
+        ensures continues { GoesOnIn D.disk self.old self.new }
         ensures cause { Counts (D.disk self.old.durable.beneath) (D.disk self.new.durable.beneath) result }
     {
-        if self.hand.is_held() {
-            return self.empty_hand();
+        if self.staging.is_held() {
+            return self.empty_staging();
         }
         match self.pending.next(0) {
             Some(number) => self.put_pending(number as u64),
@@ -116,20 +116,20 @@ impl<D: Device> Cache<D> {
     /// written. It takes no memory.
     pub fn stabilize(&mut self, count: u64) -> Result<u64, CheckpointFault>
         ensures answer { IsStabilizeAnswer (D.disk self.old.durable.beneath) (D.disk self.new.durable.beneath)
-            (left_in (view_of D.disk self.old).aside) count result }
+            (left_in (view_of D.disk self.old).snapshots) count result }
         ensures unchanged { IsRefused result → self.new ≡ self.old }
         ensures rest { self.new ≡ on_device_frozen self.old self.new }
         ensures geometry { (parts_of D.disk self.new).geometry ≡ (parts_of D.disk self.old).geometry }
-        ensures aside { (f : FrozenFrames) → (view_of D.disk self.old).aside.frozen ≡ Some f
-            → OnOk result ((view_of D.disk self.new).aside ≡ stabilized count f (view_of D.disk self.old).aside) }
-        ensures stopped { (f : FrozenFrames) → (view_of D.disk self.old).aside.frozen ≡ Some f
+        ensures snapshots { (f : FrozenFrames) → (view_of D.disk self.old).snapshots.frozen ≡ Some f
+            → OnOk result ((view_of D.disk self.new).snapshots ≡ stabilized count f (view_of D.disk self.old).snapshots) }
+        ensures stopped { (f : FrozenFrames) → (view_of D.disk self.old).snapshots.frozen ≡ Some f
             → OnErr result ((k : ℕ) × (k ≤ count)
-            × ((view_of D.disk self.new).aside ≡ stabilized k f (view_of D.disk self.old).aside)) }
+            × ((view_of D.disk self.new).snapshots ≡ stabilized k f (view_of D.disk self.old).snapshots)) }
         ensures sound { (view_of D.disk self.old).is_sound → (view_of D.disk self.new).is_sound }
         ensures size { (D.disk self.new.durable.beneath).sectors ≡ (D.disk self.old.durable.beneath).sectors }
         ensures any_moment { (view_of D.disk self.old).is_sound
             → LeavesSaved (D.disk self.old.durable.beneath) (D.disk self.new.durable.beneath)
-            (view_of D.disk self.old).aside.saved }
+            (view_of D.disk self.old).snapshots.saved }
     {
         let Some(left) = self.left() else {
             return Err(CheckpointFault::NoCheckpoint);

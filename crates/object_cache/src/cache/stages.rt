@@ -7,7 +7,7 @@ ghost use Rattle.capability.specs.Parts.{frames_of};
 ghost use Rattle.checkpoint.specs.Saved.{most, LeavesEither};
 ghost use Rattle.migrator.specs.Durable.{stored_of, is_sound};
 ghost use Rattle.checkpoint.specs.Refused.{IsCommitAnswer, IsFreezeAnswer, IsRefused};
-ghost use Rattle.object_store.specs.Store.{FrozenFrames, MayCommit, aside_after_commit, freezing, left_in, moved, moved_saved, next_saved};
+ghost use Rattle.object_store.specs.Store.{FrozenFrames, MayCommit, snapshots_after_commit, freezing, left_in, moved, moved_saved, next_saved};
 ghost use Rattle.object_cache.specs.StoreState.{AreObjectsOf, IsWhole, parts_of, view_of};
 
 use crate::all_objects::{AllObjects, take_bodies};
@@ -69,16 +69,16 @@ impl<D: Device> Cache<D> {
 
     /// The generation, the age and the number of entries of the committed checkpoint.
     pub fn saved(&self) -> Checkpoint
-        ensures generation { result.generation ≡ (view_of D.disk self.now).aside.saved.generation }
-        ensures age { result.age ≡ (view_of D.disk self.now).aside.saved.age }
-        ensures entries { result.entries ≡ (view_of D.disk self.now).aside.saved.entries }
+        ensures generation { result.generation ≡ (view_of D.disk self.now).snapshots.saved.generation }
+        ensures age { result.age ≡ (view_of D.disk self.now).snapshots.saved.age }
+        ensures entries { result.entries ≡ (view_of D.disk self.now).snapshots.saved.entries }
     {
         self.durable.saved()
     }
 
     /// How many objects of a checkpoint on its way are said to be left, where there is one.
     pub fn left(&self) -> Option<u64>
-        ensures { result ≡ left_in (view_of D.disk self.now).aside }
+        ensures { result ≡ left_in (view_of D.disk self.now).snapshots }
     {
         match self.durable.left() {
             Some(_) => Some(self.left),
@@ -91,20 +91,20 @@ impl<D: Device> Cache<D> {
     /// `stabilize` has yet to reach `left` of its objects, and changes nothing then.
     pub fn commit(&mut self, age: u64) -> Result<u64, CheckpointFault>
         requires sound { (view_of D.disk self.old).is_sound }
-        requires ready { (f : FrozenFrames) → (view_of D.disk self.old).aside.frozen ≡ Some f
-            → MayCommit age f (view_of D.disk self.old).aside.saved }
+        requires ready { (f : FrozenFrames) → (view_of D.disk self.old).snapshots.frozen ≡ Some f
+            → MayCommit age f (view_of D.disk self.old).snapshots.saved }
         ensures answer { IsCommitAnswer (D.disk self.old.durable.beneath) (D.disk self.new.durable.beneath)
-            (left_in (view_of D.disk self.old).aside) (view_of D.disk self.old).aside.saved.generation result }
+            (left_in (view_of D.disk self.old).snapshots) (view_of D.disk self.old).snapshots.saved.generation result }
         ensures unchanged { IsRefused result → self.new ≡ self.old }
         ensures rest { self.new ≡ record self.old { durable = self.new.durable; frozen = self.new.frozen } }
         ensures geometry { (parts_of D.disk self.new).geometry ≡ (parts_of D.disk self.old).geometry }
-        ensures aside { (f : FrozenFrames) → (view_of D.disk self.old).aside.frozen ≡ Some f
-            → OnOk result ((view_of D.disk self.new).aside ≡ aside_after_commit age f (view_of D.disk self.old).aside) }
+        ensures snapshots { (f : FrozenFrames) → (view_of D.disk self.old).snapshots.frozen ≡ Some f
+            → OnOk result ((view_of D.disk self.new).snapshots ≡ snapshots_after_commit age f (view_of D.disk self.old).snapshots) }
         ensures sound { OnOk result ((view_of D.disk self.new).is_sound) }
         ensures size { (D.disk self.new.durable.beneath).sectors ≡ (D.disk self.old.durable.beneath).sectors }
-        ensures any_moment { (f : FrozenFrames) → (view_of D.disk self.old).aside.frozen ≡ Some f → f.left ≡ 0
+        ensures any_moment { (f : FrozenFrames) → (view_of D.disk self.old).snapshots.frozen ≡ Some f → f.left ≡ 0
             → LeavesEither (D.disk self.old.durable.beneath) (D.disk self.new.durable.beneath)
-            (view_of D.disk self.old).aside.saved (next_saved age f (view_of D.disk self.old).aside.saved) }
+            (view_of D.disk self.old).snapshots.saved (next_saved age f (view_of D.disk self.old).snapshots.saved) }
     {
         let Some(left) = self.left() else {
             return Err(CheckpointFault::NoCheckpoint);
@@ -118,20 +118,20 @@ impl<D: Device> Cache<D> {
     // Commits the frozen frames. All of them are in the log.
     fn save(&mut self, age: u64) -> Result<u64, CheckpointFault>
         requires sound { (view_of D.disk self.old).is_sound }
-        requires ready { (f : FrozenFrames) × ((view_of D.disk self.old).aside.frozen ≡ Some f)
-            × (f.left ≡ 0) × MayCommit age f (view_of D.disk self.old).aside.saved }
+        requires ready { (f : FrozenFrames) × ((view_of D.disk self.old).snapshots.frozen ≡ Some f)
+            × (f.left ≡ 0) × MayCommit age f (view_of D.disk self.old).snapshots.saved }
         ensures answer { IsCommitAnswer (D.disk self.old.durable.beneath) (D.disk self.new.durable.beneath)
-            (Some 0) (view_of D.disk self.old).aside.saved.generation result }
+            (Some 0) (view_of D.disk self.old).snapshots.saved.generation result }
         ensures unchanged { IsRefused result → self.new ≡ self.old }
         ensures rest { self.new ≡ record self.old { durable = self.new.durable; frozen = self.new.frozen } }
         ensures geometry { (parts_of D.disk self.new).geometry ≡ (parts_of D.disk self.old).geometry }
-        ensures aside { (f : FrozenFrames) → (view_of D.disk self.old).aside.frozen ≡ Some f
-            → OnOk result ((view_of D.disk self.new).aside ≡ aside_after_commit age f (view_of D.disk self.old).aside) }
+        ensures snapshots { (f : FrozenFrames) → (view_of D.disk self.old).snapshots.frozen ≡ Some f
+            → OnOk result ((view_of D.disk self.new).snapshots ≡ snapshots_after_commit age f (view_of D.disk self.old).snapshots) }
         ensures sound { OnOk result ((view_of D.disk self.new).is_sound) }
         ensures size { (D.disk self.new.durable.beneath).sectors ≡ (D.disk self.old.durable.beneath).sectors }
-        ensures any_moment { (f : FrozenFrames) → (view_of D.disk self.old).aside.frozen ≡ Some f
+        ensures any_moment { (f : FrozenFrames) → (view_of D.disk self.old).snapshots.frozen ≡ Some f
             → LeavesEither (D.disk self.old.durable.beneath) (D.disk self.new.durable.beneath)
-            (view_of D.disk self.old).aside.saved (next_saved age f (view_of D.disk self.old).aside.saved) }
+            (view_of D.disk self.old).snapshots.saved (next_saved age f (view_of D.disk self.old).snapshots.saved) }
     {
         self.durable.commit(age)
     }
@@ -143,18 +143,18 @@ impl<D: Device> Cache<D> {
     pub fn freeze(&mut self) -> Result<u64, CheckpointFault>
         requires keepable { AreKeepable (parts_of D.disk self.old).geometry most
             (frames_of (parts_of D.disk self.old)) }
-        ensures answer { IsFreezeAnswer (left_in (view_of D.disk self.old).aside)
-            (view_of D.disk self.old).aside.saved.entries result }
+        ensures answer { IsFreezeAnswer (left_in (view_of D.disk self.old).snapshots)
+            (view_of D.disk self.old).snapshots.saved.entries result }
         ensures unchanged { OnErr result (self.new ≡ self.old) }
         ensures size { IfOk result (λ n. n ≡ touched_count self.old.touched) }
         ensures most { self.new.most ≡ self.old.most }
-        ensures seats { self.new.seats ≡ self.old.seats }
+        ensures cached { self.new.cached ≡ self.old.cached }
         ensures headers { self.new.headers ≡ self.old.headers }
         ensures contents { self.new.contents ≡ self.old.contents }
         ensures touched { OnOk result (self.new.touched ≡ untouched (parts_of D.disk self.old).geometry) }
-        ensures aside { OnOk result ((view_of D.disk self.new).aside
-            ≡ freezing (frames_of (parts_of D.disk self.old)) (touched_count self.old.touched) (view_of D.disk self.old).aside) }
-        ensures saved { (view_of D.disk self.new).aside.saved ≡ (view_of D.disk self.old).aside.saved }
+        ensures snapshots { OnOk result ((view_of D.disk self.new).snapshots
+            ≡ freezing (frames_of (parts_of D.disk self.old)) (touched_count self.old.touched) (view_of D.disk self.old).snapshots) }
+        ensures saved { (view_of D.disk self.new).snapshots.saved ≡ (view_of D.disk self.old).snapshots.saved }
         ensures beneath { self.new.durable.beneath ≡ self.old.durable.beneath }
         ensures sound { (view_of D.disk self.old).is_sound → (view_of D.disk self.new).is_sound }
     {
@@ -174,16 +174,16 @@ impl<D: Device> Cache<D> {
     pub fn migrate(&mut self, count: u64) -> Result<u64, Failed>
         requires sound { (view_of D.disk self.old).is_sound }
         ensures rest { self.new ≡ record self.old { durable = self.new.durable } }
-        ensures left { IfOk result (λ n. n ≡ (view_of D.disk self.old).aside.to_move - count) }
-        ensures aside { OnOk result ((view_of D.disk self.new).aside
-            ≡ moved count (view_of D.disk self.old).aside) }
-        ensures untouched { (view_of D.disk self.old).aside.saved.entries ≡ 0 → self.new ≡ self.old }
+        ensures left { IfOk result (λ n. n ≡ (view_of D.disk self.old).snapshots.to_move - count) }
+        ensures snapshots { OnOk result ((view_of D.disk self.new).snapshots
+            ≡ moved count (view_of D.disk self.old).snapshots) }
+        ensures untouched { (view_of D.disk self.old).snapshots.saved.entries ≡ 0 → self.new ≡ self.old }
         ensures sound { OnOk result ((view_of D.disk self.new).is_sound) }
         ensures geometry { (stored_of D.disk self.new.durable).saved.geometry
             ≡ (stored_of D.disk self.old.durable).saved.geometry }
         ensures size { (D.disk self.new.durable.beneath).sectors ≡ (D.disk self.old.durable.beneath).sectors }
         ensures any_moment { LeavesEither (D.disk self.old.durable.beneath) (D.disk self.new.durable.beneath)
-            (view_of D.disk self.old).aside.saved (moved_saved count (view_of D.disk self.old).aside) }
+            (view_of D.disk self.old).snapshots.saved (moved_saved count (view_of D.disk self.old).snapshots) }
         ensures cause { Counts (D.disk self.old.durable.beneath) (D.disk self.new.durable.beneath) result }
     {
         self.durable.migrate(count)

@@ -6,7 +6,7 @@ ghost use Rattle.checkpoint.specs.Saved.{most};
 ghost use Rattle.device.specs.Calls.{Counts};
 ghost use Rattle.model.specs.Keepable.{AreKeepable};
 ghost use Rattle.object_store.specs.Store.{OpensStore};
-ghost use Rattle.object_cache.specs.StoreState.{LeadsIn, on_device, parts_of, seat_at, view_of};
+ghost use Rattle.object_cache.specs.StoreState.{ContinuesIn, on_device, parts_of, cached_at, view_of};
 
 use crate::policy::Policy;
 use crate::saved_objects::SavedObjects;
@@ -70,12 +70,12 @@ impl<D: Device, P: Policy> ObjectStore<D> for Store<D, P> {
         requires known { number < length self.old.headers }
         requires keepable { AreKeepable (parts_of D.disk self.old).geometry most
             (frames_of (parts_of D.disk self.old)) }
-        ensures gone { OnOk result (P.KEEPS_ALL ≡ false → seat_at self.new.seats number ≡ None) }
+        ensures gone { OnOk result (P.KEEPS_ALL ≡ false → cached_at self.new.cached number ≡ None) }
         ensures rest { self.new ≡ record (on_device self.old self.new) {
-          seats = self.new.seats;
+          cached = self.new.cached;
           order = self.new.order;
         } }
-        ensures leads { LeadsIn P.KEEPS_ALL D.disk self.old self.new }
+        ensures continues { ContinuesIn P.KEEPS_ALL D.disk self.old self.new }
         ensures cause { Counts (D.disk self.old.durable.beneath) (D.disk self.new.durable.beneath) result }
     {
         if P::KEEPS_ALL {
@@ -105,11 +105,11 @@ impl<D: Device, P: Policy> ObjectStore<D> for Store<D, P> {
     }
 
     ghost use Rattle.std.proofs.Common.{refl};
-    ghost use Rattle.object_cache.specs.StoreLaws.{leads_by, holds_by};
+    ghost use Rattle.object_cache.specs.StoreLaws.{continues_by, holds_by};
 
-    ghost leads = { λ s t h. leads_by D.disk s t h.goes_on };
+    ghost continues = { λ s t h. continues_by D.disk s t h.goes_on };
 
-    ghost leads_peeks = { λ s t h none idle. h.goes_on.looks none idle };
+    ghost continues_peeks = { λ s t h none idle. h.goes_on.only_reads none idle };
 
     ghost sound_holds = { λ s c sound left. holds_by D.disk s c sound left };
 

@@ -7,7 +7,7 @@ use model::{Cap, Content, Geometry};
 use std::alloc::Global;
 
 impl<D: Device, P: Policy> PresentFrames for Store<D, P> {
-    ghost use Rattle.object_cache.specs.StoreState.{parts_of, IsFetchedIn, IsAnnouncedIn, LeadsIn, with_content_in};
+    ghost use Rattle.object_cache.specs.StoreState.{parts_of, IsFetchedIn, IsAnnouncedIn, ContinuesIn, with_content_in};
 
     ghost parts = { parts_of D.disk };
 
@@ -15,7 +15,7 @@ impl<D: Device, P: Policy> PresentFrames for Store<D, P> {
 
     ghost IsAnnounced = { IsAnnouncedIn D.disk };
 
-    ghost LeadsTo = { LeadsIn P.KEEPS_ALL D.disk };
+    ghost ContinuesTo = { ContinuesIn P.KEEPS_ALL D.disk };
 
     ghost with_content = { with_content_in };
 
@@ -64,7 +64,7 @@ impl<D: Device, P: Policy> PresentFrames for Store<D, P> {
     }
 
     ghost use Rattle.std.proofs.Common.{refl};
-    ghost use Rattle.object_cache.specs.PresentLaws.{leads_same, leads_with, leads_twice, fetched_content, announced_content};
+    ghost use Rattle.object_cache.specs.PresentLaws.{continues_same, continues_with, continues_twice, fetched_content, announced_content};
 
     ghost parts_with = { λ s n c. refl };
 
@@ -76,9 +76,9 @@ impl<D: Device, P: Policy> PresentFrames for Store<D, P> {
 
     ghost known_announced = { λ s n there. (there.header, there.content) };
 
-    ghost leads_same = { λ s. leads_same D.disk P.KEEPS_ALL D.only_now s };
+    ghost continues_same = { λ s. continues_same D.disk P.KEEPS_ALL D.only_now s };
 
-    ghost leads_with = { λ s t n c there first. leads_with D.disk P.KEEPS_ALL s t n c first };
+    ghost continues_with = { λ s t n c there first. continues_with D.disk P.KEEPS_ALL s t n c first };
 
-    ghost leads_twice = { λ s t u first second. leads_twice D.disk P.KEEPS_ALL D.counts_now s t u first second };
+    ghost continues_twice = { λ s t u first second. continues_twice D.disk P.KEEPS_ALL D.counts_now s t u first second };
 }

@@ -22,5 +22,5 @@ returns-clause-writes g c =
       cause = search rules;
       later = search rules;
       geometry = search rules;
-      leads = search rules;
+      continues = search rules;
     }

@@ -6,5 +6,5 @@ invariant-loop-number g l = record {
   given_up : AreGivenUp (take l.number-index l.numbers) (g.F.PresentFrames.parts l.initial.store) (g.F.PresentFrames.parts l.store);
   fetched : (n : ℕ) → is_member (take l.number-index l.numbers) n ≡ false → g.F.PresentFrames.IsFetched l.initial.store n → g.F.PresentFrames.IsFetched l.store n;
   announced : (n : ℕ) → is_member (take l.number-index l.numbers) n ≡ false → g.F.PresentFrames.IsAnnounced l.initial.store n → g.F.PresentFrames.IsAnnounced l.store n;
-  leads : g.F.PresentFrames.LeadsTo l.initial.store l.store;
+  continues : g.F.PresentFrames.ContinuesTo l.initial.store l.store;
 }

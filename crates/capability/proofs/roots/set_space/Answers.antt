@@ -15,7 +15,7 @@ returns g c =
     let at = M.known_announced s n c.requires.announced in
     let is = put (F.parts s) (F.parts (F.with_content s n new)) n (with_root_in (λ (r : Root Cap). record r { space = c.live_cap-held.result })) c.frame_mut.result.now new (M.parts_with s n new) c.put_space.ensures c.frame_mut.ensures.value in
     let held = c.live_cap-held.ensures ∙ ap (λ (hs : List ObjectHeader). live_cap hs c.args.capability) c.table.ensures in
-    edited F.parts F.IsFetched F.IsAnnounced F.LeadsTo F.with_content M.parts_with M.fetched_with M.announced_with M.leads_same M.leads_with s n new _ _ c.requires.announced
+    edited F.parts F.IsFetched F.IsAnnounced F.ContinuesTo F.with_content M.parts_with M.fetched_with M.announced_with M.continues_same M.continues_with s n new _ _ c.requires.announced
     (root_edit (F.parts s) _ n at.0 at.1 (λ (r : Root Cap). record r { space = c.live_cap-held.result }) (λ (r : Root Capability). with_space r c.args.capability)
     (λ age. IsKeptCap (F.parts s).geometry age (live_cap (F.parts s).headers c.args.capability) × IsSpace c.args.capability)
     (space_through (F.parts s).headers c.args.capability c.live_cap-held.result held) (λ r current. subst (IsCurrent (F.parts s).headers) (sym held) (omega arith))

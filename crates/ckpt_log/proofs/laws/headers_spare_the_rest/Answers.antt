@@ -1,8 +1,8 @@
-use Rattle.ckpt_log.proofs.BesideHeaders.{sequences_told, next_follows, spare_sectors, spare_frames, spare_slots, spare_directories}
+use Rattle.ckpt_log.proofs.BesideHeaders.{sequences_reported, next_follows, spare_sectors, spare_frames, spare_slots, spare_directories}
 use Rattle.ckpt_log.proofs.laws.headers_spare_the_rest.Goals as goal
 
 pub returns-clause-sequences : goal.returns-clause-sequences
-returns-clause-sequences c = sequences_told
+returns-clause-sequences c = sequences_reported
 
 pub returns-clause-next : goal.returns-clause-next
 returns-clause-next c = next_follows

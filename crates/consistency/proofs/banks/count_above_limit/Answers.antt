@@ -23,7 +23,7 @@ find_above_limit-requires-clause-limits g c =
     ∙ limits_count p.geometry (2 ^ 64 - 1) p c.requires.keepable c.table.result.now c.count-count.result c.table.ensures c.count-count.ensures
     c.in-Ok.usages.items c.in-Ok-read_limits.limits.items c.in-Ok.ensures.counted c.in-Ok-read_limits.ensures.limits
     ∙ all
-    ∙ sym (ap (λ (hs : List ObjectHeader). length hs) c.in-Ok-read_limits.ensures.aside.headers)
+    ∙ sym (ap (λ (hs : List ObjectHeader). length hs) c.in-Ok-read_limits.ensures.snapshots.headers)
 
 pub returns-clause-found : goal.returns-clause-found
 returns-clause-found g c =
@@ -31,8 +31,8 @@ returns-clause-found g c =
     let q = g.F.PresentFrames.parts c.read_limits.new.store in
     let usages = c.deref.result.now in
     let limits = c.deref-in-Ok-read_limits.result.now in
-    let aside = c.in-Ok-read_limits.ensures.aside in
-    let same : frames_of q ≡ frames_of p = frames_looked p q aside.headers aside.contents in
+    let snapshots = c.in-Ok-read_limits.ensures.snapshots in
+    let same : frames_of q ≡ frames_of p = frames_looked p q snapshots.headers snapshots.contents in
     limited p.geometry (2 ^ 64 - 1) p c.requires.keepable c.table.result.now c.count-count.result c.table.ensures c.count-count.ensures usages limits
     (λ b bank. ap (λ (xs : List ℕ). slice_index xs b) c.deref.ensures.value ∙ c.in-Ok.ensures.counted b bank)
     (c.deref-in-Ok-read_limits.ensures.value ∙ c.in-Ok-read_limits.ensures.limits)

@@ -7,5 +7,5 @@ invariant-loop-number g l =
     let fs = frames_of (g.F.PresentFrames.parts l.initial.store) in
     record {
       each : (m : ℕ) → m < l.number → All (IsNamed fs) (caps_in (frame_at fs m).content);
-      looked : HasLooked g.F.PresentFrames.parts g.F.PresentFrames.LeadsTo l.initial.store l.store;
+      looked : HasLooked g.F.PresentFrames.parts g.F.PresentFrames.ContinuesTo l.initial.store l.store;
     }

@@ -9,5 +9,5 @@ invariant-loop-number g l =
       count : vec_len l.notes ≡ l.number;
       room : l.count ≤ vec_capacity l.notes;
       each : (m : ℕ) → m < l.number → note_at l.notes.items m ≡ noted_in (frame_at fs m).content;
-      looked : HasLooked g.F.PresentFrames.parts g.F.PresentFrames.LeadsTo l.initial.store l.store;
+      looked : HasLooked g.F.PresentFrames.parts g.F.PresentFrames.ContinuesTo l.initial.store l.store;
     }

@@ -5,8 +5,8 @@ use Rattle.description_explainer.proofs.explaining.explain_description.Goals as 
 pub returns-in-Some : goal.returns-in-Some
 returns-in-Some c table is =
     let d = c.args.description in
-    let told = subst (λ found. ExplainsDescription d found) c.in-Some.is c.in_ok-found.ensures in
-    ((is, told.0), λ sectors. refused_rule table d sectors c.in-Some.rule is (told.1 sectors))
+    let reported = subst (λ found. ExplainsDescription d found) c.in-Some.is c.in_ok-found.ensures in
+    ((is, reported.0), λ sectors. refused_rule table d sectors c.in-Some.rule is (reported.1 sectors))
 
 pub returns : goal.returns
 returns c table is =

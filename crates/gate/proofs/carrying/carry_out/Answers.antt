@@ -20,7 +20,7 @@ change-requires g c =
     let mid = g.F.PresentFrames.parts c.leave.new.store in
     let caller = c.args.caller in
     let banks = c.args.banks.now in
-    let same = c.leave.ensures.aside.geometry in
+    let same = c.leave.ensures.snapshots.geometry in
     let sound : AreSound mid = before_sound old mid banks c.requires.sound c.requires.counted caller.operation caller.process c.requires.running c.leave.ensures.objects same
     (c.leave.ensures.current c.requires.sound.1.current) (c.leave.ensures.keepable c.requires.sound.0 c.requires.sound.1.keepable) in
     let may = before_may old mid banks c.requires.sound c.requires.counted caller.operation caller.process c.requires.running c.leave.ensures.objects same
@@ -32,15 +32,15 @@ change-requires g c =
       may = may;
       within = writers_within caller.operation caller.process caller.annex (drop (writer_count caller.operation) banks.listed) banks.listed c.requires.planned.listed;
       announced = All-drop (g.F.PresentFrames.IsAnnounced c.leave.new.store) (writer_count caller.operation) banks.listed
-          (λ k d inside. c.leave.ensures.aside.announced _ (c.requires.announced k d inside));
-      fetched = λ k d inside. c.leave.ensures.aside.fetched _ (c.requires.fetched.2 k d inside);
+          (λ k d inside. c.leave.ensures.snapshots.announced _ (c.requires.announced k d inside));
+      fetched = λ k d inside. c.leave.ensures.snapshots.fetched _ (c.requires.fetched.2 k d inside);
     })
 
 pub answer-requires-clause-roles : goal.answer-requires-clause-roles
 answer-requires-clause-roles g c =
     let mid = g.F.PresentFrames.parts c.leave.new.store in
     let sound = c.requires.sound in
-    let same = c.leave.ensures.aside.geometry in
+    let same = c.leave.ensures.snapshots.geometry in
     keepable_roles mid.geometry (sound.0 + 1) (frames_of (g.F.PresentFrames.parts c.change.new.store))
     (c.change.ensures.keepable sound.0 (omega (arith, sound.1.sound.age))
     (in_geometry mid.geometry (g.F.PresentFrames.parts c.args.store.now).geometry sound.0 (frames_of mid) same (c.leave.ensures.keepable sound.0 sound.1.keepable)))
@@ -51,8 +51,8 @@ answer-requires-clause-root g c call is =
     let used = root_used (content_at (objects_in (g.F.PresentFrames.parts c.change.new.store)) caller.process) is in
     let announced = process_listed (g.F.PresentFrames.IsAnnounced c.args.store.now) caller.operation caller.process caller.annex (drop (writer_count caller.operation) c.args.banks.now.listed)
     c.args.banks.now.listed c.requires.planned.listed (no_send caller.operation call) c.requires.announced in (
-      c.change.ensures.aside.fetched caller.process used (c.leave.ensures.aside.fetched caller.process c.requires.fetched.0),
-      c.change.ensures.aside.announced caller.process used (c.leave.ensures.aside.announced caller.process announced),
+      c.change.ensures.snapshots.fetched caller.process used (c.leave.ensures.snapshots.fetched caller.process c.requires.fetched.0),
+      c.change.ensures.snapshots.announced caller.process used (c.leave.ensures.snapshots.announced caller.process announced),
     )
 
 pub answer-requires-clause-annex : goal.answer-requires-clause-annex
@@ -79,10 +79,10 @@ answer-requires-clause-annex g c call is =
     subst (λ (vs : List Object). is_annex (content_at vs (annex_at vs caller.process)) ≡ true) (sym objects) (c.requires.after.frame.annexes caller.process still).0 in
     let used = annex_used (content_at new (annex_at new caller.process)) after in
     let announced = annex_listed (g.F.PresentFrames.IsAnnounced c.args.store.now) caller.operation caller.process caller.annex rest listed c.requires.planned.listed call c.requires.announced in (
-      c.change.ensures.aside.fetched (annex_at new caller.process) used
-          (c.leave.ensures.aside.fetched (annex_at new caller.process) (subst (g.F.PresentFrames.IsFetched c.args.store.now) (sym same) c.requires.fetched.1)),
-      c.change.ensures.aside.announced (annex_at new caller.process) used
-          (c.leave.ensures.aside.announced (annex_at new caller.process) (subst (g.F.PresentFrames.IsAnnounced c.args.store.now) (sym same) announced)),
+      c.change.ensures.snapshots.fetched (annex_at new caller.process) used
+          (c.leave.ensures.snapshots.fetched (annex_at new caller.process) (subst (g.F.PresentFrames.IsFetched c.args.store.now) (sym same) c.requires.fetched.1)),
+      c.change.ensures.snapshots.announced (annex_at new caller.process) used
+          (c.leave.ensures.snapshots.announced (annex_at new caller.process) (subst (g.F.PresentFrames.IsAnnounced c.args.store.now) (sym same) announced)),
     )
 
 pub returns-clause-objects : goal.returns-clause-objects
@@ -104,7 +104,7 @@ returns-clause-counted g c =
     let us = objects_in (g.F.PresentFrames.parts c.change.new.store) in
     let caller = c.args.caller in
     let old = g.F.PresentFrames.parts c.args.store.now in
-    subst (λ (h : Geometry). AreCounted h (objects_in (g.F.PresentFrames.parts c.answer.new.store)) c.change.new.banks) c.leave.ensures.aside.geometry
+    subst (λ (h : Geometry). AreCounted h (objects_in (g.F.PresentFrames.parts c.answer.new.store)) c.change.new.banks) c.leave.ensures.snapshots.geometry
     (subst (λ (vs : List Object). AreCounted (g.F.PresentFrames.parts c.leave.new.store).geometry vs c.change.new.banks) (sym c.answer.ensures.objects)
     (counted_on (g.F.PresentFrames.parts c.leave.new.store).geometry us _ c.change.new.banks (answered_frame caller.operation us caller.process c.args.plan.reply) c.change.ensures.counted))
 
@@ -114,8 +114,8 @@ returns-clause-keepable g c age young fits k =
     let mid = g.F.PresentFrames.parts c.leave.new.store in
     let then = g.F.PresentFrames.parts c.change.new.store in
     let new = g.F.PresentFrames.parts c.answer.new.store in
-    let first = c.leave.ensures.aside.geometry in
-    let second = c.change.ensures.aside.geometry in
+    let first = c.leave.ensures.snapshots.geometry in
+    let second = c.change.ensures.snapshots.geometry in
     in_geometry old.geometry then.geometry (age + 1) (frames_of new) (sym (second ∙ first))
     (c.answer.ensures.keepable (age + 1) (subst (λ (h : Geometry). FitsCap h c.args.plan.reply.capability) (sym (second ∙ first)) fits)
     (in_geometry then.geometry mid.geometry (age + 1) (frames_of then) second
@@ -128,13 +128,13 @@ returns-clause-beside g c =
     let then = g.F.PresentFrames.parts c.change.new.store in
     let new = g.F.PresentFrames.parts c.answer.new.store in
     let caller = c.args.caller in
-    let frame = before_frame old mid c.args.banks.now c.requires.sound c.requires.counted caller.operation caller.process c.requires.running c.leave.ensures.objects c.leave.ensures.aside.geometry in
+    let frame = before_frame old mid c.args.banks.now c.requires.sound c.requires.counted caller.operation caller.process c.requires.running c.leave.ensures.objects c.leave.ensures.snapshots.geometry in
     let freed = free_in_frame then new _ c.answer.ensures.objects (answered_frame caller.operation (objects_in then) caller.process c.args.plan.reply) in
     record {
-      renews = renews_after old mid new c.leave.ensures.aside.allocations (free_in_frame old mid (objects_in mid) refl frame)
-          (renews_then mid then new c.change.ensures.aside.renews c.answer.ensures.aside.allocations freed);
-      touched = c.answer.ensures.aside.touched ∙ c.change.ensures.aside.touched ∙ c.leave.ensures.aside.touched;
-      geometry = c.answer.ensures.aside.geometry ∙ c.change.ensures.aside.geometry ∙ c.leave.ensures.aside.geometry;
-      failures = c.answer.ensures.aside.failures ∙ c.change.ensures.aside.failures ∙ c.leave.ensures.aside.failures;
-      leads = g.met.F.PresentFrames.leads_twice _ _ _ c.leave.ensures.aside.leads (g.met.F.PresentFrames.leads_twice _ _ _ c.change.ensures.aside.leads c.answer.ensures.aside.leads);
+      renews = renews_after old mid new c.leave.ensures.snapshots.allocations (free_in_frame old mid (objects_in mid) refl frame)
+          (renews_then mid then new c.change.ensures.snapshots.renews c.answer.ensures.snapshots.allocations freed);
+      touched = c.answer.ensures.snapshots.touched ∙ c.change.ensures.snapshots.touched ∙ c.leave.ensures.snapshots.touched;
+      geometry = c.answer.ensures.snapshots.geometry ∙ c.change.ensures.snapshots.geometry ∙ c.leave.ensures.snapshots.geometry;
+      failures = c.answer.ensures.snapshots.failures ∙ c.change.ensures.snapshots.failures ∙ c.leave.ensures.snapshots.failures;
+      continues = g.met.F.PresentFrames.continues_twice _ _ _ c.leave.ensures.snapshots.continues (g.met.F.PresentFrames.continues_twice _ _ _ c.change.ensures.snapshots.continues c.answer.ensures.snapshots.continues);
     }

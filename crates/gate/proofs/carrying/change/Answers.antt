@@ -1,5 +1,5 @@
 use Rattle.gate.proofs.Names.{List, ap, drop, subst, sym, ◌∙◌, ℕ, All, Object, is_free, content_at, tests_at, Change, target_of, objects_in, AreCounted}
-use Rattle.gate.proofs.Names.{aside_alone, MayChange, MayEdit, fetched_of}
+use Rattle.gate.proofs.Names.{snapshots_alone, MayChange, MayEdit, fetched_of}
 use Rattle.gate.proofs.BankStates.{counted_on}
 use Rattle.gate.proofs.Plans.{change_edit, edit_fetched, target_all}
 use Rattle.gate.proofs.Roles.{changed_any, changed_frame}
@@ -59,11 +59,11 @@ returns-in_default-clause-keepable g c age young k =
     let edit : MayEdit p.geometry (objects_in p) list c.args.change = change_edit p.geometry (objects_in p) list c.args.change c.in_default.not-Bank c.requires.may in
     c.make.ensures.keepable age young edit.holds k
 
-pub returns-in_default-clause-aside : goal.returns-in_default-clause-aside
-returns-in_default-clause-aside g c =
+pub returns-in_default-clause-snapshots : goal.returns-in_default-clause-snapshots
+returns-in_default-clause-snapshots g c =
     let p = g.F.PresentFrames.parts c.args.store.now in
     let list = drop c.args.skip c.args.banks.now.listed in
     let edit : MayEdit p.geometry (objects_in p) list c.args.change = change_edit p.geometry (objects_in p) list c.args.change c.in_default.not-Bank c.requires.may in
     let frame = changed_frame (objects_in p) c.args.change edit.within edit.process in
-    aside_alone g.F.PresentFrames.parts g.F.PresentFrames.IsFetched g.F.PresentFrames.IsAnnounced g.F.PresentFrames.LeadsTo c.args.store.now c.make.new.store c.make.ensures.aside
+    snapshots_alone g.F.PresentFrames.parts g.F.PresentFrames.IsFetched g.F.PresentFrames.IsAnnounced g.F.PresentFrames.ContinuesTo c.args.store.now c.make.new.store c.make.ensures.snapshots
     (λ n used. ap (λ (us : List Object). is_free (content_at us n)) c.make.ensures.objects ∙ (tests_at (objects_in p) _ frame n).free ∙ used)

@@ -30,9 +30,9 @@ pub returns-in-SetState-clause-keepable : goal.returns-in-SetState-clause-keepab
 returns-in-SetState-clause-keepable g c age young held k =
     let old = g.F.PresentFrames.parts c.args.store.now in
     let mid = g.F.PresentFrames.parts c.set_state.new.store in
-    in_geometry old.geometry mid.geometry (age + 1) (frames_of (g.F.PresentFrames.parts c.consume.new.store)) (sym c.set_state.ensures.aside.geometry)
+    in_geometry old.geometry mid.geometry (age + 1) (frames_of (g.F.PresentFrames.parts c.consume.new.store)) (sym c.set_state.ensures.snapshots.geometry)
     (c.consume.ensures.keepable age young
-    (in_geometry mid.geometry old.geometry age (frames_of mid) c.set_state.ensures.aside.geometry (c.set_state.ensures.keepable age tt k)))
+    (in_geometry mid.geometry old.geometry age (frames_of mid) c.set_state.ensures.snapshots.geometry (c.set_state.ensures.keepable age tt k)))
 
 pub returns-in-Space-clause-keepable : goal.returns-in-Space-clause-keepable
 returns-in-Space-clause-keepable g c age young held k =

@@ -10,7 +10,7 @@ loop-i-init g c = record {
   headers = c.set_message.ensures.headers;
   current = c.set_message.ensures.current;
   keepable = λ age fits. c.set_message.ensures.keepable age tt;
-  aside = c.set_message.ensures.aside;
+  snapshots = c.set_message.ensures.snapshots;
 }
 
 pub loop-i-preserved : goal.loop-i-preserved
@@ -19,7 +19,7 @@ loop-i-preserved g c =
     let old = F.parts c.args.store.now in
     let mid = F.parts c.loop-i.store in
     let within : c.loop-i.i < length c.args.message.capabilities = search rules in
-    let same = c.loop-i.invariant.aside.geometry in
+    let same = c.loop-i.invariant.snapshots.geometry in
     record {
       objects = delivered_more _ _ _ c.annex-annex.result c.loop-i.i c.args.message.capabilities c.loop-i.invariant.objects c.set_slot.ensures.objects within;
       annex = c.loop-i.invariant.annex;
@@ -34,7 +34,7 @@ loop-i-preserved g c =
             λ annex zeroth. absurd (omega arith),
           )
           (in_geometry mid.geometry old.geometry age (frames_of mid) same now));
-      aside = keeps_twice F.parts F.IsFetched F.IsAnnounced F.LeadsTo g.met.F.PresentFrames.leads_twice _ _ _ c.loop-i.invariant.aside c.set_slot.ensures.aside;
+      snapshots = keeps_twice F.parts F.IsFetched F.IsAnnounced F.ContinuesTo g.met.F.PresentFrames.continues_twice _ _ _ c.loop-i.invariant.snapshots c.set_slot.ensures.snapshots;
     }
 
 pub returns-clause-objects : goal.returns-clause-objects

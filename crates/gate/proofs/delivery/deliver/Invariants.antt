@@ -1,4 +1,4 @@
-use Rattle.gate.proofs.Names.{◌≡◌, ℕ, take, All, AreCurrent, AreKeepable, with_slots_from, annex_at, with_message, KeepsAside, frames_of, objects_in, FitsCap}
+use Rattle.gate.proofs.Names.{◌≡◌, ℕ, take, All, AreCurrent, AreKeepable, with_slots_from, annex_at, with_message, KeepsRest, frames_of, objects_in, FitsCap}
 use Rattle.gate.proofs.delivery.deliver.Given as goal
 
 abbrev pub invariant-loop-i : goal.invariant-loop-i
@@ -12,5 +12,5 @@ invariant-loop-i g l =
       headers : now.headers ≡ old.headers;
       current : AreCurrent (frames_of old) → AreCurrent (frames_of now);
       keepable : (age : ℕ) → All (FitsCap old.geometry) l.message.capabilities → AreKeepable old.geometry age (frames_of old) → AreKeepable old.geometry age (frames_of now);
-      aside : KeepsAside F.parts F.IsFetched F.IsAnnounced F.LeadsTo l.fn.store l.store;
+      snapshots : KeepsRest F.parts F.IsFetched F.IsAnnounced F.ContinuesTo l.fn.store l.store;
     }

@@ -12,12 +12,12 @@ prepare-requires-clause-announced g c =
 pub returns-clause-announced : goal.returns-clause-announced
 returns-clause-announced g c =
     let i = c.args.invocation.now in
-    on_ok c.prepare.result (λ told. announced_through (g.F.PresentFrames.IsAnnounced c.prepare.new.self) i.operation i.process c.args.receiver c.args.annex
-    (λ n inside. told n (subst (λ (ns : List ℕ). Contains ns n) (sym (c.as_slice.ensures ∙ c.through-written.ensures)) inside))) c.prepare.ensures.announced
+    on_ok c.prepare.result (λ replying. announced_through (g.F.PresentFrames.IsAnnounced c.prepare.new.self) i.operation i.process c.args.receiver c.args.annex
+    (λ n inside. replying n (subst (λ (ns : List ℕ). Contains ns n) (sym (c.as_slice.ensures ∙ c.through-written.ensures)) inside))) c.prepare.ensures.announced
 
 pub returns-clause-prepares : goal.returns-clause-prepares
 returns-clause-prepares g c =
-    subst (λ (ns : List ℕ). Prepares g.F.PresentFrames.parts g.F.PresentFrames.LeadsTo c.args.store.now c.prepare.new.self ns c.prepare.result) (c.as_slice.ensures ∙ c.through-written.ensures)
+    subst (λ (ns : List ℕ). Prepares g.F.PresentFrames.parts g.F.PresentFrames.ContinuesTo c.args.store.now c.prepare.new.self ns c.prepare.result) (c.as_slice.ensures ∙ c.through-written.ensures)
     (record {
       touched = c.prepare.ensures.touched;
       within = c.prepare.ensures.within;
@@ -28,5 +28,5 @@ returns-clause-prepares g c =
       full = c.prepare.ensures.full;
       cause = c.prepare.ensures.cause;
       later = c.prepare.ensures.later;
-      leads = c.prepare.ensures.leads;
+      continues = c.prepare.ensures.continues;
     })

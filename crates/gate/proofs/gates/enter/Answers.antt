@@ -14,13 +14,13 @@ pub deliver-requires-clause-annex_fetched : goal.deliver-requires-clause-annex_f
 deliver-requires-clause-annex_fetched g c =
     let old = objects_in (g.F.PresentFrames.parts c.args.store.now) in
     let same = ap (λ (os : List Object). annex_at os c.args.gate.process) c.leave.ensures.objects ∙ after_annex old c.args.invocation.now c.args.gate.process ∙ sym c.requires.annex in
-    subst (g.F.PresentFrames.IsFetched c.leave.new.store) (sym same) (c.leave.ensures.aside.fetched c.args.annex c.requires.fetched.2)
+    subst (g.F.PresentFrames.IsFetched c.leave.new.store) (sym same) (c.leave.ensures.snapshots.fetched c.args.annex c.requires.fetched.2)
 
 pub deliver-requires-clause-annex_announced : goal.deliver-requires-clause-annex_announced
 deliver-requires-clause-annex_announced g c =
     let old = objects_in (g.F.PresentFrames.parts c.args.store.now) in
     let same = ap (λ (os : List Object). annex_at os c.args.gate.process) c.leave.ensures.objects ∙ after_annex old c.args.invocation.now c.args.gate.process ∙ sym c.requires.annex in
-    subst (g.F.PresentFrames.IsAnnounced c.leave.new.store) (sym same) (c.leave.ensures.aside.announced c.args.annex c.requires.announced.1)
+    subst (g.F.PresentFrames.IsAnnounced c.leave.new.store) (sym same) (c.leave.ensures.snapshots.announced c.args.annex c.requires.announced.1)
 
 pub consume-requires-clause-calls : goal.consume-requires-clause-calls
 consume-requires-clause-calls g c =
@@ -31,10 +31,10 @@ returns-then-gate-clause-keepable g c age young fits k =
     let old = g.F.PresentFrames.parts c.args.store.now in
     let mid = g.F.PresentFrames.parts c.leave.new.store in
     let now = g.F.PresentFrames.parts c.deliver.new.store in
-    let first = in_geometry mid.geometry old.geometry age (frames_of mid) c.leave.ensures.aside.geometry (c.leave.ensures.keepable age k) in
-    let all = subst (λ (cs : List Capability). All (FitsCap mid.geometry) cs) (sym c.message-message.ensures.capabilities) (rw c.leave.ensures.aside.geometry fits) in
-    let second = in_geometry now.geometry mid.geometry age (frames_of now) c.deliver.ensures.aside.geometry (c.deliver.ensures.keepable age all first) in
-    in_geometry old.geometry now.geometry (age + 1) (frames_of (g.F.PresentFrames.parts c.consume.new.store)) (sym (c.deliver.ensures.aside.geometry ∙ c.leave.ensures.aside.geometry))
+    let first = in_geometry mid.geometry old.geometry age (frames_of mid) c.leave.ensures.snapshots.geometry (c.leave.ensures.keepable age k) in
+    let all = subst (λ (cs : List Capability). All (FitsCap mid.geometry) cs) (sym c.message-message.ensures.capabilities) (rw c.leave.ensures.snapshots.geometry fits) in
+    let second = in_geometry now.geometry mid.geometry age (frames_of now) c.deliver.ensures.snapshots.geometry (c.deliver.ensures.keepable age all first) in
+    in_geometry old.geometry now.geometry (age + 1) (frames_of (g.F.PresentFrames.parts c.consume.new.store)) (sym (c.deliver.ensures.snapshots.geometry ∙ c.leave.ensures.snapshots.geometry))
     (c.consume.ensures.keepable age young second)
 
 pub returns-else-gate-clause-keepable : goal.returns-else-gate-clause-keepable
@@ -42,7 +42,7 @@ returns-else-gate-clause-keepable g c age young fits k =
     let old = g.F.PresentFrames.parts c.args.store.now in
     let mid = g.F.PresentFrames.parts c.leave.new.store in
     let now = g.F.PresentFrames.parts c.deliver.new.store in
-    let first = in_geometry mid.geometry old.geometry age (frames_of mid) c.leave.ensures.aside.geometry (c.leave.ensures.keepable age k) in
-    let all = subst (λ (cs : List Capability). All (FitsCap mid.geometry) cs) (sym c.message-message.ensures.capabilities) (rw c.leave.ensures.aside.geometry fits) in
+    let first = in_geometry mid.geometry old.geometry age (frames_of mid) c.leave.ensures.snapshots.geometry (c.leave.ensures.keepable age k) in
+    let all = subst (λ (cs : List Capability). All (FitsCap mid.geometry) cs) (sym c.message-message.ensures.capabilities) (rw c.leave.ensures.snapshots.geometry fits) in
     keepable_later old.geometry age (age + 1) (frames_of now) (omega arith)
-    (in_geometry old.geometry mid.geometry age (frames_of now) (sym c.leave.ensures.aside.geometry) (c.deliver.ensures.keepable age all first))
+    (in_geometry old.geometry mid.geometry age (frames_of now) (sym c.leave.ensures.snapshots.geometry) (c.deliver.ensures.keepable age all first))

@@ -7,26 +7,26 @@ pub loop-number-init : goal.loop-number-init
 loop-number-init g c =
     let os = objects_in (g.F.PresentFrames.parts c.args.store.now) in
     record {
-      told = subst (TellBelow g.E.Told.number_of (g.E.Told.Tells os) g.E.Told.kind os 0) (sym c.requires.none) (tell_none g.E.Told.number_of (g.E.Told.Tells os) g.E.Told.kind os);
+      entry_of = subst (TellBelow g.E.DescribedEntry.number_of (g.E.DescribedEntry.Tells os) g.E.DescribedEntry.kind os 0) (sym c.requires.none) (tell_none g.E.DescribedEntry.number_of (g.E.DescribedEntry.Tells os) g.E.DescribedEntry.kind os);
       looked = search rules;
     }
 
-pub told-requires-clause-sound : goal.told-requires-clause-sound
-told-requires-clause-sound g c = looked_sound c.loop-number.invariant.looked.aside c.requires.sound
+pub entry_of-requires-clause-sound : goal.entry_of-requires-clause-sound
+entry_of-requires-clause-sound g c = looked_sound c.loop-number.invariant.looked.snapshots c.requires.sound
 
 pub loop-number-preserved : goal.loop-number-preserved
 loop-number-preserved g c =
     let os = objects_in (g.F.PresentFrames.parts c.args.store.now) in
     let looked = c.loop-number.invariant.looked in
     record {
-      told = tell_next g.E.Told.number_of (g.E.Told.Tells os) g.E.Told.kind os c.loop-number.number c.loop-number.entries.items c.add.new.entries.items c.in_ok-entry.entry c.loop-number.invariant.told
-          (subst (λ (us : List Object). MayTell g.E.Told.number_of (g.E.Told.Tells us) g.E.Told.kind us c.loop-number.number c.in_ok-entry.entry) (looked_objects looked.aside) c.in_ok-entry.ensures.told)
+      entry_of = tell_next g.E.DescribedEntry.number_of (g.E.DescribedEntry.Tells os) g.E.DescribedEntry.kind os c.loop-number.number c.loop-number.entries.items c.add.new.entries.items c.in_ok-entry.entry c.loop-number.invariant.entry_of
+          (subst (λ (us : List Object). MayTell g.E.DescribedEntry.number_of (g.E.DescribedEntry.Tells us) g.E.DescribedEntry.kind us c.loop-number.number c.in_ok-entry.entry) (looked_objects looked.snapshots) c.in_ok-entry.ensures.entry_of)
           (search rules);
-      looked = looked_ok g.F.PresentFrames.parts g.F.PresentFrames.LeadsTo g.met.F.PresentFrames.leads_twice c.args.store.now c.loop-number.store c.told.new.store c.in_ok-entry.entry looked c.in_ok-entry.ensures.looks;
+      looked = looked_ok g.F.PresentFrames.parts g.F.PresentFrames.ContinuesTo g.met.F.PresentFrames.continues_twice c.args.store.now c.loop-number.store c.entry_of.new.store c.in_ok-entry.entry looked c.in_ok-entry.ensures.only_reads;
     }
 
-pub returns-clause-told : goal.returns-clause-told
-returns-clause-told g c =
+pub returns-clause-entry_of : goal.returns-clause-entry_of
+returns-clause-entry_of g c =
     let p = g.F.PresentFrames.parts c.args.store.now in
-    tell_all g.E.Told.number_of (g.E.Told.Tells (objects_in p)) g.E.Told.kind (objects_in p) c.loop-number.number c.loop-number.entries.items c.loop-number.invariant.told g.met.E.Told.is_kept
+    tell_all g.E.DescribedEntry.number_of (g.E.DescribedEntry.Tells (objects_in p)) g.E.DescribedEntry.kind (objects_in p) c.loop-number.number c.loop-number.entries.items c.loop-number.invariant.entry_of g.met.E.DescribedEntry.is_kept
     (role_past p c.table.result.now c.loop-number.number c.table.ensures (omega (arith, c.count-number-end.ensures, c.loop-number-test.false)))

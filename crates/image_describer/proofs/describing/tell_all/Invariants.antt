@@ -7,6 +7,6 @@ abbrev pub invariant-loop-number : goal.invariant-loop-number
 invariant-loop-number g l =
     let os = objects_in (g.F.PresentFrames.parts l.initial.store) in
     record {
-      told : TellBelow g.E.Told.number_of (g.E.Told.Tells os) g.E.Told.kind os l.number l.entries.items;
-      looked : HasLooked g.F.PresentFrames.parts g.F.PresentFrames.LeadsTo l.initial.store l.store;
+      entry_of : TellBelow g.E.DescribedEntry.number_of (g.E.DescribedEntry.Tells os) g.E.DescribedEntry.kind os l.number l.entries.items;
+      looked : HasLooked g.F.PresentFrames.parts g.F.PresentFrames.ContinuesTo l.initial.store l.store;
     }

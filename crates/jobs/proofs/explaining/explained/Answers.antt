@@ -9,5 +9,5 @@ returns-in-Err c table is =
 pub returns : goal.returns
 returns c table is =
     let here = same_Some table (table_view c.in-Ok.table) (sym is ∙ c.in-Ok.ensures.ok) in
-    let told = subst (λ found. Explains (table_view c.in-Ok.table) found) c.in-Some.is c.in_ok-explain.ensures in
-    (c.in-Some.place, subst (λ ms. Explains ms (Some c.in-Some.place)) (sym here) told)
+    let reported = subst (λ found. Explains (table_view c.in-Ok.table) found) c.in-Some.is c.in_ok-explain.ensures in
+    (c.in-Some.place, subst (λ ms. Explains ms (Some c.in-Some.place)) (sym here) reported)

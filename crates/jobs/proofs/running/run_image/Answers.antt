@@ -11,7 +11,7 @@ pub returns : goal.returns
 returns g c = (
   c.of_run.result,
   c.status.ensures.status,
-  c.status.ensures.told,
+  c.status.ensures.reported,
   runs_unseen g.D.Device.disk g.S.ObjectStore.view g.S.PresentFrames.parts c.args.device c.open_and_run-outcome.result.1 (λ g t old new on. on ≡ true) c.open_and_run-outcome.new.observer c.open_and_run-outcome.new.observer
       (g.R.Script.unread c.args.reader.now) (g.R.Script.unread c.open_and_run-outcome.new.reader) (g.W.Write.contents c.args.writer.now) (g.W.Write.contents c.open_and_run-outcome.new.writer) c.open_and_run-outcome.result.0 c.of_run.result c.of_run.ensures c.open_and_run-outcome.ensures,
 )

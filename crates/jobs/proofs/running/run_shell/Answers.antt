@@ -16,6 +16,6 @@ returns g c = (
   c.status.ensures.status,
   c.new-observer.ensures,
   c.tell_unsaved.ensures,
-  c.status.ensures.told,
+  c.status.ensures.reported,
   (c.open_and_run-outcome.result.0, c.of_run.ensures, c.open_and_run-outcome.ensures),
 )

@@ -12,7 +12,7 @@ pub returns : goal.returns
 returns g c = (
   c.of_run.result,
   c.status.ensures.status,
-  c.status.ensures.told,
+  c.status.ensures.reported,
   (
     c.open_and_run-outcome.result.0,
     subst (λ (s : Option Stop). IsRunEnd c.open_and_run-outcome.result.0 s c.of_run.result) c.stop.ensures c.of_run.ensures,

@@ -1,8 +1,8 @@
 use Rattle.jobs.proofs.Names.{ap, map, ◌∙◌, Vec, Global, Plan, version_number, Version, NumberRange, numbers_of}
 use Rattle.jobs.proofs.saved.description_in.Goals as goal
 
-pub returns-in-Ok-clause-told : goal.returns-in-Ok-clause-told
-returns-in-Ok-clause-told g c = record {
+pub returns-in-Ok-clause-reported : goal.returns-in-Ok-clause-reported
+returns-in-Ok-clause-reported g c = record {
   describes = c.in-Ok.ensures.describes;
   brief = c.in-Ok.ensures.brief;
   ranges = ap (λ (v : Vec NumberRange Global). v.items) c.in-Ok.ensures.ranges ∙ c.in_ok-ranges.ensures.ranges ∙ ap (λ (p : Plan). map numbers_of p.ranges) c.superblock-2.ensures;

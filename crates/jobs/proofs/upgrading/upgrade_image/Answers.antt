@@ -7,7 +7,7 @@ pub returns-in-Err-clause-upgraded : goal.returns-in-Err-clause-upgraded
 returns-in-Err-clause-upgraded g c = (
   Err (fault.Upgrade c.in-Err.fault),
   c.status.ensures.status,
-  c.status.ensures.told,
+  c.status.ensures.reported,
   old_refused g.D.Device.disk g.E.Device.disk c.args.old c.args.new.now (g.W.Write.contents c.args.writer.now) c.in-Err.fault c.in-Err.ensures.refused,
   read_refused g.D.Device.disk g.D.ClosableDevice.was_closed c.args.old c.in-Err.fault c.in-Err.ensures.reads,
 )

@@ -29,8 +29,8 @@ returns-in-Ok-clause-serves g c =
     let holds = g.met.S.ObjectStore.sound_holds in
     let said = c.in-Ok.ensures in
     let frames = frames_again (parts c.args.live.now.store) (parts c.freeze.new.self) said.headers said.contents in
-    begun disk view parts only holds c.args.live.now c.freeze.new.self c.in-Ok.size (c.is_worn.ensures.young c.if-is_worn.false) (none_there (view c.args.live.now.store).aside.frozen said.answer.0) said.answer.1
-    frames said.touched said.geometry said.size said.aside said.beneath said.sound
+    begun disk view parts only holds c.args.live.now c.freeze.new.self c.in-Ok.size (c.is_worn.ensures.young c.if-is_worn.false) (none_there (view c.args.live.now.store).snapshots.frozen said.answer.0) said.answer.1
+    frames said.touched said.geometry said.size said.snapshots said.beneath said.sound
 
 pub returns-in-Err-clause-serves : goal.returns-in-Err-clause-serves
 returns-in-Err-clause-serves g c =
@@ -46,8 +46,8 @@ returns-in-Err-clause-serves g c =
 pub returns-in-Err-clause-cause : goal.returns-in-Err-clause-cause
 returns-in-Err-clause-cause g c =
     let said = c.in-Err.ensures in
-    let aside = (g.S.ObjectStore.view c.args.live.now.store).aside in
+    let snapshots = (g.S.ObjectStore.view c.args.live.now.store).snapshots in
     let old = g.D.Device.disk (g.S.ObjectStore.view c.args.live.now.store).beneath in
     let new = g.D.Device.disk (g.S.ObjectStore.view c.freeze.new.self).beneath in
     subst (λ (a : Answer). IsCaused old new a) (sym c.refused.ensures.answer)
-    (freeze_cause old new (left_in aside) aside.saved.entries c.in-Err.fault said.answer (ap (λ d. (g.D.Device.disk d).failures) said.beneath))
+    (freeze_cause old new (left_in snapshots) snapshots.saved.entries c.in-Err.fault said.answer (ap (λ d. (g.D.Device.disk d).failures) said.beneath))

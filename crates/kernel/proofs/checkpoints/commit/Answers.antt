@@ -17,10 +17,10 @@ returns-in-Ok-clause-serves g c =
     let only = g.met.D.Device.only_now in
     let holds = g.met.S.ObjectStore.sound_holds in
     let said = c.in-Ok.ensures in
-    let there = some_left (view c.args.live.now.store).aside.frozen 0 (sym said.answer.1) in
+    let there = some_left (view c.args.live.now.store).snapshots.frozen 0 (sym said.answer.1) in
     let same : AreSame (parts c.args.live.now.store) (parts c.commit.new.self) = record { headers = said.headers; contents = said.contents; touched = said.touched; geometry = said.geometry } in
     commit_went disk view parts only holds c.args.live.now c.commit.new.self same said.size there.0 there.1 there.2 (said.any_moment there.0 there.1 there.2)
-    c.in-Ok.generation said.answer.2 (said.aside there.0 there.1) said.sound
+    c.in-Ok.generation said.answer.2 (said.snapshots there.0 there.1) said.sound
 
 pub returns-in-Err-clause-serves : goal.returns-in-Err-clause-serves
 returns-in-Err-clause-serves g c =
@@ -36,8 +36,8 @@ returns-in-Err-clause-serves g c =
 
 pub returns-in-Err-clause-cause : goal.returns-in-Err-clause-cause
 returns-in-Err-clause-cause g c =
-    let aside = (g.S.ObjectStore.view c.args.live.now.store).aside in
+    let snapshots = (g.S.ObjectStore.view c.args.live.now.store).snapshots in
     let old = g.D.Device.disk (g.S.ObjectStore.view c.args.live.now.store).beneath in
     let new = g.D.Device.disk (g.S.ObjectStore.view c.commit.new.self).beneath in
     subst (λ (a : Answer). IsCaused old new a) (sym c.refused.ensures.answer)
-    (commit_cause old new (left_in aside) aside.saved.generation c.in-Err.fault c.in-Err.ensures.answer)
+    (commit_cause old new (left_in snapshots) snapshots.saved.generation c.in-Err.fault c.in-Err.ensures.answer)

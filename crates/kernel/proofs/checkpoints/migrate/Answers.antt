@@ -13,7 +13,7 @@ returns-clause-serves g c =
     let holds = g.met.S.ObjectStore.sound_holds in
     let said = c.in_ok-left.ensures in
     let same : AreSame (parts c.args.live.now.store) (parts c.migrate.new.self) = record { headers = said.headers; contents = said.contents; touched = said.touched; geometry = said.geometry } in
-    migrate_went disk view parts only holds c.args.live.now c.migrate.new.self same said.size c.args.count said.any_moment c.in_ok-left.left said.left said.aside said.sound
+    migrate_went disk view parts only holds c.args.live.now c.migrate.new.self same said.size c.args.count said.any_moment c.in_ok-left.left said.left said.snapshots said.sound
 
 pub returns-in_err-left-clause-serves : goal.returns-in_err-left-clause-serves
 returns-in_err-left-clause-serves g c =

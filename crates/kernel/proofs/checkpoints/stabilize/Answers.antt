@@ -13,10 +13,10 @@ returns-in-Ok-clause-serves g c =
     let only = g.met.D.Device.only_now in
     let holds = g.met.S.ObjectStore.sound_holds in
     let said = c.in-Ok.ensures in
-    let there = some_left_after (view c.args.live.now.store).aside.frozen c.args.count c.in-Ok.left said.answer.1 in
+    let there = some_left_after (view c.args.live.now.store).snapshots.frozen c.args.count c.in-Ok.left said.answer.1 in
     let same : AreSame (parts c.args.live.now.store) (parts c.stabilize.new.self) = record { headers = said.headers; contents = said.contents; touched = said.touched; geometry = said.geometry } in
     stabilize_went disk view parts only holds c.args.live.now c.stabilize.new.self same said.size there.0 there.1 said.any_moment c.args.count c.in-Ok.left
-    there.2 (said.aside there.0 there.1) said.sound
+    there.2 (said.snapshots there.0 there.1) said.sound
 
 pub returns-in-Err-clause-serves : goal.returns-in-Err-clause-serves
 returns-in-Err-clause-serves g c =
@@ -32,8 +32,8 @@ returns-in-Err-clause-serves g c =
 
 pub returns-in-Err-clause-cause : goal.returns-in-Err-clause-cause
 returns-in-Err-clause-cause g c =
-    let aside = (g.S.ObjectStore.view c.args.live.now.store).aside in
+    let snapshots = (g.S.ObjectStore.view c.args.live.now.store).snapshots in
     let old = g.D.Device.disk (g.S.ObjectStore.view c.args.live.now.store).beneath in
     let new = g.D.Device.disk (g.S.ObjectStore.view c.stabilize.new.self).beneath in
     subst (λ (a : Answer). IsCaused old new a) (sym c.refused.ensures.answer)
-    (stabilize_cause old new (left_in aside) c.args.count c.in-Err.fault c.in-Err.ensures.answer)
+    (stabilize_cause old new (left_in snapshots) c.args.count c.in-Err.fault c.in-Err.ensures.answer)

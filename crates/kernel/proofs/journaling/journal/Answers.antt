@@ -1,5 +1,5 @@
 use Rattle.kernel.proofs.Names.{ℕ, ◌≡◌, ◌+◌, ◌∙◌, ap, length, sym, subst, nat_lt, Answer, LeavesOneOf, IsUnlooked, left_in, is_page_now, is_still_saved}
-use Rattle.kernel.proofs.Names.{aside_after_journal, next_journaled, words_now, IsCaused, ServesUp}
+use Rattle.kernel.proofs.Names.{snapshots_after_journal, next_journaled, words_now, IsCaused, ServesUp}
 use Rattle.model.specs.declared.command.Command.TheVariants as command
 use Rattle.kernel.proofs.Performing.{AreSame}
 use Rattle.kernel.proofs.Acts.{with_store}
@@ -24,17 +24,17 @@ returns-in-Ok-clause-serves g c =
     let only = g.met.D.Device.only_now in
     let holds = g.met.S.ObjectStore.sound_holds in
     let p = parts c.args.live.now.store in
-    let aside = (view c.args.live.now.store).aside in
+    let snapshots = (view c.args.live.now.store).snapshots in
     let n = c.args.number in
     let said = c.in-Ok.ensures in
-    let told = said.answer in
+    let reported = said.answer in
     let age = c.saved-age.ensures.age in
     let same : AreSame (parts c.args.live.now.store) (parts c.journal.new.self) = record { headers = said.headers; contents = said.contents; touched = said.touched; geometry = said.geometry } in
     journal_went disk view parts only holds c.args.live.now c.journal.new.self n (c.is_worn.ensures.young c.if-is_worn.false) same said.size
-    (subst (λ (k : ℕ). LeavesOneOf (disk (view c.args.live.now.store).beneath) (disk (view c.journal.new.self).beneath) aside.saved
-    (next_journaled (k + 1) n (words_now p n) aside.frozen aside.saved (is_page_now p n) (is_still_saved p aside.saved n))) age said.any_moment)
-    (none_there aside.frozen told.1) told.2 told.3 told.4 c.in-Ok.generation told.5
-    (subst (λ (k : ℕ). (view c.journal.new.self).aside ≡ aside_after_journal (k + 1) n (words_now p n) aside) age said.aside)
+    (subst (λ (k : ℕ). LeavesOneOf (disk (view c.args.live.now.store).beneath) (disk (view c.journal.new.self).beneath) snapshots.saved
+    (next_journaled (k + 1) n (words_now p n) snapshots.frozen snapshots.saved (is_page_now p n) (is_still_saved p snapshots.saved n))) age said.any_moment)
+    (none_there snapshots.frozen reported.1) reported.2 reported.3 reported.4 c.in-Ok.generation reported.5
+    (subst (λ (k : ℕ). (view c.journal.new.self).snapshots ≡ snapshots_after_journal (k + 1) n (words_now p n) snapshots) age said.snapshots)
     (sound_done c.in-Ok.generation said.sound)
 
 pub returns-in-Err-clause-serves : goal.returns-in-Err-clause-serves
@@ -45,7 +45,7 @@ returns-in-Err-clause-serves g c =
     let only = g.met.D.Device.only_now in
     let holds = g.met.S.ObjectStore.sound_holds in
     let p = parts c.args.live.now.store in
-    let aside = (view c.args.live.now.store).aside in
+    let snapshots = (view c.args.live.now.store).snapshots in
     let n = c.args.number in
     let said = c.in-Err.ensures in
     let count : c.count.result ≡ length p.headers = c.count.ensures ∙ ap length c.table.ensures in
@@ -53,17 +53,17 @@ returns-in-Err-clause-serves g c =
     subst (λ (a : Answer). ServesUp disk view parts c.args.live.now (command.Journal n) a (with_store c.args.live.now c.journal.new.self)) (sym c.refused.ensures.answer)
     (journal_refused disk view parts only holds c.args.live.now c.journal.new.self n (c.is_worn.ensures.young c.if-is_worn.false) c.in-Err.fault (nat_lt n c.count.result) same said.size said.answer said.turned_away
     (lies_within n c.count.result (length p.headers) count) (lies_past n c.count.result (length p.headers) count) said.unchanged said.sound
-    (subst (λ (k : ℕ). LeavesOneOf (disk (view c.args.live.now.store).beneath) (disk (view c.journal.new.self).beneath) aside.saved
-    (next_journaled (k + 1) n (words_now p n) aside.frozen aside.saved (is_page_now p n) (is_still_saved p aside.saved n))) c.saved-age.ensures.age said.any_moment))
+    (subst (λ (k : ℕ). LeavesOneOf (disk (view c.args.live.now.store).beneath) (disk (view c.journal.new.self).beneath) snapshots.saved
+    (next_journaled (k + 1) n (words_now p n) snapshots.frozen snapshots.saved (is_page_now p n) (is_still_saved p snapshots.saved n))) c.saved-age.ensures.age said.any_moment))
 
 pub returns-in-Err-clause-cause : goal.returns-in-Err-clause-cause
 returns-in-Err-clause-cause g c =
     let parts = g.S.PresentFrames.parts in
-    let aside = (g.S.ObjectStore.view c.args.live.now.store).aside in
+    let snapshots = (g.S.ObjectStore.view c.args.live.now.store).snapshots in
     let old = g.D.Device.disk (g.S.ObjectStore.view c.args.live.now.store).beneath in
     let new = g.D.Device.disk (g.S.ObjectStore.view c.journal.new.self).beneath in
     subst (λ (a : Answer). IsCaused old new a) (sym c.refused.ensures.answer)
-    (journal_cause old new (left_in aside) aside.saved (is_page_now (parts c.args.live.now.store) c.args.number) (is_still_saved (parts c.args.live.now.store) aside.saved c.args.number)
+    (journal_cause old new (left_in snapshots) snapshots.saved (is_page_now (parts c.args.live.now.store) c.args.number) (is_still_saved (parts c.args.live.now.store) snapshots.saved c.args.number)
     (nat_lt c.args.number c.count.result) c.in-Err.fault c.in-Err.ensures.answer)
 
 pub returns-in-Err-clause-untouched : goal.returns-in-Err-clause-untouched

@@ -28,7 +28,7 @@ returns-clause-serves g c =
     let holds = g.met.S.ObjectStore.sound_holds in
     let said = c.in_ok-evict.ensures in
     let same : AreSame (parts c.args.live.now.store) (parts c.evict.new.self) = record { headers = said.headers; contents = said.contents; touched = said.touched; geometry = said.geometry } in
-    evicted disk view parts only holds c.args.live.now c.evict.new.self (g.met.S.ObjectStore.leads c.args.live.now.store c.evict.new.self said.leads) same c.args.number
+    evicted disk view parts only holds c.args.live.now c.evict.new.self (g.met.S.ObjectStore.continues c.args.live.now.store c.evict.new.self said.continues) same c.args.number
     (omega (arith, c.if-number-count.false, c.count.ensures, ap length c.table.ensures))
 
 pub returns-in_err-evict-clause-serves : goal.returns-in_err-evict-clause-serves
@@ -40,4 +40,4 @@ returns-in_err-evict-clause-serves g c =
     let holds = g.met.S.ObjectStore.sound_holds in
     let l = c.args.live.now in
     subst (λ (a : Answer). ServesUp disk view parts l (command.Evict c.args.number) a (with_store l c.evict.new.self)) (sym (err_answer _ c.from_residual.result c.from_residual.ensures.1))
-    (evict_failed disk view parts only holds l c.evict.new.self (g.met.S.ObjectStore.leads l.store c.evict.new.self c.in_err-evict.ensures.leads) c.args.number)
+    (evict_failed disk view parts only holds l c.evict.new.self (g.met.S.ObjectStore.continues l.store c.evict.new.self c.in_err-evict.ensures.continues) c.args.number)

@@ -15,7 +15,7 @@ returns-in-Invoke-clause-serves g c =
     let said = c.invoke.ensures in
     let s = c.invoke.new.store in
     subst (λ (x : Command). ServesUp disk view parts l x (answer_with c.invoke.result) (with_act l s c.invoke.new.banks c.invoke.new.age)) (sym c.in-Invoke.is)
-    (acted disk view parts only holds l s (g.met.S.ObjectStore.leads l.store s said.leads) c.invoke.new.banks c.invoke.new.age (command.Invoke c.in-Invoke.invocation) (answer_with c.invoke.result) said.later said.serves
+    (acted disk view parts only holds l s (g.met.S.ObjectStore.continues l.store s said.continues) c.invoke.new.banks c.invoke.new.age (command.Invoke c.in-Invoke.invocation) (answer_with c.invoke.result) said.later said.serves
     said.counted)
 
 pub returns-in-Invoke-clause-cause : goal.returns-in-Invoke-clause-cause
@@ -38,6 +38,6 @@ returns-in-Ok g c =
       cause = c.in-Ok.ensures.cause;
       untouched = c.in-Ok.ensures.untouched;
       none_to_move = c.in-Ok.ensures.none_to_move;
-      told_once = c.in-Ok.ensures.told_once;
+      reported_once = c.in-Ok.ensures.reported_once;
       code = λ h m stands. sym (other_code h m c.args.command c.in-Ok.answer c.in_default.not-Invoke);
     })

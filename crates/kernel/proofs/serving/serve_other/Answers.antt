@@ -14,8 +14,8 @@ returns-in-Load-clause-serves g c =
     let said = c.load.ensures in
     let s = c.load.new.store in
     subst (λ (x : Command). ServesUp disk view parts l x (answer_of c.load.result) (with_act l s l.banks l.age)) (sym c.in-Load.is)
-    (acted disk view parts only holds l s (g.met.S.ObjectStore.leads l.store s said.leads) l.banks l.age (command.Load c.in-Load.process c.in-Load.address) (answer_of c.load.result) (omega arith) said.serves
-    (still_counted (parts l.store) (parts s) l.banks said.aside.headers said.aside.contents said.aside.geometry (up_counted disk view parts l c.requires.up)))
+    (acted disk view parts only holds l s (g.met.S.ObjectStore.continues l.store s said.continues) l.banks l.age (command.Load c.in-Load.process c.in-Load.address) (answer_of c.load.result) (omega arith) said.serves
+    (still_counted (parts l.store) (parts s) l.banks said.snapshots.headers said.snapshots.contents said.snapshots.geometry (up_counted disk view parts l c.requires.up)))
 
 pub returns-in-Load-clause-cause : goal.returns-in-Load-clause-cause
 returns-in-Load-clause-cause g c =
@@ -37,7 +37,7 @@ returns-in-Store-clause-serves g c =
     let said = c.store.ensures in
     let s = c.store.new.store in
     subst (λ (x : Command). ServesUp disk view parts l x (answer_of c.store.result) (with_act l s l.banks l.age)) (sym c.in-Store.is)
-    (acted disk view parts only holds l s (g.met.S.ObjectStore.leads l.store s said.leads) l.banks l.age (command.Store c.in-Store.process c.in-Store.address c.in-Store.value) (answer_of c.store.result) (omega arith) said.serves
+    (acted disk view parts only holds l s (g.met.S.ObjectStore.continues l.store s said.continues) l.banks l.age (command.Store c.in-Store.process c.in-Store.address c.in-Store.value) (answer_of c.store.result) (omega arith) said.serves
     (said.counted l.banks (up_counted disk view parts l c.requires.up)))
 
 pub returns-in-Store-clause-cause : goal.returns-in-Store-clause-cause
@@ -60,8 +60,8 @@ returns-in-Show-clause-serves g c =
     let said = c.show.ensures in
     let s = c.show.new.store in
     subst (λ (x : Command). ServesUp disk view parts l x (answer_of c.show.result) (with_act l s l.banks l.age)) (sym c.in-Show.is)
-    (acted disk view parts only holds l s (g.met.S.ObjectStore.leads l.store s said.aside.leads) l.banks l.age (command.Show c.in-Show.number) (answer_of c.show.result) (omega arith) said.serves
-    (still_counted (parts l.store) (parts s) l.banks said.aside.headers said.aside.contents said.aside.geometry (up_counted disk view parts l c.requires.up)))
+    (acted disk view parts only holds l s (g.met.S.ObjectStore.continues l.store s said.snapshots.continues) l.banks l.age (command.Show c.in-Show.number) (answer_of c.show.result) (omega arith) said.serves
+    (still_counted (parts l.store) (parts s) l.banks said.snapshots.headers said.snapshots.contents said.snapshots.geometry (up_counted disk view parts l c.requires.up)))
 
 pub returns-in-Show-clause-cause : goal.returns-in-Show-clause-cause
 returns-in-Show-clause-cause g c =

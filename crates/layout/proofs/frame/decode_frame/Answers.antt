@@ -1,4 +1,4 @@
-use Rattle.layout.proofs.Names.{◌≡◌, ℕ, List, arith, IfOk-weaker, IfErr-weaker, Frame, ObjectHeader, Geometry, BadImage, BadFrame, Body, Room, frame_of}
+use Rattle.layout.proofs.Names.{◌≡◌, ℕ, List, arith, IfOk-weaker, IfErr-weaker, Frame, ObjectHeader, Geometry, BadImage, BadFrame, Body, Scratch, frame_of}
 use Rattle.layout.proofs.Names.{node_frame_bytes, page_frame_bytes, IsFrameOf, IsNodeFrame, IsPageFrame}
 use Rattle.layout.proofs.Keepables.{frame_of_node, node_of_frame, frame_of_page, page_of_frame}
 use Rattle.layout.proofs.frame.decode_frame.Goals as goal
@@ -8,7 +8,7 @@ returns-then-number-geometry-clause-found c =
     let g : Geometry = c.args.geometry in
     let age : ℕ = c.args.age in
     let bytes : List ℕ = c.args.bytes.now in
-    let room : Room = c.decode_node_frame.new.room in
+    let room : Scratch = c.decode_node_frame.new.room in
     IfOk-weaker c.decode_node_frame.result
     (λ (read : ObjectHeader × Body). IsNodeFrame g age (frame_of read room) × (bytes ≡ node_frame_bytes (frame_of read room))) (λ (read : ObjectHeader × Body). IsFrameOf g age c.args.number bytes (frame_of read room))
     (λ read is. frame_of_node g age c.args.number bytes (frame_of read room) c.if-number-geometry.true is) c.decode_node_frame.ensures.found
@@ -27,7 +27,7 @@ returns-else-number-geometry-clause-found c =
     let g : Geometry = c.args.geometry in
     let age : ℕ = c.args.age in
     let bytes : List ℕ = c.args.bytes.now in
-    let room : Room = c.decode_page_frame.new.room in
+    let room : Scratch = c.decode_page_frame.new.room in
     IfOk-weaker c.decode_page_frame.result
     (λ (read : ObjectHeader × Body). IsPageFrame age (frame_of read room) × (bytes ≡ page_frame_bytes (frame_of read room))) (λ (read : ObjectHeader × Body). IsFrameOf g age c.args.number bytes (frame_of read room))
     (λ read is. frame_of_page g age c.args.number bytes (frame_of read room) (omega arith) c.requires.number is) c.decode_page_frame.ensures.found

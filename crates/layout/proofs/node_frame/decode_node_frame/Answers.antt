@@ -1,7 +1,7 @@
 use Rattle.layout.proofs.Names.{◌≡◌, ◌-◌, ℕ, List, [], refl, sym, ap, subst, ◌∙◌, arith, false≢true, err_from_is_err_and, Cap, ObjectHeader, IsCount, zeros}
 use Rattle.layout.proofs.Names.{Body, IsBody, slots_of, content_of, body_in}
 use Rattle.layout.proofs.Numbers.{AllFit}
-use Rattle.layout.proofs.Frames.{front_list, node_parts, node_told, body_told, node_found, any_words}
+use Rattle.layout.proofs.Frames.{front_list, node_parts, node_reported, body_reported, node_found, any_words}
 use Rattle.layout.proofs.node_frame.decode_node_frame.Goals as goal
 use Rattle.layout.proofs.node_frame.decode_node_frame.Goals.{else-has_counts-via-then-has_counts+then-is_blank+else-is_body, else-has_counts-via-then-has_counts+else-is_blank, else-has_counts-via-else-has_counts}
 
@@ -33,16 +33,16 @@ returns-else-has_counts-clause-refused c =
     let fits : AllFit (front_list role header) = (omega arith, (omega arith, (omega arith, (omega arith, tt)))) in (
       refl,
       λ f is e.
-          let told = node_told c.args.geometry c.args.age role header slots f c.args.bytes.now _ fits c.decode_front-role.ensures.role read.0 c.decode_front-role.ensures.bytes read.1 is e in
+          let reported = node_reported c.args.geometry c.args.age role header slots f c.args.bytes.now _ fits c.decode_front-role.ensures.role read.0 c.decode_front-role.ensures.bytes read.1 is e in
           elim c.else-has_counts.branch [
             | else-has_counts-via-then-has_counts+then-is_blank+else-is_body w ↦
                 let body : c.body_in-body.result ≡ body_in role slots = c.body_in-body.ensures ∙ ap (body_in role) c.as_slice-slots.ensures.value in
-                let is_body = subst (λ (b : Body). IsBody role header.owner slots (content_of b slots [])) (sym body) (body_told f role header slots c.args.age told is.follows is.front) in
+                let is_body = subst (λ (b : Body). IsBody role header.owner slots (content_of b slots [])) (sym body) (body_reported f role header slots c.args.age reported is.follows is.front) in
                 false≢true (sym w.if-is_body.false ∙ w.is_body.ensures.1 (subst (λ (s : List Cap). IsBody role header.owner s (content_of c.body_in-body.result s [])) (sym c.as_slice-slots.ensures.value) is_body))
             | else-has_counts-via-then-has_counts+else-is_blank w ↦
                 false≢true (sym w.if-is_blank.false ∙ c.is_blank_from-is_blank.ensures.1 ((node_parts c.args.geometry c.args.age f c.args.bytes.now is e).last ∙ ap (λ (n : ℕ). zeros (n - 800)) (sym c.requires)))
             | else-has_counts-via-else-has_counts w ↦
                 false≢true (sym w.if-has_counts.false ∙ c.has_counts-has_counts.ensures.1
-                (subst (λ (h : ObjectHeader). IsCount c.args.age h.allocations × IsCount c.args.age h.calls) (sym told.header_is) (is.front.allocations, is.front.calls)))
+                (subst (λ (h : ObjectHeader). IsCount c.args.age h.allocations × IsCount c.args.age h.calls) (sym reported.header_is) (is.front.allocations, is.front.calls)))
           ],
     )

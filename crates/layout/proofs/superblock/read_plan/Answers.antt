@@ -1,5 +1,5 @@
 use Rattle.layout.proofs.Names.{◌≡◌, ◌/◌, ℕ, List, length, drop, take, refl, sym, subst, ◌∙◌, arith, All, false≢true, Geometry, HomeRange, plan_of, unused}
-use Rattle.layout.proofs.Superblocks.{magic, magic_read, version_from, plan_told, others_are, plan_found, plan_read, none_read_of, eight_read, last_ranges, plan_same}
+use Rattle.layout.proofs.Superblocks.{magic, magic_read, version_from, plan_reported, others_are, plan_found, plan_read, none_read_of, eight_read, last_ranges, plan_same}
 use Rattle.layout.proofs.superblock.read_plan.Goals as goal
 use Rattle.layout.proofs.superblock.read_plan.Goals.{then-used-gt-MAX_RANGES-via-then-used-gt-MAX_RANGES, then-used-gt-MAX_RANGES-via-else-used-gt-MAX_RANGES+then-not-are_unused}
 
@@ -16,13 +16,13 @@ returns-then-used-gt-MAX_RANGES-clause-none c = λ p is e.
     let version = version_from bytes second c.args.version c.number_at-second.ensures (omega arith) c.requires.version in
     let read = eight_read bytes magic second g.nodes g.pages g.log half_0 half_1 total all (magic_read bytes c.requires.mark) c.number_at-second.ensures c.number_at.ensures
     c.number_at-2.ensures c.number_at-3.ensures c.number_at-half_0.ensures c.number_at-half_1.ensures c.number_at-total.ensures c.read_ranges.ensures.bytes in
-    let told = plan_told p c.args.version bytes magic second g all half_0 half_1 total
+    let reported = plan_reported p c.args.version bytes magic second g all half_0 half_1 total
     (omega arith, (omega arith, (omega arith, (omega arith, (omega arith, (omega arith, (omega arith, (omega arith, tt)))))))) c.read_ranges.ensures.fits eight read version is e in
     elim c.then-used-gt-MAX_RANGES.branch [
-      | then-used-gt-MAX_RANGES-via-then-used-gt-MAX_RANGES w ↦ omega (arith, told.used_is, told.few)
+      | then-used-gt-MAX_RANGES-via-then-used-gt-MAX_RANGES w ↦ omega (arith, reported.used_is, reported.few)
       | then-used-gt-MAX_RANGES-via-else-used-gt-MAX_RANGES+then-not-are_unused w ↦
           false≢true (sym w.if-not-are_unused.true ∙ w.are_unused.ensures.1
-          (subst (All (λ r. r ≡ unused)) (sym (last_ranges all (second / 4294967296) eight)) (others_are p c.args.version second g all half_0 half_1 total told)))
+          (subst (All (λ r. r ≡ unused)) (sym (last_ranges all (second / 4294967296) eight)) (others_are p c.args.version second g all half_0 half_1 total reported)))
     ]
 
 pub returns-clause-found : goal.returns-clause-found
@@ -58,5 +58,5 @@ returns-clause-none c =
     c.number_at-2.ensures c.number_at-3.ensures c.number_at-half_0.ensures c.number_at-half_1.ensures c.number_at-total.ensures c.read_ranges.ensures.bytes in
     let used : ℕ = second / 4294967296 in
     none_read_of bytes (plan_of c.args.version g (take used all) half_0 half_1 total) c.new.result
-    (λ p is e. plan_same p c.args.version second g all half_0 half_1 total (plan_told p c.args.version bytes magic second g all half_0 half_1 total
+    (λ p is e. plan_same p c.args.version second g all half_0 half_1 total (plan_reported p c.args.version bytes magic second g all half_0 half_1 total
     (omega arith, (omega arith, (omega arith, (omega arith, (omega arith, (omega arith, (omega arith, (omega arith, tt)))))))) c.read_ranges.ensures.fits eight read version is e)) c.new.ensures.none

@@ -1,5 +1,5 @@
 use Rattle.layout.proofs.Names.{◌≡◌, ◌-◌, ℕ, drop, sym, ap, ◌∙◌, arith, false≢true, zeros}
-use Rattle.layout.proofs.Superblocks.{magic_from, marked, versions_told, unmarked}
+use Rattle.layout.proofs.Superblocks.{magic_from, marked, versions_reported, unmarked}
 use Rattle.layout.proofs.superblock.version_in.Goals as goal
 use Rattle.layout.proofs.superblock.version_in.Goals.{then-magic-ne-SUPERBLOCK_MAGIC-via-then-magic-ne-SUPERBLOCK_MAGIC, then-magic-ne-SUPERBLOCK_MAGIC-via-else-magic-ne-SUPERBLOCK_MAGIC+then-not-is_blank_from}
 
@@ -20,7 +20,7 @@ returns-clause-mark c =
 
 pub returns-clause-version : goal.returns-clause-version
 returns-clause-version c =
-    versions_told c.args.bytes.now c.number_at-magic.result c.number_at-second.result c.number_at-magic.ensures c.number_at-second.ensures (omega arith) c.with_number.result c.with_number.ensures.some
+    versions_reported c.args.bytes.now c.number_at-magic.result c.number_at-second.result c.number_at-magic.ensures c.number_at-second.ensures (omega arith) c.with_number.result c.with_number.ensures.some
 
 pub returns-clause-none : goal.returns-clause-none
 returns-clause-none c =

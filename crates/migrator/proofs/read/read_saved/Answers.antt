@@ -1,7 +1,7 @@
 use Rattle.std.proofs.Common.{◌∙◌, sym}
-use Rattle.migrator.proofs.Seats.{seat_fits}
+use Rattle.migrator.proofs.FrameSlots.{frame_slot_fits}
 use Rattle.migrator.proofs.read.read_saved.Goals as goal
 
 pub read_slot-requires-clause-slot : goal.read_slot-requires-clause-slot
 read_slot-requires-clause-slot g c =
-    rw c.new-log.ensures (seat_fits c.args.plan.now c.args.directory.now c.args.number c.in-Some.slot c.requires.directory (sym c.find_seat.ensures ∙ c.in-Some.is))
+    rw c.new-log.ensures (frame_slot_fits c.args.plan.now c.args.directory.now c.args.number c.in-Some.slot c.requires.directory (sym c.find_frame_slot.ensures ∙ c.in-Some.is))

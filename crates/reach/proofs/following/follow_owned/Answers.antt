@@ -22,7 +22,7 @@ loop-number-preserved c =
         grows = i.grows;
         owned = owned_next (is_marked c.loop-number.frontier.found) (is_marked c.loop-number.frontier.found) os c.args.bank at (λ n inside. inside) i.owned
             (λ free owned.
-            let told = c.is_owned.ensures.1 (sym (ap (λ (p : Object). is_free p.content) is) ∙ free, sym (ap (λ (p : Object). p.owner) is) ∙ owned) in
+            let reported = c.is_owned.ensures.1 (sym (ap (λ (p : Object). is_free p.content) is) ∙ free, sym (ap (λ (p : Object). p.owner) is) ∙ owned) in
             let not = w.if-is_owned.false in cc);
         least = i.least;
       })

@@ -27,7 +27,7 @@ loop-number-preserved c =
       | else-is_owned w ↦
           rw (w.levels-is) (owned_skip os at c.args.bank c.args.level c.args.levels.now c.loop-number.levels
           (λ free owned.
-          let told = c.is_owned.ensures.1 (sym (ap (λ (p : Object). is_free p.content) is) ∙ free, sym (ap (λ (p : Object). p.owner) is) ∙ owned) in
+          let reported = c.is_owned.ensures.1 (sym (ap (λ (p : Object). is_free p.content) is) ∙ free, sym (ap (λ (p : Object). p.owner) is) ∙ owned) in
           let wrong = w.if-is_owned.false in cc) c.loop-number.invariant)
     ]
 

@@ -14,9 +14,9 @@ loop-number-preserved g c =
     let pushed : c.push.new.self.items ≡ c.loop-number.objects.items ++ c.in_ok-object.object ∷ [] = search rules in
     record {
       read = pushed ∙ ap (λ (l : List Object). l ++ c.in_ok-object.object ∷ []) old.read
-          ∙ ap (λ (o : Object). take n os ++ o ∷ []) (c.in_ok-object.ensures.object ∙ ap (λ (us : List Object). object_at us n) (looked_objects old.looked.aside))
+          ∙ ap (λ (o : Object). take n os ++ o ∷ []) (c.in_ok-object.ensures.object ∙ ap (λ (us : List Object). object_at us n) (looked_objects old.looked.snapshots))
           ∙ sym (take_more os n free lt);
-      looked = looked_ok g.F.PresentFrames.parts g.F.PresentFrames.LeadsTo g.met.F.PresentFrames.leads_twice c.args.store.now c.loop-number.store c.object.new.store c.in_ok-object.object old.looked c.in_ok-object.ensures.looks;
+      looked = looked_ok g.F.PresentFrames.parts g.F.PresentFrames.ContinuesTo g.met.F.PresentFrames.continues_twice c.args.store.now c.loop-number.store c.object.new.store c.in_ok-object.object old.looked c.in_ok-object.ensures.only_reads;
     }
 
 pub returns-clause-objects : goal.returns-clause-objects

@@ -1,4 +1,4 @@
-use Rattle.space_bank.proofs.Names.{arith, looks_twice}
+use Rattle.space_bank.proofs.Names.{arith, only_reads_twice}
 use Rattle.space_bank.proofs.Counts.{never_failed, numbers_more}
 use Rattle.space_bank.proofs.counting.read_numbers.Goals as goal
 
@@ -9,9 +9,9 @@ loop-number-preserved g c =
     let ok = c.in-Ok-read_number.ensures in
     record {
       kept = numbers_more (parts c.args.store.now) (parts c.loop-number.store) c.args.role c.loop-number.number c.in-Ok-read_number.one c.loop-number.kept.items c.push_reserved.new.self.items
-          inv.aside.headers inv.aside.contents ok.kept inv.kept c.push_reserved.ensures.items;
+          inv.snapshots.headers inv.snapshots.contents ok.kept inv.kept c.push_reserved.ensures.items;
       size = omega (arith, inv.size, c.push_reserved.ensures.len);
       room = omega (arith, inv.room, c.push_reserved.ensures.capacity);
-      failures = never_failed (parts c.args.store.now).failures (parts c.loop-number.store).failures (parts c.read_number.new.store).failures inv.failures ok.looks.later (λ more. let wrong = ok.looks.cause.1 more in cc);
-      aside = looks_twice parts g.F.PresentFrames.LeadsTo g.met.F.PresentFrames.leads_twice c.args.store.now c.loop-number.store c.read_number.new.store inv.aside ok.looks.aside;
+      failures = never_failed (parts c.args.store.now).failures (parts c.loop-number.store).failures (parts c.read_number.new.store).failures inv.failures ok.only_reads.later (λ more. let wrong = ok.only_reads.cause.1 more in cc);
+      snapshots = only_reads_twice parts g.F.PresentFrames.ContinuesTo g.met.F.PresentFrames.continues_twice c.args.store.now c.loop-number.store c.read_number.new.store inv.snapshots ok.only_reads.snapshots;
     }

@@ -1,4 +1,4 @@
-use Rattle.space_bank.proofs.Names.{◌≡◌, ◌≤◌, map, vec_len, range_with_len, vec_capacity, content_at, LooksUp, objects_in, kept_number}
+use Rattle.space_bank.proofs.Names.{◌≡◌, ◌≤◌, map, vec_len, range_with_len, vec_capacity, content_at, OnlyFetches, objects_in, kept_number}
 use Rattle.space_bank.proofs.counting.read_numbers.Given as goal
 
 abbrev pub invariant-loop-number : goal.invariant-loop-number
@@ -9,5 +9,5 @@ invariant-loop-number g l =
       size : vec_len l.kept ≡ l.number;
       room : l.count ≤ vec_capacity l.kept;
       failures : (g.F.PresentFrames.parts l.store).failures ≡ (g.F.PresentFrames.parts l.initial.store).failures;
-      aside : LooksUp g.F.PresentFrames.parts g.F.PresentFrames.LeadsTo l.initial.store l.store;
+      snapshots : OnlyFetches g.F.PresentFrames.parts g.F.PresentFrames.ContinuesTo l.initial.store l.store;
     }

@@ -32,5 +32,5 @@ returns-clause-reads g c = λ old opened.
       c.write_store-written.result.1,
       c.close.ensures,
       subst (λ (d : g.row.D.Denot). IsOnlyRead (disk old) (disk d) (IsErrOf c.write_store-written.result.0 (fault.Old opening.Failed))) (sym c.write_store-written.ensures.device)
-          (read_where_opened c.write_store-written.result.0 (disk old) (disk c.self.inside.store.durable.beneath) c.write_store-written.ensures.opened o.looks o.failures),
+          (read_where_opened c.write_store-written.result.0 (disk old) (disk c.self.inside.store.durable.beneath) c.write_store-written.ensures.opened o.only_reads o.failures),
     )

@@ -1,19 +1,19 @@
 use Rattle.model.specs.declared.answer.Answer.TheVariants as answer
 use Rattle.model.specs.declared.answer.Refusal.TheVariants as refusal
 use Rattle.kernel.specs.Power as power
-use Rattle.kernel.proofs.Machines.{asked_up, goes_down, some_after, some_up, stays_up}
+use Rattle.kernel.proofs.Machines.{requested_up, goes_down, some_after, some_up, stays_up}
 use Rattle.kernel.proofs.kernel.Kernel.go_on.Goals as goal
 
 pub serve-requires-clause-up : goal.serve-requires-clause-up
 serve-requires-clause-up g c =
-    asked_up g.D.Device.disk g.S.ObjectStore.view g.S.PresentFrames.parts c.self.inside.live c.self.inside.device c.in-Some.live c.in-Some.is c.self.invariant
+    requested_up g.D.Device.disk g.S.ObjectStore.view g.S.PresentFrames.parts c.self.inside.live c.self.inside.device c.in-Some.live c.in-Some.is c.self.invariant
 
 pub invariant_of-self : goal.invariant_of-self
 invariant_of-self g c =
     some_after g.D.Device.disk g.S.ObjectStore.view g.S.PresentFrames.parts (power.Up c.in-Some.live)
     (power.Up c.serve.new.live) c.args.command c.in-Ok.served.answer
     (stays_up g.D.Device.disk g.S.ObjectStore.view g.S.PresentFrames.parts c.in-Some.live c.serve.new.live c.args.command c.in-Ok.served.answer
-    c.in-Ok.ensures.told_once c.in-Ok.ensures.serves)
+    c.in-Ok.ensures.reported_once c.in-Ok.ensures.serves)
     (some_up g.D.Device.disk g.S.ObjectStore.view g.S.PresentFrames.parts c.self.inside.live c.self.inside.device c.in-Some.live c.in-Some.is
     c.self.invariant)
 
@@ -31,7 +31,7 @@ pub returns-in-Ok-clause-serves : goal.returns-in-Ok-clause-serves
 returns-in-Ok-clause-serves g c =
     rw (← c.self.view_is, c.in-Some.is)
     (stays_up g.D.Device.disk g.S.ObjectStore.view g.S.PresentFrames.parts c.in-Some.live c.serve.new.live c.args.command c.in-Ok.served.answer
-    c.in-Ok.ensures.told_once c.in-Ok.ensures.serves)
+    c.in-Ok.ensures.reported_once c.in-Ok.ensures.serves)
 
 pub returns-in-Err-clause-serves : goal.returns-in-Err-clause-serves
 returns-in-Err-clause-serves g c =

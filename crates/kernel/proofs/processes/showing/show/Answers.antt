@@ -15,13 +15,13 @@ returns-in-Ok-clause-serves g c =
     let old = g.F.PresentFrames.parts c.args.store.now in
     let new = g.F.PresentFrames.parts c.shown.new.store in
     let said = c.in-Ok.ensures in
-    let same : AreSame old new = record { headers = said.looks.aside.headers; contents = said.looks.aside.contents; touched = said.looks.aside.touched; geometry = said.looks.aside.geometry } in
+    let same : AreSame old new = record { headers = said.only_reads.snapshots.headers; contents = said.only_reads.snapshots.contents; touched = said.only_reads.snapshots.touched; geometry = said.only_reads.snapshots.geometry } in
     let counted : c.count.result ≡ length old.headers = c.count.ensures ∙ ap (λ (hs : List ObjectHeader). length hs) c.table.ensures in
     shown_serves c.args.age old new c.args.number c.in-Ok.answer (subst (λ (m : ℕ). c.args.number < m) counted c.if-number-count.false) same c.requires.sound
-    said.answer said.looks.later (λ rose. shown_unfailed c.in-Ok.answer (said.looks.cause.1 rose))
+    said.answer said.only_reads.later (λ rose. shown_unfailed c.in-Ok.answer (said.only_reads.cause.1 rose))
 
-pub returns-in-Ok-clause-told_once : goal.returns-in-Ok-clause-told_once
-returns-in-Ok-clause-told_once g c =
+pub returns-in-Ok-clause-reported_once : goal.returns-in-Ok-clause-reported_once
+returns-in-Ok-clause-reported_once g c =
     let old = g.F.PresentFrames.parts c.args.store.now in
     shown_fine (objects_in old) c.args.number c.in-Ok.answer c.in-Ok.ensures.answer
 
@@ -30,7 +30,7 @@ returns-in-Err-clause-serves g c =
     let old = g.F.PresentFrames.parts c.args.store.now in
     let new = g.F.PresentFrames.parts c.shown.new.store in
     let said = c.in-Err.ensures in
-    let same : AreSame old new = record { headers = said.looks.aside.headers; contents = said.looks.aside.contents; touched = said.looks.aside.touched; geometry = said.looks.aside.geometry } in
+    let same : AreSame old new = record { headers = said.only_reads.snapshots.headers; contents = said.only_reads.snapshots.contents; touched = said.only_reads.snapshots.touched; geometry = said.only_reads.snapshots.geometry } in
     let counted : c.count.result ≡ length old.headers = c.count.ensures ∙ ap (λ (hs : List ObjectHeader). length hs) c.table.ensures in
-    show_refused c.args.age old new c.args.number same c.requires.sound said.looks.later (subst (λ (m : ℕ). c.args.number < m) counted c.if-number-count.false)
-    c.in-Err.fault (answer_of c.refused.result) c.refused.ensures.answer said.looks.cause said.looks.room
+    show_refused c.args.age old new c.args.number same c.requires.sound said.only_reads.later (subst (λ (m : ℕ). c.args.number < m) counted c.if-number-count.false)
+    c.in-Err.fault (answer_of c.refused.result) c.refused.ensures.answer said.only_reads.cause said.only_reads.room

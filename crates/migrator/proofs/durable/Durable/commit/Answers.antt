@@ -5,8 +5,8 @@ use Rattle.migrator.proofs.Tables.{whole_taken}
 use Rattle.migrator.proofs.durable.Durable.commit.Goals as goal
 
 -- what is left of the checkpoint on its way
-told : (image : Image) (b : Books) (size left : ℕ) → b.size ≡ Some size → left ≡ left_of (frozen_of image b size) → option_map left_of (option_map (frozen_of image b) b.size) ≡ Some left
-told image b size left is same = ap (λ o. option_map left_of (option_map (frozen_of image b) o)) is ∙ ap Some (sym same)
+reported : (image : Image) (b : Books) (size left : ℕ) → b.size ≡ Some size → left ≡ left_of (frozen_of image b size) → option_map left_of (option_map (frozen_of image b) b.size) ≡ Some left
+reported image b size left is same = ap (λ o. option_map left_of (option_map (frozen_of image b) o)) is ∙ ap Some (sym same)
 
 pub overflow_sub-left : goal.overflow_sub-left
 overflow_sub-left g c =
@@ -21,7 +21,7 @@ returns-then-left-ne0-clause-answer g c =
     let b = c.self.inside.books in
     let some : 0 < c.in-Some.size - c.whole.result = search rules in
     let left = ap (λ (n : ℕ). c.in-Some.size - n) (c.whole.ensures ∙ sym (kept_whole (seen_by disk.seen b) b.plan (frozen_generation b) b.frozen c.self.invariant.kept.frozen.count)) in
-    (refl, subst (λ t. option_map left_of (stored_of g.D.Device.disk t).frozen ≡ Some (c.in-Some.size - c.whole.result)) c.self.view_is (told (seen_by disk.seen b) b c.in-Some.size (c.in-Some.size - c.whole.result) c.in-Some.is left), some)
+    (refl, subst (λ t. option_map left_of (stored_of g.D.Device.disk t).frozen ≡ Some (c.in-Some.size - c.whole.result)) c.self.view_is (reported (seen_by disk.seen b) b c.in-Some.size (c.in-Some.size - c.whole.result) c.in-Some.is left), some)
 
 pub commit-requires-clause-stands : goal.commit-requires-clause-stands
 commit-requires-clause-stands g c = c.self.invariant
@@ -75,7 +75,7 @@ returns-clause-answer g c =
     let b = c.self.inside.books in
     let none : c.in-Some.size - c.whole.result ≡ 0 = search rules in
     let left = ap (λ (n : ℕ). c.in-Some.size - n) (c.whole.ensures ∙ sym (kept_whole (seen_by disk.seen b) b.plan (frozen_generation b) b.frozen c.self.invariant.kept.frozen.count)) in
-    let over = subst (λ t. option_map left_of (stored_of g.D.Device.disk t).frozen ≡ Some 0) c.self.view_is (told (seen_by disk.seen b) b c.in-Some.size 0 c.in-Some.is (sym none ∙ left)) in
+    let over = subst (λ t. option_map left_of (stored_of g.D.Device.disk t).frozen ≡ Some 0) c.self.view_is (reported (seen_by disk.seen b) b c.in-Some.size 0 c.in-Some.is (sym none ∙ left)) in
     (search rules, over, search rules)
 
 pub returns-in_default-commit-clause-answer : goal.returns-in_default-commit-clause-answer
@@ -84,5 +84,5 @@ returns-in_default-commit-clause-answer g c =
     let b = c.self.inside.books in
     let none : c.in-Some.size - c.whole.result ≡ 0 = search rules in
     let left = ap (λ (n : ℕ). c.in-Some.size - n) (c.whole.ensures ∙ sym (kept_whole (seen_by disk.seen b) b.plan (frozen_generation b) b.frozen c.self.invariant.kept.frozen.count)) in
-    let over = subst (λ t. option_map left_of (stored_of g.D.Device.disk t).frozen ≡ Some 0) c.self.view_is (told (seen_by disk.seen b) b c.in-Some.size 0 c.in-Some.is (sym none ∙ left)) in
+    let over = subst (λ t. option_map left_of (stored_of g.D.Device.disk t).frozen ≡ Some 0) c.self.view_is (reported (seen_by disk.seen b) b c.in-Some.size 0 c.in-Some.is (sym none ∙ left)) in
     (search rules, over)

@@ -1,4 +1,4 @@
-use Rattle.migrator.proofs.Names.{◌≡◌, sym, subst, OnErr, OnOk, IsKeepable, Frame, IsObject, most, GoesOn, stored_of, with_working, Broken, HasRoom, Kept}
+use Rattle.migrator.proofs.Names.{◌≡◌, sym, subst, OnErr, OnOk, IsKeepable, Frame, IsObject, most, GoesOn, stored_of, with_working, Broken, HasFreeSlot, Kept}
 use Rattle.migrator.proofs.durable.Durable.put_working.Goals as goal
 
 pub put_working-requires-clause-stands : goal.put_working-requires-clause-stands
@@ -12,7 +12,7 @@ put_working-requires-clause-keepable g c =
     subst (λ t. IsKeepable t.books.plan.geometry most c.args.number (record { header = c.args.header; content = c.args.content.now })) (sym c.self.view_is) c.requires.keepable
 
 pub put_working-requires-clause-room : goal.put_working-requires-clause-room
-put_working-requires-clause-room g c = subst (λ t. HasRoom t.books.plan.geometry.log (stored_of g.D.Device.disk t).working c.args.number) (sym c.self.view_is) c.requires.room
+put_working-requires-clause-room g c = subst (λ t. HasFreeSlot t.books.plan.geometry.log (stored_of g.D.Device.disk t).working c.args.number) (sym c.self.view_is) c.requires.room
 
 pub invariant_of-self : goal.invariant_of-self
 invariant_of-self g c = c.put_working.ensures.stands

@@ -1,38 +1,38 @@
-use Rattle.object_cache.proofs.Names.{refl, sym, ap, ◌∙◌, most, stored_of, keepable_at, StoreState, parts_of, seat_at, goes_on_same, memory_of}
+use Rattle.object_cache.proofs.Names.{refl, sym, ap, ◌∙◌, most, stored_of, keepable_at, StoreState, parts_of, cached_at, goes_on_same, memory_of}
 use Rattle.object_cache.proofs.Outcomes.{ok_then}
-use Rattle.object_cache.proofs.Owing.{fetched_by, unseated_by, seat_gone}
+use Rattle.object_cache.proofs.Owing.{fetched_by, uncached_by, cached_gone}
 use Rattle.object_cache.proofs.Paying.{away_rest, ok_counts}
 use Rattle.object_cache.proofs.cache.Cache.evict.Goals as goal
 
 pub put_away-requires-clause-fetched : goal.put_away-requires-clause-fetched
 put_away-requires-clause-fetched g c =
     let i = c.self.inside in
-    let m = memory_of i.table i.frozen_headers i.touched i.dirty i.pending i.entries.at i.hand in
+    let m = memory_of i.table i.frozen_headers i.touched i.dirty i.pending i.entries.at i.staging in
     fetched_by g.D.Device.disk i.durable m i.left i.count i.entries.order i.entries.most c.args.self.now c.self.view_is c.self.invariant.0 c.args.number c.requires.known (sym c.holds.ensures ∙ c.if-holds.true)
 
 pub put_away-requires-clause-keepable : goal.put_away-requires-clause-keepable
 put_away-requires-clause-keepable g c =
     let i = c.self.inside in
-    let m = memory_of i.table i.frozen_headers i.touched i.dirty i.pending i.entries.at i.hand in
+    let m = memory_of i.table i.frozen_headers i.touched i.dirty i.pending i.entries.at i.staging in
     keepable_at (stored_of g.D.Device.disk c.args.self.now.durable).saved.geometry most (parts_of g.D.Device.disk c.args.self.now) c.args.number c.requires.known c.requires.keepable
 
 pub returns-then-holds-clause-gone : goal.returns-then-holds-clause-gone
 returns-then-holds-clause-gone g c =
     let i = c.self.inside in
-    let m = memory_of i.table i.frozen_headers i.touched i.dirty i.pending i.entries.at i.hand in
-    ok_then c.put_away.result c.put_away.ensures.away (λ away. ap (λ (t : StoreState g.row.D.Denot). seat_at t.seats c.args.number) away ∙ seat_gone c.args.self.now.seats c.args.number)
+    let m = memory_of i.table i.frozen_headers i.touched i.dirty i.pending i.entries.at i.staging in
+    ok_then c.put_away.result c.put_away.ensures.away (λ away. ap (λ (t : StoreState g.row.D.Denot). cached_at t.cached c.args.number) away ∙ cached_gone c.args.self.now.cached c.args.number)
 
 pub returns-clause-gone : goal.returns-clause-gone
 returns-clause-gone g c =
     let i = c.self.inside in
-    let m = memory_of i.table i.frozen_headers i.touched i.dirty i.pending i.entries.at i.hand in
-    unseated_by g.D.Device.disk i.durable m i.left i.count i.entries.order i.entries.most c.args.self.now c.self.view_is c.self.invariant.0 c.args.number (sym c.holds.ensures ∙ c.if-holds.false)
+    let m = memory_of i.table i.frozen_headers i.touched i.dirty i.pending i.entries.at i.staging in
+    uncached_by g.D.Device.disk i.durable m i.left i.count i.entries.order i.entries.most c.args.self.now c.self.view_is c.self.invariant.0 c.args.number (sym c.holds.ensures ∙ c.if-holds.false)
 
 pub returns-then-holds-clause-rest : goal.returns-then-holds-clause-rest
 returns-then-holds-clause-rest g c = away_rest c.put_away.result c.args.self.now c.put_away.new.self c.args.number c.put_away.ensures.away c.put_away.ensures.stays
 
-pub returns-then-holds-clause-leads : goal.returns-then-holds-clause-leads
-returns-then-holds-clause-leads g c = c.put_away.ensures.leads
+pub returns-then-holds-clause-continues : goal.returns-then-holds-clause-continues
+returns-then-holds-clause-continues g c = c.put_away.ensures.continues
 
 pub returns-then-holds-clause-cause : goal.returns-then-holds-clause-cause
 returns-then-holds-clause-cause g c = c.put_away.ensures.cause
@@ -40,8 +40,8 @@ returns-then-holds-clause-cause g c = c.put_away.ensures.cause
 pub returns-clause-rest : goal.returns-clause-rest
 returns-clause-rest g c = refl
 
-pub returns-clause-leads : goal.returns-clause-leads
-returns-clause-leads g c = goes_on_same g.D.Device.disk g.met.D.Device.only_now c.args.self.now
+pub returns-clause-continues : goal.returns-clause-continues
+returns-clause-continues g c = goes_on_same g.D.Device.disk g.met.D.Device.only_now c.args.self.now
 
 pub returns-clause-cause : goal.returns-clause-cause
 returns-clause-cause g c = ok_counts refl

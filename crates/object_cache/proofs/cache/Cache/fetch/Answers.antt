@@ -10,5 +10,5 @@ returns-then-use_again-clause-within g c = c.use_again.ensures.within
 pub returns-then-use_again-clause-rest : goal.returns-then-use_again-clause-rest
 returns-then-use_again-clause-rest g c = rest_used c.args.self.now c.use_again.new.self c.use_again.ensures.rest
 
-pub returns-then-use_again-clause-leads : goal.returns-then-use_again-clause-leads
-returns-then-use_again-clause-leads g c = c.use_again.ensures.leads
+pub returns-then-use_again-clause-continues : goal.returns-then-use_again-clause-continues
+returns-then-use_again-clause-continues g c = c.use_again.ensures.continues

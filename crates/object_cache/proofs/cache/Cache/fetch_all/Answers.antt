@@ -2,9 +2,9 @@ use Rattle.object_cache.proofs.Names.{◌∙◌, refl, arith, IsFetchedIn, goes_
 use Rattle.object_cache.proofs.Bringing.{keepable_on, rest_on, no_failure, all_listed, recent_on}
 use Rattle.object_cache.proofs.cache.Cache.fetch_all.Goals as goal
 
-pub returns-in_err-fetch_one-clause-leads : goal.returns-in_err-fetch_one-clause-leads
-returns-in_err-fetch_one-clause-leads g c =
-    goes_on_twice g.D.Device.disk g.met.D.Device.counts_now c.args.self.now c.loop-number.self c.fetch_one.new.self c.loop-number.invariant.3 c.fetch_one.ensures.leads
+pub returns-in_err-fetch_one-clause-continues : goal.returns-in_err-fetch_one-clause-continues
+returns-in_err-fetch_one-clause-continues g c =
+    goes_on_twice g.D.Device.disk g.met.D.Device.counts_now c.args.self.now c.loop-number.self c.fetch_one.new.self c.loop-number.invariant.3 c.fetch_one.ensures.continues
 
 pub loop-number-preserved : goal.loop-number-preserved
 loop-number-preserved g c =
@@ -17,8 +17,8 @@ loop-number-preserved g c =
       recent_on t u c.args.fetched.now c.loop-number.number-index (omega (arith, c.loop-number-test.true, c.requires.few)) ok.recent ok.first before.0,
       rest_on s t u before.1 c.fetch_one.ensures.rest,
       c.fetch_one.ensures.empty,
-      goes_on_twice disk g.met.D.Device.counts_now s t u before.3 c.fetch_one.ensures.leads,
-      no_failure c.in_ok-fetch_one.field-0 (disk t.durable.beneath).failures (disk u.durable.beneath).failures ok.cause c.fetch_one.ensures.leads.later ∙ before.4,
+      goes_on_twice disk g.met.D.Device.counts_now s t u before.3 c.fetch_one.ensures.continues,
+      no_failure c.in_ok-fetch_one.field-0 (disk t.durable.beneath).failures (disk u.durable.beneath).failures ok.cause c.fetch_one.ensures.continues.later ∙ before.4,
     )
 
 pub returns-clause-fetched : goal.returns-clause-fetched
@@ -39,5 +39,5 @@ fetch_one-requires-clause-keepable g c = keepable_on g.D.Device.disk c.args.self
 pub returns-clause-rest : goal.returns-clause-rest
 returns-clause-rest g c = c.loop-number.invariant.1
 
-pub returns-clause-leads : goal.returns-clause-leads
-returns-clause-leads g c = c.loop-number.invariant.3
+pub returns-clause-continues : goal.returns-clause-continues
+returns-clause-continues g c = c.loop-number.invariant.3

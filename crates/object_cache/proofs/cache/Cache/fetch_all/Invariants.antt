@@ -6,6 +6,6 @@ abbrev pub invariant-loop-number : goal.invariant-loop-number
 invariant-loop-number g l =
     ((k : ℕ) → k < l.number-index → IsRecentIn l.self l.number-index (slice_index_or l.fetched k 0))
     × (l.self ≡ on_device_with l.fn.self l.self)
-    × (l.self.hand ≡ None)
+    × (l.self.staging ≡ None)
     × GoesOnIn g.D.Device.disk l.fn.self l.self
     × ((g.D.Device.disk l.self.durable.beneath).failures ≡ (g.D.Device.disk l.fn.self.durable.beneath).failures)

@@ -6,7 +6,7 @@ use Rattle.object_cache.proofs.cache.Cache.into_parts.Goals as goal
 pub take_bodies-requires-clause-whole : goal.take_bodies-requires-clause-whole
 take_bodies-requires-clause-whole g c = λ n within.
     let i = c.self.inside in
-    let m = memory_of i.table i.frozen_headers i.touched i.dirty i.pending i.entries.at i.hand in
+    let m = memory_of i.table i.frozen_headers i.touched i.dirty i.pending i.entries.at i.staging in
     let headers = ap (λ (t : StoreState g.row.D.Denot). length t.headers) c.self.view_is in
     has_entry g.D.Device.disk i.durable m i.left i.entries.order i.entries.most c.args.self c.self.view_is n
     (c.requires n (omega (arith, within, c.len.ensures, ap length c.into_headers-headers.ensures, headers)))
@@ -14,7 +14,7 @@ take_bodies-requires-clause-whole g c = λ n within.
 pub returns-in-Ok-clause-objects : goal.returns-in-Ok-clause-objects
 returns-in-Ok-clause-objects g c =
     let i = c.self.inside in
-    let m = memory_of i.table i.frozen_headers i.touched i.dirty i.pending i.entries.at i.hand in
+    let m = memory_of i.table i.frozen_headers i.touched i.dirty i.pending i.entries.at i.staging in
     let count : c.len.result ≡ length i.table = omega (arith, c.len.ensures, ap length c.into_headers-headers.ensures) in
     record {
       headers_are = c.into_headers-headers.ensures ∙ ap (λ (t : StoreState g.row.D.Denot). t.headers) c.self.view_is;

@@ -6,12 +6,12 @@ use Rattle.object_cache.proofs.cache.Cache.keep_apart.Goals as goal
 pub present-requires : goal.present-requires
 present-requires g c =
     let i = c.self.inside in
-    has_entry g.D.Device.disk i.durable (memory_of i.table i.frozen_headers i.touched i.dirty i.pending i.entries.at i.hand) i.left i.entries.order i.entries.most c.args.self.now c.self.view_is c.args.number c.requires.fetched
+    has_entry g.D.Device.disk i.durable (memory_of i.table i.frozen_headers i.touched i.dirty i.pending i.entries.at i.staging) i.left i.entries.order i.entries.most c.args.self.now c.self.view_is c.args.number c.requires.fetched
 
 pub invariant_of-self : goal.invariant_of-self
 invariant_of-self g c =
     let i = c.self.inside in
-    let m = memory_of i.table i.frozen_headers i.touched i.dirty i.pending i.entries.at i.hand in
+    let m = memory_of i.table i.frozen_headers i.touched i.dirty i.pending i.entries.at i.staging in
     rw c.set_kept.ensures (
       apart_stands g.D.Device.disk i.durable m i.left i.count i.entries.order i.entries.most c.args.self.now c.self.view_is c.self.invariant.0 c.args.number c.requires.fetched c.requires.shared
           c.in_ok-copy.copy (c.present.ensures ∙ ap Some (sym c.in_ok-copy.ensures)),
@@ -21,6 +21,6 @@ invariant_of-self g c =
 pub returns-clause-apart : goal.returns-clause-apart
 returns-clause-apart g c =
     let i = c.self.inside in
-    let m = memory_of i.table i.frozen_headers i.touched i.dirty i.pending i.entries.at i.hand in
+    let m = memory_of i.table i.frozen_headers i.touched i.dirty i.pending i.entries.at i.staging in
     rw c.set_kept.ensures (apart_seen g.D.Device.disk i.durable m i.left i.count i.entries.order i.entries.most c.args.self.now c.self.view_is c.self.invariant.0 c.args.number c.requires.fetched c.requires.shared
     c.in_ok-copy.copy (c.present.ensures ∙ ap Some (sym c.in_ok-copy.ensures)))

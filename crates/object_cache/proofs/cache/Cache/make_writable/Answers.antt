@@ -1,5 +1,5 @@
 use Rattle.object_cache.proofs.Names.{refl, sym, touching, goes_on_same, goes_on_twice}
-use Rattle.object_cache.proofs.Preparing.{leads_ready, rest_marked, rest_ready, within_ready}
+use Rattle.object_cache.proofs.Preparing.{continues_ready, rest_marked, rest_ready, within_ready}
 use Rattle.object_cache.proofs.Outcomes.{ok_then}
 use Rattle.object_cache.proofs.cache.Cache.make_writable.Goals as goal
 
@@ -15,8 +15,8 @@ returns-then-is_ready-clause-within g c = c.is_ready.ensures.within
 pub returns-then-is_ready-clause-rest : goal.returns-then-is_ready-clause-rest
 returns-then-is_ready-clause-rest g c = refl
 
-pub returns-then-is_ready-clause-leads : goal.returns-then-is_ready-clause-leads
-returns-then-is_ready-clause-leads g c = goes_on_same g.D.Device.disk g.met.D.Device.only_now c.args.self.now
+pub returns-then-is_ready-clause-continues : goal.returns-then-is_ready-clause-continues
+returns-then-is_ready-clause-continues g c = goes_on_same g.D.Device.disk g.met.D.Device.only_now c.args.self.now
 
 pub returns-in_err-make_ready-clause-within : goal.returns-in_err-make_ready-clause-within
 returns-in_err-make_ready-clause-within g c = within_ready g.D.Device.disk c.args.self.now c.make_ready.new.self c.make_ready.ensures.rest c.is_ready.ensures.within
@@ -24,8 +24,8 @@ returns-in_err-make_ready-clause-within g c = within_ready g.D.Device.disk c.arg
 pub returns-in_err-make_ready-clause-rest : goal.returns-in_err-make_ready-clause-rest
 returns-in_err-make_ready-clause-rest g c = rest_ready c.args.self.now c.make_ready.new.self c.make_ready.ensures.rest
 
-pub returns-in_err-make_ready-clause-leads : goal.returns-in_err-make_ready-clause-leads
-returns-in_err-make_ready-clause-leads g c = leads_ready g.D.Device.disk g.met.D.Device.only_now c.args.self.now c.make_ready.new.self c.make_ready.ensures.rest
+pub returns-in_err-make_ready-clause-continues : goal.returns-in_err-make_ready-clause-continues
+returns-in_err-make_ready-clause-continues g c = continues_ready g.D.Device.disk g.met.D.Device.only_now c.args.self.now c.make_ready.new.self c.make_ready.ensures.rest
 
 pub announce-requires-clause-apart : goal.announce-requires-clause-apart
 announce-requires-clause-apart g c = c.in_ok-make_ready.ensures.apart
@@ -46,7 +46,7 @@ returns-clause-rest g c =
     (touching c.make_ready.new.self.touched c.args.written.now) (touching c.make_ready.new.self.dirty c.args.written.now)
     c.make_ready.ensures.rest c.announce.ensures.marked c.announce.ensures.unchanged
 
-pub returns-clause-leads : goal.returns-clause-leads
-returns-clause-leads g c =
+pub returns-clause-continues : goal.returns-clause-continues
+returns-clause-continues g c =
     goes_on_twice g.D.Device.disk g.met.D.Device.counts_now c.args.self.now c.make_ready.new.self c.announce.new.self
-    (leads_ready g.D.Device.disk g.met.D.Device.only_now c.args.self.now c.make_ready.new.self c.make_ready.ensures.rest) c.announce.ensures.leads
+    (continues_ready g.D.Device.disk g.met.D.Device.only_now c.args.self.now c.make_ready.new.self c.make_ready.ensures.rest) c.announce.ensures.continues

@@ -17,8 +17,8 @@ returns-then-owes-clause-put g c = paid_put c.put_own_frozen.result c.args.self.
 pub returns-then-owes-clause-empty : goal.returns-then-owes-clause-empty
 returns-then-owes-clause-empty g c = paid_empty c.put_own_frozen.result c.args.self.now c.put_own_frozen.new.self c.args.number c.put_own_frozen.ensures.put c.put_own_frozen.ensures.unput
 
-pub returns-then-owes-clause-leads : goal.returns-then-owes-clause-leads
-returns-then-owes-clause-leads g c = c.put_own_frozen.ensures.leads
+pub returns-then-owes-clause-continues : goal.returns-then-owes-clause-continues
+returns-then-owes-clause-continues g c = c.put_own_frozen.ensures.continues
 
 pub returns-then-owes-clause-cause : goal.returns-then-owes-clause-cause
 returns-then-owes-clause-cause g c = c.put_own_frozen.ensures.cause
@@ -32,8 +32,8 @@ returns-clause-put g c = refl
 pub returns-clause-empty : goal.returns-clause-empty
 returns-clause-empty g c = λ empty. empty
 
-pub returns-clause-leads : goal.returns-clause-leads
-returns-clause-leads g c = goes_on_same g.D.Device.disk g.met.D.Device.only_now c.args.self.now
+pub returns-clause-continues : goal.returns-clause-continues
+returns-clause-continues g c = goes_on_same g.D.Device.disk g.met.D.Device.only_now c.args.self.now
 
 pub returns-clause-cause : goal.returns-clause-cause
 returns-clause-cause g c = ok_counts refl

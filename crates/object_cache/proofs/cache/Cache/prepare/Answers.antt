@@ -4,7 +4,7 @@ use Rattle.object_cache.proofs.Outcomes.{on_ok}
 use Rattle.object_cache.proofs.cache.Cache.prepare.Goals as goal
 
 pub returns-in_err-fetch-clause-within : goal.returns-in_err-fetch-clause-within
-returns-in_err-fetch-clause-within g c = within_on g.D.Device.disk c.args.self.now c.fetch.new.self c.fetch.ensures.rest c.fetch.ensures.leads c.fetch.ensures.within
+returns-in_err-fetch-clause-within g c = within_on g.D.Device.disk c.args.self.now c.fetch.new.self c.fetch.ensures.rest c.fetch.ensures.continues c.fetch.ensures.within
 
 pub returns-in_err-fetch-clause-before : goal.returns-in_err-fetch-clause-before
 returns-in_err-fetch-clause-before g c = c.fetch.ensures.within
@@ -12,8 +12,8 @@ returns-in_err-fetch-clause-before g c = c.fetch.ensures.within
 pub returns-in_err-fetch-clause-rest : goal.returns-in_err-fetch-clause-rest
 returns-in_err-fetch-clause-rest g c = rest_alone c.args.self.now c.fetch.new.self c.fetch.ensures.rest
 
-pub returns-in_err-fetch-clause-leads : goal.returns-in_err-fetch-clause-leads
-returns-in_err-fetch-clause-leads g c = c.fetch.ensures.leads
+pub returns-in_err-fetch-clause-continues : goal.returns-in_err-fetch-clause-continues
+returns-in_err-fetch-clause-continues g c = c.fetch.ensures.continues
 
 pub make_writable-requires : goal.make_writable-requires
 make_writable-requires g c = subst (λ (t : StoreState g.row.D.Denot). All (λ n. n < length t.headers) c.args.written.now) (sym c.fetch.ensures.rest) c.requires.announced
@@ -33,6 +33,6 @@ returns-clause-before g c = c.fetch.ensures.within
 pub returns-clause-rest : goal.returns-clause-rest
 returns-clause-rest g c = rest_on_ready c.args.self.now c.fetch.new.self c.make_writable.new.self c.fetch.ensures.rest c.make_writable.ensures.rest
 
-pub returns-clause-leads : goal.returns-clause-leads
-returns-clause-leads g c =
-    goes_on_twice g.D.Device.disk g.met.D.Device.counts_now c.args.self.now c.fetch.new.self c.make_writable.new.self c.fetch.ensures.leads c.make_writable.ensures.leads
+pub returns-clause-continues : goal.returns-clause-continues
+returns-clause-continues g c =
+    goes_on_twice g.D.Device.disk g.met.D.Device.counts_now c.args.self.now c.fetch.new.self c.make_writable.new.self c.fetch.ensures.continues c.make_writable.ensures.continues

@@ -1,18 +1,18 @@
 use Rattle.object_cache.proofs.Names.{◌∙◌, set, None, ap, counted_ok, without, goes_on_twice, StoreState, owed_at}
-use Rattle.object_cache.proofs.Leading.{leads_seats, put_on}
+use Rattle.object_cache.proofs.Leading.{continues_cached, put_on}
 use Rattle.object_cache.proofs.Outcomes.{on_err}
 use Rattle.object_cache.proofs.Paying.{away_on, fetched_on, keepable_on, masked_on, ok_counts}
 use Rattle.object_cache.proofs.cache.Cache.put_away.Goals as goal
 
-pub returns-in_err-write_back-clause-leads : goal.returns-in_err-write_back-clause-leads
-returns-in_err-write_back-clause-leads g c =
-    goes_on_twice g.D.Device.disk g.met.D.Device.counts_now c.args.self.now c.pay.new.self c.write_back.new.self c.pay.ensures.leads c.write_back.ensures.leads
+pub returns-in_err-write_back-clause-continues : goal.returns-in_err-write_back-clause-continues
+returns-in_err-write_back-clause-continues g c =
+    goes_on_twice g.D.Device.disk g.met.D.Device.counts_now c.args.self.now c.pay.new.self c.write_back.new.self c.pay.ensures.continues c.write_back.ensures.continues
 
-pub returns-clause-leads : goal.returns-clause-leads
-returns-clause-leads g c =
+pub returns-clause-continues : goal.returns-clause-continues
+returns-clause-continues g c =
     rw c.drop_entry.ensures
-    (leads_seats g.D.Device.disk c.args.self.now c.write_back.new.self (set c.write_back.new.self.seats c.args.number None) c.write_back.new.self.owed (without c.args.number c.write_back.new.self.order)
-    (goes_on_twice g.D.Device.disk g.met.D.Device.counts_now c.args.self.now c.pay.new.self c.write_back.new.self c.pay.ensures.leads c.write_back.ensures.leads))
+    (continues_cached g.D.Device.disk c.args.self.now c.write_back.new.self (set c.write_back.new.self.cached c.args.number None) c.write_back.new.self.owed (without c.args.number c.write_back.new.self.order)
+    (goes_on_twice g.D.Device.disk g.met.D.Device.counts_now c.args.self.now c.pay.new.self c.write_back.new.self c.pay.ensures.continues c.write_back.ensures.continues))
 
 pub pay-requires : goal.pay-requires
 pay-requires g c = c.requires.fetched
@@ -23,20 +23,20 @@ returns-in_err-pay-clause-stays g c = on_err c.from_residual.result c.pay.ensure
 pub returns-in_err-pay-clause-empty : goal.returns-in_err-pay-clause-empty
 returns-in_err-pay-clause-empty g c = c.pay.ensures.empty
 
-pub returns-in_err-pay-clause-leads : goal.returns-in_err-pay-clause-leads
-returns-in_err-pay-clause-leads g c = c.pay.ensures.leads
+pub returns-in_err-pay-clause-continues : goal.returns-in_err-pay-clause-continues
+returns-in_err-pay-clause-continues g c = c.pay.ensures.continues
 
 pub write_back-requires-clause-fetched : goal.write_back-requires-clause-fetched
 write_back-requires-clause-fetched g c = fetched_on c.args.self.now c.pay.new.self c.args.number c.pay.ensures.put c.requires.fetched
 
 pub write_back-requires-clause-keepable : goal.write_back-requires-clause-keepable
-write_back-requires-clause-keepable g c = keepable_on g.D.Device.disk c.args.self.now c.pay.new.self c.args.number c.pay.ensures.put c.pay.ensures.leads c.requires.keepable
+write_back-requires-clause-keepable g c = keepable_on g.D.Device.disk c.args.self.now c.pay.new.self c.args.number c.pay.ensures.put c.pay.ensures.continues c.requires.keepable
 
 pub returns-in_err-write_back-clause-stays : goal.returns-in_err-write_back-clause-stays
 returns-in_err-write_back-clause-stays g c = on_err c.from_residual-in_err-write_back.result (put_on c.args.self.now c.pay.new.self c.write_back.new.self c.pay.ensures.put c.write_back.ensures.put)
 
 pub returns-in_err-write_back-clause-empty : goal.returns-in_err-write_back-clause-empty
-returns-in_err-write_back-clause-empty g c = λ empty. c.write_back.ensures.hand ∙ c.pay.ensures.empty empty
+returns-in_err-write_back-clause-empty g c = λ empty. c.write_back.ensures.staging ∙ c.pay.ensures.empty empty
 
 pub drop_entry-requires-clause-fetched : goal.drop_entry-requires-clause-fetched
 drop_entry-requires-clause-fetched g c = fetched_on c.args.self.now c.write_back.new.self c.args.number (put_on c.args.self.now c.pay.new.self c.write_back.new.self c.pay.ensures.put c.write_back.ensures.put) c.requires.fetched
@@ -54,7 +54,7 @@ pub returns-clause-away : goal.returns-clause-away
 returns-clause-away g c = away_on c.args.self.now c.write_back.new.self c.drop_entry.new.self c.args.number (put_on c.args.self.now c.pay.new.self c.write_back.new.self c.pay.ensures.put c.write_back.ensures.put) c.drop_entry.ensures
 
 pub returns-clause-empty : goal.returns-clause-empty
-returns-clause-empty g c = λ empty. ap (λ (t : StoreState g.row.D.Denot). t.hand) c.drop_entry.ensures ∙ c.write_back.ensures.hand ∙ c.pay.ensures.empty empty
+returns-clause-empty g c = λ empty. ap (λ (t : StoreState g.row.D.Denot). t.staging) c.drop_entry.ensures ∙ c.write_back.ensures.staging ∙ c.pay.ensures.empty empty
 
 pub returns-clause-cause : goal.returns-clause-cause
 returns-clause-cause g c =

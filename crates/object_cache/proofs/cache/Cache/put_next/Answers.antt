@@ -9,23 +9,23 @@ returns-in-None-clause-fewer g c = omega (arith, none_marked c.self.inside.pendi
 
 pub returns-then-is_held-clause-fewer : goal.returns-then-is_held-clause-fewer
 returns-then-is_held-clause-fewer g c =
-    let held = sym (c.is_held.ensures ∙ ap (λ (t : StoreState g.row.D.Denot). is_some t.hand) c.self.view_is) ∙ c.if-is_held.true in
-    ok_then c.empty_hand.result c.empty_hand.ensures.fewer (λ fewer. let less = fewer (λ none. true≢false (sym held ∙ ap is_some none)) in omega (arith, less))
+    let held = sym (c.is_held.ensures ∙ ap (λ (t : StoreState g.row.D.Denot). is_some t.staging) c.self.view_is) ∙ c.if-is_held.true in
+    ok_then c.empty_staging.result c.empty_staging.ensures.fewer (λ fewer. let less = fewer (λ none. true≢false (sym held ∙ ap is_some none)) in omega (arith, less))
 
 pub returns-then-is_held-clause-few : goal.returns-then-is_held-clause-few
 returns-then-is_held-clause-few g c =
     let i = c.self.inside in
-    let m = memory_of i.table i.frozen_headers i.touched i.dirty i.pending i.entries.at i.hand in
+    let m = memory_of i.table i.frozen_headers i.touched i.dirty i.pending i.entries.at i.staging in
     λ f f_is. few_left g.D.Device.disk i.durable m i.left i.count i.entries.order i.entries.most c.args.self.now c.self.view_is c.self.invariant.0 f f_is
 
 pub returns-in-Some-clause-few : goal.returns-in-Some-clause-few
 returns-in-Some-clause-few g c =
     let i = c.self.inside in
-    let m = memory_of i.table i.frozen_headers i.touched i.dirty i.pending i.entries.at i.hand in
+    let m = memory_of i.table i.frozen_headers i.touched i.dirty i.pending i.entries.at i.staging in
     λ f f_is. few_left g.D.Device.disk i.durable m i.left i.count i.entries.order i.entries.most c.args.self.now c.self.view_is c.self.invariant.0 f f_is
 
 pub returns-in-None-clause-few : goal.returns-in-None-clause-few
 returns-in-None-clause-few g c =
     let i = c.self.inside in
-    let m = memory_of i.table i.frozen_headers i.touched i.dirty i.pending i.entries.at i.hand in
+    let m = memory_of i.table i.frozen_headers i.touched i.dirty i.pending i.entries.at i.staging in
     λ f f_is. few_left g.D.Device.disk i.durable m i.left i.count i.entries.order i.entries.most c.args.self.now c.self.view_is c.self.invariant.0 f f_is

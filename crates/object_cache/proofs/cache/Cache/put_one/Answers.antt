@@ -5,7 +5,7 @@ use Rattle.object_cache.proofs.cache.Cache.put_one.Goals as goal
 pub invariant_of-self : goal.invariant_of-self
 invariant_of-self g c =
     let i = c.self.inside in
-    let m = memory_of i.table i.frozen_headers i.touched i.dirty i.pending i.entries.at i.hand in
+    let m = memory_of i.table i.frozen_headers i.touched i.dirty i.pending i.entries.at i.staging in
     let t = c.put_next.new.self in
     let f = c.requires.0 in
     let f_is : t.frozen ≡ Some f = ap (λ (x : StoreState g.row.D.Denot). x.frozen) c.put_next.ensures.put ∙ c.requires.1 in

@@ -6,7 +6,7 @@ use Rattle.object_cache.proofs.cache.Cache.put_pending.Goals as goal
 pub owes-requires : goal.owes-requires
 owes-requires g c =
     let i = c.self.inside in
-    let m = memory_of i.table i.frozen_headers i.touched i.dirty i.pending i.entries.at i.hand in
+    let m = memory_of i.table i.frozen_headers i.touched i.dirty i.pending i.entries.at i.staging in
     pending_known g.D.Device.disk i.durable m i.left i.count i.entries.order i.entries.most c.args.self.now c.self.view_is c.self.invariant.0 c.args.number c.requires.pending
 
 pub put_own_frozen-requires-clause-fetched : goal.put_own_frozen-requires-clause-fetched
@@ -21,8 +21,8 @@ returns-then-owes-clause-fewer g c = c.put_own_frozen.ensures.fewer
 pub returns-then-owes-clause-put : goal.returns-then-owes-clause-put
 returns-then-owes-clause-put g c = paid_put c.put_own_frozen.result c.args.self.now c.put_own_frozen.new.self c.args.number c.put_own_frozen.ensures.put c.put_own_frozen.ensures.unput
 
-pub returns-then-owes-clause-leads : goal.returns-then-owes-clause-leads
-returns-then-owes-clause-leads g c = c.put_own_frozen.ensures.leads
+pub returns-then-owes-clause-continues : goal.returns-then-owes-clause-continues
+returns-then-owes-clause-continues g c = c.put_own_frozen.ensures.continues
 
 pub returns-then-owes-clause-cause : goal.returns-then-owes-clause-cause
 returns-then-owes-clause-cause g c = c.put_own_frozen.ensures.cause
@@ -42,8 +42,8 @@ returns-clause-fewer g c = c.put_below.ensures.fewer
 pub returns-clause-put : goal.returns-clause-put
 returns-clause-put g c = c.put_below.ensures.put
 
-pub returns-clause-leads : goal.returns-clause-leads
-returns-clause-leads g c = c.put_below.ensures.leads
+pub returns-clause-continues : goal.returns-clause-continues
+returns-clause-continues g c = c.put_below.ensures.continues
 
 pub returns-clause-cause : goal.returns-clause-cause
 returns-clause-cause g c = c.put_below.ensures.cause

@@ -1,12 +1,12 @@
 use Rattle.object_cache.proofs.Names.{rules, ◌∙◌, ◌<◌, ◌+◌, arith, counted_ok}
 use Rattle.object_cache.proofs.Outcomes.{on_err}
-use Rattle.object_cache.proofs.Turns.{next_asked, puts_more}
+use Rattle.object_cache.proofs.Turns.{next_requested, puts_more}
 use Rattle.object_cache.proofs.cache.Cache.put_some.Goals as goal
 
 pub put_one-requires : goal.put_one-requires
 put_one-requires g c =
     let lt : c.loop.counter < c.args.count = search rules in
-    next_asked g.D.Device.disk c.args.self.now c.loop.self c.args.count c.loop.counter c.requires c.loop.invariant.0 lt
+    next_requested g.D.Device.disk c.args.self.now c.loop.self c.args.count c.loop.counter c.requires c.loop.invariant.0 lt
 
 pub returns-in_err-put_one-clause-unput : goal.returns-in_err-put_one-clause-unput
 returns-in_err-put_one-clause-unput g c =

@@ -1,15 +1,15 @@
 use Rattle.std.proofs.Common.{◌∙◌, ◌≤◌, arith, rules, sym}
 use Rattle.object_cache.proofs.Outcomes.{on_err}
-use Rattle.object_cache.proofs.Turns.{asked_by}
+use Rattle.object_cache.proofs.Turns.{requested_by}
 use Rattle.object_cache.proofs.cache.Cache.stabilize.Goals as goal
 
 pub put_some-requires : goal.put_some-requires
 put_some-requires g c =
     let within : c.if-count-left.some ≤ c.in-Some.left = search rules in
-    asked_by c.args.self.now.frozen c.in-Some.left c.if-count-left.some (sym c.left.ensures ∙ c.in-Some.is) within
+    requested_by c.args.self.now.frozen c.in-Some.left c.if-count-left.some (sym c.left.ensures ∙ c.in-Some.is) within
 
 pub returns-in_err-put_some-clause-stopped : goal.returns-in_err-put_some-clause-stopped
 returns-in_err-put_some-clause-stopped g c =
     let unput = c.in_err-put_some.ensures.unput in
     let within : c.if-count-left.some ≤ c.args.count = search rules in
-    λ f is. on_err c.from_residual.result (unput.0, omega (arith, unput.1, within), unput.2.aside f is)
+    λ f is. on_err c.from_residual.result (unput.0, omega (arith, unput.1, within), unput.2.snapshots f is)

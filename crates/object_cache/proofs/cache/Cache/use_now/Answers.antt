@@ -1,25 +1,25 @@
 use Rattle.object_cache.proofs.Names.{◌∷◌, ◌≤◌, sym, ap, ◌∙◌, stored_of, memory_of, EntriesState, used_now, without, StoreState, IsCache}
 use Rattle.object_cache.proofs.Outcomes.{whichever}
-use Rattle.object_cache.proofs.Owing.{fetched_by, unseated_by}
+use Rattle.object_cache.proofs.Owing.{fetched_by, uncached_by}
 use Rattle.object_cache.proofs.cache.Cache.use_now.Goals as goal
 
 pub invariant_of-self : goal.invariant_of-self
 invariant_of-self g c =
     let i = c.self.inside in
-    whichever c.promote.result (λ (e : EntriesState). IsCache (stored_of g.D.Device.disk i.durable) (memory_of i.table i.frozen_headers i.touched i.dirty i.pending e.at i.hand) i.left i.count × (8 ≤ e.most))
+    whichever c.promote.result (λ (e : EntriesState). IsCache (stored_of g.D.Device.disk i.durable) (memory_of i.table i.frozen_headers i.touched i.dirty i.pending e.at i.staging) i.left i.count × (8 ≤ e.most))
     c.promote.new.self (used_now c.args.number i.entries) i.entries c.promote.ensures.used c.promote.ensures.unchanged c.self.invariant c.self.invariant
 
 pub returns-clause-fetched : goal.returns-clause-fetched
 returns-clause-fetched g c =
     let i = c.self.inside in
-    let m = memory_of i.table i.frozen_headers i.touched i.dirty i.pending i.entries.at i.hand in
+    let m = memory_of i.table i.frozen_headers i.touched i.dirty i.pending i.entries.at i.staging in
     λ held. fetched_by g.D.Device.disk i.durable m i.left i.count i.entries.order i.entries.most c.args.self.now c.self.view_is c.self.invariant.0 c.args.number c.requires (sym c.promote.ensures.held ∙ held)
 
-pub returns-clause-unseated : goal.returns-clause-unseated
-returns-clause-unseated g c =
+pub returns-clause-uncached : goal.returns-clause-uncached
+returns-clause-uncached g c =
     let i = c.self.inside in
-    let m = memory_of i.table i.frozen_headers i.touched i.dirty i.pending i.entries.at i.hand in
-    λ none. unseated_by g.D.Device.disk i.durable m i.left i.count i.entries.order i.entries.most c.args.self.now c.self.view_is c.self.invariant.0 c.args.number (sym c.promote.ensures.held ∙ none)
+    let m = memory_of i.table i.frozen_headers i.touched i.dirty i.pending i.entries.at i.staging in
+    λ none. uncached_by g.D.Device.disk i.durable m i.left i.count i.entries.order i.entries.most c.args.self.now c.self.view_is c.self.invariant.0 c.args.number (sym c.promote.ensures.held ∙ none)
 
 pub returns-clause-used : goal.returns-clause-used
 returns-clause-used g c =

@@ -16,11 +16,11 @@ returns-then-contains-clause-owed g c = (written_same c.put_present.result c.arg
 pub returns-then-contains-clause-put : goal.returns-then-contains-clause-put
 returns-then-contains-clause-put g c = (written_same c.put_present.result c.args.self.now c.put_present.new.self c.args.number c.put_present.ensures.put c.put_present.ensures.unput).2
 
-pub returns-then-contains-clause-hand : goal.returns-then-contains-clause-hand
-returns-then-contains-clause-hand g c = (written_same c.put_present.result c.args.self.now c.put_present.new.self c.args.number c.put_present.ensures.put c.put_present.ensures.unput).1
+pub returns-then-contains-clause-staging : goal.returns-then-contains-clause-staging
+returns-then-contains-clause-staging g c = (written_same c.put_present.result c.args.self.now c.put_present.new.self c.args.number c.put_present.ensures.put c.put_present.ensures.unput).1
 
-pub returns-then-contains-clause-leads : goal.returns-then-contains-clause-leads
-returns-then-contains-clause-leads g c = c.put_present.ensures.leads
+pub returns-then-contains-clause-continues : goal.returns-then-contains-clause-continues
+returns-then-contains-clause-continues g c = c.put_present.ensures.continues
 
 pub returns-then-contains-clause-cause : goal.returns-then-contains-clause-cause
 returns-then-contains-clause-cause g c = c.put_present.ensures.cause

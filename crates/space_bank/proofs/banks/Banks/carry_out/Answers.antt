@@ -1,7 +1,7 @@
 use Rattle.space_bank.proofs.Names.{List, arith, drop, refl, subst, ℕ, All, Void, new_annex, new_root, with_new, BankChange, fresh_content, objects_in}
 use Rattle.space_bank.proofs.Names.{numbers_of, MayMake}
 use Rattle.space_bank.proofs.Carried.{fresh_used}
-use Rattle.space_bank.proofs.Ending.{aside_alone}
+use Rattle.space_bank.proofs.Ending.{snapshots_alone}
 use Rattle.space_bank.proofs.Renewing.{new_stays}
 use Rattle.space_bank.proofs.banks.Banks.carry_out.Goals as goal
 
@@ -25,11 +25,11 @@ make_one-requires g c =
 pub returns-in-Make-clause-objects : goal.returns-in-Make-clause-objects
 returns-in-Make-clause-objects g c = rw c.in-Make.is c.make_one.ensures.objects
 
-pub returns-in-Make-clause-aside : goal.returns-in-Make-clause-aside
-returns-in-Make-clause-aside g c =
+pub returns-in-Make-clause-snapshots : goal.returns-in-Make-clause-snapshots
+returns-in-Make-clause-snapshots g c =
     let os = objects_in (g.F.PresentFrames.parts c.args.store.now) in
     let us = objects_in (g.F.PresentFrames.parts c.make_one.new.store) in
-    aside_alone g.F.PresentFrames.parts g.F.PresentFrames.IsFetched g.F.PresentFrames.IsAnnounced g.F.PresentFrames.LeadsTo c.args.store.now c.make_one.new.store c.make_one.ensures.aside
+    snapshots_alone g.F.PresentFrames.parts g.F.PresentFrames.IsFetched g.F.PresentFrames.IsAnnounced g.F.PresentFrames.ContinuesTo c.args.store.now c.make_one.new.store c.make_one.ensures.snapshots
     (new_stays os us c.in-Make.number c.in-Make.bank (fresh_content Void c.in-Make.fresh) (fresh_used c.in-Make.fresh) c.make_one.ensures.objects)
 
 pub new_process-requires : goal.new_process-requires
@@ -56,15 +56,15 @@ new_process-requires g c =
 pub returns-in-MakeProcess-clause-objects : goal.returns-in-MakeProcess-clause-objects
 returns-in-MakeProcess-clause-objects g c = rw c.in-MakeProcess.is c.new_process.ensures.objects
 
-pub returns-in-MakeProcess-clause-aside : goal.returns-in-MakeProcess-clause-aside
-returns-in-MakeProcess-clause-aside g c =
+pub returns-in-MakeProcess-clause-snapshots : goal.returns-in-MakeProcess-clause-snapshots
+returns-in-MakeProcess-clause-snapshots g c =
     let os = objects_in (g.F.PresentFrames.parts c.args.store.now) in
     let us = objects_in (g.F.PresentFrames.parts c.new_process.new.store) in
     let root = c.in-MakeProcess.root in
     let annex = c.in-MakeProcess.annex in
     let bank = c.in-MakeProcess.bank in
     let mid = with_new os root bank (new_root annex) in
-    aside_alone g.F.PresentFrames.parts g.F.PresentFrames.IsFetched g.F.PresentFrames.IsAnnounced g.F.PresentFrames.LeadsTo c.args.store.now c.new_process.new.store c.new_process.ensures.aside
+    snapshots_alone g.F.PresentFrames.parts g.F.PresentFrames.IsFetched g.F.PresentFrames.IsAnnounced g.F.PresentFrames.ContinuesTo c.args.store.now c.new_process.new.store c.new_process.ensures.snapshots
     (λ n used. new_stays mid us annex bank new_annex refl c.new_process.ensures.objects n (new_stays os mid root bank (new_root annex) refl refl n used))
 
 pub give_up-requires : goal.give_up-requires
@@ -84,7 +84,7 @@ returns-in-GiveUp-clause-objects g c = rw c.in-GiveUp.is c.give_up.ensures.objec
 pub return_to_parent-requires : goal.return_to_parent-requires
 return_to_parent-requires g c =
     let p = g.F.PresentFrames.parts c.args.store.now in
-    let m = subst (λ (x : BankChange). MayMake p.geometry (objects_in p) (drop c.args.skip c.args.self.now.listed) x) c.in-HandOn.is c.requires.may in
+    let m = subst (λ (x : BankChange). MayMake p.geometry (objects_in p) (drop c.args.skip c.args.self.now.listed) x) c.in-Transfer.is c.requires.may in
     record {
       asks = record { sound = c.requires.sound; counted = c.requires.counted; bank = m.bank };
       other = m.other;
@@ -92,5 +92,5 @@ return_to_parent-requires g c =
       announced = c.requires.announced;
     }
 
-pub returns-in-HandOn-clause-objects : goal.returns-in-HandOn-clause-objects
-returns-in-HandOn-clause-objects g c = rw c.in-HandOn.is c.return_to_parent.ensures.objects
+pub returns-in-Transfer-clause-objects : goal.returns-in-Transfer-clause-objects
+returns-in-Transfer-clause-objects g c = rw c.in-Transfer.is c.return_to_parent.ensures.objects

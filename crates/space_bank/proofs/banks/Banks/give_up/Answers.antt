@@ -1,6 +1,6 @@
 use Rattle.space_bank.proofs.Names.{◌≡◌, ◌+◌, ◌-◌, ◌∙◌, ◌++◌, true, false, ℕ, List, ap, arith, drop, length, subst, sym, take, if◌then◌else◌, length-drop}
 use Rattle.space_bank.proofs.Names.{chain, is_free, is_member, rescind, content_at, objects_in, BanksState, IsRaised, is_marked}
-use Rattle.space_bank.proofs.Ending.{AreKnown, ended_aside, ended_carried, enough_used, list_allocations, list_calls, list_marks, released_then, rest_is}
+use Rattle.space_bank.proofs.Ending.{AreKnown, ended_snapshots, ended_carried, enough_used, list_allocations, list_calls, list_marks, released_then, rest_is}
 use Rattle.space_bank.proofs.banks.Banks.give_up.Goals as goal
 
 pub release-requires-clause-enough : goal.release-requires-clause-enough
@@ -63,14 +63,14 @@ returns-clause-carried g c =
     c.mark_free.ensures.nodes c.mark_free.ensures.pages marks)
     (c.rescind.ensures.objects ∙ ap (λ (xs : List ℕ). rescind xs (objects_in p)) part) c.rescind.ensures.current c.rescind.ensures.keepable
 
-pub returns-clause-aside : goal.returns-clause-aside
-returns-clause-aside g c =
+pub returns-clause-snapshots : goal.returns-clause-snapshots
+returns-clause-snapshots g c =
     let os = objects_in (g.F.PresentFrames.parts c.args.store.now) in
     let s = c.args.self.now in
     let part = rest_is c.deref.result.now s.listed c.args.skip
     (c.deref.ensures.value ∙ (ap (λ (k : BanksState). k.listed) c.self-2.view_is ∙ ap (λ (k : BanksState). k.listed) c.release.ensures.kept)) in
-    ended_aside g.F.PresentFrames.parts g.F.PresentFrames.IsFetched g.F.PresentFrames.IsAnnounced g.F.PresentFrames.LeadsTo c.args.store.now c.rescind.new.store
+    ended_snapshots g.F.PresentFrames.parts g.F.PresentFrames.IsFetched g.F.PresentFrames.IsAnnounced g.F.PresentFrames.ContinuesTo c.args.store.now c.rescind.new.store
     (take (length c.deref.result.now - c.args.skip) (drop c.args.skip c.deref.result.now))
     c.rescind.ensures.given_up c.rescind.ensures.objects
     (subst (λ (xs : List ℕ). (n : ℕ) → is_member xs n ≡ true → is_free (content_at os n) ≡ false) (sym part) c.requires.gives.used)
-    c.rescind.ensures.fetched c.rescind.ensures.announced c.rescind.ensures.leads
+    c.rescind.ensures.fetched c.rescind.ensures.announced c.rescind.ensures.continues

@@ -16,7 +16,7 @@ make-requires-2-clause-free g c =
     let at = g.met.F.PresentFrames.known_announced c.args.store.now c.args.annex c.requires.annex_announced in
     let sound = c.requires.asks.sound in
     still_free p.geometry sound.0 p q c.args.root c.args.annex c.args.bank (new_root c.args.annex)
-    (c.make.ensures.keepable sound.0 c.ranges.annex.fits sound.1.keepable) c.make.ensures.aside.count c.make.ensures.objects at.0 c.requires.two c.requires.annex_free
+    (c.make.ensures.keepable sound.0 c.ranges.annex.fits sound.1.keepable) c.make.ensures.snapshots.count c.make.ensures.objects at.0 c.requires.two c.requires.annex_free
 
 pub returns-clause-carried : goal.returns-clause-carried
 returns-clause-carried g c =
@@ -34,8 +34,8 @@ returns-clause-carried g c =
     process_carried p s c.args.bank c.requires.asks c.args.root at.0 c.requires.free r (λ current. c.make-2.ensures.current (c.make.ensures.current current))
     c.args.annex c.make-2.new.self _
     (c.make-2.ensures.objects ∙ ap (λ (os : List Object). with_new os c.args.annex c.args.bank new_annex) c.make.ensures.objects)
-    (λ age k. subst (λ (g : Geometry). AreKeepable g age (frames_of r)) c.make.ensures.aside.geometry
-    (c.make-2.ensures.keepable age tt (subst (λ (g : Geometry). AreKeepable g age (frames_of q)) (sym c.make.ensures.aside.geometry) (c.make.ensures.keepable age c.ranges.annex.fits k))))
+    (λ age k. subst (λ (g : Geometry). AreKeepable g age (frames_of r)) c.make.ensures.snapshots.geometry
+    (c.make-2.ensures.keepable age tt (subst (λ (g : Geometry). AreKeepable g age (frames_of q)) (sym c.make.ensures.snapshots.geometry) (c.make.ensures.keepable age c.ranges.annex.fits k))))
     at_annex.0 c.requires.two c.requires.place c.requires.annex_free
     (taken_two banks 2 s c.make.new.self c.make-2.new.self (slice_set (marks_of s) c.args.root false) c.args.annex
     (taken_one banks 2 s c.account.new.self c.make.new.self c.args.root c.account.ensures.usages c.account.ensures.kept made) made_annex)

@@ -1,6 +1,6 @@
 use Rattle.space_bank.proofs.Names.{ap, refl, subst, sym, ◌∙◌, BankOrder, usage, remaining, limit_in, content_at, objects_in, IsPlanned}
 use Rattle.model.specs.declared.order.BankOrder.TheVariants as bank
-use Rattle.space_bank.proofs.Plans.{answer, bank_asked, planned_none, remaining_there, told_as}
+use Rattle.space_bank.proofs.Plans.{answer, bank_requested, planned_none, remaining_there, replying_as}
 use Rattle.space_bank.proofs.banks.Banks.plan.Goals as goal
 
 pub returns-in-NewPage-clause-planned : goal.returns-in-NewPage-clause-planned
@@ -39,14 +39,14 @@ returns-in-ReturnToParent-clause-planned g c =
     (c.plan_return.ensures.planned c.args.arguments)
 
 pub remaining-requires : goal.remaining-requires
-remaining-requires g c = bank_asked (g.F.PresentFrames.parts c.args.store.now) c.args.self.now c.args.bank c.args.arguments c.requires.asks
+remaining-requires g c = bank_requested (g.F.PresentFrames.parts c.args.store.now) c.args.self.now c.args.bank c.args.arguments c.requires.asks
 
 pub returns-in-Remaining-clause-planned : goal.returns-in-Remaining-clause-planned
 returns-in-Remaining-clause-planned g c =
     let p = g.F.PresentFrames.parts c.args.store.now in
     let os = objects_in p in
     let b = c.args.bank in
-    subst (λ (o : BankOrder). IsPlanned p b o c.args.arguments c.args.self.now.listed c.told_three.result c.args.self.now.listed) (sym c.in-Remaining.is)
-    (planned_none p b bank.Remaining c.args.arguments c.args.self.now.listed c.args.self.now.listed c.told_three.result
-    (told_as p.geometry os b bank.Remaining c.args.arguments c.told_three.result (remaining os b) (usage os b) (limit_in (content_at os b))
-    (remaining_there p.geometry os b c.args.arguments) (c.told_three.ensures ∙ ap answer c.remaining.ensures)) refl)
+    subst (λ (o : BankOrder). IsPlanned p b o c.args.arguments c.args.self.now.listed c.replying_three.result c.args.self.now.listed) (sym c.in-Remaining.is)
+    (planned_none p b bank.Remaining c.args.arguments c.args.self.now.listed c.args.self.now.listed c.replying_three.result
+    (replying_as p.geometry os b bank.Remaining c.args.arguments c.replying_three.result (remaining os b) (usage os b) (limit_in (content_at os b))
+    (remaining_there p.geometry os b c.args.arguments) (c.replying_three.ensures ∙ ap answer c.remaining.ensures)) refl)

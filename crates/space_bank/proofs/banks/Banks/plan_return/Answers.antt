@@ -1,4 +1,4 @@
-use Rattle.space_bank.proofs.Names.{◌++◌, ◌∙◌, [], ◌∷◌, length, append_assoc, refl, ap, arith, length-append, Void, owned_by, HandOn, objects_in, BanksState}
+use Rattle.space_bank.proofs.Names.{◌++◌, ◌∙◌, [], ◌∷◌, length, append_assoc, refl, ap, arith, length-append, Void, owned_by, Transfer, objects_in, BanksState}
 use Rattle.model.specs.declared.order.BankOrder.TheVariants as bank
 use Rattle.model.specs.declared.order.ResultCode.TheVariants as code
 use Rattle.space_bank.proofs.Making.{may_return}
@@ -38,7 +38,7 @@ returns-clause-planned g c = λ args.
     let first = c.args.self.now.listed in
     let own = owned_by os c.args.bank in
     planned_as p c.args.bank bank.ReturnToParent args first c.list_owned.new.self.listed c.changed.result (c.args.bank ∷ own)
-    (made_as p.geometry os c.args.bank bank.ReturnToParent args c.changed.result (c.args.bank ∷ own) Void (HandOn c.args.bank)
+    (made_as p.geometry os c.args.bank bank.ReturnToParent args c.changed.result (c.args.bank ∷ own) Void (Transfer c.args.bank)
     (λ us frame. return_there p.geometry os c.args.bank args us frame c.if-bank-eq0.false)
     (λ us frame now. may_return p.geometry os c.args.bank c.requires.bank.bank us frame now c.if-bank-eq0.false)
     c.changed.ensures)

@@ -1,11 +1,11 @@
 use Rattle.space_bank.proofs.Names.{◌≡◌, ◌<◌, ◌+◌, ◌-◌, ◌^◌, ◌∙◌, ◌++◌, ◌∷◌, [], false, ℕ, List, ap, arith, drop, length, subst, sym, take, All, length-append}
 use Rattle.space_bank.proofs.Names.{Capability, Geometry, Content, Object, chain, owned_by, header_at, AreKeepable, is_free, rescind, content_at, owner_at}
-use Rattle.space_bank.proofs.Names.{frames_of, objects_in, BanksState, AreHandedOn, IsRaised, owner_read}
-use Rattle.space_bank.proofs.Ending.{aside_then_ended, ended_aside, released_then, rest_is}
+use Rattle.space_bank.proofs.Names.{frames_of, objects_in, BanksState, AreTransferred, IsRaised, owner_read}
+use Rattle.space_bank.proofs.Ending.{snapshots_then_ended, ended_snapshots, released_then, rest_is}
 use Rattle.space_bank.proofs.Giving.{serve_parent}
-use Rattle.space_bank.proofs.Owners.{handed_same}
+use Rattle.space_bank.proofs.Owners.{transferred_same}
 use Rattle.space_bank.proofs.Renewing.{SameFree}
-use Rattle.space_bank.proofs.Returning.{drop_next, handed_allocations, handed_calls, inherited_by, mark_one, one_all, one_enough, only_used, owned_used, rest_all, returned_carried}
+use Rattle.space_bank.proofs.Returning.{drop_next, transferred_allocations, transferred_calls, inherited_by, mark_one, one_all, one_enough, only_used, owned_used, rest_all, returned_carried}
 use Rattle.space_bank.proofs.Standing.{serve_count}
 use Rattle.space_bank.proofs.banks.Banks.return_to_parent.Goals as goal
 
@@ -20,8 +20,8 @@ release-requires-clause-enough g c =
     rw (owner_read p c.table.result.now _ c.args.bank c.table.ensures c.header-parent.ensures)
     (one_enough p c.args.self.now c.args.bank c.requires.asks c.requires.other)
 
-pub hand_on-requires-clause-announced : goal.hand_on-requires-clause-announced
-hand_on-requires-clause-announced g c =
+pub transfer-requires-clause-announced : goal.transfer-requires-clause-announced
+transfer-requires-clause-announced g c =
     let os = objects_in (g.F.PresentFrames.parts c.args.store.now) in
     let s = c.args.self.now in
     let announced = g.F.PresentFrames.IsAnnounced c.args.store.now in
@@ -32,8 +32,8 @@ hand_on-requires-clause-announced g c =
     subst (λ (list : List ℕ). All announced list) (sym part)
     (rest_all announced c.args.bank (owned_by os c.args.bank) (subst (λ (list : List ℕ). All announced list) c.requires.listed c.requires.announced))
 
-pub hand_on-requires-clause-used : goal.hand_on-requires-clause-used
-hand_on-requires-clause-used g c =
+pub transfer-requires-clause-used : goal.transfer-requires-clause-used
+transfer-requires-clause-used g c =
     let os = objects_in (g.F.PresentFrames.parts c.args.store.now) in
     let s = c.args.self.now in
     let part : take (length c.deref.result.now - (c.args.skip + 1)) (drop (c.args.skip + 1) c.deref.result.now) ≡ owned_by os c.args.bank =
@@ -46,46 +46,46 @@ pub rescind-requires-clause-announced : goal.rescind-requires-clause-announced
 rescind-requires-clause-announced g c =
     let os = objects_in (g.F.PresentFrames.parts c.args.store.now) in
     let first = subst (λ (list : List ℕ). All (g.F.PresentFrames.IsAnnounced c.args.store.now) list) c.requires.listed c.requires.announced 0 0 (omega arith) in
-    one_all (g.F.PresentFrames.IsAnnounced c.hand_on.new.store) c.args.bank (c.hand_on.ensures.aside.announced c.args.bank first)
+    one_all (g.F.PresentFrames.IsAnnounced c.transfer.new.store) c.args.bank (c.transfer.ensures.snapshots.announced c.args.bank first)
 
 pub rescind-requires-clause-allocations : goal.rescind-requires-clause-allocations
 rescind-requires-clause-allocations g c =
     let p = g.F.PresentFrames.parts c.args.store.now in
-    let q = g.F.PresentFrames.parts c.hand_on.new.store in
+    let q = g.F.PresentFrames.parts c.transfer.new.store in
     let first = subst (λ (list : List ℕ). All (g.F.PresentFrames.IsAnnounced c.args.store.now) list) c.requires.listed c.requires.announced 0 0 (omega arith) in
-    let known = g.met.F.PresentFrames.known_announced c.hand_on.new.store c.args.bank (c.hand_on.ensures.aside.announced c.args.bank first) in
+    let known = g.met.F.PresentFrames.known_announced c.transfer.new.store c.args.bank (c.transfer.ensures.snapshots.announced c.args.bank first) in
     one_all (λ n. (header_at q.headers n).allocations < 2 ^ 64 - 1) c.args.bank
-    (handed_allocations p c.args.self.now c.args.bank c.requires.asks c.requires.other q c.hand_on.ensures.keepable known.0)
+    (transferred_allocations p c.args.self.now c.args.bank c.requires.asks c.requires.other q c.transfer.ensures.keepable known.0)
 
 pub rescind-requires-clause-calls : goal.rescind-requires-clause-calls
 rescind-requires-clause-calls g c =
     let p = g.F.PresentFrames.parts c.args.store.now in
-    let q = g.F.PresentFrames.parts c.hand_on.new.store in
+    let q = g.F.PresentFrames.parts c.transfer.new.store in
     let first = subst (λ (list : List ℕ). All (g.F.PresentFrames.IsAnnounced c.args.store.now) list) c.requires.listed c.requires.announced 0 0 (omega arith) in
-    let known = g.met.F.PresentFrames.known_announced c.hand_on.new.store c.args.bank (c.hand_on.ensures.aside.announced c.args.bank first) in
+    let known = g.met.F.PresentFrames.known_announced c.transfer.new.store c.args.bank (c.transfer.ensures.snapshots.announced c.args.bank first) in
     one_all (λ n. (header_at q.headers n).calls < 2 ^ 64 - 1) c.args.bank
-    (handed_calls p c.args.self.now c.args.bank c.requires.asks c.requires.other q c.hand_on.ensures.keepable known.0)
+    (transferred_calls p c.args.self.now c.args.bank c.requires.asks c.requires.other q c.transfer.ensures.keepable known.0)
 
 pub returns-clause-objects : goal.returns-clause-objects
 returns-clause-objects g c =
     let p = g.F.PresentFrames.parts c.args.store.now in
     let os = objects_in p in
-    let us = objects_in (g.F.PresentFrames.parts c.hand_on.new.store) in
+    let us = objects_in (g.F.PresentFrames.parts c.transfer.new.store) in
     let s = c.args.self.now in
     let owner = owner_read p c.table.result.now _ c.args.bank c.table.ensures c.header-parent.ensures in
     let part : take (length c.deref.result.now - (c.args.skip + 1)) (drop (c.args.skip + 1) c.deref.result.now) ≡ owned_by os c.args.bank =
     rest_is c.deref.result.now s.listed (c.args.skip + 1)
     (c.deref.ensures.value ∙ (ap (λ (k : BanksState). k.listed) c.self.view_is ∙ ap (λ (k : BanksState). k.listed) c.release.ensures.kept))
     ∙ drop_next s.listed c.args.skip c.args.bank (owned_by os c.args.bank) c.requires.listed in
-    let handed : AreHandedOn (owned_by os c.args.bank) (owner_at os c.args.bank) os us =
-    subst (λ (n : ℕ). AreHandedOn (owned_by os c.args.bank) n os us) owner
-    (subst (λ (list : List ℕ). AreHandedOn list c.header-parent.result.owner os us) part c.hand_on.ensures.objects) in
-    c.rescind.ensures.objects ∙ ap (λ (vs : List Object). rescind (c.args.bank ∷ []) vs) (inherited_by os us c.args.bank handed)
+    let transferred : AreTransferred (owned_by os c.args.bank) (owner_at os c.args.bank) os us =
+    subst (λ (n : ℕ). AreTransferred (owned_by os c.args.bank) n os us) owner
+    (subst (λ (list : List ℕ). AreTransferred list c.header-parent.result.owner os us) part c.transfer.ensures.objects) in
+    c.rescind.ensures.objects ∙ ap (λ (vs : List Object). rescind (c.args.bank ∷ []) vs) (inherited_by os us c.args.bank transferred)
 
 pub returns-clause-carried : goal.returns-clause-carried
 returns-clause-carried g c =
     let p = g.F.PresentFrames.parts c.args.store.now in
-    let q = g.F.PresentFrames.parts c.hand_on.new.store in
+    let q = g.F.PresentFrames.parts c.transfer.new.store in
     let r = g.F.PresentFrames.parts c.rescind.new.store in
     let os = objects_in p in
     let us = objects_in q in
@@ -97,9 +97,9 @@ returns-clause-carried g c =
     rest_is c.deref.result.now s.listed (c.args.skip + 1)
     (c.deref.ensures.value ∙ (ap (λ (k : BanksState). k.listed) c.self.view_is ∙ ap (λ (k : BanksState). k.listed) c.release.ensures.kept))
     ∙ drop_next s.listed c.args.skip b (owned_by os b) c.requires.listed in
-    let handed : AreHandedOn (owned_by os b) (owner_at os b) os us =
-    subst (λ (n : ℕ). AreHandedOn (owned_by os b) n os us) owner
-    (subst (λ (list : List ℕ). AreHandedOn list c.header-parent.result.owner os us) part c.hand_on.ensures.objects) in
+    let transferred : AreTransferred (owned_by os b) (owner_at os b) os us =
+    subst (λ (n : ℕ). AreTransferred (owned_by os b) n os us) owner
+    (subst (λ (list : List ℕ). AreTransferred list c.header-parent.result.owner os us) part c.transfer.ensures.objects) in
     let raised : IsRaised banks 1 c.release.new.self.usages s.usages =
     subst (λ (n : ℕ). IsRaised (chain os n) 1 c.release.new.self.usages s.usages) owner c.release.ensures.usages in
     let first = subst (λ (list : List ℕ). All (g.F.PresentFrames.IsAnnounced c.args.store.now) list) c.requires.listed c.requires.announced 0 0 (omega arith) in
@@ -108,24 +108,24 @@ returns-clause-carried g c =
     ap (λ (k : BanksState). length (k.free_nodes ++ k.free_pages)) c.self.view_is ∙ ap (λ (k : BanksState). length (k.free_nodes ++ k.free_pages)) c.release.ensures.kept in
     let inside : b < length (c.self.inside.nodes ++ c.self.inside.pages) =
     omega (arith, known, marks, length-append s.free_nodes s.free_pages, serve_count p s b c.requires.asks, c.requires.asks.counted.nodes, c.requires.asks.counted.pages) in
-    returned_carried p s b c.requires.asks c.requires.other r _ us handed
+    returned_carried p s b c.requires.asks c.requires.other r _ us transferred
     (released_then banks 1 s c.release.new.self _ c.mark.new.nodes c.mark.new.pages (b ∷ []) raised c.release.ensures.kept c.self.view_is
     c.mark.ensures.nodes c.mark.ensures.pages (mark_one (c.self.inside.nodes ++ c.self.inside.pages) (c.mark.new.nodes ++ c.mark.new.pages) b inside c.mark.ensures.marks))
     c.rescind.ensures.objects c.rescind.ensures.current
-    (λ age few k. subst (λ (h : Geometry). AreKeepable h (age + 1) (frames_of r)) c.hand_on.ensures.aside.geometry
-    (c.rescind.ensures.keepable age few (subst (λ (h : Geometry). AreKeepable h age (frames_of q)) (sym c.hand_on.ensures.aside.geometry) (c.hand_on.ensures.keepable age k))))
+    (λ age few k. subst (λ (h : Geometry). AreKeepable h (age + 1) (frames_of r)) c.transfer.ensures.snapshots.geometry
+    (c.rescind.ensures.keepable age few (subst (λ (h : Geometry). AreKeepable h age (frames_of q)) (sym c.transfer.ensures.snapshots.geometry) (c.transfer.ensures.keepable age k))))
 
-pub returns-clause-aside : goal.returns-clause-aside
-returns-clause-aside g c =
-    let q = g.F.PresentFrames.parts c.hand_on.new.store in
+pub returns-clause-snapshots : goal.returns-clause-snapshots
+returns-clause-snapshots g c =
+    let q = g.F.PresentFrames.parts c.transfer.new.store in
     let os = objects_in (g.F.PresentFrames.parts c.args.store.now) in
     let us = objects_in q in
     let list = take (length c.deref.result.now - (c.args.skip + 1)) (drop (c.args.skip + 1) c.deref.result.now) in
     let free : SameFree (g.F.PresentFrames.parts c.args.store.now) q =
-    λ n. ap (λ (k : Content Capability). is_free k) (handed_same list c.header-parent.result.owner os us c.hand_on.ensures.objects n) in
-    aside_then_ended g.F.PresentFrames.parts g.F.PresentFrames.IsFetched g.F.PresentFrames.IsAnnounced g.F.PresentFrames.LeadsTo g.met.F.PresentFrames.leads_twice
-    c.args.store.now c.hand_on.new.store c.rescind.new.store c.hand_on.ensures.aside free
-    (ended_aside g.F.PresentFrames.parts g.F.PresentFrames.IsFetched g.F.PresentFrames.IsAnnounced g.F.PresentFrames.LeadsTo c.hand_on.new.store c.rescind.new.store
+    λ n. ap (λ (k : Content Capability). is_free k) (transferred_same list c.header-parent.result.owner os us c.transfer.ensures.objects n) in
+    snapshots_then_ended g.F.PresentFrames.parts g.F.PresentFrames.IsFetched g.F.PresentFrames.IsAnnounced g.F.PresentFrames.ContinuesTo g.met.F.PresentFrames.continues_twice
+    c.args.store.now c.transfer.new.store c.rescind.new.store c.transfer.ensures.snapshots free
+    (ended_snapshots g.F.PresentFrames.parts g.F.PresentFrames.IsFetched g.F.PresentFrames.IsAnnounced g.F.PresentFrames.ContinuesTo c.transfer.new.store c.rescind.new.store
     (c.args.bank ∷ []) c.rescind.ensures.given_up c.rescind.ensures.objects
     (λ n member. free n ∙ only_used os c.args.bank c.requires.asks.bank n member)
-    c.rescind.ensures.fetched c.rescind.ensures.announced c.rescind.ensures.leads)
+    c.rescind.ensures.fetched c.rescind.ensures.announced c.rescind.ensures.continues)

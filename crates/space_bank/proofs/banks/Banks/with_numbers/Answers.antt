@@ -1,6 +1,6 @@
 use Rattle.space_bank.proofs.Names.{◌≡◌, ◌<◌, ◌≤◌, ◌+◌, List, length, sym, ap, subst, arith, Geometry, vec_capacity, ObjectHeader, object_count, content_at}
 use Rattle.space_bank.proofs.Names.{frames_of, objects_in, keepable_count, keepable_roles, BanksState, bank_number, root_number}
-use Rattle.space_bank.proofs.Counts.{counted_from, numbers_fit, room_told}
+use Rattle.space_bank.proofs.Counts.{counted_from, numbers_fit, room_replying}
 use Rattle.space_bank.proofs.banks.Banks.with_numbers.Goals as goal
 
 pub free_numbers-requires-2-clause-fits : goal.free_numbers-requires-2-clause-fits
@@ -22,7 +22,7 @@ returns g c =
     let os = objects_in p in
     let sound = c.requires.sound in
     let count = keepable_count p.geometry sound.0 p sound.1.keepable in
-    let more : c.in-Some.room ≡ c.count.result + 2 = room_told c.count.result c.in-Some.room c.in-Some.ensures in
+    let more : c.in-Some.room ≡ c.count.result + 2 = room_replying c.count.result c.in-Some.room c.in-Some.ensures in
     let room : object_count p.geometry + 2 ≤ vec_capacity c.in_ok-listed.listed =
     omega (arith, count, more, c.count.ensures, ap (λ (hs : List ObjectHeader). length hs) c.table.ensures, c.in_ok-listed.ensures.capacity) in
     let made : BanksState = record {

@@ -1,0 +1,19 @@
+use Rattle.command_line.proofs.Names.{rules, codes, refl, found_of, rows_of}
+use Rattle.command_line.proofs.Getters.{given, missing}
+use Rattle.command_line.proofs.Lacking.{lacks}
+use Rattle.command_line.proofs.requested.build_of.Goals as goal
+
+pub returns-in_err-get_str-clause-none : goal.returns-in_err-get_str-clause-none
+returns-in_err-get_str-clause-none c = λ _. lacks (codes "build") (codes "DESCRIPTION") (rows_of (found_of c.args.inner.now)) refl
+    (missing (found_of c.args.inner.now) (codes "DESCRIPTION") _ c.get_str.ensures (search rules))
+
+pub returns-in_err-get_str-2-clause-none : goal.returns-in_err-get_str-2-clause-none
+returns-in_err-get_str-2-clause-none c = λ _. lacks (codes "build") (codes "IMAGE") (rows_of (found_of c.args.inner.now)) refl
+    (missing (found_of c.args.inner.now) (codes "IMAGE") _ c.get_str-2.ensures (search rules))
+
+pub returns-clause-named : goal.returns-clause-named
+returns-clause-named c = (
+  refl,
+  given (found_of c.args.inner.now) (codes "DESCRIPTION") c.get_str.result c.in_ok-get_str.field-0 c.get_str.ensures (search rules),
+  given (found_of c.args.inner.now) (codes "IMAGE") c.get_str-2.result c.in_ok-get_str-2.field-0 c.get_str-2.ensures (search rules),
+)

@@ -1,0 +1,26 @@
+use Rattle.command_line.proofs.Names.{rules, codes, refl, found_of, rows_of}
+use Rattle.command_line.proofs.Getters.{given, missing}
+use Rattle.command_line.proofs.Lacking.{lacks, same_twice}
+use Rattle.command_line.proofs.requested.upgrade_of.Goals as goal
+
+pub returns-in_err-old-clause-none : goal.returns-in_err-old-clause-none
+returns-in_err-old-clause-none c = λ _. lacks (codes "upgrade") (codes "OLD") (rows_of (found_of c.args.inner.now)) refl
+    (missing (found_of c.args.inner.now) (codes "OLD") _ c.get_str.ensures (search rules))
+
+pub returns-in_err-new-clause-none : goal.returns-in_err-new-clause-none
+returns-in_err-new-clause-none c = λ _. lacks (codes "upgrade") (codes "NEW") (rows_of (found_of c.args.inner.now)) refl
+    (missing (found_of c.args.inner.now) (codes "NEW") _ c.get_str-2.ensures (search rules))
+
+pub returns-then-eq-clause-none : goal.returns-then-eq-clause-none
+returns-then-eq-clause-none c = λ _. same_twice (rows_of (found_of c.args.inner.now)) c.in_ok-old.old.now c.in_ok-new.new.now
+    (given (found_of c.args.inner.now) (codes "OLD") c.get_str.result c.in_ok-old.old c.get_str.ensures (search rules))
+    (given (found_of c.args.inner.now) (codes "NEW") c.get_str-2.result c.in_ok-new.new c.get_str-2.ensures (search rules))
+    (search rules)
+
+pub returns-clause-named : goal.returns-clause-named
+returns-clause-named c = (
+  refl,
+  given (found_of c.args.inner.now) (codes "OLD") c.get_str.result c.in_ok-old.old c.get_str.ensures (search rules),
+  given (found_of c.args.inner.now) (codes "NEW") c.get_str-2.result c.in_ok-new.new c.get_str-2.ensures (search rules),
+  search rules,
+)

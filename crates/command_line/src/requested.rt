@@ -1,0 +1,352 @@
+// Which job the words name.
+ghost use Rattle.std.specs.Prelude.{◌≡◌, ◌≢◌, ◌⊎◌, IfErr, IfOk, IfSome, IsNone, codes, map};
+ghost use Rattle.clap.specs.Words.{found_of, kind_of, rows_of, subcommand_of, subcommand_rows_of};
+ghost use Rattle.clap.specs.declared.error.kind.ErrorKind.TheVariants.{OutOfMemory};
+ghost use Rattle.command_line.specs.Arguments.{AreNumbers, GivesNoNumber, IsNumberOption};
+ghost use Rattle.command_line.specs.Commands.{IsCommand, eros_app, greatest_number};
+ghost use Rattle.command_line.specs.Jobs.{AreSizes, IsCache, IsJob, IsNoJob, IsScript, NamesJob, NamesNone};
+ghost use Rattle.command_line.specs.Refusals.{Explains};
+
+use crate::arguments::{flag_of, numbers_in, option_of};
+use crate::subcommands::{
+    CACHE, DESCRIPTION, FILE, FROM, GREATEST_CAPACITY, IMAGE, LEAST_CAPACITY, LOG, NEW, NODES, OLD,
+    PAGES, PROCESS, SCRIPT, SHOWS, STOP_AFTER, STRICT, TO, TRACE,
+};
+use clap::error::ErrorKind;
+use clap::{ArgMatches, Command, Error};
+use std::alloc::{AllocError, Global};
+use std::convert::AsStr;
+
+/// Where a script comes from.
+#[derive(Drop)]
+pub enum Script<'a> {
+    /// From standard input.
+    Input,
+    /// From the file of this name.
+    File(&'a str),
+}
+
+/// The sizes of an image. `None` keeps the image's own.
+#[derive(Drop)]
+pub struct Sizes {
+    /// The number of nodes.
+    pub nodes: Option<u64>,
+    /// The number of pages.
+    pub pages: Option<u64>,
+    /// The number of slots of the checkpoint log.
+    pub log: Option<u64>,
+}
+
+/// What `eros` does, with the names of the files.
+#[derive(Drop)]
+pub enum Job<'a> {
+    /// Builds an image.
+    Build {
+        description: &'a str,
+        image: &'a str,
+    },
+    /// Runs a script over an image.
+    Run {
+        image: &'a str,
+        script: Script<'a>,
+        /// The most objects that are kept in memory, 8 to 8192; `None` keeps all that were met.
+        cache: Option<u64>,
+        /// Whether standard error says what became of each line.
+        trace: bool,
+        /// Whether the run stops at the first line that is bad or refused, or whose invocation of a kernel object fails.
+        strict: bool,
+        /// How many reads, writes and syncs the device answers before it fails each; `None` where it answers all.
+        stop_after: Option<u64>,
+    },
+    /// Reads commands from a terminal and runs them over an image.
+    Shell {
+        image: &'a str,
+        /// As that of `Run`.
+        cache: Option<u64>,
+    },
+    /// Checks an image.
+    Check {
+        image: &'a str,
+    },
+    /// Says why a description or an image is refused.
+    Explain {
+        file: &'a str,
+    },
+    /// Prints the sizes of an image and the state of its checkpoint.
+    Info {
+        image: &'a str,
+    },
+    /// Prints what processes of an image can ever change.
+    Reach {
+        image: &'a str,
+        /// The numbers of the processes, at least one, in the order of the words.
+        processes: Vec<u64>,
+        /// The object to which a shortest chain of capabilities is shown.
+        shows: Option<u64>,
+    },
+    /// Writes what an image saves to a new image, of version 2 of the layout. The two names differ.
+    Upgrade {
+        old: &'a str,
+        new: &'a str,
+    },
+    /// Describes what an image saves.
+    Describe {
+        image: &'a str,
+        sizes: Sizes,
+    },
+    /// Draws what an image saves.
+    Draw {
+        image: &'a str,
+        /// Draws only what this process reaches.
+        from: Option<u64>,
+        /// Draws only what leads to this object.
+        to: Option<u64>,
+    },
+}
+
+// The script that a word names: a hyphen alone is standard input.
+fn script_of<'a>(word: &'a str) -> Script<'a>
+    ensures { IsScript word.entry.now result }
+{
+    if word == "-" {
+        Script::Input
+    } else {
+        Script::File(word)
+    }
+}
+
+// The capacity of the option `--cache`: `Some(None)` where it is left out, and `None` where it is no number from 8 to 8192.
+fn cache_of(inner: &ArgMatches<'_>) -> Option<Option<u64>>
+    ensures named { IfSome result (IsCache (rows_of (found_of inner.now))) }
+    ensures none { IsNone result → GivesNoNumber (rows_of (found_of inner.now)) (codes "cache") 8 8192 }
+{
+    option_of(inner, CACHE, LEAST_CAPACITY, GREATEST_CAPACITY)
+}
+
+// The number of an option: `Some(None)` where it is left out, and `None` where its word writes no number.
+fn number_of(inner: &ArgMatches<'_>, name: &str) -> Option<Option<u64>>
+    ensures named { IfSome result (IsNumberOption (rows_of (found_of inner.now)) name.now) }
+    ensures none { IsNone result → GivesNoNumber (rows_of (found_of inner.now)) name.now 0 greatest_number }
+{
+    option_of(inner, name, 0, u64::MAX)
+}
+
+// The build that the matches name, or `None` where a word is missing.
+fn build_of<'a>(inner: &ArgMatches<'a>) -> Option<Job<'a>>
+    ensures named { IfSome result (IsJob (codes "build") (rows_of (found_of inner.now))) }
+    ensures none { IsNone result → IsNoJob (codes "build") (rows_of (found_of inner.now)) }
+{
+    Some(Job::Build {
+        description: inner.get_str(DESCRIPTION)?,
+        image: inner.get_str(IMAGE)?,
+    })
+}
+
+// The run that the matches name, or `None` where a word is missing or an option gives no number that it takes.
+fn run_of<'a>(inner: &ArgMatches<'a>) -> Option<Job<'a>>
+    ensures named { IfSome result (IsJob (codes "run") (rows_of (found_of inner.now))) }
+    ensures none { IsNone result → IsNoJob (codes "run") (rows_of (found_of inner.now)) }
+{
+    let image = inner.get_str(IMAGE)?;
+    let word = inner.get_str(SCRIPT)?;
+    let script = script_of(word);
+    let cache = cache_of(inner)?;
+    let trace = flag_of(inner, TRACE);
+    let strict = flag_of(inner, STRICT);
+    let stop_after = number_of(inner, STOP_AFTER)?;
+    Some(Job::Run {
+        image,
+        script,
+        cache,
+        trace,
+        strict,
+        stop_after,
+    })
+}
+
+// The shell that the matches name, or `None` where the image is missing or the capacity is none.
+fn shell_of<'a>(inner: &ArgMatches<'a>) -> Option<Job<'a>>
+    ensures named { IfSome result (IsJob (codes "shell") (rows_of (found_of inner.now))) }
+    ensures none { IsNone result → IsNoJob (codes "shell") (rows_of (found_of inner.now)) }
+{
+    let image = inner.get_str(IMAGE)?;
+    let cache = cache_of(inner)?;
+    Some(Job::Shell { image, cache })
+}
+
+// The check that the matches name, or `None` where the image is missing.
+fn check_of<'a>(inner: &ArgMatches<'a>) -> Option<Job<'a>>
+    ensures named { IfSome result (IsJob (codes "check") (rows_of (found_of inner.now))) }
+    ensures none { IsNone result → IsNoJob (codes "check") (rows_of (found_of inner.now)) }
+{
+    let image = inner.get_str(IMAGE)?;
+    Some(Job::Check { image })
+}
+
+// The explanation that the matches name, or `None` where the file is missing.
+fn explain_of<'a>(inner: &ArgMatches<'a>) -> Option<Job<'a>>
+    ensures named { IfSome result (IsJob (codes "explain") (rows_of (found_of inner.now))) }
+    ensures none { IsNone result → IsNoJob (codes "explain") (rows_of (found_of inner.now)) }
+{
+    let file = inner.get_str(FILE)?;
+    Some(Job::Explain { file })
+}
+
+// The account of an image that the matches name, or `None` where the image is missing.
+fn info_of<'a>(inner: &ArgMatches<'a>) -> Option<Job<'a>>
+    ensures named { IfSome result (IsJob (codes "info") (rows_of (found_of inner.now))) }
+    ensures none { IsNone result → IsNoJob (codes "info") (rows_of (found_of inner.now)) }
+{
+    let image = inner.get_str(IMAGE)?;
+    Some(Job::Info { image })
+}
+
+// The analysis of these processes that the matches name, or `None` where the image is missing or `--shows` gives no number.
+fn reach_from<'a>(inner: &ArgMatches<'a>, processes: Vec<u64>) -> Option<Job<'a>>
+    ensures named { AreNumbers (rows_of (found_of inner.now)) (codes "P") processes.items
+        → IfSome result (IsJob (codes "reach") (rows_of (found_of inner.now))) }
+    ensures none { IsNone result → IsNoJob (codes "reach") (rows_of (found_of inner.now)) }
+{
+    let image = inner.get_str(IMAGE)?;
+    let shows = number_of(inner, SHOWS)?;
+    Some(Job::Reach {
+        image,
+        processes,
+        shows,
+    })
+}
+
+// The analysis that the matches name, or `None` where a word is missing or writes no number. Fails where memory runs out.
+fn reach_of<'a>(alloc: Global, inner: &ArgMatches<'a>) -> Result<Option<Job<'a>>, AllocError>
+    ensures named { IfOk result (λ o. IfSome o (IsJob (codes "reach") (rows_of (found_of inner.now)))) }
+    ensures none { IfOk result (λ o. IsNone o → IsNoJob (codes "reach") (rows_of (found_of inner.now))) }
+{
+    match inner.get_raw(PROCESS) {
+        Some(words) => match numbers_in(alloc, words)? {
+            Some(processes) => Ok(reach_from(inner, processes)),
+            None => Ok(None),
+        },
+        None => Ok(None),
+    }
+}
+
+// The upgrade that the matches name, or `None` where a word is missing or both are one.
+fn upgrade_of<'a>(inner: &ArgMatches<'a>) -> Option<Job<'a>>
+    ensures named { IfSome result (IsJob (codes "upgrade") (rows_of (found_of inner.now))) }
+    ensures none { IsNone result → IsNoJob (codes "upgrade") (rows_of (found_of inner.now)) }
+{
+    let old = inner.get_str(OLD)?;
+    let new = inner.get_str(NEW)?;
+    if old == new {
+        return None;
+    }
+    Some(Job::Upgrade { old, new })
+}
+
+// The sizes that the matches give, or `None` where one is no number.
+fn sizes_of(inner: &ArgMatches<'_>) -> Option<Sizes>
+    ensures named { IfSome result (AreSizes (rows_of (found_of inner.now))) }
+    ensures none { IsNone result → IsNoJob (codes "describe") (rows_of (found_of inner.now)) }
+{
+    Some(Sizes {
+        nodes: number_of(inner, NODES)?,
+        pages: number_of(inner, PAGES)?,
+        log: number_of(inner, LOG)?,
+    })
+}
+
+// The description that the matches name, or `None` where the image is missing or a size is no number.
+fn describe_of<'a>(inner: &ArgMatches<'a>) -> Option<Job<'a>>
+    ensures named { IfSome result (IsJob (codes "describe") (rows_of (found_of inner.now))) }
+    ensures none { IsNone result → IsNoJob (codes "describe") (rows_of (found_of inner.now)) }
+{
+    let image = inner.get_str(IMAGE)?;
+    let sizes = sizes_of(inner)?;
+    Some(Job::Describe { image, sizes })
+}
+
+// The drawing that the matches name, or `None` where the image is missing or an option gives no number.
+fn draw_of<'a>(inner: &ArgMatches<'a>) -> Option<Job<'a>>
+    ensures named { IfSome result (IsJob (codes "draw") (rows_of (found_of inner.now))) }
+    ensures none { IsNone result → IsNoJob (codes "draw") (rows_of (found_of inner.now)) }
+{
+    let image = inner.get_str(IMAGE)?;
+    let from = number_of(inner, FROM)?;
+    let to = number_of(inner, TO)?;
+    Some(Job::Draw { image, from, to })
+}
+
+// The job of a subcommand that needs no memory, or `None`.
+fn plain_job_of<'a>(name: &str, inner: &ArgMatches<'a>) -> Option<Job<'a>>
+    ensures named { IfSome result (IsJob name.now (rows_of (found_of inner.now))) }
+    ensures none { IsNone result → name.now ≢ codes "reach" → IsNoJob name.now (rows_of (found_of inner.now)) }
+{
+    if name == "build" {
+        build_of(inner)
+    } else if name == "run" {
+        run_of(inner)
+    } else if name == "shell" {
+        shell_of(inner)
+    } else if name == "check" {
+        check_of(inner)
+    } else if name == "explain" {
+        explain_of(inner)
+    } else if name == "info" {
+        info_of(inner)
+    } else if name == "upgrade" {
+        upgrade_of(inner)
+    } else if name == "describe" {
+        describe_of(inner)
+    } else if name == "draw" {
+        draw_of(inner)
+    } else {
+        None
+    }
+}
+
+// The job of a subcommand with its matches, or `None`. Fails where memory runs out.
+fn job_of<'a>(
+    alloc: Global,
+    name: &str,
+    inner: &ArgMatches<'a>,
+) -> Result<Option<Job<'a>>, AllocError>
+    ensures named { IfOk result (λ o. IfSome o (IsJob name.now (rows_of (found_of inner.now)))) }
+    ensures none { IfOk result (λ o. IsNone o → IsNoJob name.now (rows_of (found_of inner.now))) }
+{
+    if name == "reach" {
+        reach_of(alloc, inner)
+    } else {
+        Ok(plain_job_of(name, inner))
+    }
+}
+
+// The job that the matches name, or `None`. Fails where memory runs out.
+fn requested<'a>(alloc: Global, matches: ArgMatches<'a>) -> Result<Option<Job<'a>>, AllocError>
+    ensures named { IfOk result (λ o. IfSome o (NamesJob (subcommand_rows_of matches.entry))) }
+    ensures none { IfOk result (λ o. IsNone o → NamesNone (subcommand_rows_of matches.entry)) }
+{
+    match matches.subcommand() {
+        Some((name, inner)) => job_of(alloc, name, inner),
+        None => Ok(None),
+    }
+}
+
+// The job that the words name. Fails with what clap says of words that the command doesn't take, also where they ask for
+// help, with a `ValueValidation` where an upgrade has one word twice, and with `OutOfMemory` where memory runs out.
+pub(crate) fn read_job<'a, S: AsStr>(
+    alloc: Global,
+    command: &mut Command<'a>,
+    words: &'a [S],
+) -> Result<Job<'a>, Error>
+    requires { IsCommand eros_app command.old }
+    ensures named { IfOk result (NamesJob (subcommand_of eros_app (map S.text words.entry.now))) }
+    ensures refused { IfErr result (λ e. (kind_of e ≡ OutOfMemory)
+        ⊎ Explains (map S.text words.entry.now) e) }
+{
+    let matches = command.try_get_matches_from_mut(words)?;
+    match requested(alloc, matches)? {
+        Some(job) => Ok(job),
+        // The command takes such words only where an upgrade has one word twice.
+        None => Err(command.error(ErrorKind::ValueValidation, "OLD and NEW are the same file")?),
+    }
+}

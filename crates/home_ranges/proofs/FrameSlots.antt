@@ -1,0 +1,51 @@
+-- The slots whose sectors have the frames of objects, and their entries.
+use Rattle.home_ranges.proofs.Names.{◌≡◌, ℕ, suc, ◌<◌, Bool, Option, Some, None, List, [], ◌∷◌, length, refl, sym, ap, ◌∙◌, inl, inr, arith, if◌then◌else◌}
+use Rattle.home_ranges.proofs.Names.{cases_eq, eq-eqb, ne_eqb, Entry, entry_at, home_place, slot_in, slot_beside, or_beside, frame_slot_in, Plan, found_slot}
+
+-- ---- the first entry whose home is that of an object
+
+pub beside_here : (p : Plan) (e : Entry) (es : List Entry) (n : ℕ) → home_place p e.object ≡ home_place p n → slot_beside p (e ∷ es) n ≡ Some e.slot
+beside_here p e es n is = ap (λ (b : Bool). if b then Some e.slot else slot_beside p es n) (eq-eqb (home_place p e.object) (home_place p n) is)
+
+pub beside_behind : (p : Plan) (e : Entry) (es : List Entry) (n : ℕ) → (home_place p e.object ≡ home_place p n → ⊥) → slot_beside p (e ∷ es) n ≡ slot_beside p es n
+beside_behind p e es n other = ap (λ (b : Bool). if b then Some e.slot else slot_beside p es n) (ne_eqb (home_place p e.object) (home_place p n) other)
+
+-- the entry of such a slot
+pub record HasBeside (p : Plan) (es : List Entry) (n slot : ℕ) : Type 0 where
+  pub index : ℕ
+  pub within : index < length es
+  pub home_is : home_place p (entry_at es index).object ≡ home_place p n
+  pub slot_is : (entry_at es index).slot ≡ slot
+
+pub same_some : (a b : ℕ) → Some a ≡ Some b → a ≡ b
+same_some a b e = cc
+
+pub found_beside : (p : Plan) (es : List Entry) (n s : ℕ) → slot_beside p es n ≡ Some s → HasBeside p es n s
+found_beside p [] n s is = absurd cc
+found_beside p (e ∷ es) n s is = elim (cases_eq (home_place p e.object) (home_place p n)) [
+  | inl same ↦ record { index = 0; within = omega arith; home_is = same; slot_is = same_some e.slot s (sym (beside_here p e es n same) ∙ is) }
+  | inr other ↦
+      let rest = found_beside p es n s (sym (beside_behind p e es n other) ∙ is) in
+      record { index = suc rest.index; within = omega (arith, rest.within); home_is = rest.home_is; slot_is = rest.slot_is }
+]
+
+-- ---- the slot of an object, or else that one
+
+frame_slot_by : (p : Plan) (es : List Entry) (n : ℕ) (own : Option ℕ) → slot_in es n ≡ own → frame_slot_in p es n ≡ or_beside own (slot_beside p es n)
+frame_slot_by p es n own is = ap (λ (o : Option ℕ). or_beside o (slot_beside p es n)) is
+
+pub own_frame_slot : (p : Plan) (es : List Entry) (n s : ℕ) → slot_in es n ≡ Some s → frame_slot_in p es n ≡ Some s
+own_frame_slot p es n s is = frame_slot_by p es n (Some s) is
+
+pub beside_frame_slot : (p : Plan) (es : List Entry) (n : ℕ) → slot_in es n ≡ None → frame_slot_in p es n ≡ slot_beside p es n
+beside_frame_slot p es n is = frame_slot_by p es n None is
+
+-- the entry of a seat
+pub frame_slot_entry : (p : Plan) (es : List Entry) (n s : ℕ) → frame_slot_in p es n ≡ Some s → HasBeside p es n s
+frame_slot_entry p es n s frame_slot = by (slot_in es n) refl where
+  by : (o : Option ℕ) → slot_in es n ≡ o → HasBeside p es n s
+  by None none = found_beside p es n s (sym (beside_frame_slot p es n none) ∙ frame_slot)
+  by (Some t) own =
+      let entry = found_slot es n t own in
+      let same : t ≡ s = same_some t s (sym (own_frame_slot p es n t own) ∙ frame_slot) in
+      record { index = entry.index; within = entry.within; home_is = ap (home_place p) entry.object_is; slot_is = entry.slot_is ∙ same }

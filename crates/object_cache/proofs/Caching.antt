@@ -1,0 +1,333 @@
+-- A number gets an entry, or has one no more: no object and no frozen frame is another.
+use Rattle.object_cache.proofs.Names.{◌≡◌, ◌≢◌, ◌⊎◌, inl, inr, ℕ, ◌<◌, Bool, true, false, true≢false, cond, List, ◌∷◌, length, set, Option, Some, None}
+use Rattle.object_cache.proofs.Names.{option_map, refl, sym, ap, subst, ◌∙◌, arith, length-set, cases_eq, ne_eqb, get_or-set_same, get_or-set_other, map-set}
+use Rattle.object_cache.proofs.Names.{get_or-map-range_with_len, none-some, same_Some, Cap, Frame, Content, Role, header_at, held_at, AreKeepable, Disk, Put}
+use Rattle.object_cache.proofs.Names.{Kept, put_at, most, DurableState, FrozenPuts, Stored, below_at, stored_of, maps_same, map_set, Entry, Held, entry_at}
+use Rattle.object_cache.proofs.Names.{buffer_of, Memory, Owed, Nothing, mark_at, masked, in_staging, put_body, present_body, content_at, present_at}
+use Rattle.object_cache.proofs.Names.{newest_body, below_body, apart_body, frozen_body, frozen_frame, frozen_at, owed_of, owed_body, owed_in_memory}
+use Rattle.object_cache.proofs.Names.{contents_in, frozen_in, owed_in, StoreState, IsCache, IsFetchedIn, cache_of, is_kept, newly_owed, owed_at, cached_at}
+use Rattle.object_cache.proofs.Names.{cached_in, with_cached, without}
+use Rattle.model.specs.declared.object.Content.TheVariants as content
+use Rattle.model.specs.declared.object.Role.TheVariants as role
+use Rattle.object_cache.proofs.Changing.{with_objects}
+use Rattle.object_cache.proofs.Objects.{content_in, frame_slot_in}
+
+-- the entry of one number is another, with the same object and the same frozen frame
+pub record Recaches (s : Stored) (m : Memory) (es : List (Option Entry)) (n : ℕ) : Type 0 where
+  pub count : length es ≡ length m.entries
+  pub entries : (k : ℕ) → k ≢ n → entry_at es k ≡ entry_at m.entries k
+  pub content : content_at s (with_objects m m.headers es) n ≡ content_at s m n
+  pub frozen : frozen_at s (with_objects m m.headers es) n ≡ frozen_at s m n
+  pub apart : (e : Entry) → entry_at es n ≡ Some e → (e.kept ≡ None) ⊎ (mark_at m.pending n ≡ true)
+  pub freed : entry_at es n ≡ None → mark_at m.pending n ≡ true → (header_at m.frozen_headers n).role ≡ role.Free → (is_kept (put_at s.working n) ≡ true) ⊎ ((header_at m.headers n).role ≡ role.Free)
+
+module _ (s : Stored) (m : Memory) (es : List (Option Entry)) (n : ℕ) (change : Recaches s m es n) where
+  abbrev cached : Memory
+  cached = with_objects m m.headers es
+
+  content_stays : (k : ℕ) → content_at s cached k ≡ content_at s m k
+  content_stays k = elim (cases_eq k n) [
+    | inl same ↦ ap (content_at s cached) same ∙ change.content ∙ ap (content_at s m) (sym same)
+    | inr other ↦ ap (λ (o : Option Entry). present_body o (header_at m.headers k).role (newest_body s m k)) (change.entries k other)
+  ]
+
+  present_stays : (k : ℕ) → present_at s cached k ≡ present_at s m k
+  present_stays k = ap (λ (c : Content Cap). record { header = header_at m.headers k; content = c }) (content_stays k)
+
+  frozen_stays : (k : ℕ) → frozen_at s cached k ≡ frozen_at s m k
+  frozen_stays k = elim (cases_eq k n) [
+    | inl same ↦ ap (frozen_at s cached) same ∙ change.frozen ∙ ap (frozen_at s m) (sym same)
+    | inr other ↦
+        ap (λ (o : Option Entry). frozen_frame (mark_at m.pending k) (header_at m.frozen_headers k) (frozen_body o (mark_at m.touched k) (below_body s m k)) (below_at s k)) (change.entries k other)
+  ]
+
+  pub contents_stay : contents_in s cached ≡ contents_in s m
+  unfolding contents_in
+  contents_stay = maps_same (content_at s cached) (content_at s m) (length m.headers) (λ k below. content_stays k)
+
+  pub frozen_stay : frozen_in s cached ≡ frozen_in s m
+  unfolding frozen_in
+  frozen_stay = maps_same (frozen_at s cached) (frozen_at s m) (length m.headers) (λ k below. frozen_stays k)
+
+  pub owed_changed : (x : Owed) → n < length m.headers → owed_in_memory cached n ≡ x → owed_in cached ≡ set (owed_in m) n x
+  unfolding owed_in
+  owed_changed x within here =
+      map_set (owed_in_memory m) (owed_in_memory cached) (length m.headers) n x within here
+      (λ k below other. ap (λ (o : Option Entry). owed_of o (mark_at m.pending k) (mark_at m.touched k)) (change.entries k other))
+
+  pub owed_stay : owed_in_memory cached n ≡ owed_in_memory m n → owed_in cached ≡ owed_in m
+  unfolding owed_in
+  owed_stay here = maps_same (owed_in_memory cached) (owed_in_memory m) (length m.headers) (λ k below. elim (cases_eq k n) [
+    | inl same ↦ ap (owed_in_memory cached) same ∙ here ∙ ap (owed_in_memory m) (sym same)
+    | inr other ↦ ap (λ (o : Option Entry). owed_of o (mark_at m.pending k) (mark_at m.touched k)) (change.entries k other)
+  ])
+
+  pub cached_cache : (left count : ℕ) → IsCache s m left count → IsCache s cached left count
+  cached_cache left count is = record {
+    headers = is.headers;
+    frozen_headers = is.frozen_headers;
+    marks = is.marks;
+    dirty_marks = is.dirty_marks;
+    pending_marks = is.pending_marks;
+    entries = change.count ∙ is.entries;
+    frames = is.frames;
+    puts = is.puts;
+    counted = is.counted;
+    within = is.within;
+    marked = is.marked;
+    clean = λ k clean touched. is.clean k clean touched ∙ ap Kept (sym (present_stays k));
+    unput = is.unput;
+    unwritten = λ k below untouched. present_stays k ∙ is.unwritten k below untouched ∙ sym (frozen_stays k);
+    idle = is.idle;
+    running = is.running;
+    keepable = λ f running. subst (AreKeepable s.saved.geometry most) (sym frozen_stay) (is.keepable f running);
+    held = is.held;
+    apart = λ k e at. elim (cases_eq k n) [
+      | inl same ↦ elim (change.apart e (ap (entry_at es) (sym same) ∙ at)) [
+        | inl none ↦ inl none
+        | inr pending ↦ inr (ap (mark_at m.pending) same ∙ pending)
+      ]
+      | inr other ↦ is.apart k e (sym (change.entries k other) ∙ at)
+    ];
+    freed = λ k none pending free. elim (cases_eq k n) [
+      | inl same ↦ elim (change.freed (ap (entry_at es) (sym same) ∙ none) (ap (mark_at m.pending) (sym same) ∙ pending) (ap (λ (i : ℕ). (header_at m.frozen_headers i).role) (sym same) ∙ free)) [
+        | inl put ↦ inl (ap (λ (i : ℕ). is_kept (put_at s.working i)) same ∙ put)
+        | inr was_free ↦ inr (ap (λ (i : ℕ). (header_at m.headers i).role) same ∙ was_free)
+      ]
+      | inr other ↦ is.freed k (sym (change.entries k other) ∙ none) pending free
+    ];
+  }
+
+-- ---- an entry that isn't wanted is dropped
+
+-- what is owed by an entry of which nothing is
+pub nothing_owed : (e : Entry) (pending touched : Bool) → owed_of (Some e) pending touched ≡ Nothing → (pending ≡ false) ⊎ ((pending ≡ true) × (touched ≡ true) × (e.kept ≡ None))
+nothing_owed e false touched is = inl refl
+nothing_owed e true touched is = let p = go e.kept touched is in inr (refl, p.0, p.1)
+  where
+    go : (o : Option (Content Cap)) (t : Bool) → owed_body o t ≡ Nothing → (t ≡ true) × (o ≡ None)
+    go (Some c) t same = cc
+    go None true same = (refl, refl)
+    go None false same = cc
+
+-- the hand has a body of a pending number alone
+pub no_staging : (staging : Option Held) (pending : List Bool) → ((h : Held) → staging ≡ Some h → mark_at pending h.number ≡ true) → (n : ℕ) (c : Content Cap) → mark_at pending n ≡ false → in_staging staging n c ≡ c
+no_staging None pending held n c not_pending = refl
+no_staging (Some h) pending held n c not_pending =
+    ap (λ (t : Bool). cond t h.content c) (ne_eqb h.number n (λ same. true≢false (sym (held h refl) ∙ ap (mark_at pending) same ∙ not_pending)))
+
+module _ (s : Stored) (m : Memory) (left count : ℕ) (is : IsCache s m left count) (n : ℕ) (within : n < length m.headers) (e : Entry) (at : entry_at m.entries n ≡ Some e)
+    (clean : mark_at m.dirty n ≡ false) (owed : owed_in_memory m n ≡ Nothing) (masks : masked (header_at m.headers n).role (content_at s m n) ≡ content_at s m n) where
+  abbrev dropped : List (Option Entry)
+  dropped = set m.entries n None
+
+  entry_within : n < length m.entries
+  entry_within = omega (arith, within, is.headers, is.entries)
+
+  none_now : entry_at dropped n ≡ None
+  none_now = get_or-set_same m.entries n None None entry_within
+
+  is_present : content_at s m n ≡ e.present
+  is_present = ap (λ (o : Option Entry). present_body o (header_at m.headers n).role (newest_body s m n)) at
+
+  owed_here : owed_of (Some e) (mark_at m.pending n) (mark_at m.touched n) ≡ Nothing
+  owed_here = ap (λ (o : Option Entry). owed_of o (mark_at m.pending n) (mark_at m.touched n)) (sym at) ∙ owed
+
+  -- the newest body without the entry is the one in it
+  newest_is : (t : Bool) → mark_at m.touched n ≡ t → newest_body s m n ≡ content_at s m n
+  newest_is true touched = ap (λ (p : Put). put_body p (below_body s m n)) (is.clean n clean touched)
+  newest_is false untouched =
+      let not_pending : mark_at m.pending n ≡ false = (elim (nothing_owed e (mark_at m.pending n) (mark_at m.touched n) owed_here) [
+        | inl none ↦ none
+        | inr wanted ↦ absurd (true≢false (sym wanted.1 ∙ untouched))
+      ]) in
+      ap (λ (p : Put). put_body p (below_body s m n)) (is.unput n untouched)
+      ∙ no_staging m.staging m.pending is.held n (below_at s n).content not_pending
+      ∙ sym (ap (λ (f : Frame). f.content) (is.unwritten n within untouched
+      ∙ ap (λ (p : Bool). frozen_frame p (header_at m.frozen_headers n) (frozen_body (entry_at m.entries n) (mark_at m.touched n) (below_body s m n)) (below_at s n)) not_pending))
+
+  frozen_is : frozen_at s (with_objects m m.headers dropped) n ≡ frozen_at s m n
+  frozen_is =
+      ap (λ (o : Option Entry). frozen_frame (mark_at m.pending n) (header_at m.frozen_headers n) (frozen_body o (mark_at m.touched n) (below_body s m n)) (below_at s n)) none_now
+      ∙ (elim (nothing_owed e (mark_at m.pending n) (mark_at m.touched n) owed_here) [
+        | inl not_pending ↦
+            ap (λ (p : Bool). frozen_frame p (header_at m.frozen_headers n) (below_body s m n) (below_at s n)) not_pending
+            ∙ sym (ap (λ (p : Bool). frozen_frame p (header_at m.frozen_headers n) (frozen_body (entry_at m.entries n) (mark_at m.touched n) (below_body s m n)) (below_at s n)) not_pending)
+        | inr wanted ↦
+            ap (λ (c : Content Cap). frozen_frame (mark_at m.pending n) (header_at m.frozen_headers n) c (below_at s n))
+            (sym (ap (λ (o : Option Entry). frozen_body o (mark_at m.touched n) (below_body s m n)) at
+            ∙ ap (λ (t : Bool). apart_body e.kept t e.present (below_body s m n)) wanted.1
+            ∙ ap (λ (k : Option (Content Cap)). apart_body k true e.present (below_body s m n)) wanted.2))
+      ])
+
+  pub drops : Recaches s m dropped n
+  drops = record {
+    count = length-set m.entries n None;
+    entries = λ k other. get_or-set_other m.entries n k None None other;
+    content =
+        ap (λ (o : Option Entry). present_body o (header_at m.headers n).role (newest_body s m n)) none_now
+        ∙ ap (masked (header_at m.headers n).role) (newest_is (mark_at m.touched n) refl) ∙ masks;
+    frozen = frozen_is;
+    apart = λ f here. absurd (none-some f (sym none_now ∙ here));
+    freed = λ none pending free. elim (nothing_owed e (mark_at m.pending n) (mark_at m.touched n) owed_here) [
+      | inl not_pending ↦ absurd (true≢false (sym pending ∙ not_pending))
+      | inr wanted ↦ inl (ap is_kept (is.clean n clean wanted.1))
+    ];
+  }
+
+  pub owed_dropped : owed_in_memory (with_objects m m.headers dropped) n ≡ owed_in_memory m n
+  owed_dropped = ap (λ (o : Option Entry). owed_of o (mark_at m.pending n) (mark_at m.touched n)) none_now ∙ sym owed
+
+module _ {D : Type 0} (disk : D → Disk) (d : DurableState D) (m : Memory) (left : ℕ) (order : List ℕ) (most_entries : ℕ) (es : List (Option Entry)) (n : ℕ) (change : Recaches (stored_of disk d) m es n) where
+  -- all that is seen but for rooms and what entries have of the frozen frames
+  pub seen_cached : (x : List Owed) → owed_in (with_objects m m.headers es) ≡ x →
+      cache_of disk d (with_objects m m.headers es) left order most_entries ≡ record (cache_of disk d m left order most_entries) { cached = cached_in es; owed = x }
+  seen_cached x owed =
+      let s = stored_of disk d in
+      let t = with_objects m m.headers es in
+      let old = cache_of disk d m left order most_entries in
+      ap (λ (fs : List Frame). record old {
+        contents = contents_in s t;
+        cached = cached_in es;
+        owed = owed_in t;
+        frozen = option_map (λ (f : FrozenPuts). record { frames = fs; size = f.size; left = left }) s.frozen;
+      }) (frozen_stay s m es n change)
+      ∙ ap (λ (cs : List (Content Cap)). record old { contents = cs; cached = cached_in es; owed = owed_in t }) (contents_stay s m es n change)
+      ∙ ap (λ (os : List Owed). record old { cached = cached_in es; owed = os }) owed
+
+pub cached_set : (es : List (Option Entry)) (n : ℕ) (o : Option Entry) → cached_in (set es n o) ≡ set (cached_in es) n (option_map buffer_of o)
+unfolding cached_in
+cached_set es n o = map-set (option_map buffer_of) es n o
+
+pub owed_entry : (m : Memory) (n : ℕ) → n < length m.headers → owed_at (owed_in m) n ≡ owed_in_memory m n
+unfolding owed_in
+owed_entry m n within = get_or-map-range_with_len (owed_in_memory m) 0 (length m.headers) n n Nothing within (omega arith)
+
+-- the same by what is seen
+module _ {D : Type 0} (disk : D → Disk) (d : DurableState D) (m : Memory) (left count : ℕ) (order : List ℕ) (most_entries : ℕ) (s : StoreState D)
+    (view : cache_of disk d m left order most_entries ≡ s) (is : IsCache (stored_of disk d) m left count) (n : ℕ) (fetched : IsFetchedIn s n) (clean : mark_at s.dirty n ≡ false)
+    (owed : owed_at s.owed n ≡ Nothing) (masks : masked (header_at s.headers n).role (held_at s.contents n) ≡ held_at s.contents n) where
+  in_table : n < length m.headers
+  in_table = omega (arith, fetched.header, ap (λ (t : StoreState D). length t.headers) view)
+
+  holds : content_at (stored_of disk d) m n ≡ held_at s.contents n
+  holds = sym (content_in (stored_of disk d) m n in_table) ∙ ap (λ (t : StoreState D). held_at t.contents n) view
+
+  masks_here : masked (header_at m.headers n).role (content_at (stored_of disk d) m n) ≡ content_at (stored_of disk d) m n
+  masks_here =
+      ap (masked (header_at m.headers n).role) holds
+      ∙ ap (λ (t : StoreState D). masked (header_at t.headers n).role (held_at s.contents n)) view
+      ∙ masks ∙ sym holds
+
+  module _ (e : Entry) (at : entry_at m.entries n ≡ Some e) where
+    drops_here : Recaches (stored_of disk d) m (set m.entries n None) n
+    drops_here = drops (stored_of disk d) m left count is n in_table e at (ap (λ (t : StoreState D). mark_at t.dirty n) view ∙ clean)
+        (sym (owed_entry m n in_table) ∙ ap (λ (t : StoreState D). owed_at t.owed n) view ∙ owed) masks_here
+
+    pub drop_stands : IsCache (stored_of disk d) (with_objects m m.headers (set m.entries n None)) left count
+    drop_stands = cached_cache (stored_of disk d) m (set m.entries n None) n drops_here left count is
+
+    pub drop_seen : cache_of disk d (with_objects m m.headers (set m.entries n None)) left (without n order) most_entries ≡ record s { cached = set s.cached n None; order = without n s.order }
+    drop_seen =
+        seen_cached disk d m left (without n order) most_entries (set m.entries n None) n drops_here (owed_in m)
+        (owed_stay (stored_of disk d) m (set m.entries n None) n drops_here
+        (owed_dropped (stored_of disk d) m left count is n in_table e at (ap (λ (t : StoreState D). mark_at t.dirty n) view ∙ clean)
+        (sym (owed_entry m n in_table) ∙ ap (λ (t : StoreState D). owed_at t.owed n) view ∙ owed) masks_here))
+        ∙ ap (λ (rs : List (Option (Content Cap))). record (cache_of disk d m left (without n order) most_entries) { cached = rs }) (cached_set m.entries n None)
+        ∙ ap (λ (t : StoreState D). record t { cached = set t.cached n None; order = without n t.order }) view
+
+-- ---- a number gets an entry
+
+masked_twice : (r : Role) (c : Content Cap) → masked r (masked r c) ≡ masked r c
+masked_twice role.Free c = refl
+masked_twice role.Page c = refl
+masked_twice role.Node c = refl
+masked_twice role.Root c = refl
+masked_twice role.Annex c = refl
+masked_twice role.Bank c = refl
+
+module _ (s : Stored) (m : Memory) (left count : ℕ) (is : IsCache s m left count) (e : Entry) (within : e.number < length m.headers) (none : entry_at m.entries e.number ≡ None)
+    (kept : e.kept ≡ None) (present : e.present ≡ content_at s m e.number) where
+  abbrev number : ℕ
+  number = e.number
+
+  abbrev more : List (Option Entry)
+  more = set m.entries number (Some e)
+
+  some_now : entry_at more number ≡ Some e
+  some_now = get_or-set_same m.entries number (Some e) None (omega (arith, within, is.headers, is.entries))
+
+  -- what wasn't written since is as it was frozen, if it is to be written
+  as_frozen : mark_at m.pending number ≡ true → mark_at m.touched number ≡ false → e.present ≡ masked (header_at m.frozen_headers number).role (below_body s m number)
+  as_frozen pending untouched =
+      present
+      ∙ ap (λ (f : Frame). f.content) (is.unwritten number within untouched)
+      ∙ ap (λ (f : Frame). f.content)
+      (ap (λ (p : Bool). frozen_frame p (header_at m.frozen_headers number) (frozen_body (entry_at m.entries number) (mark_at m.touched number) (below_body s m number)) (below_at s number)) pending
+      ∙ ap (λ (o : Option Entry). frozen_frame true (header_at m.frozen_headers number) (frozen_body o (mark_at m.touched number) (below_body s m number)) (below_at s number)) none)
+
+  -- the frozen frame by the new entry
+  frozen_by : (p t : Bool) → mark_at m.pending number ≡ p → mark_at m.touched number ≡ t →
+      frozen_frame p (header_at m.frozen_headers number) (apart_body None t e.present (below_body s m number)) (below_at s number)
+      ≡ frozen_frame p (header_at m.frozen_headers number) (below_body s m number) (below_at s number)
+  frozen_by false t pending touched = refl
+  frozen_by true true pending touched = refl
+  frozen_by true false pending touched =
+      let h = header_at m.frozen_headers number in
+      ap (λ (c : Content Cap). record { header = h; content = c })
+      (ap (masked h.role) (as_frozen pending touched) ∙ masked_twice h.role (below_body s m number))
+
+  pub cached_new : Recaches s m more number
+  cached_new = record {
+    count = length-set m.entries number (Some e);
+    entries = λ k other. get_or-set_other m.entries number k (Some e) None other;
+    content =
+        ap (λ (o : Option Entry). present_body o (header_at m.headers number).role (newest_body s m number)) some_now ∙ present;
+    frozen =
+        ap (λ (o : Option Entry). frozen_frame (mark_at m.pending number) (header_at m.frozen_headers number) (frozen_body o (mark_at m.touched number) (below_body s m number)) (below_at s number)) some_now
+        ∙ ap (λ (o : Option (Content Cap)). frozen_frame (mark_at m.pending number) (header_at m.frozen_headers number) (apart_body o (mark_at m.touched number) e.present (below_body s m number)) (below_at s number)) kept
+        ∙ frozen_by (mark_at m.pending number) (mark_at m.touched number) refl refl
+        ∙ sym (ap (λ (o : Option Entry). frozen_frame (mark_at m.pending number) (header_at m.frozen_headers number) (frozen_body o (mark_at m.touched number) (below_body s m number)) (below_at s number)) none);
+    apart = λ f here. inl (ap (λ (g : Entry). g.kept) (same_Some f e (sym here ∙ some_now)) ∙ kept);
+    freed = λ gone pending free. absurd (none-some e (sym gone ∙ some_now));
+  }
+
+  owed_by_new : (p t : Bool) → owed_of (Some e) p t ≡ newly_owed p t
+  owed_by_new false t = refl
+  owed_by_new true t = ap (λ (o : Option (Content Cap)). owed_body o t) kept
+
+  pub owed_new : owed_in_memory (with_objects m m.headers more) number ≡ newly_owed (mark_at m.pending number) (mark_at m.touched number)
+  owed_new = ap (λ (o : Option Entry). owed_of o (mark_at m.pending number) (mark_at m.touched number)) some_now ∙ owed_by_new (mark_at m.pending number) (mark_at m.touched number)
+
+no_room : (o : Option Entry) → option_map buffer_of o ≡ None → o ≡ None
+no_room None is = refl
+no_room (Some e) is = absurd (none-some e.room (sym is))
+
+-- the same by what is seen
+module _ {D : Type 0} (disk : D → Disk) (d : DurableState D) (m : Memory) (left count : ℕ) (order : List ℕ) (most_entries : ℕ) (s : StoreState D)
+    (view : cache_of disk d m left order most_entries ≡ s) (is : IsCache (stored_of disk d) m left count) where
+  -- a number that has no seat has no entry
+  pub no_entry : (n : ℕ) → cached_at s.cached n ≡ None → entry_at m.entries n ≡ None
+  no_entry n uncached = no_room (entry_at m.entries n) (sym (frame_slot_in m.entries n) ∙ ap (λ (t : StoreState D). cached_at t.cached n) view ∙ uncached)
+
+  module _ (e : Entry) (known : e.number < length s.headers) (uncached : cached_at s.cached e.number ≡ None) (kept : e.kept ≡ None) (room : e.room ≡ content.Free) (read : e.present ≡ held_at s.contents e.number) where
+    there : e.number < length m.headers
+    there = omega (arith, known, ap (λ (t : StoreState D). length t.headers) view)
+
+    new_here : Recaches (stored_of disk d) m (set m.entries e.number (Some e)) e.number
+    new_here = cached_new (stored_of disk d) m left count is e there (no_entry e.number uncached) kept
+        (read ∙ ap (λ (t : StoreState D). held_at t.contents e.number) (sym view) ∙ content_in (stored_of disk d) m e.number there)
+
+    pub cached_stands : IsCache (stored_of disk d) (with_objects m m.headers (set m.entries e.number (Some e))) left count
+    cached_stands = cached_cache (stored_of disk d) m (set m.entries e.number (Some e)) e.number new_here left count is
+
+    pub cached_seen : cache_of disk d (with_objects m m.headers (set m.entries e.number (Some e))) left (e.number ∷ order) most_entries ≡ with_cached e.number s
+    cached_seen =
+        let x = newly_owed (mark_at m.pending e.number) (mark_at m.touched e.number) in
+        seen_cached disk d m left (e.number ∷ order) most_entries (set m.entries e.number (Some e)) e.number new_here (set (owed_in m) e.number x)
+        (owed_changed (stored_of disk d) m (set m.entries e.number (Some e)) e.number new_here x there
+        (owed_new (stored_of disk d) m left count is e there (no_entry e.number uncached) kept
+        (read ∙ ap (λ (t : StoreState D). held_at t.contents e.number) (sym view) ∙ content_in (stored_of disk d) m e.number there)))
+        ∙ ap (λ (rs : List (Option (Content Cap))). record (cache_of disk d m left (e.number ∷ order) most_entries) { cached = rs; owed = set (owed_in m) e.number x })
+        (cached_set m.entries e.number (Some e) ∙ ap (λ (c : Content Cap). set (cached_in m.entries) e.number (Some c)) room)
+        ∙ ap (with_cached e.number) view

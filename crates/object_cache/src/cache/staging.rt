@@ -1,0 +1,55 @@
+// The body in the hand.
+ghost use Rattle.std.specs.Prelude.{◌≡◌, ◌≢◌, ◌<◌, ◌≤◌, None, Some, OnOk};
+ghost use Rattle.model.specs.Machine.{touched_count};
+ghost use Rattle.migrator.specs.Durable.{stored_of};
+ghost use Rattle.device.specs.Calls.{Counts};
+ghost use Rattle.object_cache.specs.declared.held.Held.{Held};
+ghost use Rattle.object_cache.specs.Memory.{Nothing};
+ghost use Rattle.object_cache.specs.StoreState.{GoesOnIn, on_device, owed_at, pending_count};
+
+use crate::cache::Cache;
+use crate::frozen::put_body;
+use device::{Device, Failed};
+
+impl<D: Device> Cache<D> {
+    // Writes the frozen frame of the body in `staging`, which no cache entry has, and empties `staging`.
+    // After `Failed` the body is still in `staging`.
+    pub(crate) fn put_held(&mut self) -> Result<(), Failed>
+        requires { (h : Held) × (self.old.staging ≡ Some h) × (owed_at self.old.owed h.number ≡ Nothing) }
+        ensures empty { OnOk result (self.new.staging ≡ None) }
+        ensures fewer { OnOk result (pending_count self.new < pending_count self.old) }
+        ensures put { self.new ≡ on_device self.old self.new }
+        ensures continues { GoesOnIn D.disk self.old self.new }
+        ensures cause { Counts (D.disk self.old.durable.beneath) (D.disk self.new.durable.beneath) result }
+    {
+        let Some(held) = self.staging.get() else {
+            unreachable!()
+        };
+        let number = held.number;
+        let header = self.frozen_headers.header(number);
+        put_body(&mut self.durable, number, header, &held.content)?;
+        self.pending.set(number as usize, false);
+        self.staging.let_go();
+        Ok(())
+    }
+
+    // Leaves no body in the hand: the frozen frame of one that is there is put. At `Failed` it stays.
+    pub(crate) fn empty_staging(&mut self) -> Result<(), Failed>
+        ensures empty { OnOk result (self.new.staging ≡ None) }
+        ensures fewer { OnOk result (self.old.staging ≢ None → pending_count self.new < pending_count self.old) }
+        ensures within { touched_count self.old.touched
+            ≤ (stored_of D.disk self.old.durable).saved.geometry.log }
+        ensures put { self.new ≡ on_device self.old self.new }
+        ensures continues { GoesOnIn D.disk self.old self.new }
+        ensures cause { Counts (D.disk self.old.durable.beneath) (D.disk self.new.durable.beneath) result }
+    {
+        let Some(held) = self.staging.get() else {
+            return Ok(());
+        };
+        let number = held.number;
+        if self.owes(number) {
+            return self.put_own_frozen(number);
+        }
+        self.put_held()
+    }
+}
