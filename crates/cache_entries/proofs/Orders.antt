@@ -98,12 +98,12 @@ differ_without n (m ∷ ms) once = elim (cases_eq n m) [
 
 -- ---- what is always kept
 
-module _ (a : ArenaState) (order : List ℕ) (room : ℕ) (kept : AreKept a order room) where
+module _ (a : ArenaState) (order : List ℕ) (buffer : ℕ) (kept : AreKept a order buffer) where
   module _ (e : Entry) (known : e.number < length a.at) (absent : entry_at a.at e.number ≡ None) (short : length order < a.most) where
     pub not_listed : is_member order e.number ≡ false
     not_listed = kept.ordered.listed e.number ∙ ap is_some absent
 
-    pub kept_new : AreKept (record { at = set a.at e.number (Some e); count = a.count + 1; most = a.most }) (e.number ∷ order) room
+    pub kept_new : AreKept (record { at = set a.at e.number (Some e); count = a.count + 1; most = a.most }) (e.number ∷ order) buffer
     kept_new = record {
       ordered = record {
         listed = λ n. elim (cases_eq n e.number) [
@@ -127,7 +127,7 @@ module _ (a : ArenaState) (order : List ℕ) (room : ℕ) (kept : AreKept a orde
     pub is_listed : is_member order n ≡ true
     is_listed = kept.ordered.listed n ∙ some
 
-    pub kept_without : (b : ArenaState) → b.at ≡ set a.at n None → b.count + 1 ≡ a.count → b.most ≡ a.most → AreKept b (without n order) room
+    pub kept_without : (b : ArenaState) → b.at ≡ set a.at n None → b.count + 1 ≡ a.count → b.most ≡ a.most → AreKept b (without n order) buffer
     kept_without b at count most = record {
       ordered = record {
         listed = λ m. elim (cases_eq m n) [
@@ -149,7 +149,7 @@ module _ (a : ArenaState) (order : List ℕ) (room : ℕ) (kept : AreKept a orde
       same_most = most ∙ kept.same_most;
     }
 
-    pub kept_used : AreKept a (n ∷ without n order) room
+    pub kept_used : AreKept a (n ∷ without n order) buffer
     kept_used = record {
       ordered = record {
         listed = λ m. elim (cases_eq m n) [

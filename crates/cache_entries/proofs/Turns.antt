@@ -316,10 +316,10 @@ module _ (n : ℕ) where
 
 -- ---- entries
 
-module _ (a : ArenaState) (room : ℕ) where
-  pub kept_in_turn : (ns order : List ℕ) → AreKept a order room → ((n : ℕ) → is_member ns n ≡ true → is_member order n ≡ true) → AreKept a (used_in_turn ns order) room
+module _ (a : ArenaState) (buffer : ℕ) where
+  pub kept_in_turn : (ns order : List ℕ) → AreKept a order buffer → ((n : ℕ) → is_member ns n ≡ true → is_member order n ≡ true) → AreKept a (used_in_turn ns order) buffer
   kept_in_turn [] order kept listed = kept
   kept_in_turn (n ∷ ns) order kept listed =
       let here = listed n (member_head n n ns refl) in
-      kept_in_turn ns (n ∷ without n order) (kept_used a order room kept n (sym (kept.ordered.listed n) ∙ here))
+      kept_in_turn ns (n ∷ without n order) (kept_used a order buffer kept n (sym (kept.ordered.listed n) ∙ here))
       (λ k is. member_used n order k here ∙ listed k (in_tail n ns k is))

@@ -15,7 +15,7 @@ abbrev pub present_of : Entry → Content Cap
 present_of e = e.present
 
 abbrev pub buffer_of : Entry → Content Cap
-buffer_of e = e.room
+buffer_of e = e.buffer
 
 -- an entry with another present body, with another one kept apart, or with another room
 abbrev pub holding : Content Cap → Entry → Entry
@@ -25,7 +25,7 @@ abbrev pub keeping : Option (Content Cap) → Entry → Entry
 keeping c e = record e { kept = c }
 
 abbrev pub reserving : Content Cap → Entry → Entry
-reserving c e = record e { room = c }
+reserving c e = record e { buffer = c }
 
 -- another one in its place, where it has one
 abbrev pub with_entry : (Entry → Entry) → ℕ → List (Option Entry) → List (Option Entry)

@@ -61,10 +61,10 @@ pub record AreOrdered (s : EntriesState) : Type 0 where
   pub few : length s.order ≤ s.most
 
 -- the same of the arena that they are kept in, and of how many the order has room for
-pub record AreKept (a : ArenaState) (order : List ℕ) (room : ℕ) : Type 0 where
+pub record AreKept (a : ArenaState) (order : List ℕ) (buffer : ℕ) : Type 0 where
   pub ordered : AreOrdered (entries_of a order)
   pub count : length order ≡ a.count
-  pub same_most : a.most ≡ room
+  pub same_most : a.most ≡ buffer
 
 -- the entry of a number is another one
 abbrev pub with_entry_of : (Entry → Entry) → ℕ → EntriesState → EntriesState

@@ -121,13 +121,13 @@ impl Arena {
     }
 
     /// Puts another room aside for a number that has an entry, and hands out the one before.
-    pub(crate) fn replace_buffer(&mut self, number: u64, room: Content<Cap>) -> Content<Cap>
+    pub(crate) fn replace_buffer(&mut self, number: u64, buffer: Content<Cap>) -> Content<Cap>
         requires { IsSome (entry_at self.old.at number) }
         ensures room { option_map buffer_of (entry_at self.old.at number) ≡ Some result }
-        ensures entries { self.new ≡ with_entry_in (reserving room) number self.old }
+        ensures entries { self.new ≡ with_entry_in (reserving buffer) number self.old }
     {
         let place = self.places[number as usize] as usize;
-        mem::replace(&mut self.items[place].room, room)
+        mem::replace(&mut self.items[place].buffer, buffer)
     }
 
     /// Puts an entry of a number in that has none, below the most that there may be.

@@ -45,8 +45,8 @@ impl Entries {
     {
         let most = capacity.count() as usize;
         match NonZeroUsize::new(most) {
-            Some(room) => Ok(Entries {
-                order: UseOrder::new(alloc, room)?,
+            Some(buffer) => Ok(Entries {
+                order: UseOrder::new(alloc, buffer)?,
                 arena: Arena::new(alloc, most, count)?,
             }),
             None => unreachable!(),
@@ -112,12 +112,12 @@ impl Entries {
     }
 
     /// Puts another room aside for a number that has an entry, and hands out the one before.
-    pub fn replace_buffer(&mut self, number: u64, room: Content<Cap>) -> Content<Cap>
+    pub fn replace_buffer(&mut self, number: u64, buffer: Content<Cap>) -> Content<Cap>
         requires { IsSome (entry_at self.old.at number) }
         ensures room { option_map buffer_of (entry_at self.old.at number) ≡ Some result }
-        ensures entries { self.new ≡ with_entry_of (reserving room) number self.old }
+        ensures entries { self.new ≡ with_entry_of (reserving buffer) number self.old }
     {
-        self.arena.replace_buffer(number, room)
+        self.arena.replace_buffer(number, buffer)
     }
 
     /// Leaves nothing in an object, where it has an entry.

@@ -12,5 +12,5 @@ pub struct Entry {
     /// it holds now.
     pub kept: Option<Content<Cap>>,
     /// The blank body that a free number is made an object in. `Free` where there is none.
-    pub room: Content<Cap>,
+    pub buffer: Content<Cap>,
 }

@@ -301,7 +301,7 @@ module _ (s : Stored) (m : Memory) (left count : ℕ) (is : IsCache s m left cou
 
 no_room : (o : Option Entry) → option_map buffer_of o ≡ None → o ≡ None
 no_room None is = refl
-no_room (Some e) is = absurd (none-some e.room (sym is))
+no_room (Some e) is = absurd (none-some e.buffer (sym is))
 
 -- the same by what is seen
 module _ {D : Type 0} (disk : D → Disk) (d : DurableState D) (m : Memory) (left count : ℕ) (order : List ℕ) (most_entries : ℕ) (s : StoreState D)
@@ -310,7 +310,7 @@ module _ {D : Type 0} (disk : D → Disk) (d : DurableState D) (m : Memory) (lef
   pub no_entry : (n : ℕ) → cached_at s.cached n ≡ None → entry_at m.entries n ≡ None
   no_entry n uncached = no_room (entry_at m.entries n) (sym (frame_slot_in m.entries n) ∙ ap (λ (t : StoreState D). cached_at t.cached n) view ∙ uncached)
 
-  module _ (e : Entry) (known : e.number < length s.headers) (uncached : cached_at s.cached e.number ≡ None) (kept : e.kept ≡ None) (room : e.room ≡ content.Free) (read : e.present ≡ held_at s.contents e.number) where
+  module _ (e : Entry) (known : e.number < length s.headers) (uncached : cached_at s.cached e.number ≡ None) (kept : e.kept ≡ None) (room : e.buffer ≡ content.Free) (read : e.present ≡ held_at s.contents e.number) where
     there : e.number < length m.headers
     there = omega (arith, known, ap (λ (t : StoreState D). length t.headers) view)
 

@@ -27,7 +27,7 @@ pub use Rattle.migrator.proofs.Moving.{goes_none, goes_trans}
 pub use Rattle.migrator.specs.Durable.{DurableState, FrozenPuts, GoesOn, ReadsStore, Stored, below_at, freezing, frozen_put, is_sound, left_of, moved, newest}
 pub use Rattle.migrator.specs.Durable.{stored_after_commit, stored_after_journal, stored_of, with_frozen, with_put, with_working}
 pub use Rattle.migrator.specs.Opened.{OpensDurable}
-pub use Rattle.migrator.specs.Put.{Absent, Broken, HasSpareBody, Kept, Put, held_slot, kept_count, put_at, put_or}
+pub use Rattle.migrator.specs.Put.{Absent, Broken, HasFreeSlot, Kept, Put, held_slot, kept_count, put_at, put_or}
 unfoldable pub use Rattle.migrator.specs.Put.{overlaid, sum_of}
 pub use Rattle.model.specs.Frame.{blank_frame, blank_header, called, claimed, frame_at, given_up, header_at, headers, held_at, owned_by, void_held}
 unfoldable pub use Rattle.model.specs.Frame.{frames_in}

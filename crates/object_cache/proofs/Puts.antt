@@ -2,10 +2,10 @@
 use Rattle.object_cache.proofs.Names.{◌≡◌, ◌≢◌, ◌⊎◌, inl, inr, ℕ, zero, suc, ◌<◌, ◌≤◌, Bool, true, false, true≢false, cond, List, [], ◌∷◌, length, set, Option}
 use Rattle.object_cache.proofs.Names.{Some, option_map, refl, sym, ap, subst, ◌∙◌, arith, length-set, cases_eq, get_or-set_same, get_or-set_other, get_or_past}
 use Rattle.object_cache.proofs.Names.{sum_by-cons, none-some, Cap, Frame, ObjectHeader, Content, header_at, held_at, IsKeepable, touched_count, Disk, Put}
-use Rattle.object_cache.proofs.Names.{Absent, Broken, Kept, put_at, held_slot, sum_of, HasSpareBody, most, DurableState, Stored, GoesOn, stored_of}
-use Rattle.object_cache.proofs.Names.{with_working, maps_same, Entry, entry_at, present_of, Memory, mark_at, put_body, present_body, content_at, present_at}
-use Rattle.object_cache.proofs.Names.{newest_body, below_body, contents_in, frozen_in, owed_in, StoreState, IsCache, IsFetchedIn, GoesOnIn, cache_of, is_kept}
-use Rattle.object_cache.proofs.Names.{frozen_seen, some_of}
+use Rattle.object_cache.proofs.Names.{Absent, Broken, Kept, put_at, held_slot, sum_of, HasFreeSlot, most, DurableState, Stored, GoesOn, stored_of, with_working}
+use Rattle.object_cache.proofs.Names.{maps_same, Entry, entry_at, present_of, Memory, mark_at, put_body, present_body, content_at, present_at, newest_body}
+use Rattle.object_cache.proofs.Names.{below_body, contents_in, frozen_in, owed_in, StoreState, IsCache, IsFetchedIn, GoesOnIn, cache_of, is_kept, frozen_seen}
+use Rattle.object_cache.proofs.Names.{some_of}
 use Rattle.object_cache.proofs.Objects.{has_entry, fetched_known, content_in, present_is}
 
 -- ---- slots
@@ -56,10 +56,10 @@ held_short (p ∷ ps) (false ∷ ts) (suc n) count each marked none =
     let no_slot : held_slot p ≡ 0 = ap held_slot (each zero refl) in
     omega (arith, total, rest, no_slot)
 
-pub has_quota : (room : ℕ) (ps : List Put) (ts : List Bool) (n : ℕ) → length ps ≡ length ts → ((k : ℕ) → mark_at ts k ≡ false → put_at ps k ≡ Absent) → mark_at ts n ≡ true → touched_count ts ≤ room → HasSpareBody room ps n
-has_quota room ps ts n count each marked within = go (put_at ps n) refl
+pub has_free_slot : (room : ℕ) (ps : List Put) (ts : List Bool) (n : ℕ) → length ps ≡ length ts → ((k : ℕ) → mark_at ts k ≡ false → put_at ps k ≡ Absent) → mark_at ts n ≡ true → touched_count ts ≤ room → HasFreeSlot room ps n
+has_free_slot room ps ts n count each marked within = go (put_at ps n) refl
   where
-    go : (p : Put) → put_at ps n ≡ p → HasSpareBody room ps n
+    go : (p : Put) → put_at ps n ≡ p → HasFreeSlot room ps n
     go Absent is = let short = held_short ps ts n count each marked is in inr (omega (arith, short, within))
     go Broken is = inl (λ none. broken_absent (sym is ∙ none))
       where
@@ -180,8 +180,8 @@ module _ {D : Type 0} (disk : D → Disk) (d : DurableState D) (m : Memory) (lef
   touched_here : mark_at m.touched n ≡ true
   touched_here = is.marked n dirty_here
 
-  pub room_here : HasSpareBody (stored_of disk d).saved.geometry.log (stored_of disk d).working n
-  room_here = has_quota (stored_of disk d).saved.geometry.log (stored_of disk d).working m.touched n (is.puts ∙ sym is.marks) is.unput touched_here (omega (arith, is.within, is.counted))
+  pub room_here : HasFreeSlot (stored_of disk d).saved.geometry.log (stored_of disk d).working n
+  room_here = has_free_slot (stored_of disk d).saved.geometry.log (stored_of disk d).working m.touched n (is.puts ∙ sym is.marks) is.unput touched_here (omega (arith, is.within, is.counted))
 
   module _ (header : ObjectHeader) (x : Content Cap) (header_is : header ≡ header_at m.headers n) (x_is : option_map present_of (entry_at m.entries n) ≡ Some x) where
     abbrev frame : Frame

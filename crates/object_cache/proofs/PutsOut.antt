@@ -3,7 +3,7 @@ use Rattle.object_cache.proofs.Names.{◌≡◌, ◌≢◌, inl, inr, ℕ, ◌<�
 use Rattle.object_cache.proofs.Names.{option_map, refl, sym, ap, subst, ◌∙◌, arith, length-set, count_by, range_with_len, cases_eq, cases_lt, eq-eqb, ne_eqb}
 use Rattle.object_cache.proofs.Names.{get_or-set_same, get_or-set_other, get_or_past, length-map-range_with_len, get_or-map-range_with_len, none-some}
 use Rattle.object_cache.proofs.Names.{same_Some, Cap, Frame, ObjectHeader, Content, blank_frame, header_at, IsKeepable, Disk, Put, Absent, Broken, Kept, put_at}
-use Rattle.object_cache.proofs.Names.{HasSpareBody, most, DurableState, FrozenPuts, Stored, GoesOn, below_at, stored_of, with_frozen, FrozenFrames, Entry, Held}
+use Rattle.object_cache.proofs.Names.{HasFreeSlot, most, DurableState, FrozenPuts, Stored, GoesOn, below_at, stored_of, with_frozen, FrozenFrames, Entry, Held}
 use Rattle.object_cache.proofs.Names.{entry_at, with_entry, keeping, Memory, Owed, Nothing, mark_at, in_staging, let_go, own_body, own_frame, present_body}
 use Rattle.object_cache.proofs.Names.{content_at, newest_body, below_body, apart_body, frozen_body, frozen_frame, frozen_at, owed_of, owed_body, owed_in_memory}
 use Rattle.object_cache.proofs.Names.{contents_in, frozen_in, owed_in, StoreState, IsCache, IsFetchedIn, GoesOnIn, cache_of, frozen_seen, is_kept, owed_at}
@@ -12,7 +12,7 @@ use Rattle.object_cache.proofs.Apart.{cached_keep}
 use Rattle.object_cache.proofs.FrozenPuts.{Releases, one_fewer, with_frame, without_pending, frozen_put_cache, contents_same, frozen_seen_same, owed_now}
 use Rattle.object_cache.proofs.FrozenTorn.{torn_cache, torn_contents_same, torn_seen_same}
 use Rattle.object_cache.proofs.Objects.{fetched_known}
-use Rattle.object_cache.proofs.Puts.{has_quota}
+use Rattle.object_cache.proofs.Puts.{has_free_slot}
 use Rattle.object_cache.proofs.Caching.{owed_entry}
 
 -- ---- what is in the hand, once it has let go of a number
@@ -53,13 +53,13 @@ module _ {D : Type 0} (disk : D → Disk) (d : DurableState D) (m : Memory) (lef
       go None none = absurd (true≢false (sym pending ∙ is.idle none n))
       go (Some f) some = (f, some)
 
-  pub frozen_room : (f : FrozenPuts) → (stored_of disk d).frozen ≡ Some f → HasSpareBody f.size f.put n
+  pub frozen_room : (f : FrozenPuts) → (stored_of disk d).frozen ≡ Some f → HasFreeSlot f.size f.put n
   frozen_room f f_is =
       let are = is.running f f_is in
       let written : ℕ → Bool = (λ k. mark_at m.pending k || is_kept (put_at f.put k)) in
       let marks = map (λ k. mark_at m.pending k || is_kept (put_at f.put k)) (range_with_len 0 (length m.pending)) in
       let there : n < length m.pending = omega (arith, known, is.headers, is.pending_marks) in
-      has_quota f.size f.put marks n
+      has_free_slot f.size f.put marks n
       (are.each ∙ sym (length-map-range_with_len (λ k. mark_at m.pending k || is_kept (put_at f.put k)) 0 (length m.pending)))
       (λ k none. elim (cases_lt k (length m.pending)) [
         | inl below ↦ no_put (mark_at m.pending k) (put_at f.put k)
@@ -158,7 +158,7 @@ module _ {D : Type 0} (disk : D → Disk) (d : DurableState D) (m : Memory) (lef
   pub own_fewer : count_by (λ b. b) (set m.pending n false) < count_by (λ b. b) s.pending
   own_fewer = omega (arith, one_fewer m.pending n pending_here, ap (λ (t : StoreState D). count_by (λ b. b) t.pending) view)
 
-  pub own_room : (f : FrozenPuts) → (stored_of disk d).frozen ≡ Some f → HasSpareBody f.size f.put n
+  pub own_room : (f : FrozenPuts) → (stored_of disk d).frozen ≡ Some f → HasFreeSlot f.size f.put n
   own_room = frozen_room disk d m left count order most_entries s view is n known_here pending_here
 
   pub own_keepable : IsKeepable (stored_of disk d).saved.geometry most n (own_frame header e)

@@ -2,7 +2,7 @@
 use Rattle.object_cache.proofs.Names.{◌≡◌, ◌⊎◌, inl, inr, ℕ, ◌<◌, ◌≤◌, Bool, true, false, true≢false, cond, List, length, set, Option, Some, None, option_map}
 use Rattle.object_cache.proofs.Names.{refl, sym, ap, subst, ◌∙◌, arith, count_by, cases_lt, eq-eqb, ne_eqb, get_or-set_same, get_or_past, none-some, same_Some}
 use Rattle.object_cache.proofs.Names.{Cap, Frame, ObjectHeader, Content, Role, frame_at, header_at, IsKeepable, Disk, Put, Absent, Broken, Kept, put_at, put_or}
-use Rattle.object_cache.proofs.Names.{HasSpareBody, most, DurableState, FrozenPuts, Stored, GoesOn, below_at, frozen_put, stored_of, with_frozen, with_put}
+use Rattle.object_cache.proofs.Names.{HasFreeSlot, most, DurableState, FrozenPuts, Stored, GoesOn, below_at, frozen_put, stored_of, with_frozen, with_put}
 use Rattle.object_cache.proofs.Names.{FrozenFrames, Entry, Held, entry_at, Memory, Owed, Nothing, mark_at, masked, in_staging, put_body, present_body}
 use Rattle.object_cache.proofs.Names.{content_at, newest_body, below_body, apart_body, frozen_body, frozen_frame, frozen_at, owed_of, owed_in_memory}
 use Rattle.object_cache.proofs.Names.{contents_in, owed_in, StoreState, IsCache, GoesOnIn, cache_of, frozen_seen, is_kept, on_device, owed_at}
@@ -133,7 +133,7 @@ module _ {D : Type 0} (disk : D → Disk) (d : DurableState D) (m : Memory) (lef
   pub held_running : (f : FrozenPuts) × ((stored_of disk d).frozen ≡ Some f)
   held_running = running_here disk d m left count order most_entries s view is h.number known_there pending_there
 
-  pub held_room : (f : FrozenPuts) → (stored_of disk d).frozen ≡ Some f → HasSpareBody f.size f.put h.number
+  pub held_room : (f : FrozenPuts) → (stored_of disk d).frozen ≡ Some f → HasFreeSlot f.size f.put h.number
   held_room = frozen_room disk d m left count order most_entries s view is h.number known_there pending_there
 
   pub held_keepable : IsKeepable (stored_of disk d).saved.geometry most h.number (record { header = header; content = masked header.role h.content })

@@ -163,8 +163,8 @@ impl<D: Device> Cache<D> {
           cached = slice_set self.old.cached number (Some Content.Free);
         } }
     {
-        let scratch = self.entries.replace_buffer(number, Content::Free);
-        let content = filled(scratch, fresh);
+        let buffer = self.entries.replace_buffer(number, Content::Free);
+        let content = filled(buffer, fresh);
         self.table.claim(number, content.role(), owner);
         *self.entries.present_mut(number) = content;
     }
@@ -185,7 +185,7 @@ impl<D: Device> Cache<D> {
 
     // Makes what an object without an entry holds, which was read, an entry. Fails only where memory
     // runs out, and then all is as it was.
-    pub(crate) fn cached(&mut self, number: u64, content: Content<Cap>) -> Result<(), AllocError>
+    pub(crate) fn insert(&mut self, number: u64, content: Content<Cap>) -> Result<(), AllocError>
         requires known { number < length self.old.headers }
         requires uncached { cached_at self.old.cached number ≡ None }
         requires room { length self.old.order < self.old.most }
@@ -198,7 +198,7 @@ impl<D: Device> Cache<D> {
             number,
             present: content,
             kept: None,
-            scratch: Content::Free,
+            buffer: Content::Free,
         })
     }
 

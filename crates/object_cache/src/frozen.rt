@@ -3,7 +3,7 @@ ghost use Rattle.std.specs.Prelude.{◌≡◌, ◌<◌, Some, OnOk, OnErr};
 ghost use Rattle.model.specs.Keepable.{IsKeepable};
 ghost use Rattle.device.specs.Calls.{Counts};
 ghost use Rattle.model.specs.Sound.{object_count};
-ghost use Rattle.migrator.specs.Put.{Broken, Kept, HasSpareBody};
+ghost use Rattle.migrator.specs.Put.{Broken, Kept, HasFreeSlot};
 ghost use Rattle.checkpoint.specs.Saved.{most};
 ghost use Rattle.migrator.specs.Durable.{FrozenPuts, stored_of, with_frozen, GoesOn};
 ghost use Rattle.object_cache.specs.Memory.{masked, own_frame};
@@ -25,7 +25,7 @@ fn put_frame<D: Device>(
     requires keepable { IsKeepable durable.old.books.plan.geometry most number
         (record { header = header; content = content.now }) }
     requires room { (f : FrozenPuts) → (stored_of D.disk durable.old).frozen ≡ Some f
-        → HasSpareBody f.size f.put number }
+        → HasFreeSlot f.size f.put number }
     ensures put { OnOk result (stored_of D.disk durable.new ≡ with_frozen number
         (Kept (record { header = header; content = content.now })) (stored_of D.disk durable.old)) }
     ensures broken { OnErr result (stored_of D.disk durable.new
@@ -52,7 +52,7 @@ pub(crate) fn put_body<D: Device>(
     requires keepable { IsKeepable durable.old.books.plan.geometry most number
         (record { header = header; content = masked header.role content.now }) }
     requires room { (f : FrozenPuts) → (stored_of D.disk durable.old).frozen ≡ Some f
-        → HasSpareBody f.size f.put number }
+        → HasFreeSlot f.size f.put number }
     ensures put { OnOk result (stored_of D.disk durable.new ≡ with_frozen number
         (Kept (record { header = header; content = masked header.role content.now }))
         (stored_of D.disk durable.old)) }
@@ -80,7 +80,7 @@ pub(crate) fn put_own<D: Device>(
     requires keepable { IsKeepable durable.old.books.plan.geometry most number
         (own_frame header entry.now) }
     requires room { (f : FrozenPuts) → (stored_of D.disk durable.old).frozen ≡ Some f
-        → HasSpareBody f.size f.put number }
+        → HasFreeSlot f.size f.put number }
     ensures put { OnOk result (stored_of D.disk durable.new ≡ with_frozen number
         (Kept (own_frame header entry.now)) (stored_of D.disk durable.old)) }
     ensures broken { OnErr result (stored_of D.disk durable.new

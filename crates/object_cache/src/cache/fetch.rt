@@ -47,7 +47,7 @@ impl<D: Device> Cache<D> {
         ensures full { IsErrOf result PrepareFault.LogFull → ⊥ }
         ensures cause { IsErrOf result PrepareFault.Failed → ⊥ }
     {
-        match self.cached(number, content) {
+        match self.insert(number, content) {
             Ok(()) => Ok(()),
             Err(_) => Err(PrepareFault::NoMemory),
         }

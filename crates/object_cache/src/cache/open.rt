@@ -153,7 +153,7 @@ impl<D: Device> Cache<D> {
         let mut bodies = bodies;
         for number in 0..bodies.len() {
             let body = mem::replace(&mut bodies[number], Content::Free);
-            self.cached(number as u64, body)?;
+            self.insert(number as u64, body)?;
         }
         Ok(())
     }

@@ -21,4 +21,4 @@ returns-clause-room c =
 pub returns-clause-entries : goal.returns-clause-entries
 returns-clause-entries c =
     rw c.replace.ensures.after (changes c.self.inside.items.items c.self.inside.places.items c.self.inside.most c.args.self.now c.self.view_is c.args.number c.requires c.self.invariant.0 c.index.result.now c.index.ensures
-    c.index_mut.result.now c.index_mut.ensures.value (reserving c.args.room) refl).view
+    c.index_mut.result.now c.index_mut.ensures.value (reserving c.args.buffer) refl).view

@@ -7,5 +7,5 @@ loop-number-init g c = none_filled c.args.self.now c.args.bodies.items c.require
 
 pub loop-number-preserved : goal.loop-number-preserved
 loop-number-preserved g c =
-    one_filled c.args.self.now c.loop-number.self c.cached.new.self c.loop-number.bodies.items c.loop-number.number c.replace-body.new.dest c.loop-number.invariant
-    c.in_ok-cached.ensures.cached c.in_ok-cached.ensures.fetched
+    one_filled c.args.self.now c.loop-number.self c.insert.new.self c.loop-number.bodies.items c.loop-number.number c.replace-body.new.dest c.loop-number.invariant
+    c.in_ok-insert.ensures.cached c.in_ok-insert.ensures.fetched
