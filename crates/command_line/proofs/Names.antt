@@ -49,7 +49,8 @@ pub use Rattle.std.specs.Box.{box_value}
 pub use Rattle.std.specs.List.{All, list_all, list_any, slice_index_or}
 pub use Rattle.std.specs.Option.{option_map_or}
 pub use Rattle.std.specs.Prelude.{Box, IfSome, cond, encode_utf8, find, fold, nat_le, nat_lt, option_and_then, slice_get, unwrap_or, ⊤}
-pub use Rattle.std.specs.Str.{bytes_eq, chars}
+pub use Rattle.std.specs.Str.{bytes_eq}
+unfoldable pub use Rattle.std.specs.Str.{chars}
 pub use Rattle.command_line.specs.Arguments.{GivesNoNumber, IsFlag, IsGiven, IsNumber, IsNumberOption, has_all, is_filled, is_whole, number_of}
 pub use Rattle.command_line.specs.Arguments.{subcommand_named, texts_of}
 pub use Rattle.command_line.specs.Commands.{IsCommand, eros_app, greatest_number}

@@ -72,7 +72,7 @@ pub use Rattle.std.proofs.lemmas.List.Splits.{join_with_byte-slice_split, slice_
 pub use Rattle.std.proofs.lemmas.List.Sums.{AllPass-from_list_all, sum_by-cons}
 pub use Rattle.std.proofs.lemmas.Map.Views.{Contains-from_any}
 pub use Rattle.std.proofs.lemmas.Slice.Eq.{bytes_eq-Decides}
-pub use Rattle.std.specs.Fmt.{digits}
+unfoldable pub use Rattle.std.specs.Fmt.{digits}
 pub use Rattle.std.specs.List.{AllPairs, Contains, count_by, enumerate_from, filter, list_all, list_any, range_with_len, slice_split}
 pub use Rattle.std.specs.List.Sorted.{IsStrictlyIncreasing}
 pub use Rattle.std.specs.Prelude.{IsTrue, bit_or, if◌then◌else◌, nat_le, nat_lt, slice_index, slice_index_or, slice_set}
