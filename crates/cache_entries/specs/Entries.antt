@@ -1,5 +1,6 @@
 -- The entries of a bounded cache: by number, and in the order of their last use.
-use Rattle.std.specs.Prelude.{◌≡◌, ◌==◌, if◌then◌else◌, ℕ, ◌<◌, Option, Some, None, List, length, map, option_map, slice_get, slice_index, slice_index_or, slice_set}
+use Rattle.std.specs.Prelude.{◌≡◌, ◌==◌, if◌then◌else◌, ℕ, ◌<◌, Option, Some, None, List, length, map, option_map}
+use Rattle.std.specs.Prelude.{slice_get, slice_index, slice_index_or, slice_set}
 use Rattle.std.specs.List.{range_with_len}
 use Rattle.std.specs.Option.{option_map_or}
 use Rattle.model.specs.declared.capability.Cap.{Cap}

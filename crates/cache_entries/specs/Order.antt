@@ -1,5 +1,6 @@
 -- Numbers in the order of their last use, the one used last first.
-use Rattle.std.specs.Prelude.{◌≡◌, ◌==◌, ◌-◌, ◌≤◌, if◌then◌else◌, ℕ, Bool, true, false, Option, Some, None, is_some, List, [], ◌∷◌, length, take, slice_get, slice_set}
+use Rattle.std.specs.Prelude.{◌≡◌, ◌==◌, ◌-◌, ◌≤◌, if◌then◌else◌, ℕ, Bool, true, false, Option, Some, None, is_some}
+use Rattle.std.specs.Prelude.{List, [], ◌∷◌, length, take, slice_get, slice_set}
 use Rattle.model.specs.Revoke.{is_member}
 use Rattle.cache_entries.specs.declared.entry.Entry.{Entry}
 use Rattle.cache_entries.specs.Entries.{entry_at, with_entry, ArenaState}

@@ -1,10 +1,12 @@
 // Entries by number, in memory that was reserved for them.
-ghost use Rattle.std.specs.Prelude.{◌≡◌, ◌+◌, ◌<◌, ◌≤◌, Some, None, length, replicate, slice_get, slice_set, option_copied, option_map, IfSome, IfOk, IsSome};
+ghost use Rattle.std.specs.Prelude.{◌≡◌, ◌+◌, ◌<◌, ◌≤◌, Some, None, length, replicate, slice_get, slice_set};
+ghost use Rattle.std.specs.Prelude.{option_copied, option_map, IfSome, IfOk, IsSome};
 ghost use Rattle.std.specs.Borrow.{Lends, sem};
 ghost use Rattle.model.specs.contracts.object.Content.{the_row as content_row};
 ghost use Rattle.model.specs.contracts.capability.Cap.{the_row as cap_row};
 ghost use Rattle.cache_entries.specs.declared.entry.Entry.{Entry};
-ghost use Rattle.cache_entries.specs.Entries.{entry_at, entry_of, settled, holding, keeping, reserving, with_entry_in, present_of, buffer_of};
+ghost use Rattle.cache_entries.specs.Entries.{entry_at, entry_of, settled, holding, keeping, reserving, with_entry_in};
+ghost use Rattle.cache_entries.specs.Entries.{present_of, buffer_of};
 
 use crate::entry::Entry;
 use model::{Cap, Content};

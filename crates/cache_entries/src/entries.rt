@@ -1,11 +1,13 @@
 // Entries in the order of their last use.
-ghost use Rattle.std.specs.Prelude.{◌≡◌, ℕ, ◌<◌, ◌≤◌, [], Some, None, true, false, length, replicate, is_some, nat_le, option_copied, option_map, IfOk, IsSome, OnOk, OnErr};
+ghost use Rattle.std.specs.Prelude.{◌≡◌, ℕ, ◌<◌, ◌≤◌, [], Some, None, true, false, length, replicate, is_some, nat_le};
+ghost use Rattle.std.specs.Prelude.{option_copied, option_map, IfOk, IsSome, OnOk, OnErr};
 ghost use Rattle.std.specs.Borrow.{Lends, sem};
 ghost use Rattle.std.specs.List.{Contains};
 ghost use Rattle.model.specs.contracts.object.Content.{the_row as content_row};
 ghost use Rattle.model.specs.contracts.capability.Cap.{the_row as cap_row};
 ghost use Rattle.cache_entries.specs.Entries.{entry_at, holding, keeping, reserving, present_of, buffer_of};
-ghost use Rattle.cache_entries.specs.Order.{AreOrdered, used_longest_ago, with_entry_of, with_new, without_entry, used_in_turn, used_now};
+ghost use Rattle.cache_entries.specs.Order.{AreOrdered, used_longest_ago, with_entry_of, with_new, without_entry};
+ghost use Rattle.cache_entries.specs.Order.{used_in_turn, used_now};
 
 use crate::arena::Arena;
 use crate::capacity::Capacity;

@@ -1,9 +1,11 @@
 // Numbers in the order of their last use.
-ghost use Rattle.std.specs.Prelude.{◌≡◌, ℕ, List, ◌+◌, ◌<◌, ◌≤◌, [], ◌∷◌, ◌++◌, None, Some, true, false, length, nat_le, slice_get, vec_capacity, IfSome, IfOk, OnOk, OnErr};
+ghost use Rattle.std.specs.Prelude.{◌≡◌, ℕ, List, ◌+◌, ◌<◌, ◌≤◌, [], ◌∷◌, ◌++◌, None, Some, true, false, length};
+ghost use Rattle.std.specs.Prelude.{nat_le, slice_get, vec_capacity, IfSome, IfOk, OnOk, OnErr};
 ghost use Rattle.std.specs.Map.{keys_of};
 ghost use Rattle.std.specs.NonZero.{non_zero_usize_get};
 ghost use Rattle.model.specs.Revoke.{is_member};
-ghost use Rattle.cache_entries.specs.Order.{AllDiffer, AreLatest, Uses, used_in_turn, used_last, used_longest_ago, without};
+ghost use Rattle.cache_entries.specs.Order.{AllDiffer, AreLatest, Uses, used_in_turn, used_last, used_longest_ago};
+ghost use Rattle.cache_entries.specs.Order.{without};
 
 use crate::number_hasher::NumberHasher;
 use lru::LruCache;

@@ -1,7 +1,8 @@
 -- The changes and the outcomes of orders.
-use Rattle.capability.specs.Names.{ℕ, Option, None, Some, List, [], ◌∷◌, option_to_list, Void, Message, Object, ResultCode, inherited, new_annex, new_root}
-use Rattle.capability.specs.Names.{with_new, with_root_word, with_space, OrderOutcome, code_number, consume, rescind, root_at, with_root, with_slot, with_state}
-use Rattle.capability.specs.Names.{with_word}
+use Rattle.capability.specs.Names.{ℕ, Option, None, Some, List, [], ◌∷◌, option_to_list, Void, Message, Object}
+use Rattle.capability.specs.Names.{ResultCode, inherited, new_annex, new_root, with_new, with_root_word, with_space}
+use Rattle.capability.specs.Names.{OrderOutcome, code_number, consume, rescind, root_at, with_root, with_slot}
+use Rattle.capability.specs.Names.{with_state, with_word}
 use Rattle.capability.specs.declared.order.BankChange.{BankChange}
 use Rattle.capability.specs.declared.order.BankChange.TheVariants as bank
 use Rattle.capability.specs.declared.order.Change.{Change}

@@ -1,5 +1,6 @@
 -- Counts against the definitions of rescinding and consuming.
-use Rattle.capability.specs.Names.{◌≡◌, ℕ, ◌+◌, ◌<◌, List, length, Geometry, called, header_at, AreCurrent, IsSoundFrames, consume, rescind, IsSound}
+use Rattle.capability.specs.Names.{◌≡◌, ℕ, ◌+◌, ◌<◌, List, length, Geometry, called, header_at, AreCurrent}
+use Rattle.capability.specs.Names.{IsSoundFrames, consume, rescind, IsSound}
 use Rattle.capability.specs.Parts.{AreGivenUp, Parts, frames_of, with_header, objects_in}
 
 -- to raise both counts of the members of a set and free them is to rescind them

@@ -1,5 +1,6 @@
 -- The delivery of a message.
-use Rattle.capability.specs.Names.{ℕ, List, Cap, Capability, ObjectHeader, Content, Object, Root, Running, current_count, root_at, with_root}
+use Rattle.capability.specs.Names.{ℕ, List, Cap, Capability, ObjectHeader, Content, Object, Root, Running}
+use Rattle.capability.specs.Names.{current_count, root_at, with_root}
 use Rattle.model.specs.declared.object.Content.TheVariants as content
 
 -- the objects with words and a key given to a process, which runs

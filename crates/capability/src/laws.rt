@@ -1,6 +1,7 @@
 //! Laws of counts, each the contract of a function that does nothing.
 
-ghost use Rattle.capability.specs.Laws.{CalledIsConsumed, ConsumeKeepsSoundFrames, GivenUpIsRescinded, RescindKeepsSoundFrames};
+ghost use Rattle.capability.specs.Laws.{CalledIsConsumed, ConsumeKeepsSoundFrames, GivenUpIsRescinded};
+ghost use Rattle.capability.specs.Laws.{RescindKeepsSoundFrames};
 
 /// Objects whose two counts are raised and that are freed, a whole list at a time, are
 /// rescinded: no capability that is held names one.

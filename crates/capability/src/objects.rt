@@ -7,7 +7,8 @@ ghost use Rattle.model.specs.Object.{is_annex, with_slot_in, with_word_in};
 ghost use Rattle.model.specs.Revoke.{consume as consumed, is_member, rescind as rescinded};
 ghost use Rattle.model.specs.World.{word_at, slot_at, annex_at, content_at, is_process, with_word, with_slot};
 ghost use Rattle.capability.specs.Objects.{live_cap, with_message, with_root_in};
-ghost use Rattle.capability.specs.Parts.{AreGivenUp, Edits, FreshFits, IsFreshAt, IsOnce, KeepsRest, OnlyFetches, frames_of, fresh_content, objects_in};
+ghost use Rattle.capability.specs.Parts.{AreGivenUp, Edits, FreshFits, IsFreshAt, IsOnce, KeepsRest, OnlyFetches};
+ghost use Rattle.capability.specs.Parts.{frames_of, fresh_content, objects_in};
 
 use crate::present::{Fresh, MAX_FETCHED, PrepareFault, PresentFrames};
 use model::{Cap, Capability, Content, Role, State};

@@ -6,4 +6,5 @@ pub use Rattle.layout.specs.Image.{Encodes, IsBadBy, SavedState}
 pub use Rattle.model.specs.Frame.{frame_at}
 pub use Rattle.model.specs.declared.frame.Frame.{Frame}
 pub use Rattle.model.specs.declared.geometry.Geometry.{Geometry}
-pub use Rattle.std.specs.Prelude.{Err, IsErrOf, List, None, Ok, Option, Result, Some, slice_set, ℕ, ⊤, ◌+◌, ◌-◌, ◌<◌, ◌^◌, ◌↔◌, ◌≡◌, ◌≢◌, ◌≤◌, ◌⊎◌}
+pub use Rattle.std.specs.Prelude.{Err, IsErrOf, List, None, Ok, Option, Result, Some, slice_set, ℕ, ⊤, ◌+◌, ◌-◌, ◌<◌}
+pub use Rattle.std.specs.Prelude.{◌^◌, ◌↔◌, ◌≡◌, ◌≢◌, ◌≤◌, ◌⊎◌}

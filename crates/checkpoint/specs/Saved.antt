@@ -1,6 +1,6 @@
 -- What a committed checkpoint saves, as frames.
-use Rattle.checkpoint.specs.Names.{◌≡◌, ◌⊎◌, ℕ, ◌+◌, ◌-◌, ◌^◌, Option, Some, None, List, slice_set, Frame, Geometry, frame_at, Image, Disk, LeavesOnly}
-use Rattle.checkpoint.specs.Names.{SavedState, Encodes}
+use Rattle.checkpoint.specs.Names.{◌≡◌, ◌⊎◌, ℕ, ◌+◌, ◌-◌, ◌^◌, Option, Some, None, List, slice_set, Frame, Geometry}
+use Rattle.checkpoint.specs.Names.{frame_at, Image, Disk, LeavesOnly, SavedState, Encodes}
 use Rattle.model.specs.declared.object.Content.TheVariants as content
 
 -- the frames of all objects, and the numbers of the checkpoint; entries counts the objects that lie in the log

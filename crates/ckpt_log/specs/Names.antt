@@ -11,8 +11,9 @@ pub use Rattle.layout.specs.Gate.{gate_bytes, is_open}
 pub use Rattle.layout.specs.Header.{IsHeader}
 unfoldable pub use Rattle.layout.specs.Header.{header_bytes}
 pub use Rattle.layout.specs.Homes.{home_place, place_length}
-pub use Rattle.layout.specs.Image.{Encodes, HasBadDirectory, HasBadHeader, HasDirectory, HasHeader, HasNoHeader, HasPlan, SavedState, bytes_at, committed_bytes}
-pub use Rattle.layout.specs.Image.{committed_slot, directory_in, directory_length, directory_sector, frame_in, frame_sector, half_sector, sequence_in}
+pub use Rattle.layout.specs.Image.{Encodes, HasBadDirectory, HasBadHeader, HasDirectory, HasHeader, HasNoHeader}
+pub use Rattle.layout.specs.Image.{HasPlan, SavedState, bytes_at, committed_bytes, committed_slot, directory_in}
+pub use Rattle.layout.specs.Image.{directory_length, directory_sector, frame_in, frame_sector, half_sector, sequence_in}
 pub use Rattle.layout.specs.Image.{slot_sector}
 pub use Rattle.layout.specs.Superblock.{IsApart, IsInside, IsPlan, IsWithin, Plan, half_extent}
 pub use Rattle.layout.specs.declared.bad_image.BadImage.{BadImage}
@@ -24,4 +25,5 @@ pub use Rattle.layout.specs.declared.header.CheckpointHeader.{CheckpointHeader}
 pub use Rattle.model.specs.Frame.{frame_at}
 pub use Rattle.model.specs.declared.frame.Frame.{Frame}
 pub use Rattle.model.specs.declared.geometry.Geometry.{Geometry}
-pub use Rattle.std.specs.Prelude.{List, None, Option, Some, false, if◌then◌else◌, length, nat_lt, take, true, ℕ, ⊤, ◌%◌, ◌*◌, ◌+◌, ◌<◌, ◌^◌, ◌≡◌, ◌≤◌, ◌⊎◌}
+pub use Rattle.std.specs.Prelude.{List, None, Option, Some, false, if◌then◌else◌, length, nat_lt, take, true, ℕ, ⊤, ◌%◌}
+pub use Rattle.std.specs.Prelude.{◌*◌, ◌+◌, ◌<◌, ◌^◌, ◌≡◌, ◌≤◌, ◌⊎◌}

@@ -1,6 +1,7 @@
 -- The sectors that a saved state is read from.
-use Rattle.ckpt_log.specs.Names.{◌≡◌, ℕ, ◌+◌, ◌<◌, List, Entry, CheckpointHeader, Image, place_length, HasDirectory, frame_in, frame_sector, directory_sector}
-use Rattle.ckpt_log.specs.Names.{directory_length, SavedState, Encodes, committed_slot, committed_bytes, Plan}
+use Rattle.ckpt_log.specs.Names.{◌≡◌, ℕ, ◌+◌, ◌<◌, List, Entry, CheckpointHeader, Image, place_length, HasDirectory}
+use Rattle.ckpt_log.specs.Names.{frame_in, frame_sector, directory_sector, directory_length, SavedState, Encodes}
+use Rattle.ckpt_log.specs.Names.{committed_slot, committed_bytes, Plan}
 
 -- the same bytes in n sectors from one on
 abbrev pub SameFrom : ℕ → ℕ → Image → Image → Type 0

@@ -1,6 +1,6 @@
 -- What the slots of the log and its directories hold.
-use Rattle.ckpt_log.specs.Names.{◌≡◌, ℕ, List, ⊤, Frame, Geometry, BadDirectory, Entry, directory_bytes, IsDirectory, IsFrameOf, frame_bytes, ReadFault, Failed}
-use Rattle.ckpt_log.specs.Names.{Bad, IsRefused}
+use Rattle.ckpt_log.specs.Names.{◌≡◌, ℕ, List, ⊤, Frame, Geometry, BadDirectory, Entry, directory_bytes, IsDirectory}
+use Rattle.ckpt_log.specs.Names.{IsFrameOf, frame_bytes, ReadFault, Failed, Bad, IsRefused}
 
 -- bytes are refused where they spell no directory
 abbrev pub IsBadDirectory : Geometry → List ℕ → ReadFault → Type 0

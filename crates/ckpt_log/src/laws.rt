@@ -1,7 +1,9 @@
 // The laws of the log: they do nothing, and their contracts are the laws.
 ghost use Rattle.ckpt_log.specs.CommitLaws.{FramesAreBehind, NewIsDenoted, OldIsDenoted};
-ghost use Rattle.ckpt_log.specs.HeaderLaws.{SequencesAreReported, NextFollows, HeadersSpareSectors, HeadersSpareFrames, HeadersSpareSlots, HeadersSpareDirectories};
-ghost use Rattle.ckpt_log.specs.Places.{SlotsAreInside, FramesAreInSlots, DirectoriesAreInside, HalvesAreWithin, HalvesAreApart, SlotsAreApart, SlotsSpareDirectories};
+ghost use Rattle.ckpt_log.specs.HeaderLaws.{SequencesAreReported, NextFollows, HeadersSpareSectors, HeadersSpareFrames};
+ghost use Rattle.ckpt_log.specs.HeaderLaws.{HeadersSpareSlots, HeadersSpareDirectories};
+ghost use Rattle.ckpt_log.specs.Places.{SlotsAreInside, FramesAreInSlots, DirectoriesAreInside, HalvesAreWithin};
+ghost use Rattle.ckpt_log.specs.Places.{HalvesAreApart, SlotsAreApart, SlotsSpareDirectories};
 ghost use Rattle.ckpt_log.specs.SavedSectors.{SameHeader, SameDirectory, SameFrames, SameSaved};
 ghost use Rattle.ckpt_log.specs.Slot.{SlotsAreReadBack, DirectoriesAreReadBack};
 

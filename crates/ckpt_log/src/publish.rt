@@ -5,7 +5,8 @@ ghost use Rattle.layout.specs.Header.{header_bytes, IsHeader};
 ghost use Rattle.layout.specs.declared.gate.Gate.TheVariants.{Open};
 ghost use Rattle.device.specs.Calls.{Agrees, Elsewhere, Only, Counts};
 ghost use Rattle.device.specs.Moments.{LeavesOnly};
-ghost use Rattle.ckpt_log.specs.Commit.{header_sector, gate_sector, closed_gate, IsInOrder, IsInOrderAfter, CommitsOne, Precedes, KeepsHeader, HasNew, IsOldOrNew, IsOld};
+ghost use Rattle.ckpt_log.specs.Commit.{header_sector, gate_sector, closed_gate, IsInOrder, IsInOrderAfter, CommitsOne};
+ghost use Rattle.ckpt_log.specs.Commit.{Precedes, KeepsHeader, HasNew, IsOldOrNew, IsOld};
 
 use crate::header_slot::HeaderSlot;
 use crate::log::Log;

@@ -1,5 +1,6 @@
 -- What the rows of a subcommand say of its arguments.
-use Rattle.std.specs.Prelude.{◌≡◌, ◌&&◌, ℕ, Bool, true, false, not, nat_lt, List, Option, Some, None, length, find, codes, map}
+use Rattle.std.specs.Prelude.{◌≡◌, ◌&&◌, ℕ, Bool, true, false, not, nat_lt, List, Option, Some, None, length, find}
+use Rattle.std.specs.Prelude.{codes, map}
 use Rattle.std.specs.List.{All, list_all}
 use Rattle.std.specs.Borrow.{Bor}
 use Rattle.std.specs.Option.{option_map_or}

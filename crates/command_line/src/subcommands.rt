@@ -1,8 +1,10 @@
 // The command that clap takes the words by.
 ghost use Rattle.std.specs.Prelude.{◌≡◌, IfOk, false};
 ghost use Rattle.clap.specs.Words.{App, app_of, rule_of, with_subcommand};
-ghost use Rattle.command_line.specs.Commands.{IsCommand, bare_app, build_app, cache_rule, changing_app, check_app, checking_app};
-ghost use Rattle.command_line.specs.Commands.{describe_app, draw_app, eros_app, file_rule, reading_app, run_app, run_files_app, upgrade_app};
+ghost use Rattle.command_line.specs.Commands.{IsCommand, bare_app, build_app, cache_rule, changing_app, check_app};
+ghost use Rattle.command_line.specs.Commands.{checking_app};
+ghost use Rattle.command_line.specs.Commands.{describe_app, draw_app, eros_app, file_rule, reading_app, run_app};
+ghost use Rattle.command_line.specs.Commands.{run_files_app, upgrade_app};
 ghost use Rattle.command_line.specs.Commands.{number_rule, processes_rule, reach_app};
 ghost use Rattle.command_line.specs.Commands.{explain_app, info_app};
 ghost use Rattle.command_line.specs.Commands.{flag_rule, shell_app};

@@ -6,7 +6,8 @@ use Rattle.consistency.proofs.Names.{conveyed, current_count, frame_at, headers,
 use Rattle.consistency.proofs.Names.{caps_in, map_content, IsSpace, MayBeHeld, object_count, annex_at, IsFilled, IsFramed, IsHeld, Waits, held_from, held_void}
 use Rattle.consistency.proofs.Names.{nearly_to, HaveTheirRoles, keepable_roles, AreBanked, AreWholeProcesses, IsNamed, ConsistentIsSound, kind_map}
 use Rattle.model.specs.declared.object.Content.TheVariants as content
-use Rattle.consistency.proofs.Standing.{annex_role, bank_role, content_is, free_role, length_is, limit_is, names_kind, owner_is, process_of, role_annex, role_bank, role_free, root_of}
+use Rattle.consistency.proofs.Standing.{annex_role, bank_role, content_is, free_role, length_is, limit_is, names_kind, owner_is, process_of, role_annex}
+use Rattle.consistency.proofs.Standing.{role_bank, role_free, root_of}
 
 -- what follows of a capability that is kept
 follows_formed : (g : Geometry) (age count : ℕ) (c : Capability) → Follows g age count c → IsWellFormed c

@@ -6,7 +6,8 @@ use Rattle.consistency.proofs.Names.{content_at, owner_at, HaveTheirRoles, keepa
 use Rattle.consistency.proofs.Names.{AreWholeProcesses, IsNamed, role_at, InconsistentIsUnsound}
 use Rattle.model.specs.declared.object.Content.TheVariants as content
 use Rattle.model.specs.declared.object.Role.TheVariants as role
-use Rattle.consistency.proofs.Standing.{annex_role, bank_role, content_is, free_role, limit_is, names_role, owner_is, process_of, role_annex, role_bank, root_of}
+use Rattle.consistency.proofs.Standing.{annex_role, bank_role, content_is, free_role, limit_is, names_role, owner_is, process_of, role_annex, role_bank}
+use Rattle.consistency.proofs.Standing.{root_of}
 
 -- a live capability conveys what it is
 live_conveyed : (hs : List ObjectHeader) (c : Cap) → c.count ≡ current_count hs c.what → conveyed hs c ≡ c.what

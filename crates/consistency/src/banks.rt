@@ -5,7 +5,8 @@ ghost use Rattle.model.specs.Bank.{chain};
 ghost use Rattle.model.specs.Frame.{objects_of};
 ghost use Rattle.model.specs.Keepable.{AreKeepable};
 ghost use Rattle.capability.specs.Parts.{OnlyReads, frames_of};
-ghost use Rattle.consistency.specs.Consistency.{AreBanked, AreLimited, AreOwned, IsAboveLimit, IsUnbanked, owner_of, role_at};
+ghost use Rattle.consistency.specs.Consistency.{AreBanked, AreLimited, AreOwned, IsAboveLimit, IsUnbanked, owner_of};
+ghost use Rattle.consistency.specs.Consistency.{role_at};
 
 use crate::reason::Unbanked;
 use crate::table::{has_role, owner};

@@ -16,12 +16,13 @@ pub use Rattle.model.specs.Object.{role_of}
 pub use Rattle.model.specs.Sound.{IsSpace, object_count}
 pub use Rattle.model.specs.declared.capability.Cap.{Cap}
 pub use Rattle.model.specs.declared.capability.Capability.{Capability}
-pub use Rattle.model.specs.declared.capability.Capability.TheVariants.{Bank, Discrim, Node, Number, Page, Process, Resume, Space, Start, Void}
+pub use Rattle.model.specs.declared.capability.Capability.TheVariants.{Bank, Discrim, Node, Number, Page, Process}
+pub use Rattle.model.specs.declared.capability.Capability.TheVariants.{Resume, Space, Start, Void}
 pub use Rattle.model.specs.declared.frame.Frame.{Frame}
 pub use Rattle.model.specs.declared.geometry.Geometry.{Geometry}
 pub use Rattle.model.specs.declared.object.Content.{Content}
 pub use Rattle.model.specs.declared.object.State.{State}
 pub use Rattle.model.specs.declared.object.State.TheVariants.{Available}
 pub use Rattle.std.specs.List.{All, Contains}
-pub use Rattle.std.specs.Prelude.{List, None, Option, Some, [], if◌then◌else◌, length, map, replicate, slice_get, slice_set, unwrap_or, vec_len, ℕ, ◌++◌, ◌<◌}
-pub use Rattle.std.specs.Prelude.{◌==◌, ◌^◌, ◌∷◌, ◌≡◌, ◌≢◌, ◌≤◌}
+pub use Rattle.std.specs.Prelude.{List, None, Option, Some, [], if◌then◌else◌, length, map, replicate, slice_get}
+pub use Rattle.std.specs.Prelude.{slice_set, unwrap_or, vec_len, ℕ, ◌++◌, ◌<◌, ◌==◌, ◌^◌, ◌∷◌, ◌≡◌, ◌≢◌, ◌≤◌}

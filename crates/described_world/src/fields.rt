@@ -2,7 +2,8 @@
 ghost use Rattle.std.specs.Prelude.{◌≡◌, ◌<◌, ◌↔◌, map, IsTrue};
 ghost use Rattle.std.specs.List.{Any};
 ghost use Rattle.model.specs.Capability.{IsWellFormed};
-ghost use Rattle.described_world.specs.Described.{AreDistinct, AreSlots, AreWords, HasFields, IsSomeCapability, IsProcessEntry, IsSpaceEntry};
+ghost use Rattle.described_world.specs.Described.{AreDistinct, AreSlots, AreWords, HasFields, IsSomeCapability};
+ghost use Rattle.described_world.specs.Described.{IsProcessEntry, IsSpaceEntry};
 
 use description::{Description, ProcessEntry, SlotEntry, WordEntry};
 use model::{Capability, MAX_HEIGHT, SLOTS, WORDS};

@@ -1,8 +1,10 @@
 -- What the functions that look for a place answer.
-use Rattle.description_faults.specs.Names.{◌≡◌, ℕ, ◌+◌, ◌^◌, ◌≤◌, Bool, true, false, List, length, map, slice_get, Option, None, Some, Result, Ok, Err}
-use Rattle.description_faults.specs.Names.{IsSomeAnd, alloc_error, AllocError, All, Capability, IsSpaceEntry, node_numbers, Data, Items, Members, array}
-use Rattle.description_faults.specs.Names.{get_item, get_member, BankEntry, Description, NodeEntry, PageEntry, ProcessEntry, SlotEntry, DescriptionFault, Shape}
-use Rattle.description_faults.specs.Names.{NoMemory, IsBank, IsDescription, IsNode, IsPage, IsProcess, IsTable}
+use Rattle.description_faults.specs.Names.{◌≡◌, ℕ, ◌+◌, ◌^◌, ◌≤◌, Bool, true, false, List, length, map, slice_get}
+use Rattle.description_faults.specs.Names.{Option, None, Some, Result, Ok, Err, IsSomeAnd, alloc_error, AllocError, All}
+use Rattle.description_faults.specs.Names.{Capability, IsSpaceEntry, node_numbers, Data, Items, Members, array}
+use Rattle.description_faults.specs.Names.{get_item, get_member, BankEntry, Description, NodeEntry, PageEntry}
+use Rattle.description_faults.specs.Names.{ProcessEntry, SlotEntry, DescriptionFault, Shape, NoMemory, IsBank}
+use Rattle.description_faults.specs.Names.{IsDescription, IsNode, IsPage, IsProcess, IsTable}
 use Rattle.description_faults.specs.declared.key.Key.{Key}
 use Rattle.description_faults.specs.declared.key.Key.TheVariants.{Banks, Processes, NodeList, PageList}
 use Rattle.description_faults.specs.declared.place.TableName.{TableName}

@@ -1,10 +1,18 @@
 -- Where a table hasn't the shape of a description.
-use Rattle.description_faults.specs.Names.{◌≡◌, ℕ, Bool, true, false, List, [], ◌∷◌, Option, None, Some, map, codes, Vec, IsSomeAnd, IsTrue, Contains, list_any}
-use Rattle.description_faults.specs.Names.{Global, NumberRange, Capability, Void, State, Data, Items, Members, array, table, get_item, get_member, same_key}
-use Rattle.description_faults.specs.Names.{BankEntry, NodeEntry, PageEntry, ProcessEntry, SlotEntry, WordEntry, AreFour, At, AtOr, IsBank, IsCapability, IsList}
-use Rattle.description_faults.specs.Names.{IsNode, IsNumber, IsPage, IsProcess, IsRange, IsSlot, IsState, IsTable, IsWideNumber, IsWord, has_key}
+use Rattle.description_faults.specs.Names.{◌≡◌, ℕ, Bool, true, false, List, [], ◌∷◌, Option, None, Some, map, codes}
+use Rattle.description_faults.specs.Names.{Vec, IsSomeAnd, IsTrue, Contains, list_any, Global, NumberRange, Capability}
+use Rattle.description_faults.specs.Names.{Void, State, Data, Items, Members, array, table, get_item, get_member}
+use Rattle.description_faults.specs.Names.{same_key, BankEntry, NodeEntry, PageEntry, ProcessEntry, SlotEntry}
+use Rattle.description_faults.specs.Names.{WordEntry, AreFour, At, AtOr, IsBank, IsCapability, IsList, IsNode, IsNumber}
+use Rattle.description_faults.specs.Names.{IsPage, IsProcess, IsRange, IsSlot, IsState, IsTable, IsWideNumber, IsWord}
+use Rattle.description_faults.specs.Names.{has_key}
 use Rattle.description_faults.specs.declared.key.Key.{Key}
-use Rattle.description_faults.specs.declared.key.Key.TheVariants.{Nodes, Pages, Log, Layout, Age, Ranges, Banks, Processes, NodeList, PageList, BankNumber, BankOwner, BankLimit, ProcessRoot, ProcessAnnex, ProcessOwner, ProcessState, ProcessKey, ProcessWords, ProcessSpace, ProcessRegisters, NodeNumber, NodeOwner, NodeSlots, PageNumber, PageOwner, PageWords}
+use Rattle.description_faults.specs.declared.key.Key.TheVariants.{Nodes, Pages, Log, Layout, Age, Ranges, Banks}
+use Rattle.description_faults.specs.declared.key.Key.TheVariants.{Processes, NodeList, PageList, BankNumber, BankOwner}
+use Rattle.description_faults.specs.declared.key.Key.TheVariants.{BankLimit, ProcessRoot, ProcessAnnex, ProcessOwner}
+use Rattle.description_faults.specs.declared.key.Key.TheVariants.{ProcessState, ProcessKey, ProcessWords, ProcessSpace}
+use Rattle.description_faults.specs.declared.key.Key.TheVariants.{ProcessRegisters, NodeNumber, NodeOwner, NodeSlots}
+use Rattle.description_faults.specs.declared.key.Key.TheVariants.{PageNumber, PageOwner, PageWords}
 use Rattle.description_faults.specs.declared.place.Flaw.{Flaw}
 use Rattle.description_faults.specs.declared.place.Flaw.TheVariants.{Unknown, Misfit, Item}
 use Rattle.description_faults.specs.declared.place.ShapePlace.{ShapePlace}

@@ -1,5 +1,6 @@
 // Where a table hasn't the shape of a description.
-ghost use Rattle.std.specs.Prelude.{◌≡◌, ◌≢◌, ◌↔◌, ℕ, None, Some, Vec, false, map, IfNone, IfOk, IfSome, IsTrue, MatchOption};
+ghost use Rattle.std.specs.Prelude.{◌≡◌, ◌≢◌, ◌↔◌, ℕ, None, Some, Vec, false, map, IfNone, IfOk, IfSome, IsTrue};
+ghost use Rattle.std.specs.Prelude.{MatchOption};
 ghost use Rattle.std.specs.List.{All, Contains, list_any};
 ghost use Rattle.std.specs.declared.alloc.Global.{Global};
 ghost use Rattle.toml.specs.Data.{Items, Members, array, get_member, same_key};
@@ -7,7 +8,8 @@ ghost use Rattle.toml.specs.View.{table_view, view};
 ghost use Rattle.description.specs.Reading.{IsDescription, IsList, has_key, has_only};
 ghost use Rattle.description.specs.declared.entry.Description.{Description};
 ghost use Rattle.description_faults.specs.Outcomes.{HasBadItem, HasItemAs, IsBadAt, IsFlawAt, IsTableOf, IsWholeItem};
-ghost use Rattle.description_faults.specs.Shapes.{BreaksShape, Fits, HasItem, HasList, IsFlaw, IsUnlisted, key_name, keys_of, object_at};
+ghost use Rattle.description_faults.specs.Shapes.{BreaksShape, Fits, HasItem, HasList, IsFlaw, IsUnlisted, key_name};
+ghost use Rattle.description_faults.specs.Shapes.{keys_of, object_at};
 
 use crate::decided::{decided, has_number, may_have_list, may_have_number};
 use crate::key::Key;

@@ -8,7 +8,8 @@ ghost use Rattle.capability.specs.Plain.{parts_of};
 ghost use Rattle.consistency.specs.Consistency.{NamesItsRole};
 ghost use Rattle.consistency.specs.Noted.{AreNoted};
 ghost use Rattle.described_world.specs.Laid.{IsTarget};
-ghost use Rattle.description_faults.specs.Outcomes.{AllHave, AllIn, AllOfProcess, IfNamed, OneLacks, OneOf, OneOfNodes, OneOfProcess, OneOfProcesses, LacksIt};
+ghost use Rattle.description_faults.specs.Outcomes.{AllHave, AllIn, AllOfProcess, IfNamed, OneLacks, OneOf, OneOfNodes};
+ghost use Rattle.description_faults.specs.Outcomes.{OneOfProcess, OneOfProcesses, LacksIt};
 
 use crate::place::Held;
 use capability::Plain;

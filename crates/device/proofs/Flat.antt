@@ -1,6 +1,8 @@
 -- Sectors kept in one list of bytes.
-use Rattle.std.proofs.Common.{◌≡◌, ◌<◌, ◌≤◌, ℕ, ◌+◌, ◌*◌, ◌-◌, ◌%◌, List, [], ◌++◌, length, take, drop, replicate, sym, ◌∙◌, ap, subst, arith, length-drop, take-append-drop}
-use Rattle.std.proofs.lemmas.List.{drop-append-le, take-append-le, take_all, drop_all, length-take-le, drop-take, drop-drop, take-take, drop-replicate, take-replicate}
+use Rattle.std.proofs.Common.{◌≡◌, ◌<◌, ◌≤◌, ℕ, ◌+◌, ◌*◌, ◌-◌, ◌%◌, List, [], ◌++◌, length, take, drop, replicate, sym, ◌∙◌, ap, subst, arith, length-drop}
+use Rattle.std.proofs.Common.{take-append-drop}
+use Rattle.std.proofs.lemmas.List.{drop-append-le, take-append-le, take_all, drop_all, length-take-le, drop-take, drop-drop, take-take, drop-replicate}
+use Rattle.std.proofs.lemmas.List.{take-replicate}
 use Rattle.std.proofs.lemmas.Slice.{drop-put_mid}
 use Rattle.std.proofs.Math.Seq.{drop-append-add}
 use borrow.Rule.Slice.PartMut.{put_mid}

@@ -1,5 +1,6 @@
 -- What one call does to a device.
-use Rattle.std.specs.Prelude.{◌≡◌, ◌<◌, ◌≤◌, ◌↔◌, ℕ, ◌+◌, ◌*◌, ◌/◌, Bool, true, false, List, length, take, drop, Result, IsErr}
+use Rattle.std.specs.Prelude.{◌≡◌, ◌<◌, ◌≤◌, ◌↔◌, ℕ, ◌+◌, ◌*◌, ◌/◌, Bool, true, false, List, length, take, drop, Result}
+use Rattle.std.specs.Prelude.{IsErr}
 use Rattle.device.specs.Disk.{Image, Disk}
 
 -- the same bytes in each sector

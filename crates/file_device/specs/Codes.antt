@@ -1,5 +1,6 @@
 -- How the logic stores an event of a device.
-use Rattle.file_device.specs.Names.{◌≡◌, ℕ, zero, suc, List, [], Coded, code_by, coded×, coded_ℕ, coded_list, Keep, Drop, Fill, Event, wrote, synced, cut}
+use Rattle.file_device.specs.Names.{◌≡◌, ℕ, zero, suc, List, [], Coded, code_by, coded×, coded_ℕ, coded_list, Keep}
+use Rattle.file_device.specs.Names.{Drop, Fill, Event, wrote, synced, cut}
 use Rattle.std.specs.Prelude.{refl}
 
 -- which event, a number and bytes

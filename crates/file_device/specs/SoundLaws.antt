@@ -1,6 +1,7 @@
 -- What follows for the sectors of a file from what holds of its copy.
-use Rattle.file_device.specs.Names.{◌≡◌, ℕ, Bool, true, false, ◌||◌, ◌==◌, if◌then◌else◌, List, [], ◌∷◌, refl, ap, ◌∙◌, subst, fun_ext, Image, IsWhole}
-use Rattle.file_device.specs.Names.{image_of, Event, wrote, synced, cut, State, at_first, after, replay, MayLeave, image_whole}
+use Rattle.file_device.specs.Names.{◌≡◌, ℕ, Bool, true, false, ◌||◌, ◌==◌, if◌then◌else◌, List, [], ◌∷◌, refl, ap, ◌∙◌}
+use Rattle.file_device.specs.Names.{subst, fun_ext, Image, IsWhole, image_of, Event, wrote, synced, cut, State}
+use Rattle.file_device.specs.Names.{at_first, after, replay, MayLeave, image_whole}
 use Rattle.file_device.specs.Sound.{IsCopy, now_of}
 
 -- what wasn't written since the last sync or power cut is durable

@@ -1,5 +1,6 @@
 // A file in which a device can be opened or made, call by call.
-ghost use Rattle.std.specs.Prelude.{◌≡◌, ◌↔◌, ℕ, List, [], ◌∷◌, Option, None, take, length, IfOk, IfSome, IsOk, IsErrOf, OnOk, OnErr};
+ghost use Rattle.std.specs.Prelude.{◌≡◌, ◌↔◌, ℕ, List, [], ◌∷◌, Option, None, take, length, IfOk, IfSome, IsOk};
+ghost use Rattle.std.specs.Prelude.{IsErrOf, OnOk, OnErr};
 ghost use Rattle.std.specs.Io.{ReadsAtMost};
 ghost use Rattle.file_device.specs.OpeningCalls.{OpeningCall, opened, locked, synced, measured, got, resized, listed};
 ghost use Rattle.file_device.specs.RawCalls.{Adds};

@@ -2,7 +2,8 @@
 use Rattle.std.specs.Prelude.{List, map, Option, Some}
 use Rattle.file_device.specs.OpeningCalls.{OpeningCall, opened, locked, synced, measured, got, resized, listed}
 use Rattle.file_device_tests.specs.declared.recorded.Made.{Made}
-use Rattle.file_device_tests.specs.declared.recorded.Made.TheVariants.{Opened, Locked, Synced, Measured, Got, Resized, Listed}
+use Rattle.file_device_tests.specs.declared.recorded.Made.TheVariants.{Opened, Locked, Synced, Measured, Got, Resized}
+use Rattle.file_device_tests.specs.declared.recorded.Made.TheVariants.{Listed}
 
 -- a call that was recorded
 abbrev pub call_of : Made → OpeningCall

@@ -1,7 +1,8 @@
 -- Zeros in a cluster.
 use Rattle.std.proofs.Common.{◌≡◌, ℕ, ◌+◌, ◌-◌, ◌*◌, ◌<◌, ◌≤◌, Result, Ok, Err, List, ◌++◌, length, get_or, take, drop, sym, ap, subst, ◌∙◌, arith}
 use Rattle.std.specs.Prelude.{⊤, OnOk, replicate}
-use Rattle.std.proofs.lemmas.List.{append-nil, drop-replicate, drop-take, drop_all, drop_at, get_or-replicate, length-drop, length-replicate, length-take-le, same_lists, take-replicate, take_rest, replicate-append-replicate}
+use Rattle.std.proofs.lemmas.List.{append-nil, drop-replicate, drop-take, drop_all, drop_at, get_or-replicate, length-drop, length-replicate, length-take-le}
+use Rattle.std.proofs.lemmas.List.{same_lists, take-replicate, take_rest, replicate-append-replicate}
 use Rattle.std.proofs.lemmas.Slice.{take-put_mid_below}
 use borrow.Rule.Slice.PartMut.{put_mid}
 use Rattle.device.specs.Disk.{Image}

@@ -20,7 +20,8 @@ pub use Rattle.model.specs.Sound.{IsSpace}
 pub use Rattle.model.specs.World.{annex_at, content_at, is_process, is_running_process, register_at}
 unfoldable pub use Rattle.model.specs.World.{with_state}
 pub use Rattle.model.specs.declared.capability.Capability.{Capability}
-pub use Rattle.model.specs.declared.capability.Capability.TheVariants.{Node, Number, Page, Process, Resume, Space, Start, Void}
+pub use Rattle.model.specs.declared.capability.Capability.TheVariants.{Node, Number, Page, Process, Resume, Space}
+pub use Rattle.model.specs.declared.capability.Capability.TheVariants.{Start, Void}
 pub use Rattle.model.specs.declared.command.Invocation.{Invocation}
 pub use Rattle.model.specs.declared.command.Operation.{Operation}
 pub use Rattle.model.specs.declared.command.Operation.TheVariants.{Call, Return, Send}
@@ -35,5 +36,6 @@ pub use Rattle.space_bank.specs.Allocating.{numbers_of}
 pub use Rattle.space_bank.specs.Carrying.{MayMake}
 pub use Rattle.space_bank.specs.Planning.{writer_count, writers}
 pub use Rattle.std.specs.List.{All}
-pub use Rattle.std.specs.Prelude.{Bool, Err, IfOk, IsErrOf, IsTrue, List, None, Ok, OnErr, OnOk, Option, Result, Some, [], drop, false, if◌then◌else◌, length}
-pub use Rattle.std.specs.Prelude.{slice_index, slice_index_or, slice_set, true, ℕ, ◌++◌, ◌+◌, ◌<◌, ◌^◌, ◌↔◌, ◌∷◌, ◌≡◌, ◌≤◌, ◌⊎◌}
+pub use Rattle.std.specs.Prelude.{Bool, Err, IfOk, IsErrOf, IsTrue, List, None, Ok, OnErr, OnOk, Option, Result, Some}
+pub use Rattle.std.specs.Prelude.{[], drop, false, if◌then◌else◌, length, slice_index, slice_index_or, slice_set, true}
+pub use Rattle.std.specs.Prelude.{ℕ, ◌++◌, ◌+◌, ◌<◌, ◌^◌, ◌↔◌, ◌∷◌, ◌≡◌, ◌≤◌, ◌⊎◌}

@@ -1,7 +1,9 @@
 -- An invocation of a kernel object over a store of present frames: its plan, its change, its reply.
-use Rattle.gate.specs.Names.{◌≡◌, ℕ, ◌<◌, ◌++◌, true, List, drop, length, if◌then◌else◌, slice_index, slice_index_or, All, Capability, Void, Invocation}
-use Rattle.gate.specs.Names.{Operation, Call, Return, Geometry, Object, Available, Arguments, deliver, sent_by, order, annex_at, is_process, is_running_process}
-use Rattle.gate.specs.Names.{with_state, IsNow, SameFrame, Caller, OrderPlan, Reply, changed, message_of, outcome_by, Parts, Renews, writer_count, writers}
+use Rattle.gate.specs.Names.{◌≡◌, ℕ, ◌<◌, ◌++◌, true, List, drop, length, if◌then◌else◌, slice_index, slice_index_or}
+use Rattle.gate.specs.Names.{All, Capability, Void, Invocation, Operation, Call, Return, Geometry, Object, Available}
+use Rattle.gate.specs.Names.{Arguments, deliver, sent_by, order, annex_at, is_process, is_running_process, with_state}
+use Rattle.gate.specs.Names.{IsNow, SameFrame, Caller, OrderPlan, Reply, changed, message_of, outcome_by, Parts, Renews}
+use Rattle.gate.specs.Names.{writer_count, writers}
 use Rattle.gate.specs.Plan.{MayChange}
 
 -- the arguments that an invocation gives its order

@@ -9,7 +9,8 @@ ghost use Rattle.model.specs.World.{annex_at, is_process, is_running_process};
 ghost use Rattle.capability.specs.Parts.{AreSound, KeepsRest, frames_of, objects_in, Prepares};
 ghost use Rattle.std.specs.List.{All};
 ghost use Rattle.space_bank.specs.Banks.{AreCounted};
-ghost use Rattle.gate.specs.Invoke.{entered, gate_capability, received, written_through, IsRequested, IsKernelObject, Invoked};
+ghost use Rattle.gate.specs.Invoke.{entered, gate_capability, received, written_through, IsRequested, IsKernelObject};
+ghost use Rattle.gate.specs.Invoke.{Invoked};
 ghost use Rattle.gate.specs.Plan.{FitsCap};
 
 use crate::delivery::deliver;

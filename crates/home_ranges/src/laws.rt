@@ -1,5 +1,6 @@
 // The laws of home places.
-ghost use Rattle.home_ranges.specs.Laws.{PlacesAreWithin, PlacesAreApart, NumbersAreApart, PlacesSpareLog, FramesStay, FramesAreHome};
+ghost use Rattle.home_ranges.specs.Laws.{PlacesAreWithin, PlacesAreApart, NumbersAreApart, PlacesSpareLog, FramesStay};
+ghost use Rattle.home_ranges.specs.Laws.{FramesAreHome};
 
 /// Homes lie behind the headers and before the end, apart from one another and from the log, and a
 /// change apart from one leaves its frame. They are the frames of the objects that no slot of the

@@ -1,9 +1,12 @@
 -- What `build` answers, and what the device then holds.
-use Rattle.image_builder.specs.Names.{◌≡◌, ◌⊎◌, ℕ, ◌^◌, ◌<◌, ◌≤◌, ◌==◌, if◌then◌else◌, List, Members, Frame, IsSoundFrames, Disk, Image, Elsewhere, Encodes}
-use Rattle.image_builder.specs.Names.{Plan, version_number, Version, One, Two, Holds, SavedFrames, MayBeLaid, plan_from, first_saved, first_state, AreBanked}
-use Rattle.image_builder.specs.Names.{AreNamed, Description, IsDescription, HasFields, HasNumbers, IsDescribed}
+use Rattle.image_builder.specs.Names.{◌≡◌, ◌⊎◌, ℕ, ◌^◌, ◌<◌, ◌≤◌, ◌==◌, if◌then◌else◌, List, Members, Frame}
+use Rattle.image_builder.specs.Names.{IsSoundFrames, Disk, Image, Elsewhere, Encodes, Plan, version_number, Version}
+use Rattle.image_builder.specs.Names.{One, Two, Holds, SavedFrames, MayBeLaid, plan_from, first_saved, first_state}
+use Rattle.image_builder.specs.Names.{AreBanked, AreNamed, Description, IsDescription, HasFields, HasNumbers}
+use Rattle.image_builder.specs.Names.{IsDescribed}
 use Rattle.image_builder.specs.declared.fault.BuildFault.{BuildFault}
-use Rattle.image_builder.specs.declared.fault.BuildFault.TheVariants.{Shape, Limits, Number, Field, Target, Owner, Small, Failed, NoMemory}
+use Rattle.image_builder.specs.declared.fault.BuildFault.TheVariants.{Shape, Limits, Number, Field, Target, Owner}
+use Rattle.image_builder.specs.declared.fault.BuildFault.TheVariants.{Small, Failed, NoMemory}
 
 -- the number of a fault: the least of those that hold is answered
 abbrev pub fault_number : BuildFault → ℕ

@@ -1,6 +1,7 @@
 -- What is known of a description on the way to its image.
-use Rattle.image_builder.specs.Names.{◌≡◌, ◌≢◌, ◌⊎◌, ℕ, List, length, Cap, Frame, ObjectHeader, Content, frames_in, AreKeepable, IsSoundFrames, object_count}
-use Rattle.image_builder.specs.Names.{Disk, Image, Holds, SavedFrames, Description, HasFields, HasNumbers, IsDescribed}
+use Rattle.image_builder.specs.Names.{◌≡◌, ◌≢◌, ◌⊎◌, ℕ, List, length, Cap, Frame, ObjectHeader, Content, frames_in}
+use Rattle.image_builder.specs.Names.{AreKeepable, IsSoundFrames, object_count, Disk, Image, Holds, SavedFrames}
+use Rattle.image_builder.specs.Names.{Description, HasFields, HasNumbers, IsDescribed}
 use Rattle.image_builder.specs.declared.fault.BuildFault.{BuildFault}
 use Rattle.image_builder.specs.declared.fault.BuildFault.TheVariants.{Failed}
 use Rattle.image_builder.specs.Built.{IsRefused, IsSavedOf}

@@ -17,7 +17,8 @@ ghost use Rattle.migrator.specs.Durable.{saved_state, seen_of};
 ghost use Rattle.model.specs.Frame.{frames_in};
 ghost use Rattle.object_cache.specs.StoreState.{parts_of, saved_by};
 ghost use Rattle.capability.specs.Parts.{frames_of};
-ghost use Rattle.image_builder.specs.Upgraded.{IsLeftUpgrading, IsNotUpgraded, IsOpenedFrom, IsRefusedAsOld, ReadsAndCloses, Upgrades, numbered, upgraded};
+ghost use Rattle.image_builder.specs.Upgraded.{IsLeftUpgrading, IsNotUpgraded, IsOpenedFrom, IsRefusedAsOld};
+ghost use Rattle.image_builder.specs.Upgraded.{ReadsAndCloses, Upgrades, numbered, upgraded};
 
 use crate::closable::ClosableDevice;
 use crate::upgrade_fault::UpgradeFault;

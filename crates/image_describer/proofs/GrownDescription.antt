@@ -9,7 +9,8 @@ use Rattle.image_describer.proofs.Names.{OfPage, OfRoot, described_of, in_range,
 use Rattle.image_describer.proofs.Names.{AreBriefSlots, AreBriefWords, AreRising, IsBrief, plain_frame, plain_frames, IsMovedNode, IsMovedPage, IsMovedProcess}
 use Rattle.image_describer.proofs.Names.{IsRenumbered, NamesNodes, NamesPages, moved, moved_capability, moved_held}
 use Rattle.model.specs.declared.object.Content.TheVariants as content
-use Rattle.image_describer.proofs.GrownWorld.{comes_from, frame_arrived, frame_inside, frame_past, grown_length, grown_objects, node_arrives, origin, page_arrives}
+use Rattle.image_describer.proofs.GrownWorld.{comes_from, frame_arrived, frame_inside, frame_past, grown_length, grown_objects, node_arrives, origin}
+use Rattle.image_describer.proofs.GrownWorld.{page_arrives}
 use Rattle.image_describer.proofs.Moved.{brief_moved, holds_moved, moved_cap, moved_frame, node_stays, page_moves, slots_moved, space_entry_moved}
 use Rattle.image_describer.proofs.Pairs.{zip_all, zip_map}
 use Rattle.image_describer.proofs.Rising.{distinct_both, distinct_other}

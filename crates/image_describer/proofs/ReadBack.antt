@@ -9,8 +9,10 @@ use Rattle.image_describer.proofs.Names.{field_lines, image_fields, node_fields,
 use Rattle.std.specs.List.{AllByRecursion as ByRecursion}
 use Rattle.image_describer.proofs.Chains.{Pair, chain_append, chain_other}
 use Rattle.image_describer.proofs.Filled.{AreRead, IsRead, all_new, all_tables, filled, keyed, list_read, run_list, tables}
-use Rattle.image_describer.proofs.Lines.{AllFields, SpellFields, append_lines, append_printed, are_pairs, lines_of_fields, lines_of_tables, printed_fields, printed_tables}
-use Rattle.image_describer.proofs.Said.{bank_pairs, bank_read, bank_spelled, bare, image_pairs, image_spelled, node_pairs, node_read, node_spelled, page_pairs, page_read, page_spelled, process_pairs, process_read, process_spelled, whole_read}
+use Rattle.image_describer.proofs.Lines.{AllFields, SpellFields, append_lines, append_printed, are_pairs, lines_of_fields, lines_of_tables, printed_fields}
+use Rattle.image_describer.proofs.Lines.{printed_tables}
+use Rattle.image_describer.proofs.Said.{bank_pairs, bank_read, bank_spelled, bare, image_pairs, image_spelled, node_pairs, node_read, node_spelled, page_pairs}
+use Rattle.image_describer.proofs.Said.{page_read, page_spelled, process_pairs, process_read, process_spelled, whole_read}
 use Rattle.image_describer.proofs.Written.{both}
 
 -- ---- the reader of TOML, over any lines

@@ -8,7 +8,9 @@ use Rattle.image_describer.proofs.Names.{node_fields, page_fields, process_field
 use Rattle.image_describer.proofs.Chains.{Chain, Pair, are_apart, chain_at, chain_only}
 use Rattle.image_describer.proofs.Filled.{IsRead}
 use Rattle.image_describer.proofs.Lines.{SpellFields, are_pairs, deeper, spells_number}
-use Rattle.image_describer.proofs.Written.{data_unless, list_data, number_data, ranges_data, says_four, says_number_unless, says_ranges, says_slots, says_space, says_state, says_wide, says_words, slot_data, space_data, spells_four, spells_number_unless, spells_ranges, spells_slots, spells_space, spells_state, spells_wide, spells_words, state_data, wide_data, word_data, words_data}
+use Rattle.image_describer.proofs.Written.{data_unless, list_data, number_data, ranges_data, says_four, says_number_unless, says_ranges, says_slots, says_space}
+use Rattle.image_describer.proofs.Written.{says_state, says_wide, says_words, slot_data, space_data, spells_four, spells_number_unless, spells_ranges}
+use Rattle.image_describer.proofs.Written.{spells_slots, spells_space, spells_state, spells_wide, spells_words, state_data, wide_data, word_data, words_data}
 
 -- what is at a key says what was put there
 said_at : {A : Type 0} (P : Data → A → Type 0) (o : Option Data) (d : Data) (x : A) → o ≡ Some d → P d x → IsSomeAnd o (λ e. P e x)

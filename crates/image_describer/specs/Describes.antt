@@ -1,6 +1,7 @@
 -- What the description of a world is.
-use Rattle.image_describer.specs.Names.{◌≡◌, ◌≢◌, ℕ, ◌<◌, List, [], ◌∷◌, map, length, slice_index_or, unwrap_or, Some, All, Capability, Void, Frame, Geometry}
-use Rattle.image_describer.specs.Names.{Object, map_content, World, fresh_cap, Description, SlotEntry, WordEntry, HasFields, HasNumbers, IsDescribed}
+use Rattle.image_describer.specs.Names.{◌≡◌, ◌≢◌, ℕ, ◌<◌, List, [], ◌∷◌, map, length, slice_index_or, unwrap_or, Some}
+use Rattle.image_describer.specs.Names.{All, Capability, Void, Frame, Geometry, Object, map_content, World, fresh_cap}
+use Rattle.image_describer.specs.Names.{Description, SlotEntry, WordEntry, HasFields, HasNumbers, IsDescribed}
 use Rattle.image_describer.specs.Names.{first_frame, first_named}
 
 -- the frame of an object that was never given up, and none of whose capabilities is stale

@@ -1,8 +1,10 @@
 -- An image of other sizes: nodes keep their numbers, and pages follow the nodes.
-use Rattle.image_describer.specs.Names.{◌≡◌, ◌≢◌, ℕ, ◌+◌, ◌-◌, ◌<◌, ◌≤◌, ◌==◌, ◌&&◌, nat_lt, if◌then◌else◌, false, Option, None, Some, List, map, length}
-use Rattle.image_describer.specs.Names.{unwrap_or, All, AllZip, NumberRange, IsGeometry, Capability, Void, Number, Page, Node, Space, Process, Start, Resume}
-use Rattle.image_describer.specs.Names.{Bank, Discrim, Geometry, Object, free, is_free, map_content, object_count, World, content_at, object_at, Description}
-use Rattle.image_describer.specs.Names.{NodeEntry, PageEntry, ProcessEntry, SlotEntry, whole_ranges}
+use Rattle.image_describer.specs.Names.{◌≡◌, ◌≢◌, ℕ, ◌+◌, ◌-◌, ◌<◌, ◌≤◌, ◌==◌, ◌&&◌, nat_lt, if◌then◌else◌, false}
+use Rattle.image_describer.specs.Names.{Option, None, Some, List, map, length, unwrap_or, All, AllZip, NumberRange}
+use Rattle.image_describer.specs.Names.{IsGeometry, Capability, Void, Number, Page, Node, Space, Process, Start, Resume}
+use Rattle.image_describer.specs.Names.{Bank, Discrim, Geometry, Object, free, is_free, map_content, object_count}
+use Rattle.image_describer.specs.Names.{World, content_at, object_at, Description, NodeEntry, PageEntry, ProcessEntry}
+use Rattle.image_describer.specs.Names.{SlotEntry, whole_ranges}
 use Rattle.image_describer.specs.declared.sizes.GrowthFault.{GrowthFault}
 use Rattle.image_describer.specs.declared.sizes.GrowthFault.TheVariants as fault
 use Rattle.image_describer.specs.declared.sizes.Sizes.{Sizes}

@@ -1,6 +1,7 @@
 -- What a description of a world is laid as, and that it has a text.
-use Rattle.image_describer.specs.Names.{◌≡◌, ℕ, List, map, Some, Frame, Geometry, IsSoundFrames, world_at, IsSound, World, Members, parse_document, IsPlan}
-use Rattle.image_describer.specs.Names.{Plan, version_number, numbers_of, IsDescription, Description, HasFields, IsDescribed, IsWorldFault, WorldFault}
+use Rattle.image_describer.specs.Names.{◌≡◌, ℕ, List, map, Some, Frame, Geometry, IsSoundFrames, world_at, IsSound}
+use Rattle.image_describer.specs.Names.{World, Members, parse_document, IsPlan, Plan, version_number, numbers_of}
+use Rattle.image_describer.specs.Names.{IsDescription, Description, HasFields, IsDescribed, IsWorldFault, WorldFault}
 use Rattle.image_describer.specs.Names.{NoMemory}
 use Rattle.image_describer.specs.Describes.{Describes}
 use Rattle.image_describer.specs.Grown.{IsGrown, IsRenumbered, NamesNodes, NamesPages}

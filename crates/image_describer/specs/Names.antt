@@ -1,6 +1,7 @@
 -- The names of other crates that the definitions here cite.
 pub use Rattle.capability.specs.Plain.{fresh_cap}
-pub use Rattle.described_world.specs.Described.{HasFields, HasNumbers, IsDescribed, IsWorldFault, first_frame, first_named}
+pub use Rattle.described_world.specs.Described.{HasFields, HasNumbers, IsDescribed, IsWorldFault, first_frame}
+pub use Rattle.described_world.specs.Described.{first_named}
 pub use Rattle.described_world.specs.declared.fault.WorldFault.{WorldFault}
 pub use Rattle.described_world.specs.declared.fault.WorldFault.TheVariants.{NoMemory}
 pub use Rattle.description.specs.Reading.{IsDescription, whole_ranges}
@@ -22,14 +23,16 @@ pub use Rattle.model.specs.Text.{line_of, state_text}
 unfoldable pub use Rattle.model.specs.Text.{capability_text}
 pub use Rattle.model.specs.World.{World, content_at, object_at}
 pub use Rattle.model.specs.declared.capability.Capability.{Capability}
-pub use Rattle.model.specs.declared.capability.Capability.TheVariants.{Bank, Discrim, Node, Number, Page, Process, Resume, Space, Start, Void}
+pub use Rattle.model.specs.declared.capability.Capability.TheVariants.{Bank, Discrim, Node, Number, Page, Process}
+pub use Rattle.model.specs.declared.capability.Capability.TheVariants.{Resume, Space, Start, Void}
 pub use Rattle.model.specs.declared.frame.Frame.{Frame}
 pub use Rattle.model.specs.declared.geometry.Geometry.{Geometry}
 pub use Rattle.model.specs.declared.object.Object.{Object}
 pub use Rattle.model.specs.declared.object.Role.{Role}
 pub use Rattle.model.specs.declared.object.State.{State}
 pub use Rattle.std.specs.List.{All, AllZip, Contains, flat_map, join_by, list_all}
-pub use Rattle.std.specs.Prelude.{Bool, IfSome, List, None, Option, Some, [], codes, decimal, false, if◌then◌else◌, length, map, nat_lt, slice_index_or}
-pub use Rattle.std.specs.Prelude.{unwrap_or, ℕ, ◌&&◌, ◌++◌, ◌+◌, ◌-◌, ◌<◌, ◌==◌, ◌^◌, ◌∷◌, ◌≡◌, ◌≢◌, ◌≤◌}
+pub use Rattle.std.specs.Prelude.{Bool, IfSome, List, None, Option, Some, [], codes, decimal, false, if◌then◌else◌}
+pub use Rattle.std.specs.Prelude.{length, map, nat_lt, slice_index_or, unwrap_or, ℕ, ◌&&◌, ◌++◌, ◌+◌, ◌-◌, ◌<◌, ◌==◌}
+pub use Rattle.std.specs.Prelude.{◌^◌, ◌∷◌, ◌≡◌, ◌≢◌, ◌≤◌}
 pub use Rattle.toml.specs.Data.{Members}
 unfoldable pub use Rattle.toml.specs.Parse.{parse_document}

@@ -1,6 +1,7 @@
 -- Which descriptions have a text.
-use Rattle.image_describer.specs.Names.{◌≡◌, ℕ, ◌^◌, ◌<◌, Option, length, IfSome, All, NumberRange, Capability, Geometry, named, BankEntry, Description}
-use Rattle.image_describer.specs.Names.{NodeEntry, PageEntry, ProcessEntry, SlotEntry, WordEntry}
+use Rattle.image_describer.specs.Names.{◌≡◌, ℕ, ◌^◌, ◌<◌, Option, length, IfSome, All, NumberRange, Capability}
+use Rattle.image_describer.specs.Names.{Geometry, named, BankEntry, Description, NodeEntry, PageEntry, ProcessEntry}
+use Rattle.image_describer.specs.Names.{SlotEntry, WordEntry}
 
 -- a number that TOML has, and one of 64 bits
 abbrev pub IsShort : ℕ → Type 0

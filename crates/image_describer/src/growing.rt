@@ -4,7 +4,9 @@ ghost use Rattle.std.specs.List.{All, AllZip};
 ghost use Rattle.layout.specs.Superblock.{IsGeometry};
 ghost use Rattle.model.specs.Sound.{object_count};
 ghost use Rattle.image_writer.specs.Laid.{MayBeLaid};
-ghost use Rattle.image_describer.specs.Grown.{IsMovedNode, IsMovedPage, IsMovedProcess, IsNotRenumbered, IsRenumbered, NamesNodes, NamesPages, grown_ranges, moved, moved_capability, moved_held, moved_slot};
+ghost use Rattle.image_describer.specs.Grown.{IsMovedNode, IsMovedPage, IsMovedProcess, IsNotRenumbered, IsRenumbered};
+ghost use Rattle.image_describer.specs.Grown.{NamesNodes, NamesPages, grown_ranges, moved, moved_capability};
+ghost use Rattle.image_describer.specs.Grown.{moved_held, moved_slot};
 
 use crate::sizes::GrowthFault;
 use description::{Description, NodeEntry, PageEntry, ProcessEntry, SlotEntry};

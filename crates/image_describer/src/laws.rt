@@ -1,6 +1,7 @@
 //! Laws of descriptions of worlds, each the contract of a function that does nothing.
 
-ghost use Rattle.image_describer.specs.Laws.{DescribedHasText, DescribedIsLaid, DescribedIsSame, GrownIsDescribed, GrownToItself, TextIsRead};
+ghost use Rattle.image_describer.specs.Laws.{DescribedHasText, DescribedIsLaid, DescribedIsSame, GrownIsDescribed};
+ghost use Rattle.image_describer.specs.Laws.{GrownToItself, TextIsRead};
 
 /// The frames of a world's description stand for the same world, at its age, and are sound.
 pub fn described_is_same()

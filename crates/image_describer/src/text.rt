@@ -6,7 +6,9 @@ ghost use Rattle.toml.specs.Parse.{parse_document};
 ghost use Rattle.description.specs.Reading.{IsDescription};
 ghost use Rattle.described_world.specs.Described.{AreSlots, HasFields, IsProcessEntry};
 ghost use Rattle.image_describer.specs.Spelled.{CanBeSpelled};
-ghost use Rattle.image_describer.specs.Text.{are_whole, bank_text, description_text, field_line, field_lines, image_fields, is_range, list_text, node_text, page_text, process_text, range_text, unless};
+ghost use Rattle.image_describer.specs.Text.{are_whole, bank_text, description_text, field_line, field_lines};
+ghost use Rattle.image_describer.specs.Text.{image_fields, is_range, list_text, node_text, page_text, process_text};
+ghost use Rattle.image_describer.specs.Text.{range_text, unless};
 
 use crate::fields::{
     put_header, put_list, put_list_unless_empty, put_number, put_number_unless, put_space,

@@ -3,7 +3,8 @@ ghost use Rattle.std.specs.Prelude.{◌≡◌, ℕ, ◌≤◌, List, [], ◌∷�
 ghost use Rattle.std.specs.List.{flat_map};
 ghost use Rattle.model.specs.Text.{spaced};
 ghost use Rattle.script.specs.Writing.{Writes};
-ghost use Rattle.image_drawer.specs.Graph.{arrow_line, bank_box, joined, next_line, node_arrows, node_box, owner_line, page_box, process_arrows, process_box, word_of_state};
+ghost use Rattle.image_drawer.specs.Graph.{arrow_line, bank_box, joined, next_line, node_arrows, node_box, owner_line};
+ghost use Rattle.image_drawer.specs.Graph.{page_box, process_arrows, process_box, word_of_state};
 ghost use Rattle.image_drawer.specs.declared.arrow.Arrow.{Arrow};
 
 use crate::arrow::{Place, draw_arrow};

@@ -1,6 +1,10 @@
 // The line about a fault.
 ghost use Rattle.std.specs.Prelude.{◌≡◌, ◌+◌, ◌++◌, ◌≤◌, length};
-ghost use Rattle.image_explainer.specs.Text.{number_of_reason, fault_text, holder_text, kind_text, misnamed_text, place_text, sectors_text, unbanked_text, unmatched_text, directory_part_text, directory_text, frame_part_text, frame_text, geometry_text, header_part_text, header_text, no_header_text, not_counted_text, numbered, superblock_text};
+ghost use Rattle.image_explainer.specs.Text.{number_of_reason, fault_text, holder_text, kind_text, misnamed_text};
+ghost use Rattle.image_explainer.specs.Text.{place_text, sectors_text, unbanked_text, unmatched_text};
+ghost use Rattle.image_explainer.specs.Text.{directory_part_text, directory_text, frame_part_text, frame_text};
+ghost use Rattle.image_explainer.specs.Text.{geometry_text, header_part_text, header_text, no_header_text};
+ghost use Rattle.image_explainer.specs.Text.{not_counted_text, numbered, superblock_text};
 ghost use Rattle.image_explainer.specs.Breaking.{reason_of};
 ghost use Rattle.sector_faults.specs.Breaking.{sector_reason};
 

@@ -13,7 +13,8 @@ ghost use Rattle.ckpt_log.specs.Closing.{AreClosed};
 ghost use Rattle.model.specs.Frame.{frame_at, frames_in};
 ghost use Rattle.model.specs.Keepable.{AreKeepable};
 ghost use Rattle.model.specs.Sound.{object_count};
-ghost use Rattle.image_writer.specs.Written.{IsBeforeOrNone, IsLeftWriting, IsWritten, LeavesClosed, first_state, first_saved, state_of};
+ghost use Rattle.image_writer.specs.Written.{IsBeforeOrNone, IsLeftWriting, IsWritten, LeavesClosed, first_state};
+ghost use Rattle.image_writer.specs.Written.{first_saved, state_of};
 
 use crate::homes::write_homes;
 use crate::opening_sectors::{open_gate, write_opening_sectors};

@@ -1,6 +1,7 @@
 -- The message of a fault, and the exit status of a command.
-use Rattle.jobs.specs.Names.{◌≡◌, ℕ, List, [], ◌∷◌, ◌++◌, codes, decimal, Option, None, Some, Result, Ok, Err, BadImage, OpenFault, line_of, spaced, BuildFault}
-use Rattle.jobs.specs.Names.{UpgradeFault, fault_number, GrowthFault, Stop, cause_text, RunFault, Writes}
+use Rattle.jobs.specs.Names.{◌≡◌, ℕ, List, [], ◌∷◌, ◌++◌, codes, decimal, Option, None, Some, Result, Ok, Err, BadImage}
+use Rattle.jobs.specs.Names.{OpenFault, line_of, spaced, BuildFault, UpgradeFault, fault_number, GrowthFault, Stop}
+use Rattle.jobs.specs.Names.{cause_text, RunFault, Writes}
 use Rattle.layout.specs.declared.bad_image.BadImage.TheVariants as bad
 use Rattle.checkpoint.specs.declared.open_fault.OpenFault.TheVariants as opening
 use Rattle.image_builder.specs.declared.fault.BuildFault.TheVariants as build

@@ -1,6 +1,7 @@
 -- What is built can be run.
-use Rattle.jobs.specs.Names.{◌≡◌, ℕ, ◌≤◌, List, Some, Members, parse_document, Frame, Geometry, IsSoundFrames, world_at, Saved, World, Image, Version, Plan}
-use Rattle.jobs.specs.Names.{version_number, Holds, SavedFrames, MayBeLaid, first_saved, Denotes, Description, IsDescription, IsAccepted, IsSavedOf, plan_for}
+use Rattle.jobs.specs.Names.{◌≡◌, ℕ, ◌≤◌, List, Some, Members, parse_document, Frame, Geometry, IsSoundFrames, world_at}
+use Rattle.jobs.specs.Names.{Saved, World, Image, Version, Plan, version_number, Holds, SavedFrames, MayBeLaid}
+use Rattle.jobs.specs.Names.{first_saved, Denotes, Description, IsDescription, IsAccepted, IsSavedOf, plan_for}
 use Rattle.jobs.specs.Names.{Describes, IsGrown}
 use Rattle.jobs.specs.Images.{IsTextIn, IsTextOf}
 

@@ -14,7 +14,8 @@ pub use Rattle.image_builder.specs.Upgraded.{IsNotUpgraded, Upgrades}
 pub use Rattle.image_builder.specs.declared.fault.BuildFault.{BuildFault}
 pub use Rattle.image_builder.specs.declared.upgrade_fault.UpgradeFault.{UpgradeFault}
 pub use Rattle.image_describer.specs.Describes.{Describes, IsBrief}
-pub use Rattle.image_describer.specs.Grown.{IsGrown, IsNotRenumbered, IsRenumbered, IsUnsuited, NamesNodes, NamesPages, grown_geometry, grown_ranges}
+pub use Rattle.image_describer.specs.Grown.{IsGrown, IsNotRenumbered, IsRenumbered, IsUnsuited, NamesNodes, NamesPages}
+pub use Rattle.image_describer.specs.Grown.{grown_geometry, grown_ranges}
 unfoldable pub use Rattle.image_describer.specs.Text.{description_text}
 pub use Rattle.image_describer.specs.declared.sizes.GrowthFault.{GrowthFault}
 pub use Rattle.image_describer.specs.declared.sizes.Sizes.{Sizes}
@@ -65,8 +66,9 @@ pub use Rattle.script.specs.Writing.{AppendsFront, Writes}
 pub use Rattle.script.specs.declared.fault.RunFault.{RunFault}
 pub use Rattle.std.specs.Io.KnownBytes.{Appends}
 pub use Rattle.std.specs.List.{All, count_by, find, flat_map}
-pub use Rattle.std.specs.Prelude.{Bool, Err, IsTrue, List, None, Ok, Option, Result, Some, Vec, [], codes, decimal, false, is_some, length, map, not, true, ℕ}
-pub use Rattle.std.specs.Prelude.{◌++◌, ◌<◌, ◌==◌, ◌||◌, ◌↔◌, ◌∷◌, ◌≡◌, ◌≢◌, ◌≤◌}
+pub use Rattle.std.specs.Prelude.{Bool, Err, IsTrue, List, None, Ok, Option, Result, Some, Vec, [], codes, decimal}
+pub use Rattle.std.specs.Prelude.{false, is_some, length, map, not, true, ℕ, ◌++◌, ◌<◌, ◌==◌, ◌||◌, ◌↔◌, ◌∷◌, ◌≡◌, ◌≢◌}
+pub use Rattle.std.specs.Prelude.{◌≤◌}
 pub use Rattle.std.specs.declared.alloc.Global.{Global}
 pub use Rattle.toml.specs.Data.{Members}
 unfoldable pub use Rattle.toml.specs.Parse.{parse_document}

@@ -1,6 +1,7 @@
 -- What the command says of the objects that some processes can ever change.
-use Rattle.jobs.specs.Names.{◌≡◌, ℕ, Bool, not, Option, None, Some, List, Vec, Result, Ok, Err, IsTrue, is_some, Appends, All, find, Global, is_marked, Object}
-use Rattle.jobs.specs.Names.{objects_of, IsSoundFrames, is_process, Disk, Encodes, SavedState, OnlyReads, OpenFault, RefusesToOpen, AppendsFront, Step}
+use Rattle.jobs.specs.Names.{◌≡◌, ℕ, Bool, not, Option, None, Some, List, Vec, Result, Ok, Err, IsTrue, is_some}
+use Rattle.jobs.specs.Names.{Appends, All, find, Global, is_marked, Object, objects_of, IsSoundFrames, is_process, Disk}
+use Rattle.jobs.specs.Names.{Encodes, SavedState, OnlyReads, OpenFault, RefusesToOpen, AppendsFront, Step}
 use Rattle.jobs.specs.Names.{IsShortestIfAny, chain_text, reach_text, BoundsRuns, IsReach}
 use Rattle.checkpoint.specs.declared.open_fault.OpenFault.TheVariants as opening
 use Rattle.jobs.specs.declared.fault.Fault.{Fault}

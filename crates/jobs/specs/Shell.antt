@@ -1,5 +1,6 @@
 -- What a shell tells beside the answers.
-use Rattle.jobs.specs.Names.{◌≡◌, ℕ, ◌||◌, Bool, true, false, List, length, codes, Option, Result, line_of, Piece, Unsaved, RunFault, Writes}
+use Rattle.jobs.specs.Names.{◌≡◌, ℕ, ◌||◌, Bool, true, false, List, length, codes, Option, Result, line_of, Piece}
+use Rattle.jobs.specs.Names.{Unsaved, RunFault, Writes}
 use Rattle.runs.specs.declared.script_pieces.Piece.TheVariants as piece
 
 abbrev pub unsaved_text : List ℕ

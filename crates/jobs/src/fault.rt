@@ -2,7 +2,8 @@
 ghost use Rattle.std.specs.Prelude.{◌≡◌, ◌≤◌, length};
 ghost use Rattle.model.specs.Text.{line_of};
 ghost use Rattle.script.specs.Writing.{Writes};
-ghost use Rattle.jobs.specs.Faults.{HasStop, IsRunEnd, IsReported, build_text, fault_text, open_text, reason_number, sizes_text, status_of, stop_text, upgrade_text};
+ghost use Rattle.jobs.specs.Faults.{HasStop, IsRunEnd, IsReported, build_text, fault_text, open_text, reason_number};
+ghost use Rattle.jobs.specs.Faults.{sizes_text, status_of, stop_text, upgrade_text};
 
 use checkpoint::OpenFault;
 use image_builder::{BuildFault, UpgradeFault};

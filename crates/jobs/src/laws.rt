@@ -1,6 +1,7 @@
 //! Laws of images, each the contract of a function that does nothing.
 
-ghost use Rattle.jobs.specs.Laws.{BuiltIsDenoted, DescribedIsAccepted, DescribedIsDenoted, GrownIsDenoted, UnsizedIsWhole};
+ghost use Rattle.jobs.specs.Laws.{BuiltIsDenoted, DescribedIsAccepted, DescribedIsDenoted, GrownIsDenoted};
+ghost use Rattle.jobs.specs.Laws.{UnsizedIsWhole};
 
 /// What `build_image` leaves on a device, and what each crash leaves of it, can be opened and run: it
 /// denotes the described world, of generation 0 and with nothing in the log.

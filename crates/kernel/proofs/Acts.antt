@@ -16,8 +16,10 @@ use Rattle.kernel.proofs.Performing.{AreSame}
 use Rattle.kernel.proofs.ProcessSteps.{refused_step}
 use Rattle.kernel.proofs.Crashes.{leaves_along, leaves_either, leaves_here, leaves_home}
 use Rattle.kernel.proofs.Renewed.{base_moved, renewed_on}
-use Rattle.kernel.proofs.Stages.{acts_sound, begun_sound, committed_sound, frames_again, frozen_none, frozen_some, moved_sound, next_sound, none_there, same_running, saved_moved, some_left, some_there, stabilized_sound, stays_sound}
-use Rattle.kernel.proofs.Steps.{checkpoint_step, commit_step, evict_refused, evict_step, migrate_step, none_to_commit, none_to_stabilize, not_home, not_stable, running_already, second_of_commit, stabilize_step}
+use Rattle.kernel.proofs.Stages.{acts_sound, begun_sound, committed_sound, frames_again, frozen_none, frozen_some, moved_sound, next_sound, none_there}
+use Rattle.kernel.proofs.Stages.{same_running, saved_moved, some_left, some_there, stabilized_sound, stays_sound}
+use Rattle.kernel.proofs.Steps.{checkpoint_step, commit_step, evict_refused, evict_step, migrate_step, none_to_commit, none_to_stabilize, not_home, not_stable}
+use Rattle.kernel.proofs.Steps.{running_already, second_of_commit, stabilize_step}
 
 -- the same but for the store
 abbrev pub with_store : {S : Type 0} → Live S → S → Live S

@@ -13,7 +13,9 @@ use Rattle.kernel.proofs.Performing.{AreSame}
 use Rattle.kernel.proofs.ProcessSteps.{refused_step}
 use Rattle.kernel.proofs.Acts.{failed, is_up, refused, refused_again, with_store}
 use Rattle.kernel.proofs.Crashes.{leaves_along, leaves_either}
-use Rattle.kernel.proofs.JournalSteps.{journal_no_page, journal_pending, journal_renewed, journal_running, journal_step, journal_unknown, journal_worn, known_now, next_is, now_is, page_now, running_next, saved_is, saved_next, saved_too, second_of_journal, sound_next, together_next}
+use Rattle.kernel.proofs.JournalSteps.{journal_no_page, journal_pending, journal_renewed, journal_running, journal_step, journal_unknown, journal_worn}
+use Rattle.kernel.proofs.JournalSteps.{known_now, next_is, now_is, page_now, running_next, saved_is, saved_next, saved_too, second_of_journal, sound_next}
+use Rattle.kernel.proofs.JournalSteps.{together_next}
 use Rattle.kernel.proofs.Stages.{frozen_none, frozen_some, none_there, same_running, some_there, stays_sound}
 
 -- the same but for the store and the age

@@ -8,9 +8,11 @@ use Rattle.model.specs.declared.answer.Answer.TheVariants as answer
 use Rattle.model.specs.declared.answer.Refusal.TheVariants as refusal
 use Rattle.model.specs.declared.command.Command.TheVariants as command
 use Rattle.capability.specs.declared.present.PrepareFault.TheVariants as prepare
-use Rattle.kernel.proofs.Performing.{AreSame, refused_serves, same_frames, same_renews, same_sound, serves_looked, standing, still_machine, reported_cause, unfailed}
+use Rattle.kernel.proofs.Performing.{AreSame, refused_serves, same_frames, same_renews, same_sound, serves_looked, standing, still_machine, reported_cause}
+use Rattle.kernel.proofs.Performing.{unfailed}
 use Rattle.kernel.proofs.ProcessSteps.{early_fine}
-use Rattle.kernel.proofs.MemorySteps.{load_early, load_step, load_without_memory, loaded_answer, store_early, store_fault_step, store_full_step, store_step, store_without_memory}
+use Rattle.kernel.proofs.MemorySteps.{load_early, load_step, load_without_memory, loaded_answer, store_early, store_fault_step, store_full_step, store_step}
+use Rattle.kernel.proofs.MemorySteps.{store_without_memory}
 
 -- what was only looked at is the same
 pub looked_same : {S : Type 0} (parts : S → Parts) (Continues : S → S → Type 0) (old new : S) → OnlyFetches parts Continues old new → AreSame (parts old) (parts new)

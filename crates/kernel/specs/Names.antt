@@ -28,4 +28,5 @@ pub use Rattle.object_store.specs.declared.journal_fault.JournalFault.{JournalFa
 pub use Rattle.recovery.specs.Denotes.{Denotes, Leaves, LeavesOne}
 pub use Rattle.recovery.specs.Live.{IsUp, disk_at, running}
 pub use Rattle.recovery.specs.declared.live.Live.{Live}
-pub use Rattle.std.specs.Prelude.{Bool, Err, List, None, Ok, Option, Result, Some, [], false, if◌then◌else◌, true, ℕ, ◌++◌, ◌<◌, ◌↔◌, ◌≡◌, ◌≢◌, ◌≤◌, ◌⊎◌}
+pub use Rattle.std.specs.Prelude.{Bool, Err, List, None, Ok, Option, Result, Some, [], false, if◌then◌else◌, true, ℕ}
+pub use Rattle.std.specs.Prelude.{◌++◌, ◌<◌, ◌↔◌, ◌≡◌, ◌≢◌, ◌≤◌, ◌⊎◌}

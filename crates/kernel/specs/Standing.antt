@@ -1,6 +1,7 @@
 -- The machine that a kernel stands for, and how it serves a command.
-use Rattle.kernel.specs.Names.{◌≡◌, ◌↔◌, ◌<◌, ◌≤◌, Option, None, Some, [], ◌++◌, Answer, Refusal, Command, Geometry, ResultCode, Machine, Up, Down, candidates}
-use Rattle.kernel.specs.Names.{Step, second, Disk, Parts, CheckpointFault, Checkpoint, View, Live, Leaves, LeavesOne, IsUp, disk_at, running}
+use Rattle.kernel.specs.Names.{◌≡◌, ◌↔◌, ◌<◌, ◌≤◌, Option, None, Some, [], ◌++◌, Answer, Refusal, Command, Geometry}
+use Rattle.kernel.specs.Names.{ResultCode, Machine, Up, Down, candidates, Step, second, Disk, Parts, CheckpointFault}
+use Rattle.kernel.specs.Names.{Checkpoint, View, Live, Leaves, LeavesOne, IsUp, disk_at, running}
 use Rattle.model.specs.declared.answer.Answer.TheVariants as answer
 use Rattle.model.specs.declared.answer.Refusal.TheVariants as refusal
 use Rattle.model.specs.declared.command.Command.TheVariants as command

@@ -8,7 +8,8 @@ ghost use Rattle.kernel.specs.Machine.{IsUnlooked, NeedsNoLook};
 ghost use Rattle.recovery.specs.Denotes.{Leaves};
 ghost use Rattle.recovery.specs.Recovered.{RefusesToOpen};
 ghost use Rattle.kernel.specs.Power.{power_of};
-ghost use Rattle.kernel.specs.Standing.{HasCode, HasDevice, HasNoneToMove, IsCaused, IsDeviceOf, IsReported, SameDevice, Serves, disk_of};
+ghost use Rattle.kernel.specs.Standing.{HasCode, HasDevice, HasNoneToMove, IsCaused, IsDeviceOf, IsReported};
+ghost use Rattle.kernel.specs.Standing.{SameDevice, Serves, disk_of};
 ghost use Rattle.kernel.specs.Opening.{IsNoReason, IsSomeDown, Opens, Reopened, refused_by};
 
 use crate::processes::Served;

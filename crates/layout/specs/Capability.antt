@@ -1,6 +1,7 @@
 -- Capabilities as bytes.
-use Rattle.layout.specs.Names.{ℕ, ◌+◌, ◌*◌, ◌<◌, ◌==◌, if◌then◌else◌, List, [], ◌∷◌, ◌++◌, Access, Cap, Capability, Void, Number, Page, Node, Space, Process}
-use Rattle.layout.specs.Names.{Start, Resume, Bank, Discrim, tag_of, access_bits}
+use Rattle.layout.specs.Names.{ℕ, ◌+◌, ◌*◌, ◌<◌, ◌==◌, if◌then◌else◌, List, [], ◌∷◌, ◌++◌, Access, Cap, Capability}
+use Rattle.layout.specs.Names.{Void, Number, Page, Node, Space, Process, Start, Resume, Bank, Discrim, tag_of}
+use Rattle.layout.specs.Names.{access_bits}
 use Rattle.layout.specs.Bytes.{number, short_number}
 
 -- the fields of a capability, and 0 for those that it hasn't

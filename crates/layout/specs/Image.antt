@@ -1,6 +1,7 @@
 -- What the sectors of a device denote, as far as frames go.
-use Rattle.layout.specs.Names.{◌≡◌, ◌⊎◌, ℕ, zero, suc, ◌+◌, ◌*◌, ◌/◌, ◌%◌, ◌<◌, ◌≤◌, ◌==◌, nat_lt, ◌&&◌, if◌then◌else◌, Bool, Option, Some, None, List, [], ◌∷◌}
-use Rattle.layout.specs.Names.{◌++◌, length, take, drop, Frame, frame_at, Image}
+use Rattle.layout.specs.Names.{◌≡◌, ◌⊎◌, ℕ, zero, suc, ◌+◌, ◌*◌, ◌/◌, ◌%◌, ◌<◌, ◌≤◌, ◌==◌, nat_lt, ◌&&◌, if◌then◌else◌}
+use Rattle.layout.specs.Names.{Bool, Option, Some, None, List, [], ◌∷◌, ◌++◌, length, take, drop, Frame, frame_at}
+use Rattle.layout.specs.Names.{Image}
 use Rattle.layout.specs.declared.bad_image.BadImage.{BadImage}
 use Rattle.layout.specs.declared.bad_image.BadImage.TheVariants as bad
 use Rattle.layout.specs.declared.directory.Entry.{Entry}

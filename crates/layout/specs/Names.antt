@@ -10,7 +10,8 @@ pub use Rattle.model.specs.Sound.{IsSpace}
 pub use Rattle.model.specs.declared.access.Access.{Access}
 pub use Rattle.model.specs.declared.capability.Cap.{Cap}
 pub use Rattle.model.specs.declared.capability.Capability.{Capability}
-pub use Rattle.model.specs.declared.capability.Capability.TheVariants.{Bank, Discrim, Node, Number, Page, Process, Resume, Space, Start, Void}
+pub use Rattle.model.specs.declared.capability.Capability.TheVariants.{Bank, Discrim, Node, Number, Page, Process}
+pub use Rattle.model.specs.declared.capability.Capability.TheVariants.{Resume, Space, Start, Void}
 pub use Rattle.model.specs.declared.frame.Frame.{Frame}
 pub use Rattle.model.specs.declared.frame.ObjectHeader.{ObjectHeader}
 pub use Rattle.model.specs.declared.geometry.Geometry.{Geometry}
@@ -20,5 +21,6 @@ pub use Rattle.model.specs.declared.object.Root.{Root}
 pub use Rattle.model.specs.declared.object.State.{State}
 pub use Rattle.model.specs.declared.object.State.TheVariants.{Available, Running, Waiting}
 pub use Rattle.std.specs.List.{All, flat_map, range_with_len}
-pub use Rattle.std.specs.Prelude.{Bool, IsTrue, List, None, Option, Some, [], codes, drop, if◌then◌else◌, length, map, nat_le, nat_lt, replicate}
-pub use Rattle.std.specs.Prelude.{slice_index_or, suc, take, zero, ℕ, ◌%◌, ◌&&◌, ◌*◌, ◌++◌, ◌+◌, ◌-◌, ◌/◌, ◌<◌, ◌==◌, ◌^◌, ◌∷◌, ◌≡◌, ◌≤◌, ◌⊎◌}
+pub use Rattle.std.specs.Prelude.{Bool, IsTrue, List, None, Option, Some, [], codes, drop, if◌then◌else◌, length, map}
+pub use Rattle.std.specs.Prelude.{nat_le, nat_lt, replicate, slice_index_or, suc, take, zero, ℕ, ◌%◌, ◌&&◌, ◌*◌, ◌++◌}
+pub use Rattle.std.specs.Prelude.{◌+◌, ◌-◌, ◌/◌, ◌<◌, ◌==◌, ◌^◌, ◌∷◌, ◌≡◌, ◌≤◌, ◌⊎◌}

@@ -1,5 +1,6 @@
 // Laws of the format, stated by functions that do nothing.
-ghost use Rattle.layout.specs.Laws.{SpellOneCapability, SpellOneGate, SpellOneHeader, SpellOneDirectory, SpellOneFrame, SpellOneSuperblock, SpeltIsRead, DenoteOneState};
+ghost use Rattle.layout.specs.Laws.{SpellOneCapability, SpellOneGate, SpellOneHeader, SpellOneDirectory, SpellOneFrame};
+ghost use Rattle.layout.specs.Laws.{SpellOneSuperblock, SpeltIsRead, DenoteOneState};
 
 /// Given bytes spell at most one value of each structure. It does nothing: its contract is the law.
 pub fn spell_one_value()

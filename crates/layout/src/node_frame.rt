@@ -3,7 +3,9 @@ ghost use Rattle.std.specs.Prelude.{◌-◌, ◌≡◌, ◌*◌, ◌<◌, ◌≤
 ghost use Rattle.model.specs.declared.frame.Frame.{Frame};
 ghost use Rattle.model.specs.declared.object.Content.TheVariants as content;
 ghost use Rattle.layout.specs.Bytes.{zeros};
-ghost use Rattle.layout.specs.Frame.{number_held, number_cap, state_in, root_from, body_in, root_slots, slots_of, slots_bytes, content_of, frame_of, node_frame_bytes, FollowsRole, IsBody, IsNodeFrame};
+ghost use Rattle.layout.specs.Frame.{number_held, number_cap, state_in, root_from, body_in, root_slots, slots_of};
+ghost use Rattle.layout.specs.Frame.{slots_bytes, content_of, frame_of, node_frame_bytes, FollowsRole, IsBody};
+ghost use Rattle.layout.specs.Frame.{IsNodeFrame};
 
 use crate::bad_image::BadImage;
 use crate::body::{Body, Scratch};

@@ -5,7 +5,8 @@ ghost use Rattle.model.specs.declared.object.Content.TheVariants as content;
 ghost use Rattle.model.specs.Keepable.{AreKeptWords};
 ghost use Rattle.model.specs.Object.{zero_words};
 ghost use Rattle.layout.specs.Bytes.{zeros};
-ghost use Rattle.layout.specs.Frame.{front_bytes, words_bytes, frame_of, page_frame_bytes, page_body_in, IsPageBody, IsPageFrame};
+ghost use Rattle.layout.specs.Frame.{front_bytes, words_bytes, frame_of, page_frame_bytes, page_body_in, IsPageBody};
+ghost use Rattle.layout.specs.Frame.{IsPageFrame};
 
 use crate::bad_image::BadImage;
 use crate::body::{Body, Scratch};

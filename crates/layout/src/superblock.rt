@@ -1,10 +1,13 @@
 // The superblock: how much a device holds, and where.
-ghost use Rattle.std.specs.Prelude.{◌≡◌, ◌+◌, ◌*◌, ◌-◌, ◌<◌, ◌≤◌, ◌↔◌, length, take, drop, IsTrue, IfOk, IfErr, IfSome, IfNone};
+ghost use Rattle.std.specs.Prelude.{◌≡◌, ◌+◌, ◌*◌, ◌-◌, ◌<◌, ◌≤◌, ◌↔◌, length, take, drop, IsTrue, IfOk, IfErr, IfSome};
+ghost use Rattle.std.specs.Prelude.{IfNone};
 ghost use Rattle.std.specs.List.{All};
 ghost use Rattle.layout.specs.Bytes.{half_number};
 ghost use Rattle.layout.specs.Homes.{range_with, rank_in, shape_of};
 ghost use Rattle.layout.specs.Shape.{IsShapeFor};
-ghost use Rattle.layout.specs.Superblock.{Plan, version_number, superblock_bytes, ranges_bytes, unused, HasMark, IsGeometry, IsNext, Cover, extents, IsPlan, IsRefused, RangeFits, plan_of, half_start};
+ghost use Rattle.layout.specs.Superblock.{Plan, version_number, superblock_bytes, ranges_bytes, unused, HasMark};
+ghost use Rattle.layout.specs.Superblock.{IsGeometry, IsNext, Cover, extents, IsPlan, IsRefused, RangeFits, plan_of};
+ghost use Rattle.layout.specs.Superblock.{half_start};
 
 use crate::bad_image::BadImage;
 use crate::bytes::{blank, is_blank_from, number_at, put_number};

@@ -4,7 +4,8 @@ use Rattle.memory_device.proofs.Names.{All, refl, sym, ◌∙◌, ap, subst, ari
 use Rattle.memory_device.proofs.Names.{Outcome, Keep, Drop, Fill, Image, Disk, IsWhole, Agrees, Elsewhere, AreSectors, sectors_of, image_of, Narrows, Tears}
 use Rattle.memory_device.proofs.Names.{Only, Elapses, Event, wrote, synced, cut, State, at_first, after, replay, left_by, MayLeave, disk_of, writes_of, IsQuiet}
 use Rattle.memory_device.proofs.Names.{EndsCut, names, entries_of}
-use Rattle.memory_device.proofs.Past.{replay-append, replay-one, elapses_still, elapses_one, written-durable, written-present_before, written-present_after, written-present_inside, quiet-unsynced}
+use Rattle.memory_device.proofs.Past.{replay-append, replay-one, elapses_still, elapses_one, written-durable, written-present_before, written-present_after}
+use Rattle.memory_device.proofs.Past.{written-present_inside, quiet-unsynced}
 use Rattle.memory_device.proofs.Patches.{or_false}
 use Rattle.memory_device.proofs.Keeps.{written-unsynced, names-entries_of}
 

@@ -4,7 +4,8 @@ use Rattle.memory_device.proofs.Names.{drop, replicate, All, refl, sym, ◌∙�
 use Rattle.memory_device.proofs.Names.{cases_order, drop-append-le, drop_all, or_assoc, Outcome, Keep, Drop, Fill, Synced, RecordEntry, None, Image, Agrees}
 use Rattle.memory_device.proofs.Names.{Elsewhere, Patches, AreSectors, sectors_of, image_of, Event, wrote, synced, cut, State, at_first, after, replay, left_by}
 use Rattle.memory_device.proofs.Names.{writes_of, names, events_of, entries_of, marked, IsSoundMirror, now_of, state_with}
-use Rattle.memory_device.proofs.Past.{replay-append, replay-one, written-durable, written-present_before, written-present_after, written-present_inside, quiet-unsynced}
+use Rattle.memory_device.proofs.Past.{replay-append, replay-one, written-durable, written-present_before, written-present_after, written-present_inside}
+use Rattle.memory_device.proofs.Past.{quiet-unsynced}
 use Rattle.memory_device.proofs.Patches.{or_false, or_right, names-append}
 use Rattle.memory_device.proofs.Entries.{past_written, length_written, past_synced, events_of-marked}
 

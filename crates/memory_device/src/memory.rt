@@ -1,5 +1,6 @@
 // A device in memory.
-ghost use Rattle.std.specs.Prelude.{◌≡◌, ◌<◌, ◌≤◌, ◌+◌, ◌%◌, ◌++◌, ◌∷◌, ◌↔◌, [], ℕ, length, vec_len, vec_capacity, replicate, IfOk, IsOk, IsErr, OnOk, OnErr};
+ghost use Rattle.std.specs.Prelude.{◌≡◌, ◌<◌, ◌≤◌, ◌+◌, ◌%◌, ◌++◌, ◌∷◌, ◌↔◌, [], ℕ, length, vec_len, vec_capacity};
+ghost use Rattle.std.specs.Prelude.{replicate, IfOk, IsOk, IsErr, OnOk, OnErr};
 ghost use Rattle.device.specs.Calls.{Agrees, Elsewhere, sectors_of, AreSectors, Narrows, Tears, Only, Counts};
 ghost use Rattle.device.specs.Moments.{Elapses};
 ghost use Rattle.memory_device.specs.Past.{synced, writes_of, left_by, EndsCut};
@@ -71,7 +72,8 @@ impl Memory {
 }
 
 impl Device for Memory {
-    ghost use Rattle.memory_device.specs.Memory.{memory_disk, memory_past, memory_state, capacity_left, outcome_of, IsUntouched};
+    ghost use Rattle.memory_device.specs.Memory.{memory_disk, memory_past, memory_state, capacity_left, outcome_of};
+    ghost use Rattle.memory_device.specs.Memory.{IsUntouched};
     ghost use Rattle.memory_device.specs.PastLaws.{past_counts_now, past_only_now};
     ghost use Rattle.memory_device.specs.SoundLaws.{sound_seen_left};
     ghost use Rattle.device.specs.Calls.{image_of};

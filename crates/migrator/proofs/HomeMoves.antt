@@ -4,7 +4,8 @@ use Rattle.migrator.proofs.Names.{MovedBy, seen_by, IsCopied, IsFirst, Unwritten
 use Rattle.migrator.proofs.Buffered.{none_idle, without}
 use Rattle.migrator.proofs.GoingOn.{goes_seen}
 use Rattle.migrator.proofs.Mended.{mended_disk, touches_mended}
-use Rattle.migrator.proofs.Moving.{copied_goes_on, copied_kept, copied_stored, moved_books, no_checkpoint, passed_kept, uncopied_goes_on, uncopied_kept, uncopied_stored}
+use Rattle.migrator.proofs.Moving.{copied_goes_on, copied_kept, copied_stored, moved_books, no_checkpoint, passed_kept, uncopied_goes_on, uncopied_kept}
+use Rattle.migrator.proofs.Moving.{uncopied_stored}
 
 module _ (old new : Disk) (b : Books) (is : IsDurable old b) (some : b.moved < b.header.entries) where
   none : b.unwritten ≡ None

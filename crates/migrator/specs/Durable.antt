@@ -1,15 +1,17 @@
 -- A durable store: what it keeps in memory, and what that and the device make.
-use Rattle.migrator.specs.Names.{⊤, ◌≡◌, ◌⊎◌, ◌==◌, if◌then◌else◌, ℕ, ◌+◌, ◌-◌, ◌^◌, ◌<◌, ◌≤◌, Option, Some, None, List, length, option_map, slice_set}
-use Rattle.migrator.specs.Names.{replicate, Frame, frame_at, AreKeepable, Image, Disk, Agrees, Narrows, Peeks, Entry, CheckpointHeader, IsDirectory, entry_at}
-use Rattle.migrator.specs.Names.{IsHeader, Packed, shape_of, SavedState, Encodes, slot_sector, AreSpelt, state_in, Plan, IsPlan, SavedFrames, kept_of}
-use Rattle.migrator.specs.Names.{home_saved, LeavesSaved, replaced_saved, with_words}
+use Rattle.migrator.specs.Names.{⊤, ◌≡◌, ◌⊎◌, ◌==◌, if◌then◌else◌, ℕ, ◌+◌, ◌-◌, ◌^◌, ◌<◌, ◌≤◌, Option, Some, None, List}
+use Rattle.migrator.specs.Names.{length, option_map, slice_set, replicate, Frame, frame_at, AreKeepable, Image, Disk}
+use Rattle.migrator.specs.Names.{Agrees, Narrows, Peeks, Entry, CheckpointHeader, IsDirectory, entry_at, IsHeader}
+use Rattle.migrator.specs.Names.{Packed, shape_of, SavedState, Encodes, slot_sector, AreSpelt, state_in, Plan, IsPlan}
+use Rattle.migrator.specs.Names.{SavedFrames, kept_of, home_saved, LeavesSaved, replaced_saved, with_words}
 use Rattle.model.specs.declared.object.Role.TheVariants as role
 use Rattle.migrator.specs.Gathered.{IsCopied}
 use Rattle.migrator.specs.Mended.{Unwritten, mended}
 use Rattle.migrator.specs.declared.books.Books.{Books}
 use Rattle.migrator.specs.declared.table.Place.TheVariants.{Nowhere}
 use Rattle.migrator.specs.Table.{place_at, slot_of, taken_count}
-use Rattle.migrator.specs.Put.{Put, Absent, put_at, put_or, kept_count, overlaid, slot_bytes, slot_frame, puts_in, ArePut}
+use Rattle.migrator.specs.Put.{Put, Absent, put_at, put_or, kept_count, overlaid, slot_bytes, slot_frame, puts_in}
+use Rattle.migrator.specs.Put.{ArePut}
 
 -- what a read gives, of the device and of that cluster
 abbrev pub seen_by : Image → Books → Image

@@ -1,6 +1,7 @@
 -- The names of other crates that the definitions here cite.
 pub use Rattle.checkpoint.specs.Opened.{OnlyReads}
-pub use Rattle.checkpoint.specs.Saved.{Holds, LeavesSaved, SavedFrames, home_saved, kept_of, most, replaced_saved, with_words}
+pub use Rattle.checkpoint.specs.Saved.{Holds, LeavesSaved, SavedFrames, home_saved, kept_of, most, replaced_saved}
+pub use Rattle.checkpoint.specs.Saved.{with_words}
 pub use Rattle.checkpoint.specs.declared.open_fault.OpenFault.{OpenFault}
 pub use Rattle.ckpt_log.specs.Commit.{header_sector}
 pub use Rattle.ckpt_log.specs.Places.{directory_extent, place_extent}
@@ -16,8 +17,9 @@ pub use Rattle.layout.specs.Frame.{IsFrameOf}
 unfoldable pub use Rattle.layout.specs.FrameReader.{frame_from}
 pub use Rattle.layout.specs.Header.{IsHeader}
 pub use Rattle.layout.specs.Homes.{home_place, place_length, shape_of}
-pub use Rattle.layout.specs.Image.{Encodes, HasDirectory, HasHeader, IsBadBy, SavedState, bytes_at, directory_length, directory_sector, frame_in, frame_sector}
-pub use Rattle.layout.specs.Image.{half_sector, shaped_at, slot_beside, slot_in, slot_sector}
+pub use Rattle.layout.specs.Image.{Encodes, HasDirectory, HasHeader, IsBadBy, SavedState, bytes_at, directory_length}
+pub use Rattle.layout.specs.Image.{directory_sector, frame_in, frame_sector, half_sector, shaped_at, slot_beside}
+pub use Rattle.layout.specs.Image.{slot_in, slot_sector}
 pub use Rattle.layout.specs.Shape.{IsShapeFor, shape_bytes}
 pub use Rattle.layout.specs.Spelt.{AreSpelt, count_of, state_in}
 pub use Rattle.layout.specs.Superblock.{IsApart, IsPlan, Plan}
@@ -34,5 +36,6 @@ pub use Rattle.model.specs.declared.frame.Frame.{Frame}
 pub use Rattle.model.specs.declared.frame.ObjectHeader.{ObjectHeader}
 pub use Rattle.model.specs.declared.geometry.Geometry.{Geometry}
 pub use Rattle.std.specs.List.{range_with_len}
-pub use Rattle.std.specs.Prelude.{Bool, List, None, Option, Some, [], false, if◌then◌else◌, length, map, nat_le, nat_lt, option_map, replicate, slice_index_or}
-pub use Rattle.std.specs.Prelude.{slice_set, take, true, vec_capacity, ℕ, ⊤, ◌&&◌, ◌*◌, ◌+◌, ◌-◌, ◌<◌, ◌==◌, ◌^◌, ◌∷◌, ◌≡◌, ◌≢◌, ◌≤◌, ◌⊎◌}
+pub use Rattle.std.specs.Prelude.{Bool, List, None, Option, Some, [], false, if◌then◌else◌, length, map, nat_le, nat_lt}
+pub use Rattle.std.specs.Prelude.{option_map, replicate, slice_index_or, slice_set, take, true, vec_capacity, ℕ, ⊤}
+pub use Rattle.std.specs.Prelude.{◌&&◌, ◌*◌, ◌+◌, ◌-◌, ◌<◌, ◌==◌, ◌^◌, ◌∷◌, ◌≡◌, ◌≢◌, ◌≤◌, ◌⊎◌}

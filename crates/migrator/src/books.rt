@@ -11,7 +11,8 @@ ghost use Rattle.frame_io.specs.Calls.{WritesAt};
 ghost use Rattle.frame_io.specs.Clusters.{HasZerosBeside};
 ghost use Rattle.frame_io.specs.Frames.{IsObject};
 ghost use Rattle.checkpoint.specs.Saved.{most};
-ghost use Rattle.migrator.specs.Durable.{GoesOnDisk, IsDurable, IsKept, frozen_generation, left_of, seen_by, stored_in, stored_on, with_frozen, with_working, working_generation};
+ghost use Rattle.migrator.specs.Durable.{GoesOnDisk, IsDurable, IsKept, frozen_generation, left_of, seen_by, stored_in};
+ghost use Rattle.migrator.specs.Durable.{stored_on, with_frozen, with_working, working_generation};
 ghost use Rattle.migrator.specs.Put.{Broken, HasFreeSlot, Kept, puts_in, slot_bytes};
 ghost use Rattle.migrator.specs.Table.{slot_for};
 

@@ -5,7 +5,8 @@ ghost use Rattle.device.specs.Calls.{Counts};
 ghost use Rattle.frame_io.specs.Frames.{IsObject};
 ghost use Rattle.migrator.specs.Put.{Broken, Kept, held_slot, sum_of, HasFreeSlot};
 ghost use Rattle.checkpoint.specs.Saved.{most, LeavesOneOf};
-ghost use Rattle.migrator.specs.Durable.{FrozenPuts, left_of, stored_of, is_sound, next_saved, stored_after_commit, MayCommit, with_working, with_frozen, freezing, GoesOn};
+ghost use Rattle.migrator.specs.Durable.{FrozenPuts, left_of, stored_of, is_sound, next_saved, stored_after_commit};
+ghost use Rattle.migrator.specs.Durable.{MayCommit, with_working, with_frozen, freezing, GoesOn};
 ghost use Rattle.checkpoint.specs.Refused.{IsPutAnswer, IsFreezeAnswer, IsCommitAnswer, IsRefused};
 
 use crate::books::Books;

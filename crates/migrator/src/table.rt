@@ -1,6 +1,8 @@
 // Which slots of a half of the log objects have.
-ghost use Rattle.std.specs.Prelude.{◌≡◌, ◌+◌, ◌<◌, ◌≤◌, [], ◌∷◌, None, Some, length, map, drop, replicate, vec_capacity, slice_set, IfSome, IfOk};
-ghost use Rattle.migrator.specs.Table.{place_at, slot_of, slot_for, is_held, has_slot, has_frame, taken_count, whole_count, entries_from, entries_of};
+ghost use Rattle.std.specs.Prelude.{◌≡◌, ◌+◌, ◌<◌, ◌≤◌, [], ◌∷◌, None, Some, length, map, drop, replicate};
+ghost use Rattle.std.specs.Prelude.{vec_capacity, slice_set, IfSome, IfOk};
+ghost use Rattle.migrator.specs.Table.{place_at, slot_of, slot_for, is_held, has_slot, has_frame, taken_count};
+ghost use Rattle.migrator.specs.Table.{whole_count, entries_from, entries_of};
 
 use layout::Entry;
 use number_set::NumberSet;

@@ -10,10 +10,12 @@ use Rattle.layout.specs.Image.{SavedState}
 use Rattle.layout.specs.Superblock.{Plan}
 use Rattle.migrator.specs.Put.{Put, Absent, Broken, Kept}
 use Rattle.checkpoint.specs.Saved.{SavedFrames, Holds}
-use Rattle.migrator.specs.Durable.{DurableState, FrozenPuts, Stored, seen_of, stored_of, is_sound, with_working, with_frozen, freezing, next_saved, stored_after_commit, stored_after_journal, moved, saved_state, GoesOn, ReadsStore}
+use Rattle.migrator.specs.Durable.{DurableState, FrozenPuts, Stored, seen_of, stored_of, is_sound, with_working, with_frozen, freezing, next_saved}
+use Rattle.migrator.specs.Durable.{stored_after_commit, stored_after_journal, moved, saved_state, GoesOn, ReadsStore}
 use Rattle.migrator.specs.Opened.{OpensDurable}
 use Rattle.migrator_tests.specs.Rig.{IsLight, IsLightFor, IsLoad, IsRig}
-use Rattle.migrator_tests.proofs.Loads.{none_light, none_frozen, working_kept, working_broken, frozen_kept, frozen_broken, frozen_now, next_keepable, committed_now, moved_now, moved_some}
+use Rattle.migrator_tests.proofs.Loads.{none_light, none_frozen, working_kept, working_broken, frozen_kept, frozen_broken, frozen_now, next_keepable}
+use Rattle.migrator_tests.proofs.Loads.{committed_now, moved_now, moved_some}
 
 -- ---- a device is opened
 

@@ -1,6 +1,6 @@
 -- What a bank is asked: new objects, their end, and what is left (EROS, KeyKOS: space bank).
-use Rattle.std.specs.Prelude.{ℕ, ◌+◌, ◌-◌, ◌==◌, nat_le, nat_lt, min, Bool, not, ◌&&◌, ◌||◌, if◌then◌else◌, List, [], ◌∷◌, length, map, replicate, slice_set}
-use Rattle.std.specs.List.{filter, list_all, range_with_len}
+use Rattle.model.specs.Names.{ℕ, ◌+◌, ◌-◌, ◌==◌, nat_le, nat_lt, min, Bool, not, ◌&&◌, ◌||◌, if◌then◌else◌, List, []}
+use Rattle.model.specs.Names.{◌∷◌, length, map, replicate, slice_set, filter, list_all, range_with_len}
 use Rattle.model.specs.declared.capability.Capability.{Capability}
 use Rattle.model.specs.declared.capability.Capability.TheVariants.{Void, Page, Node, Process, Bank}
 use Rattle.model.specs.declared.geometry.Geometry.{Geometry}

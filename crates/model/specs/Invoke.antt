@@ -1,4 +1,5 @@
-use Rattle.std.specs.Prelude.{ℕ, ◌==◌, Bool, true, false, ◌&&◌, ◌||◌, if◌then◌else◌, Option, None, Some, List, [], ◌∷◌, ◌++◌, map, slice_index, slice_index_or, slice_set}
+use Rattle.std.specs.Prelude.{ℕ, ◌==◌, Bool, true, false, ◌&&◌, ◌||◌, if◌then◌else◌, Option, None, Some, List, [], ◌∷◌}
+use Rattle.std.specs.Prelude.{◌++◌, map, slice_index, slice_index_or, slice_set}
 use Rattle.model.specs.declared.capability.Capability.{Capability}
 use Rattle.model.specs.declared.capability.Capability.TheVariants.{Void, Start, Resume}
 use Rattle.model.specs.declared.command.Invocation.{Invocation}
@@ -9,7 +10,8 @@ use Rattle.model.specs.declared.geometry.Geometry.{Geometry}
 use Rattle.model.specs.declared.object.Object.{Object}
 use Rattle.model.specs.declared.object.State.TheVariants.{Available, Running, Waiting}
 use Rattle.model.specs.Object.{is_available}
-use Rattle.model.specs.World.{root_at, annex_at, register_at, with_root, with_state, with_slots_from, is_running_process}
+use Rattle.model.specs.World.{root_at, annex_at, register_at, with_root, with_state, with_slots_from}
+use Rattle.model.specs.World.{is_running_process}
 use Rattle.model.specs.OrderOutcome.{OrderOutcome, code_number}
 use Rattle.model.specs.Order.{order}
 use Rattle.model.specs.Revoke.{consume}

@@ -1,4 +1,7 @@
 -- The names of other crates that the definitions here cite.
-pub use Rattle.std.specs.List.{All, Contains, count_by, enumerate_from, flat_map, list_any}
-pub use Rattle.std.specs.Prelude.{Bool, IsTrue, List, None, Some, [], false, if◌then◌else◌, length, map, nat_eq, not, slice_index, slice_index_or, suc, true}
-pub use Rattle.std.specs.Prelude.{zero, ℕ, ◌&&◌, ◌+◌, ◌<◌, ◌==◌, ◌^◌, ◌∷◌, ◌≡◌, ◌≢◌, ◌≤◌}
+pub use Rattle.std.specs.List.{All, Contains, count_by, enumerate_from, filter, flat_map, join_with_byte, list_all}
+pub use Rattle.std.specs.List.{list_any, range_with_len}
+pub use Rattle.std.specs.Prelude.{Bool, Err, IsTrue, List, None, Ok, Option, Result, Some, [], codes, decimal, false}
+pub use Rattle.std.specs.Prelude.{if◌then◌else◌, length, map, min, nat_eq, nat_le, nat_lt, not, replicate, slice_index}
+pub use Rattle.std.specs.Prelude.{slice_index_or, slice_set, suc, true, zero, ℕ, ◌%◌, ◌&&◌, ◌++◌, ◌+◌, ◌-◌, ◌/◌, ◌<◌}
+pub use Rattle.std.specs.Prelude.{◌==◌, ◌^◌, ◌||◌, ◌∷◌, ◌≡◌, ◌≢◌, ◌≤◌, ◌⊎◌}

@@ -1,6 +1,7 @@
 use Rattle.model.specs.Names.{◌≡◌, ◌≢◌, ℕ, ◌+◌, ◌^◌, ◌<◌, ◌≤◌, true, List, length, slice_index, IsTrue, Contains}
 use Rattle.model.specs.declared.capability.Capability.{Capability}
-use Rattle.model.specs.declared.capability.Capability.TheVariants.{Void, Number, Page, Node, Space, Process, Start, Resume, Bank, Discrim}
+use Rattle.model.specs.declared.capability.Capability.TheVariants.{Void, Number, Page, Node, Space, Process, Start}
+use Rattle.model.specs.declared.capability.Capability.TheVariants.{Resume, Bank, Discrim}
 use Rattle.model.specs.declared.geometry.Geometry.{Geometry}
 use Rattle.model.specs.declared.object.Content.{Content}
 use Rattle.model.specs.declared.object.Content.TheVariants as content

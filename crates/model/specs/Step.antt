@@ -1,5 +1,6 @@
-use Rattle.std.specs.Prelude.{◌≡◌, ◌⊎◌, ℕ, ◌+◌, ◌-◌, ◌/◌, ◌%◌, ◌^◌, ◌==◌, nat_lt, Bool, true, false, not, ◌&&◌, if◌then◌else◌, Option, None, Some, Result, Ok, Err, List, [], ◌∷◌, ◌++◌, slice_index_or, IsTrue}
-use Rattle.std.specs.List.{Contains}
+use Rattle.model.specs.Names.{◌≡◌, ◌⊎◌, ℕ, ◌+◌, ◌-◌, ◌/◌, ◌%◌, ◌^◌, ◌==◌, nat_lt, Bool, true, false, not, ◌&&◌}
+use Rattle.model.specs.Names.{if◌then◌else◌, Option, None, Some, Result, Ok, Err, List, [], ◌∷◌, ◌++◌, slice_index_or}
+use Rattle.model.specs.Names.{IsTrue, Contains}
 use Rattle.model.specs.declared.access.Access.{Access}
 use Rattle.model.specs.declared.answer.Answer.{Answer}
 use Rattle.model.specs.declared.answer.Answer.TheVariants as answer
@@ -13,12 +14,14 @@ use Rattle.model.specs.declared.command.Command.TheVariants as command
 use Rattle.model.specs.declared.geometry.Geometry.{Geometry}
 use Rattle.model.specs.declared.object.Object.{Object}
 use Rattle.model.specs.Object.{is_bank, is_page, is_root, slots_in}
-use Rattle.model.specs.World.{World, object_at, content_at, annex_at, root_at, word_at, with_word, with_content, is_process, is_running_process}
+use Rattle.model.specs.World.{World, object_at, content_at, annex_at, root_at, word_at, with_word, with_content}
+use Rattle.model.specs.World.{is_process, is_running_process}
 use Rattle.model.specs.Bank.{usage}
 use Rattle.model.specs.Sound.{object_count}
 use Rattle.model.specs.Walk.{walk}
 use Rattle.model.specs.Invoke.{invoke}
-use Rattle.model.specs.Machine.{Saved, Frozen, Running, Machine, Up, Down, candidates, untouched, touching, touched_count, renewing, opened}
+use Rattle.model.specs.Machine.{Saved, Frozen, Running, Machine, Up, Down, candidates, untouched, touching}
+use Rattle.model.specs.Machine.{touched_count, renewing, opened}
 
 -- whether writing these too is more than half of the log holds
 abbrev pub overfills : Geometry → List Bool → List ℕ → Bool

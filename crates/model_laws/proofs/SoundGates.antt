@@ -11,7 +11,8 @@ use Rattle.model.specs.declared.order.ResultCode.TheVariants as code
 use Rattle.model_laws.proofs.Cases.{after_gate_by, after_order_by, invoked_by, replied_by}
 use Rattle.model_laws.proofs.Usage.{SameFrame, frame_refl, tests_at}
 use Rattle.model_laws.proofs.SoundParts.{IsHeld, IsNearlySound, Waits, state_at, held_on, held_void, nearly_weaken, nearly_from, nearly_to}
-use Rattle.model_laws.proofs.SoundEdits.{IsEdited, IsRootOf, But, at_set, edited_slot, edited_trans, nearly_root, nearly_consume, root_frame, root_same, root_other, state_consume, state_frame}
+use Rattle.model_laws.proofs.SoundEdits.{IsEdited, IsRootOf, But, at_set, edited_slot, edited_trans, nearly_root, nearly_consume, root_frame, root_same}
+use Rattle.model_laws.proofs.SoundEdits.{root_other, state_consume, state_frame}
 use Rattle.model_laws.proofs.SoundWorlds.{holds_replicate}
 use Rattle.model_laws.proofs.SoundObjects.{order_keeps}
 use Rattle.model_laws.proofs.SoundOrders.{IsNow, IsOutcome, root_now, nearly_state, state_other}

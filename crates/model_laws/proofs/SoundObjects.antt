@@ -4,7 +4,8 @@ use Rattle.model_laws.proofs.Names.{Arguments, on_bank, IsWellFormed, union, acc
 use Rattle.model_laws.proofs.Names.{on_page, on_node, on_process, order}
 use Rattle.model_laws.proofs.Cases.{chosen, found_or}
 use Rattle.model_laws.proofs.SoundBanks.{on_bank_keeps}
-use Rattle.model_laws.proofs.SoundOrders.{IsNow, IsOutcome, AreArguments, access_fits, access_union, given_keeps, on_node_keeps, on_page_keeps, on_process_keeps, refused_keeps, replying_keeps}
+use Rattle.model_laws.proofs.SoundOrders.{IsNow, IsOutcome, AreArguments, access_fits, access_union, given_keeps, on_node_keeps, on_page_keeps}
+use Rattle.model_laws.proofs.SoundOrders.{on_process_keeps, refused_keeps, replying_keeps}
 use Rattle.model_laws.proofs.SoundParts.{IsHeld, Waits}
 
 tag_fits : (c : Capability) → tag_of c < 2 ^ 64

@@ -13,11 +13,13 @@ pub use Rattle.model.specs.Revoke.{is_given_up, is_member, names_member, resumes
 unfoldable pub use Rattle.model.specs.Revoke.{consume, rescind}
 pub use Rattle.model.specs.Run.{BadLine, IsRun, Reply, Replying, Turn, lines_of, output_of}
 pub use Rattle.model.specs.Sound.{IsSound, MayBeHeld}
-pub use Rattle.model.specs.Step.{Outcome, Proceeds, Step, journaled, outcome, reached, second, shown, unjournaled, writable}
+pub use Rattle.model.specs.Step.{Outcome, Proceeds, Step, journaled, outcome, reached, second, shown, unjournaled}
+pub use Rattle.model.specs.Step.{writable}
 unfoldable pub use Rattle.model.specs.Step.{carried_out, refusal_of}
 pub use Rattle.model.specs.Text.{Fits, Says, line_of}
 unfoldable pub use Rattle.model.specs.Text.{printed, spelling}
-pub use Rattle.model.specs.World.{World, content_at, is_running_process, object_at, owner_at, register_at, root_at, slot_at}
+pub use Rattle.model.specs.World.{World, content_at, is_running_process, object_at, owner_at, register_at, root_at}
+pub use Rattle.model.specs.World.{slot_at}
 pub use Rattle.model.specs.Worlds.{fresh_root, of_prime_bank, prime_bank, small}
 unfoldable pub use Rattle.model.specs.Worlds.{f0, i0}
 pub use Rattle.model.specs.declared.access.Access.{Access}
@@ -25,7 +27,8 @@ pub use Rattle.model.specs.declared.answer.Answer.{Answer}
 pub use Rattle.model.specs.declared.answer.MemoryFault.{MemoryFault}
 pub use Rattle.model.specs.declared.answer.Unjournaled.TheVariants.{NotPage, Renewed}
 pub use Rattle.model.specs.declared.capability.Capability.{Capability}
-pub use Rattle.model.specs.declared.capability.Capability.TheVariants.{Bank, Discrim, Node, Number, Page, Process, Resume, Space, Start, Void}
+pub use Rattle.model.specs.declared.capability.Capability.TheVariants.{Bank, Discrim, Node, Number, Page, Process}
+pub use Rattle.model.specs.declared.capability.Capability.TheVariants.{Resume, Space, Start, Void}
 pub use Rattle.model.specs.declared.command.Command.{Command}
 pub use Rattle.model.specs.declared.command.Invocation.{Invocation}
 pub use Rattle.model.specs.declared.command.Operation.{Operation}
@@ -37,5 +40,6 @@ pub use Rattle.model.specs.declared.object.State.TheVariants.{Running}
 pub use Rattle.model.specs.declared.order.Arguments.{Arguments}
 pub use Rattle.model.specs.declared.order.BankOrder.{BankOrder}
 pub use Rattle.std.specs.List.{All, Contains, flat_map}
-pub use Rattle.std.specs.Prelude.{Bool, Err, IsTrue, List, None, Ok, Some, [], codes, false, length, map, replicate, slice_get, slice_index, slice_set, true, ℕ}
-pub use Rattle.std.specs.Prelude.{◌++◌, ◌+◌, ◌-◌, ◌<◌, ◌^◌, ◌↔◌, ◌∷◌, ◌≡◌, ◌⊎◌}
+pub use Rattle.std.specs.Prelude.{Bool, Err, IsTrue, List, None, Ok, Some, [], codes, false, length, map, replicate}
+pub use Rattle.std.specs.Prelude.{slice_get, slice_index, slice_set, true, ℕ, ◌++◌, ◌+◌, ◌-◌, ◌<◌, ◌^◌, ◌↔◌, ◌∷◌, ◌≡◌}
+pub use Rattle.std.specs.Prelude.{◌⊎◌}

@@ -1,6 +1,8 @@
 //! Laws of the definitions, each the contract of a function that does nothing.
 
-ghost use Rattle.model_laws.specs.Laws.{DiminishesOnce, FetchesWeak, RescindsAll, ConsumesAll, GivesUpRescinded, GivesUpNothing, TouchesWritten, LogFullIsExact, StoreLogFullIsExact, SpellsOne, SaysOne, BeginsSound};
+ghost use Rattle.model_laws.specs.Laws.{DiminishesOnce, FetchesWeak, RescindsAll, ConsumesAll, GivesUpRescinded};
+ghost use Rattle.model_laws.specs.Laws.{GivesUpNothing, TouchesWritten, LogFullIsExact, StoreLogFullIsExact, SpellsOne};
+ghost use Rattle.model_laws.specs.Laws.{SaysOne, BeginsSound};
 
 /// To diminish a capability twice is to diminish it once.
 pub fn diminishes_once()

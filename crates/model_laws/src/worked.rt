@@ -6,8 +6,10 @@ ghost use Rattle.model_laws.specs.WorkedObjects.{objects};
 ghost use Rattle.model_laws.specs.WorkedProcesses.{processes};
 ghost use Rattle.model_laws.specs.WorkedRefusals.{refusals};
 ghost use Rattle.model_laws.specs.WorkedSaves.{saving};
-ghost use Rattle.model_laws.specs.WorkedSteps.{AnswersBySteps, ChainsBanks, FailsBetween, OpensAgain, RescindsProcess, RevokesOnly, WantsMemory};
-ghost use Rattle.model_laws.specs.WorkedTexts.{CutsLines, PrintsRefusals, RunsScript, SaysBad, SaysCommands, SaysNothing};
+ghost use Rattle.model_laws.specs.WorkedSteps.{AnswersBySteps, ChainsBanks, FailsBetween, OpensAgain, RescindsProcess};
+ghost use Rattle.model_laws.specs.WorkedSteps.{RevokesOnly, WantsMemory};
+ghost use Rattle.model_laws.specs.WorkedTexts.{CutsLines, PrintsRefusals, RunsScript, SaysBad, SaysCommands};
+ghost use Rattle.model_laws.specs.WorkedTexts.{SaysNothing};
 
 /// Pages and nodes, what is fetched through weak ones, and banks.
 #[tactic(auto, using(crate::proofs::WorkedRows::objects_hold))]

@@ -1,5 +1,7 @@
 -- The marks of numbers, and the bits that they are kept in.
-use Rattle.std.proofs.Common.{◌≡◌, ◌≢◌, ℕ, zero, suc, ◌+◌, ◌-◌, ◌*◌, ◌/◌, ◌%◌, ◌^◌, ◌<◌, ◌≤◌, min, Bool, true, false, not, Option, Some, None, IfSome, List, [], ◌++◌, length, get_or, set, take, replicate, slice_index, slice_set, nat_eq, bit_and, bit_or, w64, refl, sym, ap, ◌∙◌, inl, inr, arith, length-set, get_or-set_same, get_or-set_other}
+use Rattle.std.proofs.Common.{◌≡◌, ◌≢◌, ℕ, zero, suc, ◌+◌, ◌-◌, ◌*◌, ◌/◌, ◌%◌, ◌^◌, ◌<◌, ◌≤◌, min, Bool, true, false, not, Option, Some, None, IfSome, List, []}
+use Rattle.std.proofs.Common.{◌++◌, length, get_or, set, take, replicate, slice_index, slice_set, nat_eq, bit_and, bit_or, w64, refl, sym, ap, ◌∙◌, inl, inr}
+use Rattle.std.proofs.Common.{arith, length-set, get_or-set_same, get_or-set_other}
 use Rattle.std.specs.Int.{bit_at, bit_not, div_ceil, trailing_zeros}
 use Rattle.std.proofs.lemmas.Bool.{cases_eq, cases_lt}
 use Rattle.std.proofs.lemmas.List.{get_or_past, take_all, length-replicate, get_or-replicate}

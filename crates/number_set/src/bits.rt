@@ -1,7 +1,8 @@
 // The bits of words of 64.
 ghost use Rattle.std.specs.Prelude.{◌≡◌, ◌≢◌, ℕ, ◌*◌, ◌/◌, ◌^◌, ◌<◌, ◌≤◌, length, slice_index, IfSome, None};
 ghost use Rattle.std.specs.Int.{bit_at};
-ghost use Rattle.number_set.specs.Bits.{IsLowestFrom, IsFirstSet, HasNoneSet, IsFirstClear, HasNoneClear, IsBitPut, SumsUp, bit_of, digit};
+ghost use Rattle.number_set.specs.Bits.{IsLowestFrom, IsFirstSet, HasNoneSet, IsFirstClear, HasNoneClear, IsBitPut};
+ghost use Rattle.number_set.specs.Bits.{SumsUp, bit_of, digit};
 
 /// How many numbers have their bits in one word.
 pub(crate) const WORD_BITS: usize = 64;

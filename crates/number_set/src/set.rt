@@ -1,5 +1,6 @@
 // A set of numbers, as bits with a summary.
-ghost use Rattle.std.specs.Prelude.{◌≡◌, ◌<◌, ◌^◌, length, replicate, slice_index_or, slice_set, false, IfSome, IfOk, None};
+ghost use Rattle.std.specs.Prelude.{◌≡◌, ◌<◌, ◌^◌, length, replicate, slice_index_or, slice_set, false, IfSome, IfOk};
+ghost use Rattle.std.specs.Prelude.{None};
 ghost use Rattle.number_set.specs.Marks.{IsNextMarked, HasNoneMarked, IsNextUnmarked, HasAllMarked};
 
 use crate::bits::{WORD_BITS, first_clear, first_summed, has_bit, put_bit};

@@ -10,7 +10,8 @@ pub use Rattle.device.specs.Disk.{Disk, Image}
 pub use Rattle.device.specs.Moments.{Peeks}
 pub use Rattle.layout.specs.Image.{SavedState}
 pub use Rattle.migrator.proofs.Moving.{goes_none, goes_trans}
-pub use Rattle.migrator.specs.Durable.{DurableState, FrozenPuts, GoesOn, Stored, below_at, is_sound, newest, saved_state, seen_of, stored_of}
+pub use Rattle.migrator.specs.Durable.{DurableState, FrozenPuts, GoesOn, Stored, below_at, is_sound, newest}
+pub use Rattle.migrator.specs.Durable.{saved_state, seen_of, stored_of}
 pub use Rattle.migrator.specs.Put.{Absent, Broken, Kept, Put, put_at}
 pub use Rattle.model.specs.Frame.{header_at, headers}
 pub use Rattle.model.specs.Keepable.{AreKeepable}
@@ -26,5 +27,6 @@ pub use Rattle.model.specs.declared.object.Role.{Role}
 pub use Rattle.object_store.specs.Store.{Continues, FrozenFrames, Snapshots, View, stabilized}
 pub use Rattle.std.proofs.Common.{ap, arith, length-set, refl, ◌∙◌, ◌≤◌}
 pub use Rattle.std.specs.List.{range_with_len}
-pub use Rattle.std.specs.Prelude.{Bool, IsSome, List, None, Option, Some, [], count_by, false, if◌then◌else◌, is_some, length, map, option_map, replicate}
-pub use Rattle.std.specs.Prelude.{slice_index_or, slice_set, take, true, ℕ, ◌<◌, ◌==◌, ◌||◌, ◌∷◌, ◌≡◌, ◌⊎◌}
+pub use Rattle.std.specs.Prelude.{Bool, IsSome, List, None, Option, Some, [], count_by, false, if◌then◌else◌, is_some}
+pub use Rattle.std.specs.Prelude.{length, map, option_map, replicate, slice_index_or, slice_set, take, true, ℕ, ◌<◌}
+pub use Rattle.std.specs.Prelude.{◌==◌, ◌||◌, ◌∷◌, ◌≡◌, ◌⊎◌}

@@ -1,8 +1,9 @@
 -- What is seen of a store goes on while its objects change.
-use Rattle.object_cache.specs.Names.{◌≤◌, refl, ap, ◌∙◌, arith, length-set, Cap, Content, Image, Disk, ends, leaves_on, leaves_weaker, peeks_started}
-use Rattle.object_cache.specs.Names.{goes_trans, goes_none, Snapshots}
+use Rattle.object_cache.specs.Names.{◌≤◌, refl, ap, ◌∙◌, arith, length-set, Cap, Content, Image, Disk, ends, leaves_on}
+use Rattle.object_cache.specs.Names.{leaves_weaker, peeks_started, goes_trans, goes_none, Snapshots}
 use Rattle.std.proofs.Common.{ℕ, Bool}
-use Rattle.object_cache.specs.StoreState.{StoreState, GoesOnIn, ContinuesIn, IsFetchedIn, IsAnnouncedIn, with_content_in}
+use Rattle.object_cache.specs.StoreState.{StoreState, GoesOnIn, ContinuesIn, IsFetchedIn, IsAnnouncedIn}
+use Rattle.object_cache.specs.StoreState.{with_content_in}
 
 module _ {D : Type 0} where
   pub fetched_content : (s : StoreState D) (n : ℕ) (c : Content Cap) (m : ℕ) → IsFetchedIn s m → IsFetchedIn (with_content_in s n c) m

@@ -1,5 +1,6 @@
 // The object store that keeps a bounded number of object bodies in memory.
-ghost use Rattle.std.specs.Prelude.{◌∷◌, ◌≡◌, ◌≢◌, ◌<◌, ◌≤◌, None, Some, false, true, ℕ, length, slice_set, take, OnOk, OnErr};
+ghost use Rattle.std.specs.Prelude.{◌∷◌, ◌≡◌, ◌≢◌, ◌<◌, ◌≤◌, None, Some, false, true, ℕ, length, slice_set, take, OnOk};
+ghost use Rattle.std.specs.Prelude.{OnErr};
 ghost use Rattle.std.specs.Borrow.{Lends, sem};
 ghost use Rattle.model.specs.contracts.object.Content.{the_row as content_row};
 ghost use Rattle.model.specs.contracts.capability.Cap.{the_row as cap_row};
@@ -81,7 +82,9 @@ impl<D: Device> Model for Cache<D> {
 
 impl<D: Device> Cache<D> {
     ghost use Rattle.object_cache.specs.Memory.{Nothing, Shared, Apart, let_go, mark_at, masked};
-    ghost use Rattle.object_cache.specs.StoreState.{GoesOnIn, IsBounded, IsFetchedIn, IsAnnouncedIn, on_device, owed_at, parts_of, pending_count, cached_at, with_content_in, with_cached, without_cached};
+    ghost use Rattle.object_cache.specs.StoreState.{GoesOnIn, IsBounded, IsFetchedIn, IsAnnouncedIn, on_device};
+    ghost use Rattle.object_cache.specs.StoreState.{owed_at, parts_of, pending_count, cached_at, with_content_in};
+    ghost use Rattle.object_cache.specs.StoreState.{with_cached, without_cached};
     ghost use Rattle.cache_entries.specs.Order.{without};
     ghost use Rattle.object_cache.specs.contracts.cache.Cache.{the_row};
 

@@ -1,7 +1,8 @@
 // The store of objects over a device.
 ghost use Rattle.std.specs.Prelude.{◌≡◌, ◌≤◌, true, length, IfOk, IfErr};
 ghost use Rattle.migrator.specs.Durable.{stored_of};
-ghost use Rattle.object_cache.specs.StoreState.{AreObjectsOf, IsBounded, IsJustOpened, IsMadeOver, IsOpenOver, bodies_of};
+ghost use Rattle.object_cache.specs.StoreState.{AreObjectsOf, IsBounded, IsJustOpened, IsMadeOver, IsOpenOver};
+ghost use Rattle.object_cache.specs.StoreState.{bodies_of};
 
 use crate::all_objects::AllObjects;
 use crate::cache::Cache;

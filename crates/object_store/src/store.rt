@@ -1,16 +1,20 @@
 // The trait of object stores.
-ghost use Rattle.std.specs.Prelude.{◌≡◌, ◌⊎◌, ℕ, ◌-◌, ◌<◌, ◌≤◌, ◌^◌, None, Some, length, IfOk, IfErr, OnOk, OnErr, IsErrOf};
+ghost use Rattle.std.specs.Prelude.{◌≡◌, ◌⊎◌, ℕ, ◌-◌, ◌<◌, ◌≤◌, ◌^◌, None, Some, length, IfOk, IfErr, OnOk, OnErr};
+ghost use Rattle.std.specs.Prelude.{IsErrOf};
 ghost use Rattle.model.specs.Keepable.{AreKeepable};
 ghost use Rattle.model.specs.Machine.{untouched, touched_count};
 ghost use Rattle.device.specs.Disk.{Image};
 ghost use Rattle.device.specs.Calls.{Counts};
 ghost use Rattle.device.specs.Moments.{Peeks};
 ghost use Rattle.checkpoint.specs.Saved.{Holds, LeavesSaved, LeavesEither, LeavesOneOf};
-ghost use Rattle.object_store.specs.Journal.{IsJournalAnswer, IsTurnedAway, is_page_now, is_still_saved, snapshots_after_journal, next_journaled, words_now};
+ghost use Rattle.object_store.specs.Journal.{IsJournalAnswer, IsTurnedAway, is_page_now, is_still_saved};
+ghost use Rattle.object_store.specs.Journal.{snapshots_after_journal, next_journaled, words_now};
 ghost use Rattle.checkpoint.specs.Opened.{Refuses};
 ghost use Rattle.capability.specs.Parts.{frames_of};
 ghost use Rattle.checkpoint.specs.Refused.{IsCommitAnswer, IsFreezeAnswer, IsRefused};
-ghost use Rattle.object_store.specs.Store.{FrozenFrames, View, Continues, OpensStore, freezing, stabilized, next_saved, snapshots_after_commit, IsStabilizeAnswer, MayCommit, left_in, moved, moved_saved};
+ghost use Rattle.object_store.specs.Store.{FrozenFrames, View, Continues, OpensStore, freezing, stabilized, next_saved};
+ghost use Rattle.object_store.specs.Store.{snapshots_after_commit, IsStabilizeAnswer, MayCommit, left_in, moved};
+ghost use Rattle.object_store.specs.Store.{moved_saved};
 
 use crate::journal_fault::JournalFault;
 use capability::PresentFrames;

@@ -1,6 +1,7 @@
 -- The lines that tell a closed set, and why it is what it is.
-use Rattle.reach.specs.Names.{ℕ, ◌==◌, Bool, false, not, if◌then◌else◌, List, [], ◌∷◌, ◌++◌, codes, decimal, count_by, enumerate_from, flat_map, is_marked}
-use Rattle.reach.specs.Names.{Capability, Process, Start, Resume, Bank, Object, slots_in, capability_text, line_of, spaced, content_at}
+use Rattle.reach.specs.Names.{ℕ, ◌==◌, Bool, false, not, if◌then◌else◌, List, [], ◌∷◌, ◌++◌, codes, decimal, count_by}
+use Rattle.reach.specs.Names.{enumerate_from, flat_map, is_marked, Capability, Process, Start, Resume, Bank, Object}
+use Rattle.reach.specs.Names.{slots_in, capability_text, line_of, spaced, content_at}
 use Rattle.model.specs.declared.object.Content.TheVariants as content
 
 -- the words with which `show` begins an object

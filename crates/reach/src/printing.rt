@@ -5,7 +5,8 @@ ghost use Rattle.model.specs.Object.{slots_in};
 ghost use Rattle.model.specs.Text.{spaced};
 ghost use Rattle.model.specs.World.{content_at};
 ghost use Rattle.script.specs.Writing.{Writes};
-ghost use Rattle.reach.specs.Lines.{held_text, member_line, member_pulls, object_pulls, pull_line, pull_lines, pulls, reach_text, words_of};
+ghost use Rattle.reach.specs.Lines.{held_text, member_line, member_pulls, object_pulls, pull_line, pull_lines, pulls};
+ghost use Rattle.reach.specs.Lines.{reach_text, words_of};
 
 use model::{Capability, Content, Object};
 use number_set::NumberSet;

@@ -1,6 +1,7 @@
 -- The machine that an open store stands for.
-use Rattle.recovery.specs.Names.{◌≡◌, ℕ, ◌<◌, ◌≤◌, ◌==◌, Bool, not, Option, None, Some, List, [], ◌∷◌, length, map, range_with_len, Frame, Geometry, frame_at}
-use Rattle.recovery.specs.Names.{IsSoundFrames, world_at, Frozen, Running, Disk, Parts, frames_of, objects_in, Snapshots, FrozenFrames, View, AreCounted}
+use Rattle.recovery.specs.Names.{◌≡◌, ℕ, ◌<◌, ◌≤◌, ◌==◌, Bool, not, Option, None, Some, List, [], ◌∷◌, length, map}
+use Rattle.recovery.specs.Names.{range_with_len, Frame, Geometry, frame_at, IsSoundFrames, world_at, Frozen, Running}
+use Rattle.recovery.specs.Names.{Disk, Parts, frames_of, objects_in, Snapshots, FrozenFrames, View, AreCounted}
 use Rattle.recovery.specs.Names.{BanksState}
 use Rattle.recovery.specs.declared.live.Live.{Live}
 use Rattle.recovery.specs.Denotes.{saved_of, IsSoundSaved, Leaves}

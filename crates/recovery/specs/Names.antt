@@ -21,4 +21,5 @@ pub use Rattle.model.specs.declared.geometry.Geometry.{Geometry}
 pub use Rattle.object_store.specs.Store.{FrozenFrames, Snapshots, View}
 pub use Rattle.space_bank.specs.Banks.{AreCounted, BanksState}
 pub use Rattle.std.specs.List.{Contains, range_with_len}
-pub use Rattle.std.specs.Prelude.{Bool, List, None, Option, Some, [], length, map, not, ℕ, ◌<◌, ◌==◌, ◌∷◌, ◌≡◌, ◌≤◌, ◌⊎◌}
+pub use Rattle.std.specs.Prelude.{Bool, List, None, Option, Some, [], length, map, not, ℕ, ◌<◌, ◌==◌, ◌∷◌, ◌≡◌, ◌≤◌}
+pub use Rattle.std.specs.Prelude.{◌⊎◌}

@@ -8,7 +8,8 @@ pub use Rattle.kernel.specs.Standing.{Stands, disk_of, reported_code}
 pub use Rattle.model.specs.Closed.{IsClosed}
 pub use Rattle.model.specs.Machine.{Machine, Running, Up, candidates}
 pub use Rattle.model.specs.OrderOutcome.{code_number}
-pub use Rattle.model.specs.Run.{BadLine, IsRun, Nothing, Replies, Reply, Reported, Turn, lines_of, output_of, reply_text}
+pub use Rattle.model.specs.Run.{BadLine, IsRun, Nothing, Replies, Reply, Reported, Turn, lines_of, output_of}
+pub use Rattle.model.specs.Run.{reply_text}
 pub use Rattle.model.specs.Step.{second}
 pub use Rattle.model.specs.Text.{Says, line_of, refusal_text, spaced}
 pub use Rattle.model.specs.World.{object_at}
@@ -29,5 +30,5 @@ pub use Rattle.script.specs.declared.line_fault.LineFault.{LineFault}
 pub use Rattle.script.specs.declared.lines.LineBuffer.{LineBuffer}
 pub use Rattle.std.specs.Io.KnownBytes.{Appends, Consumes, IsAtEnd}
 pub use Rattle.std.specs.List.{All, flat_map}
-pub use Rattle.std.specs.Prelude.{Bool, Err, List, None, Ok, Option, Result, Some, [], codes, decimal, false, length, map, min, take, true, ℕ, ◌++◌, ◌+◌, ◌-◌}
-pub use Rattle.std.specs.Prelude.{◌<◌, ◌^◌, ◌↔◌, ◌∷◌, ◌≡◌, ◌≢◌, ◌≤◌, ◌⊎◌}
+pub use Rattle.std.specs.Prelude.{Bool, Err, List, None, Ok, Option, Result, Some, [], codes, decimal, false, length}
+pub use Rattle.std.specs.Prelude.{map, min, take, true, ℕ, ◌++◌, ◌+◌, ◌-◌, ◌<◌, ◌^◌, ◌↔◌, ◌∷◌, ◌≡◌, ◌≢◌, ◌≤◌, ◌⊎◌}

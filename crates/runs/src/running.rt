@@ -1,5 +1,6 @@
 // Runs of scripts over a kernel.
-ghost use Rattle.std.specs.Prelude.{◌≡◌, ◌≢◌, ◌<◌, ◌++◌, ℕ, List, [], Option, length, option_map, slice_index_or, take, OnOk, IfErr, IfOk, IsErrOf, IfNone, IfSome, false, true};
+ghost use Rattle.std.specs.Prelude.{◌≡◌, ◌≢◌, ◌<◌, ◌++◌, ℕ, List, [], Option, length, option_map, slice_index_or, take};
+ghost use Rattle.std.specs.Prelude.{OnOk, IfErr, IfOk, IsErrOf, IfNone, IfSome, false, true};
 ghost use Rattle.model.specs.declared.geometry.Geometry.{Geometry};
 ghost use Rattle.model.specs.Machine.{Machine};
 ghost use Rattle.model.specs.Run.{lines_of};

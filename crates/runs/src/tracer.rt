@@ -1,10 +1,12 @@
 // What becomes of each line of a run, on standard error.
-ghost use Rattle.std.specs.Prelude.{◌≡◌, ◌+◌, ◌-◌, ◌<◌, ◌≤◌, ◌^◌, ◌∷◌, [], ◌++◌, List, ℕ, IfNone, IfSome, Some, codes, length, min, option_map, true};
+ghost use Rattle.std.specs.Prelude.{◌≡◌, ◌+◌, ◌-◌, ◌<◌, ◌≤◌, ◌^◌, ◌∷◌, [], ◌++◌, List, ℕ, IfNone, IfSome, Some, codes};
+ghost use Rattle.std.specs.Prelude.{length, min, option_map, true};
 ghost use Rattle.model.specs.Text.{Says, line_of, spaced};
 ghost use Rattle.script.specs.Keywords.{command_name};
 ghost use Rattle.script.specs.LineFaults.{IsFaultOf};
 ghost use Rattle.script.specs.Lines.{IsTextOf};
-ghost use Rattle.runs.specs.Tracing.{EndsIf, IsCauseIn, IsNewTracer, IsOutcome, IsSame, IsTraced, Notes, Sees, cause_text, place_text};
+ghost use Rattle.runs.specs.Tracing.{EndsIf, IsCauseIn, IsNewTracer, IsOutcome, IsSame, IsTraced, Notes, Sees};
+ghost use Rattle.runs.specs.Tracing.{cause_text, place_text};
 
 use crate::cause::{Cause, Stop, add_code};
 use crate::observer::Observer;

@@ -1,8 +1,6 @@
 -- The line of an answer, where only one is wanted.
-use Rattle.std.specs.Prelude.{◌≡◌, ℕ, List, codes}
-use Rattle.model.specs.declared.answer.Answer.{Answer}
+use Rattle.script.specs.Names.{◌≡◌, ℕ, List, codes, Answer, line_of, printed}
 use Rattle.model.specs.declared.answer.Answer.TheVariants as answer
-use Rattle.model.specs.Text.{line_of, printed}
 
 -- the answer's line, or `shown` for an object
 abbrev pub IsAnswerText : Answer → List ℕ → Type 0

@@ -1,8 +1,7 @@
-use Rattle.std.specs.Prelude.{ℕ, List, [], codes, slice_index_or}
-use Rattle.model.specs.declared.command.Command.{Command}
-use Rattle.model.specs.Text.{command_words, operation_name}
+use Rattle.script.specs.Names.{ℕ, List, [], codes, slice_index_or, Command, command_words, operation_name}
 use Rattle.script.specs.declared.keyword.Keyword.{Keyword}
-use Rattle.script.specs.declared.keyword.Keyword.TheVariants.{Invoke, Load, Store, Show, Evict, Checkpoint, Stabilize, Commit, Migrate, Journal, Restart, Cut}
+use Rattle.script.specs.declared.keyword.Keyword.TheVariants.{Invoke, Load, Store, Show, Evict, Checkpoint, Stabilize}
+use Rattle.script.specs.declared.keyword.Keyword.TheVariants.{Commit, Migrate, Journal, Restart, Cut}
 
 -- the first word of a command
 abbrev pub keyword_name : Keyword → List ℕ

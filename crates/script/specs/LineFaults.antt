@@ -1,7 +1,6 @@
 -- Why a line is bad.
-use Rattle.std.specs.Prelude.{◌≡◌, ℕ, ◌<◌, ◌≤◌, ◌^◌, suc, if◌then◌else◌, Bool, true, false, Some, List, [], ◌∷◌, ◌++◌, length, codes, decimal, get_or, slice_get}
-use Rattle.std.specs.Str.Parse.{AllDigits, digits_value}
-use Rattle.model.specs.Text.{spaced}
+use Rattle.script.specs.Names.{◌≡◌, ℕ, ◌<◌, ◌≤◌, ◌^◌, suc, if◌then◌else◌, Bool, true, false, Some, List, [], ◌∷◌, ◌++◌}
+use Rattle.script.specs.Names.{length, codes, decimal, get_or, slice_get, AllDigits, digits_value, spaced}
 use Rattle.script.specs.declared.keyword.Keyword.{Keyword}
 use Rattle.script.specs.declared.keyword.Keyword.TheVariants as keyword
 use Rattle.script.specs.declared.line_fault.LineFault.{LineFault}

@@ -1,6 +1,5 @@
 -- What is kept of a line while it is read.
-use Rattle.std.specs.Prelude.{◌≡◌, ◌≢◌, ◌⊎◌, ℕ, ◌<◌, true, false, Option, None, Some, List, length}
-use Rattle.std.specs.List.{All}
+use Rattle.script.specs.Names.{◌≡◌, ◌≢◌, ◌⊎◌, ℕ, ◌<◌, true, false, Option, None, Some, List, length, All}
 use Rattle.script.specs.declared.lines.LineBuffer.{LineBuffer}
 
 -- no byte of it ends a line

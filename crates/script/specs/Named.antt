@@ -1,13 +1,11 @@
 -- The words of a capability's text, and reading them from left to right.
-use Rattle.std.specs.Prelude.{ℕ, ◌==◌, ◌&&◌, ◌^◌, nat_lt, nat_le, if◌then◌else◌, Option, None, Some, List, [], ◌∷◌, codes, decimal}
-use Rattle.std.specs.Str.{bytes_eq}
-use Rattle.model.specs.Capability.{full, weak}
-use Rattle.model.specs.declared.access.Access.{Access}
-use Rattle.model.specs.declared.capability.Capability.{Capability}
+use Rattle.script.specs.Names.{ℕ, ◌==◌, ◌&&◌, ◌^◌, nat_lt, nat_le, if◌then◌else◌, Option, None, Some, List, [], ◌∷◌}
+use Rattle.script.specs.Names.{codes, decimal, bytes_eq, full, weak, Access, Capability}
 use Rattle.model.specs.declared.capability.Capability.TheVariants as capability
 use Rattle.script.specs.Reading.{◌>>=◌, Words, number_at}
 use Rattle.script.specs.declared.named.Kind.{Kind}
-use Rattle.script.specs.declared.named.Kind.TheVariants.{Void, Number, Page, Node, Space, Process, Start, Resume, Bank, Discrim}
+use Rattle.script.specs.declared.named.Kind.TheVariants.{Void, Number, Page, Node, Space, Process, Start, Resume, Bank}
+use Rattle.script.specs.declared.named.Kind.TheVariants.{Discrim}
 
 -- the first word of a capability
 abbrev pub kind_name : Kind → List ℕ

@@ -1,6 +1,5 @@
 -- What a writer is left with.
-use Rattle.std.specs.Prelude.{◌≡◌, ℕ, List, ◌++◌, Option, Result, Ok, Err}
-use Rattle.std.specs.Io.KnownBytes.{Appends}
+use Rattle.script.specs.Names.{◌≡◌, ℕ, List, ◌++◌, Option, Result, Ok, Err, Appends}
 use Rattle.script.specs.declared.fault.RunFault.{RunFault}
 use Rattle.script.specs.declared.fault.RunFault.TheVariants as fault
 

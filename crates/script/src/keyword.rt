@@ -1,5 +1,6 @@
 // The first words of commands.
-ghost use Rattle.std.specs.Prelude.{◌≡◌, ◌≢◌, ◌+◌, ◌*◌, ◌<◌, ◌≤◌, ◌∷◌, IfSome, IfNone, IsTrue, codes, length, drop, slice_index_or};
+ghost use Rattle.std.specs.Prelude.{◌≡◌, ◌≢◌, ◌+◌, ◌*◌, ◌<◌, ◌≤◌, ◌∷◌, IfSome, IfNone, IsTrue, codes, length, drop};
+ghost use Rattle.std.specs.Prelude.{slice_index_or};
 ghost use Rattle.model.specs.Text.{operation_name};
 ghost use Rattle.script.specs.declared.keyword.Keyword.{Keyword};
 ghost use Rattle.script.specs.Keywords.{command_name, keyword_name};

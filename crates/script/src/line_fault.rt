@@ -1,8 +1,10 @@
 // Why a line is bad.
-ghost use Rattle.std.specs.Prelude.{◌≡◌, ◌≢◌, ℕ, ◌+◌, ◌<◌, ◌≤◌, ◌^◌, Bool, List, [], ◌∷◌, ◌++◌, IfSome, IfNone, IsTrue, ◌↔◌, if◌then◌else◌, length, decimal};
+ghost use Rattle.std.specs.Prelude.{◌≡◌, ◌≢◌, ℕ, ◌+◌, ◌<◌, ◌≤◌, ◌^◌, Bool, List, [], ◌∷◌, ◌++◌, IfSome, IfNone, IsTrue};
+ghost use Rattle.std.specs.Prelude.{◌↔◌, if◌then◌else◌, length, decimal};
 ghost use Rattle.std.specs.Str.Parse.{AllDigits};
 ghost use Rattle.model.specs.Text.{Says, spaced};
-ghost use Rattle.script.specs.LineFaults.{AreOperands, IsFaultOf, IsOperand, IsWordFault, Names, are_registers, line_fault_text};
+ghost use Rattle.script.specs.LineFaults.{AreOperands, IsFaultOf, IsOperand, IsWordFault, Names, are_registers};
+ghost use Rattle.script.specs.LineFaults.{line_fault_text};
 
 use crate::keyword::{Keyword, keyword_of};
 use crate::line_text::LineText;

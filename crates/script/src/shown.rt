@@ -1,6 +1,7 @@
 // The text of an object.
 ghost use Rattle.std.specs.Prelude.{◌≡◌, ◌<◌, ◌≤◌, [], ◌∷◌, ◌++◌, map, length, codes, decimal};
-ghost use Rattle.model.specs.Text.{spaced, headed, capability_text, state_text, word_line, word_lines, capability_line, capability_lines, registers_of, object_text};
+ghost use Rattle.model.specs.Text.{spaced, headed, capability_text, state_text, word_line, word_lines, capability_line};
+ghost use Rattle.model.specs.Text.{capability_lines, registers_of, object_text};
 ghost use Rattle.script.specs.Writing.{Writes};
 
 use crate::fault::RunFault;

@@ -1,8 +1,10 @@
 // The words of a line.
-ghost use Rattle.std.specs.Prelude.{◌≡◌, ◌==◌, [], ◌∷◌, MatchOption, IfSome, IfNone, IsSome, IsTrue, ◌↔◌, ◌<◌, option_map};
+ghost use Rattle.std.specs.Prelude.{◌≡◌, ◌==◌, [], ◌∷◌, MatchOption, IfSome, IfNone, IsSome, IsTrue, ◌↔◌, ◌<◌};
+ghost use Rattle.std.specs.Prelude.{option_map};
 ghost use Rattle.std.specs.List.{position};
 ghost use Rattle.script.specs.Keywords.{keyword_name};
-ghost use Rattle.script.specs.Reading.{first_end, first_word, words_left, words_of, Gives, number_at, register_at, numbers_at, registers_at};
+ghost use Rattle.script.specs.Reading.{first_end, first_word, words_left, words_of, Gives, number_at, register_at};
+ghost use Rattle.script.specs.Reading.{numbers_at, registers_at};
 
 use crate::keyword::{Keyword, is_load, is_store, operation_in};
 use crate::number::number_in_front;

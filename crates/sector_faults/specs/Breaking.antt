@@ -1,5 +1,6 @@
 -- What is wrong in the sectors of an image: the part for which one of the reasons 1 to 7 to refuse it holds.
-use Rattle.std.specs.Prelude.{◌≡◌, ◌≢◌, ◌⊎◌, ◌+◌, ◌-◌, ◌*◌, ◌%◌, ◌^◌, ◌<◌, ◌≤◌, ◌==◌, nat_le, nat_lt, if◌then◌else◌, false, ℕ, codes, drop, length, take, List, Some}
+use Rattle.std.specs.Prelude.{◌≡◌, ◌≢◌, ◌⊎◌, ◌+◌, ◌-◌, ◌*◌, ◌%◌, ◌^◌, ◌<◌, ◌≤◌, ◌==◌, nat_le, nat_lt, if◌then◌else◌}
+use Rattle.std.specs.Prelude.{false, ℕ, codes, drop, length, take, List, Some}
 use Rattle.device.specs.Disk.{Image}
 use Rattle.model.specs.declared.capability.Cap.{Cap}
 use Rattle.model.specs.declared.frame.Frame.{Frame}
@@ -16,7 +17,8 @@ use Rattle.layout.specs.Directory.{AllFitting, directory_bytes, entry_at}
 use Rattle.layout.specs.Frame.{IsFrameOf}
 use Rattle.layout.specs.Gate.{is_open}
 use Rattle.layout.specs.Header.{IsHeader, header_bytes}
-use Rattle.layout.specs.Image.{HasDirectory, HasHeader, HasPlan, IsBadBy, committed_slot, directory_in, directory_sector, frame_in, sequence_in, total_in}
+use Rattle.layout.specs.Image.{HasDirectory, HasHeader, HasPlan, IsBadBy, committed_slot, directory_in}
+use Rattle.layout.specs.Image.{directory_sector, frame_in, sequence_in, total_in}
 use Rattle.layout.specs.Superblock.{IsGeometry, IsPlan, Plan, superblock_bytes, version_number}
 use Rattle.sector_faults.specs.declared.fault.DirectoryPart.{DirectoryPart}
 use Rattle.sector_faults.specs.declared.fault.DirectoryPart.TheVariants as entry

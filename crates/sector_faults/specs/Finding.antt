@@ -15,7 +15,8 @@ use Rattle.sector_faults.specs.declared.fault.FramePart.{FramePart}
 use Rattle.sector_faults.specs.declared.fault.FramePart.TheVariants as frame
 use Rattle.sector_faults.specs.declared.fault.SectorFault.{SectorFault}
 use Rattle.sector_faults.specs.declared.fault.SectorFault.TheVariants as fault
-use Rattle.sector_faults.specs.Breaking.{BreaksFrame, BreaksGeometry, BreaksHeader, BreaksMark, HoldsCap, IsNotCounted, number_at}
+use Rattle.sector_faults.specs.Breaking.{BreaksFrame, BreaksGeometry, BreaksHeader, BreaksMark, HoldsCap, IsNotCounted}
+use Rattle.sector_faults.specs.Breaking.{number_at}
 
 -- bytes are a copy of the sectors of an image, as many as they have
 abbrev pub IsCopy : Image → List ℕ → Type 0

@@ -1,8 +1,10 @@
 -- What the orders of a bank ask, and what they leave.
-use Rattle.space_bank.specs.Names.{◌≡◌, ◌≢◌, [], ◌∷◌, ℕ, ◌+◌, ◌^◌, ◌<◌, ◌++◌, Bool, true, false, List, length, slice_index, if◌then◌else◌, IsTrue, Capability}
-use Rattle.space_bank.specs.Names.{Geometry, Object, Arguments, BankOrder, chain, usage, freed_by, has_quota, on_bank, owned_by, AreCurrent, AreKeepable}
-use Rattle.space_bank.specs.Names.{is_bank, is_free, is_member, rescind, MayBeHeld, content_at, object_at, owner_at, IsNow, SameFrame, BankChange, Change}
-use Rattle.space_bank.specs.Names.{OrderPlan, Fresh, outcome_by, AreSound, IsFreshAt, IsOnce, Parts, frames_of, objects_in}
+use Rattle.space_bank.specs.Names.{◌≡◌, ◌≢◌, [], ◌∷◌, ℕ, ◌+◌, ◌^◌, ◌<◌, ◌++◌, Bool, true, false, List, length}
+use Rattle.space_bank.specs.Names.{slice_index, if◌then◌else◌, IsTrue, Capability, Geometry, Object, Arguments}
+use Rattle.space_bank.specs.Names.{BankOrder, chain, usage, freed_by, has_quota, on_bank, owned_by, AreCurrent}
+use Rattle.space_bank.specs.Names.{AreKeepable, is_bank, is_free, is_member, rescind, MayBeHeld, content_at, object_at}
+use Rattle.space_bank.specs.Names.{owner_at, IsNow, SameFrame, BankChange, Change, OrderPlan, Fresh, outcome_by}
+use Rattle.space_bank.specs.Names.{AreSound, IsFreshAt, IsOnce, Parts, frames_of, objects_in}
 use Rattle.capability.specs.declared.order.BankChange.TheVariants as bank
 use Rattle.capability.specs.declared.order.Change.TheVariants as change
 use Rattle.capability.specs.declared.present.Fresh.TheVariants as fresh

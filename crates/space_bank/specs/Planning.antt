@@ -1,6 +1,7 @@
 -- What planning reads of a bank.
-use Rattle.space_bank.specs.Names.{◌≡◌, ℕ, ◌+◌, ◌<◌, ◌≤◌, ◌++◌, Bool, true, false, IsTrue, List, [], ◌∷◌, length, slice_index, Capability, Process, Operation}
-use Rattle.space_bank.specs.Names.{Call, Return, Send, Object, is_bank, is_free, annex_at, content_at, AreSound, Parts, objects_in, is_marked}
+use Rattle.space_bank.specs.Names.{◌≡◌, ℕ, ◌+◌, ◌<◌, ◌≤◌, ◌++◌, Bool, true, false, IsTrue, List, [], ◌∷◌, length}
+use Rattle.space_bank.specs.Names.{slice_index, Capability, Process, Operation, Call, Return, Send, Object, is_bank}
+use Rattle.space_bank.specs.Names.{is_free, annex_at, content_at, AreSound, Parts, objects_in, is_marked}
 use Rattle.space_bank.specs.Banks.{AreCounted, BanksState}
 
 -- a bank of frames that are sound and counted

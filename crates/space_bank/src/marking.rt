@@ -1,5 +1,6 @@
 // Which numbers are free: nodes come first, and pages after them.
-ghost use Rattle.std.specs.Prelude.{◌≡◌, ℕ, List, ◌+◌, ◌<◌, ◌^◌, ◌++◌, None, IfSome, true, false, if◌then◌else◌, length, slice_index_or, slice_set};
+ghost use Rattle.std.specs.Prelude.{◌≡◌, ℕ, List, ◌+◌, ◌<◌, ◌^◌, ◌++◌, None, IfSome, true, false, if◌then◌else◌};
+ghost use Rattle.std.specs.Prelude.{length, slice_index_or, slice_set};
 ghost use Rattle.std.specs.List.{All};
 ghost use Rattle.model.specs.declared.object.Object.{Object};
 ghost use Rattle.model.specs.Revoke.{is_member};

@@ -1,5 +1,6 @@
 -- What the calls of the library do to a session, and what they copy out.
-use Rattle.std.specs.Prelude.{◌≡◌, ◌≢◌, ◌⊎◌, ℕ, ◌<◌, ◌≤◌, ◌%◌, ◌++◌, Bool, true, false, List, [], length, drop, Option, None, Some, Result, Ok, Err}
+use Rattle.std.specs.Prelude.{◌≡◌, ◌≢◌, ◌⊎◌, ℕ, ◌<◌, ◌≤◌, ◌%◌, ◌++◌, Bool, true, false, List, [], length, drop, Option}
+use Rattle.std.specs.Prelude.{None, Some, Result, Ok, Err}
 use Rattle.checkpoint.specs.declared.open_fault.OpenFault.TheVariants as fault
 use Rattle.recovery.specs.Recovered.{IsBad, IsWhy}
 use Rattle.kernel.specs.Opening.{Opens}

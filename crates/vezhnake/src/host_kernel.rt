@@ -1,5 +1,6 @@
 // A kernel over the host's storage.
-ghost use Rattle.std.specs.Prelude.{◌≡◌, ◌≢◌, ◌⊎◌, ◌<◌, ◌≤◌, ◌%◌, true, false, drop, length, IfErr, IfOk, IfNone, IfSome, IsErr, Err};
+ghost use Rattle.std.specs.Prelude.{◌≡◌, ◌≢◌, ◌⊎◌, ◌<◌, ◌≤◌, ◌%◌, true, false, drop, length, IfErr, IfOk, IfNone};
+ghost use Rattle.std.specs.Prelude.{IfSome, IsErr, Err};
 ghost use Rattle.runs.specs.Reader.{read_from};
 ghost use Rattle.vezhnake.specs.Hosting.{IsFresh, RunsText};
 ghost use Rattle.vezhnake.specs.Sessions.{IsCapacity, OpensFrom, OpensKernel, RunsKernel, calls_in, kept_from};

@@ -5,7 +5,8 @@
 ghost use Rattle.std.specs.Prelude.{◌≡◌};
 ghost use Rattle.vezhnake.specs.declared.status.Status.{Status};
 ghost use Rattle.vezhnake.specs.Handles.{session_of};
-ghost use Rattle.vezhnake.specs.Sessions.{ClosesHandle, CopiesAnswer, OnSession, OpensHandle, RunsBatch, StepsSession, TakesCalls};
+ghost use Rattle.vezhnake.specs.Sessions.{ClosesHandle, CopiesAnswer, OnSession, OpensHandle, RunsBatch, StepsSession};
+ghost use Rattle.vezhnake.specs.Sessions.{TakesCalls};
 ghost use Rattle.vezhnake.specs.Statuses.{number_of};
 
 use std::alloc::Global;

@@ -1,5 +1,6 @@
 // The numbers written since the last checkpoint.
-ghost use Rattle.std.specs.Prelude.{◌≡◌, ◌≢◌, ◌↔◌, ◌+◌, ◌<◌, ◌≤◌, IfOk, IsErrOf, IsTrue, OnOk, length, slice_index_or, slice_set, false, true};
+ghost use Rattle.std.specs.Prelude.{◌≡◌, ◌≢◌, ◌↔◌, ◌+◌, ◌<◌, ◌≤◌, IfOk, IsErrOf, IsTrue, OnOk, length, slice_index_or};
+ghost use Rattle.std.specs.Prelude.{slice_set, false, true};
 ghost use Rattle.std.specs.List.{All};
 ghost use Rattle.model.specs.Frame.{header_at};
 ghost use Rattle.model.specs.Machine.{touching, touched_count};

@@ -4,7 +4,8 @@ ghost use Rattle.model.specs.Keepable.{AreKeepable};
 ghost use Rattle.device.specs.Calls.{Counts};
 ghost use Rattle.layout.specs.Header.{IsHeader};
 ghost use Rattle.checkpoint.specs.Saved.{LeavesEither};
-ghost use Rattle.migrator.specs.Durable.{IsDurable, IsSoundOn, frozen_of, next_header, next_saved, seen_by, stored_after_commit, stored_on};
+ghost use Rattle.migrator.specs.Durable.{IsDurable, IsSoundOn, frozen_of, next_header, next_saved, seen_by};
+ghost use Rattle.migrator.specs.Durable.{stored_after_commit, stored_on};
 ghost use Rattle.migrator.specs.Table.{whole_count};
 
 use crate::books::Books;

@@ -8,7 +8,8 @@ ghost use Rattle.model.specs.declared.object.Role.TheVariants as role;
 ghost use Rattle.frame_io.specs.Calls.{ReadsOnly};
 ghost use Rattle.frame_io.specs.Frames.{IsObject};
 ghost use Rattle.checkpoint.specs.Saved.{LeavesEither, journaled_saved, replaced_saved, with_words};
-ghost use Rattle.migrator.specs.Durable.{GoesOnDisk, IsDurable, IsSoundOn, MayJournal, first_bytes, first_frame, replaced, replaced_header, stored_after_journal, stored_on};
+ghost use Rattle.migrator.specs.Durable.{GoesOnDisk, IsDurable, IsSoundOn, MayJournal, first_bytes, first_frame};
+ghost use Rattle.migrator.specs.Durable.{replaced, replaced_header, stored_after_journal, stored_on};
 
 use crate::books::Books;
 use crate::directory::Directory;

@@ -2,7 +2,8 @@
 ghost use Rattle.std.specs.Prelude.{◌≡◌, ◌⊎◌, ℕ, ◌+◌, ◌-◌, ◌<◌, ◌≤◌, true, false, IfOk, OnOk, OnErr};
 ghost use Rattle.device.specs.Calls.{Counts};
 ghost use Rattle.checkpoint.specs.Saved.{LeavesEither, home_saved};
-ghost use Rattle.migrator.specs.Durable.{IsDurable, IsLesser, IsSoundOn, MovedBy, finished, moved, moved_saved, stored_on};
+ghost use Rattle.migrator.specs.Durable.{IsDurable, IsLesser, IsSoundOn, MovedBy, finished, moved, moved_saved};
+ghost use Rattle.migrator.specs.Durable.{stored_on};
 
 use crate::books::Books;
 use crate::copy::copy_home;

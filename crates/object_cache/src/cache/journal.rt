@@ -1,5 +1,6 @@
 // One page is saved beside the checkpoints.
-ghost use Rattle.std.specs.Prelude.{◌≡◌, ◌⊎◌, ◌+◌, ◌<◌, ◌≤◌, ◌^◌, None, length, option_map, true, IfOk, OnOk, OnErr, IsErrOf};
+ghost use Rattle.std.specs.Prelude.{◌≡◌, ◌⊎◌, ◌+◌, ◌<◌, ◌≤◌, ◌^◌, None, length, option_map, true, IfOk, OnOk, OnErr};
+ghost use Rattle.std.specs.Prelude.{IsErrOf};
 ghost use Rattle.model.specs.declared.object.Role.TheVariants as role;
 ghost use Rattle.model.specs.Frame.{frame_at, header_at};
 ghost use Rattle.model.specs.Keepable.{AreKeepable};
@@ -9,7 +10,8 @@ ghost use Rattle.device.specs.Calls.{Counts};
 ghost use Rattle.capability.specs.Parts.{frames_of};
 ghost use Rattle.checkpoint.specs.Saved.{LeavesEither, LeavesOneOf, journaled_saved};
 ghost use Rattle.migrator.specs.Durable.{stored_of, is_sound, left_of, newest, stored_after_journal};
-ghost use Rattle.object_store.specs.Journal.{IsJournalAnswer, IsTurnedAway, snapshots_after_journal, is_page_now, is_page_role, is_same_page, is_still_saved, next_journaled, words_now};
+ghost use Rattle.object_store.specs.Journal.{IsJournalAnswer, IsTurnedAway, snapshots_after_journal, is_page_now};
+ghost use Rattle.object_store.specs.Journal.{is_page_role, is_same_page, is_still_saved, next_journaled, words_now};
 ghost use Rattle.object_store.specs.Store.{left_in};
 ghost use Rattle.object_cache.specs.Journaled.{held_now};
 ghost use Rattle.object_cache.specs.StoreState.{parts_of, view_of};

@@ -7,7 +7,8 @@ ghost use Rattle.checkpoint.specs.Saved.{LeavesSaved};
 ghost use Rattle.object_store.specs.Store.{FrozenFrames, IsStabilizeAnswer, left_in, stabilized};
 ghost use Rattle.object_cache.specs.declared.held.Held.{Held};
 ghost use Rattle.object_cache.specs.Memory.{Nothing, mark_at};
-ghost use Rattle.object_cache.specs.StoreState.{GoesOnIn, PutsBy, on_device, on_device_frozen, owed_at, parts_of, pending_count, view_of};
+ghost use Rattle.object_cache.specs.StoreState.{GoesOnIn, PutsBy, on_device, on_device_frozen, owed_at, parts_of};
+ghost use Rattle.object_cache.specs.StoreState.{pending_count, view_of};
 
 use crate::cache::Cache;
 use checkpoint::CheckpointFault;

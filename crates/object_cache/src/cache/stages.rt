@@ -7,7 +7,8 @@ ghost use Rattle.capability.specs.Parts.{frames_of};
 ghost use Rattle.checkpoint.specs.Saved.{most, LeavesEither};
 ghost use Rattle.migrator.specs.Durable.{stored_of, is_sound};
 ghost use Rattle.checkpoint.specs.Refused.{IsCommitAnswer, IsFreezeAnswer, IsRefused};
-ghost use Rattle.object_store.specs.Store.{FrozenFrames, MayCommit, snapshots_after_commit, freezing, left_in, moved, moved_saved, next_saved};
+ghost use Rattle.object_store.specs.Store.{FrozenFrames, MayCommit, snapshots_after_commit, freezing, left_in, moved};
+ghost use Rattle.object_store.specs.Store.{moved_saved, next_saved};
 ghost use Rattle.object_cache.specs.StoreState.{AreObjectsOf, IsWhole, parts_of, view_of};
 
 use crate::all_objects::{AllObjects, take_bodies};

@@ -64,7 +64,8 @@ impl<D: Device, P: Policy> PresentFrames for Store<D, P> {
     }
 
     ghost use Rattle.std.proofs.Common.{refl};
-    ghost use Rattle.object_cache.specs.PresentLaws.{continues_same, continues_with, continues_twice, fetched_content, announced_content};
+    ghost use Rattle.object_cache.specs.PresentLaws.{continues_same, continues_with, continues_twice, fetched_content};
+    ghost use Rattle.object_cache.specs.PresentLaws.{announced_content};
 
     ghost parts_with = { λ s n c. refl };
 

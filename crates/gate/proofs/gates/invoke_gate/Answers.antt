@@ -4,7 +4,8 @@ use Rattle.gate.proofs.Entering.{effect_through, gate_code, gate_invoked, gate_p
 use Rattle.gate.proofs.Known.{running_process}
 use Rattle.gate.proofs.Invoking.{carried_out, found_stalled, unannounced}
 use Rattle.gate.proofs.Renewing.{gate_no_bank, renews_invoked}
-use Rattle.gate.proofs.Standing.{ReadsAs, annex_there, requested_annex, calls_below, few_objects, keepable_most, looked_as, looked_number, looked_objects, looked_sound, only_reads_again, now_sound, prepared_as}
+use Rattle.gate.proofs.Standing.{ReadsAs, annex_there, requested_annex, calls_below, few_objects, keepable_most, looked_as, looked_number, looked_objects}
+use Rattle.gate.proofs.Standing.{looked_sound, only_reads_again, now_sound, prepared_as}
 use Rattle.gate.proofs.gates.invoke_gate.Goals as goal
 
 pub look_at_process-requires-clause-keepable : goal.look_at_process-requires-clause-keepable

@@ -5,7 +5,8 @@ use Rattle.gate.proofs.Effects.{fetched_known, listed_known, object_invoked, ord
 use Rattle.gate.proofs.Known.{running_process}
 use Rattle.gate.proofs.Invoking.{carried_out, unannounced}
 use Rattle.gate.proofs.Renewing.{renews_looked}
-use Rattle.gate.proofs.Standing.{ReadsAs, requested_annex, few_objects, inside_known, keepable_most, looked_as, looked_number, looked_objects, looked_sound, only_reads_again, now_sound, prepared_as}
+use Rattle.gate.proofs.Standing.{ReadsAs, requested_annex, few_objects, inside_known, keepable_most, looked_as, looked_number, looked_objects, looked_sound}
+use Rattle.gate.proofs.Standing.{only_reads_again, now_sound, prepared_as}
 use Rattle.gate.proofs.kernel_object.invoke_order.Goals as goal
 
 pub announce-requires : goal.announce-requires

@@ -1,7 +1,8 @@
 use Rattle.image_writer.proofs.Names.{◌∙◌, arith, subst, sym, false≢true, IsPlan}
 use Rattle.image_writer.proofs.LaidPlans.{is_plan, may_be, few_counts}
 use Rattle.image_writer.proofs.plan.lay_out.Goals as goal
-use Rattle.image_writer.proofs.plan.lay_out.Goals.{then-geometry-via-then-geometry, then-geometry-via-else-geometry+then-ranges-gt-MAX_RANGES, then-geometry-via-else-geometry+else-ranges-gt-MAX_RANGES+then-not-are_few}
+use Rattle.image_writer.proofs.plan.lay_out.Goals.{then-geometry-via-then-geometry, then-geometry-via-else-geometry+then-ranges-gt-MAX_RANGES}
+use Rattle.image_writer.proofs.plan.lay_out.Goals.{then-geometry-via-else-geometry+else-ranges-gt-MAX_RANGES+then-not-are_few}
 
 pub returns-then-geometry-clause-refused : goal.returns-then-geometry-clause-refused
 returns-then-geometry-clause-refused c may = elim c.then-geometry.branch [

@@ -2,7 +2,9 @@ use Rattle.layout.proofs.Names.{◌∷◌, drop, refl, sym, ap, subst, ◌∙◌
 use Rattle.layout.proofs.Numbers.{stream}
 use Rattle.layout.proofs.Headers.{five_read, header_stream, spelt_header, fields}
 use Rattle.layout.proofs.header.decode_header.Goals as goal
-use Rattle.layout.proofs.header.decode_header.Goals.{else-magic-eq-HEADER_MAGIC-via-then-magic-eq-HEADER_MAGIC+then-is_blank+else-is_header, else-magic-eq-HEADER_MAGIC-via-then-magic-eq-HEADER_MAGIC+else-is_blank, else-magic-eq-HEADER_MAGIC-via-else-magic-eq-HEADER_MAGIC}
+use Rattle.layout.proofs.header.decode_header.Goals.{else-magic-eq-HEADER_MAGIC-via-then-magic-eq-HEADER_MAGIC+then-is_blank+else-is_header}
+use Rattle.layout.proofs.header.decode_header.Goals.{else-magic-eq-HEADER_MAGIC-via-then-magic-eq-HEADER_MAGIC+else-is_blank}
+use Rattle.layout.proofs.header.decode_header.Goals.{else-magic-eq-HEADER_MAGIC-via-else-magic-eq-HEADER_MAGIC}
 
 pub returns-then-is_header-clause-found : goal.returns-then-is_header-clause-found
 returns-then-is_header-clause-found c =

@@ -3,7 +3,8 @@ use Rattle.layout.proofs.Names.{Body, IsBody, slots_of, content_of, body_in}
 use Rattle.layout.proofs.Numbers.{AllFit}
 use Rattle.layout.proofs.Frames.{front_list, node_parts, node_reported, body_reported, node_found, any_words}
 use Rattle.layout.proofs.node_frame.decode_node_frame.Goals as goal
-use Rattle.layout.proofs.node_frame.decode_node_frame.Goals.{else-has_counts-via-then-has_counts+then-is_blank+else-is_body, else-has_counts-via-then-has_counts+else-is_blank, else-has_counts-via-else-has_counts}
+use Rattle.layout.proofs.node_frame.decode_node_frame.Goals.{else-has_counts-via-then-has_counts+then-is_blank+else-is_body}
+use Rattle.layout.proofs.node_frame.decode_node_frame.Goals.{else-has_counts-via-then-has_counts+else-is_blank, else-has_counts-via-else-has_counts}
 
 pub returns-in_err-decode_slots-clause-refused : goal.returns-in_err-decode_slots-clause-refused
 returns-in_err-decode_slots-clause-refused c =

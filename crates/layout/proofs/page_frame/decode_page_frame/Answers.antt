@@ -3,7 +3,8 @@ use Rattle.layout.proofs.Numbers.{AllFit}
 use Rattle.layout.proofs.Frames.{front_list}
 use Rattle.layout.proofs.Pages.{page_parts, page_reported, page_body_reported, page_found}
 use Rattle.layout.proofs.page_frame.decode_page_frame.Goals as goal
-use Rattle.layout.proofs.page_frame.decode_page_frame.Goals.{else-has_counts-via-then-has_counts+then-is_blank+else-is_body, else-has_counts-via-then-has_counts+else-is_blank, else-has_counts-via-else-has_counts}
+use Rattle.layout.proofs.page_frame.decode_page_frame.Goals.{else-has_counts-via-then-has_counts+then-is_blank+else-is_body}
+use Rattle.layout.proofs.page_frame.decode_page_frame.Goals.{else-has_counts-via-then-has_counts+else-is_blank, else-has_counts-via-else-has_counts}
 
 pub returns-then-is_body-clause-found : goal.returns-then-is_body-clause-found
 returns-then-is_body-clause-found c =

@@ -1,7 +1,9 @@
 use Rattle.layout.proofs.Names.{◌≡◌, ◌/◌, ℕ, List, length, drop, take, refl, sym, subst, ◌∙◌, arith, All, false≢true, Geometry, HomeRange, plan_of, unused}
-use Rattle.layout.proofs.Superblocks.{magic, magic_read, version_from, plan_reported, others_are, plan_found, plan_read, none_read_of, eight_read, last_ranges, plan_same}
+use Rattle.layout.proofs.Superblocks.{magic, magic_read, version_from, plan_reported, others_are, plan_found, plan_read, none_read_of, eight_read, last_ranges}
+use Rattle.layout.proofs.Superblocks.{plan_same}
 use Rattle.layout.proofs.superblock.read_plan.Goals as goal
-use Rattle.layout.proofs.superblock.read_plan.Goals.{then-used-gt-MAX_RANGES-via-then-used-gt-MAX_RANGES, then-used-gt-MAX_RANGES-via-else-used-gt-MAX_RANGES+then-not-are_unused}
+use Rattle.layout.proofs.superblock.read_plan.Goals.{then-used-gt-MAX_RANGES-via-then-used-gt-MAX_RANGES}
+use Rattle.layout.proofs.superblock.read_plan.Goals.{then-used-gt-MAX_RANGES-via-else-used-gt-MAX_RANGES+then-not-are_unused}
 
 pub returns-then-used-gt-MAX_RANGES-clause-none : goal.returns-then-used-gt-MAX_RANGES-clause-none
 returns-then-used-gt-MAX_RANGES-clause-none c = λ p is e.

@@ -1,7 +1,8 @@
 use Rattle.layout.proofs.Names.{◌≡◌, ◌-◌, ℕ, drop, sym, ap, ◌∙◌, arith, false≢true, zeros}
 use Rattle.layout.proofs.Superblocks.{magic_from, marked, versions_reported, unmarked}
 use Rattle.layout.proofs.superblock.version_in.Goals as goal
-use Rattle.layout.proofs.superblock.version_in.Goals.{then-magic-ne-SUPERBLOCK_MAGIC-via-then-magic-ne-SUPERBLOCK_MAGIC, then-magic-ne-SUPERBLOCK_MAGIC-via-else-magic-ne-SUPERBLOCK_MAGIC+then-not-is_blank_from}
+use Rattle.layout.proofs.superblock.version_in.Goals.{then-magic-ne-SUPERBLOCK_MAGIC-via-then-magic-ne-SUPERBLOCK_MAGIC}
+use Rattle.layout.proofs.superblock.version_in.Goals.{then-magic-ne-SUPERBLOCK_MAGIC-via-else-magic-ne-SUPERBLOCK_MAGIC+then-not-is_blank_from}
 
 pub returns-then-magic-ne-SUPERBLOCK_MAGIC-clause-none : goal.returns-then-magic-ne-SUPERBLOCK_MAGIC-clause-none
 returns-then-magic-ne-SUPERBLOCK_MAGIC-clause-none c = λ mark.

@@ -3,7 +3,8 @@ use Rattle.space_bank.proofs.Names.{is_under, object_at, objects_in, length_obje
 use Rattle.space_bank.proofs.Lists.{is_listed_under, listed_more, listed_same, under_whole}
 use Rattle.space_bank.proofs.Missing.{free_not_under, listed_up_to}
 use Rattle.space_bank.proofs.listing.list_under.Goals as goal
-use Rattle.space_bank.proofs.listing.list_under.Goals.{then-number-bank, then-number-bank-via-then-number-bank, then-number-bank-via-else-number-bank+then-is_under, else-number-bank+else-is_under}
+use Rattle.space_bank.proofs.listing.list_under.Goals.{then-number-bank, then-number-bank-via-then-number-bank}
+use Rattle.space_bank.proofs.listing.list_under.Goals.{then-number-bank-via-else-number-bank+then-is_under, else-number-bank+else-is_under}
 
 pub next_used-requires-clause-few : goal.next_used-requires-clause-few
 next_used-requires-clause-few g c =

@@ -1,5 +1,6 @@
 use Rattle.object_cache.proofs.Names.{stored_of, journal_there, memory_of}
-use Rattle.object_cache.proofs.Journaling.{journal_known, journal_object, journal_page, stands_after, seen_after, snapshots_after, snapshots_stays, answer_seen, moments_seen}
+use Rattle.object_cache.proofs.Journaling.{journal_known, journal_object, journal_page, stands_after, seen_after, snapshots_after, snapshots_stays, answer_seen}
+use Rattle.object_cache.proofs.Journaling.{moments_seen}
 use Rattle.object_cache.proofs.cache.Cache.journal.Goals as goal
 
 pub journal_page-requires-clause-known : goal.journal_page-requires-clause-known

@@ -2,7 +2,8 @@ use Rattle.object_cache.proofs.Names.{sym, ap, ◌∙◌, option_copied, entry_a
 use Rattle.object_cache.proofs.Objects.{has_entry}
 use Rattle.object_cache.proofs.Outcomes.{on_err}
 use Rattle.object_cache.proofs.Owing.{none_there}
-use Rattle.object_cache.proofs.PutsOut.{own_fewer, own_running, own_keepable, own_room, out_stands, out_seen, out_continues, torn_stands, torn_seen, torn_continues}
+use Rattle.object_cache.proofs.PutsOut.{own_fewer, own_running, own_keepable, own_room, out_stands, out_seen, out_continues, torn_stands, torn_seen}
+use Rattle.object_cache.proofs.PutsOut.{torn_continues}
 use Rattle.object_cache.proofs.cache.Cache.put_own_frozen.Goals as goal
 
 pub unreachable-requires : goal.unreachable-requires

@@ -2,7 +2,8 @@ use Rattle.space_bank.proofs.Names.{◌++◌, ◌∙◌, ℕ, List, [], ◌∷�
 use Rattle.model.specs.declared.order.BankOrder.TheVariants as bank
 use Rattle.model.specs.declared.order.ResultCode.TheVariants as code
 use Rattle.space_bank.proofs.Making.{may_free}
-use Rattle.space_bank.proofs.Plans.{annex_kept, frees_none_there, frees_other_there, frees_own_there, made_as, planned_as, planned_none, process_room, refused_as}
+use Rattle.space_bank.proofs.Plans.{annex_kept, frees_none_there, frees_other_there, frees_own_there, made_as, planned_as, planned_none, process_room}
+use Rattle.space_bank.proofs.Plans.{refused_as}
 use Rattle.space_bank.proofs.banks.Banks.plan_free.Goals as goal
 
 pub returns-in-None-clause-planned : goal.returns-in-None-clause-planned

@@ -5,7 +5,8 @@ use Rattle.space_bank.proofs.Ending.{snapshots_then_ended, ended_snapshots, rele
 use Rattle.space_bank.proofs.Giving.{serve_parent}
 use Rattle.space_bank.proofs.Owners.{transferred_same}
 use Rattle.space_bank.proofs.Renewing.{SameFree}
-use Rattle.space_bank.proofs.Returning.{drop_next, transferred_allocations, transferred_calls, inherited_by, mark_one, one_all, one_enough, only_used, owned_used, rest_all, returned_carried}
+use Rattle.space_bank.proofs.Returning.{drop_next, transferred_allocations, transferred_calls, inherited_by, mark_one, one_all, one_enough, only_used}
+use Rattle.space_bank.proofs.Returning.{owned_used, rest_all, returned_carried}
 use Rattle.space_bank.proofs.Standing.{serve_count}
 use Rattle.space_bank.proofs.banks.Banks.return_to_parent.Goals as goal
 
