@@ -8,7 +8,7 @@ ghost use Rattle.number_set.specs.Marks.{IsNextMarked, HasNoneMarked};
 ghost use Rattle.capability.specs.Parts.{frames_of};
 ghost use Rattle.capability.specs.Plain.{Announces, GoesOn, HasSpareBody, IsThere, parts_of, with_content_at};
 
-use crate::plain::spare_bodies::{filled, make_spare_bodies, push_free};
+use crate::plain::spare_bodies::{filled, make_spares, push_free};
 use crate::plain::touched::{are_ready, fresh_within, mark};
 use crate::present::{Fresh, MAX_FETCHED, PrepareFault, PresentFrames};
 use crate::table::ObjectTable;
@@ -131,7 +131,7 @@ impl Plain {
         ensures { Announces self.old self.new written.now result }
     {
         let fresh = fresh_within(&self.touched, self.count, self.geometry.log, written)?;
-        match make_spare_bodies(
+        match make_spares(
             alloc,
             self.geometry,
             &self.table,

@@ -12,7 +12,7 @@ use std::alloc::{AllocError, Global};
 
 /// Puts a blank body aside for each free number of a list. Takes memory for no other, and where
 /// that runs out the bodies put aside so far stay.
-pub fn make_spare_bodies(
+pub fn make_spares(
     alloc: Global,
     geometry: Geometry,
     table: &ObjectTable,

@@ -1,6 +1,6 @@
 use Rattle.capability.proofs.Names.{◌≡◌, inl, inr, slice_index_or, subst, sym, ◌∙◌, arith, cases_eq, get_or_default_zero, Free, header_at, held_at}
 use Rattle.capability.proofs.Names.{spare_body_at}
-use Rattle.capability.proofs.plain.spare_bodies.make_spare_bodies.Goals as goal
+use Rattle.capability.proofs.plain.spare_bodies.make_spares.Goals as goal
 
 pub loop-number-preserved : goal.loop-number-preserved
 loop-number-preserved c =

@@ -1,5 +1,5 @@
 use Rattle.capability.proofs.Names.{◌≡◌, ℕ, ◌<◌, length, slice_index_or, Free, header_at, held_at, spare_body_at}
-use Rattle.capability.proofs.plain.spare_bodies.make_spare_bodies.Given as goal
+use Rattle.capability.proofs.plain.spare_bodies.make_spares.Given as goal
 
 abbrev pub invariant-loop-number : goal.invariant-loop-number
 invariant-loop-number l = record {
