@@ -17,7 +17,7 @@ pub record PlainState : Type 0 where
   pub headers : List ObjectHeader
   pub contents : List (Content Cap)
   pub touched : List Bool
-  pub spare_bodies : List (Content Cap)
+  pub spares : List (Content Cap)
 
 -- its parts
 abbrev pub parts_of : PlainState → Parts
@@ -31,11 +31,11 @@ parts_of s = record {
 
 -- what its fields keep: one of each for each number, and how many are marked
 pub record IsWholeStore (geometry : Geometry) (headers : List ObjectHeader) (contents : List (Content Cap))
-    (touched : List Bool) (spare_bodies : List (Content Cap)) (count : ℕ) : Type 0 where
+    (touched : List Bool) (spares : List (Content Cap)) (count : ℕ) : Type 0 where
   pub header_each : length headers ≡ object_count geometry
   pub content_each : length contents ≡ object_count geometry
   pub mark_each : length touched ≡ object_count geometry
-  pub room_each : length spare_bodies ≡ object_count geometry
+  pub room_each : length spares ≡ object_count geometry
   pub marked : count ≡ touched_count touched
   pub within : count ≤ geometry.log
 
@@ -54,7 +54,7 @@ spare_body_for _ = content.Node (all_slots void_held)
 -- a number may be written where it has room, if it is free
 pub record HasSpareBody (s : PlainState) (n : ℕ) : Type 0 where
   pub there : IsThere s n
-  pub room : (header_at s.headers n).role ≡ role.Free → held_at s.spare_bodies n ≡ spare_body_at s.geometry n
+  pub room : (header_at s.headers n).role ≡ role.Free → held_at s.spares n ≡ spare_body_at s.geometry n
 
 -- numbers were announced or, after an error, none of them
 pub record Announces {T : Type 0} (old new : PlainState) (written : List ℕ) (result : Result T PrepareFault) : Type 0 where

@@ -8,7 +8,7 @@ ghost use Rattle.number_set.specs.Marks.{IsNextMarked, HasNoneMarked};
 ghost use Rattle.capability.specs.Parts.{frames_of};
 ghost use Rattle.capability.specs.Plain.{Announces, GoesOn, HasSpareBody, IsThere, parts_of, with_content_at};
 
-use crate::plain::spare_bodies::{filled, make_spares, push_free};
+use crate::plain::spares::{filled, make_spares, push_free};
 use crate::plain::touched::{are_ready, fresh_within, mark};
 use crate::present::{Fresh, MAX_FETCHED, PrepareFault, PresentFrames};
 use crate::table::ObjectTable;
@@ -18,7 +18,7 @@ use std::alloc::{AllocError, Global};
 use std::marker::Model;
 use std::mem;
 
-pub mod spare_bodies;
+pub mod spares;
 pub mod touched;
 
 /// All objects in memory, by number, and which numbers were written.
@@ -32,7 +32,7 @@ pub struct Plain {
     contents: Vec<Content<Cap>>,
     touched: NumberSet,
     /// Blank bodies for free numbers that were announced. `Free` where there is none.
-    spare_bodies: Vec<Content<Cap>>,
+    spares: Vec<Content<Cap>>,
     /// How many numbers are in `touched`.
     count: u64,
 }
@@ -47,11 +47,11 @@ impl Model for Plain {
       headers = p.table;
       contents = p.contents.items;
       touched = p.touched;
-      spare_bodies = p.spare_bodies.items;
+      spares = p.spares.items;
     } };
 
     ghost invariant = { λ p.
-        IsWholeStore p.geometry p.table p.contents.items p.touched p.spare_bodies.items p.count };
+        IsWholeStore p.geometry p.table p.contents.items p.touched p.spares.items p.count };
 }
 
 impl Plain {
@@ -70,19 +70,19 @@ impl Plain {
           headers = headers.items;
           contents = contents.items;
           touched = untouched geometry;
-          spare_bodies = replicate (object_count geometry) Content.Free;
+          spares = replicate (object_count geometry) Content.Free;
         }) }
     {
         let count = contents.len();
         let touched = NumberSet::new(alloc, count)?;
-        let mut spare_bodies = Vec::with_capacity(alloc, count)?;
-        push_free(&mut spare_bodies, count)?;
+        let mut spares = Vec::with_capacity(alloc, count)?;
+        push_free(&mut spares, count)?;
         Ok(Plain {
             geometry,
             table: ObjectTable::new(headers),
             contents,
             touched,
-            spare_bodies,
+            spares,
             count: 0,
         })
     }
@@ -131,13 +131,7 @@ impl Plain {
         ensures { Announces self.old self.new written.now result }
     {
         let fresh = fresh_within(&self.touched, self.count, self.geometry.log, written)?;
-        match make_spares(
-            alloc,
-            self.geometry,
-            &self.table,
-            &mut self.spare_bodies,
-            written,
-        ) {
+        match make_spares(alloc, self.geometry, &self.table, &mut self.spares, written) {
             Ok(()) => {}
             Err(_) => return Err(PrepareFault::NoMemory),
         }
@@ -207,7 +201,7 @@ impl PresentFrames for Plain {
     }
 
     fn claim(&mut self, number: u64, fresh: Fresh, owner: u64) {
-        let room = mem::replace(&mut self.spare_bodies[number as usize], Content::Free);
+        let room = mem::replace(&mut self.spares[number as usize], Content::Free);
         let content = filled(room, fresh);
         self.table.claim(number, content.role(), owner);
         self.contents[number as usize] = content;

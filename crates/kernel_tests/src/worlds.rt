@@ -13,7 +13,7 @@ ghost use Rattle.capability.specs.Plain.{parts_of, fresh_cap};
 ghost use Rattle.kernel_tests.specs.Fresh.{fresh_header, fresh_held, prime_header};
 
 use capability::Plain;
-use capability::plain::spare_bodies::push_free;
+use capability::plain::spares::push_free;
 use model::{Access, Cap, Capability, Content, Geometry, ObjectHeader, Root, Slots, State, Words};
 use std::alloc::{AllocError, Global};
 
@@ -59,7 +59,7 @@ fn prime_world(alloc: Global, contents: Vec<Content<Cap>>) -> Result<Plain, Allo
       headers = map prime_header contents.items;
       contents = contents.items;
       touched = untouched small;
-      spare_bodies = replicate 24 content.Free;
+      spares = replicate 24 content.Free;
     }) }
 {
     let headers = prime_headers(alloc, &contents)?;

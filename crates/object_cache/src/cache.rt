@@ -19,7 +19,7 @@ use crate::headers::Headers;
 use crate::owed::is_owing;
 use crate::staging::Staging;
 use cache_entries::{Entries, Entry};
-use capability::plain::spare_bodies::filled;
+use capability::plain::spares::filled;
 use capability::{Fresh, ObjectTable};
 use device::{Device, Failed};
 use layout::Scratch;

@@ -15,7 +15,7 @@ ghost use Rattle.object_cache.specs.Prepared.{HasSpareBodyIn, on_device_with, re
 
 use crate::cache::Cache;
 use crate::owed::is_shared;
-use capability::plain::spare_bodies::blank;
+use capability::plain::spares::blank;
 use capability::plain::touched::{are_ready, fresh_count, mark};
 use capability::{MAX_FETCHED, PrepareFault};
 use device::Device;

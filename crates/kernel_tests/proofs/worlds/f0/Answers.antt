@@ -15,7 +15,7 @@ returns-clause-world c =
       headers = map prime_header cs;
       contents = cs;
       touched = untouched small;
-      spare_bodies = replicate 24 content.Free;
+      spares = replicate 24 content.Free;
     } in
     IfOk-weaker c.prime_world.result (λ (p : PlainState). p ≡ made) (λ (p : PlainState). world_at 0 (frames_of (parts_of p)) ≡ f0)
     (λ p is. ap (λ (q : PlainState). world_at 0 (frames_of (parts_of q))) is ∙ f0_of_fresh cs c.in_ok-f0_contents.ensures)
@@ -29,7 +29,7 @@ returns-clause-headers c =
       headers = map prime_header cs;
       contents = cs;
       touched = untouched small;
-      spare_bodies = replicate 24 content.Free;
+      spares = replicate 24 content.Free;
     } in
     IfOk-weaker c.prime_world.result (λ (p : PlainState). p ≡ made) (λ (p : PlainState). p.headers ≡ map fresh_header f0.objects)
     (λ p is. ap (λ (q : PlainState). q.headers) is ∙ f0_headers cs c.in_ok-f0_contents.ensures)

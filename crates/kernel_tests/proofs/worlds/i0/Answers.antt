@@ -15,7 +15,7 @@ returns-clause-world c =
       headers = map prime_header cs;
       contents = cs;
       touched = untouched small;
-      spare_bodies = replicate 24 content.Free;
+      spares = replicate 24 content.Free;
     } in
     IfOk-weaker c.prime_world.result (λ (p : PlainState). p ≡ made) (λ (p : PlainState). world_at 0 (frames_of (parts_of p)) ≡ i0)
     (λ p is. ap (λ (q : PlainState). world_at 0 (frames_of (parts_of q))) is ∙ i0_of_fresh cs c.in_ok-i0_contents.ensures)
@@ -29,7 +29,7 @@ returns-clause-headers c =
       headers = map prime_header cs;
       contents = cs;
       touched = untouched small;
-      spare_bodies = replicate 24 content.Free;
+      spares = replicate 24 content.Free;
     } in
     IfOk-weaker c.prime_world.result (λ (p : PlainState). p ≡ made) (λ (p : PlainState). p.headers ≡ map fresh_header i0.objects)
     (λ p is. ap (λ (q : PlainState). q.headers) is ∙ i0_headers cs c.in_ok-i0_contents.ensures)

@@ -14,7 +14,7 @@ returns c =
       headers = c.self.inside.table;
       contents = c.self.inside.contents.items;
       touched = c.self.inside.touched;
-      spare_bodies = c.self.inside.spare_bodies.items;
+      spares = c.self.inside.spares.items;
     } in
     let count : length c.self.inside.touched ≡ object_count c.self.inside.geometry = search rules in
     forgotten state c.args.self.now c.clear.new.self c.self.view_is (c.clear.ensures ∙ ap (λ (n : ℕ). replicate n false) count)

@@ -4,11 +4,11 @@ use Rattle.model.specs.declared.object.Content.TheVariants as content
 use Rattle.capability.proofs.plain.Plain.new.Goals as goal
 
 abbrev made : Geometry → List ObjectHeader → List (Content Cap) → List Bool → List (Content Cap) → PlainState
-made g hs cs ts rs = record { geometry = g; headers = hs; contents = cs; touched = ts; spare_bodies = rs }
+made g hs cs ts rs = record { geometry = g; headers = hs; contents = cs; touched = ts; spares = rs }
 
 of_parts : (g : Geometry) (hs ks : List ObjectHeader) (cs : List (Content Cap)) (ts us : List Bool) (rs qs : List (Content Cap)) → hs ≡ ks → ts ≡ us → rs ≡ qs → made g hs cs ts rs ≡ made g ks cs us qs
-of_parts g hs ks cs ts us rs qs headers touched spare_bodies =
-    ap (λ (xs : List ObjectHeader). made g xs cs ts rs) headers ∙ ap (λ (xs : List Bool). made g ks cs xs rs) touched ∙ ap (λ (xs : List (Content Cap)). made g ks cs us xs) spare_bodies
+of_parts g hs ks cs ts us rs qs headers touched spares =
+    ap (λ (xs : List ObjectHeader). made g xs cs ts rs) headers ∙ ap (λ (xs : List Bool). made g ks cs xs rs) touched ∙ ap (λ (xs : List (Content Cap)). made g ks cs us xs) spares
 
 pub returns : goal.returns
 unfolding untouched
@@ -19,5 +19,5 @@ returns c =
     c.push_free.new.contents.items (replicate (object_count c.args.geometry) content.Free)
     c.new-2.ensures
     touched
-    (c.in_ok-push_free.ensures ∙ ap (λ (xs : List (Content Cap)). xs ++ replicate c.len-count.result content.Free) c.in_ok-spare_bodies.ensures.items
+    (c.in_ok-push_free.ensures ∙ ap (λ (xs : List (Content Cap)). xs ++ replicate c.len-count.result content.Free) c.in_ok-spares.ensures.items
     ∙ ap (λ (n : ℕ). replicate {A = Content Cap} n content.Free) count)

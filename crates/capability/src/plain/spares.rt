@@ -16,18 +16,18 @@ pub fn make_spares(
     alloc: Global,
     geometry: Geometry,
     table: &ObjectTable,
-    spare_bodies: &mut [Content<Cap>],
+    spares: &mut [Content<Cap>],
     written: &[u64],
 ) -> Result<(), AllocError>
-    requires { All (λ n. n < length spare_bodies.old) written.now }
+    requires { All (λ n. n < length spares.old) written.now }
     ensures snapshots { OnOk result ((n : ℕ) → Contains written.now n
-        → (header_at table.now n).role ≡ Role.Free → held_at spare_bodies.new n ≡ spare_body_at geometry n) }
-    ensures count { length spare_bodies.new ≡ length spare_bodies.old }
+        → (header_at table.now n).role ≡ Role.Free → held_at spares.new n ≡ spare_body_at geometry n) }
+    ensures count { length spares.new ≡ length spares.old }
     ensures used { All (λ n. (header_at table.now n).role ≢ Role.Free) written.now
         → IsErr result → ⊥ }
 {
     for number in written {
-        put_one(alloc, geometry, table, spare_bodies, *number)?;
+        put_one(alloc, geometry, table, spares, *number)?;
     }
     Ok(())
 }
@@ -37,19 +37,19 @@ fn put_one(
     alloc: Global,
     geometry: Geometry,
     table: &ObjectTable,
-    spare_bodies: &mut [Content<Cap>],
+    spares: &mut [Content<Cap>],
     number: u64,
 ) -> Result<(), AllocError>
-    requires { number < length spare_bodies.old }
+    requires { number < length spares.old }
     ensures snapshots { OnOk result ((header_at table.now number).role ≡ Role.Free
-        → held_at spare_bodies.new number ≡ spare_body_at geometry number) }
-    ensures others { (m : ℕ) → held_at spare_bodies.old m ≡ spare_body_at geometry m
-        → held_at spare_bodies.new m ≡ spare_body_at geometry m }
-    ensures count { length spare_bodies.new ≡ length spare_bodies.old }
+        → held_at spares.new number ≡ spare_body_at geometry number) }
+    ensures others { (m : ℕ) → held_at spares.old m ≡ spare_body_at geometry m
+        → held_at spares.new m ≡ spare_body_at geometry m }
+    ensures count { length spares.new ≡ length spares.old }
     ensures used { (header_at table.now number).role ≢ Role.Free → IsErr result → ⊥ }
 {
     if let Role::Free = table.header(number).role {
-        spare_bodies[number as usize] = blank(alloc, geometry, number)?;
+        spares[number as usize] = blank(alloc, geometry, number)?;
     }
     Ok(())
 }
