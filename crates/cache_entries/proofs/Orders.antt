@@ -8,14 +8,6 @@ use Rattle.cache_entries.proofs.Arenas.{some_within}
 -- ---- the keys of pairs
 
 module _ (n : ℕ) where
-  found_key : (t : Bool) (v : Unit {0}) (o : Option (Unit {0})) (b : Bool) → is_some o ≡ b → is_some (cond t (Some v) o) ≡ (t || b)
-  found_key true v o b same = refl
-  found_key false v o b same = same
-
-  pub member_keys : (es : List (ℕ × Unit {0})) → is_some (lookup (nat_eq n) es) ≡ is_member (keys_of es) n
-  member_keys [] = refl
-  member_keys (e ∷ es) = found_key (nat_eq n e.0) e.1 (lookup (nat_eq n) es) (is_member (keys_of es) n) (member_keys es)
-
   pub without_keys : (es : List (ℕ × Unit {0})) → keys_of (remove_entry (nat_eq n) es) ≡ without n (keys_of es)
   without_keys [] = refl
   without_keys (e ∷ es) = go (nat_eq n e.0) (without_keys es)

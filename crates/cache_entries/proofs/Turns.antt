@@ -253,9 +253,6 @@ settles (m ∷ ms) rest order reported n some first is tells are =
       fewer = omega (arith, ap length is);
     }
 
-pub none_latest : (order : List ℕ) → AreLatest [] order
-none_latest order = record { once = tt; listed = λ n is. absurd (true≢false (sym is)) }
-
 -- ---- a number is moved to the end of a list
 
 -- those behind the first move up, one after the other

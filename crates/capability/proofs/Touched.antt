@@ -86,7 +86,3 @@ touched_count_marked t ns i inside known marked =
 -- one number more is marked after the others
 pub touching_more : (t : List Bool) (ns : List ℕ) (i : ℕ) → i < length ns → touching t (take (i + 1) ns) ≡ set (touching t (take i ns)) (get_or ns i 0) true
 touching_more t ns i inside = rw (take_more ns i 0 inside, touching-append t (take i ns) (get_or ns i 0 ∷ [])) refl
-
--- no more are marked than there are
-pub touched_count-le-length : (t : List Bool) (ns : List ℕ) → touched_count (touching t ns) ≤ length t
-touched_count-le-length t ns = omega (arith, count_by-le-length (λ b. b) (touching t ns), length-touching t ns)

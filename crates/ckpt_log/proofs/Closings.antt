@@ -124,19 +124,6 @@ closing_second lesser greater old mid c (inr turn) first shut change same =
     second_is_lesser old c (λ i not_two not_four. beside 2 mid c change_two i not_two ∙ beside 4 old mid first_four i not_four)
     (λ open'. ap is_open (sym two) ∙ opens_no_more 2 mid c same_two open') (λ open'. never_open (c 4) four open') turn.2 (λ open'. never_open (c 4) four open')
 
--- both are closed then
-pub both_closed : (lesser greater : ℕ) (old mid new : Image) → AreInTurn old lesser greater → is_open (mid lesser) ≡ false → Elsewhere greater 1 mid new → is_open (new greater) ≡ false → AreClosed new
-both_closed lesser greater old mid new (inl turn) shut change shut_last =
-    let shut_two = rw turn.0 at shut in
-    let shut_four = rw turn.1 at shut_last in
-    let change_four = rw turn.1 at change in
-    record { first = ap is_open (change_four.before 2 (omega arith)) ∙ shut_two; second = shut_four }
-both_closed lesser greater old mid new (inr turn) shut change shut_last =
-    let shut_four = rw turn.0 at shut in
-    let shut_two = rw turn.1 at shut_last in
-    let change_two = rw turn.1 at change in
-    record { first = shut_two; second = ap is_open (change_two.after 4 (omega arith)) ∙ shut_four }
-
 -- nothing was touched
 pub untouched : (image : Image) → KeepsOrHasNone image image
 untouched image = record { elsewhere = λ i _ _. refl; committed = inl refl }

@@ -66,12 +66,6 @@ commit_run h {old} {mid} {new} left same first second =
     (leaves_weaker {old = mid} {new = new} {P = λ c. IsOldOrNew h mid.seen c} (λ c. IsOldOrCommitted h old c)
     (λ c is. was_seen h old c left (subst (λ (image : Image). IsOldOrNew h image c) (agrees_is mid.seen old.seen same) is)) second)
 
--- once all is durable, reads leave one committed header
-pub one_committed : {old new : Disk} → Only old.seen old → Peeks old new → CountsNow new → Agrees new.seen old.seen → CommitsOne new
-one_committed {old} {new} only peeks counts_now same c left =
-    let was : old.may_leave c = ends {old = old} {new = new} peeks counts_now c left in
-    ap committed_bytes (agrees_is c old.seen (only c was) ∙ sym (agrees_is new.seen old.seen same))
-
 -- ---- the order of the writes of a slot
 
 pub sync_order : (h : CheckpointHeader) {old new : Disk} → OnlyNow old → Elapses old new → Narrows old new → LeavesOnly old new (λ c. IsInOrderAfter h old c)

@@ -91,11 +91,6 @@ opened header gate slot counts = (and_parts (is_open gate) (sequence_in header %
 pub counts_if : (header gate : List ℕ) (slot : ℕ) → is_open gate ≡ true → sequence_in header % 2 ≡ slot → does_count header gate slot ≡ true
 counts_if header gate slot open' in_slot = and_from (is_open gate) (sequence_in header % 2 == slot) open' (eq-eqb (sequence_in header % 2) slot in_slot)
 
--- the slot of sequence number n is r, and the committed header with sequence number n - 1 is in the other
-abbrev IsOther : ℕ → Image → List ℕ → Type 0
-IsOther zero image b = IsSecond image b
-IsOther (suc r) image b = IsFirst image b
-
 first_is_even : (image : Image) (b : List ℕ) → IsFirst image b → sequence_in b % 2 ≡ 0
 first_is_even image b is = subst (λ (x : List ℕ). sequence_in x % 2 ≡ 0) is.bytes (belongs (image 1) (image 2) 0 is.wins.counts)
 

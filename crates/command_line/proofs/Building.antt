@@ -8,12 +8,6 @@ added a b old sub new adds is_old is_sub = (
   adds.globals ∙ ap₂ (λ x y. x || y) is_old.1 is_sub.1,
 )
 
--- and where it may fail
-pub added_if : {E : Type 0} (a b : App) (old sub : Command) (r : Result Command E) → IfOk r (AddsSubcommand old sub) → IsCommand a old → IsCommand b sub
-    → IfOk r (IsCommand (with_subcommand a b.top))
-added_if a b old sub (Ok new) adds is_old is_sub = added a b old sub new adds is_old is_sub
-added_if a b old sub (Err e) adds is_old is_sub = tt
-
 -- and of an argument
 pub argued : (app : App) (old new : Command) (arg : Arg) (rule : Rule) → AddsArg old arg new → IsCommand app old → rule_of arg ≡ rule → arg.global ≡ false
     → IsCommand (with_rule app rule) new

@@ -17,20 +17,6 @@ unowned fs n owner broken is = (
   λ held. broken (λ used. subst (λ o. role_at fs o ≡ role.Bank) is held),
 )
 
-is_bank_role : (r : Role) → ((r ≡ role.Bank → ⊥) → ⊥) → r ≡ role.Bank
-is_bank_role role.Free not_other = absurd (not_other (λ is. cc))
-is_bank_role role.Page not_other = absurd (not_other (λ is. cc))
-is_bank_role role.Node not_other = absurd (not_other (λ is. cc))
-is_bank_role role.Root not_other = absurd (not_other (λ is. cc))
-is_bank_role role.Annex not_other = absurd (not_other (λ is. cc))
-is_bank_role role.Bank not_other = refl
-
-pub unreached : (fs : List Frame) (b : ℕ) → ((role_at fs b ≡ role.Bank → Contains (chain (objects_of fs) b) 0) → ⊥) → IsUnbanked fs (bank.Chain b)
-unreached fs b broken = (
-  is_bank_role (role_at fs b) (λ other. broken (λ is. absurd (other is))),
-  λ there. broken (λ is. there),
-)
-
 -- what is wrong with banks isn't so where they are as they must be
 pub unbanked_refuted : (fs : List Frame) (why : Unbanked) → IsUnbanked fs why → AreBanked fs → ⊥
 unbanked_refuted fs bank.Prime broken banked = broken banked.owned.prime

@@ -86,13 +86,6 @@ module _ (fs : List Frame) (n : ℕ) (old : List Bool) (before : AreTaken fs n o
       ];
     }
 
-  -- it is one whose annex is refused
-  pub taken_refused : (a : ℕ) → IsRootOf fs n a → (IsAnnexFor fs n a → is_taken old a ≡ true) → AreWholeProcesses fs → ⊥
-  taken_refused a root refused whole =
-      let at = before.found a (refused (whole.annexes n a root)) in
-      let same : at.0 ≡ n = whole.one_root at.0 n a at.2 root in
-      omega (arith, at.1, same)
-
 -- all of them
 module _ (p : Parts) (taken : List Bool) (all : AreTaken (frames_of p) (length p.headers) taken) where
   pub whole_taken : ((a : ℕ) → role_at (frames_of p) a ≡ role.Annex → is_taken taken a ≡ true) → AreWholeProcesses (frames_of p)

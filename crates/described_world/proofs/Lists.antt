@@ -107,13 +107,6 @@ module _ {E V : Type 0} (index : E → ℕ) (value : E → V) where
   each_append [] fs xs = refl
   each_append (e ∷ es) fs xs = each_append es fs (slice_set xs (index e) (value e))
 
-  -- one more is written
-  pub each_more : (es : List E) (xs now next all : List V) (i : ℕ) (e : E) → i < length es → e ≡ slice_index_or es i e → next ≡ slice_set now (index e) (value e)
-      → set_each index value (drop i es) now ≡ all → set_each index value (drop (i + 1) es) next ≡ all
-  each_more es xs now next all i e lt is made was =
-      let split : drop i es ≡ e ∷ drop (i + 1) es = drop_more es i e lt ∙ ap (λ f. f ∷ drop (i + 1) es) (sym is) in
-      ap (set_each index value (drop (i + 1) es)) made ∙ sym (ap (λ fs. set_each index value fs now) split) ∙ was
-
 -- what is named is a function of what each entry has
 pub first_map : {E V W : Type 0} → (index : E → ℕ) (value : E → V) (f : V → W) (default : V) (es : List E) (i : ℕ)
     → first_named index (λ e. f (value e)) (f default) es i ≡ f (first_named index value default es i)

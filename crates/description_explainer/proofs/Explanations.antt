@@ -39,9 +39,6 @@ module _ (d : Description) where
                 (λ rule. unbanked_refuted rule.0 unbanked (subst (λ (hs : List Frame). IsUnbanked hs unbanked) (described_once d fs rule.0 is rule.1) why) rule.2),
           )
 
-          pub explains_none : AreNamed fs → AreBanked fs → ExplainsDescription d None
-          explains_none named banked sectors enough = all_kept d sectors limits numbers fields (fs, is, named) (fs, is, banked) enough
-
 -- what the search of all capabilities finds in described frames
 module _ (d : Description) (fs gs : List Frame) (same : gs ≡ fs) (is : IsDescribed d fs) where
   pub unnamed_none : (found : Option Held) → MatchOption found (AllHave (NamesItsRole gs) d) (λ at. OneLacks (NamesItsRole gs) d at) → IfNone found (AreNamed fs)

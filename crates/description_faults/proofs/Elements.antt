@@ -7,20 +7,9 @@ use Rattle.description_faults.proofs.Names.{All-tail, slice_get_read, slice_get-
 pub element_at : {A : Type 0} (P : A → Type 0) (xs : List A) (i : ℕ) (x : A) → i < length xs → x ≡ get_or xs i x → P x → IsSomeAnd (slice_get xs i) P
 element_at {A = A} P xs i x within is holds = subst (λ (o : Option A). IsSomeAnd o P) (sym (slice_get_read xs (length xs) i x refl within is)) holds
 
-pub element_or : {A : Type 0} (P : A → Type 0) (xs : List A) (i : ℕ) (d : A) → i < length xs → P (get_or xs i d) → IsSomeAnd (slice_get xs i) P
-element_or {A = A} P xs i d within holds = subst (λ (o : Option A). IsSomeAnd o P) (sym (slice_get-get_or xs i d within)) holds
-
 -- all hold at the end of a loop
 pub all_taken : {A : Type 0} (P : A → Type 0) (xs : List A) (i : ℕ) → length xs ≤ i → All P (take i xs) → All P xs
 all_taken P xs i past all = subst (All P) (take_all i xs past) all
-
-pub outside_at : (first end : ℕ) (ns : List ℕ) (i : ℕ) → i < length ns → ((first ≤ slice_index ns i) × (slice_index ns i < end) → ⊥) → IsOutside first end ns i
-outside_at first end ns i within out = element_or (λ n. (first ≤ n) × (n < end) → ⊥) ns i 0 within out
-
-pub twice_at : (ns : List ℕ) (i j : ℕ) → i < j → j < length ns → slice_index ns j ≡ slice_index ns i → IsTwice ns i j
-twice_at ns i j less within same =
-    let there : i < length ns = omega arith in
-    (less, slice_index ns i, slice_get-get_or ns i 0 there, slice_get-get_or ns j 0 within ∙ ap Some same)
 
 -- no number before an index comes again
 abbrev pub ApartBelow : List ℕ → ℕ → Type 0

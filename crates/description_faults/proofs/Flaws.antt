@@ -44,16 +44,6 @@ plain_item PageNumber i plain d said = said
 plain_item PageOwner i plain d said = said
 plain_item PageWords i plain d said = said
 
-plain_keys : (which : TableName) → which ≢ name.Whole → All IsPlain (keys_of which)
-plain_keys name.Whole other = absurd (other refl)
-plain_keys (name.Bank i) other = (All-cons IsPlain BankNumber (BankOwner ∷ BankLimit ∷ []) (λ i. refl) (All-cons IsPlain BankOwner (BankLimit ∷ []) (λ i. refl) (All-cons IsPlain BankLimit ([]) (λ i. refl) (λ k d lt. absurd (omega arith)))))
-plain_keys (name.Process i) other = (All-cons IsPlain ProcessRoot (ProcessAnnex ∷ ProcessOwner ∷ ProcessState ∷ ProcessKey ∷ ProcessWords ∷ ProcessSpace ∷ ProcessRegisters ∷ []) (λ i. refl) (All-cons IsPlain ProcessAnnex (ProcessOwner ∷ ProcessState ∷ ProcessKey ∷ ProcessWords ∷ ProcessSpace ∷ ProcessRegisters ∷ []) (λ i. refl) (All-cons IsPlain ProcessOwner (ProcessState ∷ ProcessKey ∷ ProcessWords ∷ ProcessSpace ∷ ProcessRegisters ∷ []) (λ i. refl) (All-cons IsPlain ProcessState (ProcessKey ∷ ProcessWords ∷ ProcessSpace ∷ ProcessRegisters ∷ []) (λ i. refl) (All-cons IsPlain ProcessKey (ProcessWords ∷ ProcessSpace ∷ ProcessRegisters ∷ []) (λ i. refl) (All-cons IsPlain ProcessWords (ProcessSpace ∷ ProcessRegisters ∷ []) (λ i. refl) (All-cons IsPlain ProcessSpace (ProcessRegisters ∷ []) (λ i. refl) (All-cons IsPlain ProcessRegisters ([]) (λ i. refl) (λ k d lt. absurd (omega arith))))))))))
-plain_keys (name.Node i) other = (All-cons IsPlain NodeNumber (NodeOwner ∷ NodeSlots ∷ []) (λ i. refl) (All-cons IsPlain NodeOwner (NodeSlots ∷ []) (λ i. refl) (All-cons IsPlain NodeSlots ([]) (λ i. refl) (λ k d lt. absurd (omega arith)))))
-plain_keys (name.Page i) other = (All-cons IsPlain PageNumber (PageOwner ∷ PageWords ∷ []) (λ i. refl) (All-cons IsPlain PageOwner (PageWords ∷ []) (λ i. refl) (All-cons IsPlain PageWords ([]) (λ i. refl) (λ k d lt. absurd (omega arith)))))
-
-pub plain_key : (which : TableName) (key : Key) → which ≢ name.Whole → Contains (keys_of which) key → IsPlain key
-plain_key which key other there = All-contains IsPlain (keys_of which) key (plain_keys which other) there
-
 -- a table with all its keys, and no others, says what it has to
 module _ (ms : Members) where
   pub all_fit : (which : TableName) → All (λ key. Fits key ms) (keys_of which) → IsTrue (has_only (map key_name (keys_of which)) ms) → IsTableOf which ms
@@ -278,10 +268,3 @@ item_place key i e there none ms at = (ms, refl, (there, item_has (key_name key)
 pub object_place : (key : Key) (i : ℕ) (which : TableName) (e : Data) (t : Members) (flaw : Flaw) → object_at key i ≡ Some which → e ≡ table t → IsFlaw (keys_of which) t flaw → (ms : Members)
     → HasItem (key_name key) i (λ d. d ≡ e) ms → BreaksShape ms (record { table = which; flaw = flaw })
 object_place key i which e t flaw object is wrong ms at = (t, table_there key i which ms e t object at is, wrong)
-
--- the place in the item that was found
-pub place_passed : (ms : Members) (found : Option (ℕ × Bor Value)) (key : Key) (i : ℕ) (b : Bor Value) (r : Result ShapePlace AllocError) → found ≡ Some (i, b)
-    → MatchOption found (IsUnlisted key ms) (λ p. HasItemAs key p.0 (view p.1.now) ms) → ((ns : Members) → HasItem (key_name key) i (λ d. d ≡ view b.now) ns → IfOk r (BreaksShape ns)) → IfOk r (BreaksShape ms)
-place_passed ms found key i b r is known reported =
-    let h = at_some (IsUnlisted key ms) (λ (p : ℕ × Bor Value). HasItemAs key p.0 (view p.1.now) ms) found (i, b) is known in
-    reported ms (has_item (key_name key) i ms (view b.now) (λ d. d ≡ view b.now) h.0 h.1 h.2 refl)

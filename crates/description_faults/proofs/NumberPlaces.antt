@@ -86,12 +86,6 @@ module _ (d : Description) where
             (λ n within never. never within) has.pages,
       )
 
-  pub page_named : (i nodes place : ℕ) → nodes ≡ length (node_numbers d) → nodes ≤ place → i ≡ place - nodes
-      → option_map (λ p. p.number) (slice_get d.pages.items i) ≡ slice_get (node_numbers d ++ page_numbers d) place
-  page_named i nodes place count past is =
-      let at : length (node_numbers d) + i ≡ place = omega (arith, count, past, is) in
-      sym (slice_get-map (λ p. p.number) d.pages.items i) ∙ sym (behind (node_numbers d) (page_numbers d) i) ∙ ap (slice_get (node_numbers d ++ page_numbers d)) at
-
   pub node_named : (who : Named) (nodes place : ℕ) → nodes ≡ length (node_numbers d) → place < nodes → number_at d who ≡ slice_get (node_numbers d) place
       → number_at d who ≡ slice_get (node_numbers d ++ page_numbers d) place
   node_named who nodes place count within is = is ∙ sym (front (node_numbers d) (page_numbers d) place (omega (arith, count, within)))

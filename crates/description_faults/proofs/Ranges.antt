@@ -13,9 +13,6 @@ pub record GoneTo (g : Geometry) (rs : List NumberRange) (i next : ℕ) : Type 0
   pub within : next ≤ object_count g
   pub goes_on : Cover g next (map (placed 0) (drop i rs)) → Cover g 0 (map (placed 0) rs)
 
-pub gone_none : (g : Geometry) (rs : List NumberRange) → GoneTo g rs 0 0
-gone_none g rs = record { count = refl; within = omega arith; goes_on = λ covers. covers }
-
 pub gone_more : (g : Geometry) (rs : List NumberRange) (i next : ℕ) (r : NumberRange) → i < length rs → get_or rs i r ≡ r → GoneTo g rs i next → GoesOn g r next →
     GoneTo g rs (i + 1) (next + r.count)
 gone_more g rs i next r lt at gone on = record {
@@ -23,13 +20,6 @@ gone_more g rs i next r lt at gone on = record {
   within = on.1;
   goes_on = λ covers. gone.goes_on (subst (λ (t : List NumberRange). Cover g next (map (placed 0) t)) (sym (drop_more rs i r lt ∙ ap (λ s. s ∷ drop (i + 1) rs) at)) (on.0, covers));
 }
-
-pub gone_all : (g : Geometry) (rs : List NumberRange) (i next : ℕ) → length rs ≤ i → GoneTo g rs i next → object_count g ≤ next → Cover g 0 (map (placed 0) rs)
-gone_all g rs i next past gone most =
-    gone.goes_on (subst (λ (t : List NumberRange). Cover g next (map (placed 0) t)) (sym (drop_all i rs past)) (omega (arith, most, gone.within)))
-
-pub gone_count : (g : Geometry) (rs : List NumberRange) (i next : ℕ) → length rs ≤ i → GoneTo g rs i next → next ≡ count_in rs
-gone_count g rs i next past gone = gone.count ∙ ap count_in (take_all i rs past)
 
 -- the range of an index, whatever stands for those that aren't there
 pub gone_on : (g : Geometry) (rs : List NumberRange) (i next : ℕ) (d : NumberRange) → i < length rs → GoneTo g rs i next → GoesOn g (get_or rs i d) next →

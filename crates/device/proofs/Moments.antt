@@ -54,11 +54,6 @@ leaves_on {old} {mid} {new} {P} first second = record {
   keeps = λ t c le left. second.keeps t c (omega (arith, le, first.later)) (first.keeps t c le left);
 }
 
--- one run after another, of which other things are said
-pub leaves_then : {old mid new : Disk} {P Q : Image → Type 0} → LeavesOnly old mid P → LeavesOnly mid new Q → LeavesOnly old new (λ c. P c ⊎ Q c)
-leaves_then {old} {mid} {new} {P} {Q} first second =
-    leaves_on {old = old} {mid = mid} {new = new} {P = λ c. P c ⊎ Q c} (leaves_weaker (λ c. P c ⊎ Q c) (λ c has. inl has) first) (leaves_weaker (λ c. P c ⊎ Q c) (λ c has. inr has) second)
-
 -- what a crash may leave where a run ends has P
 pub ends : {old new : Disk} {P : Image → Type 0} → LeavesOnly old new P → CountsNow new → (c : Image) → new.may_leave c → P c
 ends {old} {new} run counts_now c left = run.each c (counts_now old.moment c run.later left)
@@ -85,10 +80,6 @@ peeks_on {old} {mid} {new} so_far counts_now time narrows = narrowed {old = old}
 pub counted_ok : {T E : Type 0} {old new : Disk} {value : T} → Counts {T = T} {E = E} old new (Ok value) → new.failures ≡ old.failures
 counted_ok {old = old} {new = new} counts =
     ⊎_elim (λ rose. let never : false ≡ true = counts.cause.1 rose in cc) (λ le. omega (arith, le, counts.never_falls)) (cases_lt old.failures new.failures)
-
--- a call that fails raises it
-pub counted_err : {T E : Type 0} {old new : Disk} {error : E} → Counts {T = T} {E = E} old new (Err error) → old.failures < new.failures
-counted_err counts = counts.cause.0 refl
 
 -- the failures of a run whose calls before the last one succeeded
 pub counts_on : {T E : Type 0} {old mid new : Disk} {result : Result T E} → mid.failures ≡ old.failures → Counts mid new result → Counts old new result

@@ -23,21 +23,6 @@ never_stopped prepare.NoMemory is = cc
 never_stopped prepare.LogFull is = cc
 never_stopped prepare.Failed is = cc
 
--- what a result tells of the process: nothing where it wasn't looked at, and that it runs after that was found
-pub unlooked_tells : (os : List Object) (i : Invocation) {T : Type 0} (e : PrepareFault) → (IsErrOf {T = T} (Err e) prepare.LogFull → ⊥) → TellsState os i (Err (fault_of e))
-unlooked_tells os i prepare.NoMemory room = tt
-unlooked_tells os i prepare.LogFull room = absurd (room refl)
-unlooked_tells os i prepare.Failed room = tt
-
-pub running_tells : (os : List Object) (i : Invocation) (r : Result (Option ResultCode) InvokeFault) → is_running_process os i.process ≡ true
-    → (IsErrOf r fault.NotRunning → is_running_process os i.process ≡ false) → TellsState os i r
-running_tells os i (Ok code) runs stopped = runs
-running_tells os i (Err fault.NotRunning) runs stopped = stopped refl
-running_tells os i (Err fault.Stalled) runs stopped = runs
-running_tells os i (Err fault.LogFull) runs stopped = runs
-running_tells os i (Err fault.NoMemory) runs stopped = tt
-running_tells os i (Err fault.Failed) runs stopped = tt
-
 failed_fault : {T U : Type 0} (e : PrepareFault) → IsErrOf {T = U} (Err (fault_of e)) fault.Failed → IsErrOf {T = T} (Err e) prepare.Failed
 failed_fault prepare.Failed is = refl
 failed_fault prepare.NoMemory is = cc
@@ -64,23 +49,6 @@ unrisen : (m n : ℕ) → m ≤ n → (m < n → ⊥) → n ≡ m
 unrisen m n later stayed = ⊎_elim (λ (rose : m < n). absurd (stayed rose)) (λ (within : n ≤ m). omega arith) (cases_lt m n)
 
 module _ {S : Type 0} (parts : S → Parts) (Continues : S → S → Type 0) (i : Invocation) where
-  -- objects that couldn't be looked at
-  pub unlooked : {T : Type 0} (s t : S) (e : PrepareFault) → OnlyReads {T = T} parts Continues s t (Err e) → Invoked parts Continues s t i (Err (fault_of e))
-  unlooked s t e only_reads = record {
-    done = tt;
-    code = tt;
-    runs = λ is. absurd (never_stopped e is);
-    stalled = λ is. absurd (never_stalled e is);
-    full = λ is. absurd (only_reads.room (full_fault e is));
-    sound = tt;
-    renews = tt;
-    unchanged = record { headers = only_reads.snapshots.headers; contents = only_reads.snapshots.contents; touched = only_reads.snapshots.touched };
-    cause = (λ is. only_reads.cause.0 (failed_fault e is), λ rose. fault_failed e (only_reads.cause.1 rose));
-    later = only_reads.later;
-    geometry = only_reads.snapshots.geometry;
-    continues = only_reads.snapshots.continues;
-  }
-
   -- an invocation after a look
   module _ (twice : (s t u : S) → Continues s t → Continues t u → Continues s u) (s t u : S) {T : Type 0} (x : T) (only_reads : OnlyReads {T = T} parts Continues s t (Ok x)) where
     still : (parts t).failures ≡ (parts s).failures
@@ -110,10 +78,6 @@ module _ {S : Type 0} (parts : S → Parts) (Continues : S → S → Type 0) (i 
       geometry = only_reads.snapshots.geometry;
       continues = only_reads.snapshots.continues;
     }
-
-    -- a process that doesn't run, and one that isn't available
-    pub found_stopped : is_running_process (objects_in (parts s)) i.process ≡ false → Invoked parts Continues s t i (Err fault.NotRunning)
-    found_stopped stopped = found fault.NotRunning (λ is. cc) (λ is. cc) (λ is. stopped) (λ is. cc)
 
     pub found_stalled : invoke (parts s).geometry (objects_in (parts s)) i ≡ None → Invoked parts Continues s t i (Err fault.Stalled)
     found_stalled none = found fault.Stalled (λ is. cc) (λ is. cc) (λ is. cc) (λ is. none)

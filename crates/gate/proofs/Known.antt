@@ -32,24 +32,8 @@ running_process os p running = both_true (is_process os p) _ running
     both_true true b both = refl
     both_true false b both = both
 
--- the same headers and contents, and so the same frames
-abbrev pub ReadsSame : Parts → Parts → Type 0
-ReadsSame before now = (now.headers ≡ before.headers) × (now.contents ≡ before.contents)
-
 pub same_frames : (before now : Parts) → now.headers ≡ before.headers → now.contents ≡ before.contents → frames_of now ≡ frames_of before
 same_frames before now hs cs = ap (λ (ks : List ObjectHeader). frames_in ks now.contents) hs ∙ ap (frames_in before.headers) cs
-
--- a process and its annex have objects, also after a look at others
-pub looked_annex : (before now : Parts) (p a : ℕ) → ReadsSame before now → a ≡ annex_at (objects_in now) p →
-    IsTrue (is_annex (content_at (objects_in before) (annex_at (objects_in before) p))) → a < length now.headers
-looked_annex before now p a same is annex =
-    let fs = same_frames before now same.0 same.1 in
-    let here : a ≡ annex_at (objects_in before) p = is ∙ ap (λ (gs : List Frame). annex_at (objects_of gs) p) fs in
-    subst (λ (hs : List ObjectHeader). a < length hs) (sym same.0)
-    (subst (λ (n : ℕ). n < length before.headers) (sym here) (annex_known before (annex_at (objects_in before) p) annex))
-
-pub looked_process : (before now : Parts) (p : ℕ) → ReadsSame before now → IsTrue (is_process (objects_in before) p) → p < length now.headers
-looked_process before now p same is = subst (λ (hs : List ObjectHeader). p < length hs) (sym same.0) (process_known before p is)
 
 -- one and two numbers that exist
 pub one_known : (P : ℕ → Type 0) (m : ℕ) → P m → All P (m ∷ [])

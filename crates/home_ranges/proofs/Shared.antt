@@ -77,12 +77,3 @@ pub own_of : (s : Shape) → ((rank : ℕ) → s ≡ Packed rank → ⊥) → Is
 own_of Node other = tt
 own_of (Packed rank) other = other rank refl
 own_of Page other = tt
-
-own_by : (v : Version) (test : Bool) (rank : ℕ) → v ≡ One → IsOwn (if test then node_shape v rank else Page)
-own_by One true rank first = tt
-own_by Two true rank first = let never : Two ≡ One = first in absurd cc
-own_by v false rank first = tt
-
--- as all have by version 1
-pub own_first : (p : Plan) (n : ℕ) → p.version ≡ One → IsOwn (shape_of p n)
-own_first p n first = own_by p.version (nat_lt n p.geometry.nodes) (rank_in (range_with p.ranges n) n) first

@@ -11,9 +11,6 @@ pub holds_one : (size : ℕ) (c : Image) (a b : SavedFrames) → Holds size c a 
 holds_one size c a b in_a in_b = sym in_a.2 ∙ ap kept_of (one_state c size in_a.0 in_b.0 in_a.1 in_b.1) ∙ in_b.2
 
 module _ (d : Description) (hs : List ObjectHeader) (cs : List (Content Cap)) (laid : AreLaid d hs cs) where
-  pub keepable_in : (p : Plan) → p ≡ plan_for d → AreKeepable p.geometry d.age (frames_in hs cs)
-  keepable_in p is = subst (λ (q : Plan). AreKeepable q.geometry d.age (frames_in hs cs)) (sym is) laid.keepable
-
   module _ (limits : IsWithinLimits d) (s : IsSoundDescription d) (old new : Disk) where
     pub builds : (p : Plan) → p ≡ plan_for d → p.total ≤ old.sectors →
         Encodes new.seen new.sectors (first_state p d.age (frames_in hs cs)) →

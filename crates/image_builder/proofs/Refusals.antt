@@ -52,15 +52,6 @@ module _ (d : Description) (limits : IsWithinLimits d) where
     reason_refused whole BadProcess fault is target owner = absurd (is.1 whole)
     reason_refused whole BadBank fault is target owner = subst (λ (f : BuildFault). IsRefusedEarly d f) (sym (owner refl)) (bank_refused is.0 is.2)
 
-    pub sound_description : (g : Geometry) → g ≡ d.geometry → IsSoundFrames g d.age (frames_in hs cs) → IsSoundDescription d
-    sound_description g same sound = record {
-      numbers = laid.numbers;
-      fields = laid.fields;
-      frames = frames_in hs cs;
-      described = laid.described;
-      sound = subst (λ (h : Geometry). IsSoundFrames h d.age (frames_in hs cs)) same sound;
-    }
-
   module _ (s : IsSoundDescription d) (sectors : ℕ) where
     target_kept : Rule d sectors Target
     target_kept = (s.frames, s.described, sound_named d.geometry d.age s.frames s.sound)

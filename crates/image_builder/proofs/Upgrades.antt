@@ -68,19 +68,6 @@ read_where_opened result old new opened only_reads same = record {
     never (Ok total) other reported = cc
     never (Err why) other reported = let is : why ≡ fault.Old opening.Failed = cc in other opening.Failed is
 
--- it was refused: the failure is told where there was one
-pub read_where_refused : {D : Type 0} (disk : D → Disk) (old back : D) (why : OpenFault) (reported : UpgradeFault) → (why ≡ opening.NoMemory → reported ≡ fault.NoMemory) → (why ≢ opening.NoMemory → reported ≡ fault.Old why)
-    → RefusesToOpen disk old back why → (let result : Result ℕ UpgradeFault = Err reported in IsOnlyRead (disk old) (disk back) (IsErrOf result (fault.Old opening.Failed)))
-read_where_refused disk old back opening.Failed reported memory other refuses =
-    let is : reported ≡ fault.Old opening.Failed = other (λ same. cc) in
-    record { only_reads = refuses.only_reads; later = omega (arith, refuses.is_why); cause = (λ _. refuses.is_why, λ _. ap (λ (f : UpgradeFault). Err f) is) }
-read_where_refused disk old back opening.NoMemory reported memory other refuses =
-    let is : reported ≡ fault.NoMemory = memory refl in
-    record { only_reads = refuses.only_reads; later = omega (arith, refuses.is_why); cause = (λ same. cc, λ rose. absurd (omega (arith, refuses.is_why, rose))) }
-read_where_refused disk old back (opening.Bad reason) reported memory other refuses =
-    let is : reported ≡ fault.Old (opening.Bad reason) = other (λ same. cc) in
-    record { only_reads = refuses.only_reads; later = omega (arith, refuses.is_why.0); cause = (λ same. cc, λ rose. absurd (omega (arith, refuses.is_why.0, rose))) }
-
 -- ---- what a crash leaves
 
 -- an image that a crash leaves of a device is what it holds, where a read gives it

@@ -38,15 +38,6 @@ module _ {E V : Type 0} (index : E → ℕ) (value : E → V) (default : V) wher
     pub within : All (λ e. index e < length xs) es
     pub rising : AreRising (map index es)
 
-  pub names_none : (xs : List V) → NamesBefore xs 0 []
-  names_none xs = record {
-    each = λ j under. absurd (omega (arith, under));
-    some = λ k d inside. absurd (omega (arith, inside));
-    below = λ k d inside. absurd (omega (arith, inside));
-    within = λ k d inside. absurd (omega (arith, inside));
-    rising = tt;
-  }
-
   -- one at its default is left out
   pub names_less : (xs : List V) (i : ℕ) (es : List E) → NamesBefore xs i es → slice_index_or xs i default ≡ default → NamesBefore xs (i + 1) es
   names_less xs i es names is = record {

@@ -256,17 +256,6 @@ pub second_range : (g : Geometry) (rs : List NumberRange) (x : NumberRange) → 
     → (b : Bool) → b ≡ is_range (get_or rs 1 x) g.nodes g.pages → b ≡ are_whole g rs
 second_range g rs x least most whole b is = is ∙ sym (two_ranges g rs x least most ∙ ap (λ (a : Bool). a && is_range (get_or rs 1 x) g.nodes g.pages) whole)
 
-pub few_ranges : (g : Geometry) (rs : List NumberRange) → length rs < 2 → are_whole g rs ≡ false
-few_ranges g [] few = refl
-few_ranges g (n ∷ []) few = refl
-few_ranges g (n ∷ p ∷ rs) few = absurd (omega (arith, few))
-
-pub many_ranges : (g : Geometry) (rs : List NumberRange) → 3 ≤ length rs → are_whole g rs ≡ false
-many_ranges g [] many = absurd (omega (arith, many))
-many_ranges g (n ∷ []) many = absurd (omega (arith, many))
-many_ranges g (n ∷ p ∷ []) many = absurd (omega (arith, many))
-many_ranges g (n ∷ p ∷ q ∷ rs) many = refl
-
 abbrev pub ranges_data : Geometry → List NumberRange → Option Data
 ranges_data g rs = data_unless (are_whole g rs) (array (items range_data rs))
 

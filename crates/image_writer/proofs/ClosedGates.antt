@@ -28,18 +28,10 @@ pub closed_run : (at n : ℕ) {old new : Disk} → AreBeside at n → LeavesClos
 closed_run at n {old} {new} beside closed writes =
     leaves_weaker {old = old} {new = new} {P = λ c. IsTorn at n old c} (λ c. AreClosed c) (λ c torn. torn_closed at n old beside closed c torn) writes.any_moment
 
--- before the first of some writes
-pub closed_first : (disk : Disk) → OnlyNow disk → LeavesClosed disk → LeavesOnly disk disk (λ c. AreClosed c)
-closed_first disk only_now closed = started disk (λ c. AreClosed c) only_now closed
-
 -- one more of them
 pub closed_on : (at n : ℕ) {old mid new : Disk} → LeavesOnly old mid (λ c. AreClosed c) → AreBeside at n → LeavesClosed mid → WritesAt at n mid new → LeavesOnly old new (λ c. AreClosed c)
 closed_on at n {old} {mid} {new} first beside closed writes =
     leaves_on {old = old} {mid = mid} {new = new} {P = λ c. AreClosed c} first (closed_run at n {old = mid} {new = new} beside closed writes)
-
--- once the gates are closed and that is durable
-pub durably_closed : (disk : Disk) → AreClosed disk.seen → Only disk.seen disk → LeavesClosed disk
-durably_closed disk closed only = λ c left. subst (λ (i : Image). AreClosed i) (sym (agrees_is c disk.seen (only c left))) closed
 
 -- ---- of the whole run
 

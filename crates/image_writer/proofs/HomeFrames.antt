@@ -11,10 +11,6 @@ use Rattle.model.specs.declared.object.Content.TheVariants as content
 abbrev pub AreHomeTo : Plan → List Frame → ℕ → Image → Type 0
 AreHomeTo p frames n image = (a b : ℕ) → IsObject p.geometry a → b < n → home_place p a ≡ home_place p b → bytes_at image (home_place p a) p a ≡ frame_bytes p.geometry a (frame_at frames a)
 
--- in the end all are
-pub all_home : (p : Plan) (frames : List Frame) (n : ℕ) (image : Image) → n ≡ object_count p.geometry → AreHomeTo p frames n image → AreHome p frames n image
-all_home p frames n image all so_far a lt = so_far a a (omega (arith, lt, all)) lt refl
-
 module _ (old mid new : Image) (p : Plan) (n : ℕ) (fits : IsPlan p) (lt : n < object_count p.geometry) (change : Elsewhere (home_place p n) (place_length p n) mid new) where
   -- a write of a home stays between the headers and the end
   pub stays_between : Elsewhere 5 (p.total - 5) old mid → Elsewhere 5 (p.total - 5) old new

@@ -21,9 +21,6 @@ pub record NumbersTo (rs : List HomeRange) (into : List NumberRange) (i : ℕ) :
   pub size : length into ≡ length rs
   pub rest : map numbers_of rs ≡ take i into ++ map numbers_of (drop i rs)
 
-pub numbers_none : (rs : List HomeRange) (into : List NumberRange) → length into ≡ length rs → NumbersTo rs into 0
-numbers_none rs into size = record { size = size; rest = refl }
-
 abbrev pub range_at : List HomeRange → ℕ → HomeRange
 range_at rs i = get_or rs i (record { first = 0; count = 0; sector = 0 })
 

@@ -40,9 +40,6 @@ pub record LaidTo (v : Version) (g : Geometry) (rs : List NumberRange) (into : L
   pub end : behind v g 5 rs ≡ behind v g next (drop i rs)
   pub most : next ≤ 5 + 73728 * i
 
-pub laid_none : (v : Version) (g : Geometry) (rs : List NumberRange) (into : List HomeRange) → length into ≡ length rs → LaidTo v g rs into 0 5
-laid_none v g rs into size = record { size = size; rest = refl; end = refl; most = omega arith }
-
 abbrev pub range_at : List NumberRange → ℕ → NumberRange
 range_at rs i = get_or rs i (record { first = 0; count = 0 })
 

@@ -84,17 +84,6 @@ slots_stay p generation at long es frames mid new is place change so_far j lt a 
     same_shaped (slot_sector p generation (entry_at es j).slot) (shape_of p a) mid new (λ k inside. change.before (slot_sector p generation (entry_at es j).slot + k) (omega (arith, slot, inside, few, place)))
     ∙ so_far j lt a is_a same
 
--- the half is all that was written
-pub whole_half : (p : Plan) (generation at long : ℕ) (old mid new : Image) → at ≡ directory_sector p generation → long ≤ (p.geometry.log + 31) / 32 → Elsewhere (half_sector p generation) (9 * p.geometry.log) old mid → Elsewhere at long mid new
-    → Elsewhere (half_sector p generation) (half_extent p.geometry 0).length old new
-whole_half p generation at long old mid new place few first second = record {
-  before = λ k low. second.before k (omega (arith, low, place)) ∙ first.before k low;
-  after = λ k high. second.after k (omega (arith, high, place, few)) ∙ first.after k (omega (arith, high));
-}
-
-pub slots_alone : (p : Plan) (generation : ℕ) (old new : Image) → Elsewhere (half_sector p generation) (9 * p.geometry.log) old new → Elsewhere (half_sector p generation) (half_extent p.geometry 0).length old new
-slots_alone p generation old new change = record { before = change.before; after = λ k high. change.after k (omega (arith, high)) }
-
 -- ---- what an image has of a frame
 
 -- each frame is in a slot or at home

@@ -36,8 +36,3 @@ module _ {D S : Type 0} (disk : D → Disk) (view : S → View D) (parts : S →
 
     pub checked_untold : AppendsFront output output_left (line_of (checked_text reported.generation reported.age reported.entries)) → ChecksImage disk device back output output_left (Err fault.CannotWriteOutput)
     checked_untold written = (opens.geometry, opens.saved, opens.denoted, subst (λ (t : List ℕ). AppendsFront output output_left (line_of t)) (text_reported p reported opens is) written, looked_at back p opens beneath, none_failed back p opens beneath)
-
-  pub nothing_reported : (p : Power D S) → Opens disk view parts device p → IsReported disk view parts p None → ⊥
-  nothing_reported (power.Up l) opens is = is
-  nothing_reported (power.Down d) opens is = opens.stands
-  nothing_reported power.Between opens is = opens.stands

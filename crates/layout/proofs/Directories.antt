@@ -71,13 +71,6 @@ entry_read bytes into i o s lt before fo fs is_object is_slot =
           (All-push (λ (x : Entry). (x.object < 2 ^ 64) × (x.slot < 2 ^ 64)) (take i into) e before.each (fo, fs));
     }
 
-pub all_entries : (bytes : List ℕ) (into : List Entry) (i : ℕ) → length into ≤ i → length bytes ≡ 16 * length into → EntriesRead bytes into i → (bytes ≡ directory_bytes into) × AllFitting into
-all_entries bytes into i done len was =
-    let whole : take i into ≡ into = take_all i into done in (
-      sym (take_all (16 * i) bytes (omega arith)) ∙ was.bytes_are ∙ ap directory_bytes whole,
-      All-same (λ (x : Entry). (x.object < 2 ^ 64) × (x.slot < 2 ^ 64)) into (take i into) (sym whole) was.each,
-    )
-
 pub entry_written : (es : List Entry) (i : ℕ) (e : Entry) (old mid new : List ℕ) → i < length es → take (16 * i) old ≡ directory_bytes (take i es)
     → take (16 * i + 8) mid ≡ take (16 * i) old ++ number e.object → take (16 * i + 8 + 8) new ≡ take (16 * i + 8) mid ++ number e.slot → e ≡ get_or es i e
     → take (16 * (i + 1)) new ≡ directory_bytes (take (i + 1) es)
@@ -99,12 +92,6 @@ rising_more es i ge below here k lt = elim (cases_lt (k + 1) i) [
       let before : i - 1 ≡ k = omega arith in
       subst (λ (n : ℕ). (entry_at es k).object < (entry_at es n).object) e (subst (λ (n : ℕ). (entry_at es n).object < (entry_at es i).object) before here)
 ]
-
-pub not_rising : (es : List Entry) (i : ℕ) → 1 ≤ i → i < length es → (entry_at es i).object ≤ (entry_at es (i - 1)).object → AreRising es → ⊥
-not_rising es i ge lt le rising =
-    let next : i - 1 + 1 ≡ i = omega arith in
-    let here : (entry_at es (i - 1)).object < (entry_at es i).object = subst (λ (n : ℕ). (entry_at es (i - 1)).object < (entry_at es n).object) next (rising (i - 1) (omega arith)) in
-    omega arith
 
 -- ---- slots apart
 
@@ -156,8 +143,3 @@ used_more es used i fits was fresh =
             false≢true (sym fresh ∙ ap (λ (s : ℕ). get_or used s false) (sym (e ∙ ap (λ (n : ℕ). (entry_at es n).slot) here)) ∙ was.marks j (omega arith))
       ];
     }
-
-pub twice_used : (es : List Entry) (used : List Bool) (i : ℕ) → i < length es → IsUsed es used i → get_or used (entry_at es i).slot false ≡ true → HaveOwnSlots es → ⊥
-twice_used es used i lt was taken apart =
-    let old = was.marked (entry_at es i).slot taken in
-    apart old.0 i old.1 lt old.2

@@ -8,9 +8,6 @@ use Rattle.std.proofs.lemmas.List.{append_assoc}
 abbrev pub ApartBelow : List Extent → ℕ → Type 0
 ApartBelow es n = (i j : ℕ) → i < n → i < j → j < length es → IsApart (extent_at es i) (extent_at es j)
 
-pub apart_none : (es : List Extent) → ApartBelow es 0
-apart_none es i j lt lt' in' = absurd (omega arith)
-
 pub apart_more : (es : List Extent) (n : ℕ) (e : Extent) → e ≡ extent_at es n → ApartBelow es n → All (IsApart e) (between (n + 1) (length es) es) → ApartBelow es (n + 1)
 apart_more es n e is below here i j lt lt' within = elim (cases_lt i n) [
   | inl less ↦ below i j less lt' within
@@ -24,9 +21,6 @@ apart_more es n e is below here i j lt lt' within = elim (cases_lt i n) [
       subst (λ (m : ℕ). IsApart (extent_at es m) (extent_at es j)) (sym at)
       (subst (λ (x : Extent). IsApart x (extent_at es j)) is (subst (λ (x : Extent). IsApart e x) other one))
 ]
-
-pub apart_ends : (es : List Extent) (n : ℕ) → length es ≤ n → ApartBelow es n → AreApart es
-apart_ends es n done below i j lt within = below i j (omega arith) lt within
 
 pub not_apart : (es : List Extent) (n : ℕ) (e : Extent) → e ≡ extent_at es n → (All (IsApart e) (between (n + 1) (length es) es) → ⊥) → AreApart es → ⊥
 not_apart es n e is hold apart = hold (subst (All (IsApart e)) (sym (take_rest es (n + 1))) (λ k d lt.
@@ -54,19 +48,8 @@ pub record CoveredTo (g : Geometry) (rs : List HomeRange) (i next : ℕ) : Type 
   pub goes_on : Cover g next (drop i rs) → Cover g 0 rs
   pub went_on : Cover g 0 rs → Cover g next (drop i rs)
 
-pub covered_none : (g : Geometry) (rs : List HomeRange) → CoveredTo g rs 0 0
-covered_none g rs = record { within = omega arith; goes_on = λ c. c; went_on = λ c. c }
-
 abbrev range_at : List HomeRange → ℕ → HomeRange
 range_at rs i = get_or rs i (record { first = 0; count = 0; sector = 0 })
-
-pub covered_more : (g : Geometry) (rs : List HomeRange) (i next : ℕ) → i < length rs → CoveredTo g rs i next → IsNext g (range_at rs i) next → (range_at rs i).count ≤ g.nodes + g.pages - next
-    → CoveredTo g rs (i + 1) (next + (range_at rs i).count)
-covered_more g rs i next lt was is room = record {
-  within = omega (arith, was.within);
-  goes_on = λ c. was.goes_on (subst (Cover g next) (sym (drop_more rs i (record { first = 0; count = 0; sector = 0 }) lt)) (is, c));
-  went_on = λ c. (subst (Cover g next) (drop_more rs i (record { first = 0; count = 0; sector = 0 }) lt) (was.went_on c)).1;
-}
 
 cover_within : (g : Geometry) (n : ℕ) (rs : List HomeRange) → Cover g n rs → n ≤ g.nodes + g.pages
 cover_within g n [] c = omega (arith, c)
@@ -76,10 +59,6 @@ pub not_covered : (g : Geometry) (rs : List HomeRange) (i next : ℕ) → i < le
 not_covered g rs i next lt was hold c =
     let here = subst (Cover g next) (drop_more rs i (record { first = 0; count = 0; sector = 0 }) lt) (was.went_on c) in
     hold here.0 (let rest = cover_within g (next + (range_at rs i).count) (drop (i + 1) rs) here.1 in omega arith)
-
-pub cover_ends : (g : Geometry) (rs : List HomeRange) (i next : ℕ) → length rs ≤ i → CoveredTo g rs i next → (next ≡ g.nodes + g.pages → Cover g 0 rs) × (Cover g 0 rs → next ≡ g.nodes + g.pages)
-cover_ends g rs i next done was =
-    ((λ e. was.goes_on (subst (Cover g next) (sym (drop_all i rs done)) e)), (λ c. subst (Cover g next) (drop_all i rs done) (was.went_on c)))
 
 -- the count of each range is at most that of all numbers
 pub counts_within : (g : Geometry) (n : ℕ) (rs : List HomeRange) → Cover g n rs → All (λ r. r.count ≤ g.nodes + g.pages) rs

@@ -24,11 +24,6 @@ unfolding words_bytes
 words_stream [] = refl
 words_stream (w ∷ ws) = ap (λ (r : List ℕ). number w ++ r) (words_stream ws)
 
-length-words : (ws : List ℕ) → length (words_bytes ws) ≡ 8 * length ws
-unfolding words_bytes
-length-words [] = refl
-length-words (w ∷ ws) = length-append (number w) (words_bytes ws) ∙ omega (arith, length-number w, length-words ws)
-
 pub all_fit : (ws : List ℕ) → All (λ w. w < 2 ^ 64) ws → AllFit ws
 all_fit [] all = tt
 all_fit (w ∷ ws) all = (all 0 0 (omega arith), all_fit ws (λ k d lt. all (suc k) d (omega arith)))

@@ -19,23 +19,9 @@ same_shaped at s old new same = ap (shape_bytes s) (same_sectors at (shape_lengt
 abbrev own_shape : Bool → Shape
 own_shape is_node = if is_node then Node else Page
 
-shape_first : (p : Plan) (n : ℕ) → p.version ≡ One → shape_of p n ≡ own_shape (nat_lt n p.geometry.nodes)
-shape_first p n first = ap (λ (v : Version). if nat_lt n p.geometry.nodes then node_shape v (rank_in (range_with p.ranges n) n) else Page) first
-
-own_length : (is_node : Bool) → shape_length (own_shape is_node) ≡ (if is_node then 2 else 9)
-own_length true = refl
-own_length false = refl
-
 own_bytes : (image : Image) (at : ℕ) (is_node : Bool) → shaped_at image at (own_shape is_node) ≡ sectors_from image at (if is_node then 2 else 9)
 own_bytes image at true = refl
 own_bytes image at false = refl
-
--- each frame has sectors of its own
-pub length_first : (p : Plan) (n : ℕ) → p.version ≡ One → place_length p n ≡ frame_length p.geometry n
-length_first p n first = ap shape_length (shape_first p n first) ∙ own_length (nat_lt n p.geometry.nodes)
-
-pub bytes_first : (image : Image) (at : ℕ) (p : Plan) (n : ℕ) → p.version ≡ One → bytes_at image at p n ≡ sectors_from image at (frame_length p.geometry n)
-bytes_first image at p n first = ap (shaped_at image at) (shape_first p n first) ∙ own_bytes image at (nat_lt n p.geometry.nodes)
 
 -- ---- pages
 
@@ -44,10 +30,6 @@ not_node n nodes le = grind (arith, nat_tests)
 
 page_shape : (p : Plan) (n : ℕ) → p.geometry.nodes ≤ n → shape_of p n ≡ Page
 page_shape p n le = ap (λ (test : Bool). if test then node_shape p.version (rank_in (range_with p.ranges n) n) else Page) (not_node n p.geometry.nodes le)
-
--- a page has sectors of its own in each version
-pub page_length : (p : Plan) (n : ℕ) → p.geometry.nodes ≤ n → place_length p n ≡ 9
-page_length p n le = ap shape_length (page_shape p n le)
 
 pub page_bytes : (image : Image) (at : ℕ) (p : Plan) (n : ℕ) → p.geometry.nodes ≤ n → bytes_at image at p n ≡ sectors_from image at 9
 page_bytes image at p n le = ap (shaped_at image at) (page_shape p n le)

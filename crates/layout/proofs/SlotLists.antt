@@ -130,9 +130,6 @@ held_from slots caps len few front rest =
     voids_are (drop n slots) (32 - n) (omega (arith, length-drop n slots)) (All-same (λ (c : Cap). c ≡ void_held) (drop n slots) (between n (length slots) slots) (sym (take_rest slots n)) rest) in
     sym (take-append-drop n slots) ∙ ap (λ (r : List Cap). r ++ drop n slots) (sym (front_part slots n) ∙ front) ∙ ap (λ (r : List Cap). caps ++ r) behind
 
-pub held_front : (slots caps : List Cap) → slots ≡ caps ++ replicate (32 - length caps) void_held → between 0 (length caps) slots ≡ caps
-held_front slots caps e = front_part slots (length caps) ∙ ap (take (length caps)) e ∙ take_at caps (replicate (32 - length caps) void_held) (length caps) refl
-
 pub held_rest : (slots caps : List Cap) → slots ≡ caps ++ replicate (32 - length caps) void_held → All (λ c. c ≡ void_held) (between (length caps) (length slots) slots)
 held_rest slots caps e =
     are_voids (between (length caps) (length slots) slots) (32 - length caps)

@@ -38,11 +38,6 @@ spelt_read image p age generation es n f is =
     let same : frame_read image p generation es n ≡ f = frame_again p.geometry age n (frame_in image p generation es n) f is in
     (subst (IsFrameOf p.geometry age n (frame_in image p generation es n)) (sym same) is, same)
 
--- what was written of a frame that can be kept is spelt
-pub written_spelt : (image : Image) (p : Plan) (age generation : ℕ) (es : List Entry) (n : ℕ) (f : Frame) → IsKeepable p.geometry age n f → frame_in image p generation es n ≡ frame_bytes p.geometry n f
-    → IsSpelt image p age generation es n × (frame_read image p generation es n ≡ f)
-written_spelt image p age generation es n f keepable is = spelt_read image p age generation es n f (keepable, is)
-
 -- what is spelt at one age and can be kept at another is spelt at that
 pub spelt_at : (image : Image) (p : Plan) (first second generation : ℕ) (es : List Entry) (n : ℕ) → IsSpelt image p first generation es n → IsKeepable p.geometry second n (frame_read image p generation es n)
     → IsSpelt image p second generation es n

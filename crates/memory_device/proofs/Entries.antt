@@ -40,9 +40,6 @@ length_written entries more at n bytes is = omega (arith, ap length is, length-a
 pub past_synced : (entries more : List RecordEntry) → more ≡ entries ++ record { action = Synced; cut = None } ∷ [] → events_of more ≡ events_of entries ++ synced ∷ []
 past_synced entries more is = ap events_of is ∙ events_of-append entries (record { action = Synced; cut = None } ∷ [])
 
-pub length_synced : (entries more : List RecordEntry) → more ≡ entries ++ record { action = Synced; cut = None } ∷ [] → length more ≡ length entries + 1
-length_synced entries more is = omega (arith, ap length is, length-append entries (record { action = Synced; cut = None } ∷ []))
-
 -- the entry of one sector more
 pub entries_more : (old now new : List RecordEntry) (at i : ℕ) (from bytes : List ℕ) → now ≡ old ++ entries_of at i from → new ≡ now ++ record { action = Wrote (at + i) bytes; cut = None } ∷ [] → bytes ≡ image_of from i
     → new ≡ old ++ entries_of at (i + 1) from

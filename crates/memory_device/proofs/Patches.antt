@@ -23,10 +23,6 @@ patches_on p q r from old mid new first second either = record {
   others = λ i no. let none = or_false (p i) (q i) (sym (either i) ∙ no) in second.others i none.1 ∙ first.others i none.0;
 }
 
--- no sector yet
-pub patches_none : (from image : Image) → Patches (λ _. false) from image image
-patches_none from image = record { named = λ i never. cc; others = λ i _. refl }
-
 pub names-append : (xs ys : List RecordEntry) (i : ℕ) → names (xs ++ ys) i ≡ (names xs i || names ys i)
 names-append [] ys i = refl
 names-append (x ∷ xs) ys i = ap (λ (b : Bool). writes x.action i || b) (names-append xs ys i) ∙ sym (or_assoc (writes x.action i) (names xs i) (names ys i))

@@ -181,15 +181,6 @@ keeps_one_none p generation es i disk only_now = record {
   unwritten = tt;
 }
 
--- before the first entry
-pub keeps_none : (p : Plan) (generation : ℕ) (es : List Entry) (disk : Disk) (o : Option Unwritten) → OnlyNow disk → IfUnwritten p generation es o → Keeps p generation es disk o disk o
-keeps_none p generation es disk o only_now fits = record {
-  touches = touches_none (half_sector p generation) (9 * p.geometry.log) disk only_now;
-  elsewhere = record { before = λ i lt. refl; after = λ i le. refl };
-  frames = λ i lt. refl;
-  unwritten = fits;
-}
-
 slots_hold : (p : Plan) (generation slot : ℕ) → slot < p.geometry.log → IsInside (record { sector = slot_sector p generation slot; length = 8 }) (record { sector = half_sector p generation; length = 9 * p.geometry.log })
 slots_hold p generation slot low = record { starts = omega arith; ends = omega (arith, low) }
 

@@ -58,19 +58,6 @@ spelt_more image p age generation es k below here n lt = elim (cases_lt n k) [
 
 -- ---- why an image is refused
 
--- there is no committed header with a directory
-pub bad_log : (image : Image) (size : ℕ) (p : Plan) (reason : BadImage) → HasPlan image size p → HasNoCommitted image p (fault.Bad reason) → IsBadBy image size reason
-bad_log image size p bad.Small plan none = absurd none
-bad_log image size p bad.NotASuperblock plan none = absurd none
-bad_log image size p bad.BadGeometry plan none = absurd none
-bad_log image size p bad.NoHeader plan none = (p, plan, none)
-bad_log image size p bad.BadHeader plan none = (p, plan, none.0, none.1)
-bad_log image size p bad.BadDirectory plan none = (p, none.0, plan, none.1, none.2)
-bad_log image size p bad.BadFrame plan none = absurd none
-bad_log image size p bad.BadCapability plan none = absurd none
-bad_log image size p bad.BadProcess plan none = absurd none
-bad_log image size p bad.BadBank plan none = absurd none
-
 -- the frame of some object is none
 pub bad_frame : (image : Image) (size : ℕ) (p : Plan) (h : CheckpointHeader) (es : List Entry) (n : ℕ) (e : OpenFault) → HasPlan image size p → HasHeader image p h → HasDirectory image p h es → n < count_of p → IsBadAt image p h es n e → IsBadFor image size e
 bad_frame image size p h es n refusal.Failed plan header directory lt is = tt

@@ -158,10 +158,6 @@ pub freed_within : (g : Geometry) (os : List Object) (c : Capability) (n : ℕ) 
 freed_within g os c n ns h frees names =
     all_members (λ m. m < length os) (n ∷ ns) (given_up_within os (n ∷ ns) (freed_set g os h.frame c n ns names frees).given_up)
 
-pub freed_once : (g : Geometry) (os : List Object) (c : Capability) (n : ℕ) (ns : List ℕ) → IsNow g os → freed_by os c ≡ n ∷ ns → NamesItsKind os c
-    → AllDiffer (n ∷ ns)
-freed_once g os c n ns h frees names = (freed_set g os h.frame c n ns names frees).given_up.once
-
 -- what is left of a bank's usage after a free, with what is freed, is what it was
 usage_freed_both : (g : Geometry) (os : List Object) (c : Capability) (b n : ℕ) (ns : List ℕ) → IsNow g os → owner_at os n ≡ b → freed_by os c ≡ n ∷ ns
     → NamesItsKind os c → (x : ℕ) → IsTrue (is_bank (content_at os x))
@@ -190,10 +186,6 @@ pub under_once : (os : List Object) (b : ℕ) → AllDiffer (under os b)
 unfolding under
 under_once os b = filter_once (λ n. (n == b) || is_under os b (object_at os n)) 0 (length os)
 
-pub owned_once : (os : List Object) (b : ℕ) → AllDiffer (owned_by os b)
-unfolding owned_by
-owned_once os b = filter_once (λ n. not (is_free (content_at os n)) && (owner_at os n == b)) 0 (length os)
-
 pub under_found : (os : List Object) (b n : ℕ) → is_member (under os b) n ≡ true → (n < length os) × (((n == b) || is_under os b (object_at os n)) ≡ true)
 unfolding under
 under_found os b n e = let found = found_in (λ n. (n == b) || is_under os b (object_at os n)) 0 (length os) n e in (omega (arith, found.1), found.2)
@@ -209,15 +201,6 @@ owned_found os b n e =
     let found = found_in (λ n. not (is_free (content_at os n)) && (owner_at os n == b)) 0 (length os) n e in
     let parts = and_parts (not (is_free (content_at os n))) (owner_at os n == b) found.2 in
     (omega (arith, found.1), not-true (is_free (content_at os n)) parts.0, eqb-true (owner_at os n) b parts.1)
-
--- in order and among the objects
-pub under_rises : (os : List Object) (b : ℕ) → IsStrictlyIncreasing (under os b)
-unfolding under
-under_rises os b = filter_rises (λ n. (n == b) || is_under os b (object_at os n)) 0 (length os)
-
-pub owned_rises : (os : List Object) (b : ℕ) → IsStrictlyIncreasing (owned_by os b)
-unfolding owned_by
-owned_rises os b = filter_rises (λ n. not (is_free (content_at os n)) && (owner_at os n == b)) 0 (length os)
 
 pub under_within : (os : List Object) (b : ℕ) → All (λ n. n < length os) (under os b)
 under_within os b = all_members (λ n. n < length os) (under os b) (λ n e. (under_found os b n e).0)

@@ -280,13 +280,6 @@ pub returned_fits : (g : Geometry) (os : List Object) (b : ℕ) → IsNow g os �
     → (x : ℕ) → x ≢ b → (if is_member (chain os (owner_at os b)) x then 1 else 0) ≤ usage os x
 returned_fits g os b h is on x differ = omega (arith, usage_returned_both g os b h is on x differ)
 
--- the bank isn't among what it owns
-pub returned_once : (g : Geometry) (os : List Object) (b : ℕ) → IsNow g os → IsTrue (is_bank (content_at os b)) → b ≢ 0 → AllDiffer (b ∷ owned_by os b)
-returned_once g os b h is on = (
-  false_from_ne_true (is_member (owned_by os b) b) (λ e. parent_other os (tree_of g os h.frame) b is on (owned_found os b b e).2),
-  owned_once os b,
-)
-
 -- outcomes
 
 -- an outcome that gives nothing

@@ -60,9 +60,3 @@ filter_once f a (suc count) = go (f a) (filter_once f (a + 1) count)
     go : (t : Bool) → AllDiffer (filter f (range_with_len (a + 1) count)) → AllDiffer (cond t (a ∷ filter f (range_with_len (a + 1) count)) (filter f (range_with_len (a + 1) count)))
     go true rest = (false_from_ne_true (is_member (filter f (range_with_len (a + 1) count)) a) (λ e. omega (arith, (found_in f (a + 1) count a e).0)), rest)
     go false rest = rest
-
--- what passes stands in order
-pub filter_rises : (f : ℕ → Bool) (a count : ℕ) → IsStrictlyIncreasing (filter f (range_with_len a count))
-filter_rises f a count = IsStrictlyIncreasing-filter f (range_with_len a count) (λ k within.
-    let inside : k + 1 < count = omega (arith, within, length-range_with_len a count) in
-    rw (get_or-range_with_len a count k 0 (omega (arith, inside)), get_or-range_with_len a count (k + 1) 0 inside) (omega arith))

@@ -236,10 +236,6 @@ f0_in_place n =
       ),
     ) blank n n (omega arith)
 
--- each slot of F0 is void, or holds node 5 or page 16
-pub f0_slots : (n i : ℕ) → (slot_at f0.objects n i ≡ Void) ⊎ (slot_at f0.objects n i ≡ Node 5 full) ⊎ (slot_at f0.objects n i ≡ Page 16 full)
-f0_slots n i = (f0_in_place n).slots i
-
 f0_may : (c : Capability) → IsInF0 c → MayBeHeld f0.objects c
 unfolding f0
 f0_may c held = elim held [

@@ -129,9 +129,6 @@ pub spelling_from_words : (text : List ℕ) (c : Command) → split text ≡ com
 unfolding spelling
 spelling_from_words text c e = sym (join_with_byte-slice_split 32 text) ∙ ap (λ words. spaced words) e
 
-pub spelling_by_words : (text : List ℕ) (c : Command) → Fits c → (text ≡ spelling c) ↔ (split text ≡ command_words c)
-spelling_by_words text c fits = (λ e. ap (λ t. split t) e ∙ split_spelling c fits, λ e. spelling_from_words text c e)
-
 -- a spelling is short
 pub length-spelling : (c : Command) → Fits c → length (spelling c) ≤ 256
 unfolding spelling

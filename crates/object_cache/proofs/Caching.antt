@@ -127,9 +127,6 @@ module _ (s : Stored) (m : Memory) (left count : ℕ) (is : IsCache s m left cou
   none_now : entry_at dropped n ≡ None
   none_now = get_or-set_same m.entries n None None entry_within
 
-  is_present : content_at s m n ≡ e.present
-  is_present = ap (λ (o : Option Entry). present_body o (header_at m.headers n).role (newest_body s m n)) at
-
   owed_here : owed_of (Some e) (mark_at m.pending n) (mark_at m.touched n) ≡ Nothing
   owed_here = ap (λ (o : Option Entry). owed_of o (mark_at m.pending n) (mark_at m.touched n)) (sym at) ∙ owed
 

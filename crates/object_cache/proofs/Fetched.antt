@@ -12,9 +12,6 @@ module _ {D : Type 0} (disk : D → Disk) (d : DurableState D) (m : Memory) (lef
     known_here : n < length m.headers
     known_here = omega (arith, known, ap (λ (t : StoreState D). length t.headers) view)
 
-    pub read_known : n < object_count (stored_of disk d).saved.geometry
-    read_known = omega (arith, known_here, is.headers)
-
     staging_is : m.staging ≡ None
     staging_is = ap (λ (t : StoreState D). t.staging) view ∙ empty
 

@@ -230,12 +230,6 @@ module _ {D : Type 0} (disk : D → Disk) (d : DurableState D) (m : Memory) (lef
   pub freeze_enough : sum_of held_slot (stored_of disk d).working ≤ count
   freeze_enough = let few = held_touched (stored_of disk d).working m.touched (is.puts ∙ sym is.marks) is.unput in omega (arith, few, is.counted)
 
-  pub freeze_size : count ≡ touched_count s.touched
-  freeze_size = is.counted ∙ ap (λ (t : StoreState D). touched_count t.touched) view
-
-  pub freeze_few : count ≤ (stored_of disk d).saved.geometry.log
-  freeze_few = is.within
-
   module _ (new : DurableState D) (none : (stored_of disk d).frozen ≡ None) (begun : stored_of disk new ≡ freezing count (stored_of disk d))
       (fh : List ObjectHeader) (fh_count : length fh ≡ length m.frozen_headers) (same_headers : (n : ℕ) → mark_at m.dirty n ≡ true → header_at fh n ≡ header_at m.headers n)
       (keepable : AreKeepable (stored_of disk s.durable).saved.geometry most (frames_in s.headers s.contents)) where
@@ -262,6 +256,3 @@ module _ {D : Type 0} (disk : D → Disk) (d : DurableState D) (m : Memory) (lef
         (begun_frozen (stored_of disk d) m left count is none fh fh_count same_headers kept)
         ∙ ap (λ (k : ℕ). record { frozen = Some (record { frames = frames_in m.headers (contents_in (stored_of disk d) m); size = k; left = k }); saved = (stored_of disk d).saved; to_move = (stored_of disk d).to_move }) is.counted
         ∙ ap (λ (t : StoreState D). store.freezing (frames_in t.headers t.contents) (touched_count t.touched) (snapshots_of disk t)) view
-
-    pub freeze_saved : (stored_of disk new).saved ≡ (stored_of disk s.durable).saved
-    freeze_saved = ap (λ (t : Stored). t.saved) begun ∙ ap (λ (t : StoreState D). (stored_of disk t.durable).saved) view

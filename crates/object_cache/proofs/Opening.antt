@@ -153,24 +153,3 @@ module _ {D : Type 0} (disk : D → Disk) (device : D) (d : DurableState D) (hs 
 
 -- a store is told apart from its making
 module _ {D : Type 0} (disk : D → Disk) where
-  pub over_made : (all : Bool) (d : DurableState D) (most : ℕ) (s : StoreState D) → all ≡ false → IsMadeOver disk d most s → IsOpenOver all disk d most s
-  over_made all d most s few made = record {
-    durable = made.durable;
-    headers_are = made.headers_are;
-    contents = made.contents;
-    touched = made.touched;
-    idle = made.idle;
-    whole = λ is. absurd (true≢false (sym is ∙ few));
-    same_most = made.same_most;
-  }
-
-  pub over_filled : (all : Bool) (d : DurableState D) (most : ℕ) (s t : StoreState D) → t ≡ record s { cached = t.cached; owed = t.owed; order = t.order } → IsWhole t → IsMadeOver disk d most s → IsOpenOver all disk d most t
-  over_filled all d most s t is whole made = record {
-    durable = ap (λ (x : StoreState D). x.durable) is ∙ made.durable;
-    headers_are = ap (λ (x : StoreState D). x.headers) is ∙ made.headers_are;
-    contents = ap (λ (x : StoreState D). x.contents) is ∙ made.contents;
-    touched = ap (λ (x : StoreState D). x.touched) is ∙ made.touched;
-    idle = ap (λ (x : StoreState D). x.frozen) is ∙ made.idle;
-    whole = λ all. whole;
-    same_most = ap (λ (x : StoreState D). x.most) is ∙ made.same_most;
-  }

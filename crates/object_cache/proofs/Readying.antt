@@ -47,9 +47,6 @@ module _ {D : Type 0} (disk : D → Disk) where
   }
 
   module _ (only_now : (d : D) (c : Image) → (disk d).left_since (disk d).moment c → (disk d).may_leave c) where
-    pub ready_continues : (s t : StoreState D) → t ≡ record s { owed = t.owed; cached = t.cached } → GoesOnIn disk s t
-    ready_continues s t is = subst (GoesOnIn disk s) (sym is) (continues_cached disk s s t.cached t.owed s.order (goes_on_same disk only_now s))
-
     pub mark_continues : (s : StoreState D) (ts ds : List Bool) → touched_count s.touched ≤ touched_count ts → GoesOnIn disk s (record s { touched = ts; dirty = ds })
     mark_continues s ts ds grows = record {
       goes_on = goes_none (disk s.durable.beneath) s.durable.books (only_now s.durable.beneath);

@@ -5,10 +5,6 @@ use Rattle.object_cache.proofs.Names.{goes_trans, FrozenFrames, Snapshots, stabi
 use Rattle.object_cache.proofs.Names.{PutsBy, snapshots_of, cache_of, on_device, on_device_frozen, pending_count, goes_on_same}
 use Rattle.object_cache.proofs.Freezing.{fewer_of}
 
-pub empty_of : (o : Option Held) → is_some o ≡ false → o ≡ None
-empty_of None none = refl
-empty_of (Some h) none = absurd (true≢false none)
-
 pub none_marked : (ts : List Bool) → HasNoneMarked ts 0 → count_by (λ b. b) ts ≤ 0
 none_marked ts none = fewer_of ts [] (λ k marked. absurd (true≢false (sym marked ∙ none k (omega arith))))
 
@@ -21,9 +17,6 @@ running_in : (fs : List Frame) (left : ℕ) (o : Option FrozenPuts) (f : FrozenF
     (h : FrozenPuts) × (o ≡ Some h) × (record { frames = fs; size = h.size; left = left } ≡ f)
 running_in fs left None f is = absurd (none-some f is)
 running_in fs left (Some h) f is = (h, refl, same_Some (record { frames = fs; size = h.size; left = left }) f is)
-
-abbrev pub one_less_left : FrozenFrames → FrozenFrames
-one_less_left f = record { frames = f.frames; size = f.size; left = f.left - 1 }
 
 module _ {D : Type 0} (disk : D → Disk) where
   module _ (d : DurableState D) (m : Memory) (left count : ℕ) (order : List ℕ) (most_entries : ℕ) (s : StoreState D)
@@ -69,23 +62,6 @@ module _ {D : Type 0} (disk : D → Disk) where
         apart = is.apart;
         freed = is.freed;
       }
-
-    turned_seen : cache_of disk d m (left - 1) order most_entries ≡ record s { frozen = Some (one_less_left f) }
-    turned_seen =
-        let old = cache_of disk d m left order most_entries in
-        ap (λ (o : Option FrozenPuts). record old { frozen = option_map (λ (h : FrozenPuts). record { frames = frozen_in (stored_of disk d) m; size = h.size; left = left - 1 }) o }) found.1
-        ∙ ap (λ (x : FrozenFrames). record old { frozen = Some (one_less_left x) }) found.2
-        ∙ ap (λ (t : StoreState D). record t { frozen = Some (one_less_left f) }) view
-
-    -- one was put, and one fewer is left
-    pub turned_puts : (s0 : StoreState D) → s0.frozen ≡ Some f → s ≡ on_device s0 s → GoesOnIn disk s0 s → PutsBy disk s0 (cache_of disk d m (left - 1) order most_entries) 1
-    turned_puts s0 f0 put goes = subst (λ (t : StoreState D). PutsBy disk s0 t 1) (sym turned_seen) (record {
-      snapshots = λ g g_is.
-          ap (λ (a : Snapshots). record { frozen = Some (one_less_left f); saved = a.saved; to_move = a.to_move }) goes.snapshots
-          ∙ ap (λ (x : FrozenFrames). record { frozen = Some (one_less_left x); saved = (snapshots_of disk s0).saved; to_move = (snapshots_of disk s0).to_move }) (same_Some f g (sym f0 ∙ g_is));
-      rest = ap (λ (t : StoreState D). record t { frozen = Some (one_less_left f) }) put;
-      goes_on = goes.goes_on;
-    })
 
   -- none was put
   pub unturned_puts : (s0 s : StoreState D) → s ≡ on_device s0 s → GoesOnIn disk s0 s → PutsBy disk s0 s 0

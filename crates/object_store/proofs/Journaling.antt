@@ -56,12 +56,6 @@ next_is left_of age n ws None saved true false none home page there = absurd cc
 next_is left_of age n ws None saved false is_saved none home page there = absurd cc
 next_is left_of age n ws (Some f) saved is_page is_saved none home page there = absurd cc
 
--- where a crash leaves what is saved, it leaves that or what is saved next
-pub leaves_one : (old new : Disk) (saved : SavedFrames) (next : Option SavedFrames) → LeavesSaved old new saved → LeavesOneOf old new saved next
-leaves_one old new saved None leaves = leaves
-leaves_one old new saved (Some next) leaves =
-    leaves_weaker {old = old} {new = new} {P = λ (c : Image). Holds old.sectors c saved} (λ (c : Image). Holds old.sectors c saved ⊎ Holds old.sectors c next) (λ c holds. inl holds) leaves
-
 -- it is done where no checkpoint is on its way, and the object is a page
 pub journal_there : (old new : Disk) (left : Option ℕ) (saved : SavedFrames) (is_page is_saved : Bool) (r : Result ℕ JournalFault) → journal.IsJournalAnswer old new left saved is_page is_saved r →
     OnOk r ((left ≡ None) × (is_page ≡ true))

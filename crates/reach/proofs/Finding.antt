@@ -147,9 +147,6 @@ finds_by from by c to level a b conveys = finds_same (IsTheStep (record { from =
     (λ s is. (is.0, is.1, subst (Conveys c) (sym is.2) conveys))
     (λ s is. (is.0, is.1, same_Some s.to to (sym is.2.1 ∙ conveys.1)))
 
-pub finds_weak : (from : ℕ) (by : Way) (c : Capability) (level : ℕ) (l : Levels) → IsWeak c ⊎ (named c ≡ None) → FindsBy (IsBy from by c) level l l
-finds_weak from by c level l none = finds_none (IsBy from by c) level l (λ s is. ⊎_elim (λ weak. is.2.0 weak) (λ unnamed. let wrong : Some s.to ≡ None = sym is.2.1 ∙ unnamed in cc) none)
-
 -- one capability more of a list
 pub held_next : (slots : List Capability) (i from level : ℕ) (a b c : Levels) → FindsBy (IsHeldIn slots i from) level a b
     → FindsBy (IsBy from (way.Slot i (slice_index_or slots i Void)) (slice_index_or slots i Void)) level b c → FindsBy (IsHeldIn slots (i + 1) from) level a c

@@ -10,9 +10,6 @@ IsIn other o = elim o [ None ↦ Unit {0} | Some m ↦ IsTrue (other m) ]
 pub named_inside : (other : ℕ → Bool) (c : Capability) (n : ℕ) → (IsWeak c → ⊥) → named c ≡ Some n → StaysInside other c → IsTrue (other n)
 named_inside other c n strong is stays = ⊎_elim (λ weak. absurd (strong weak)) (λ inside. subst (IsIn other) is inside) stays
 
-pub grows_none : (f : Frontier) → Grows f f
-grows_none f = record { count = refl; found = λ n is. is; done = λ n is. is; work = omega arith }
-
 pub grows_more : (a b c : Frontier) → Grows a b → Grows b c → Grows a c
 grows_more a b c first next = record {
   count = next.count ∙ first.count;

@@ -54,19 +54,6 @@ registers_held os n slots (way.Slot i c) m by s same is to = held_way slots i c 
 held_registers : (os : List Object) (n : ℕ) (slots : List Capability) (s : Step) → IsHeldIn slots (length slots) n s → IsWay os n (content.Annex slots) s.way s.to
 held_registers os n slots s held = subst (λ (w : Way). IsWay os n (content.Annex slots) w s.to) (sym held.2.1) (refl, held.2.2)
 
--- of nothing
-free_ways : (os : List Object) (n : ℕ) (w : Way) (m : ℕ) → IsWay os n content.Free w m → ⊥
-free_ways os n way.Annex m by = let wrong = by.0 in absurd (cc)
-free_ways os n way.Owner m by = let wrong = by.0 in absurd (cc)
-free_ways os n (way.Space c) m by = void_conveys c m by.0 by.1
-free_ways os n (way.Slot i c) m by = void_conveys c m by.0 by.1
-
-page_ways : (os : List Object) (n : ℕ) (words : List ℕ) (w : Way) (m : ℕ) → IsWay os n (content.Page words) w m → ⊥
-page_ways os n words way.Annex m by = let wrong = by.0 in absurd (cc)
-page_ways os n words way.Owner m by = let wrong = by.0 in absurd (cc)
-page_ways os n words (way.Space c) m by = void_conveys c m by.0 by.1
-page_ways os n words (way.Slot i c) m by = void_conveys c m by.0 by.1
-
 -- of a bank
 bank_owned : (os : List Object) (n limit : ℕ) (w : Way) (m : ℕ) → IsWay os n (content.Bank limit) w m → (s : Step) → s.from ≡ n → s.way ≡ w → s.to ≡ m → IsOwnedBelow os (length os) n s
 bank_owned os n limit way.Annex m by s same is to = let wrong = by.0 in absurd (cc)
@@ -113,12 +100,6 @@ module _ (os : List Object) (n level : ℕ) (a b : Levels) where
   finds_of_bank limit is = finds_same (IsOwnedBelow os (length os) n) (IsFrom os n) level a b
       (λ s owned. from_way os n (content.Bank limit) is s owned.0 (owned_bank os n limit s owned))
       (λ s from. bank_owned os n limit s.way s.to (way_from os n (content.Bank limit) is s from) s from.0 refl refl)
-
-  pub finds_of_free : content_at os n ≡ content.Free → FindsBy (IsFrom os n) level a a
-  finds_of_free is = finds_none (IsFrom os n) level a (λ s from. free_ways os n s.way s.to (way_from os n content.Free is s from))
-
-  pub finds_of_page : (words : List ℕ) → content_at os n ≡ content.Page words → FindsBy (IsFrom os n) level a a
-  finds_of_page words is = finds_none (IsFrom os n) level a (λ s from. page_ways os n words s.way s.to (way_from os n (content.Page words) is s from))
 
   pub finds_of_process : (root : Root Capability) (registers : List Capability) (c d : Levels) → content_at os n ≡ content.Root root → slots_in (content_at os root.annex) ≡ registers
       → FindsBy (IsTheStep (annex_step n root)) level a c → FindsBy (IsBy n (way.Space root.space) root.space) level c d → FindsBy (IsHeldIn registers (length registers) n) level d b

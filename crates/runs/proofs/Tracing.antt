@@ -9,15 +9,6 @@ use Rattle.runs.proofs.TurnLists.{appends_none}
 
 -- ---- where a strict run ends
 
-pub ends_if : (strict : Bool) (why : Cause) (place : ℕ) (on : Bool) (stop : Option Stop) → on ≡ not strict → (strict ≡ true → stop ≡ Some (record { line = place; cause = why })) →
-    EndsIf strict (Some why) place on stop
-ends_if false why place on stop is ended = is
-ends_if true why place on stop is ended = (is, ended refl)
-
-pub ends_none : (strict : Bool) (place : ℕ) (stop : Option Stop) → EndsIf strict None place true stop
-ends_none false place stop = refl
-ends_none true place stop = refl
-
 ended : (g : Geometry) (t : Turn) (strict : Bool) (why : Option Cause) (place : ℕ) (on : Bool) (stop : Option Stop) → EndsIf strict why place on stop →
     IfSome why (IsCauseOf g t) → IfNone why ((w : Cause) → IsCauseOf g t w → ⊥) → Ends g place t strict on stop
 ended g t false why place on stop ends some none = fine why ends
@@ -84,30 +75,3 @@ module _ {V : Type 0} (contents : V → Option (List ℕ)) (g : Geometry) (t : T
       t.reply ≡ BadLine → IsFaultOf t.line fault → text ≡ spaced (place_text place ∷ cause_text (cause.BadLine fault) ∷ []) → Sees contents g t old new on
   bad_seen place text fault noted next reply is spelt =
       seen place text (Some (cause.BadLine fault)) noted next (subst (λ (r : Reply). IsTrace g place t r (line_of text)) (sym reply) (fault, is, ap line_of spelt)) (reply, is) tt
-
-  -- a skipped line
-  pub skip_seen : new.options ≡ old.options → new.line ≡ min (old.line + 1) (2 ^ 64 - 1) → new.is_lost ≡ old.is_lost → new.errors ≡ old.errors → on ≡ true → t.reply ≡ Nothing →
-      Sees contents g t old new on
-  skip_seen options next lost errors goes reply = record {
-    options = options;
-    place = next;
-    text = [];
-    trace = subst (λ (r : Reply). IsTrace g new.line t r []) (sym reply) refl;
-    written = subst (λ (l : Bool). IsTraced old.options.trace old.is_lost l (contents old.errors) (contents new.errors) []) (sym lost)
-        (subst (λ (v : V). IsTraced old.options.trace old.is_lost old.is_lost (contents old.errors) (contents v) []) (sym errors) (none_traced old.options.trace old.is_lost (contents old.errors)));
-    ends = subst (λ (o : Bool). Ends g new.line t old.options.strict o new.stop) (sym goes) (never_ends old.options.strict);
-  }
-    where
-      none_traced : (trace is_lost : Bool) (old : Option (List ℕ)) → IsTraced trace is_lost is_lost old old []
-      none_traced true true old = refl
-      none_traced true false old = appends_none old
-      none_traced false is_lost old = (refl, refl)
-
-      no_cause : (w : Cause) → IsCauseOf g t w → ⊥
-      no_cause (cause.BadLine fault) is = let never : Nothing ≡ BadLine = sym reply ∙ is.0 in absurd cc
-      no_cause (cause.Refused r) is = let never : Nothing ≡ Reported is.2 = sym reply ∙ is.3 in absurd cc
-      no_cause (cause.Code k) is = let never : Nothing ≡ Reported is.2 = sym reply ∙ is.3 in absurd cc
-
-      never_ends : (strict : Bool) → Ends g new.line t strict true new.stop
-      never_ends false = refl
-      never_ends true = no_cause

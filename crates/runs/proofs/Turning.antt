@@ -380,26 +380,10 @@ module _ {D S O : Type 0} (disk : D → Disk) (view : S → View D) (parts : S �
   nothing_read k seen line input output empty = ([], no_text input, λ g m stands. begun g m k seen line output empty stands)
 
   module _ (old mid : Power D S) (first before : O) (line : LineBuffer) (input read left output written : Option (List ℕ)) (so_far : HasRead old mid first before line input read output written) where
-    -- a read gave nothing
-    pub still_read : Consumes read left [] → HasRead old mid first before line input left output written
-    still_read nothing = (so_far.0, subst (Consumes input left) (append-nil so_far.0) (Consumes-trans input read left so_far.0 [] so_far.1 nothing), so_far.2)
-
     -- what was written was passed on, or wasn't
     module _ (passed : Option (List ℕ)) (kept : Keeps written passed) where
       pub passed_on : HasRead old mid first before line input read output passed
       passed_on = (so_far.0, so_far.1, λ g m stands. kept_so_far g m old mid first before so_far.0 line output written passed kept (so_far.2 g m stands))
-
-      pub not_passed_on : (e : RunFault) → e ≡ fault.Write → RunsSeen disk view parts sees old mid first before input read output passed (Err e)
-      not_passed_on e write g m stands =
-          let s = so_far.2 g m stands in (
-            s.turns,
-            s.run,
-            subst (λ (d : RunFault). Does s.turns input read output passed (Err d)) (sym write)
-                (so_far.0, so_far.1, inr (inl (s.rest, s.lines), appends_kept output written passed (output_of s.turns) s.written kept)),
-            true,
-            s.are_seen,
-            subst (λ (d : RunFault). EndsBy true (Err d)) (sym write) tt,
-          )
 
     module _ (bytes : List ℕ) (new : Power D S) (seen : O) (wrote : Option (List ℕ)) (more : Consumes read left bytes) where
       pub piece_on : (next : LineBuffer) → ((g : Geometry) (m : Machine) (start : Power D S) (begins : O) (text : List ℕ) (out : Option (List ℕ)) →

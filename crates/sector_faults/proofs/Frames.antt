@@ -43,9 +43,6 @@ module _ (size : ℕ) (image : Image) (p : Plan) (h : CheckpointHeader) (es : Li
   frame_there : shaped_at image at form ≡ frame_in image p h.generation es n
   frame_there = ap (λ (s : ℕ). shaped_at image s form) there ∙ ap (λ (s : Shape). shaped_at image (frame_sector p h.generation es n) s) as_is
 
-  pub whole_frame : FitsOr p.geometry h.age n (shaped_at image at form) None → (f : Frame) × IsFrameOf p.geometry h.age n (frame_in image p h.generation es n) f
-  whole_frame fits = subst (λ (b : List ℕ). (f : Frame) × IsFrameOf p.geometry h.age n b f) frame_there fits
-
   pub frame_fault : (part : FramePart) → HasPlan image size p → HasHeader image p h → HasDirectory image p h es → n < p.geometry.nodes + p.geometry.pages
       → FitsOr p.geometry h.age n (shaped_at image at form) (Some part) → IsFault size image (fault.Frame n (nat_le p.geometry.nodes n) part)
   frame_fault part plan header directory inside broken =

@@ -28,9 +28,6 @@ module _ (image : Image) (size : ℕ) (p : Plan) (h : CheckpointHeader) (es : Li
       ∙ ap (λ (s : ℕ). take (16 * n) (sectors_from image s (directory_length n))) (sym place)
       ∙ ap (take (16 * n)) (sym read) ∙ spelt
 
-  pub directory_found : length es ≡ n → IsDirectory p.geometry es → HasDirectory image p h es
-  directory_found len fits = record { count = len ∙ count; fits = fits; spelt = spelt_there }
-
   pub directory_fault : (part : DirectoryPart) → HasPlan image size p → HasHeader image p h → length es ≡ n → AllFitting es → BreaksDirectory p.geometry es part → IsFault size image (fault.Directory sector part)
   directory_fault part plan header len fits broken = (
     (p, h, plan, header, λ ds is_directory same_count same. no_spelling p.geometry es part (directory_in image p h.generation h.entries) fits spelt_there broken ds is_directory same),

@@ -21,12 +21,6 @@ drop_suc (y ∷ l) (suc i) x ys is = drop_suc l i x ys is
 pub drop_next : (l : List ℕ) (i x : ℕ) (ys : List ℕ) → drop i l ≡ x ∷ ys → drop (i + 1) l ≡ ys
 drop_next l i x ys is = ap (λ (n : ℕ). drop n l) (add-one i) ∙ drop_suc l i x ys is
 
-pub begins_within : (l : List ℕ) (i x : ℕ) (ys : List ℕ) → drop i l ≡ x ∷ ys → i < length l
-begins_within [] zero x ys is = cc
-begins_within [] (suc i) x ys is = cc
-begins_within (y ∷ l) zero x ys is = omega arith
-begins_within (y ∷ l) (suc i) x ys is = omega (arith, begins_within l i x ys is)
-
 pub one_all : (P : ℕ → Type 0) (n : ℕ) → P n → All P (n ∷ [])
 one_all P n h zero d inside = h
 one_all P n h (suc k) d inside = absurd (omega arith)
