@@ -8,7 +8,7 @@ returns-then-number-geometry-clause-found c =
     let g : Geometry = c.args.geometry in
     let age : ℕ = c.args.age in
     let bytes : List ℕ = c.args.bytes.now in
-    let room : Scratch = c.decode_node_frame.new.room in
+    let room : Scratch = c.decode_node_frame.new.scratch in
     IfOk-weaker c.decode_node_frame.result
     (λ (read : ObjectHeader × Body). IsNodeFrame g age (frame_of read room) × (bytes ≡ node_frame_bytes (frame_of read room))) (λ (read : ObjectHeader × Body). IsFrameOf g age c.args.number bytes (frame_of read room))
     (λ read is. frame_of_node g age c.args.number bytes (frame_of read room) c.if-number-geometry.true is) c.decode_node_frame.ensures.found
@@ -27,7 +27,7 @@ returns-else-number-geometry-clause-found c =
     let g : Geometry = c.args.geometry in
     let age : ℕ = c.args.age in
     let bytes : List ℕ = c.args.bytes.now in
-    let room : Scratch = c.decode_page_frame.new.room in
+    let room : Scratch = c.decode_page_frame.new.scratch in
     IfOk-weaker c.decode_page_frame.result
     (λ (read : ObjectHeader × Body). IsPageFrame age (frame_of read room) × (bytes ≡ page_frame_bytes (frame_of read room))) (λ (read : ObjectHeader × Body). IsFrameOf g age c.args.number bytes (frame_of read room))
     (λ read is. frame_of_page g age c.args.number bytes (frame_of read room) (omega arith) c.requires.number is) c.decode_page_frame.ensures.found

@@ -12,7 +12,7 @@ returns-then-is_body-clause-found c =
     let header : ObjectHeader = c.decode_front-role.result.1 in
     let words : List ℕ = c.decode_words.new.into in
     let is = subst (IsPageBody role header.owner) c.as_slice-words.ensures.value (c.is_body.ensures.0 c.if-is_body.true) in
-    page_found c.args.age role header c.args.room.now.slots words c.body_in.result c.args.bytes.now
+    page_found c.args.age role header c.args.scratch.now.slots words c.body_in.result c.args.bytes.now
     (omega arith, (omega arith, (omega arith, (omega arith, tt)))) c.decode_front-role.ensures.role c.body_in.ensures (c.has_counts-has_counts.ensures.0 c.if-has_counts.true) c.decode_words.ensures.words is
     c.decode_front-role.ensures.bytes (c.is_blank_between-is_blank.ensures.0 c.if-is_blank.true) (sym (take_rest c.args.bytes.now 512) ∙ c.decode_words.ensures.bytes)
 

@@ -4,7 +4,7 @@ use Rattle.migrator.proofs.read.read_put.Goals as goal
 
 pub returns-in-Ok-clause-found : goal.returns-in-Ok-clause-found
 returns-in-Ok-clause-found g c =
-    read_is c.args.plan.now.geometry most c.args.number (λ i. slot_bytes i c.args.plan.now c.args.generation c.args.slot c.args.number) (g.D.Device.disk c.args.device.now).seen (g.D.Device.disk c.read_slot.new.device).seen (slot_frame (g.D.Device.disk c.args.device.now).seen c.args.plan.now c.args.generation c.args.slot c.args.number) (frame_of c.in-Ok.read c.read_slot.new.room)
+    read_is c.args.plan.now.geometry most c.args.number (λ i. slot_bytes i c.args.plan.now c.args.generation c.args.slot c.args.number) (g.D.Device.disk c.args.device.now).seen (g.D.Device.disk c.read_slot.new.device).seen (slot_frame (g.D.Device.disk c.args.device.now).seen c.args.plan.now c.args.generation c.args.slot c.args.number) (frame_of c.in-Ok.read c.read_slot.new.scratch)
     c.read_slot.ensures.reads.seen c.requires.spelt (rw c.new-log.ensures at c.in-Ok.ensures.found)
 
 pub failure-requires : goal.failure-requires

@@ -22,7 +22,7 @@ returns-then-is_for-clause-found g c =
     let disk = g.D.Device.disk c.args.device.now in
     let b = c.args.self.now in
     let at = rw c.new-log.ensures at c.slot_sector-sector.ensures.value in
-    own_frame disk.sectors disk.seen b b.unwritten c.requires.stands.kept c.requires.stands.unwritten c.args.number c.args.slot (frame_of c.read.result c.read.new.room) c.requires.place at (c.is_for.ensures.yes c.if-is_for.true)
+    own_frame disk.sectors disk.seen b b.unwritten c.requires.stands.kept c.requires.stands.unwritten c.args.number c.args.slot (frame_of c.read.result c.read.new.scratch) c.requires.place at (c.is_for.ensures.yes c.if-is_for.true)
     (rw (c.shape-shape.ensures.value, c.geometry.ensures.value) at c.read.ensures)
 
 pub read_put-requires-clause-slot : goal.read_put-requires-clause-slot

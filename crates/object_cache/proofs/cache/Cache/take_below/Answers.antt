@@ -7,21 +7,21 @@ pub invariant_of-self-2 : goal.invariant_of-self-2
 invariant_of-self-2 g c =
     let i = c.self.inside in
     let m = memory_of i.table i.frozen_headers i.touched i.dirty i.pending i.entries.at i.staging in
-    let room = c.fetch_below.new.room in
+    let room = c.fetch_below.new.scratch in
     rw c.take_up.ensures (taken_stands g.D.Device.disk i.durable m i.left i.count i.entries.order i.entries.most c.args.self.now c.self.view_is c.self.invariant.0 c.args.number c.requires.pending c.requires.empty c.fetch_below.new.self c.fetch_below.ensures.reads (content_of c.in_ok-read.read.1 room.slots room.words) (ap (λ (f : Frame). f.content) c.in_ok-read.ensures.found), c.self.invariant.1)
 
 pub returns-clause-rest : goal.returns-clause-rest
 returns-clause-rest g c =
     let i = c.self.inside in
     let m = memory_of i.table i.frozen_headers i.touched i.dirty i.pending i.entries.at i.staging in
-    let room = c.fetch_below.new.room in
+    let room = c.fetch_below.new.scratch in
     rw c.take_up.ensures (taken_seen g.D.Device.disk i.durable m i.left i.count i.entries.order i.entries.most c.args.self.now c.self.view_is c.self.invariant.0 c.args.number c.requires.pending c.requires.empty c.fetch_below.new.self c.fetch_below.ensures.reads (content_of c.in_ok-read.read.1 room.slots room.words) (ap (λ (f : Frame). f.content) c.in_ok-read.ensures.found))
 
 pub returns-clause-continues : goal.returns-clause-continues
 returns-clause-continues g c =
     let i = c.self.inside in
     let m = memory_of i.table i.frozen_headers i.touched i.dirty i.pending i.entries.at i.staging in
-    let room = c.fetch_below.new.room in
+    let room = c.fetch_below.new.scratch in
     rw c.take_up.ensures (taken_continues g.D.Device.disk i.durable m i.left i.count i.entries.order i.entries.most c.args.self.now c.self.view_is c.self.invariant.0 c.args.number c.requires.pending c.requires.empty c.fetch_below.new.self c.fetch_below.ensures.reads (content_of c.in_ok-read.read.1 room.slots room.words) (ap (λ (f : Frame). f.content) c.in_ok-read.ensures.found) c.fetch_below.ensures.cause.never_falls)
 
 pub invariant_of-self : goal.invariant_of-self
