@@ -11,7 +11,7 @@ use Rattle.model.specs.Text.{Says, printed, bad_line}
 pub data Reply : Type 0 where
   Nothing : Reply
   BadLine : Reply
-  Replying : Answer → Reply
+  Reported : Answer → Reply
 
 -- a line that was taken, between the machines before and after it
 pub record Turn : Type 0 where
@@ -24,7 +24,7 @@ pub record Turn : Type 0 where
 abbrev pub Replies : Geometry → Line → Machine → Reply → Machine → Type 0
 Replies g line.Skip before reply after = (reply ≡ Nothing) × (after ≡ before)
 Replies g line.Bad before reply after = (reply ≡ BadLine) × (after ≡ before)
-Replies g (line.Command c) before reply after = (a : Answer) × (reply ≡ Replying a) × Step g before c a after
+Replies g (line.Command c) before reply after = (a : Answer) × (reply ≡ Reported a) × Step g before c a after
 
 -- the turn answers what its line says
 abbrev pub IsTurn : Geometry → Turn → Type 0
@@ -38,7 +38,7 @@ IsRun g m (t ∷ ts) last = (t.before ≡ m) × IsTurn g t × IsRun g t.after ts
 abbrev pub reply_text : Reply → List ℕ
 reply_text Nothing = []
 reply_text BadLine = bad_line
-reply_text (Replying a) = printed a
+reply_text (Reported a) = printed a
 
 -- all that a run writes
 abbrev pub output_of : List Turn → List ℕ

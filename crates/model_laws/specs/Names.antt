@@ -11,7 +11,7 @@ unfoldable pub use Rattle.model.specs.Object.{all_slots, zero_words}
 pub use Rattle.model.specs.Order.{IsNoBankOrder, fetched}
 pub use Rattle.model.specs.Revoke.{is_given_up, is_member, names_member, resumes, without}
 unfoldable pub use Rattle.model.specs.Revoke.{consume, rescind}
-pub use Rattle.model.specs.Run.{BadLine, IsRun, Reply, Replying, Turn, lines_of, output_of}
+pub use Rattle.model.specs.Run.{BadLine, IsRun, Reply, Reported, Turn, lines_of, output_of}
 pub use Rattle.model.specs.Sound.{IsSound, MayBeHeld}
 pub use Rattle.model.specs.Step.{Outcome, Proceeds, Step, journaled, outcome, reached, second, shown, unjournaled}
 pub use Rattle.model.specs.Step.{writable}

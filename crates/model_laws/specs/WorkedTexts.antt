@@ -1,5 +1,5 @@
 use Rattle.model_laws.specs.Names.{◌≡◌, ℕ, ◌^◌, ◌-◌, List, [], ◌∷◌, ◌++◌, map, replicate, codes, flat_map, Return}
-use Rattle.model_laws.specs.Names.{NotPage, Renewed, Up, Turn, Reply, BadLine, Replying, IsRun, output_of, lines_of}
+use Rattle.model_laws.specs.Names.{NotPage, Renewed, Up, Turn, Reply, BadLine, Reported, IsRun, output_of, lines_of}
 use Rattle.model_laws.specs.Names.{shown, Says, printed, line_of, small, i0}
 use Rattle.model.specs.declared.answer.Answer.TheVariants as answer
 use Rattle.model.specs.declared.command.Command.TheVariants as command
@@ -53,7 +53,7 @@ i0_turn line reply = record { line = line; before = Up (at_world i0); reply = re
 abbrev pub RunsScript : Type 0
 RunsScript =
     let turns : List Turn = i0_turn (replicate 257 97) BadLine ∷ i0_turn (codes "show 01") BadLine
-    ∷ i0_turn (codes "show 5") (Replying (shown i0.objects 5)) ∷ [] in
+    ∷ i0_turn (codes "show 5") (Reported (shown i0.objects 5)) ∷ [] in
     (lines_of (replicate 257 97 ++ 10 ∷ codes "show 01" ++ 10 ∷ codes "show 5") ≡ map (λ t. t.line) turns)
     × IsRun small (Up (at_world i0)) turns (Up (at_world i0))
     × (output_of turns ≡ flat_map line_of (codes "bad line" ∷ codes "bad line" ∷ codes "free 5" ∷ codes "end" ∷ []))
