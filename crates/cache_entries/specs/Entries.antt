@@ -11,14 +11,14 @@ use Rattle.cache_entries.specs.declared.entry.Entry.{Entry}
 abbrev pub entry_at : List (Option Entry) → ℕ → Option Entry
 entry_at es n = slice_index_or es n None
 
--- what an object with an entry holds now, and the room that lies aside for it
+-- what an object with an entry holds now, and the entry's buffer
 abbrev pub present_of : Entry → Content Cap
 present_of e = e.present
 
 abbrev pub buffer_of : Entry → Content Cap
 buffer_of e = e.buffer
 
--- an entry with another present body, with another one kept apart, or with another room
+-- an entry with another present body, with another one kept apart, or with another buffer
 abbrev pub holding : Content Cap → Entry → Entry
 holding c e = record e { present = c }
 

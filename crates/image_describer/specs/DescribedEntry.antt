@@ -11,7 +11,7 @@ abbrev pub MayName : {E V : Type 0} → (E → ℕ) → (E → V) → V → ℕ 
 MayName index value default i x (Some e) = (index e ≡ i) × (value e ≡ x) × (x ≢ default)
 MayName index value default i x None = x ≡ default
 
--- an entry tells the object at its number
+-- an entry describes the object at its number
 abbrev pub TellsBank : List Object → BankEntry → Type 0
 TellsBank os b = object_at os b.number ≡ record { owner = b.owner; content = content.Bank b.limit }
 
@@ -54,7 +54,7 @@ pub record HasNoObjects (d : Description) : Type 0 where
   pub nodes : d.nodes.items ≡ []
   pub pages : d.pages.items ≡ []
 
--- it tells all of these
+-- it describes all of these
 pub record TellsObjects (os : List Object) (d : Description) : Type 0 where
   pub banks : TellAll (λ b. b.number) (TellsBank os) role.Bank os d.banks.items
   pub processes : TellAll (λ p. p.root) (TellsProcess os) role.Root os d.processes.items

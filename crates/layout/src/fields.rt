@@ -7,7 +7,7 @@ use crate::bytes::number_at;
 use crate::front::decode_front;
 use model::ObjectHeader;
 
-/// The total of sectors that the sector of a superblock tells, whatever its other bytes are.
+/// The total of sectors in the sector of a superblock, whatever its other bytes are.
 pub fn total_in(bytes: &[u8]) -> u64
     requires { 64 ≤ length bytes.now }
     ensures { result ≡ total_in bytes.now }
@@ -15,7 +15,7 @@ pub fn total_in(bytes: &[u8]) -> u64
     number_at(bytes, 56)
 }
 
-/// The sequence number that the sector of a header tells, whatever its other bytes are.
+/// The sequence number in the sector of a header, whatever its other bytes are.
 pub fn sequence_in(bytes: &[u8]) -> u64
     requires { 16 ≤ length bytes.now }
     ensures { result ≡ sequence_in bytes.now }

@@ -62,7 +62,7 @@ GivesUpRescinded = (g : Geometry) (w : World) (b : ℕ) (requested : BankOrder) 
     is_given_up w.objects (on_bank g w.objects b requested args).objects n ≡ is_member (rescinded_by w.objects b requested args) n)
     × (((on_bank g w.objects b requested args).code ≡ code.Done → ⊥) → is_given_up w.objects (on_bank g w.objects b requested args).objects n ≡ false)
 
--- an invocation of a running process that asks no bank, through a gate or not, gives nothing up
+-- an invocation of a running process with no bank's order, through a gate or not, gives nothing up
 abbrev pub GivesUpNothing : Type 0
 GivesUpNothing = (g : Geometry) (w : World) (i : Invocation) (e : Effect) (n : ℕ) →
     IsSound g w → Fits (command.Invoke i) → IsTrue (is_running_process w.objects i.process) →

@@ -32,7 +32,7 @@ pub fn gives_up_rescinded()
     ensures { GivesUpRescinded }
 {}
 
-/// An invocation that asks no bank, through a gate or not, gives nothing up.
+/// An invocation with no bank's order, through a gate or not, gives nothing up.
 #[tactic(auto, using(crate::proofs::GivenUp::gives_up_nothing))]
 pub fn gives_up_nothing()
     ensures { GivesUpNothing }

@@ -59,7 +59,7 @@ fn geometry_part(bytes: &[u8]) -> GeometryPart
     }
 }
 
-/// Reads the superblock in a sector, or tells why it is none.
+/// Returns the superblock in a sector, or why it is none.
 pub(crate) fn superblock_in(bytes: &[u8]) -> Result<Superblock, SectorFault>
     requires { length bytes.now ≡ 512 }
     ensures found { IfOk result (λ s. bytes.now ≡ superblock_bytes s) }
