@@ -49,7 +49,7 @@ no_root_role role.Root other = absurd (other refl)
 no_root_role role.Annex other = refl
 no_root_role role.Bank other = refl
 
--- what a content is, and whether it is free or a bank, are told by its role
+-- a role decides what a content is, and whether it is free or a bank
 pub role_read : (p : Parts) (hs : List ObjectHeader) (h : ObjectHeader) (n : ℕ) → HaveTheirRoles (frames_of p) → hs ≡ p.headers → h ≡ header_at hs n →
     h.role ≡ role_of (content_at (objects_in p) n)
 role_read p hs h n roles table is =

@@ -142,7 +142,7 @@ module _ (g : Geometry) (w : World) (sound : IsSound g w) where
         (All-map P (λ p. p.annex) d.processes.items (all_from (λ (p : ProcessEntry). P p.annex) d.processes.items annex)))
         (All-map P (λ n. n.number) d.nodes.items (all_from (λ (n : NodeEntry). P n.number) d.nodes.items node))
 
-    -- the kinds of what is told
+    -- the kinds of what is described
     bank_kind : (b : BankEntry) → Contains d.banks.items b → kind_of b.number ≡ role.Bank
     unfolding kind_of
     bank_kind b there = ap role_of (content_reported b.number b.owner (content.Bank b.limit) (bank_reported b there))
@@ -275,7 +275,7 @@ module _ (g : Geometry) (w : World) (sound : IsSound g w) where
     named_node : (n : ℕ) → Contains (node_numbers d) n → Contains (node_numbers d ++ page_numbers d) n
     named_node n there = Contains-append_left (node_numbers d) (page_numbers d) n there
 
-    -- an annex is that of a process that is told
+    -- an annex is that of a process that is described
     annex_named : (a : ℕ) (registers : List Capability) → content_at w.objects a ≡ content.Annex registers → Contains annex_numbers a
     unfolding annex_numbers
     annex_named a registers is =

@@ -230,7 +230,7 @@ reads_words (command.Migrate n) fits = ap command.Migrate (value_of n fits)
 reads_words (command.Journal n) fits = ap command.Journal (value_of n fits)
 reads_words c fits = refl
 
--- a spelling tells its command
+-- a spelling gives its command
 pub reads_spelling : (c : Command) → Fits c → command_of (split (spelling c)) ≡ c
 reads_spelling c fits = ap command_of (split_spelling c fits) ∙ reads_words c fits
 

@@ -18,7 +18,7 @@ mark_gone ms n = elim (cases_lt n (length ms)) [
   | inr past ↦ get_or_past (set ms n false) n false (let size = length-set ms n false in omega (arith, size, past))
 ]
 
--- a hand lets go of what it holds
+-- a staging buffer releases the body that it has
 pub let_go_own : (h : Held) → let_go h.number (Some h) ≡ None
 let_go_own h = ap (λ (b : Bool). cond b None (Some h)) (eq-eqb h.number h.number refl)
 

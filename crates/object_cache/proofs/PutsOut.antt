@@ -15,7 +15,7 @@ use Rattle.object_cache.proofs.Objects.{fetched_known}
 use Rattle.object_cache.proofs.Puts.{has_free_slot}
 use Rattle.object_cache.proofs.Caching.{owed_entry}
 
--- ---- what is in the hand, once it has let go of a number
+-- ---- what is in the staging buffer, once it has released a number's body
 
 pub let_go_others : (staging : Option Held) (n k : ℕ) (c : Content Cap) → k ≢ n → in_staging (let_go n staging) k c ≡ in_staging staging k c
 let_go_others None n k c other = refl

@@ -24,7 +24,7 @@ split_one g size c (s ∷ ss) ts one = ⊎_elim (λ here. inl (inl here)) (λ th
 
 -- ---- failures
 
--- an answer tells of a failure exactly where there was one
+-- an answer reports a failure exactly where there was one
 answer_reported : (old new : Disk) (a : Answer) → IsCaused old new a → IsReportedBy old new (Reported a)
 answer_reported old new a caused = record {
   later = caused.later;

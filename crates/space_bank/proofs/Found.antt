@@ -83,7 +83,7 @@ module _ (os : List Object) (marks : List Bool) (same : (n : ℕ) → n < length
       ∙ ap (λ (a : ℕ). Some (MakeProcess (0 + n) a b)) (sym (zero-add m))
       ∙ ap (process_at b) (sym (found_two os 0 marks same n m first second))
 
--- the marks that are looked at are those that are counted
+-- the marks that are read are those that are counted
 module _ (g : Geometry) (os : List Object) (s : BanksState) (h : AreCounted g os s) (marks : List Bool) where
   pub nodes_marked : marks ≡ s.free_nodes → AreMarked os 0 (length marks) marks
   nodes_marked are = subst (λ (m : List Bool). AreMarked os 0 (length m) m) (sym are) (record {

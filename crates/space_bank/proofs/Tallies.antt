@@ -48,7 +48,7 @@ marks_counted g os s counted n known = elim (cases_lt n g.nodes) [
       ∙ (counted.page (n - g.nodes) (omega arith) ∙ ap (λ (m : ℕ). is_free (content_at os m)) at)
 ]
 
--- how many there are of each, and the room, stay as they were
+-- how many there are of each, and the capacity of the list, stay as they were
 pub record IsAsWide (s t : BanksState) : Type 0 where
   pub nodes : length t.free_nodes ≡ length s.free_nodes
   pub pages : length t.free_pages ≡ length s.free_pages
