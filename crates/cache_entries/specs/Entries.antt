@@ -43,7 +43,7 @@ pub record ArenaState : Type 0 where
 abbrev pub with_entry_in : (Entry → Entry) → ℕ → ArenaState → ArenaState
 with_entry_in change n a = record { at = with_entry change n a.at; count = a.count; most = a.most }
 
--- an entry, if it is of the number
+-- an entry, if its number is this one
 abbrev pub of_number : ℕ → Option Entry → Option Entry
 of_number n None = None
 of_number n (Some e) = if e.number == n then Some e else None

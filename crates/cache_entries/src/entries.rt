@@ -133,7 +133,7 @@ impl Entries {
     }
 
     /// Puts an entry of a number in that has none, which was so used last. There are fewer than
-    /// there may be. Fails only where memory runs out, and then all is as it was.
+    /// there may be. Fails only where memory runs out, and then nothing changes.
     pub fn insert(&mut self, entry: Entry) -> Result<(), AllocError>
         requires known { entry.number < length self.old.at }
         requires absent { entry_at self.old.at entry.number ≡ None }

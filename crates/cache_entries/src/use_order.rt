@@ -89,7 +89,7 @@ fn shift_to_end(numbers: &mut [u64], place: usize, number: u64)
     numbers[last] = number;
 }
 
-// Does so in a `Vec`.
+// The same in a `Vec`.
 fn move_to_end(numbers: &mut Vec<u64>, place: usize, number: u64)
     requires there { slice_get numbers.old.items place ≡ Some number }
     requires once { AllDiffer numbers.old.items }
@@ -237,7 +237,7 @@ impl UseOrder {
     }
 
     /// Puts a number in that was so used last. It is none of them, and there are fewer than there
-    /// may be. Fails only where memory runs out, and then all is as it was.
+    /// may be. Fails only where memory runs out, and then nothing changes.
     pub(crate) fn insert(&mut self, number: u64) -> Result<(), AllocError>
         requires other { is_member self.old.numbers number ≡ false }
         requires room { length self.old.numbers < self.old.most }

@@ -71,7 +71,7 @@ pub length_objects : (hs : List ObjectHeader) (cs : List (Content Cap)) → leng
 unfolding objects_of
 length_objects hs cs = length-map (frames_in hs cs) (object_of (headers (frames_in hs cs))) ∙ length_in hs cs
 
--- objects are those of which each is what stands at its number
+-- each object is what stands at its number
 pub objects_by : (hs : List ObjectHeader) (cs : List (Content Cap)) (os : List Object) → length os ≡ length hs →
     ((n : ℕ) → n < length hs → shown_at hs cs n ≡ object_at os n) → objects_of (frames_in hs cs) ≡ os
 objects_by hs cs os count each =

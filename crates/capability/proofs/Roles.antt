@@ -1,4 +1,4 @@
--- What the roles in headers tell of the objects that frames stand for.
+-- What the roles in headers say of the objects that frames stand for.
 use Rattle.capability.proofs.Names.{◌≡◌, ℕ, ◌<◌, ◌≤◌, Bool, true, false, List, length, ⊎_elim, refl, sym, ap, subst, ◌∙◌, cases_lt, get_or_past, get_or-map}
 use Rattle.capability.proofs.Names.{Cap, Capability, Frame, ObjectHeader, Content, Object, Role, blank_frame, blank_header, conveyed, frame_at, header_at}
 use Rattle.capability.proofs.Names.{headers, held_at, object_of, objects_of, is_bank, is_free, is_root, map_content, role_of, content_at, is_process}

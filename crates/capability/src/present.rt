@@ -81,7 +81,7 @@ pub trait PresentFrames: Drop {
     /// Fetches what the objects hold that are to be read or changed, at most 8, announces the
     /// numbers that are to be written, and makes a spare body for each free one among them.
     ///
-    /// After an error no object and no number written is another than before: `NoMemory` where
+    /// An error changes no object and none of the numbers written: `NoMemory` where
     /// memory ran out, `LogFull` only where the numbers written would be more than half of the log
     /// holds, and `Failed` exactly where the device failed.
     fn prepare(

@@ -50,7 +50,7 @@ all_laid entry es old now i done was = record {
 pub split_at : {E : Type 0} → (es : List E) (i : ℕ) (e : E) → i < length es → e ≡ slice_index_or es i e → drop i es ≡ e ∷ drop (i + 1) es
 split_at es i e lt is = drop_more es i e lt ∙ ap (λ f. f ∷ drop (i + 1) es) (sym is)
 
--- a number of the world as it was is one of it as it is
+-- a number of the old world is one of the new world
 pub still_within : (n count old : ℕ) → n < old → count ≡ old → n < count
 still_within n count old within same = omega arith
 

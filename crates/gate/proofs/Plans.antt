@@ -1,4 +1,4 @@
--- What an order comes to that goes as planned.
+-- The effect of an order that is carried out as planned.
 use Rattle.gate.proofs.Names.{◌≡◌, ⊎_elim, ℕ, zero, suc, ◌^◌, ◌<◌, true, List, [], ◌++◌, Option, None, Some, drop, length, refl, sym, ap, ◌∙◌, subst, arith}
 use Rattle.gate.proofs.Names.{IsTrue, slice_index, All, option_to_list, Capability, Void, Number, Page, Node, Space, Process, Start, Resume, Bank, Discrim}
 use Rattle.gate.proofs.Names.{Invocation, Operation, Call, Return, Send, Geometry, Object, Arguments, BankOrder, on_bank, is_annex, is_bank, is_node}

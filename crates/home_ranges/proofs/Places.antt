@@ -82,7 +82,7 @@ extent_of sector length = record { sector = sector; length = length }
 abbrev extent_in : Version → Geometry → HomeRange → ℕ → Extent
 extent_in v g r number = extent_of (place_in v g r number) (shape_length (shape_in v g r number))
 
--- those of the i-th node lie among those of so many
+-- those of the i-th node lie among those of `count` nodes
 node_inside : (v : Version) (i rank count : ℕ) → i < count → node_offset v i + shape_length (node_shape v rank) ≤ nodes_length v count
 node_inside One i rank count lt = omega (arith, lt)
 node_inside Two i rank count lt = omega (arith, lt)

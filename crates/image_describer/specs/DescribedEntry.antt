@@ -41,7 +41,7 @@ abbrev pub MayTell : {E : Type 0} → (E → ℕ) → (E → Type 0) → Role �
 MayTell number Tells kind os n (Some e) = (number e ≡ n) × Tells e
 MayTell number Tells kind os n None = role_of (content_at os n) ≢ kind
 
--- entries tell all objects of a kind, in order
+-- entries describe all objects of a kind, in order
 pub record TellAll {E : Type 0} (number : E → ℕ) (Tells : E → Type 0) (kind : Role) (os : List Object) (es : List E) : Type 0 where
   pub each : All Tells es
   pub whole : (n : ℕ) → role_of (content_at os n) ≡ kind → Contains (map number es) n

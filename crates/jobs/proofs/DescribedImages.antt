@@ -1,4 +1,4 @@
--- What the command that describes comes to, and what its text is built as.
+-- The outcome of the command that describes, and of a build from its text.
 use Rattle.jobs.proofs.Names.{◌≡◌, ℕ, List, Result, Ok, refl, sym, ap, ◌∙◌, subst, same_Some, Members, Frame, Geometry, Object, objects_of, IsSoundFrames}
 use Rattle.jobs.proofs.Names.{world_at, World, Saved, Disk, Image, agrees_is, Encodes, SavedState, OpenFault, OnlyReads, Holds, SavedFrames, saved_state}
 use Rattle.jobs.proofs.Names.{seen_of, AreSound, frames_of, objects_in, first_saved, Live, Recovers, Description, IsDescription, IsSame, description_once}

@@ -1,4 +1,4 @@
--- What the commands that open an image come to.
+-- The outcomes of the commands that open an image.
 use Rattle.jobs.proofs.Names.{◌≡◌, ℕ, List, Option, Ok, Err, sym, ap, ◌∙◌, subst, Appends, Running, Saved, line_of, Disk, Parts, Checkpoint, OnlyReads, View}
 use Rattle.jobs.proofs.Names.{Power, Opens, IsDeviceOf, IsReported, AppendsFront, ChecksImage, checked_text}
 use Rattle.std.specs.Prelude.{None, Some}

@@ -1,4 +1,4 @@
--- What the command that upgrades comes to.
+-- The outcome of the command that upgrades.
 use Rattle.jobs.proofs.Names.{◌≡◌, ℕ, List, Option, Ok, Err, refl, ap, arith, subst, sym, ◌∙◌, ◌↔◌, IfErr, IsErrOf, OnErr, OnOk, Appends, line_of, Disk, Two}
 use Rattle.jobs.proofs.Names.{laid_again, UpgradeFault, IsRefusedAsOld, ReadsAndCloses, Upgrades, AppendsFront, Fault, UpgradesImage, old_failed, upgraded_text}
 use Rattle.std.specs.Prelude.{Result}

@@ -1,4 +1,4 @@
-// What a few bytes tell of a sector that may be damaged.
+// What a few bytes say of a sector that may be damaged.
 ghost use Rattle.std.specs.Prelude.{◌≡◌, ◌≤◌, length};
 ghost use Rattle.layout.specs.FrameReader.{header_from};
 ghost use Rattle.layout.specs.Image.{total_in, sequence_in};
@@ -23,7 +23,7 @@ pub fn sequence_in(bytes: &[u8]) -> u64
     number_at(bytes, 8)
 }
 
-/// The header that the first 32 bytes of a frame tell, whatever its other bytes are.
+/// The header in the first 32 bytes of a frame, whatever its other bytes are.
 pub fn header_in(bytes: &[u8]) -> ObjectHeader
     requires { 32 ≤ length bytes.now }
     ensures { result ≡ header_from bytes.now }

@@ -304,7 +304,7 @@ pub fn encode_superblock(superblock: &Superblock, into: &mut [u8])
 }
 
 // The version in a superblock's sector. `None` where the magic, the version or a byte behind the
-// ranges is another than a superblock's.
+// ranges isn't a superblock's.
 fn version_in(bytes: &[u8]) -> Option<Version>
     requires { length bytes.now ≡ 512 }
     ensures mark { IfSome result (λ _. HasMark bytes.now) }

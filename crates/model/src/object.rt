@@ -71,7 +71,7 @@ impl Role {
 }
 
 impl State {
-    /// Its number in an image, and as orders tell it: the order above, from 0.
+    /// Its number in an image and in orders: the order above, from 0.
     pub fn number(self) -> u64
         ensures { result ≡ state_number self }
     {

@@ -72,7 +72,7 @@ module _ (os : List Object) (n b : ℕ) (c : Content Capability) (t : IsTree os)
 
 -- Where the frame is the same, an order of a bank is the same.
 
--- what two outcomes tell is the same, and the same numbers are written
+-- two outcomes reply the same, and write the same numbers
 pub record SameOutcome (x y : OrderOutcome) : Type 0 where
   pub code : y.code ≡ x.code
   pub words : y.words ≡ x.words

@@ -1,4 +1,4 @@
--- What invocations leave as it is: owners, roles, annexes, limits, and with them chains and usages.
+-- What invocations don't change: owners, roles, annexes, limits, and with them chains and usages.
 use Rattle.model_laws.proofs.Names.{◌≡◌, ℕ, ◌+◌, ◌==◌, not, ◌||◌, Option, None, Some, List, [], ◌∷◌, refl, sym, ap, subst, ◌∙◌, IsTrue, nat_lt, slice_index}
 use Rattle.model_laws.proofs.Names.{slice_index_or, and_parts, Access, Capability, Void, Number, Page, Node, Space, Process, Bank, Discrim, Invocation, Message}
 use Rattle.model_laws.proofs.Names.{Geometry, Object, Root, State, Available, Running, Arguments, BankOrder, NodeOrder, PageOrder, ProcessOrder, is_running}

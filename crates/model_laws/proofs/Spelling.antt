@@ -1,4 +1,4 @@
--- The words of a line tell its command.
+-- The words of a line decide its command.
 use Rattle.model_laws.proofs.Names.{◌≡◌, ◌↔◌, ℕ, ◌+◌, ◌*◌, ◌<◌, ◌≤◌, ◌^◌, ◌==◌, Bool, true, false, ◌||◌, List, [], ◌∷◌, ◌++◌, map, length, take, drop, All}
 use Rattle.model_laws.proofs.Names.{codes, decimal, bytes_eq, inl, inr, refl, sym, ap, ap₂, ◌∙◌, subst, arith, leb-true, length-append, ◌%◌, slice_split}
 use Rattle.model_laws.proofs.Names.{list_any, digits_value, length-map, All-nil, All-cons, All-head, All-tail, All-append, All-push, All-map, All-weaker}

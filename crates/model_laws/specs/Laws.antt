@@ -40,7 +40,7 @@ RescindsAll = (set : List ℕ) (os : List Object) →
     × ((n i : ℕ) → names_member set (slot_at (rescind set os) n i) ≡ false)
     × ((p : ℕ) → names_member set (root_at (rescind set os) p).space ≡ false)
 
--- after a consume all is as it was but for capabilities that are void, and no slot or address space resumes the process
+-- a consume only makes capabilities void, and after it no slot or address space resumes the process
 abbrev pub ConsumesAll : Type 0
 ConsumesAll = (p : ℕ) (os : List Object) →
     ((n : ℕ) → object_at (consume p os) n ≡ without (resumes p) (object_at os n))

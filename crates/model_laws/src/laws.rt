@@ -20,8 +20,7 @@ pub fn rescinds_all()
     ensures { RescindsAll }
 {}
 
-/// After a consume all is as it was but for capabilities that are void, and nothing resumes the
-/// process.
+/// A consume only makes capabilities void, and after it nothing resumes the process.
 pub fn consumes_all()
     ensures { ConsumesAll }
 {}

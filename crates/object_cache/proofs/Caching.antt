@@ -100,7 +100,7 @@ module _ (s : Stored) (m : Memory) (es : List (Option Entry)) (n : ℕ) (change 
 
 -- ---- an entry that isn't wanted is dropped
 
--- what is owed by an entry of which nothing is
+-- an entry that owes nothing
 pub nothing_owed : (e : Entry) (pending touched : Bool) → owed_of (Some e) pending touched ≡ Nothing → (pending ≡ false) ⊎ ((pending ≡ true) × (touched ≡ true) × (e.kept ≡ None))
 nothing_owed e false touched is = inl refl
 nothing_owed e true touched is = let p = go e.kept touched is in inr (refl, p.0, p.1)

@@ -1,4 +1,4 @@
--- A page is journaled: no object is another, and what is saved of the page has the words that it has now.
+-- A page is journaled: no object changes, and what is saved of the page has the words that it has now.
 use Rattle.object_cache.proofs.Names.{◌≡◌, ◌≢◌, ◌⊎◌, inl, inr, ℕ, ◌<◌, Bool, true, false, List, length, set, length-set, Option, Some, None, option_map, Result}
 use Rattle.object_cache.proofs.Names.{Ok, Err, refl, sym, ap, subst, ◌∙◌, arith, cases_eq, get_or-set_same, get_or-set_other, none-some, Cap, Frame}
 use Rattle.object_cache.proofs.Names.{ObjectHeader, Content, Role, blank_frame, frame_at, frames_in, header_at, held_at, AreKeepable, is_page, role_of}

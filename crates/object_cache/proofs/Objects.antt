@@ -1,4 +1,4 @@
--- What is seen of a cache of which one object was changed.
+-- What is seen of a cache after one object was changed.
 use Rattle.object_cache.proofs.Names.{◌≡◌, inl, inr, ℕ, ◌<◌, true, List, length, set, map, Option, Some, None, IsSome, is_some, option_map, true≢false, refl}
 use Rattle.object_cache.proofs.Names.{sym, ap, subst, ◌∙◌, arith, length-set, none-some, same_Some, get_or-map-range_with_len, length-map-range_with_len}
 use Rattle.object_cache.proofs.Names.{get_or-map, get_or-set_same, get_or-set_other, map-set, set-get_or, Cap, Frame, ObjectHeader, Content, Role, blank_header}

@@ -37,7 +37,7 @@ abbrev pub masked : Role → Content Cap → Content Cap
 masked role.Free c = content.Free
 masked _ c = c
 
--- the body in the staging buffer, if it is of the number, or else another
+-- the body in the staging buffer, if it is this number's, or else another
 abbrev pub in_staging : Option Held → ℕ → Content Cap → Content Cap
 in_staging None n c = c
 in_staging (Some h) n c = if h.number == n then h.content else c

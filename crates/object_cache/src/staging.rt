@@ -91,7 +91,7 @@ impl Staging {
         self.held = Some(Held { number, content });
     }
 
-    /// Lets the body go, if there is one.
+    /// Releases the body, if there is one.
     pub(crate) fn let_go(&mut self)
         ensures { self.new ≡ None }
     {
@@ -106,7 +106,7 @@ impl Staging {
         }
     }
 
-    /// Lets the body go, if it is of that number.
+    /// Releases the body, if it is that number's.
     pub(crate) fn release(&mut self, number: u64)
         ensures { self.new ≡ let_go number self.old }
     {

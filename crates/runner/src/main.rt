@@ -523,7 +523,7 @@ fn refuse(rt: &HostRuntime, fault: &JobFault) -> Result<u8, Fault> {
     }
 }
 
-// Does what words ask, and gives the status.
+// Does what words request, and gives the status.
 fn work_by(rt: &HostRuntime, words: &[String]) -> Result<u8, Fault> {
     match job(rt.alloc(), words) {
         Ok(job) => serve_whole(rt, &job),

@@ -21,7 +21,7 @@ fn has_version(bytes: &[u8]) -> bool
     version == [1, 0, 0, 0].as_slice() || version == [2, 0, 0, 0].as_slice()
 }
 
-// Which part of the mark is another than a superblock's.
+// Which part of the mark isn't a superblock's.
 fn mark_part(bytes: &[u8]) -> SuperblockPart
     requires size { length bytes.now ≡ 512 }
     requires refused { HasMark bytes.now → ⊥ }

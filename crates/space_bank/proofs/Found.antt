@@ -109,7 +109,7 @@ module _ (g : Geometry) (os : List Object) (s : BanksState) (h : AreCounted g os
       let all : g.pages ≡ length marks = omega (arith, h.pages, ap (λ (m : List Bool). length m) are) in
       ap (λ (k : ℕ). are_free os (range_with_len g.nodes k)) all ∙ ap (λ (n : ℕ). are_free os (range_with_len n (length marks))) (sym is)
 
--- what takes no more than so many numbers takes no more than more
+-- what takes at most some count of numbers takes at most any greater count
 pub fewer : (r : Option BankChange) (m n : ℕ) → m ≤ n → IfSome r (λ c. length (numbers_of c) ≤ m) → IfSome r (λ c. length (numbers_of c) ≤ n)
 fewer None m n more few = tt
 fewer (Some c) m n more few = omega (arith, few, more)

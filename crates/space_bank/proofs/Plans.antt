@@ -1,4 +1,4 @@
--- What is planned is what an order comes to.
+-- The plan of an order is its effect.
 use Rattle.space_bank.proofs.Names.{◌≡◌, ◌+◌, ◌<◌, ◌≤◌, ◌++◌, ◌∙◌, ℕ, Bool, true, false, List, [], ◌∷◌, None, Some, length, refl, sym, ap, subst, arith, IsTrue}
 use Rattle.space_bank.proofs.Names.{if◌then◌else◌, nat_lt, eq-eqb, ne_eqb, append-nil, length-append, Capability, Void, Number, Page, Node, Space, Process}
 use Rattle.space_bank.proofs.Names.{Start, Resume, Bank, Discrim, Geometry, Content, Object, Arguments, BankOrder, ResultCode, chain, usage, allocated}
@@ -53,7 +53,7 @@ module _ (p : Parts) (b : ℕ) (order : BankOrder) (args : Arguments) (first lis
   pub planned_none : PlansAs p.geometry (objects_in p) b order args [] plan → list ≡ first → IsPlanned p b order args first plan list
   planned_none plans is = planned_as [] plans (is ∙ sym (append-nil first))
 
--- what an order that allocates comes to
+-- the effect of an order that allocates
 one_allocated : (os : List Object) (b : ℕ) (f : Fresh) (named : ℕ → Capability) → ((n : ℕ) → named n ≡ given_for n f) → (ns : List ℕ)
     → allocated os b ns (fresh_content Void f) named ≡ allocated_by os false (new_at b f ns)
 one_allocated os b f named are [] = refl
@@ -129,7 +129,7 @@ module _ (g : Geometry) (os : List Object) (b : ℕ) (order : BankOrder) (args :
       allocating_is g us b order args kind is
       ∙ rw (room_alike os us frame b (count_of kind), room, made_alike os us frame g b kind, some, deep_alike os us frame g b kind, short) refl
 
--- what orders that give up come to
+-- the effect of orders that give up
 module _ (g : Geometry) (os : List Object) (b : ℕ) (args : Arguments) where
   pub frees_none : (c : Capability) → args.capability ≡ c → freed_by os c ≡ [] → on_bank g os b bank.Free args ≡ refused os code.BadCapability
   unfolding on_bank

@@ -1,4 +1,4 @@
--- What sound frames that are counted tell of their objects.
+-- What sound frames that are counted say of their objects.
 use Rattle.space_bank.proofs.Names.{◌≡◌, ◌≢◌, ℕ, ◌+◌, ◌^◌, ◌<◌, ◌≤◌, true, false, List, length, refl, sym, ap, arith, ◌∙◌, IsTrue, nat_le, slice_index}
 use Rattle.space_bank.proofs.Names.{leb-true, Cap, Capability, Frame, Geometry, Content, Object, chain, usage, has_quota, conveyed, header_at, held_at}
 use Rattle.space_bank.proofs.Names.{objects_of, AreKeepable, IsSoundFrames, world_at, is_bank, is_free, limit_in, map_content, role_of, is_member, HasShape}

@@ -113,7 +113,7 @@ impl<D: Device> Cache<D> {
         Ok(())
     }
 
-    // Does so for the numbers of a list.
+    // The same for the numbers of a list.
     pub(crate) fn keep_all_apart(
         &mut self,
         alloc: Global,
@@ -159,7 +159,7 @@ impl<D: Device> Cache<D> {
         Ok(())
     }
 
-    // Does so where the number is free.
+    // The same, where the number is free.
     fn reserve_free(&mut self, alloc: Global, number: u64) -> Result<(), AllocError>
         requires { number < length self.old.headers }
         ensures room { OnOk result (HasSpareBodyIn D.disk self.new number) }
@@ -173,7 +173,7 @@ impl<D: Device> Cache<D> {
         Ok(())
     }
 
-    // Does so for the free numbers of a list.
+    // The same for the free numbers of a list.
     fn reserve_all(&mut self, alloc: Global, written: &[u64]) -> Result<(), AllocError>
         requires { All (λ n. n < length self.old.headers) written.now }
         ensures room { OnOk result ((n : ℕ) → Contains written.now n
@@ -282,7 +282,7 @@ impl<D: Device> Cache<D> {
     /// Announces the numbers that are to be written, and makes a spare body for each free one among
     /// them. It makes no call of the device.
     ///
-    /// After an error no number written is another than before: `NoMemory` if memory ran out,
+    /// An error changes none of the numbers written: `NoMemory` if memory ran out,
     /// `LogFull` only if the numbers written would be more than half of the log holds.
     pub(crate) fn make_writable(
         &mut self,
@@ -317,7 +317,7 @@ impl<D: Device> Cache<D> {
     /// announces the numbers that are to be written, and makes a spare body for each free one among
     /// them.
     ///
-    /// After an error no object and no number written is another than before: `NoMemory` where
+    /// An error changes no object and none of the numbers written: `NoMemory` where
     /// memory ran out, `LogFull` only where the numbers written would be more than half of the log
     /// holds, and `Failed` exactly where the device failed.
     pub fn prepare(
