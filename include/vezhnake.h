@@ -6,7 +6,7 @@
  * fails, close the handle, and open it again from what the storage holds.
  *
  * You must keep these rules. Nothing checks them:
- *   - Each pointer leads to as many bytes as its size says. The arguments of one call don't overlap.
+ *   - Each pointer has as many bytes behind it as its size says. The arguments of one call don't overlap.
  *   - A handle begins as VEZHNAKE_CLOSED. Don't copy it or change its fields. Use it in one call at a time.
  *   - malloc, realloc and free are those of the C library. Make no call in a signal handler, or in a child that was
  *     forked from a process with threads.

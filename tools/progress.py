@@ -33,7 +33,7 @@ class Progress:
 
 
 def run(words, folder, take=lambda line: None):
-    """Runs a command, and hands on its lines. What it said is told where it fails."""
+    """Runs a command, and passes its lines on. If it fails, its output is printed."""
     said = []
     how = {"stdin": subprocess.DEVNULL, "stdout": subprocess.PIPE, "stderr": subprocess.STDOUT, "text": True, "errors": "replace"}
     with subprocess.Popen(words, cwd=folder, **how) as running:

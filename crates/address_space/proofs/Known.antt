@@ -13,7 +13,7 @@ page_known p n is = known_used p n (page_used (content_at (objects_in p) n) is)
 pub sound_keepable : (g : Geometry) (age : ℕ) (fs : List Frame) → IsSoundFrames g age fs → AreKeepable g (2 ^ 64 - 1) fs
 sound_keepable g age fs sound = keepable_later g age (2 ^ 64 - 1) fs (omega (arith, sound.sound.age)) sound.keepable
 
--- Frames that are the same after a look: what stands there, and what is sound.
+-- Frames that are the same after a read-only call: what stands there, and what is sound.
 module _ (p q : Parts) (headers : q.headers ≡ p.headers) (contents : q.contents ≡ p.contents) where
   pub frames_same : frames_of q ≡ frames_of p
   frames_same = ap (λ (hs : List ObjectHeader). frames_in hs q.contents) headers ∙ ap (frames_in p.headers) contents

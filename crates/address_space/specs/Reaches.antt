@@ -1,4 +1,4 @@
--- Over what a walk goes, and what it tells.
+-- Over what a walk goes, and what it returns.
 use Rattle.std.specs.Prelude.{ℕ, ◌==◌, Bool, not, ◌&&◌, if◌then◌else◌, List, Result, Ok, Err, IsTrue}
 use Rattle.model.specs.declared.access.Access.{Access}
 use Rattle.model.specs.declared.answer.MemoryFault.{MemoryFault}

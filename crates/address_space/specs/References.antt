@@ -25,7 +25,7 @@ IsStored log before touched p address word after touched_after (Ok done) =
 IsStored log before touched p address word after touched_after (Err why) =
     (writable (reached before p address) ≡ Err why) × (after ≡ before) × (touched_after ≡ touched)
 
--- a store for which the log has no room
+-- a store that would touch more numbers than the log has slots
 abbrev pub OverfillsStore : ℕ → List Object → List Bool → ℕ → ℕ → Type 0
 OverfillsStore log os touched p address =
     (page : ℕ) × (writable (reached os p address) ≡ Ok page) × (log < touched_count (touching touched (page ∷ [])))

@@ -14,7 +14,7 @@ use capability::{PrepareFault, PresentFrames, objects};
 use model::{MemoryFault, WORDS};
 use std::alloc::Global;
 
-/// Reads the word at an address in the address space of a running process, or tells the fault of
+/// Reads the word at an address in the address space of a running process, or returns the fault of
 /// the first place where the way to it stops, as `walk` does.
 ///
 /// Nothing is changed. An error is `NoMemory` where memory ran out, or `Failed` exactly where the
@@ -40,13 +40,13 @@ pub fn load<F: PresentFrames>(
     }
 }
 
-/// Writes a word at an address in the address space of a running process, or tells the fault of the
-/// first place where the way to it stops, as `walk` does for a store, and writes nothing.
+/// Writes a word at an address in the address space of a running process, or returns the fault of
+/// the first place where the way to it stops, as `walk` does for a store, and writes nothing.
 ///
-/// The page alone is written, and announced only once it is reached, so a fault comes before want
-/// of room in the log. An error changes nothing: `NoMemory` where memory ran out, `LogFull` where
-/// the numbers written since the last checkpoint with the page would be more than half of the log
-/// holds, and `Failed` exactly where the device failed.
+/// The page alone is written, and announced only once it is reached, so a fault comes before a full
+/// log. An error changes nothing: `NoMemory` where memory ran out, `LogFull` where the numbers
+/// written since the last checkpoint with the page would be more than half of the log holds, and
+/// `Failed` exactly where the device failed.
 pub fn store<F: PresentFrames>(
     alloc: Global,
     frames: &mut F,

@@ -46,7 +46,7 @@ struct Tree {
 /// for a store (EROS: an address space is a page, or a tree of nodes 1 to 4 levels high).
 ///
 /// An address counts words, and a page has 512 of them. A page alone is a space of one page. In a
-/// tree of height h the index of the page, as h digits to base 32, tells the slots on the way, the
+/// tree of height h the index of the page, as h digits to base 32, gives the slots on the way, the
 /// greatest digit first. What is read-only or weak on the way is so for all below it.
 ///
 /// The fault is that of the first place where the way stops: `NoSpace` where the capability is
@@ -202,7 +202,7 @@ fn bits(levels: u8) -> u32
     5 * u32::from(levels)
 }
 
-// How many pages a tree of that height has room for.
+// How many pages a tree of that height may have.
 #[tactic(auto, using(crate::proofs::Paths::bits_power, crate::proofs::Paths::power_fits, crate::proofs::Paths::power_some))]
 fn page_count(height: u8) -> u64
     requires { height ≤ 4 }

@@ -66,7 +66,7 @@ module _ {X : Type 0} where
       let y = get_or xs (length xs - 1) d in
       get_take (length xs - 1) (set xs k y) j (omega (arith, below)) ∙ get_set_other xs k j y other
 
-  -- what stands in a list of which one was taken out and the last put into its place
+  -- what stands in a list after one was taken out and the last put into its place
   pub swapped : (xs : List X) (k : ℕ) (d : X) (j : ℕ) (x : X) → k < length xs → slice_get (swap_remove xs k d) j ≡ Some x →
       ((j ≢ k) × (j + 1 < length xs) × (slice_get xs j ≡ Some x)) ⊎ ((j ≡ k) × (k + 1 < length xs) × (slice_get xs (length xs - 1) ≡ Some x))
   swapped xs k d j x within e =

@@ -224,7 +224,7 @@ module _ (latest order : List ℕ) (are : AreLatest latest order) (n : ℕ) wher
     ];
   }
 
--- the order is told of the first of them
+-- the first of them moves to the end of the order
 pub settled_latest : (n : ℕ) (ns order : List ℕ) → AreLatest (n ∷ ns) order → AreLatest ns (n ∷ without n order)
 settled_latest n ns order are = record {
   once = are.once.1;

@@ -11,14 +11,14 @@ use Rattle.cache_entries.specs.declared.entry.Entry.{Entry}
 abbrev pub entry_at : List (Option Entry) → ℕ → Option Entry
 entry_at es n = slice_index_or es n None
 
--- what an object with an entry holds now, and the room that lies aside for it
+-- what an object with an entry holds now, and the entry's buffer
 abbrev pub present_of : Entry → Content Cap
 present_of e = e.present
 
 abbrev pub buffer_of : Entry → Content Cap
 buffer_of e = e.buffer
 
--- an entry with another present body, with another one kept apart, or with another room
+-- an entry with another present body, with another one kept apart, or with another buffer
 abbrev pub holding : Content Cap → Entry → Entry
 holding c e = record e { present = c }
 
@@ -43,7 +43,7 @@ pub record ArenaState : Type 0 where
 abbrev pub with_entry_in : (Entry → Entry) → ℕ → ArenaState → ArenaState
 with_entry_in change n a = record { at = with_entry change n a.at; count = a.count; most = a.most }
 
--- an entry, if it is of the number
+-- an entry, if its number is this one
 abbrev pub of_number : ℕ → Option Entry → Option Entry
 of_number n None = None
 of_number n (Some e) = if e.number == n then Some e else None

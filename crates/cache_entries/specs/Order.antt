@@ -61,7 +61,7 @@ pub record AreOrdered (s : EntriesState) : Type 0 where
   pub once : AllDiffer s.order
   pub few : length s.order ≤ s.most
 
--- the same of the arena that they are kept in, and of how many the order has room for
+-- the same of the arena that keeps them, and of the order's capacity
 pub record AreKept (a : ArenaState) (order : List ℕ) (buffer : ℕ) : Type 0 where
   pub ordered : AreOrdered (entries_of a order)
   pub count : length order ≡ a.count

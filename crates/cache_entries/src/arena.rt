@@ -66,8 +66,8 @@ fn settle(items: &[Entry], places: &mut Vec<u64>, place: usize)
 impl Arena {
     ghost use Rattle.cache_entries.specs.contracts.arena.Arena.{the_row};
 
-    /// Room for `most` entries, for `count` numbers without an entry. Fails only where memory
-    /// runs out.
+    /// An arena for `most` entries, with `count` numbers and no entry. Fails only where memory runs
+    /// out.
     pub(crate) fn new(alloc: Global, most: usize, count: usize) -> Result<Arena, AllocError>
         ensures { IfOk result (λ arena. arena
             ≡ record { at = replicate count None; count = 0; most = most }) }
@@ -122,7 +122,7 @@ impl Arena {
         self.items[place].kept = kept;
     }
 
-    /// Puts another room aside for a number that has an entry, and hands out the one before.
+    /// Gives the entry of a number another buffer, and returns the one before.
     pub(crate) fn replace_buffer(&mut self, number: u64, buffer: Content<Cap>) -> Content<Cap>
         requires { IsSome (entry_at self.old.at number) }
         ensures room { option_map buffer_of (entry_at self.old.at number) ≡ Some result }

@@ -38,8 +38,8 @@ impl Model for Entries {
 impl Entries {
     ghost use Rattle.cache_entries.specs.contracts.entries.Entries.{the_row};
 
-    /// Room for as many entries as the capacity, for `count` numbers without an entry. Fails
-    /// only where memory runs out.
+    /// Entries up to the capacity, for `count` numbers, none of which has one. Fails only where
+    /// memory runs out.
     pub fn new(alloc: Global, capacity: Capacity, count: usize) -> Result<Entries, AllocError>
         ensures none { IfOk result (λ entries. entries
             ≡ record { at = replicate count None; order = []; most = capacity }) }
@@ -113,7 +113,7 @@ impl Entries {
         self.arena.set_kept(number, kept);
     }
 
-    /// Puts another room aside for a number that has an entry, and hands out the one before.
+    /// Gives the entry of a number another buffer, and returns the one before.
     pub fn replace_buffer(&mut self, number: u64, buffer: Content<Cap>) -> Content<Cap>
         requires { IsSome (entry_at self.old.at number) }
         ensures room { option_map buffer_of (entry_at self.old.at number) ≡ Some result }
@@ -133,7 +133,7 @@ impl Entries {
     }
 
     /// Puts an entry of a number in that has none, which was so used last. There are fewer than
-    /// there may be. Fails only where memory runs out, and then all is as it was.
+    /// there may be. Fails only where memory runs out, and then nothing changes.
     pub fn insert(&mut self, entry: Entry) -> Result<(), AllocError>
         requires known { entry.number < length self.old.at }
         requires absent { entry_at self.old.at entry.number ≡ None }
@@ -160,8 +160,8 @@ impl Entries {
         self.arena.remove(number)
     }
 
-    /// Says that numbers were used, in turn, as far as that takes no look at all entries, and tells
-    /// whether it said so of each. Then each has an entry.
+    /// Marks numbers as used, in turn, up to the first that isn't among the last few used. Returns
+    /// whether it marked them all; then each has an entry.
     pub fn use_again(&mut self, numbers: &[u64]) -> bool
         ensures held { result ≡ true → (n : ℕ) → Contains numbers.now n
             → IsSome (entry_at self.old.at n) }
@@ -171,7 +171,7 @@ impl Entries {
         self.order.use_again(numbers)
     }
 
-    /// Says that a number was used last, where it has an entry, and tells whether it has one.
+    /// Marks a number as used last, where it has an entry, and returns whether it has one.
     pub fn promote(&mut self, number: u64) -> bool
         requires { number < length self.old.at }
         ensures held { result ≡ is_some (entry_at self.old.at number) }

@@ -19,7 +19,7 @@ const MOST_LATEST: usize = 8;
 
 type Order = LruCache<u64, (), BuildHasherDefault<NumberHasher>>;
 
-/// Numbers in the order of their last use, at most as many as the order has room for.
+/// Numbers in the order of their last use, at most as many as its capacity.
 ///
 /// What is used is mostly what was used a moment ago: the last few uses are kept apart, each number
 /// once, and moved to the order when others take their place, or when the order is read.
@@ -47,7 +47,7 @@ impl Model for UseOrder {
         × (8 ≤ vec_capacity o.latest) };
 }
 
-// Where a number stands, if it does. Those at the end are looked at first.
+// Where a number stands, if it does. It searches from the end.
 fn place_of(numbers: &[u64], number: u64) -> Option<usize>
     ensures some { IfSome result (λ place. slice_get numbers.now place ≡ Some number) }
     ensures none { result ≡ None → is_member numbers.now number ≡ false }
@@ -89,7 +89,7 @@ fn shift_to_end(numbers: &mut [u64], place: usize, number: u64)
     numbers[last] = number;
 }
 
-// Does so in a `Vec`.
+// The same in a `Vec`.
 fn move_to_end(numbers: &mut Vec<u64>, place: usize, number: u64)
     requires there { slice_get numbers.old.items place ≡ Some number }
     requires once { AllDiffer numbers.old.items }
@@ -99,7 +99,7 @@ fn move_to_end(numbers: &mut Vec<u64>, place: usize, number: u64)
     shift_to_end(numbers, place, number);
 }
 
-// Puts a number at the end, for which there is room.
+// Puts a number at the end. There is a free place.
 fn put_at_end(numbers: &mut Vec<u64>, number: u64)
     requires { length numbers.old.items < vec_capacity numbers.old }
     ensures more { numbers.new.items ≡ numbers.old.items ++ number ∷ [] }
@@ -111,7 +111,7 @@ fn put_at_end(numbers: &mut Vec<u64>, number: u64)
     }
 }
 
-// Tells the order the use of the first of the latest numbers.
+// Moves the first of the latest numbers to the end of the order.
 fn settle_first(order: &mut Order, latest: &mut Vec<u64>)
     requires some { 0 < length latest.old.items }
     requires latest { AreLatest latest.old.items (keys_of order.old.entries) }
@@ -130,7 +130,7 @@ fn settle_first(order: &mut Order, latest: &mut Vec<u64>)
     order.promote(&first);
 }
 
-// Tells the order the uses of all of them.
+// Moves all of them to the end of the order, in turn.
 #[inline(never)]
 fn settle(order: &mut Order, latest: &mut Vec<u64>)
     requires { AreLatest latest.old.items (keys_of order.old.entries) }
@@ -145,7 +145,7 @@ fn settle(order: &mut Order, latest: &mut Vec<u64>)
     }
 }
 
-// Leaves room for one more among the latest numbers.
+// Leaves a free place for one more among the latest numbers.
 fn spare_place(order: &mut Order, latest: &mut Vec<u64>)
     requires latest { AreLatest latest.old.items (keys_of order.old.entries) }
     requires few { length latest.old.items ≤ 8 }
@@ -192,7 +192,7 @@ impl UseOrder {
         self.order.len() >= self.order.cap().get()
     }
 
-    // Says that a number was used last, where it is among the latest, and tells whether it is.
+    // Marks a number as used last, where it is among the latest, and returns whether it is.
     fn use_one_again(&mut self, number: u64) -> bool
         ensures listed { result ≡ true → is_member self.old.numbers number ≡ true }
         ensures used { result ≡ true → self.new ≡ used_last number self.old }
@@ -205,8 +205,8 @@ impl UseOrder {
         true
     }
 
-    /// Says that numbers were used, in turn, as far as that takes no look at all of them, and tells
-    /// whether it said so of each.
+    /// Marks numbers as used, in turn, up to the first that isn't among the latest. Returns whether
+    /// it marked them all.
     pub(crate) fn use_again(&mut self, numbers: &[u64]) -> bool
         ensures { Uses self.old self.new numbers.now result }
     {
@@ -237,7 +237,7 @@ impl UseOrder {
     }
 
     /// Puts a number in that was so used last. It is none of them, and there are fewer than there
-    /// may be. Fails only where memory runs out, and then all is as it was.
+    /// may be. Fails only where memory runs out, and then nothing changes.
     pub(crate) fn insert(&mut self, number: u64) -> Result<(), AllocError>
         requires other { is_member self.old.numbers number ≡ false }
         requires room { length self.old.numbers < self.old.most }

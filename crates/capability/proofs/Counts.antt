@@ -28,7 +28,7 @@ stale_cases goes w n m true false g s le = let past : nat_lt n (m + 1) ≡ true 
 stale_cases goes w n m false true g s le = rw s (void_either (goes Void))
 stale_cases goes w n m false false g s le = rw (s, g) refl
 
--- tables of which the later one counts one more for the capabilities that go
+-- two tables: the later one counts one more for the capabilities that go
 module _ (goes : Capability → Bool) (hs ks : List ObjectHeader) (raises : (w : Capability) → current_count ks w ≡ raised (goes w) (current_count hs w)) where
   stale : (c : Cap) → IsCurrent hs c → conveyed ks c ≡ void_where goes (conveyed hs c)
   stale c current =

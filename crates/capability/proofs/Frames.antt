@@ -71,7 +71,7 @@ pub length_objects : (hs : List ObjectHeader) (cs : List (Content Cap)) → leng
 unfolding objects_of
 length_objects hs cs = length-map (frames_in hs cs) (object_of (headers (frames_in hs cs))) ∙ length_in hs cs
 
--- objects are those of which each is what stands at its number
+-- each object is what stands at its number
 pub objects_by : (hs : List ObjectHeader) (cs : List (Content Cap)) (os : List Object) → length os ≡ length hs →
     ((n : ℕ) → n < length hs → shown_at hs cs n ≡ object_at os n) → objects_of (frames_in hs cs) ≡ os
 objects_by hs cs os count each =
@@ -93,7 +93,7 @@ owner_in hs cs n = elim (cases_lt n (length hs)) [
   | inr past ↦ ap (λ (o : Object). o.owner) (object_past hs cs n past) ∙ sym (ap (λ (h : ObjectHeader). h.owner) (get_or_past hs n blank_header past))
 ]
 
--- what the table of headers tells of an owner
+-- what the table of headers says of an owner
 pub owner_read : (p : Parts) (hs : List ObjectHeader) (h : ObjectHeader) (n : ℕ) → hs ≡ p.headers → h ≡ header_at hs n → h.owner ≡ owner_at (objects_in p) n
 owner_read p hs h n table is =
     ap (λ (k : ObjectHeader). k.owner) (is ∙ ap (λ (ks : List ObjectHeader). header_at ks n) table) ∙ sym (owner_in p.headers p.contents n)

@@ -1,4 +1,4 @@
--- What the roles in headers tell of the objects that frames stand for.
+-- What the roles in headers say of the objects that frames stand for.
 use Rattle.capability.proofs.Names.{◌≡◌, ℕ, ◌<◌, ◌≤◌, Bool, true, false, List, length, ⊎_elim, refl, sym, ap, subst, ◌∙◌, cases_lt, get_or_past, get_or-map}
 use Rattle.capability.proofs.Names.{Cap, Capability, Frame, ObjectHeader, Content, Object, Role, blank_frame, blank_header, conveyed, frame_at, header_at}
 use Rattle.capability.proofs.Names.{headers, held_at, object_of, objects_of, is_bank, is_free, is_root, map_content, role_of, content_at, is_process}
@@ -49,7 +49,7 @@ no_root_role role.Root other = absurd (other refl)
 no_root_role role.Annex other = refl
 no_root_role role.Bank other = refl
 
--- what a content is, and whether it is free or a bank, are told by its role
+-- a role decides what a content is, and whether it is free or a bank
 pub role_read : (p : Parts) (hs : List ObjectHeader) (h : ObjectHeader) (n : ℕ) → HaveTheirRoles (frames_of p) → hs ≡ p.headers → h ≡ header_at hs n →
     h.role ≡ role_of (content_at (objects_in p) n)
 role_read p hs h n roles table is =

@@ -2,7 +2,7 @@
 use Rattle.capability.proofs.Names.{ℕ, ◌∙◌, KeepsRest, OnlyFetches, Parts}
 
 module _ {S : Type 0} (parts : S → Parts) (Fetched Announced : S → ℕ → Type 0) (Continues : S → S → Type 0) (twice : (s t u : S) → Continues s t → Continues t u → Continues s u) where
-  -- what two changes leave aside both leave
+  -- what two changes leave alone both leave
   pub keeps_twice : (s t u : S) → KeepsRest parts Fetched Announced Continues s t → KeepsRest parts Fetched Announced Continues t u → KeepsRest parts Fetched Announced Continues s u
   keeps_twice s t u a b = record {
     count = b.count ∙ a.count;
@@ -16,7 +16,7 @@ module _ {S : Type 0} (parts : S → Parts) (Fetched Announced : S → ℕ → T
   }
 
 module _ {S : Type 0} (parts : S → Parts) (Continues : S → S → Type 0) (twice : (s t u : S) → Continues s t → Continues t u → Continues s u) where
-  -- and two looks
+  -- and two read-only calls
   pub only_reads_twice : (s t u : S) → OnlyFetches parts Continues s t → OnlyFetches parts Continues t u → OnlyFetches parts Continues s u
   only_reads_twice s t u a b = record {
     headers = b.headers ∙ a.headers;

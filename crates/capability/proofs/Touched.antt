@@ -18,7 +18,7 @@ touched_count-set t n inside unmarked =
     let k = rw unmarked at h in
     omega (arith, k)
 
--- a mark that is there stays as it is
+-- a mark that is there stays
 pub set-marked : (t : List Bool) (n : ℕ) → get_or t n false ≡ true → set t n true ≡ t
 set-marked t n marked = ap (λ b. set t n b) (sym marked) ∙ set-get_or t n false
 

@@ -43,7 +43,7 @@ pub record IsWholeStore (geometry : Geometry) (headers : List ObjectHeader) (con
 abbrev pub IsThere : PlainState → ℕ → Type 0
 IsThere s n = (n < length s.headers) × (n < length s.contents)
 
--- the blank body that lies aside for a number, and the one that a new object is made of
+-- the spare body for a number, and the one that a new object is made of
 abbrev pub spare_body_at : Geometry → ℕ → Content Cap
 spare_body_at g n = if nat_lt n g.nodes then content.Node (all_slots void_held) else content.Page zero_words
 
@@ -51,7 +51,7 @@ abbrev pub spare_body_for : Fresh → Content Cap
 spare_body_for fresh.Page = content.Page zero_words
 spare_body_for _ = content.Node (all_slots void_held)
 
--- a number may be written where it has room, if it is free
+-- a number may be written: if it is free, it has a spare body
 pub record HasSpareBody (s : PlainState) (n : ℕ) : Type 0 where
   pub there : IsThere s n
   pub room : (header_at s.headers n).role ≡ role.Free → held_at s.spares n ≡ spare_body_at s.geometry n

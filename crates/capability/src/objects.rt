@@ -172,7 +172,7 @@ pub fn rescind<F: PresentFrames>(store: &mut F, numbers: &[u64])
     }
 }
 
-/// Fetches objects, at most 8, to be read. No object is another than before.
+/// Fetches objects, at most 8, to be read. No object changes.
 ///
 /// `NoMemory` where memory ran out, `Failed` exactly where the device failed, and never `LogFull`,
 /// since nothing is announced.

@@ -124,7 +124,7 @@ impl Plain {
         self.count = 0;
     }
 
-    // Marks numbers that are to be written, and puts a blank body aside for each free one.
+    // Marks numbers that are to be written, and makes a spare body for each free one.
     #[inline(never)]
     fn announce(&mut self, alloc: Global, written: &[u64]) -> Result<(), PrepareFault>
         requires { All (λ n. n < length self.old.headers) written.now }
@@ -165,7 +165,7 @@ impl PresentFrames for Plain {
         &self.table
     }
 
-    /// Every object is at hand, so this marks, and puts a blank body aside for each free number.
+    /// All bodies are in memory, so this marks, and makes a spare body for each free number.
     ///
     /// `LogFull` exactly where the numbers written would be more than half of the log holds,
     /// `NoMemory` only where a number is free and memory runs out, and never `Failed`. Compares

@@ -53,9 +53,9 @@ pub enum Fresh {
 
 /// The objects as they are now, and the numbers written since the last checkpoint.
 ///
-/// The headers of all objects stand in a table that is always at hand. What objects hold is
-/// fetched, and writes are announced, by `prepare`, which alone takes memory and alone can fail.
-/// What an object holds is read only where it is fetched, and changed only where that is announced.
+/// The table with the headers of all objects is always in memory. `prepare` fetches what objects
+/// hold, and announces writes; it alone takes memory and alone can fail. What an object holds is
+/// read only where it is fetched, and changed only where that is announced.
 pub trait PresentFrames: Drop {
     ghost parts: { Self → Parts };
 
@@ -69,7 +69,7 @@ pub trait PresentFrames: Drop {
     /// The store with another content at a number.
     ghost with_content: { Self → ℕ → Content Cap → Self };
 
-    /// How much there is room for. Never more was written than half of the log holds.
+    /// How many objects there may be. Never more was written than half of the log holds.
     fn geometry(&self) -> Geometry
         ensures geometry { result ≡ (parts self.now).geometry }
         ensures within { touched_count (parts self.now).touched ≤ (parts self.now).geometry.log };
@@ -79,9 +79,9 @@ pub trait PresentFrames: Drop {
         ensures { result.now ≡ (parts self.now).headers };
 
     /// Fetches what the objects hold that are to be read or changed, at most 8, announces the
-    /// numbers that are to be written, and puts the room aside that a free one among them needs.
+    /// numbers that are to be written, and makes a spare body for each free one among them.
     ///
-    /// After an error no object and no number written is another than before: `NoMemory` where
+    /// An error changes no object and none of the numbers written: `NoMemory` where
     /// memory ran out, `LogFull` only where the numbers written would be more than half of the log
     /// holds, and `Failed` exactly where the device failed.
     fn prepare(
@@ -128,7 +128,7 @@ pub trait PresentFrames: Drop {
             (with_content self.old number)) }
         ensures value { result.now ≡ held_at (parts self.old).contents number };
 
-    /// Makes a free number an object, in the room that was put aside for it. Its counts stay.
+    /// Makes a free number an object, in its spare body. Its counts stay.
     fn claim(&mut self, number: u64, fresh: Fresh, owner: u64)
         requires fetched { IsFetched self.old number }
         requires announced { IsAnnounced self.old number }

@@ -8,7 +8,7 @@ use Rattle.ckpt_log.proofs.Winners.{belongs, counts_if, opened, slot_of_image}
 
 -- ---- of two slots
 
--- The first has the lesser number, and neither comes to count. Where it still counts the second is as it was.
+-- The first has the lesser number, and neither begins to count. Where it still counts, the second is unchanged.
 first_in_turn : (first second first_was second_was : Bool) (m n : ℕ) → nat_lt m n ≡ true → (first ≡ true → first_was ≡ true) → (second ≡ true → second_was ≡ true) → (first ≡ true → second ≡ second_was)
     → (committed_of first m second n ≡ committed_of first_was m second_was n) ⊎ (committed_of first m second n ≡ None)
 first_in_turn true second first_was second_was m n lt was was_second same = inl (rw (was refl, same refl) refl)
@@ -24,7 +24,7 @@ second_in_turn true false first_was true m n lt was was_second same = inl (rw (w
 second_in_turn true false first_was false m n lt was was_second same = inl (rw (was refl) refl)
 second_in_turn false false first_was second_was m n lt was was_second same = inr refl
 
--- ---- of an image of which the gates alone are touched
+-- ---- an image whose gates alone change
 
 -- a gate is open only where it was
 abbrev OpensNoMore : ℕ → Image → Image → Type 0

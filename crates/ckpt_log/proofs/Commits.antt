@@ -52,7 +52,7 @@ torn_no_more r old new open' e =
       same = λ _. header;
     }
 
--- the slot of the next header may change if it doesn't come to count
+-- the slot of the next header may change if it doesn't begin to count
 keeps : (h : CheckpointHeader) (old new : Image) → Precedes old h → Elsewhere (header_sector h) 2 old new → CountsNoMore (h.sequence % 2) old new → KeepsHeader h old new
 keeps h old new next e no_more = record {
   elsewhere = e;

@@ -15,7 +15,7 @@ no_entries p generation image [] none = (
 )
 no_entries p generation image (e ∷ es) none = absurd (omega (arith, none))
 
--- and its sectors, of which there are none, have nothing behind it
+-- a directory with no entries has no sectors, so nothing lies behind it
 nothing_behind : (image : Image) (at : ℕ) → drop (16 * 0) (sectors_from image at (directory_length 0)) ≡ replicate (512 * directory_length 0 - 16 * 0) 0
 unfolding sectors_from
 nothing_behind image at = refl

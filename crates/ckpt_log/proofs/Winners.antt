@@ -132,7 +132,7 @@ keep_first old new b is elsewhere no_more =
       bytes = one ∙ is.bytes;
     }
 
--- the committed header stays where the slot of the next one doesn't come to count
+-- the committed header stays where the slot of the next one doesn't begin to count
 pub keeps_at : (r n : ℕ) (old new : Image) (b : List ℕ) → n % 2 ≡ r → committed_bytes old ≡ Some b → sequence_in b + 1 ≡ n
     → Elsewhere (1 + 2 * r) 2 old new → CountsNoMore r old new → committed_bytes new ≡ Some b
 keeps_at zero n old new b is_slot is next elsewhere no_more = committed_second new b (keep_second old new b (in_second n old b is_slot is next) elsewhere no_more)

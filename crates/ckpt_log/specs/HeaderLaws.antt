@@ -1,4 +1,4 @@
--- What a header's bytes tell, and what lies apart from the headers.
+-- What a header's bytes say, and what lies apart from the headers.
 use Rattle.ckpt_log.specs.Names.{◌≡◌, ℕ, ◌+◌, ◌^◌, ◌<◌, ◌≤◌, List, Entry, CheckpointHeader, header_bytes, IsHeader}
 use Rattle.ckpt_log.specs.Names.{Plan, IsPlan, sequence_in, bytes_at, frame_in, frame_sector, slot_sector, directory_in}
 use Rattle.ckpt_log.specs.Names.{Image, Elsewhere}

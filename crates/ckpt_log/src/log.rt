@@ -40,7 +40,7 @@ impl<'a> Log<'a> {
         self.superblock.geometry()
     }
 
-    // How the frame of an object lies in its slot, which has room for any.
+    // How the frame of an object lies in its slot. A slot has space for either shape.
     pub(crate) fn shape(&self, number: u64) -> Shape
         ensures value { result ≡ shape_of self.now number }
         ensures fits { IsShapeFor self.now.geometry number result }

@@ -18,11 +18,11 @@ use model::{Cap, Content, ObjectHeader};
 
 impl<'a> Log<'a> {
     /// Reads the frame of an object in a slot of the half of a generation. The slots of a node or
-    /// an annex and the words of a page are left in `room`, and no memory is taken.
+    /// an annex and the words of a page are left in `scratch`, and no memory is taken.
     ///
     /// It is refused by `Failed` exactly where the device failed, and by `BadImage::BadFrame`
     /// exactly where the slot spells no frame that can be kept at the age. Either leaves anything
-    /// in the room.
+    /// in `scratch`.
     pub fn read_slot<D: Device>(
         &self,
         device: &mut D,

@@ -1,4 +1,4 @@
--- What the error of a parse comes to.
+-- What the error of a parse becomes.
 use Rattle.command_line.proofs.Names.{◌≡◌, ◌⊎◌, inl, inr, refl, subst, sym, Bool, true, false, List, App, HasKind, Text, fault_of, is_simple_and_free, kind_of}
 use Rattle.command_line.proofs.Names.{Command, Error, OutOfMemory, ValueValidation, eros_app, Explains, IsFaultOf, IsRefused, AsksForSame, JobFault}
 use Rattle.clap.specs.Words.{app_of, subcommand_of, takes}

@@ -29,7 +29,7 @@ abbrev pub Filled : List Rule → List Row → Type 0
 Filled c [] = ⊤
 Filled c (r ∷ rs) = IsGood c r × Filled c rs
 
--- a use of the argument leaves a value, unless it asks for help or the version
+-- a use of the argument leaves a value, unless it requests help or the version
 abbrev pub gives_value : Rule → Bool
 gives_value a = is_request (action_of a) || (nat_lt 0 (unwrap_or_range a.range).start_inclusive || not (is_empty a.missing))
 

@@ -14,13 +14,13 @@ abbrev pub IsFaultOf : Error → JobFault → Type 0
 IsFaultOf e (fault.BadWords why) = (why ≡ e) × (kind_of e ≢ OutOfMemory)
 IsFaultOf e fault.NoMemory = kind_of e ≡ OutOfMemory
 
--- the words ask for an upgrade of one word to itself
+-- the words request an upgrade of one word to itself
 abbrev pub AsksForSame : Option (Text × List Row) → Type 0
 AsksForSame None = ⊥
 AsksForSame (Some met) = IsSameTwice met.0 met.1
 
 -- The kind of an error that refuses words. Where the command doesn't take them, it is one that clap gives for them, or
--- that of a bad value. Where they ask for an upgrade of one word to itself, it is that of a bad value.
+-- that of a bad value. Where they request an upgrade of one word to itself, it is that of a bad value.
 unfoldable pub Explains : List Text → Error → Type 0
 Explains words e =
     ((takes eros_app words ≡ false) × IsAmong (kind_of e) (ValueValidation ∷ fault_of eros_app words))

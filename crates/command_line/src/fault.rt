@@ -12,7 +12,7 @@ use std::alloc::{AllocError, Global};
 /// Why words name no job.
 #[derive(Drop)]
 pub enum JobFault {
-    /// The command doesn't take them, they ask for help, or an upgrade has one word twice. This is what clap tells of that.
+    /// The command doesn't take them, they ask for help, or an upgrade has one word twice. This is clap's message.
     BadWords(Error),
     /// Memory ran out.
     NoMemory,
@@ -41,7 +41,7 @@ impl JobFault {
     }
 }
 
-// What clap tells of a word that isn't text.
+// Clap's message for a word that isn't text.
 fn text_error(alloc: Global) -> Result<Error, AllocError>
     ensures { IfOk result (λ e. kind_of e ≡ InvalidValue) }
 {

@@ -99,7 +99,7 @@ pub enum Job<'a> {
         image: &'a str,
         /// Draws only what this process reaches.
         from: Option<u64>,
-        /// Draws only what leads to this object.
+        /// Draws only what has a way to this object.
         to: Option<u64>,
     },
 }

@@ -56,7 +56,7 @@ pub(crate) const LEAST_CAPACITY: u64 = 8;
 /// The greatest number of objects that a cache may hold.
 pub(crate) const GREATEST_CAPACITY: u64 = 8192;
 
-// A file that has to be named.
+// A required file.
 fn file<'a>(alloc: Global, name: &'a str, help: &'a str) -> Arg<'a>
     ensures rule { rule_of result ≡ file_rule name.entry.now }
     ensures local { result.global ≡ false }

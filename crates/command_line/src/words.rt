@@ -13,7 +13,7 @@ use std::convert::AsStr;
 
 /// The job that the words name. The first word is the name of the program.
 ///
-/// `BadWords` with an error of clap if the command doesn't take the words, also if they ask for help.
+/// `BadWords` with an error of clap if the command doesn't take the words, also if they request help.
 /// `BadWords` with a `ValueValidation` if an upgrade has one word twice. `NoMemory` if memory runs out.
 pub fn job<'a, S: AsStr>(alloc: Global, words: &'a [S]) -> Result<Job<'a>, JobFault>
     ensures named { IfOk result (NamesJob (subcommand_of eros_app (map S.text words.entry.now))) }

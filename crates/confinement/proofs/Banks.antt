@@ -1,4 +1,4 @@
--- What a bank of a closed set is asked stays in the set.
+-- The order of a bank of a closed set stays in the set.
 use Rattle.confinement.proofs.Names.{◌≡◌, ◌≢◌, ◌⊎◌, inl, inr, ℕ, ◌+◌, ◌==◌, ◌<◌, ◌≤◌, nat_eq, Bool, true, false, not, ◌&&◌, if◌then◌else◌, List, [], ◌∷◌}
 use Rattle.confinement.proofs.Names.{length, refl, sym, ap, subst, arith, ◌∙◌, IsTrue, slice_index_or, range_with_len, false≢true, cases_eq, and_parts}
 use Rattle.confinement.proofs.Names.{or_cases, or_right, not-true, eqb-true, eqb-false, Capability, Void, Page, Node, Process, Bank, Geometry, Content, Object}
@@ -185,7 +185,7 @@ module _ (g : Geometry) (inside : ℕ → Bool) (os : List Object) (h : IsNow g 
         owner_inside n used (above_inside b is (owner_at os n) (tree.owners n (λ gone. false≢true (sym used ∙ gone))) parts.1)
   ]
 
-  -- what a bank owned is handed on, and all else is as it was
+  -- what a bank owned is transferred, and nothing else changes
   module _ (b : ℕ) (kind : IsTrue (is_bank (content_at os b))) (on : b ≢ 0) (is : IsTrue (inside b)) where
     transferred : (n : ℕ) → (object_at (inherited os b) n ≡ object_at os n) ⊎ IsTrue (inside n)
     transferred n = go (not (is_free (content_at os n)) && (owner_at os n == b)) refl (inherited_object os tree b kind on n)
@@ -211,7 +211,7 @@ module _ (g : Geometry) (inside : ℕ → Bool) (os : List Object) (h : IsNow g 
       )
     ])
 
-  -- what a bank is asked
+  -- each order of a bank
 
   module _ (b : ℕ) (args : Arguments) (kind : IsTrue (is_bank (content_at os b))) (is : IsTrue (inside b)) where
     page_made_stays : OutcomeStays inside os (on_bank g os b bank.NewPage args)
@@ -266,7 +266,7 @@ module _ (g : Geometry) (inside : ℕ → Bool) (os : List Object) (h : IsNow g 
           inl tt,
         ))
 
--- whatever a bank of the set is asked with an argument that stays in the set, the outcome stays in it
+-- if the argument of an order of a bank of the set stays in the set, so does the outcome
 pub bank_stays : (g : Geometry) (inside : ℕ → Bool) (os : List Object) (b : ℕ) (requested : BankOrder) (args : Arguments) → IsNow g os
     → IsTrue (is_bank (content_at os b)) → IsTrue (inside b) → NamesItsKind os args.capability → StaysInside inside args.capability → Encloses inside os
     → StaysWithin inside os (on_bank g os b requested args).objects × StaysInside inside (on_bank g os b requested args).capability

@@ -49,7 +49,7 @@ content_twice first second (content.Root r) =
 content_twice first second (content.Annex slots) = ap content.Annex (map_twice first second slots)
 content_twice first second c = refl
 
--- an object is kept as it is
+-- an object is kept unchanged
 pub kept_refl : (inside : ℕ → Bool) (o : Object) → IsKept inside o o
 kept_refl inside o = ((λ c. false), (λ c e. cc), ap (λ (c : Content Capability). record { owner = o.owner; content = c }) (content_same o.content))
 

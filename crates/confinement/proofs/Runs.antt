@@ -221,7 +221,7 @@ abbrev MachineWithin : Geometry → (ℕ → Bool) → List Object → Machine �
 MachineWithin g inside os (Up s) = IsWithin g inside os s
 MachineWithin g inside os (Down saved) = Unit {0}
 
--- what an invocation comes to
+-- the effect of an invocation
 abbrev invoked : Running → Option Effect → Outcome
 invoked s found = elim found [
   | None ↦ outcome answer.Done s

@@ -12,7 +12,7 @@ unnoted (content.Root r) other = absurd (other r refl)
 unnoted (content.Annex registers) other = refl
 unnoted (content.Bank limit) other = refl
 
--- a note tells the annex
+-- a note has the annex
 annex_of_note : Option Noted → Option ℕ
 annex_of_note None = None
 annex_of_note (Some note) = Some note.annex

@@ -1,4 +1,4 @@
--- What the table of headers and the contents at hand tell of frames.
+-- What the table of headers and the contents in memory say of frames.
 use Rattle.consistency.proofs.Names.{◌≡◌, ℕ, ◌<◌, ◌≤◌, inl, inr, List, length, sym, ap, ◌∙◌, arith, cases_lt, get_or_past, Cap, Frame, ObjectHeader, Content}
 use Rattle.consistency.proofs.Names.{blank_frame, frame_at, frames_in, header_at, headers, held_at, Parts, frames_of, frame_in, headers_in, length_in, role_at}
 use Rattle.model.specs.declared.object.Role.TheVariants as role
@@ -35,7 +35,7 @@ annex_known p n annex = role_known p n (λ free. let wrong : role.Annex ≡ role
 pub bank_known : (p : Parts) (n : ℕ) → role_at (frames_of p) n ≡ role.Bank → n < length p.headers
 bank_known p n bank = role_known p n (λ free. let wrong : role.Bank ≡ role.Free = sym bank ∙ free in cc)
 
--- a look leaves the frames
+-- a read-only call leaves the frames
 pub frames_looked : (old now : Parts) → now.headers ≡ old.headers → now.contents ≡ old.contents → frames_of now ≡ frames_of old
 frames_looked old now hs cs =
     ap (λ (ks : List ObjectHeader). frames_in ks now.contents) hs ∙ ap (frames_in old.headers) cs

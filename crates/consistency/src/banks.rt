@@ -108,7 +108,7 @@ fn count_above_limit<F: PresentFrames>(
 /// a bank accounts for more than its limit. Nothing where none of this is so. Banks are fetched one at a time for their
 /// limits.
 ///
-/// `NoMemory` where memory ran out, and `Failed` exactly where the device failed. No object is another than before.
+/// `NoMemory` where memory ran out, and `Failed` exactly where the device failed. No object changes.
 pub fn find_unbanked<F: PresentFrames>(
     alloc: Global,
     store: &mut F,

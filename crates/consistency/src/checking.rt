@@ -88,10 +88,10 @@ fn reason<F: PresentFrames>(
 /// Checks frames that can be kept at an age: whether they stand for a sound world (EROS: the
 /// consistency check of a checkpoint).
 ///
-/// Every object is looked at, one at a time, and no object is another than before. Takes memory in
-/// proportion to the number of objects, and gives it back.
+/// Every object is read, one at a time, and no object changes. Takes memory in proportion to the
+/// number of objects, and gives it back.
 ///
-/// `Inconsistent` with the least reason where they stand for none: the capabilities are looked at
+/// `Inconsistent` with the least reason where they stand for none: the capabilities are checked
 /// first, then the processes, then the banks. `NoMemory` where memory ran out, and `Failed` exactly
 /// where the device failed.
 pub fn check<F: PresentFrames>(alloc: Global, store: &mut F, age: u64) -> Result<(), CheckFault>

@@ -12,7 +12,7 @@ use capability::{PrepareFault, PresentFrames, objects};
 use model::{Content, Role, State};
 use std::alloc::{AllocError, Global};
 
-/// What is noted of the root of a process, which may not stay at hand.
+/// What is noted of the root of a process, which may not stay in memory.
 #[derive(Clone, Copy)]
 pub struct Noted {
     /// Whether the process waits.

@@ -1,4 +1,4 @@
-// What the table of headers tells of an object, by number. Nothing is fetched.
+// What the table of headers says of an object, by number. Nothing is fetched.
 ghost use Rattle.std.specs.Prelude.{◌≡◌, ◌↔◌, IsTrue};
 ghost use Rattle.capability.specs.Parts.{frames_of};
 ghost use Rattle.consistency.specs.Consistency.{owner_of, role_at};

@@ -50,10 +50,10 @@ all_laid entry es old now i done was = record {
 pub split_at : {E : Type 0} → (es : List E) (i : ℕ) (e : E) → i < length es → e ≡ slice_index_or es i e → drop i es ≡ e ∷ drop (i + 1) es
 split_at es i e lt is = drop_more es i e lt ∙ ap (λ f. f ∷ drop (i + 1) es) (sym is)
 
--- a number of the world as it was is one of it as it is
+-- a number of the old world is one of the new world
 pub still_within : (n count old : ℕ) → n < old → count ≡ old → n < count
 still_within n count old within same = omega arith
 
--- a frame put with a content is one put with the same content, as it is otherwise told
+-- a frame put with a content is one put with an equal content
 pub put_same : (n owner : ℕ) (one other : Content Cap) (old new : World) → one ≡ other → IsPut n (first_frame owner one) old new → IsPut n (first_frame owner other) old new
 put_same n owner one other old new same put = subst (λ held. IsPut n (first_frame owner held) old new) same put

@@ -1,4 +1,4 @@
--- Numbers of which none comes twice, and writes at them.
+-- Distinct numbers, and writes at them.
 use Rattle.described_world.proofs.Names.{◌≡◌, ◌≢◌, ◌⊎◌, ℕ, zero, suc, ◌+◌, ◌<◌, ◌≤◌, inl, inr, List, [], ◌∷◌, ◌++◌, map, length, replicate, Some, slice_get}
 use Rattle.described_world.proofs.Names.{drop, take, ◌-◌, slice_index_or, slice_set, refl, sym, ap, ◌∙◌, subst, arith, ◌↔◌, All, Any, Contains, cases_eq}
 use Rattle.described_world.proofs.Names.{nat_tests, get_or-set_same, get_or-set_other, length-drop, length-set, drop_all, drop_more, take_all, All-head}

@@ -5,7 +5,7 @@ pub passed_on : {A B : Type 0} (P : A → Type 0) (Q : B → Type 0) (e : Descri
 passed_on P Q Shape none part = λ y is. none (part y is).0 (part y is).1
 passed_on P Q NoMemory none part = tt
 
--- the same at an error that is handed on
+-- the same at an error that is passed on
 pub failed : {A B : Type 0} (P : A → Type 0) (Q : B → Type 0) (e : DescriptionFault) (r : Result B DescriptionFault) → IsErrAnd r (λ y. y ≡ e) → Fails P e → ((y : B) → Q y → (x : A) × P x) → Reads Q r
 failed P Q e (Ok y) same none part = absurd same
 failed P Q e (Err f) same none part = rw same (passed_on P Q e none part)

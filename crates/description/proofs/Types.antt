@@ -86,7 +86,7 @@ pub state_reported : (d : Data) (text : List ℕ) (r : Option State) → Some te
 state_reported d text None is some none = (text, string_is d text is, none)
 state_reported d text (Some s) is some none = string_is d text is ∙ ap string (sym some)
 
--- what is no text tells neither
+-- what is no text is neither
 pub no_capability : (d : Data) → None ≡ as_str d → (r : Option Capability) → IsCapability d r → ⊥
 no_capability d none None reported = none-some reported.0 (none ∙ ap as_str reported.1)
 no_capability d none (Some c) reported = none-some (capability_text c) (none ∙ ap as_str reported.2)

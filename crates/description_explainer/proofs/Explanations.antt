@@ -1,4 +1,4 @@
--- What is told of a description is so.
+-- What is reported of a description holds.
 use Rattle.description_explainer.proofs.Names.{◌≡◌, ℕ, ◌≤◌, List, sym, subst, Frame, Unbanked, AreBanked, AreNamed, IsUnbanked, NamesItsRole, unbanked_refuted}
 use Rattle.description_explainer.proofs.Names.{Description, HasFields, HasNumbers, IsDescribed, IsTarget, described_once, IsFirstBroken, IsWithinLimits}
 use Rattle.description_explainer.proofs.Names.{Refuses, all_kept, field_broken, limits_broken, number_broken, owner_broken, target_broken, Held, Limit}

@@ -1,4 +1,4 @@
--- Lists of numbers, of which one is outside a range or comes twice, and what holds of an element.
+-- Lists with a number outside a range or with a number twice, and what holds of an element.
 use Rattle.description_faults.proofs.Names.{◌≡◌, ◌≢◌, ℕ, zero, suc, ◌+◌, ◌<◌, ◌≤◌, List, [], ◌∷◌, length, map, get_or, take, Option, Some, slice_get}
 use Rattle.description_faults.proofs.Names.{slice_index, IsSomeAnd, refl, sym, ap, ◌∙◌, subst, arith, All, Contains, take_all, All-cons, All-head, All-more}
 use Rattle.description_faults.proofs.Names.{All-tail, slice_get_read, slice_get-get_or, AreDistinct, IsOutside, IsTwice}

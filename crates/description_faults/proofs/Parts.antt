@@ -1,4 +1,4 @@
--- Which part of which object breaks a rule.
+-- The part of an object that breaks a rule.
 use Rattle.description_faults.proofs.Names.{◌≡◌, ℕ, ◌<◌, ◌≤◌, List, map, length, get_or, Option, None, Some, slice_get, IsSomeAnd, refl, sym, subst, arith}
 use Rattle.description_faults.proofs.Names.{MatchOption, All, All-map, Capability, Description, NodeEntry, PageEntry, ProcessEntry, SlotEntry, HasFields, Held}
 use Rattle.description_faults.proofs.Names.{Part, BreaksField, HoldsAt, AllHave, BreaksNodes, BreaksPages, BreaksProcess, BreaksProcesses, LacksIt, OneLacks}

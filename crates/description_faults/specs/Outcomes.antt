@@ -1,4 +1,4 @@
--- What the functions that look for a place answer.
+-- What the functions that search for a place answer.
 use Rattle.description_faults.specs.Names.{◌≡◌, ℕ, ◌+◌, ◌^◌, ◌≤◌, Bool, true, false, List, length, map, slice_get}
 use Rattle.description_faults.specs.Names.{Option, None, Some, Result, Ok, Err, IsSomeAnd, alloc_error, AllocError, All}
 use Rattle.description_faults.specs.Names.{Capability, IsSpaceEntry, node_numbers, Data, Items, Members, array}

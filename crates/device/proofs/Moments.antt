@@ -36,7 +36,7 @@ goes_on {old} {mid} {new} {P} so_far time here = record {
 pub in_one_call : {old new : Disk} (P : Image → Type 0) → OnlyNow old → Elapses old new → ((c : Image) → old.may_leave c → P c) → ((c : Image) → new.may_leave c → P c) → LeavesOnly old new P
 in_one_call {old} {new} P only_now time first here = goes_on {old = old} {mid = old} {new = new} {P = P} (started old P only_now first) time here
 
--- the same run, of which less is said
+-- the same run, with a weaker statement
 pub leaves_weaker : {old new : Disk} {P : Image → Type 0} (Q : Image → Type 0) → ((c : Image) → P c → Q c) → LeavesOnly old new P → LeavesOnly old new Q
 leaves_weaker Q weaker run = record {
   later = run.later;

@@ -20,7 +20,7 @@ resizes_append (got at piece ∷ a) b = resizes_append a b
 resizes_append (resized n ∷ a) b = omega (arith, resizes_append a b)
 resizes_append (listed path ∷ a) b = resizes_append a b
 
--- calls of which none sets the length
+-- calls that don't set the length
 pub keeps_length : (a b : Calls) (more : List OpeningCall) → Adds a b more → resizes more ≡ 0 → KeepsLength a b
 keeps_length None b more adds none = ap (option_map resizes) adds
 keeps_length (Some calls) None more adds none = absurd adds

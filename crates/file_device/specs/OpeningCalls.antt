@@ -49,7 +49,7 @@ Loads old new copy =
     (n : ℕ) × (pieces : List (List ℕ)) × (concat pieces ≡ copy) × (length copy ≡ 512 * (n / 512))
     × Adds old new (measured n ∷ reads 0 pieces)
 
--- a lock was asked for, and no other open file excludes it
+-- a lock was requested, and no other open file excludes it
 abbrev pub TakesLock : Lock → Option (List OpeningCall) → Option (List OpeningCall) → Type 0
 TakesLock lock old new = (answer : LockAnswer) × (answer ≢ Held) × Adds old new (locked lock answer ∷ [])
 

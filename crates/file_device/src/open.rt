@@ -82,7 +82,7 @@ fn take_lock<F: Openable>(file: &mut F, lock: Lock) -> Result<(), FileFault>
     }
 }
 
-// Locks the file, makes it durable and reads it. At `Held` only the lock was asked for.
+// Locks the file, makes it durable and reads it. At `Held` the only call was for the lock.
 fn load_locked<F: Openable>(alloc: Global, file: &mut F, lock: Lock) -> Result<Vec<u8>, FileFault>
     ensures read { IfOk result (λ copy. LoadsLocked lock (F.opening file.old) (F.opening file.new) copy.items) }
     ensures few { IfOk result (λ copy. sectors_of copy.items ≤ 131072) }
@@ -98,7 +98,8 @@ fn load_locked<F: Openable>(alloc: Global, file: &mut F, lock: Lock) -> Result<V
     load(alloc, file)
 }
 
-// Locks the file, fills it with zeros and makes it durable. At `Held` only the lock was asked for.
+// Locks the file, fills it with zeros and makes it durable. At `Held` the only call was for the
+// lock.
 fn make_zeros<F: Openable>(
     rt: &HostRuntime,
     file: &mut F,
@@ -143,9 +144,9 @@ impl<F: Openable> CopiedFile<HostFile<F>> {
     /// is read, so what a read of the device gives at first is durable. Until the device is dropped no other is open
     /// in the file.
     ///
-    /// `Held` where another device is open in it. `Long` where the file has more bytes than `MAX_SECTORS` sectors.
-    /// `Io` where the system refuses to open, sync, measure or read it, as it does with a file that isn't there, a
-    /// folder or a pipe. `NoMemory` where there is no room for a copy of it.
+    /// `Held` where another device is open in it. `Long` where the file has more bytes than `MAX_SECTORS` sectors. `Io`
+    /// where the system refuses to open, sync, measure or read it, as it does with a file that isn't there, a folder or
+    /// a pipe. `NoMemory` where there is no memory for a copy of it.
     pub fn open(rt: &HostRuntime, path: &str) -> Result<CopiedFile<HostFile<F>>, FileFault>
         ensures opening { IfOk result (λ d. IfSome (F.opening (raw_file d))
             (λ calls. IsOpened path.now Access.Write Lock.Exclusive calls (file_disk d))) }
@@ -174,7 +175,7 @@ impl<F: Openable> CopiedFile<HostFile<F>> {
     ///
     /// `Held` where another device is open in the file; it isn't changed then. `Io` if the system
     /// refuses to make, lengthen or sync the file, which may then be there with any length.
-    /// `NoMemory` where there is no room for a copy of it, and then no file was touched.
+    /// `NoMemory` where there is no memory for a copy of it, and then no file was touched.
     pub fn create(
         rt: &HostRuntime,
         path: &str,

@@ -31,7 +31,7 @@ pub enum Lock {
     Shared,
 }
 
-/// The answer where a lock is asked for.
+/// The answer to a request for a lock.
 #[derive(Clone, Copy, Debug, PartialEq, Eq)]
 pub enum LockAnswer {
     /// The lock is taken.
@@ -55,7 +55,7 @@ pub trait Openable: RawFile {
         ensures opened { IfOk result (λ file. IfSome (opening file) (λ calls. calls ≡ opened path.now access ∷ [])) }
         ensures fresh { IfOk result (λ file. IfSome (Self.calls file) (λ calls. calls ≡ [])) };
 
-    /// Asks for a lock, and doesn't wait.
+    /// Requests a lock, and doesn't wait.
     fn lock(&mut self, lock: Lock) -> io::Result<LockAnswer>
         ensures ok { IfOk result (λ answer. Adds (opening self.old) (opening self.new) (locked lock answer ∷ [])) }
         ensures err { OnErr result (opening self.new ≡ opening self.old) }

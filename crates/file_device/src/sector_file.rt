@@ -9,7 +9,7 @@ use device::Failed;
 /// A file of sectors, and what has been done to it since it was opened.
 ///
 /// The first failure is not the last: from then on each write and each sync fails. A write that
-/// failed may have left any bytes, and after a failed sync the system doesn't tell what is durable.
+/// failed may have left any bytes, and after a failed sync nobody knows what is durable.
 pub trait SectorFile: Drop {
     /// What it held when it was opened.
     ghost first: { Self → List ℕ };

@@ -12,11 +12,11 @@ use std::io::{self, ErrorKind};
 pub enum Made {
     /// This path was opened.
     Opened(Vec<u8>, Access),
-    /// A lock was asked for.
+    /// A request for a lock.
     Locked(Lock, LockAnswer),
     /// The file was synced.
     Synced,
-    /// Its length was asked for.
+    /// A request for its length.
     Measured(u64),
     /// These bytes were read from a byte on.
     Got(u64, Vec<u8>),

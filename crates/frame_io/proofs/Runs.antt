@@ -18,7 +18,7 @@ pub run_is : (image : Image) (at n : ℕ) (bytes : List ℕ) → length bytes �
 run_is image at n bytes size same =
     subst (λ (k : ℕ). sectors_from image at k ≡ bytes) (sectors_are_of n bytes size) (whole_sectors image at bytes (omega (arith, size)) same)
 
--- the header that the bytes of a sector tell is that of the frame there
+-- the header in the bytes of a sector is that of the frame there
 pub header_at_is : (image : Image) (at : ℕ) (first : List ℕ) (header : ObjectHeader) → length first ≡ 512 → sectors_from image at 1 ≡ first → header ≡ header_from first → IsHeaderAt image at header
 unfolding sectors_from
 header_at_is image at first header size is reported g number =

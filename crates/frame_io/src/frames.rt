@@ -123,11 +123,11 @@ fn read_page_frame<D: Device>(
 }
 
 /// Reads the frame of an object of this shape from the sectors from `at` on. The slots of a node or
-/// an annex and the words of a page are left in `room`, and no memory is taken.
+/// an annex and the words of a page are left in `scratch`, and no memory is taken.
 ///
 /// It is refused by `Failed` exactly where the device failed, and by `BadImage::BadFrame` exactly
-/// where the sectors spell no frame that can be kept at the age. Either leaves anything in the
-/// room.
+/// where the sectors spell no frame that can be kept at the age. Either leaves anything in
+/// `scratch`.
 pub fn read_frame<D: Device>(
     device: &mut D,
     at: u64,

@@ -1,4 +1,4 @@
--- What is counted, as a process that returns becomes available, after the reply, and after an invocation that asks no bank.
+-- What is counted, as a process that returns becomes available, after the reply, and after an invocation with no bank's order.
 use Rattle.gate.proofs.Names.{◌≡◌, ℕ, ◌+◌, ◌++◌, ◌≤◌, ◌&&◌, Bool, true, false, List, Result, Ok, Err, drop, length, refl, sym, ap, subst, ◌∙◌, arith}
 use Rattle.gate.proofs.Names.{if◌then◌else◌, IsTrue, OnOk, OnErr, slice_index, All, Bank, Invocation, Frame, Operation, Call, Return, Send, Geometry, Object}
 use Rattle.gate.proofs.Names.{Arguments, objects_of, deliver, AreCurrent, AreKeepable, IsSoundFrames, is_running, IsNoBankOrder, IsSound, NamesItsKind, Fits}
@@ -98,13 +98,13 @@ writers_within Call p a rest list is = omega (arith, ap (λ (ns : List ℕ). len
 writers_within Return p a rest list is = omega (arith, ap (λ (ns : List ℕ). length ns) is)
 writers_within Send p a rest list is = omega arith
 
--- what is counted stays after a look
+-- what is counted stays after a read-only call
 pub counted_looked : (old mid : Parts) (s : BanksState) → ReadsAs old mid → AreCounted old.geometry (objects_in old) s → AreCounted mid.geometry (objects_in mid) s
 counted_looked old mid s only_reads counted =
     subst (λ (g : Geometry). AreCounted g (objects_in mid) s) (sym only_reads.geometry)
     (subst (λ (us : List Object). AreCounted old.geometry us s) (sym (looked_objects old mid only_reads)) counted)
 
--- what asks no bank leaves what is counted as it is, after a look too
+-- what isn't a bank's order leaves what is counted, after a read-only call too
 module _ (old mid new : Parts) (i : Invocation) (s : BanksState) (sound : AreSound old) (only_reads : ReadsAs old mid)
     (fits : Fits (command.Invoke i)) (runs : IsTrue (is_running_process (objects_in old) i.process))
     (other : IsNoBankOrder (register_at (objects_in old) i.process i.register) (slice_index i.words 0))
@@ -148,7 +148,7 @@ counted_listed g os s t list kept h = subst (AreCounted g os) (sym kept) (record
   room = h.room;
 })
 
--- a bank that is invoked may be asked
+-- an order of the bank that is invoked may be planned
 pub bank_may_ask : (p : Parts) (s : BanksState) (i : Invocation) (caller : Caller) (b : ℕ) (args : Arguments) → AreSound p → AreCounted p.geometry (objects_in p) s →
     Fits (command.Invoke i) → IsRequested (objects_in p) i caller → args ≡ arguments_of (objects_in p) i → caller.invoked ≡ Bank b → MayAsk p s b args
 bank_may_ask p s i caller b args sound counted fits is args_are invoked =

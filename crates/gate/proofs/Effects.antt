@@ -1,4 +1,4 @@
--- What an invocation comes to, from what each part of it told.
+-- The effect of an invocation, from what each part of it reported.
 use Rattle.gate.proofs.Names.{◌≡◌, ℕ, zero, suc, ◌+◌, ◌++◌, ◌^◌, ◌<◌, ◌≤◌, Bool, List, Option, None, Some, drop, length, refl, sym, ap, ◌∙◌, subst, arith}
 use Rattle.gate.proofs.Names.{if◌then◌else◌, IsTrue, slice_index, All, Capability, Void, Number, Page, Node, Space, Process, Start, Resume, Bank, Discrim}
 use Rattle.gate.proofs.Names.{Invocation, Operation, Call, Return, Send, Frame, Geometry, Object, Available, Arguments, ResultCode, objects_of, Effect}

@@ -1,4 +1,4 @@
--- What an invocation through a gate comes to.
+-- The effect of an invocation through a gate.
 use Rattle.gate.proofs.Names.{◌≡◌, ℕ, ◌^◌, ◌<◌, Bool, true, false, ◌||◌, List, None, Some, refl, sym, ap, ◌∙◌, subst, if◌then◌else◌, IsTrue, slice_set, All}
 use Rattle.gate.proofs.Names.{All-map, All-set, Capability, Resume, Invocation, Operation, Call, Return, Send, Geometry, Object, Effect, can_start, invoke}
 use Rattle.gate.proofs.Names.{sent_by, through_gate, NamesItsKind, object_count, annex_at, is_process, register_at, IsNow, held_to, AreSound, Parts, objects_in}

@@ -1,4 +1,4 @@
--- What comes of an invocation, from what its looks, its announcing and its change told.
+-- The outcome of an invocation, from what its read-only calls, its announcing and its change reported.
 use Rattle.gate.proofs.Names.{◌≡◌, ℕ, ◌+◌, ◌^◌, ◌<◌, ◌≤◌, Bool, true, false, List, Option, None, Some, Result, Ok, Err, refl, sym, ap, ◌∙◌, subst, ⊎_elim}
 use Rattle.gate.proofs.Names.{arith, cases_lt, IfOk, IsErrOf, IsTrue, OnErr, Invocation, Geometry, Object, ResultCode, Effect, invoke, AreCurrent, AreKeepable}
 use Rattle.gate.proofs.Names.{touching, touched_count, Fits, is_running_process, PrepareFault, IsUnchanged, OnlyReads, Parts, Prepares, Renews, frames_of}
@@ -12,7 +12,7 @@ use Rattle.gate.proofs.Listed.{full_fault, on_ok}
 use Rattle.gate.proofs.Renewing.{renews_looked}
 use Rattle.gate.proofs.Standing.{ReadsAs, keeps_looked, looked_as, looked_keepable, looked_objects, only_reads_again, prepared_as}
 
--- no want of memory or failure is told as a process that isn't available
+-- no want of memory or failure is reported as a process that isn't available
 never_stalled : (e : PrepareFault) → IsErrOf {T = Option ResultCode} (Err (fault_of e)) fault.Stalled → ⊥
 never_stalled prepare.NoMemory is = cc
 never_stalled prepare.LogFull is = cc
@@ -49,7 +49,7 @@ unrisen : (m n : ℕ) → m ≤ n → (m < n → ⊥) → n ≡ m
 unrisen m n later stayed = ⊎_elim (λ (rose : m < n). absurd (stayed rose)) (λ (within : n ≤ m). omega arith) (cases_lt m n)
 
 module _ {S : Type 0} (parts : S → Parts) (Continues : S → S → Type 0) (i : Invocation) where
-  -- an invocation after a look
+  -- an invocation after a read-only call
   module _ (twice : (s t u : S) → Continues s t → Continues t u → Continues s u) (s t u : S) {T : Type 0} (x : T) (only_reads : OnlyReads {T = T} parts Continues s t (Ok x)) where
     still : (parts t).failures ≡ (parts s).failures
     still = unrisen (parts s).failures (parts t).failures only_reads.later (λ rose. ok_no_failure x (only_reads.cause.1 rose))
@@ -60,7 +60,7 @@ module _ {S : Type 0} (parts : S → Parts) (Continues : S → S → Type 0) (i 
         (subst (λ (os : List Object). P (parts t).geometry os (parts s).touched) (looked_objects (parts s) (parts t) (looked_as only_reads.snapshots))
         (subst (λ (ts : List Bool). P (parts t).geometry (objects_in (parts t)) ts) only_reads.snapshots.touched p))
 
-    -- a refusal that only a look told
+    -- a refusal that only a read reported
     found : (k : InvokeFault) → (IsErrOf {T = Option ResultCode} (Err k) fault.LogFull → ⊥) → (IsErrOf {T = Option ResultCode} (Err k) fault.Failed → ⊥) →
         (IsErrOf {T = Option ResultCode} (Err k) fault.NotRunning → is_running_process (objects_in (parts s)) i.process ≡ false) →
         (IsErrOf {T = Option ResultCode} (Err k) fault.Stalled → invoke (parts s).geometry (objects_in (parts s)) i ≡ None) → Invoked parts Continues s t i (Err k)

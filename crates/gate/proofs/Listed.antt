@@ -52,7 +52,7 @@ all_four P a b c d x y z w (suc (suc zero)) e inside = z
 all_four P a b c d x y z w (suc (suc (suc zero))) e inside = w
 all_four P a b c d x y z w (suc (suc (suc (suc k)))) e inside = absurd (omega arith)
 
--- a full log is told as one
+-- a full log is reported as one
 pub full_fault : {T U : Type 0} (e : PrepareFault) → IsErrOf {T = U} (Err (fault_of e)) invoke_fault.LogFull → IsErrOf {T = T} (Err e) prepare.LogFull
 full_fault prepare.LogFull is = refl
 full_fault prepare.NoMemory is = cc

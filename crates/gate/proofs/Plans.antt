@@ -1,4 +1,4 @@
--- What an order comes to that goes as planned.
+-- The effect of an order that is carried out as planned.
 use Rattle.gate.proofs.Names.{◌≡◌, ⊎_elim, ℕ, zero, suc, ◌^◌, ◌<◌, true, List, [], ◌++◌, Option, None, Some, drop, length, refl, sym, ap, ◌∙◌, subst, arith}
 use Rattle.gate.proofs.Names.{IsTrue, slice_index, All, option_to_list, Capability, Void, Number, Page, Node, Space, Process, Start, Resume, Bank, Discrim}
 use Rattle.gate.proofs.Names.{Invocation, Operation, Call, Return, Send, Geometry, Object, Arguments, BankOrder, on_bank, is_annex, is_bank, is_node}
@@ -213,7 +213,7 @@ module _ (g : Geometry) (os : List Object) (i : Invocation) (now : IsNow g os) w
   pub arguments_held : Fits (command.Invoke i) → AreArguments os (arguments_of os i)
   arguments_held fits = record { first = all_words i.words fits.3 1; second = all_words i.words fits.3 2; held = held_sent g os i 0 now }
 
--- an order that asks no bank is planned
+-- an order that isn't a bank's is planned
 pub object_planned : (g : Geometry) (os us : List Object) (i : Invocation) (caller : Caller) (plan : OrderPlan) (args : Arguments) (first list : List ℕ) → us ≡ os → IsNow g os
     → object_count g < 2 ^ 64 → Fits (command.Invoke i) → IsRequested os i caller → args ≡ arguments_of os i → first ≡ writers caller.operation caller.process caller.annex
     → list ≡ first ++ written_of plan.change → IsFor us caller.invoked args plan.change

@@ -6,7 +6,7 @@ use Rattle.std.specs.Prelude.{if◌then◌else◌}
 use Rattle.model.specs.declared.command.Command.TheVariants as command
 use Rattle.gate.proofs.Standing.{ReadsAs, looked_objects, now_sound}
 
--- a gate is asked no bank's order
+-- an invocation of a gate is no bank's order
 pub gate_no_bank : (gate : Gate) (w : ℕ) → IsNoBankOrder (gate_capability gate) w
 gate_no_bank gate w = go gate.is_resume
   where
@@ -19,13 +19,13 @@ pub free_in_frame : (p q : Parts) (us : List Object) → objects_in q ≡ us →
 free_in_frame p q us objects frame n =
     ap (λ (vs : List Object). is_free (content_at vs n)) objects ∙ (tests_at (objects_in p) us frame n).free
 
--- what counts come to after a look
+-- the counts after a read-only call
 pub renews_looked : (old mid new : Parts) → ReadsAs old mid → Renews mid new → Renews old new
 renews_looked old mid new only_reads renews =
     renews_after old mid new (λ n. ap (λ (hs : List ObjectHeader). (header_at hs n).allocations) only_reads.headers)
     (λ n. ap (λ (us : List Object). is_free (content_at us n)) (looked_objects old mid only_reads)) renews
 
--- what asks no bank gives nothing up
+-- what isn't a bank's order gives nothing up
 pub renews_invoked : (old mid new : Parts) (i : Invocation) (e : Effect) → AreSound old → ReadsAs old mid → Fits (command.Invoke i)
     → IsTrue (is_running_process (objects_in old) i.process)
     → IsNoBankOrder (register_at (objects_in old) i.process i.register) (slice_index i.words 0)

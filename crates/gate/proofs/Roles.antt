@@ -105,7 +105,7 @@ changed_annex os list (change.SetState process state) within q = consume_annex p
 changed_annex os list (change.Space process held) within q = field_kept annex_in os process (content.Root (with_space (root_at os process) held)) refl q
 changed_annex os list (change.Bank made) within q = absurd within
 
--- an edit that a list doesn't tell is the same with another, and leaves the frame
+-- an edit that a list doesn't have is the same with another list, and leaves the frame
 pub changed_any : (os : List Object) (list : List ℕ) (c : Change) → IsWithinObject c → changed os [] c ≡ changed os list c
 changed_any os list change.Nothing within = refl
 changed_any os list (change.Word page index word) within = refl

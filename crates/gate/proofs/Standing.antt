@@ -32,7 +32,7 @@ pub record ReadsAs (old now : Parts) : Type 0 where
   pub contents : now.contents ≡ old.contents
   pub geometry : now.geometry ≡ old.geometry
 
--- frames that were looked at, or announced
+-- frames that were only read, or announced
 module _ {S : Type 0} {parts : S → Parts} {Continues : S → S → Type 0} {s t : S} where
   pub looked_as : OnlyFetches parts Continues s t → ReadsAs (parts s) (parts t)
   looked_as only_reads = record { headers = only_reads.headers; contents = only_reads.contents; geometry = only_reads.geometry }
@@ -62,7 +62,7 @@ module _ (old now : Parts) (only_reads : ReadsAs old now) where
       subst (λ (g : Geometry). AreKeepable g age (frames_of now)) (sym only_reads.geometry)
       (subst (λ (fs : List Frame). AreKeepable old.geometry age fs) (sym looked_frames) k)
 
--- one look after another
+-- one read-only call after another
 pub only_reads_again : (old mid now : Parts) → ReadsAs old mid → ReadsAs mid now → ReadsAs old now
 only_reads_again old mid now a b = record { headers = b.headers ∙ a.headers; contents = b.contents ∙ a.contents; geometry = b.geometry ∙ a.geometry }
 
@@ -73,7 +73,7 @@ inside_known p n inside = subst (λ (m : ℕ). n < m) (length_objects p.headers 
 pub requested_annex : (p : Parts) (sound : AreSound p) (q a : ℕ) → IsTrue (is_process (objects_in p) q) → a ≡ annex_at (objects_in p) q → a < length p.headers
 requested_annex p sound q a is same = subst (λ (n : ℕ). n < length p.headers) (sym same) (annex_known p (annex_at (objects_in p) q) (annex_there p sound q is))
 
--- what keeps frames sound after a look keeps those before it
+-- what keeps frames sound after a read-only call keeps those before it
 pub keeps_looked : (old mid new : Parts) → ReadsAs old mid → KeepsSoundFrames mid new → KeepsSoundFrames old new
 keeps_looked old mid new only_reads keeps age young sound =
     let there = subst (λ (g : Geometry). IsSoundFrames g age (frames_of mid)) (sym only_reads.geometry)

@@ -53,7 +53,7 @@ result_code g os i = elim (register_at os i.process i.register) [ Start q key �
 abbrev pub KeepsSoundFrames : Parts → Parts → Type 0
 KeepsSoundFrames old new = (age : ℕ) → age < 2 ^ 62 → IsSoundFrames old.geometry age (frames_of old) → IsSoundFrames old.geometry (age + 1) (frames_of new)
 
--- whether the process runs, where a result tells it
+-- whether the process runs, where a result says so
 abbrev pub TellsState : List Object → Invocation → Result (Option ResultCode) InvokeFault → Type 0
 TellsState os i (Ok code) = is_running_process os i.process ≡ true
 TellsState os i (Err fault.NotRunning) = is_running_process os i.process ≡ false

@@ -41,7 +41,7 @@ IsFor os c args (change.SetState process state) = process_named c ≡ Some proce
 IsFor os c args (change.Space process held) = (process_named c ≡ Some process) × (held ≡ args.capability) × IsSpace held
 IsFor os c args (change.Bank made) = ⊥
 
--- a capability whose orders need no object, and no access; what a bank doesn't know is refused without a look
+-- a capability whose orders need no object, and no access; what a bank doesn't know is refused without a fetch
 abbrev pub IsPlain : Capability → ℕ → Type 0
 IsPlain (Page o a) w = ⊥
 IsPlain (Node o a) w = ⊥

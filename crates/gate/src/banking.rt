@@ -4,7 +4,7 @@ ghost use Rattle.model.specs.Order.{IsNoBankOrder, bank_order};
 
 use model::{BankOrder, Capability};
 
-// The order that a word asks of a bank.
+// The order that a word requests of a bank.
 fn bank_order(word: u64) -> Option<BankOrder>
     ensures { result ≡ bank_order word }
 {
@@ -21,8 +21,8 @@ fn bank_order(word: u64) -> Option<BankOrder>
     }
 }
 
-/// The bank that is invoked and the order that a word asks of it. `None` if no bank is invoked, or
-/// if no bank knows the word.
+/// The bank that is invoked and the order that a word requests of it. `None` if no bank is invoked,
+/// or if no bank knows the word.
 pub fn requested_bank(invoked: Capability, word: u64) -> Option<(u64, BankOrder)>
     ensures bank { IfSome result (λ requested. invoked ≡ Capability.Bank requested.0) }
     ensures order { IfSome result (λ requested. bank_order word ≡ Some requested.1) }

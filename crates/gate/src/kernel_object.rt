@@ -36,7 +36,7 @@ fn list_target(banks: &mut Banks, change: Change)
     }
 }
 
-// Plans an order that asks no bank and lists what it writes. First fetches what it reads.
+// Plans an order that isn't a bank's, and lists what it writes. First fetches what it reads.
 fn plan_object_order<F: PresentFrames>(
     alloc: Global,
     store: &mut F,

@@ -22,7 +22,7 @@ const READ_NUMBER: u64 = 1;
 // The order that reduces an address space.
 const REDUCE_SPACE: u64 = 3;
 
-// The order that tells the kind of a capability.
+// The order for the kind of a capability.
 const CLASSIFY: u64 = 1;
 
 // Plans an order on an address space.
@@ -99,8 +99,8 @@ fn on_plain(word: u64, capability: Capability, arguments: Arguments) -> OrderPla
     }
 }
 
-/// Plans an order on a kernel object, with the number `word`. It asks no bank. The object is fetched,
-/// and so is the annex of a process.
+/// Plans an order on a kernel object, with the number `word`. It isn't a bank's order. The object
+/// is fetched, and so is the annex of a process.
 #[tactic(auto, unfolding(model::specs::Order::order))]
 pub fn plan<F: PresentFrames>(
     store: &F,

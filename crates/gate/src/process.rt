@@ -12,7 +12,7 @@ use model::{Arguments, Capability, ProcessOrder, REGISTERS, ResultCode, State};
 // How many words a process is delivered.
 const ROOT_WORDS: u64 = 4;
 
-/// The order that a word asks of a process.
+/// The order that a word requests of a process.
 pub fn process_order(word: u64) -> Option<ProcessOrder>
     ensures { result ≡ process_order word }
 {

@@ -40,7 +40,7 @@ own_frame_slot p es n s is = frame_slot_by p es n (Some s) is
 pub beside_frame_slot : (p : Plan) (es : List Entry) (n : ℕ) → slot_in es n ≡ None → frame_slot_in p es n ≡ slot_beside p es n
 beside_frame_slot p es n is = frame_slot_by p es n None is
 
--- the entry of a seat
+-- the entry of a frame slot
 pub frame_slot_entry : (p : Plan) (es : List Entry) (n s : ℕ) → frame_slot_in p es n ≡ Some s → HasBeside p es n s
 frame_slot_entry p es n s frame_slot = by (slot_in es n) refl where
   by : (o : Option ℕ) → slot_in es n ≡ o → HasBeside p es n s

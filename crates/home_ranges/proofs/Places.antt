@@ -82,7 +82,7 @@ extent_of sector length = record { sector = sector; length = length }
 abbrev extent_in : Version → Geometry → HomeRange → ℕ → Extent
 extent_in v g r number = extent_of (place_in v g r number) (shape_length (shape_in v g r number))
 
--- those of the i-th node lie among those of so many
+-- those of the i-th node lie among those of `count` nodes
 node_inside : (v : Version) (i rank count : ℕ) → i < count → node_offset v i + shape_length (node_shape v rank) ≤ nodes_length v count
 node_inside One i rank count lt = omega (arith, lt)
 node_inside Two i rank count lt = omega (arith, lt)
@@ -536,7 +536,7 @@ cluster_stays p first n old new fits is shape have stays a is_a same =
     let few = have.all a is_a at.0 same in
     ap (λ (s : Shape). shape_bytes s new) at.2 ∙ stays (a - first) (omega (arith, few, at.0)) ∙ ap (λ (s : Shape). shape_bytes s old) (sym at.2)
 
--- what was written to a home, where it is told in two ways
+-- what was written to a home, said in two ways
 pub written_bytes : {T E : Type 0} (result : Result T E) (p : Plan) (number at n : ℕ) (s : Shape) (bytes : List ℕ) (image : Image) → at ≡ home_place p number → s ≡ shape_of p number → n ≡ shape_length s
     → OnOk result (sectors_from image at n ≡ bytes) → OnOk result (sectors_from image (home_place p number) (place_length p number) ≡ bytes)
 written_bytes (Ok done) p number at n s bytes image place shape size written =

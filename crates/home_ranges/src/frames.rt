@@ -17,11 +17,11 @@ use model::ObjectHeader;
 
 impl<'a> Home<'a> {
     /// Reads the home frame of an object. The slots of a node or an annex and the words of a page
-    /// are left in `room`, and no memory is taken.
+    /// are left in `scratch`, and no memory is taken.
     ///
     /// It is refused by `Failed` exactly where the device failed, and by `BadImage::BadFrame`
     /// exactly where the sectors at the place spell no frame that can be kept at the age. Either
-    /// leaves anything in the room.
+    /// leaves anything in `scratch`.
     pub fn read_frame<D: Device>(
         &self,
         device: &mut D,

@@ -93,7 +93,7 @@ pub built_from : {T : Type 0} (ms : Members) (d : Description) (old new : Disk) 
 built_from ms d old new (Ok x) is built = (d, is, built)
 built_from ms d old new (Err fault) is built = built
 
--- no size is told of a description outside the limits
+-- a description outside the limits has no size
 pub size_refused : (ms : Members) (d : Description) (fault : BuildFault) → IsDescription ms d → fault ≡ Limits → (IsWithinLimits d → ⊥) → TellsNoSize ms fault
 size_refused ms d fault is limits broken = subst (λ (f : BuildFault). TellsNoSize ms f) (sym limits) (d, is, broken)
 
@@ -109,7 +109,7 @@ below_limits d sectors Small below = absurd (omega (arith, below))
 below_limits d sectors Failed below = tt
 below_limits d sectors NoMemory below = tt
 
--- what no size is told for is refused on every device
+-- what has no size is refused on every device
 pub size_refuses : (ms : Members) (sectors : ℕ) (why : BuildFault) → TellsNoSize ms why → Refuses ms sectors why
 size_refuses ms sectors Shape reported = reported
 size_refuses ms sectors Limits reported = (reported.0, reported.1, record { kept = below_limits reported.0 sectors; broken = reported.2 })

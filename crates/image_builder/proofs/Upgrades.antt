@@ -36,7 +36,7 @@ same_state s p generation entries age es fs plan_is generation_is entries_is age
     ∙ ap (λ (xs : List Entry). state_of (laid_again Two s.plan) (record s.header { sequence = 0 }) xs fs) directory_is
     ∙ ap (λ (xs : List Frame). state_of (laid_again Two s.plan) (record s.header { sequence = 0 }) (numbered 0 s.directory) xs) frames_is
 
--- ---- what is told of it
+-- ---- what is reported of it
 
 pub counted : (result : Result ℕ UpgradeFault) (old before new : Disk) (s : SavedState) → Encodes old.seen old.sectors s → IsSoundSaved s.plan.geometry (kept_of s) → IfOk result (λ total. total ≡ (laid_again Two s.plan).total)
     → OnOk result (Encodes new.seen new.sectors (upgraded s)) → OnOk result ((c : Image) → new.may_leave c → Encodes c new.sectors (upgraded s)) → OnOk result (Elsewhere 0 (laid_again Two s.plan).total before.seen new.seen)

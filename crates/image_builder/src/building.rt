@@ -39,7 +39,7 @@ pub fn sectors_needed(alloc: Global, table: &Table) -> Result<u64, BuildFault>
 /// twice; `Field` where a field is bad; `Target` where a capability names an object of another kind,
 /// or resumes a process that doesn't wait; `Owner` where the banks aren't a tree that owns all
 /// objects within their limits; `Small` where the device has fewer sectors than `sectors_needed`
-/// tells; `Failed` exactly where the device failed; and `NoMemory` where memory ran out.
+/// says; `Failed` exactly where the device failed; and `NoMemory` where memory ran out.
 ///
 /// The device is as it was, but after `Failed`: then the image's sectors may hold any bytes.
 ///

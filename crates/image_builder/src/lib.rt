@@ -1,6 +1,6 @@
-//! Images from their descriptions, and from older ones: a table tells what an image is to hold, and
-//! it is written to a device where it stands for a sound world; what an image saves is written to
-//! another by version 2 of the layout.
+//! Images from their descriptions, and from older ones. A table describes what an image holds; it
+//! is written to a device if it stands for a sound world. What an image saves is written to another
+//! device in version 2 of the layout.
 #![tactic(auto)]
 
 mod blueprint;

@@ -287,7 +287,7 @@ pub fn upgrade_and_count<D: ClosableDevice, E: Device>(
 /// read of the new device gives that, and so does each crash. An old image of version 2 is taken too.
 ///
 /// `Old` exactly where a kernel doesn't open the old device, with its reason, but for want of memory;
-/// `Small` where the new device has fewer sectors than `upgraded_sectors` tells of the old one;
+/// `Small` where the new device has fewer sectors than `upgraded_sectors` says of the old one;
 /// `Failed` exactly where the new device failed; and `NoMemory` where memory ran out. The new device
 /// is as it was, but after `Failed`: then the image's sectors may hold any bytes.
 ///

@@ -1,4 +1,4 @@
--- Entries that tell all objects of a sound world are a description of it.
+-- Entries that describe all objects of a sound world are a description of it.
 use Rattle.image_describer.proofs.Names.{◌≡◌, ◌≢◌, ◌⊎◌, ℕ, ◌<◌, ◌≤◌, inl, inr, List, ◌++◌, map, length, Option, None, Some, slice_index_or, unwrap_or, refl}
 use Rattle.image_describer.proofs.Names.{sym, ap, ◌∙◌, subst, arith, IsTrue, All, Contains, get_or-map, cases_lt, length-map, All-append, All-contains, All-map}
 use Rattle.image_describer.proofs.Names.{All-weaker, Contains-append_left, Contains-append_right, slice_get-get_or, slice_get-map, Cap, Capability, Void}
@@ -72,7 +72,7 @@ module _ (words : List ℕ) (es : List WordEntry) (names : NamesWords words es) 
     each = λ i under. slice_get-get_or words i 0 (omega (arith, under, count)) ∙ ap (λ (w : ℕ). let x : Option ℕ = Some w in x) (sym (names.each i));
   }
 
--- What the entries of a sound world tell.
+-- What the entries of a sound world say.
 module _ (g : Geometry) (w : World) (sound : IsSound g w) where
   kind_of : ℕ → Role
   kind_of n = role_of (content_at w.objects n)
@@ -142,7 +142,7 @@ module _ (g : Geometry) (w : World) (sound : IsSound g w) where
         (All-map P (λ p. p.annex) d.processes.items (all_from (λ (p : ProcessEntry). P p.annex) d.processes.items annex)))
         (All-map P (λ n. n.number) d.nodes.items (all_from (λ (n : NodeEntry). P n.number) d.nodes.items node))
 
-    -- the kinds of what is told
+    -- the kinds of what is described
     bank_kind : (b : BankEntry) → Contains d.banks.items b → kind_of b.number ≡ role.Bank
     unfolding kind_of
     bank_kind b there = ap role_of (content_reported b.number b.owner (content.Bank b.limit) (bank_reported b there))
@@ -173,7 +173,7 @@ module _ (g : Geometry) (w : World) (sound : IsSound g w) where
     annexes_distinct = distinct_other (λ p. p.root) (λ p. p.annex) d.processes.items (rising_distinct (map (λ p. p.root) d.processes.items) processes.rising)
         (λ p q one other same. sound.one_root p.root q.root (process_is p one) (process_is q other) (annex_is p one ∙ same ∙ sym (annex_is q other)))
 
-    -- numbers of which each is of another kind than those of a second list
+    -- numbers whose kinds aren't those of a second list
     other_kind : (r s : Role) (n : ℕ) → r ≢ s → kind_of n ≡ r → kind_of n ≡ s → ⊥
     other_kind r s n differ one other = differ (sym one ∙ other)
 
@@ -275,7 +275,7 @@ module _ (g : Geometry) (w : World) (sound : IsSound g w) where
     named_node : (n : ℕ) → Contains (node_numbers d) n → Contains (node_numbers d ++ page_numbers d) n
     named_node n there = Contains-append_left (node_numbers d) (page_numbers d) n there
 
-    -- an annex is that of a process that is told
+    -- an annex is that of a process that is described
     annex_named : (a : ℕ) (registers : List Capability) → content_at w.objects a ≡ content.Annex registers → Contains annex_numbers a
     unfolding annex_numbers
     annex_named a registers is =

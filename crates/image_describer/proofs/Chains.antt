@@ -12,7 +12,7 @@ abbrev pub Chain : List Pair → Members → Members → Type 0
 Chain [] old new = new ≡ old
 Chain (p ∷ ps) old new = (mid : Members) × Puts p.0 p.1 old mid × Chain ps mid new
 
--- a key is none of the others, whichever is looked for
+-- a key is none of the others, whichever is sought
 abbrev pub is_apart : List ℕ → List Pair → Bool
 is_apart k [] = true
 is_apart k (p ∷ ps) = not (same_key k p.0) && (not (same_key p.0 k) && is_apart k ps)

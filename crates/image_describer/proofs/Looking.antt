@@ -1,4 +1,4 @@
--- Frames that were looked at.
+-- Frames that were only read.
 use Rattle.image_describer.proofs.Names.{◌≡◌, inl, inr, ℕ, ◌^◌, ◌-◌, List, [], ◌∷◌, ap, ◌∙◌, subst, sym, arith, Err, IsErrOf, Ok, Result, All, cases_lt}
 use Rattle.image_describer.proofs.Names.{All-cons, All-nil, Frame, ObjectHeader, Geometry, frames_in, objects_of, AreKeepable, IsSoundFrames, AreSound}
 use Rattle.image_describer.proofs.Names.{HaveTheirRoles, OnlyReads, OnlyFetches, Parts, frames_of, objects_in, PrepareFault, only_reads_twice, keepable_later}
@@ -6,7 +6,7 @@ use Rattle.image_describer.proofs.Names.{keepable_roles}
 use Rattle.capability.specs.declared.present.PrepareFault.TheVariants as prepare
 
 module _ {S : Type 0} (parts : S → Parts) (Continues : S → S → Type 0) where
-  -- frames were looked at, and the device didn't fail
+  -- frames were only read, and the device didn't fail
   pub record HasLooked (old now : S) : Type 0 where
     pub snapshots : OnlyFetches parts Continues old now
     pub failures : (parts now).failures ≡ (parts old).failures
@@ -41,7 +41,7 @@ pub known_one : (P : ℕ → Type 0) (n : ℕ) → P n → All P (n ∷ [])
 known_one P n known = All-cons P n [] known (All-nil P)
 
 module _ {S T : Type 0} (parts : S → Parts) (Continues : S → S → Type 0) (twice : (s t u : S) → Continues s t → Continues t u → Continues s u) where
-  -- one look more, which didn't fail
+  -- one more read-only call, which didn't fail
   pub looked_on : {r : Result T PrepareFault} (s t u : S) → HasLooked parts Continues s t → OnlyReads parts Continues t u r → (IsErrOf r prepare.Failed → ⊥) → HasLooked parts Continues s u
   looked_on s t u looked only_reads fine = record {
     snapshots = only_reads_twice parts Continues twice s t u looked.snapshots only_reads.snapshots;
@@ -56,7 +56,7 @@ module _ {S T : Type 0} (parts : S → Parts) (Continues : S → S → Type 0) (
   pub looked_ok : (s t u : S) (x : T) → HasLooked parts Continues s t → OnlyReads parts Continues t u (let r : Result T PrepareFault = Ok x in r) → HasLooked parts Continues s u
   looked_ok s t u x looked only_reads = looked_on parts Continues twice s t u looked only_reads (λ wrong. cc)
 
--- a look behind others that didn't fail
+-- a read-only call after others that didn't fail
 module _ {S T : Type 0} (parts : S → Parts) (Continues : S → S → Type 0) (twice : (s t u : S) → Continues s t → Continues t u → Continues s u) where
   pub only_reads_behind : {r : Result T PrepareFault} (s t u : S) → HasLooked parts Continues s t → OnlyReads parts Continues t u r → OnlyReads parts Continues s u r
   only_reads_behind s t u looked only_reads = record {
@@ -67,7 +67,7 @@ module _ {S T : Type 0} (parts : S → Parts) (Continues : S → S → Type 0) (
   }
 
 module _ {S T : Type 0} (parts : S → Parts) (Continues : S → S → Type 0) where
-  -- a look that didn't fail
+  -- a read-only call that didn't fail
   only_reads_fine : {r : Result T PrepareFault} (s t : S) → OnlyReads parts Continues s t r → (IsErrOf r prepare.Failed → ⊥) → HasLooked parts Continues s t
   only_reads_fine s t only_reads fine = record {
     snapshots = only_reads.snapshots;
@@ -82,7 +82,7 @@ module _ {S T : Type 0} (parts : S → Parts) (Continues : S → S → Type 0) w
   only_reads_first s t x only_reads = only_reads_fine parts Continues s t only_reads (λ wrong. cc)
 
 module _ {S T U : Type 0} (parts : S → Parts) (Continues : S → S → Type 0) where
-  -- a call that answers is as any other that does, and so is one that tells a fault
+  -- a call that answers is as any other that does, and so is one that reports a fault
   pub only_reads_ok : (s t : S) (x : T) (y : U) → OnlyReads parts Continues s t (let r : Result T PrepareFault = Ok x in r) → OnlyReads parts Continues s t (let r : Result U PrepareFault = Ok y in r)
   only_reads_ok s t x y only_reads = record {
     snapshots = only_reads.snapshots;

@@ -30,7 +30,7 @@ none_mapped (Some x) is = absurd cc
 pub no_node : (k : List ℕ) (ns : Nodes) → get_member k (close ns) ≡ None → get_node k ns ≡ None
 no_node k ns none = none_mapped (get_node k ns) (sym (member_of k ns) ∙ none)
 
--- another key is looked for further on
+-- another key is sought further on
 skipped : (o : Ordering) (x y : Option Data) → is_eq o ≡ false → match_ordering o y x y ≡ y
 skipped Less x y other = refl
 skipped Equal x y other = absurd cc

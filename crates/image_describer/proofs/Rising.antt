@@ -1,4 +1,4 @@
--- Numbers that rise, and lists of which no number comes twice.
+-- Numbers that rise, and lists with no number twice.
 use Rattle.image_describer.proofs.Names.{◌≡◌, ℕ, ◌<◌, inl, inr, List, [], ◌∷◌, ◌++◌, map, subst, arith, All, Contains, All-contains, All-head, All-push}
 use Rattle.image_describer.proofs.Names.{All-tail, Contains-append_cases, AreDistinct, contains_here, contains_map, contains_there, map_contains, AreRising}
 
@@ -41,6 +41,6 @@ distinct_other first second (e ∷ es) distinct same = (
   distinct_other first second es distinct.1 (λ f h left right is. same f h (contains_there f e es left) (contains_there h e es right) is),
 )
 
--- lists of which one has a kind that the other hasn't share none
+-- lists share no number if one has a kind that the other hasn't
 pub apart_by : (P : ℕ → Type 0) (ns ms : List ℕ) → All (λ n. P n → ⊥) ns → All P ms → (n : ℕ) → Contains ns n → Contains ms n → ⊥
 apart_by P ns ms none all n left right = All-contains (λ m. P m → ⊥) ns n none left (All-contains P ms n all right)

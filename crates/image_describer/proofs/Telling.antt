@@ -1,4 +1,4 @@
--- Objects of a kind, told one number after another.
+-- Objects of a kind, described one number after another.
 use Rattle.image_describer.proofs.Names.{◌≡◌, ◌≢◌, ℕ, ◌+◌, ◌<◌, ◌≤◌, inl, inr, List, [], ◌∷◌, ◌++◌, map, length, Option, None, Some, option_to_list, sym, ap}
 use Rattle.image_describer.proofs.Names.{◌∙◌, subst, arith, All, Contains, cases_lt, All-map, All-push, All-weaker, Contains-append_left, Contains-append_right}
 use Rattle.image_describer.proofs.Names.{ObjectHeader, Object, Role, role_of, content_at, Parts, objects_in, object_past, contains_here, map_both, AreRising}
@@ -8,7 +8,7 @@ use Rattle.model.specs.declared.object.Role.TheVariants as role
 use Rattle.image_describer.proofs.Rising.{rising_more}
 
 module _ {E : Type 0} (number : E → ℕ) (Tells : E → Type 0) (kind : Role) (os : List Object) where
-  -- those below a number are told
+  -- those below a number are described
   pub record TellBelow (count : ℕ) (es : List E) : Type 0 where
     pub each : All Tells es
     pub whole : (n : ℕ) → n < count → role_of (content_at os n) ≡ kind → Contains (map number es) n
@@ -51,12 +51,12 @@ module _ {E : Type 0} (number : E → ℕ) (Tells : E → Type 0) (kind : Role) 
         (All-map (λ n. n < number e) number es (All-weaker (λ f. number f < count) (λ f. number f < number e) (λ f under. omega (arith, under, at)) es tell.below)));
   }
 
-  -- the next number is told of
+  -- the next number is described
   pub tell_next : (count : ℕ) (es next : List E) (o : Option E) → TellBelow count es → MayTell number Tells kind os count o → next ≡ es ++ option_to_list o → TellBelow (count + 1) next
   tell_next count es next None tell may made = subst (TellBelow (count + 1)) (sym (made ∙ append-nil es)) (tell_less count es tell may)
   tell_next count es next (Some e) tell may made = subst (TellBelow (count + 1)) (sym made) (tell_more count es e tell may.0 may.1)
 
-  -- all are told where all else is free
+  -- all are described where all else is free
   pub tell_all : (count : ℕ) (es : List E) → TellBelow count es → kind ≢ role.Free → ((n : ℕ) → count ≤ n → role_of (content_at os n) ≡ role.Free) → TellAll number Tells kind os es
   tell_all count es tell some free = record {
     each = tell.each;

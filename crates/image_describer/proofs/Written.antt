@@ -245,7 +245,7 @@ whole_is g (n ∷ p ∷ []) is =
     ap (λ (r : NumberRange). r ∷ p ∷ []) (range_is n 0 g.nodes (left (is_range n 0 g.nodes) (is_range p g.nodes g.pages) is))
     ∙ ap (λ (r : NumberRange). record { first = 0; count = g.nodes } ∷ r ∷ []) (range_is p g.nodes g.pages (right (is_range n 0 g.nodes) (is_range p g.nodes g.pages) is))
 
--- as the code looks at them
+-- as the code tests them
 two_ranges : (g : Geometry) (rs : List NumberRange) (x : NumberRange) → 2 ≤ length rs → length rs < 3 → are_whole g rs ≡ (is_range (get_or rs 0 x) 0 g.nodes && is_range (get_or rs 1 x) g.nodes g.pages)
 two_ranges g [] x least most = absurd (omega (arith, least))
 two_ranges g (n ∷ []) x least most = absurd (omega (arith, least))

@@ -11,7 +11,7 @@ abbrev pub MayName : {E V : Type 0} → (E → ℕ) → (E → V) → V → ℕ 
 MayName index value default i x (Some e) = (index e ≡ i) × (value e ≡ x) × (x ≢ default)
 MayName index value default i x None = x ≡ default
 
--- an entry tells the object at its number
+-- an entry describes the object at its number
 abbrev pub TellsBank : List Object → BankEntry → Type 0
 TellsBank os b = object_at os b.number ≡ record { owner = b.owner; content = content.Bank b.limit }
 
@@ -41,7 +41,7 @@ abbrev pub MayTell : {E : Type 0} → (E → ℕ) → (E → Type 0) → Role �
 MayTell number Tells kind os n (Some e) = (number e ≡ n) × Tells e
 MayTell number Tells kind os n None = role_of (content_at os n) ≢ kind
 
--- entries tell all objects of a kind, in order
+-- entries describe all objects of a kind, in order
 pub record TellAll {E : Type 0} (number : E → ℕ) (Tells : E → Type 0) (kind : Role) (os : List Object) (es : List E) : Type 0 where
   pub each : All Tells es
   pub whole : (n : ℕ) → role_of (content_at os n) ≡ kind → Contains (map number es) n
@@ -54,7 +54,7 @@ pub record HasNoObjects (d : Description) : Type 0 where
   pub nodes : d.nodes.items ≡ []
   pub pages : d.pages.items ≡ []
 
--- it tells all of these
+-- it describes all of these
 pub record TellsObjects (os : List Object) (d : Description) : Type 0 where
   pub banks : TellAll (λ b. b.number) (TellsBank os) role.Bank os d.banks.items
   pub processes : TellAll (λ p. p.root) (TellsProcess os) role.Root os d.processes.items

@@ -14,8 +14,8 @@ use image_writer::NumberRange;
 use layout::Version;
 use std::alloc::Global;
 
-// Tells all objects of a kind, in order. It is `Failed` exactly where the device failed, and else no
-// fault but `NoMemory`; so is the one below.
+// Describes all objects of a kind, in order. It is `Failed` exactly where the device failed, and
+// else no fault but `NoMemory`; so is the one below.
 fn tell_all<F: PresentFrames, E: DescribedEntry>(
     alloc: Global,
     store: &mut F,
@@ -36,7 +36,7 @@ fn tell_all<F: PresentFrames, E: DescribedEntry>(
     Ok(())
 }
 
-// Tells all objects in a description that has none yet.
+// Describes all objects in a description that has none yet.
 fn tell_objects<F: PresentFrames>(
     alloc: Global,
     store: &mut F,

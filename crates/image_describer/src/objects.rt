@@ -67,7 +67,7 @@ fn registers<F: PresentFrames>(
     }
 }
 
-/// An entry that tells an object of a kind.
+/// An entry that describes an object of a kind.
 pub(crate) trait DescribedEntry: Drop {
     /// The number of the object.
     ghost number_of: { Self → ℕ };

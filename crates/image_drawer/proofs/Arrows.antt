@@ -190,7 +190,7 @@ module _ (g : Geometry) (w : World) (d : Description) (describes : Describes g w
     | inr node ↦ let found = contains_flat node_arrows a d.nodes.items node in of_node found.0 a found.1 found.2
   ]
 
-  -- who holds is told
+  -- the description has the holder
   process_of : (e : Entry) → IsOf d e → IsTrue (is_process w.objects (number_of e)) → (p : ProcessEntry) × Contains d.processes.items p × (p.root ≡ number_of e)
   process_of (OfBank b) there is = absurd (not_both _ is (ap (λ (o : Object). is_root o.content) (bank_reported g w d describes b there)))
   process_of (OfRoot p) there is = (p, there, refl)

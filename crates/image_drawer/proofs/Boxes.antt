@@ -94,7 +94,7 @@ joined_once owner number = elim (cases_eq owner number) [
   | inr differ ↦ subst (λ (ps : List (ℕ × ℕ)). IsOnce ps) (sym (joined_some owner number differ)) ((λ h. contains_none (owner, number) h), tt)
 ]
 
--- What the parts of the description of a world tell.
+-- What the parts of the description of a world say.
 module _ (g : Geometry) (w : World) (d : Description) (describes : Describes g w d) where
   has_box : (n owner : ℕ) (c : Content Capability) → object_at w.objects n ≡ record { owner = owner; content = c } → is_free c ≡ false → is_annex c ≡ false
       → HasBox w.objects n × (owner_at w.objects n ≡ owner)

@@ -26,7 +26,7 @@ once_append (x ∷ xs) ys a b apart = (
   once_append xs ys a.1 b (λ z one two. apart z (contains_there z x xs one) two),
 )
 
--- lists that are told apart by a key of what they have
+-- lists that a key of their elements distinguishes
 pub once_flat : {X Y : Type 0} (f : X → List Y) (key : Y → ℕ) (index : X → ℕ) (xs : List X) → IsOnce (map index xs)
     → ((x : X) → Contains xs x → IsOnce (f x)) → ((x : X) (y : Y) → Contains (f x) y → key y ≡ index x) → IsOnce (flat_map f xs)
 once_flat f key index [] distinct once keyed = tt

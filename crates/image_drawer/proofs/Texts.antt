@@ -3,7 +3,7 @@ use Rattle.image_drawer.proofs.Names.{◌≡◌, ℕ, ◌+◌, ◌<◌, ◌≤�
 use Rattle.image_drawer.proofs.Names.{ap, ◌∙◌, subst, append_assoc, append-nil, add-one, flat_map, Appends, Appends-trans, flat_map-append, take-append-drop}
 use Rattle.image_drawer.proofs.Names.{take_all, take-suc, spaced, RunFault, Writes, text_fails, writes_after, writes_fail, writes_same, box_line, next_line}
 
--- the texts of lists that items come to
+-- the texts of lists of items
 pub flat_map-flat_map : {A B C : Type 0} (f : B → List C) (h : A → List B) (xs : List A) → flat_map f (flat_map h xs) ≡ flat_map (λ x. flat_map f (h x)) xs
 flat_map-flat_map f h [] = refl
 flat_map-flat_map {A} {B} {C} f h (x ∷ xs) = flat_map-append f (h x) (flat_map h xs) ∙ ap (λ (l : List C). flat_map f (h x) ++ l) (flat_map-flat_map f h xs)
@@ -43,7 +43,7 @@ fails_before a b e first second w = text_fails a b e first second (first ++ seco
 pub fails_after : (a b c : Option (List ℕ)) (e : RunFault) (first second : List ℕ) → Appends a b first → Writes b c (Err e) second → Writes a c (Err e) (first ++ second)
 fails_after a b c e first second one w = writes_after a b c (Err e) first second one w
 
--- Four texts of which each was to follow the one before it.
+-- Four texts, each after the one before it.
 module _ (A B C D whole : List ℕ) (is : whole ≡ ((A ++ B) ++ C) ++ D) (a b : Option (List ℕ)) where
   pub first_fails : (e : RunFault) → Writes a b (Err e) A → Writes a b (Err e) whole
   first_fails e w = text_fails a b e ((A ++ B) ++ C) D whole is (fails_before a b e (A ++ B) C (fails_before a b e A B w))

@@ -59,7 +59,7 @@ explained_found size c saved None holds is = (
 )
 explained_found size c saved (Some f) holds is = explained_frames size c saved f holds is
 
--- a store that was made of a device, and the device beneath it after a look
+-- a store that was made of a device, and the device beneath it after a read
 module _ {D : Type 0} (disk : D → Disk) (device back : D) (s : StoreState D) (opens : OpensStore disk device (parts_of disk s) (view_of disk s)) (same : back ≡ s.durable.beneath) where
   looked : OnlyReads (disk device) (disk back)
   looked = subst (λ (d : D). OnlyReads (disk device) (disk d)) (sym same) opens.only_reads

@@ -34,7 +34,7 @@ use Rattle.image_explainer.specs.Breaking.{reason_of}
 abbrev pub numbered : List ℕ → ℕ → List ℕ
 numbered word n = spaced (word ∷ decimal n ∷ [])
 
--- the number of a reason, as `check` tells it
+-- the number of a reason, as `check` reports it
 abbrev pub number_of_reason : BadImage → ℕ
 number_of_reason bad.Small = 1
 number_of_reason bad.NotASuperblock = 2

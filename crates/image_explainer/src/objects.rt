@@ -86,7 +86,7 @@ fn find_from_notes<F: PresentFrames>(
 }
 
 /// What is wrong with frames that can be kept at an age, by the least of the reasons 8 to 10 that
-/// holds. Objects are fetched one at a time, and no object is another than before.
+/// holds. Objects are fetched one at a time, and no object changes.
 pub(crate) fn find_in_objects<F: PresentFrames>(
     alloc: Global,
     store: &mut F,

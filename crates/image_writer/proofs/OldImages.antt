@@ -5,7 +5,7 @@ use Rattle.image_writer.proofs.Names.{directory_sector, frame_in, frame_sector, 
 use Rattle.image_writer.proofs.Names.{KeepsImage, half_behind, frames_behind, Holds, SavedFrames, KeptHoldsTheSame, NoneIsHeld}
 
 module _ (old new : Image) (kept : KeepsImage old new) where
-  -- behind the headers all is as it was
+  -- behind the headers nothing changes
   behind : (at n : ℕ) → 5 ≤ at → sectors_from new at n ≡ sectors_from old at n
   behind at n low = same_sectors at n old new (λ i lt. kept.elsewhere (at + i) (λ is. omega (arith, low, is)) (λ is. omega (arith, low, is)))
 

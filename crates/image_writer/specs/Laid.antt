@@ -36,7 +36,7 @@ numbers_of r = record { first = r.first; count = r.count }
 abbrev pub laid_again : Version → Plan → Plan
 laid_again v p = plan_from v p.geometry (map numbers_of p.ranges)
 
--- what the format asks of the numbers, whatever the version and wherever the ranges lie
+-- what the format requires of the numbers, whatever the version and wherever the ranges lie
 pub record MayBeLaid (g : Geometry) (rs : List NumberRange) : Type 0 where
   pub geometry : IsGeometry g
   pub some : 1 ≤ length rs

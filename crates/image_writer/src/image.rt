@@ -119,7 +119,7 @@ fn write_parts<D: Device>(
 /// but at no moment such that a crash leaves anything else that can be opened. Sectors behind its
 /// total hold what they held. No memory is taken.
 ///
-/// The device has at least as many sectors as the superblock tells, header and directory fit it and
+/// The device has at least as many sectors as the superblock says, header and directory fit it and
 /// one another, and each frame can be kept at the header's age.
 pub fn write_saved<D: Device>(
     device: &mut D,
@@ -166,7 +166,7 @@ pub fn write_saved<D: Device>(
 /// but at no moment such that a crash leaves anything else that can be opened. Sectors behind its
 /// total hold what they held. No memory is taken.
 ///
-/// The device has at least as many sectors as the superblock tells, and each frame can be kept at
+/// The device has at least as many sectors as the superblock says, and each frame can be kept at
 /// the age, which is at most `MAX_AGE`.
 pub fn write_image<D: Device>(
     device: &mut D,

@@ -1,4 +1,4 @@
--- What the command that builds comes to.
+-- The outcome of the command that builds.
 use Rattle.jobs.proofs.Names.{◌≡◌, ℕ, List, Option, Ok, Err, ap, subst, ◌↔◌, IsErrOf, Appends, Members, line_of, Disk, Description, IsDescription, BuildFault}
 use Rattle.jobs.proofs.Names.{Failed, BuildsFrom, IsWithinLimits, plan_for, AppendsFront, BuildsImage, built_text}
 use Rattle.std.specs.Prelude.{Result}

@@ -1,4 +1,4 @@
--- What the command that describes comes to, and what its text is built as.
+-- The outcome of the command that describes, and of a build from its text.
 use Rattle.jobs.proofs.Names.{◌≡◌, ℕ, List, Result, Ok, refl, sym, ap, ◌∙◌, subst, same_Some, Members, Frame, Geometry, Object, objects_of, IsSoundFrames}
 use Rattle.jobs.proofs.Names.{world_at, World, Saved, Disk, Image, agrees_is, Encodes, SavedState, OpenFault, OnlyReads, Holds, SavedFrames, saved_state}
 use Rattle.jobs.proofs.Names.{seen_of, AreSound, frames_of, objects_in, first_saved, Live, Recovers, Description, IsDescription, IsSame, description_once}
@@ -65,7 +65,7 @@ module _ {D : Type 0} (disk : D → Disk) (device back : D) (d : Description) (s
   pub has_text : CanBeSpelled d
   has_text = described_has_text saved.state.plan saved.state.header.age saved.state.frames d saved.encodes.plan.fits saved.sound saved.whole.describes saved.whole.ranges saved.whole.layout
 
--- What is built of the text denotes the world that it was told of.
+-- What is built of the text denotes the world that it describes.
 pub described_is_denoted : DescribedIsDenoted
 described_is_denoted p age frames text table e saved size c sound reported read said built holds =
     let d = reported.description in

@@ -1,4 +1,4 @@
--- What the command that draws comes to.
+-- The outcome of the command that draws.
 use Rattle.jobs.proofs.Names.{◌≡◌, ℕ, ◌<◌, ◌^◌, List, Option, Result, Ok, Err, sym, subst, arith, Geometry, Object, object_count, Disk, OpenFault, Description}
 use Rattle.jobs.proofs.Names.{HasNumbers, AreSoundObjects, Focus, Fault, Whole, DrawsImage, DrawsPart, IsHeldTo, KeepsPart, KeepsReached, OfWhole, OpensWhole}
 use Rattle.jobs.proofs.Names.{DescribesSaved, HoldsOfSaved}

@@ -112,7 +112,7 @@ module _ {D : Type 0} (disk : D → Disk) (device back : D) (d : Description) (s
         (subst (λ (h : Geometry). IsNotRenumbered d (grown_geometry h sizes) why) geometry_is broken),
   )
 
-  -- what is told of it
+  -- what is reported of it
   module _ (output output_left : Option (List ℕ)) where
     pub describes_image : (outcome : Result (Unit {0}) Fault) → TellsGrown d sizes output output_left outcome → DescribesImage disk sizes device back output output_left outcome
     describes_image (Ok a) tells = tells_grown tells.0 tells.1 (Appends output output_left) tells.2

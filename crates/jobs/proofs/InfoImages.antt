@@ -57,7 +57,7 @@ objects_found {D} {E} s found os is each = subst (λ (r : Result AllObjects E). 
 pub lines_found : {E : Type 0} (found : Result (Vec InfoLine Global) E) (lines : Vec InfoLine Global) (are : List InfoLine) → found ≡ Ok lines → IfOk found (λ v. v.items ≡ are) → lines.items ≡ are
 lines_found {E} found lines are is each = subst (λ (r : Result (Vec InfoLine Global) E). IfOk r (λ v. v.items ≡ are)) is each
 
--- what is told of a store that was made of a device
+-- what is reported of a store that was made of a device
 module _ {D : Type 0} (disk : D → Disk) (seen_left : (d : D) → (disk d).may_leave (disk d).seen) (device : D) (l : Live (StoreState D)) (wakes : Recovers disk (view_of disk) (parts_of disk) device l) where
   pub informed : (back : D) → back ≡ l.store.durable.beneath → (lines : List InfoLine) → lines ≡ info_lines (saved_by disk l.store).plan (saved_of (kept_of (saved_by disk l.store))) → InfoOf disk device back lines
   informed back same lines are = record {

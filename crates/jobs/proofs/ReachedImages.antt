@@ -16,7 +16,7 @@ module _ {D : Type 0} (disk : D → Disk) (device back : D) (objects : List Obje
   objects_sound = subst AreSoundObjects (sym read.holds) (read.state.plan.geometry, read.state.header.age, read.sound.sound)
 
   module _ (starts : List ℕ) (shows : Option ℕ) (output output_left : Option (List ℕ)) where
-    -- what is told of them is told of the objects that are saved
+    -- what is reported of them is reported of the objects that are saved
     reported_of_saved : (outcome : Result (Unit {0}) Fault) → TellsReach objects starts shows output output_left outcome → HoldsOfSaved disk device back (λ os. TellsReach os starts shows output output_left outcome)
     reported_of_saved outcome tells = record {
       state = read.state;

@@ -1,4 +1,4 @@
--- What the commands that open an image come to.
+-- The outcomes of the commands that open an image.
 use Rattle.jobs.proofs.Names.{◌≡◌, ℕ, List, Option, Ok, Err, sym, ap, ◌∙◌, subst, Appends, Running, Saved, line_of, Disk, Parts, Checkpoint, OnlyReads, View}
 use Rattle.jobs.proofs.Names.{Power, Opens, IsDeviceOf, IsReported, AppendsFront, ChecksImage, checked_text}
 use Rattle.std.specs.Prelude.{None, Some}
@@ -18,7 +18,7 @@ module _ {D S : Type 0} (disk : D → Disk) (view : S → View D) (parts : S →
   none_failed back (power.Down d) opens is = ap (λ (e : D). (disk e).failures) is ∙ opens.failures
   none_failed back power.Between opens is = absurd is
 
-  -- what a kernel tells that was just opened is what is saved on the device
+  -- a kernel that was just opened reports what is saved on the device
   text_reported : (p : Power D S) (reported : Checkpoint) (opens : Opens disk view parts device p) → IsReported disk view parts p (Some reported) →
       checked_text reported.generation reported.age reported.entries ≡ checked_text opens.saved.generation opens.saved.world.age opens.saved.entries
   text_reported (power.Up l) reported opens is =

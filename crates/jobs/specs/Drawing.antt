@@ -65,7 +65,7 @@ abbrev pub OpensWhole : {D : Type 0} → (D → Disk) → D → D → Result Who
 OpensWhole disk device back (Ok whole) = DescribesSaved disk device back whole.description × HoldsOfSaved disk device back (λ os. whole.objects.items ≡ os)
 OpensWhole disk device back (Err why) = RefusesToOpen disk device back why
 
--- it was opened so, and Told holds of what is saved
+-- it was opened so, and `Reported` holds of what is saved
 pub record OfWhole {D : Type 0} (disk : D → Disk) (device back : D) (Reported : List Object → Description → Type 0) : Type 0 where
   pub description : Description
   pub saved : DescribesSaved disk device back description

@@ -95,7 +95,8 @@ module _ {D S : Type 0} (disk : D → Disk) (view : S → View D) (parts : S →
   RunsImage device back input input_left output output_left (Err (fault.Open why)) = RefusesToOpen disk device back why × (input_left ≡ input) × (output_left ≡ output)
   RunsImage device back input input_left output output_left (Err _) = ⊥
 
--- a device was opened with no failure, nothing was written to it at any moment, and Told holds of what is saved on it
+-- a device was opened with no failure, nothing was written to it at any moment, and `Reported` holds of what is saved
+-- on it
 abbrev pub TellsSaved : {D : Type 0} → (D → Disk) → D → D → (List ℕ → Type 0) → Type 0
 TellsSaved disk device back Reported =
     (geometry : Geometry) × (saved : Saved) × Denotes geometry (disk device).sectors (disk device).seen saved × Reported (line_of (checked_text saved.generation saved.world.age saved.entries))
@@ -131,7 +132,7 @@ abbrev pub OpensAndDescribes : {D : Type 0} → (D → Disk) → D → D → Res
 OpensAndDescribes disk device back (Ok description) = DescribesSaved disk device back description
 OpensAndDescribes disk device back (Err why) = RefusesToOpen disk device back why
 
--- A description tells each object that frames stand for, at their age, in an image of these sizes, and nothing else:
+-- A description has each object that frames stand for, at their age, in an image of these sizes, and nothing else:
 -- nothing at its default, numbers in order, the home ranges there, and the version of a plan.
 pub record IsDescribedIn (p : Plan) (g : Geometry) (age : ℕ) (frames : List Frame) (description : Description) : Type 0 where
   pub world : World

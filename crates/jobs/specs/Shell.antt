@@ -1,4 +1,4 @@
--- What a shell tells beside the answers.
+-- What a shell writes beside the answers.
 use Rattle.jobs.specs.Names.{◌≡◌, ℕ, ◌||◌, Bool, true, false, List, length, codes, Option, Result, line_of, Piece}
 use Rattle.jobs.specs.Names.{Unsaved, RunFault, Writes}
 use Rattle.runs.specs.declared.script_pieces.Piece.TheVariants as piece

@@ -14,7 +14,7 @@ use script::LineText;
 use std::alloc::Global;
 use std::io::Write;
 
-// Builds an image, and tells how many sectors it has.
+// Builds an image, and reports how many sectors it has.
 fn build_and_tell<D: Device, W: Write>(
     alloc: Global,
     blueprint: &Blueprint,

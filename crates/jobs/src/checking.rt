@@ -24,7 +24,7 @@ fn checked_line(saved: Checkpoint) -> LineText
     line
 }
 
-// Opens a device, tells what checkpoint it holds, and gives it back.
+// Opens a device, reports what checkpoint it holds, and gives it back.
 fn open_and_tell<D: Device, W: Write>(
     alloc: Global,
     device: D,

@@ -1,4 +1,4 @@
-// The command that tells what an image holds.
+// The command that describes what an image holds.
 ghost use Rattle.std.specs.Prelude.{◌≡◌, Some, Result, IfErr, IfOk, OnOk, string_bytes};
 ghost use Rattle.toml.specs.Data.{Members};
 ghost use Rattle.toml.specs.Parse.{parse_document};
@@ -83,7 +83,7 @@ fn tell_grown<W: Write>(
     }
 }
 
-// Opens a device, tells all that is saved on it, renumbered for other sizes, and gives it back.
+// Opens a device, describes all that it saves, renumbered for other sizes, and gives it back.
 fn describe_and_tell<D: Device, W: Write>(
     alloc: Global,
     device: D,

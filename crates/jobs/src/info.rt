@@ -12,8 +12,8 @@ use script::{LineText, RunFault};
 use std::alloc::{AllocError, Global};
 use std::io::Write;
 
-/// A line about an image: what it has room for and where, which checkpoint it holds, and how many
-/// objects of each kind.
+/// A line about an image: its sizes and ranges, which checkpoint it holds, and how many objects of
+/// each kind.
 #[derive(Clone, Copy, PartialEq, Eq, Debug)]
 pub(crate) enum InfoLine {
     /// The version of the layout.

@@ -1,4 +1,4 @@
-// The command that tells what an image has room for, and how much it holds.
+// The command that reports the sizes of an image, and how much it holds.
 ghost use Rattle.std.specs.Prelude.{◌≡◌, IfOk, Result};
 ghost use Rattle.checkpoint.specs.Saved.{kept_of};
 ghost use Rattle.capability.specs.Parts.{frames_of};
@@ -69,11 +69,11 @@ fn inspect_and_tell<D: Device, W: Write>(
     }
 }
 
-/// Opens a device as a run does, and writes a line for each fact about its image: the version of the
-/// layout, how many nodes, pages and slots it has room for, its home ranges, its sectors, the
+/// Opens a device as a run does, and writes a line for each fact about its image: the version of
+/// the layout, how many nodes, pages and slots there may be, its home ranges, its sectors, the
 /// generation, age and entries of the checkpoint that it holds, and how many objects of each kind
-/// that saves. Then the status is 0. After a fault one line is written to `errors`, and the status is
-/// 1: `bad image` with a number from 1 to 10, `device failed` or `no memory`, and `cannot write
+/// that saves. Then the status is 0. After a fault one line is written to `errors`, and the status
+/// is 1: `bad image` with a number from 1 to 10, `device failed` or `no memory`, and `cannot write
 /// output` where the writer fails.
 ///
 /// The device is given back, and nothing was written to it, at no moment.

@@ -9,8 +9,9 @@ pub fn built_is_denoted()
     ensures { BuiltIsDenoted }
 {}
 
-/// What `build_image` leaves on a device of the text that `describe_image` wrote, and what each crash
-/// leaves of it, denotes the world that the text tells, of generation 0 and with nothing in the log.
+/// What `build_image` leaves on a device of the text that `describe_image` wrote, and what each
+/// crash leaves of it, denotes the world that the text describes, of generation 0 and with nothing
+/// in the log.
 pub fn described_is_denoted()
     ensures { DescribedIsDenoted }
 {}

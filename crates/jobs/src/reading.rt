@@ -13,7 +13,7 @@ use reach::read_objects;
 use recovery::recover;
 use std::alloc::{AllocError, Global};
 
-/// The objects of a store. Fails only if memory runs out: nothing is asked of the device.
+/// The objects of a store. Fails only if memory runs out: it makes no device call.
 pub(crate) fn objects_of<D: Device>(
     alloc: Global,
     store: &mut PlainStore<D>,

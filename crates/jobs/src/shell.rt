@@ -1,4 +1,4 @@
-// What a shell reads, and what it tells beside the answers.
+// What a shell reads, and what it writes beside the answers.
 ghost use Rattle.std.specs.Prelude.{◌≡◌, ◌<◌, ◌≤◌, [], None, IfErr, IfOk, IsErr, OnOk, length};
 ghost use Rattle.jobs.specs.Shell.{IsPieceOf, TellsUnsaved};
 ghost use Rattle.runs.specs.KernelRuns.{IsCounted};
@@ -21,7 +21,7 @@ pub(crate) fn tell_unsaved<V: Write>(unsaved: &Unsaved, errors: &mut V)
     }
 }
 
-// What a line asks of the shell.
+// What a line requests of the shell.
 enum Request<'a> {
     /// The line is one for the machine.
     Pass,
@@ -31,7 +31,7 @@ enum Request<'a> {
     Quit,
 }
 
-// What a line asks of the shell.
+// What a line requests of the shell.
 fn request_of(line: &[u8]) -> Request<'_> {
     if line == b"quit".as_slice() {
         Request::Quit
@@ -71,7 +71,7 @@ impl<R: Read, V: Write> ShellInput<R, V> {
         input
     }
 
-    // Tells a person something.
+    // Writes a note for a person.
     fn note(&mut self, text: &[u8])
         ensures inner { self.new.inner ≡ self.old.inner }
         ensures prompts { self.new.is_prompting ≡ self.old.is_prompting }
@@ -81,7 +81,7 @@ impl<R: Read, V: Write> ShellInput<R, V> {
         }
     }
 
-    // Reads a line with its newline, or as much as there is room for, or what is left.
+    // Reads a line with its newline, or as much as fits into `piece`, or what is left.
     fn read_line<W: Output>(&mut self, output: &W, piece: &mut [u8]) -> Result<usize, RunFault>
         requires none_waits { W.waiting output.now ≡ [] }
         requires room { 0 < length piece.old }
@@ -107,8 +107,8 @@ impl<R: Read, V: Write> ShellInput<R, V> {
         Ok(count)
     }
 
-    // Carries out what a line asks of the shell, and tells what the run reads of it. A line that isn't
-    // whole goes on in the next piece.
+    // Carries out what a line requests of the shell, and returns what the run reads of it. A line
+    // that isn't whole goes on in the next piece.
     fn serve(&mut self, line: &[u8], is_whole: bool) -> Piece
         ensures bytes { IsPieceOf line.now result }
         ensures inner { self.new.inner ≡ self.old.inner }

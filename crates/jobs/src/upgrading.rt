@@ -31,7 +31,7 @@ fn tell_total<W: Write>(total: u64, writer: &mut W) -> Result<(), Fault>
     }
 }
 
-// Writes what an old image saves to a new device, and tells how many sectors the new image has.
+// Writes what an old image saves to a new device, and reports how many sectors the new image has.
 fn write_and_tell<D: ClosableDevice, E: Device, W: Write>(
     alloc: Global,
     image: OldImage<D>,

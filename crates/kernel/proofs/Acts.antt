@@ -278,7 +278,7 @@ module _ {D S : Type 0} (disk : D → Disk) (view : S → View D) (parts : S →
       stabilize_refused fault.MigrationPending n reported again moments = absurd reported
       stabilize_refused (fault.NotStable left) n reported again moments = absurd reported
 
-      -- nothing is saved, or it isn't told
+      -- nothing is saved, or it isn't reported
       pub commit_refused : (why : CheckpointFault) → IsCommitAnswer (disk (view l.store).beneath) (disk (view s).beneath) (left_in (view l.store).snapshots) (view l.store).snapshots.saved.generation (Err why) →
           (IsRefused {T = ℕ} (Err why) → s ≡ l.store) → ((f : FrozenFrames) → (view l.store).snapshots.frozen ≡ Some f → f.left ≡ 0 →
           LeavesEither (disk (view l.store).beneath) (disk (view s).beneath) (view l.store).snapshots.saved (next_saved l.frozen_age f (view l.store).snapshots.saved)) →
@@ -301,7 +301,7 @@ module _ {D S : Type 0} (disk : D → Disk) (view : S → View D) (parts : S →
       commit_refused fault.CheckpointRunning reported again moments = absurd reported
       commit_refused fault.MigrationPending reported again moments = absurd reported
 
--- who failed is told where a store refuses
+-- who failed is reported where a store refuses
 pub refused_cause : (old new : Disk) (why : CheckpointFault) → ((why ≡ fault.Failed) × (old.failures < new.failures)) ⊎ ((why ≡ fault.Failed → ⊥) × (new.failures ≡ old.failures)) → IsCaused old new (answer.Refused (refusal_by why))
 refused_cause old new why (inl failed) = record {
   later = let more = failed.1 in omega (arith, more);
@@ -355,7 +355,7 @@ pub err_answer : (Q : Failed → Type 0) (r : Result Answer Failed) → IsErrAnd
 err_answer Q (Ok a) failed = absurd failed
 err_answer Q (Err e) failed = refl
 
--- who failed is told by the device
+-- the device reports who failed
 pub caused : (p q : Parts) (old new : Disk) (c : Command) (age later : ℕ) (a : Answer) → p.failures ≡ old.failures → q.failures ≡ new.failures → Performs age p c a later q → IsCaused old new a
 caused p q old new c age later a before after serves = record {
   later = subst (λ (n : ℕ). n ≤ new.failures) before (subst (λ (n : ℕ). p.failures ≤ n) after serves.later);

@@ -5,7 +5,7 @@ use Rattle.kernel.proofs.Names.{BanksState, IsStored, counted_looked, counted_on
 abbrev IsCountedAt : Parts → BanksState → Type 0
 IsCountedAt p s = AreCounted p.geometry (objects_in p) s
 
--- after a look
+-- after a read-only call
 pub looked_counted : (old new : Parts) (s : BanksState) → ReadsAs old new → IsCountedAt old s → IsCountedAt new s
 looked_counted = counted_looked
 

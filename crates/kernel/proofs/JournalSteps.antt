@@ -157,7 +157,7 @@ module _ (g : Geometry) (age : ℕ) (fs : List Frame) (n : ℕ) (keepable : AreK
         cc
   ]
 
--- ---- frames of which one has other words
+-- ---- frames, one with other words
 
 module _ (fs : List Frame) (n : ℕ) (words : List ℕ) where
   abbrev page : Frame

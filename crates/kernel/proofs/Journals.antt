@@ -38,7 +38,7 @@ sound_still : {P : Type 0} → IsErrOf {T = ℕ} (Err fault.Renewed) fault.Faile
 sound_still (inl failed) = absurd cc
 sound_still (inr sound) = sound
 
--- where it is refused with no look at an object, the store is the same
+-- where it is refused with no read of an object, the store is the same
 pub unlooked_same : {S : Type 0} (known : Bool) (why : JournalFault) {old new : S} → (IsTurnedAway (Err why) → new ≡ old) →
     IsUnlooked (answer.Refused (unjournaled_by known why)) → new ≡ old
 unlooked_same known fault.CheckpointRunning same is = absurd is
@@ -69,7 +69,7 @@ module _ {D S : Type 0} (disk : D → Disk) (view : S → View D) (parts : S →
     abbrev moments : Type 0
     moments = LeavesOneOf old new a.saved (next_journaled age n (words_now (parts l.store) n) a.frozen a.saved (is_page_now (parts l.store) n) (is_still_saved (parts l.store) a.saved n))
 
-    -- nothing was asked of the device
+    -- no device call was made
     turned_away : (why : Refusal) → s ≡ l.store → ((g : Geometry) → IsUp disk view parts g l → machine.refusal_of g (running disk view parts l) (command.Journal n) ≡ Some why) →
         ServesUp disk view parts l (command.Journal n) (answer.Refused why) (with_store l s)
     turned_away why same applies = refused_again disk view parts only_now sound_holds l s (command.Journal n) why same applies
@@ -167,7 +167,7 @@ other_cause old new why same other = record {
   exact = (λ e. absurd (other e), λ rose. absurd (omega (arith, same, rose)));
 }
 
--- who failed is told where a store refuses
+-- who failed is reported where a store refuses
 pub journal_cause : (old new : Disk) (left : Option ℕ) (s : SavedFrames) (page saved known : Bool) (why : JournalFault) → IsJournalAnswer old new left s page saved (Err why) → IsCaused old new (answer.Refused (unjournaled_by known why))
 journal_cause old new left s page saved known fault.Failed reported = record {
   later = let more = reported.0 in omega (arith, more);

@@ -1,4 +1,4 @@
--- What loads and stores come to over present frames, from what each part of them told.
+-- The outcome of loads and stores over present frames, from what each part of them reported.
 use Rattle.kernel.proofs.Names.{◌≡◌, ◌↔◌, ℕ, ◌%◌, ◌<◌, ◌≤◌, Bool, true, List, [], ◌∷◌, Option, None, Some, Result, Ok, Err, refl, sym, ap, ◌∙◌, subst, arith}
 use Rattle.kernel.proofs.Names.{IsErrOf, Answer, MemoryFault, Refusal, Command, Frame, ObjectHeader, Geometry, Object, header_at, objects_of, IsSoundFrames}
 use Rattle.kernel.proofs.Names.{Frozen, Saved, Machine, touching, touched_count, Step, is_process, is_running_process, with_word, none_in_frame, renewing_none}
@@ -14,7 +14,7 @@ use Rattle.kernel.proofs.ProcessSteps.{early_fine}
 use Rattle.kernel.proofs.MemorySteps.{load_early, load_step, load_without_memory, loaded_answer, store_early, store_fault_step, store_full_step, store_step}
 use Rattle.kernel.proofs.MemorySteps.{store_without_memory}
 
--- what was only looked at is the same
+-- what was only read is the same
 pub looked_same : {S : Type 0} (parts : S → Parts) (Continues : S → S → Type 0) (old new : S) → OnlyFetches parts Continues old new → AreSame (parts old) (parts new)
 looked_same parts Continues old new snapshots = record { headers = snapshots.headers; contents = snapshots.contents; touched = snapshots.touched; geometry = snapshots.geometry }
 
@@ -69,7 +69,7 @@ module _ {S : Type 0} (parts : S → Parts) (Continues : S → S → Type 0) (ag
       refused_serves age (parts old) (parts new) (command.Store p address word) why (looked_same parts Continues old new snapshots) sound later why_cause
       (λ renewed frozen saved to_move other. store_early (parts old).geometry _ p address word why early)
 
--- what is answered to a process that runs, after a look at it, by what came of its load or store
+-- the answer to a process that runs, after it was read, by the outcome of its load or store
 module _ {S : Type 0} (parts : S → Parts) (Continues : S → S → Type 0) (age : ℕ) (before between after : S) (p address : ℕ)
     (sound : IsSoundFrames (parts before).geometry age (frames_of (parts before))) (acts : IsEarly (objects_in (parts before)) p None)
     (snapshots : OnlyFetches parts Continues before between) (rises : (parts before).failures ≤ (parts between).failures)

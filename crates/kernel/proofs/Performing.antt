@@ -1,4 +1,4 @@
--- What a command comes to over present frames, from what each part of it told.
+-- The outcome of a command over present frames, from what each part of it reported.
 use Rattle.kernel.proofs.Names.{◌≡◌, ◌↔◌, ℕ, ◌+◌, ◌^◌, ◌<◌, ◌≤◌, Bool, true, false, List, length, Option, Result, Ok, Err, refl, sym, ap, ◌∙◌, subst, ⊎_elim}
 use Rattle.kernel.proofs.Names.{arith, cases_lt, Answer, Refusal, Command, Invocation, Frame, Geometry, Object, ResultCode, ObjectHeader, frames_in, header_at}
 use Rattle.kernel.proofs.Names.{objects_of, IsSoundFrames, world_at, Frozen, Running, Saved, Machine, Up, renewing, touching, touched_count, is_free, Step}
@@ -74,7 +74,7 @@ reported_cause why other stayed = (λ e. absurd (other e), λ x. absurd (stayed 
 pub unfailed : (m n : ℕ) → m ≤ n → (m < n → ⊥) → n ≡ m
 unfailed m n later stayed = ⊎_elim (λ (rose : m < n). absurd (stayed rose)) (λ (within : n ≤ m). omega arith) (cases_lt m n)
 
--- what is answered after a look is answered before it
+-- what is answered after a read-only call is answered before it
 pub serves_looked : (age after : ℕ) (old mid new : Parts) (c : Command) (a : Answer) → AreSame old mid → mid.failures ≡ old.failures → Performs age mid c a after new → Performs age old c a after new
 serves_looked age after old mid new c a same failures serves = record {
   step = λ renewed frozen saved to_move other.
@@ -195,7 +195,7 @@ module _ (age : ℕ) (old new : Parts) (n : ℕ) (same : AreSame old new) (sound
       refused_serves age old new (command.Show n) refusal.Fault same sound later (λ e. rose, λ r. refl)
       (λ renewed frozen saved to_move other. absurd (other refl))
 
--- what a fault of a look isn't
+-- what a fault of a read isn't
 pub shown_unfailed : (a : Answer) → (let r : Result Answer PrepareFault = Ok a in IsErrOf r prepare.Failed) → ⊥
 shown_unfailed a e = cc
 

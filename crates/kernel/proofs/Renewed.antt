@@ -1,4 +1,4 @@
--- Which numbers were renewed since the last checkpoint or restart, told by counts.
+-- Which numbers were renewed since the last checkpoint or restart, by their counts.
 use Rattle.kernel.proofs.Names.{◌≡◌, ℕ, ◌+◌, ◌-◌, ◌<◌, ◌≤◌, ◌||◌, Bool, true, false, not, List, length, map, refl, sym, ap, ◌∙◌, arith, if◌then◌else◌}
 use Rattle.kernel.proofs.Names.{range_with_len, get_or-map, ne_eqb, ext_get_or, get_or-map-range_with_len, length-map-range_with_len, Cap, Frame, ObjectHeader}
 use Rattle.kernel.proofs.Names.{Content, blank_frame, frame_at, frames_in, header_at, renewing, is_given_up, Parts, Renews, frames_of, objects_in, headers_in}

@@ -184,7 +184,7 @@ frozen_some o f age is = ap (frozen_of age) is
 pub frozen_none : (o : Option FrozenFrames) (age : ℕ) → o ≡ None → frozen_of age o ≡ None
 frozen_none o age is = ap (frozen_of age) is
 
--- whether there is one is told by what is left of it
+-- what is left of it says whether there is one
 pub none_there : (o : Option FrozenFrames) → option_map (λ (f : FrozenFrames). f.left) o ≡ None → o ≡ None
 none_there None reported = refl
 none_there (Some f) reported = cc

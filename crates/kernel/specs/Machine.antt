@@ -53,7 +53,7 @@ IsUnlooked (answer.Refused why) = NeedsNoLook why
 IsUnlooked _ = ⊥
 
 -- from parts at an age to parts at an age a command is answered as the machine answers it, whatever was renewed and is
--- frozen and saved; a failure of the device aside, after which the machine is down
+-- frozen and saved, unless the device fails: then the machine is down
 pub record Performs (old_age : ℕ) (old : Parts) (c : Command) (a : Answer) (new_age : ℕ) (new : Parts) : Type 0 where
   pub step : (renewed : List Bool) (frozen : Option Frozen) (saved : Saved) (to_move : ℕ) → (a ≡ answer.Refused refusal.Fault → ⊥) →
       Step old.geometry (machine_at old_age old renewed frozen saved to_move) c a (machine_at new_age new (renewed_by renewed old new) frozen saved to_move)

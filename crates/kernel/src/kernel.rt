@@ -118,7 +118,7 @@ impl<D: Device, S: ObjectStore<D>> Kernel<D, S> {
     /// Opens a device, and writes nothing to it: the machine is up at the saved part that its
     /// sectors denote.
     ///
-    /// A refusal hands the device back: `Failed` exactly where the device failed, `NoMemory` only
+    /// A refusal gives the device back: `Failed` exactly where the device failed, `NoMemory` only
     /// where memory ran out, and else the least of the ten reasons to refuse an image. What a crash
     /// of a kernel leaves is refused for none of them.
     pub fn open(alloc: Global, device: D, setting: S::Setting) -> Result<Self, OpenRefused<D>>
@@ -219,7 +219,7 @@ impl<D: Device, S: ObjectStore<D>> Kernel<D, S> {
         self.step_with_code(alloc, command).answer
     }
 
-    /// Serves one command, as `step` does, and tells the result code too. The code is that of the
+    /// Serves one command, as `step` does, and returns the result code too. The code is that of the
     /// order if the command invoked a kernel object and the answer is `Done`, and else `None`.
     pub fn step_with_code(&mut self, alloc: Global, command: Command) -> Served
         ensures serves { Serves D.disk S.view S.parts self.old command result.answer self.new }

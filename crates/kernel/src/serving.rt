@@ -17,8 +17,8 @@ use object_store::ObjectStore;
 use recovery::Live;
 use std::alloc::Global;
 
-// Asks that an object leave memory. It is refused by `BadNumber` where no object has the number. It
-// takes no memory, and makes no call of the device then.
+// Evicts an object from memory. It is refused by `BadNumber` where no object has the number. It
+// takes no memory, and makes no device call then.
 #[inline(never)]
 fn evict<D: Device, S: ObjectStore<D>>(live: &mut Live<S>, number: u64) -> Result<Answer, Failed>
     requires { IsSomeUp D.disk S.view S.parts live.old }

@@ -95,7 +95,7 @@ rising_more es i ge below here k lt = elim (cases_lt (k + 1) i) [
 
 -- ---- slots apart
 
--- used tells the slots of the first i entries, which are apart
+-- `used` marks the slots of the first i entries, which are apart
 pub record IsUsed (es : List Entry) (used : List Bool) (i : ℕ) : Type 0 where
   pub size : length used ≡ 4096
   pub marks : (k : ℕ) → k < i → get_or used (entry_at es k).slot false ≡ true

@@ -67,7 +67,7 @@ header_of r a c o = record { role = r; allocations = a; calls = c; owner = o }
 same_header : (r r' : Role) (a a' c c' o o' : ℕ) → r ≡ r' → a ≡ a' → c ≡ c' → o ≡ o' → header_of r a c o ≡ header_of r' a' c' o'
 same_header r r' a a' c c' o o' er ea ec eo = rw (er, ea, ec, eo) refl
 
--- what the front of a frame tells
+-- what the front of a frame says
 pub record FrontTells (first : ℕ) (h : ObjectHeader) (bytes : List ℕ) : Type 0 where
   pub first_is : number_from bytes ≡ first
   pub header_is : header_from bytes ≡ h
@@ -147,7 +147,7 @@ number_front : (xs ys : List ℕ) → take 8 xs ≡ take 8 ys → number_from xs
 unfolding number_from
 number_front xs ys same = sym (little_from-take 0 8 8 xs (omega arith)) ∙ ap (λ (b : List ℕ). little_number 8 b) same ∙ little_from-take 0 8 8 ys (omega arith)
 
--- what follows isn't looked at
+-- what follows isn't read
 number_before : (xs ys : List ℕ) (k : ℕ) → k + 8 ≤ length xs → number_from (drop k (xs ++ ys)) ≡ number_from (drop k xs)
 number_before xs ys k room =
     number_front (drop k (xs ++ ys)) (drop k xs)
@@ -178,6 +178,6 @@ unfolding sectors_from
 first_sector true image at room = header_before (image at) (sectors_from image (at + 1) 1) room
 first_sector false image at room = header_before (image at) (sectors_from image (at + 1) 8) room
 
--- is told by its first sector
+-- its first sector decides it
 pub reported_first : (g : Geometry) (object : ℕ) (image : Image) (at : ℕ) → 32 ≤ length (image at) → (frame_from g object (sectors_from image at (frame_length g object))).header ≡ header_from (image at)
 reported_first g object image at room = header_is g object (sectors_from image at (frame_length g object)) ∙ first_sector (nat_lt object g.nodes) image at room

@@ -112,7 +112,7 @@ slots_put old mid new caps k few len size is put =
     ∙ ap (λ (r : List ℕ). r ++ zeros (1024 - (32 + 24 * n))) (take_at (take 32 old ++ slots_bytes caps) (drop (32 + k) old) (32 + 24 * n) front)
     ∙ ap (λ (m : ℕ). take 32 old ++ slots_bytes caps ++ zeros m) less
 
--- ---- a content is told by its role and its slots
+-- ---- its role and its slots decide a content
 
 state_again : (s : State) → state_in (state_number s) ≡ s
 state_again Available = refl

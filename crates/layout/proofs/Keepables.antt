@@ -1,4 +1,4 @@
--- What the readers of both kinds of frames ask for is what can be kept.
+-- A frame that the reader of its kind accepts is one that can be kept.
 use Rattle.layout.proofs.Names.{◌≡◌, ℕ, ◌+◌, ◌^◌, ◌<◌, ◌≤◌, Bool, List, [], ◌∷◌, ◌++◌, length, refl, sym, ap, ◌∙◌, arith, map, replicate, if◌then◌else◌, IsTrue}
 use Rattle.layout.proofs.Names.{All, lt-ltb, le-ltb, false≢true, length-append, length-map, length-replicate, All-from_recursion, All-cons, All-append, All-map}
 use Rattle.layout.proofs.Names.{All-replicate, All-weaker, Cap, Frame, Geometry, Content, Root, State, Available, Running, Waiting, void_held, IsKeptCap}

@@ -40,7 +40,7 @@ number_read bytes at n room small is =
     let front : number n ≡ take 8 (drop at bytes) = ap number (is ∙ sym (little_from-take 0 8 8 (drop at bytes) (omega arith))) ∙ number_back (take 8 (drop at bytes)) len (IsBytes-front bytes at small room) in
     front_rest (drop at bytes) (number n) (drop (at + 8) bytes) front (drop-drop 8 at bytes)
 
--- a number is told by its bytes, whatever follows
+-- its bytes decide a number, whatever follows
 pub number_splits : (m n : ℕ) (x y : List ℕ) → m < 2 ^ 64 → n < 2 ^ 64 → number m ++ x ≡ number n ++ y → (m ≡ n) × (x ≡ y)
 unfolding number
 number_splits m n x y fits fits' e =
@@ -102,7 +102,7 @@ abbrev pub AllFit : List ℕ → Type 0
 AllFit [] = Unit {0}
 AllFit (n ∷ ns) = (n < 2 ^ 64) × AllFit ns
 
--- numbers are told by their bytes, whatever follows
+-- their bytes decide numbers, whatever follows
 pub stream_splits : (ms ns x y : List ℕ) → AllFit ms → AllFit ns → length ms ≡ length ns → stream ms x ≡ stream ns y → (ms ≡ ns) × (x ≡ y)
 stream_splits [] [] x y fits fits' len e = (refl, e)
 stream_splits [] (n ∷ ns) x y fits fits' len e = absurd (omega (arith, len))
@@ -135,7 +135,7 @@ pub drop_filled : (filled : List ℕ) (n at : ℕ) → filled ≡ zeros n → dr
 unfolding zeros
 drop_filled filled n at e = ap (drop at) e ∙ drop-replicate at n 0
 
--- the rest of bytes is blank, told of the part that is passed
+-- the rest of bytes is blank, said of the part that is passed
 pub blank_part : (bytes : List ℕ) (at : ℕ) (answer : Bool) → at ≤ length bytes
     → IsTrue answer ↔ (between at (length bytes) bytes ≡ zeros (length (between at (length bytes) bytes)))
     → IsTrue answer ↔ (drop at bytes ≡ zeros (length bytes - at))

@@ -155,7 +155,7 @@ one_version One Two e = absurd (omega (arith, e))
 one_version Two One e = absurd (omega (arith, e))
 one_version Two Two e = refl
 
--- the version that a second number tells
+-- the version for a second number
 pub version_reported : (bytes : List ℕ) (second : ℕ) (v : Version) → drop 8 bytes ≡ number second ++ drop 16 bytes → second < 2 ^ 64 → second % 4294967296 ≡ version_number v
     → take 4 (drop 8 bytes) ≡ half_number (version_number v)
 version_reported bytes second v next fits is = ap (take 4) next ∙ front_half second (drop 16 bytes) fits ∙ ap half_number is
@@ -178,7 +178,7 @@ pub version_from : (bytes : List ℕ) (second : ℕ) (v : Version) → drop 8 by
 version_from bytes second v next fits is =
     half_reported (second % 4294967296) (version_number v) (omega arith) (omega (arith, few_versions v)) (sym (front_half second (drop 16 bytes) fits) ∙ sym (ap (take 4) next) ∙ is)
 
--- ---- what an answer of a version tells of a sector
+-- ---- what an answered version says of a sector
 
 module _ (bytes : List ℕ) (m second : ℕ) (first : bytes ≡ number m ++ drop 8 bytes) (next : drop 8 bytes ≡ number second ++ drop 16 bytes) (fits : second < 2 ^ 64) where
   pub marked : (found : Option Version) → m ≡ magic → drop 256 bytes ≡ zeros 256 → IfSome found (λ v. second % 4294967296 ≡ version_number v) → IfSome found (λ _. HasMark bytes)
@@ -381,7 +381,7 @@ one_plan p q ip iq e =
     ∙ same_plan p.version q.ranges p.geometry.nodes p.geometry.pages p.geometry.log p.half_0 p.half_1 p.total q.geometry.nodes q.geometry.pages q.geometry.log q.half_0 q.half_1 q.total two.1
     ∙ ap (λ (v : Version). plan_of v q.geometry q.ranges q.half_0 q.half_1 q.total) version
 
--- ---- what a decoder tells
+-- ---- what a decoder returns
 
 pub last_ranges : (all : List HomeRange) (used : ℕ) → length all ≡ 8 → take (8 - used) (drop used all) ≡ drop used all
 last_ranges all used eight = take_all (8 - used) (drop used all) (omega (arith, length-drop used all))

@@ -132,9 +132,9 @@ body_in n slots =
 abbrev pub page_body_in : ℕ → Body
 page_body_in n = if n == 1 then body.Page else body.Free
 
--- ---- what the readers of both kinds ask for; together it is what can be kept
+-- ---- what the readers of both kinds require; together it is what can be kept
 
--- what a role asks of its 32 slots
+-- what a role requires of its 32 slots
 abbrev pub FollowsRole : Content Cap → Type 0
 FollowsRole content.Free = Unit {0}
 FollowsRole (content.Page words) = ⊥

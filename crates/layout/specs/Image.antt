@@ -70,7 +70,7 @@ directory_sector p generation = half_sector p generation + 9 * p.geometry.log
 abbrev pub directory_length : ℕ → ℕ
 directory_length n = (n + 31) / 32
 
--- the bytes of a directory of n entries: those behind the last entry aren't looked at
+-- the bytes of a directory of n entries: those behind the last entry don't matter
 abbrev pub directory_in : Image → Plan → ℕ → ℕ → List ℕ
 directory_in image p generation n = take (16 * n) (sectors_from image (directory_sector p generation) (directory_length n))
 

@@ -11,12 +11,12 @@ use Rattle.layout.specs.declared.version.Version.{Version}
 use Rattle.layout.specs.declared.version.Version.TheVariants.{One, Two}
 use Rattle.layout.specs.Bytes.{number, half_number, zeros}
 
--- the number by which a superblock tells its version
+-- the number for its version in a superblock
 abbrev pub version_number : Version → ℕ
 version_number One = 1
 version_number Two = 2
 
--- what a superblock tells
+-- what a superblock says
 pub record Plan : Type 0 where
   pub version : Version
   pub geometry : Geometry

@@ -1,4 +1,4 @@
-// What is read of a frame beside its header, and the room for it.
+// What is read of a frame beside its header, and the scratch buffer for it.
 ghost use Rattle.std.specs.Prelude.{◌≡◌, IfOk, replicate};
 ghost use Rattle.model.specs.Frame.{void_held};
 
@@ -17,7 +17,8 @@ pub enum Body {
     Bank { limit: u64 },
 }
 
-/// Room for the body of any object. It is lent to what reads frames, which so takes no memory.
+/// A scratch buffer for the body of any object. A caller lends it to what reads frames, which so
+/// takes no memory.
 #[derive(Drop)]
 pub struct Scratch {
     pub slots: Slots<Cap>,
@@ -25,7 +26,7 @@ pub struct Scratch {
 }
 
 impl Scratch {
-    /// Room with void slots and words of 0. Fails only where memory runs out.
+    /// A scratch buffer with void slots and words of 0. Fails only where memory runs out.
     pub fn new(alloc: Global) -> Result<Scratch, AllocError>
         ensures slots { IfOk result (λ scratch. scratch.slots ≡ replicate 32 void_held) }
         ensures words { IfOk result (λ scratch. scratch.words ≡ replicate 512 0) }

@@ -1,4 +1,4 @@
-// What a few bytes tell of a sector that may be damaged.
+// What a few bytes say of a sector that may be damaged.
 ghost use Rattle.std.specs.Prelude.{◌≡◌, ◌≤◌, length};
 ghost use Rattle.layout.specs.FrameReader.{header_from};
 ghost use Rattle.layout.specs.Image.{total_in, sequence_in};
@@ -7,7 +7,7 @@ use crate::bytes::number_at;
 use crate::front::decode_front;
 use model::ObjectHeader;
 
-/// The total of sectors that the sector of a superblock tells, whatever its other bytes are.
+/// The total of sectors in the sector of a superblock, whatever its other bytes are.
 pub fn total_in(bytes: &[u8]) -> u64
     requires { 64 ≤ length bytes.now }
     ensures { result ≡ total_in bytes.now }
@@ -15,7 +15,7 @@ pub fn total_in(bytes: &[u8]) -> u64
     number_at(bytes, 56)
 }
 
-/// The sequence number that the sector of a header tells, whatever its other bytes are.
+/// The sequence number in the sector of a header, whatever its other bytes are.
 pub fn sequence_in(bytes: &[u8]) -> u64
     requires { 16 ≤ length bytes.now }
     ensures { result ≡ sequence_in bytes.now }
@@ -23,7 +23,7 @@ pub fn sequence_in(bytes: &[u8]) -> u64
     number_at(bytes, 8)
 }
 
-/// The header that the first 32 bytes of a frame tell, whatever its other bytes are.
+/// The header in the first 32 bytes of a frame, whatever its other bytes are.
 pub fn header_in(bytes: &[u8]) -> ObjectHeader
     requires { 32 ≤ length bytes.now }
     ensures { result ≡ header_from bytes.now }

@@ -1,4 +1,4 @@
-// The frame of an object, whose number tells its kind.
+// The frame of an object, whose number gives its kind.
 ghost use Rattle.std.specs.Prelude.{◌≡◌, ◌+◌, ◌*◌, ◌<◌, length, IfOk, IfErr};
 ghost use Rattle.model.specs.declared.frame.Frame.{Frame};
 ghost use Rattle.layout.specs.Frame.{frame_bytes, frame_length, frame_of, IsFrameOf};
@@ -10,10 +10,11 @@ use crate::page_frame::{decode_page_frame, encode_page_frame};
 use model::{Cap, Content, Geometry, ObjectHeader};
 
 /// Reads the frame of an object: the 1024 bytes of a node's number or the 4608 of a page's. The
-/// slots of a node or an annex and the words of a page are left in `room`, and no memory is taken.
+/// slots of a node or an annex and the words of a page are left in `scratch`, and no memory is
+/// taken.
 ///
 /// The frame is one that can be kept at the age and the number. All that is no spelling of such a
-/// frame is a `BadFrame`, which leaves anything in the room.
+/// frame is a `BadFrame`, which leaves anything in `scratch`.
 pub fn decode_frame(
     bytes: &[u8],
     geometry: Geometry,

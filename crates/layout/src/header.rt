@@ -10,7 +10,7 @@ use model::MAX_AGE;
 // The bytes of EROSHEAD as a number.
 const HEADER_MAGIC: u64 = 0x4441_4548_534f_5245;
 
-/// What a committed checkpoint tells of itself.
+/// What a header says of the committed checkpoint.
 #[derive(Clone, Copy, PartialEq, Eq, Debug)]
 pub struct CheckpointHeader {
     /// Counts the headers written. If two headers are open, the one with the greater number counts.
@@ -52,8 +52,8 @@ pub fn encode_header(header: CheckpointHeader, into: &mut [u8])
     put_number(into, 32, header.age);
 }
 
-/// Reads the 512 bytes of a header's sector, on a device whose log half has room for `room`
-/// objects. All that is no spelling of such a header is a `BadHeader`.
+/// Reads the 512 bytes of a header's sector, on a device whose log half has `room` slots. All that
+/// is no spelling of such a header is a `BadHeader`.
 pub fn decode_header(bytes: &[u8], room: u64) -> Result<CheckpointHeader, BadImage>
     requires { length bytes.now ≡ 512 }
     ensures found { IfOk result (λ h. IsHeader room h × (bytes.now ≡ header_bytes h)) }

@@ -124,7 +124,8 @@ fn is_body(body: &Body, role: u64, owner: u64, slots: &[Cap]) -> bool
 }
 
 /// Reads the 1024 bytes of a frame with the number of a node. The slots of a node or an annex are
-/// left in `room`. All that is no spelling of such a frame is a `BadFrame`, which leaves any slots.
+/// left in `scratch`. All that is no spelling of such a frame is a `BadFrame`, which leaves any
+/// slots.
 pub fn decode_node_frame(
     bytes: &[u8],
     geometry: Geometry,

@@ -61,7 +61,7 @@ fn is_body(role: u64, owner: u64, words: &[u64]) -> bool
 }
 
 /// Reads the 4608 bytes of a frame with the number of a page. The words of a page are left in
-/// `room`. All that is no spelling of such a frame is a `BadFrame`, which leaves any words.
+/// `scratch`. All that is no spelling of such a frame is a `BadFrame`, which leaves any words.
 pub fn decode_page_frame(
     bytes: &[u8],
     age: u64,

@@ -303,8 +303,8 @@ pub fn encode_superblock(superblock: &Superblock, into: &mut [u8])
     write_ranges(ranges, &mut into[RANGES_AT..end]);
 }
 
-// The version that a superblock's sector tells. `None` where the magic, the version or a byte behind
-// the ranges is another than a superblock's.
+// The version in a superblock's sector. `None` where the magic, the version or a byte behind the
+// ranges isn't a superblock's.
 fn version_in(bytes: &[u8]) -> Option<Version>
     requires { length bytes.now ≡ 512 }
     ensures mark { IfSome result (λ _. HasMark bytes.now) }
@@ -319,7 +319,7 @@ fn version_in(bytes: &[u8]) -> Option<Version>
     Version::with_number(second % 4294967296)
 }
 
-// Reads what a superblock's sector tells, in which magic and version are as they must be. `None`
+// Reads the rest of a superblock's sector, whose magic and version are as they must be. `None`
 // where it is no spelling of a superblock.
 fn read_plan(version: Version, bytes: &[u8]) -> Option<Superblock>
     requires size { length bytes.now ≡ 512 }

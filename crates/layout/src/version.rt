@@ -11,7 +11,7 @@ pub enum Version {
 }
 
 impl Version {
-    /// The number by which a superblock tells this version: 1 or 2.
+    /// The number for this version in a superblock: 1 or 2.
     pub fn number(self) -> u64
         ensures value { result ≡ version_number self }
         ensures most { result ≤ 2 }
@@ -22,7 +22,7 @@ impl Version {
         }
     }
 
-    /// The version that a number tells. `None` for a number other than 1 and 2.
+    /// The version with a number. `None` for a number other than 1 and 2.
     pub fn with_number(number: u64) -> Option<Version>
         ensures some { IfSome result (λ v. number ≡ version_number v) }
         ensures none { IfNone result ((v : Version) → number ≡ version_number v → ⊥) }

@@ -40,7 +40,7 @@ left_quiet Keep s quiet same i = refl
 left_quiet Drop s quiet same i = same i
 left_quiet (Fill byte) s quiet same i = ap (λ (b : Bool). if b then replicate 512 byte else s.durable i) (quiet i) ∙ same i
 
--- what a power cut leaves, told by the same sectors
+-- what a power cut leaves depends on the same sectors
 left_same : (outcome : Outcome) (s t : State) → Agrees s.present t.present → Agrees s.durable t.durable → ((i : ℕ) → s.unsynced i ≡ t.unsynced i) → Agrees (left_by outcome s) (left_by outcome t)
 left_same Keep s t present durable unsynced i = present i
 left_same Drop s t present durable unsynced i = durable i

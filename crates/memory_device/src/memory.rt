@@ -27,8 +27,8 @@ pub struct Memory {
 impl Memory {
     ghost use Rattle.memory_device.specs.Memory.{memory_disk, memory_past, capacity_left, outcome_of};
 
-    /// A device of `sectors` sectors, all zeros and all synced. Its record has room
-    /// for `room` entries, and its power cuts leave `outcome`. The only error is want of memory.
+    /// A device of `sectors` sectors, all zeros and all synced. Its record has space for `room`
+    /// entries, and its power cuts leave `outcome`. The only error is want of memory.
     pub fn new(
         alloc: Global,
         sectors: u64,
@@ -149,7 +149,7 @@ impl Device for Memory {
     }
 
     /// A read gives exactly what the outcome leaves: the written bytes, the synced ones, or these
-    /// with each unsynced sector filled. It takes no room.
+    /// with each unsynced sector filled. It needs no space in the record.
     fn power_cut(&mut self)
         ensures outcome_left { Agrees (memory_disk self.new).seen
             (left_by (outcome_of self.old) (memory_state self.old)) }

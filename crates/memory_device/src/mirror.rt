@@ -63,7 +63,7 @@ impl Mirror {
         into.copy_from_slice(&self.present[start..start + into.len()]);
     }
 
-    /// Writes these sectors from `at` on. There has to be room for an entry each.
+    /// Writes these sectors from `at` on. The record needs space for an entry each.
     pub fn write(&mut self, at: u64, from: &[u8])
         requires whole { length from.now % 512 ≡ 0 }
         requires inside { at + sectors_of from.now ≤ self.old.sectors }
@@ -81,7 +81,7 @@ impl Mirror {
         note_writes(&mut self.entries, at, from);
     }
 
-    /// Makes all of it durable. There has to be room for an entry.
+    /// Makes all of it durable. The record needs space for an entry.
     pub fn sync(&mut self)
         requires room { vec_len self.old.entries + 1 ≤ vec_capacity self.old.entries }
         ensures past { past_of self.new ≡ past_of self.old ++ synced ∷ [] }

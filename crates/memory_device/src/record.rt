@@ -32,7 +32,7 @@ pub(crate) struct RecordEntry {
     pub(crate) cut: Option<Outcome>,
 }
 
-/// Notes what was done. There has to be room.
+/// Notes what was done. The record needs space for it.
 pub(crate) fn note(entries: &mut Vec<RecordEntry>, action: Action)
     requires { vec_len entries.old < vec_capacity entries.old }
     ensures items { entries.new.items
@@ -42,7 +42,7 @@ pub(crate) fn note(entries: &mut Vec<RecordEntry>, action: Action)
     let _ = entries.push(RecordEntry { action, cut: None });
 }
 
-/// Notes that these sectors were written from `at` on. There has to be room for an entry each.
+/// Notes that these sectors were written from `at` on. The record needs space for an entry each.
 pub(crate) fn note_writes(entries: &mut Vec<RecordEntry>, at: u64, from: &[u8])
     requires room { vec_len entries.old + sectors_of from.now ≤ vec_capacity entries.old }
     requires few { at + sectors_of from.now < 2 ^ 64 }

@@ -129,7 +129,7 @@ kept_with size image b o kept = record {
   running_with None is = is
   running_with (Some k) is = is
 
--- once all slots are complete, nothing is unwritten, and all is as it was
+-- once all slots are complete, nothing is unwritten, and nothing changes
 pub record IsReady (old : Disk) (image : Image) (b : Books) (k : ℕ) (mid : Disk) : Type 0 where
   pub kept : IsKept mid.sectors mid.seen b
   pub size : mid.sectors ≡ old.sectors

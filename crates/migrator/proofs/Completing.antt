@@ -66,7 +66,7 @@ module _ (image new : Image) (p : Plan) (generation : ℕ) (es : List Entry) (i 
   abbrev e : Entry
   e = entry_at es i
 
-  -- each that shares the home, and has no entry, is another than the entry's object
+  -- each that shares the home, and has no entry, isn't the entry's object
   other_object : (n : ℕ) → slot_in es n ≡ None → n ≡ e.object → ⊥
   other_object n none same = let never : None ≡ Some e.slot = sym none ∙ ap (slot_in es) same ∙ own_slot es i is.rising within in cc
 
@@ -119,7 +119,7 @@ module _ (image new : Image) (p : Plan) (generation : ℕ) (es : List Entry) (i 
     complete_stays j less was first n is_n same none =
         slot_stays j n (omega (arith, less, within)) (λ e. omega (arith, less, e)) ∙ was first n is_n same none ∙ sym (home_stays n is_n)
 
--- ---- what one entry's cluster comes to
+-- ---- the outcome for one entry's cluster
 
 module _ (old : Disk) (p : Plan) (generation : ℕ) (es : List Entry) (i rank : ℕ) (fits : IsPlan p) (is : IsDirectory p.geometry es) (within : i < length es) (shape : shape_of p (entry_at es i).object ≡ Packed rank)
     (bytes : List ℕ) (size : length bytes ≡ 4096) (filled : IsFilled old.seen p generation (entry_at es i) bytes) where

@@ -18,7 +18,7 @@ pub only_failed : (g : Geometry) (age n : ℕ) (bytes : Image → List ℕ) (old
 only_failed g age n bytes old mid f same is fault.Failed refused = refl
 only_failed g age n bytes old mid f same is (fault.Bad reason) refused = absurd (refused.1 f (subst (λ (i : Image). IsFrameOf g age n (bytes i) f) (sym (agrees_is mid old same)) is))
 
--- and where such a failure is handed on, it is told exactly where the device failed
+-- and where such a failure is passed on, it is reported exactly where the device failed
 pub failure_counts : {T U : Type 0} (old new : Disk) (e : ReadFault) (failed : Failed) → e ≡ fault.Failed → CountsFailed {T = T} old new (Err e) → Counts {T = U} {E = Failed} old new (Err failed)
 failure_counts {T} {U} old new e failed is counts = record {
   never_falls = counts.never_falls;

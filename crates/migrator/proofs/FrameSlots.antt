@@ -73,7 +73,7 @@ frame_slots_differ p es n m t has none same =
       beside_none None is = sym (beside_frame_slot p es n is) ∙ none
       beside_none (Some s) is = let never : None ≡ Some s = sym none ∙ own_frame_slot p es n s is in absurd cc
 
--- a seat is a slot of some entry
+-- a frame slot is a slot of some entry
 pub frame_slot_fits : (p : Plan) (es : List Entry) (n s : ℕ) → IsDirectory p.geometry es → frame_slot_in p es n ≡ Some s → s < p.geometry.log
 frame_slot_fits p es n s is frame_slot =
     let entry = frame_slot_entry p es n s frame_slot in

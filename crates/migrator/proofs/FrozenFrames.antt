@@ -132,7 +132,7 @@ module _ (old new : Disk) (b : Books) (n : ℕ) (f : Frame) (kept : IsKept old.s
   put_goes_on ps = goes_spared old new b (with_places b ps) (place_extent b.plan (frozen_generation b) (slot_for b.frozen n) n) refl refl refl spares
       (touches (slot_sector b.plan (frozen_generation b) (slot_for b.frozen n)) (place_length b.plan n) old new writes)
 
-  -- what it comes to, whether or not the device failed
+  -- its outcome, whether or not the device failed
   pub put_either : {T : Type 0} (r : Result T Failed) (ps : List Place) → IsKeepable b.plan.geometry most n f
       → OnOk r (ps ≡ set b.frozen n (Whole (slot_for b.frozen n))) → OnErr r (ps ≡ set b.frozen n (Torn (slot_for b.frozen n)))
       → OnOk r (slot_bytes new.seen b.plan (frozen_generation b) (slot_for b.frozen n) n ≡ frame_bytes b.plan.geometry n f)

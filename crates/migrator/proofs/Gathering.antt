@@ -10,7 +10,7 @@ use Rattle.migrator.proofs.PlacesApart.{in_slot}
 
 -- ---- one node
 
--- what was read at the seat of a node is its saved frame
+-- what was read at the frame slot of a node is its saved frame
 pub frame_slot_bytes : (image : Image) (p : Plan) (generation : ℕ) (es : List Entry) (n rank at : ℕ) (o : Option ℕ) (node : List ℕ) → shape_of p n ≡ Packed rank → o ≡ frame_slot_in p es n → at ≡ sector_or o (slot_sector p generation) (home_place p n)
     → shaped_at image at (Packed rank) ≡ node → node ≡ frame_in image p generation es n
 frame_slot_bytes image p generation es n rank at o node shape frame_slot place read =

@@ -15,7 +15,7 @@ pub record GoesOnSeen (old new : Disk) (b c : Books) : Type 0 where
   pub sound : LeavesState old (saved_state old.seen b) → LeavesState new (saved_state new.seen c)
   pub any_moment : LeavesState old (saved_state old.seen b) → LeavesSaved old new (kept_of (saved_state old.seen b))
 
--- so it is over a device of which some is in memory
+-- the same over a device that is partly in memory
 pub goes_seen : (old new : Disk) (b c : Books) → GoesOnSeen (mended_disk old b.unwritten) (mended_disk new c.unwritten) b c → GoesOnDisk old new b c
 goes_seen old new b c goes = record {
   plan = goes.plan;

@@ -1,4 +1,4 @@
--- What is read of a device as it is opened.
+-- What opening reads of a device.
 use Rattle.migrator.proofs.Names.{◌≡◌, Result, Ok, Err, ℕ, ◌+◌, ◌<◌, ◌≤◌, Some, None, List, length, sym, ap, subst, ◌∙◌, append-nil, inl, inr, ⊎_elim, arith}
 use Rattle.migrator.proofs.Names.{IfErr, cases_lt, Image, Agrees, BadImage, Entry, entry_at, AreRising, HasPlan, IsBadBy, IsTooSmall, total_in, sectors_from}
 use Rattle.migrator.proofs.Names.{slot_in, Plan, IsPlan, superblock_bytes, own_slot, rising_to, no_slot, total_reported, OpenFault, IsBadFor, HasNoPlan}

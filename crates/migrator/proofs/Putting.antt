@@ -70,7 +70,7 @@ room_by image p generation room n Nowhere taken few in' has = ⊎_elim (λ other
 room_by image p generation room n (Torn s) taken few in' has = let lt = in' s refl in omega (arith, lt, few)
 room_by image p generation room n (Whole s) taken few in' has = let lt = in' s refl in omega (arith, lt, few)
 
--- the slot of an object is one of so many
+-- an object has a slot, or there is a free one among `room`
 pub slot_room : (image : Image) (p : Plan) (generation room : ℕ) (ps : List Place) (n : ℕ) → length ps ≡ count_of p → n < count_of p → IsTable ps → taken_count ps ≤ room → HasFreeSlot room (puts_in image p generation ps) n → slot_for ps n < room
 slot_room image p generation room ps n size lt table few has =
     room_by image p generation room n (place_at ps n) (taken_count ps) few (λ s is. table.few n s is)

@@ -168,7 +168,7 @@ unheld_slot Nowhere unheld = refl
 unheld_slot (Torn s) unheld = absurd cc
 unheld_slot (Whole s) unheld = absurd cc
 
--- the entries of the objects from the n-th on, of which the number is i
+-- the entries of the objects from the n-th on, whose number is i
 entries_step : (i n : ℕ) (ps : List Place) → entries_from i (drop n ps) ≡ entry_before i (slot_of (place_at ps n)) (entries_from (i + 1) (drop (n + 1) ps))
 entries_step i zero [] = refl
 entries_step i (suc n) [] = simp unary_clauses refl

@@ -85,7 +85,7 @@ module _ (old new : Disk) (b : Books) (n : ℕ) (f : Frame) (kept : IsKept old.s
   put_goes_on ps = goes_spared old new b (with_places b ps) (place_extent b.plan (working_generation b) (slot_for b.working n) n) refl refl refl spares
       (touches (slot_sector b.plan (working_generation b) (slot_for b.working n)) (place_length b.plan n) old new writes)
 
-  -- what it comes to, whether or not the device failed
+  -- its outcome, whether or not the device failed
   pub put_either : {T : Type 0} (r : Result T Failed) (ps : List Place) → IsKeepable b.plan.geometry most n f
       → OnOk r (ps ≡ set b.working n (Whole (slot_for b.working n))) → OnErr r (ps ≡ set b.working n (Torn (slot_for b.working n)))
       → OnOk r (slot_bytes new.seen b.plan (working_generation b) (slot_for b.working n) n ≡ frame_bytes b.plan.geometry n f)

@@ -87,7 +87,7 @@ abbrev pub IsRunning : Books → Option ℕ → Type 0
 IsRunning b None = (n : ℕ) → place_at b.frozen n ≡ Nowhere
 IsRunning b (Some size) = (b.header.entries ≡ 0) × (taken_count b.frozen ≤ size) × (size ≤ b.plan.geometry.log)
 
--- what is kept of the store on `size` sectors, whatever failed: no header and no superblock is looked at
+-- what is kept of the store on `size` sectors, whatever failed: without header and superblock
 pub record IsKept (size : ℕ) (image : Image) (b : Books) : Type 0 where
   pub plan : IsPlan b.plan
   pub inside : b.plan.total ≤ size

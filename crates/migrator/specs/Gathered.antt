@@ -10,7 +10,7 @@ IsGathered image p generation es number bytes = (n : ℕ) → IsObject p.geometr
 abbrev pub IsCopied : Image → Image → Plan → ℕ → List Entry → ℕ → Type 0
 IsCopied old new p generation es number = (n : ℕ) → IsObject p.geometry n → home_place p n ≡ home_place p number → bytes_at new (home_place p n) p n ≡ frame_in old p generation es n
 
--- no entry before it is of an object that has the same home
+-- no entry before it has an object with the same home
 abbrev pub IsFirst : Plan → List Entry → ℕ → Type 0
 IsFirst p es i = (j : ℕ) → j < i → home_place p (entry_at es j).object ≡ home_place p (entry_at es i).object → ⊥
 

@@ -1,4 +1,4 @@
--- What is asked before a directory is written and a header published over it.
+-- What is required before a directory is written and a header published over it.
 use Rattle.migrator.specs.Names.{◌≡◌, ℕ, ◌+◌, ◌<◌, ◌≤◌, None, List, length, replicate, Image, Disk, Elsewhere, Entry}
 use Rattle.migrator.specs.Names.{Extent, CheckpointHeader, IsDirectory, entry_at, IsHeader, directory_sector}
 use Rattle.migrator.specs.Names.{directory_length, AreSpelt, count_of, state_in, Plan, IsPlan, IsApart, header_sector}

@@ -8,7 +8,7 @@ use home_ranges::Home;
 use layout::{Entry, Shape, Superblock};
 
 // The index of the first entry whose number isn't less than this one: that of an entry, or how many
-// there are. It halves the entries that are left with each look.
+// there are. Each step halves the entries that are left.
 fn first_from(entries: &[Entry], number: u64) -> usize
     requires { AreRising entries.now }
     ensures within { result ≤ length entries.now }

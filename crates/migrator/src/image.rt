@@ -1,4 +1,4 @@
-// Reading an image whole: every saved frame is looked at once.
+// Reading an image whole: every saved frame is read once.
 ghost use Rattle.std.specs.Prelude.{◌≡◌, ℕ, ◌+◌, ◌<◌, ◌≤◌, ◌∷◌, ◌++◌, [], List, length, take, IfOk, IfErr, OnOk};
 ghost use Rattle.model.specs.declared.frame.Frame.{Frame};
 ghost use Rattle.device.specs.Calls.{Only};

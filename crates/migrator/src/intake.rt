@@ -17,7 +17,7 @@ pub trait Intake: Drop + Sized {
         requires few { geometry.nodes + geometry.pages ≤ 8192 }
         ensures none { IfOk result (λ taken. Took taken []) };
 
-    /// Takes the next frame. The slots of a node or an annex and the words of a page are those in `room`. Fails only
+    /// Takes the next frame. The slots of a node or an annex and the words of a page are those in `scratch`. Fails only
     /// where memory runs out.
     fn take(
         &mut self,

@@ -92,9 +92,9 @@ pub(crate) fn read_header_of<D: Device>(
     Ok(header_in(&node))
 }
 
-/// Reads the saved frame of an object: from the slot that the directory gives it, or gives a node of
-/// its cluster, else from its home. The slots of a node or an annex and the words of a page are left
-/// in `room`.
+/// Reads the saved frame of an object: from the slot that the directory gives it, or gives a node
+/// of its cluster, else from its home. The slots of a node or an annex and the words of a page are
+/// left in `scratch`.
 pub(crate) fn read_saved<D: Device>(
     device: &mut D,
     plan: &Superblock,

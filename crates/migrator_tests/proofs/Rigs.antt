@@ -1,4 +1,4 @@
--- What is kept beside a store tells of it after each call.
+-- What is kept beside a store agrees with it after each call.
 use Rattle.std.proofs.Common.{◌≡◌, ℕ, ◌+◌, ◌<◌, Bool, true, false, Result, Ok, Err, Some, List, refl, sym, ap, subst, ◌∙◌}
 use Rattle.std.specs.Prelude.{◌≤◌, OnOk, OnErr, length, replicate}
 use Rattle.std.specs.Result.{is_ok}

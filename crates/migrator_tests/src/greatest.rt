@@ -36,7 +36,7 @@ fn is_half_put<D: Device>(rig: &mut Rig<D>) -> Result<bool, Failed> {
     Ok(true)
 }
 
-// Opens a device, and tells how many entries it has and whether all objects are right.
+// Opens a device, and returns how many entries it has and whether all objects are right.
 fn again<D: Device>(alloc: Global, device: D) -> Result<(Rig<D>, u64, bool), Fail> {
     let mut rig = opened(alloc, device)?;
     let is_half_put = is_half_put(&mut rig)?;

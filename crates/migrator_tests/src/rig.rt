@@ -11,9 +11,9 @@ use model::{MAX_AGE, ObjectHeader, Role};
 use std::alloc::Global;
 use std::marker::Model;
 
-/// A store that is called only as its contracts ask. The frame of a node is a bank with a value as
-/// its limit, that of a page has a value as its first word. A call that the store can't be called
-/// for fails: for an object that isn't there, for more frames than there is room for, at an age
+/// A store that is called only as its contracts allow. The frame of a node is a bank with a value
+/// as its limit, that of a page has a value as its first word. A call that the contracts don't
+/// allow fails: for an object that isn't there, for more frames than the log has slots, at an age
 /// that isn't later, or after a commit, a journaling or a migration that failed.
 #[derive(Drop)]
 pub(crate) struct Rig<D: Device> {

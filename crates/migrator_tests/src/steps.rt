@@ -99,7 +99,7 @@ fn saved_of<D: Device>(rig: &Rig<D>) -> (u64, u64, u64) {
     (generation, age, entries)
 }
 
-// Makes a call, and tells whether it answers what it has to.
+// Makes a call, and returns whether it answers what it has to.
 fn is_answered<D: Device>(alloc: Global, rig: &mut Rig<D>, step: Step) -> bool {
     match step {
         Step::Put(values) => put(alloc, rig, values).is_ok(),

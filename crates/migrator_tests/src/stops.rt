@@ -9,8 +9,8 @@ use std::alloc::Global;
 use std::process::Abort;
 use std::test::Fail;
 
-// Opens a device and takes steps, and tells how many of all that were done. `None` where the device
-// is refused for another reason than that it failed.
+// Opens a device and takes steps, and returns how many of all that were done. `None` where the
+// device is refused for another reason than that it failed.
 fn run<D: Device>(alloc: Global, device: D, steps: &[Step]) -> (Option<usize>, D) {
     match Rig::open(alloc, device) {
         Ok(rig) => {

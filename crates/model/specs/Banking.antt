@@ -1,4 +1,4 @@
--- What a bank is asked: new objects, their end, and what is left (EROS, KeyKOS: space bank).
+-- The orders of a bank: new objects, their end, and what is left (EROS, KeyKOS: space bank).
 use Rattle.model.specs.Names.{ℕ, ◌+◌, ◌-◌, ◌==◌, nat_le, nat_lt, min, Bool, not, ◌&&◌, ◌||◌, if◌then◌else◌, List, []}
 use Rattle.model.specs.Names.{◌∷◌, length, map, replicate, slice_set, filter, list_all, range_with_len}
 use Rattle.model.specs.declared.capability.Capability.{Capability}
@@ -105,8 +105,8 @@ abbrev pub freed : List Object → ℕ → List ℕ → OrderOutcome
 freed os b [] = refused os code.BadCapability
 freed os b (n ∷ ns) = if owner_at os n == b then made (rescind (n ∷ ns) os) (n ∷ ns) Void else refused os code.NotFromThisBank
 
--- The orders of a bank. The least code that applies is the answer: no room below a limit, then no free number, then a
--- chain of 16 banks already.
+-- The orders of a bank. The least code that applies is the answer: a limit reached, then no free number, then a chain
+-- of 16 banks already.
 unfoldable pub on_bank : Geometry → List Object → ℕ → BankOrder → Arguments → OrderOutcome
 on_bank g os b bank.NewPage args =
     if has_quota os b 1 then allocated os b (free_pages g os) new_page (λ n. Page n full) else refused os code.Limit

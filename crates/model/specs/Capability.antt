@@ -60,7 +60,7 @@ IsWeak (Resume p) = ⊥
 IsWeak (Bank b) = ⊥
 IsWeak Discrim = Unit {0}
 
--- its tag, as the order that classifies tells it
+-- its tag, as the order that classifies replies it
 abbrev pub tag_of : Capability → ℕ
 tag_of Void = 0
 tag_of (Number n) = 1

@@ -17,9 +17,9 @@ pub record Frozen : Type 0 where
   pub size : ℕ
   pub left : ℕ
 
--- a machine that is up. touched tells for each number whether it was written since the last checkpoint or restart, and
--- renewed whether its object was given up since; to_move counts the saved objects that aren't home, which after a restart
--- is taken for all entries again
+-- a machine that is up. `touched` says of each number whether it was written since the last checkpoint or restart, and
+-- `renewed` whether its object was given up since; `to_move` counts the saved objects that aren't home, and after a
+-- restart all entries
 pub record Running : Type 0 where
   pub now : World
   pub touched : List Bool

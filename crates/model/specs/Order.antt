@@ -47,7 +47,7 @@ bank_order w =
     else if w == 4 then Some bank.NewBank else if w == 5 then Some bank.Free else if w == 6 then Some bank.Destroy
     else if w == 7 then Some bank.ReturnToParent else if w == 8 then Some bank.Remaining else None
 
--- what isn't asked of a bank
+-- no order of a bank
 abbrev pub IsNoBankOrder : Capability → ℕ → Type 0
 IsNoBankOrder (Bank b) w = bank_order w ≡ None
 IsNoBankOrder _ w = Unit {0}
@@ -115,8 +115,8 @@ on_process os p process.GetSpace args = given os (root_at os p).space
 on_process os p process.SetSpace args =
     if is_space args.capability then wrote (with_root os p (with_space (root_at os p) args.capability)) p else refused os code.BadCapability
 
--- What an order does. Every order on void is refused as such. A start or
--- resume capability is no kernel object, and is never asked here.
+-- What an order does. Every order on void is refused as such. No order is invoked on a start or resume capability,
+-- which is no kernel object.
 unfoldable pub order : Geometry → List Object → Capability → ℕ → Arguments → OrderOutcome
 order g os Void w args = refused os code.VoidCapability
 order g os (Number n) w args = if w == 1 then replying os n 0 else refused os code.NoOrder

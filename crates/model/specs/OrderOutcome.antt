@@ -28,11 +28,11 @@ code_number code.VoidCapability = 8
 code_number code.NotFromThisBank = 9
 code_number code.PrimeBank = 10
 
--- an order that isn't carried out changes and tells nothing
+-- an order that isn't carried out changes and replies nothing
 abbrev pub refused : List Object → ResultCode → OrderOutcome
 refused os why = record { code = why; words = 0 ∷ 0 ∷ 0 ∷ []; capability = Void; objects = os; written = [] }
 
--- one that tells two words
+-- one that replies two words
 abbrev pub replying : List Object → ℕ → ℕ → OrderOutcome
 replying os first second = record { code = code.Done; words = first ∷ second ∷ 0 ∷ []; capability = Void; objects = os; written = [] }
 
@@ -44,7 +44,7 @@ given os c = record { code = code.Done; words = 0 ∷ 0 ∷ 0 ∷ []; capability
 abbrev pub wrote : List Object → ℕ → OrderOutcome
 wrote os n = record { code = code.Done; words = 0 ∷ 0 ∷ 0 ∷ []; capability = Void; objects = os; written = n ∷ [] }
 
--- one that tells three
+-- one that replies three
 abbrev pub replying_three : List Object → ℕ → ℕ → ℕ → OrderOutcome
 replying_three os first second third = record { code = code.Done; words = first ∷ second ∷ third ∷ []; capability = Void; objects = os; written = [] }
 

@@ -105,7 +105,7 @@ journaled s n =
     let world : World = record { objects = with_content s.saved.world.objects n (content_at s.now.objects n); age = s.saved.world.age + 1 } in
     record { world = world; generation = s.saved.generation + 2; entries = 1 }
 
--- what carrying a command out tells, and the machine after it
+-- what carrying a command out answers, and the machine after it
 pub record Outcome : Type 0 where
   pub answer : Answer
   pub after : Running
@@ -168,7 +168,7 @@ carried_out g s (command.Journal n) =
 carried_out g s command.Restart = outcome (answer.At s.saved.generation s.saved.world.age) (opened g s.saved)
 carried_out g s command.Cut = outcome (answer.At s.saved.generation s.saved.world.age) (opened g s.saved)
 
--- the answer that is the command's own: the first refusal that applies, else what carrying it out tells
+-- the answer that is the command's own: the first refusal that applies, else what carrying it out answers
 abbrev pub Answers : Geometry → Running → Command → Answer → Machine → Type 0
 Answers g s c a after = elim (refusal_of g s c) [
   | Some why ↦ (a ≡ answer.Refused why) × (after ≡ Up s)

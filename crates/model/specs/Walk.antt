@@ -26,7 +26,7 @@ below height a (Page o b) rest = if height == 1 then restricted a rest else Err 
 below height a (Space o h b) rest = if height == h + 1 then restricted a rest else Err Malformed
 below height a _ rest = Err Malformed
 
--- the page that a list of slots leads to, and the union of the accesses on the way
+-- the page at the end of a list of slots, and the union of the accesses on the way
 abbrev pub walk_along : List Object → Capability → List ℕ → Result (ℕ × Access) MemoryFault
 walk_along os (Page o a) [] = Ok (o, a)
 walk_along os (Space o h a) (slot ∷ slots) = below h a (slot_at os o slot) (walk_along os (slot_at os o slot) slots)

@@ -47,7 +47,7 @@ pub enum Capability {
     Resume(u64),
     /// A source of objects, and the right to destroy what it gave.
     Bank(u64),
-    /// Tells the kinds of capabilities apart.
+    /// Returns the kind of a capability.
     Discrim,
 }
 

@@ -97,7 +97,7 @@ pub struct Message {
     pub capabilities: [Capability; 4],
 }
 
-/// What a script asks of the machine, a line each.
+/// A command of a script to the machine, a line each.
 #[derive(Clone, Copy, PartialEq, Eq, Debug)]
 pub enum Command {
     Invoke(Invocation),
@@ -112,11 +112,11 @@ pub enum Command {
         address: u64,
         value: u64,
     },
-    /// Asks for the text of an object.
+    /// Requests the text of an object.
     Show {
         number: u64,
     },
-    /// Asks that an object leave the cache.
+    /// Requests that an object leave the cache.
     Evict {
         number: u64,
     },

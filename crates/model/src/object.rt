@@ -35,7 +35,7 @@ pub struct Root<C> {
     pub state: State,
     /// The words last delivered.
     pub words: [u64; 4],
-    /// The key last delivered: it tells which start capability was used.
+    /// The key last delivered: it shows which start capability was used.
     pub key: u16,
     /// The number of the object with the registers.
     pub annex: u64,
@@ -71,7 +71,7 @@ impl Role {
 }
 
 impl State {
-    /// Its number in an image, and as orders tell it: the order above, from 0.
+    /// Its number in an image and in orders: the order above, from 0.
     pub fn number(self) -> u64
         ensures { result ≡ state_number self }
     {

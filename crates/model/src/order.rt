@@ -1,4 +1,4 @@
-// What kernel objects are asked, and what comes of it.
+// The orders of kernel objects, and what comes of them.
 ghost use Rattle.std.specs.Prelude.{◌≡◌};
 ghost use Rattle.model.specs.OrderOutcome.{code_number};
 
@@ -20,7 +20,7 @@ pub enum ResultCode {
     PrimeBank = 10,
 }
 
-/// What a page capability is asked.
+/// An order of a page capability.
 #[derive(Clone, Copy, PartialEq, Eq, Debug)]
 pub enum PageOrder {
     Read = 1,
@@ -28,7 +28,7 @@ pub enum PageOrder {
     Reduce = 3,
 }
 
-/// What a node capability is asked.
+/// An order of a node capability.
 #[derive(Clone, Copy, PartialEq, Eq, Debug)]
 pub enum NodeOrder {
     Fetch = 1,
@@ -38,7 +38,7 @@ pub enum NodeOrder {
     PutNumber = 5,
 }
 
-/// What a process capability is asked.
+/// An order of a process capability.
 #[derive(Clone, Copy, PartialEq, Eq, Debug)]
 pub enum ProcessOrder {
     GetRegister = 1,
@@ -52,7 +52,7 @@ pub enum ProcessOrder {
     SetSpace = 9,
 }
 
-/// What a bank capability is asked (EROS, KeyKOS: space bank).
+/// An order of a bank capability (EROS, KeyKOS: space bank).
 #[derive(Clone, Copy, PartialEq, Eq, Debug)]
 pub enum BankOrder {
     NewPage = 1,

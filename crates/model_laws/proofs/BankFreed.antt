@@ -20,7 +20,7 @@ used_within os n used = elim (cases_lt n (length os)) [
   | inr past ↦ let f : true ≡ false = sym (ap (λ (o : Object). is_free o.content) (get_or_past os n free past)) ∙ used in absurd (false≢true (sym f))
 ]
 
--- a set of objects that goes together, each of which is there once
+-- a set of objects that goes together, each once
 pub record IsGivenUp (os : List Object) (set : List ℕ) : Type 0 where
   pub closed : IsClosedSet os set
   pub once : AllDiffer set

@@ -90,7 +90,7 @@ module _ (os : List Object) (set : List ℕ) (tree : IsTree os) (closed : IsClos
   under_went : (x n : ℕ) → is_member set n ≡ true → is_under (rescind set os) x (object_at (rescind set os) n) ≡ false
   under_went x n goes = rw (went_object os set n goes) refl
 
-  -- at each number what stays and what goes come to what was
+  -- at each number what stays and what goes add up to what was
   sums_up : (itself now before goes : Bool) → (goes ≡ false → now ≡ before) → (goes ≡ true → now ≡ false) → (goes ≡ true → itself ≡ false)
       → cond (not itself && now) 1 0 + cond (goes && before) 1 0 ≡ cond (not itself && before) 1 0
   sums_up itself now before true same none other = rw (none refl, other refl) (zero-add _)

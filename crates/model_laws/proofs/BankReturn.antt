@@ -43,7 +43,7 @@ transferred_owner b parent o on unowned = go (is_free o.content) refl
         kept true = refl
         kept false = refl
 
--- the objects after a bank's are handed on
+-- the objects after a bank's are transferred
 module _ (os : List Object) (t : IsTree os) (b : ℕ) (is : IsTrue (is_bank (content_at os b))) (on : b ≢ 0) where
   pub inherited_object : (n : ℕ) → object_at (inherited os b) n ≡ transferred b (owner_at os b) (object_at os n)
   unfolding inherited
@@ -163,7 +163,7 @@ module _ (os : List Object) (t : IsTree os) (b : ℕ) (is : IsTrue (is_bank (con
   usage_none =
       count_none (λ p. not (p.0 == b) && is_under (inherited os b) b p.1) (inherited os b) free (λ i. and_right (not (i == b)) _ (no_under i))
 
--- the frame after a bank's objects are handed on
+-- the frame after a bank's objects are transferred
 pub framed_inherited : (g : Geometry) (os : List Object) (b : ℕ) → IsFramed g os → IsTrue (is_bank (content_at os b)) → b ≢ 0 → IsFramed g (inherited os b)
 framed_inherited g os b h is on =
     let t = tree_of g os h in
@@ -202,7 +202,7 @@ framed_inherited g os b h is on =
       ];
     }
 
--- sound objects are sound where a bank's are handed on
+-- sound objects are sound where a bank's are transferred
 pub inherited_now : (g : Geometry) (os : List Object) (b : ℕ) → IsNow g os → IsTrue (is_bank (content_at os b)) → b ≢ 0 → IsNow g (inherited os b)
 inherited_now g os b h is on =
     let same = inherited_content os (tree_of g os h.frame) b is on in

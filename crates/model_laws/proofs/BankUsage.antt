@@ -1,4 +1,4 @@
--- Usage after a new object, and what a bank is asked where the frame is the same.
+-- Usage after a new object, and the order of a bank where the frame is the same.
 use Rattle.model_laws.proofs.Names.{◌≡◌, ◌≢◌, inl, inr, ℕ, ◌+◌, ◌==◌, ◌<◌, Bool, true, false, not, ◌&&◌, ◌||◌, add-zero, zero-add, List, [], ◌∷◌, length, map}
 use Rattle.model_laws.proofs.Names.{refl, sym, ap, subst, arith, ◌∙◌, IsTrue, if◌then◌else◌, nat_le, nat_lt, filter, list_any, list_all, range_with_len}
 use Rattle.model_laws.proofs.Names.{cases_eq, eq-eqb, ne_eqb, and_right, false_from_ne_true, Capability, Void, Page, Node, Process, Bank, Geometry, Content}
@@ -70,9 +70,9 @@ module _ (os : List Object) (n b : ℕ) (c : Content Capability) (t : IsTree os)
         | inr differ ↦ and_right (not (i == n)) (is_under (with_new os n b c) n (object_at (with_new os n b c) i)) (under_kept n i differ ∙ under_none i)
       ])
 
--- Where the frame is the same, a bank is asked alike.
+-- Where the frame is the same, an order of a bank is the same.
 
--- what two outcomes tell is the same, and the same numbers are written
+-- two outcomes reply the same, and write the same numbers
 pub record SameOutcome (x y : OrderOutcome) : Type 0 where
   pub code : y.code ≡ x.code
   pub words : y.words ≡ x.words

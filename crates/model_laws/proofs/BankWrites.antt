@@ -1,4 +1,4 @@
--- What is written by what a bank is asked, and the annex of a process that outlives it.
+-- What an order of a bank writes, and the annex of a process that outlives it.
 use Rattle.model_laws.proofs.Names.{◌≡◌, ◌≢◌, ℕ, ◌+◌, ◌<◌, ◌≤◌, ◌==◌, Bool, true, false, List, [], ◌∷◌, refl, sym, ap, subst, arith, ◌∙◌, IsTrue, nat_lt}
 use Rattle.model_laws.proofs.Names.{range_with_len, All-cons, All-filter, All-nil, filter_passes, get_or-range_with_len, length-range_with_len, Capability}
 use Rattle.model_laws.proofs.Names.{Geometry, Content, Object, Arguments, BankOrder, chain, allocated, are_free, bank_allocated, freed, freed_by, free_nodes}

@@ -48,7 +48,7 @@ module _ (P : List Object → Type 0) (os : List Object) (i : Invocation) where
   abbrev Gives : Effect → Option Effect → Type 0
   Gives e o = o ≡ Some e → P e.objects
 
-  -- an invocation starts a process, resumes one or asks a kernel object
+  -- an invocation starts a process, resumes one or carries out an order of a kernel object
   pub invoked_by : (Q : Capability → Type 0) (g : Geometry) (e : Effect) → Q (register_at os i.process i.register) →
       ((q key : ℕ) → Q (Start q key) → can_start os i q ≡ true → P (through_gate os i q key).objects) →
       ((q : ℕ) → Q (Resume q) → P (consume q (through_gate os i q 0).objects)) →

@@ -3,7 +3,7 @@ use Rattle.model_laws.proofs.Names.{◌≡◌, ℕ, suc, ◌+◌, ◌==◌, ◌<
 use Rattle.model_laws.proofs.Names.{zero-add, add-zero, ◌∙◌, if◌then◌else◌, count_by, enumerate_from, cases_eq, eq-eqb, ne_eqb, sum_by-cons, and-false}
 use Rattle.model_laws.proofs.Names.{and-true}
 
--- two counts come to a third where they do at each number
+-- two counts add up to a third where they do at each number
 pub count_both : {X : Type 0} (p q r : ℕ × X → Bool) (k : ℕ) (xs ys : List X) (d : X) → length ys ≡ length xs
     → ((i j : ℕ) → j ≡ k + i → cond (p (j, get_or ys i d)) 1 0 + cond (q (j, get_or xs i d)) 1 0 ≡ cond (r (j, get_or xs i d)) 1 0)
     → count_by p (enumerate_from k ys) + count_by q (enumerate_from k xs) ≡ count_by r (enumerate_from k xs)

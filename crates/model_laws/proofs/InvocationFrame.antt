@@ -1,4 +1,4 @@
--- What invocations leave as it is: owners, roles, annexes, limits, and with them chains and usages.
+-- What invocations don't change: owners, roles, annexes, limits, and with them chains and usages.
 use Rattle.model_laws.proofs.Names.{◌≡◌, ℕ, ◌+◌, ◌==◌, not, ◌||◌, Option, None, Some, List, [], ◌∷◌, refl, sym, ap, subst, ◌∙◌, IsTrue, nat_lt, slice_index}
 use Rattle.model_laws.proofs.Names.{slice_index_or, and_parts, Access, Capability, Void, Number, Page, Node, Space, Process, Bank, Discrim, Invocation, Message}
 use Rattle.model_laws.proofs.Names.{Geometry, Object, Root, State, Available, Running, Arguments, BankOrder, NodeOrder, PageOrder, ProcessOrder, is_running}
@@ -92,7 +92,7 @@ bank_refused : (g : Geometry) (os : List Object) (b w : ℕ) (args : Arguments) 
 unfolding order
 bank_refused g os b w args is = ap (λ (found : Option BankOrder). elim found [ None ↦ refused os code.NoOrder | Some requested ↦ on_bank g os b requested args ]) is
 
--- what isn't asked of a bank: the frame stays
+-- what isn't a bank's order: the frame stays
 pub order_frame : (g : Geometry) (W : ℕ → Type 0) (os : List Object) (c : Capability) (w : ℕ) (args : Arguments) → IsHeld os W c → IsNoBankOrder c w
     → SameFrame os (order g os c w args).objects
 unfolding order
@@ -144,7 +144,7 @@ kernel_frame g W os i is held other =
     (held_on os us W W c frame (λ p w. w) held) other in
     frame_trans os us (replied o.objects i o) frame (frame_trans us o.objects (replied o.objects i o) by_order (replied_frame i o))
 
--- an invocation that asks no bank: the frame stays
+-- an invocation with no bank's order: the frame stays
 pub invocation_frame : (g : Geometry) (os : List Object) (i : Invocation) (e : Effect) → IsNow g os → Fits (command.Invoke i) → IsTrue (is_running_process os i.process)
     → IsNoBankOrder (register_at os i.process i.register) (slice_index i.words 0) → invoke g os i ≡ Some e → SameFrame os e.objects
 invocation_frame g os i e h fits runs other =

@@ -66,7 +66,7 @@ fits_holds (command.Migrate n) e = one_below (2 ^ 64) n e
 fits_holds (command.Journal n) e = one_below (2 ^ 64) n e
 fits_holds c e = tt
 
--- the command that the words of a line tell, and whether it is spelled and answered so
+-- the command in the words of a line, and whether it is spelled and answered so
 abbrev pub said : String × String → Command
 said line = command_of (split (codes line.0))
 

@@ -1,4 +1,4 @@
--- What a bank is asked keeps sound objects sound.
+-- An order of a bank keeps sound objects sound.
 use Rattle.model_laws.proofs.Names.{◌≡◌, ◌≢◌, inl, inr, ℕ, ◌+◌, ◌^◌, ◌<◌, ◌≤◌, Bool, true, false, Some, List, [], ◌∷◌, length, map, min, refl, sym, ap, subst}
 use Rattle.model_laws.proofs.Names.{arith, ◌∙◌, IsTrue, if◌then◌else◌, nat_le, nat_lt, slice_index, slice_index_or, AllPairs, list_all, range_with_len}
 use Rattle.model_laws.proofs.Names.{cases_eq, cases_Bool, and_parts, ltb-true, All-filter, All-head, All-get_or, All-from_get_or, filter_passes}
@@ -164,7 +164,7 @@ free_filled : (us : List Object) (W : ℕ → Type 0) (c : Content Capability) �
 free_filled us W content.Free e = filled_void us W content.Free tt (λ i. omega arith) (λ i. refl) refl
 free_filled us W c e = cc
 
--- room and free numbers
+-- quotas and free numbers
 
 -- what passes for all passes for a member
 pub member_passes : (test : ℕ → Bool) (xs : List ℕ) (x : ℕ) → list_all test xs ≡ true → is_member xs x ≡ true → test x ≡ true
@@ -176,7 +176,7 @@ member_passes test (y ∷ ys) x all member =
       | inr differ ↦ member_passes test ys x parts.1 (sym (member_tail x y ys differ) ∙ member)
     ]
 
--- where there is room, no bank of the chain passes its limit
+-- where the quota allows it, no bank of the chain passes its limit
 spare_body_at : (os : List Object) (b count x : ℕ) → has_quota os b count ≡ true → is_member (chain os b) x ≡ true → usage os x + count ≤ limit_in (content_at os x)
 unfolding has_quota
 spare_body_at os b count x room member =
@@ -355,7 +355,7 @@ module _ (g : Geometry) (os : List Object) (p a b : ℕ) (h : IsNow g os) (bank 
       apart : (x n : ℕ) → x ≡ n → IsTrue (is_free (content_at os n)) → is_free (content_at os x) ≡ false → ⊥
       apart x n e gone old = let both : true ≡ false = sym gone ∙ (ap (λ (m : ℕ). is_free (content_at os m)) (sym e) ∙ old) in cc
 
--- what a bank is asked
+-- each order of a bank
 
 module _ (g : Geometry) (os : List Object) (b : ℕ) (args : Arguments) (h : IsNow g os) (is : IsTrue (is_bank (content_at os b))) (fits : AreArguments os args) where
   -- one that writes objects and gives a capability
@@ -453,7 +453,7 @@ module _ (g : Geometry) (os : List Object) (b : ℕ) (args : Arguments) (h : IsN
         held = held_void os (Waits os);
       }
 
--- whatever a bank is asked keeps sound objects sound
+-- every order of a bank keeps sound objects sound
 pub on_bank_keeps : (g : Geometry) (os : List Object) (b : ℕ) (requested : BankOrder) (args : Arguments) → IsNow g os → IsTrue (is_bank (content_at os b))
     → AreArguments os args → IsOutcome g (on_bank g os b requested args)
 on_bank_keeps g os b bank.NewPage args h is fits = page_allocated_keeps g os b args h is fits

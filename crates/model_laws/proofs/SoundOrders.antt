@@ -18,7 +18,7 @@ use Rattle.model_laws.proofs.SoundEdits.{state_consume}
 abbrev pub IsNow : Geometry → List Object → Type 0
 IsNow g os = IsNearlySound g (Waits os) os
 
--- an outcome that may be told to a process
+-- an outcome that a process may get as a reply
 pub record IsOutcome (g : Geometry) (o : OrderOutcome) : Type 0 where
   pub now : IsNow g o.objects
   pub count : length o.words ≡ 3

@@ -1,4 +1,4 @@
--- The words of a line tell its command.
+-- The words of a line decide its command.
 use Rattle.model_laws.proofs.Names.{◌≡◌, ◌↔◌, ℕ, ◌+◌, ◌*◌, ◌<◌, ◌≤◌, ◌^◌, ◌==◌, Bool, true, false, ◌||◌, List, [], ◌∷◌, ◌++◌, map, length, take, drop, All}
 use Rattle.model_laws.proofs.Names.{codes, decimal, bytes_eq, inl, inr, refl, sym, ap, ap₂, ◌∙◌, subst, arith, leb-true, length-append, ◌%◌, slice_split}
 use Rattle.model_laws.proofs.Names.{list_any, digits_value, length-map, All-nil, All-cons, All-head, All-tail, All-append, All-push, All-map, All-weaker}
@@ -230,7 +230,7 @@ reads_words (command.Migrate n) fits = ap command.Migrate (value_of n fits)
 reads_words (command.Journal n) fits = ap command.Journal (value_of n fits)
 reads_words c fits = refl
 
--- a spelling tells its command
+-- a spelling gives its command
 pub reads_spelling : (c : Command) → Fits c → command_of (split (spelling c)) ≡ c
 reads_spelling c fits = ap command_of (split_spelling c fits) ∙ reads_words c fits
 

@@ -63,7 +63,7 @@ refuses : (full : Bool) → (unless (not full) refusal.LogFull None ≡ Some ref
 refuses true = (λ e. refl, λ e. refl)
 refuses false = (λ e. cc, λ e. cc)
 
--- what is left to check once an invocation comes to something
+-- what is left to check once an invocation has an effect
 abbrev last_checks : Geometry → Running → Option Effect → Option Refusal
 last_checks g s None = Some refusal.Stalled
 last_checks g s (Some effect) = unless (not (overfills g s.touched effect.written)) refusal.LogFull None

@@ -76,11 +76,11 @@ says_commands = (
 pub says_nothing : SaysNothing
 says_nothing = ((omega arith, tt), (omega arith, refl), (omega arith, refl))
 
--- where a text spells a command, its words tell which
+-- where a text spells a command, its words decide which
 replying_by_words : (text : List ℕ) (c : Command) → Fits c → text ≡ spelling c → command_of (split text) ≡ c
 replying_by_words text c fits e = ap (λ t. command_of (split t)) e ∙ reads_spelling c fits
 
--- a text that isn't the spelling of the command that its words tell spells none
+-- a text that isn't the spelling of the command of its words spells none
 spells_another : (text : List ℕ) → bytes_eq text (spelling (command_of (split text))) ≡ false → (c : Command) → Fits c → text ≢ spelling c
 spells_another text differs c fits e =
     let spelled : text ≡ spelling (command_of (split text)) = e ∙ ap spelling (sym (replying_by_words text c fits e)) in

@@ -40,7 +40,7 @@ RescindsAll = (set : List ℕ) (os : List Object) →
     × ((n i : ℕ) → names_member set (slot_at (rescind set os) n i) ≡ false)
     × ((p : ℕ) → names_member set (root_at (rescind set os) p).space ≡ false)
 
--- after a consume all is as it was but for capabilities that are void, and no slot or address space resumes the process
+-- a consume only makes capabilities void, and after it no slot or address space resumes the process
 abbrev pub ConsumesAll : Type 0
 ConsumesAll = (p : ℕ) (os : List Object) →
     ((n : ℕ) → object_at (consume p os) n ≡ without (resumes p) (object_at os n))
@@ -62,7 +62,7 @@ GivesUpRescinded = (g : Geometry) (w : World) (b : ℕ) (requested : BankOrder) 
     is_given_up w.objects (on_bank g w.objects b requested args).objects n ≡ is_member (rescinded_by w.objects b requested args) n)
     × (((on_bank g w.objects b requested args).code ≡ code.Done → ⊥) → is_given_up w.objects (on_bank g w.objects b requested args).objects n ≡ false)
 
--- an invocation of a running process that asks no bank, through a gate or not, gives nothing up
+-- an invocation of a running process with no bank's order, through a gate or not, gives nothing up
 abbrev pub GivesUpNothing : Type 0
 GivesUpNothing = (g : Geometry) (w : World) (i : Invocation) (e : Effect) (n : ℕ) →
     IsSound g w → Fits (command.Invoke i) → IsTrue (is_running_process w.objects i.process) →

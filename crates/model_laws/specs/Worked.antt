@@ -44,7 +44,7 @@ abbrev pub aged : ℕ → World
 aged age = record { objects = i0.objects; age = age }
 
 -- World S0: process 1 with annex 2 runs, and holds itself, the right to start it with key 7, the
--- right to tell capabilities apart, nodes 5 and 6, and page 16
+-- right to classify capabilities, nodes 5 and 6, and page 16
 unfoldable pub s0 : World
 s0 = record {
   objects =

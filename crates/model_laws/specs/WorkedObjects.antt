@@ -56,7 +56,7 @@ reduces_further = row (at_world f0) (
     ("show 1", process_1 "running key 0 words 0 0 0 0" (f0_registers ++ "register 28 space 5 1 weak\n")) ∷
     [])
 
--- a page is fetched through a weak node: it is weak, and takes no write; nothing can be asked of void
+-- a page is fetched through a weak node: it is weak, and takes no write; void has no orders
 abbrev pub diminishes_page : Row
 diminishes_page = row (at_world f0) (
     ("call 1 5 2 0 0 0 6 0 0 0", "done") ∷ ("show 5", "node 5 owner 0\nslot 0 page 16\nend") ∷

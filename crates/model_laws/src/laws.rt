@@ -20,8 +20,7 @@ pub fn rescinds_all()
     ensures { RescindsAll }
 {}
 
-/// After a consume all is as it was but for capabilities that are void, and nothing resumes the
-/// process.
+/// A consume only makes capabilities void, and after it nothing resumes the process.
 pub fn consumes_all()
     ensures { ConsumesAll }
 {}
@@ -32,7 +31,7 @@ pub fn gives_up_rescinded()
     ensures { GivesUpRescinded }
 {}
 
-/// An invocation that asks no bank, through a gate or not, gives nothing up.
+/// An invocation with no bank's order, through a gate or not, gives nothing up.
 #[tactic(auto, using(crate::proofs::GivenUp::gives_up_nothing))]
 pub fn gives_up_nothing()
     ensures { GivesUpNothing }

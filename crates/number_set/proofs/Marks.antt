@@ -236,7 +236,7 @@ module _ (count : ℕ) (words : List ℕ) where
   unfolding marks_of
   mark_within n within = get_or-map-range_with_len (λ k. nat_eq (bit_of words k) 1) 0 count n n false within (omega arith)
 
-  -- two lists of so many marks are one
+  -- two lists with the same marks are equal
   same_marks : (marks : List Bool) → length marks ≡ count → ((n : ℕ) → n < count → is_marked marks n ≡ nat_eq (bit_of words n) 1) → marks ≡ marks_of count words
   unfolding marks_of
   same_marks marks long each = fill_by_all (λ k. nat_eq (bit_of words k) 1) marks count false long each

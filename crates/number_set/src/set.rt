@@ -10,8 +10,8 @@ use std::marker::Model;
 /// A set of numbers from 0 up to a count.
 ///
 /// A number is in the set where its bit in `words` is set, and a word isn't 0 where its bit in
-/// `summary` is set: the next number of the set is found by a look at one word and at the summary,
-/// which has one word for each 4096 numbers.
+/// `summary` is set. The next number of the set is found from one word and the summary, which has
+/// one word for each 4096 numbers.
 #[derive(Drop)]
 pub struct NumberSet {
     count: usize,

@@ -1,4 +1,4 @@
-// A set over more numbers than one word of the summary tells of.
+// A set over more numbers than one word of the summary covers.
 use crate::NumberSet;
 use std::test::Fail;
 

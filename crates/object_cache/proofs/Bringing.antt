@@ -140,7 +140,7 @@ module _ {D : Type 0} (disk : D → Disk) (d : DurableState D) (m : Memory) (lef
     cached = ap is_some (get_or-set_same s.cached n (Some content.Free) None known_cached);
   }
 
--- ---- what leads on, and why a call failed
+-- ---- what continues, and why a call failed
 
 module _ {D : Type 0} (disk : D → Disk) where
   pub cached_continues : ((d : D) (c : Image) → (disk d).left_since (disk d).moment c → (disk d).may_leave c) → {T E : Type 0} (r : Result T E) (s t : StoreState D) (n : ℕ) →

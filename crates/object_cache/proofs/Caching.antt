@@ -100,7 +100,7 @@ module _ (s : Stored) (m : Memory) (es : List (Option Entry)) (n : ℕ) (change 
 
 -- ---- an entry that isn't wanted is dropped
 
--- what is owed by an entry of which nothing is
+-- an entry that owes nothing
 pub nothing_owed : (e : Entry) (pending touched : Bool) → owed_of (Some e) pending touched ≡ Nothing → (pending ≡ false) ⊎ ((pending ≡ true) × (touched ≡ true) × (e.kept ≡ None))
 nothing_owed e false touched is = inl refl
 nothing_owed e true touched is = let p = go e.kept touched is in inr (refl, p.0, p.1)
@@ -110,7 +110,7 @@ nothing_owed e true touched is = let p = go e.kept touched is in inr (refl, p.0,
     go None true same = (refl, refl)
     go None false same = cc
 
--- the hand has a body of a pending number alone
+-- only a pending number's body is in the staging buffer
 pub no_staging : (staging : Option Held) (pending : List Bool) → ((h : Held) → staging ≡ Some h → mark_at pending h.number ≡ true) → (n : ℕ) (c : Content Cap) → mark_at pending n ≡ false → in_staging staging n c ≡ c
 no_staging None pending held n c not_pending = refl
 no_staging (Some h) pending held n c not_pending =
@@ -176,7 +176,7 @@ module _ (s : Stored) (m : Memory) (left count : ℕ) (is : IsCache s m left cou
   owed_dropped = ap (λ (o : Option Entry). owed_of o (mark_at m.pending n) (mark_at m.touched n)) none_now ∙ sym owed
 
 module _ {D : Type 0} (disk : D → Disk) (d : DurableState D) (m : Memory) (left : ℕ) (order : List ℕ) (most_entries : ℕ) (es : List (Option Entry)) (n : ℕ) (change : Recaches (stored_of disk d) m es n) where
-  -- all that is seen but for rooms and what entries have of the frozen frames
+  -- all that is seen but for buffers and what entries have of the frozen frames
   pub seen_cached : (x : List Owed) → owed_in (with_objects m m.headers es) ≡ x →
       cache_of disk d (with_objects m m.headers es) left order most_entries ≡ record (cache_of disk d m left order most_entries) { cached = cached_in es; owed = x }
   seen_cached x owed =
@@ -303,7 +303,7 @@ no_room (Some e) is = absurd (none-some e.buffer (sym is))
 -- the same by what is seen
 module _ {D : Type 0} (disk : D → Disk) (d : DurableState D) (m : Memory) (left count : ℕ) (order : List ℕ) (most_entries : ℕ) (s : StoreState D)
     (view : cache_of disk d m left order most_entries ≡ s) (is : IsCache (stored_of disk d) m left count) where
-  -- a number that has no seat has no entry
+  -- a number that isn't cached has no entry
   pub no_entry : (n : ℕ) → cached_at s.cached n ≡ None → entry_at m.entries n ≡ None
   no_entry n uncached = no_room (entry_at m.entries n) (sym (frame_slot_in m.entries n) ∙ ap (λ (t : StoreState D). cached_at t.cached n) view ∙ uncached)
 

@@ -1,4 +1,4 @@
--- A free number becomes an object, in the room that lies aside in its entry.
+-- A free number becomes an object, in the spare body of its entry.
 use Rattle.object_cache.proofs.Names.{◌≡◌, ◌≢◌, ℕ, ◌<◌, Bool, true≢false, cond, List, length, set, Option, Some, None, IsSome, is_some, option_map, refl, sym}
 use Rattle.object_cache.proofs.Names.{ap, ◌∙◌, arith, length-set, lt-ltb, le-ltb, get_or-set_same, get_or-set_other, none-some, same_Some, Cap, ObjectHeader}
 use Rattle.object_cache.proofs.Names.{Geometry, Content, Role, blank_header, header_at, void_held, all_slots, zero_words, Disk, DurableState, stored_of, Fresh}
@@ -11,7 +11,7 @@ use Rattle.object_cache.proofs.Changing.{Changes, kept_of, with_objects, still_c
 use Rattle.object_cache.proofs.Objects.{has_entry, known, frame_slot_in, cached_stay, seen_changed}
 use Rattle.object_cache.proofs.Caching.{cached_set}
 
--- the room of a kind of number is that of what a number of the kind becomes
+-- the spare body of a kind of number fits what a number of the kind becomes
 room_fits : (g : Geometry) (n : ℕ) (f : Fresh) → IsFreshAt g n f → spare_body_at g n ≡ spare_body_for f
 room_fits g n fresh.Page place = ap (λ (t : Bool). cond t (content.Node (all_slots void_held)) (content.Page zero_words)) (le-ltb n g.nodes place)
 room_fits g n fresh.Node place = ap (λ (t : Bool). cond t (content.Node (all_slots void_held)) (content.Page zero_words)) (lt-ltb n g.nodes place)
@@ -19,7 +19,7 @@ room_fits g n (fresh.Root annex) place = ap (λ (t : Bool). cond t (content.Node
 room_fits g n fresh.Annex place = ap (λ (t : Bool). cond t (content.Node (all_slots void_held)) (content.Page zero_words)) (lt-ltb n g.nodes place)
 room_fits g n (fresh.Bank limit) place = ap (λ (t : Bool). cond t (content.Node (all_slots void_held)) (content.Page zero_words)) (lt-ltb n g.nodes place)
 
--- an entry of which the room was taken and filled
+-- an entry whose spare body was taken and filled
 abbrev pub filling : Content Cap → Content Cap → ℕ → List (Option Entry) → List (Option Entry)
 filling left c n es = with_entry (holding c) n (with_entry (reserving left) n es)
 
@@ -84,7 +84,7 @@ module _ {D : Type 0} (disk : D → Disk) (d : DurableState D) (m : Memory) (lef
   some_here : IsSome (entry_at m.entries n)
   some_here = has_entry disk d m left order most_entries s view n fetched
 
-  -- the room that is taken is the one for what the number becomes
+  -- the spare body that is taken is the one for what the number becomes
   pub room_taken : (f : Fresh) → IsFreshAt (stored_of disk s.durable).saved.geometry n f → (header_at s.headers n).role ≡ role.Free →
       (room : Content Cap) → option_map buffer_of (entry_at m.entries n) ≡ Some room → room ≡ spare_body_for f
   room_taken f place free room taken =

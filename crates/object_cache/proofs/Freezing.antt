@@ -156,7 +156,7 @@ module _ (s : Stored) (m : Memory) (left count : ℕ) (is : IsCache s m left cou
       ∙ frozen_now n within
       ∙ sym (frame_in m.headers (contents_in s m) n within ∙ ap (λ (c : Content Cap). record { header = header_at m.headers n; content = c }) (content_in s m n within)))
 
-  -- so many are to be written as were since
+  -- a number is touched if it is dirty or has a working slot
   written_by : (n : ℕ) (b t : Bool) → mark_at m.dirty n ≡ b → mark_at m.touched n ≡ t → (b || is_kept (put_at s.working n)) ≡ t
   written_by n true true dirty touched = refl
   written_by n true false dirty untouched = absurd (true≢false (sym (is.marked n dirty) ∙ untouched))

@@ -40,7 +40,7 @@ with_frame n s m = with_frozen n (Kept (frozen_at s m n)) s
 abbrev pub without_pending : ℕ → List (Option Entry) → Option Held → Memory → Memory
 without_pending n es staging m = record m { pending = set m.pending n false; entries = es; staging = staging }
 
--- what is left in memory of a number of which the frozen frame was put: what it holds stays, and nothing is kept apart
+-- what memory has of a number whose frozen frame was put: what it holds stays, and nothing is kept apart
 pub record Releases (s : Stored) (m : Memory) (n : ℕ) (es : List (Option Entry)) (staging : Option Held) : Type 0 where
   pub count : length es ≡ length m.entries
   pub entries : (k : ℕ) → k ≢ n → entry_at es k ≡ entry_at m.entries k

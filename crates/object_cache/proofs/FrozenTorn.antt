@@ -1,4 +1,4 @@
--- The slot of a frozen frame is torn, of which the body is in memory.
+-- The slot of a frozen frame is torn, and its body is in memory.
 use Rattle.object_cache.proofs.Names.{◌≡◌, ◌≢◌, inl, inr, ℕ, ◌<◌, Bool, true, ◌||◌, List, length, set, Option, Some, option_map, sym, ap, subst, ◌∙◌, arith}
 use Rattle.object_cache.proofs.Names.{length-set, count_by, cases_eq, get_or-set_other, none-some, same_Some, Cap, Frame, Content, frame_at, header_at}
 use Rattle.object_cache.proofs.Names.{AreKeepable, Put, Absent, Broken, Kept, put_at, put_or, most, FrozenPuts, Stored, below_at, frozen_put, with_frozen}

@@ -1,4 +1,4 @@
--- What is saved goes home, or what is frozen is saved: no object is another.
+-- What is saved goes home, or what is frozen is saved: no object changes.
 use Rattle.object_cache.proofs.Names.{◌≡◌, inl, inr, ℕ, zero, suc, ◌+◌, ◌-◌, ◌≤◌, ◌<◌, Bool, true, false, cond, ◌||◌, List, [], ◌∷◌, length, map, Option, Some}
 use Rattle.object_cache.proofs.Names.{None, option_map, Result, Ok, Err, refl, sym, ap, subst, ◌∙◌, arith, ◌==◌, count_by, slice_index_or, range_with_len}
 use Rattle.object_cache.proofs.Names.{cases_lt, length-map, same_lists, get_or_past, length-map-range_with_len, get_or-map-range_with_len, sum_by-cons}
@@ -304,7 +304,7 @@ module _ {D : Type 0} (disk : D → Disk) (d : DurableState D) (m : Memory) (lef
           ∙ ap (λ (g : FrozenFrames). record { frozen = None; saved = store.next_saved age f (stored_of disk s.durable).saved; to_move = g.size }) found.2
       save_snapshots (Err e) done = tt
 
--- a checkpoint on its way, of which none is left, may be committed where each that is may be
+-- a checkpoint with no frame left to write may be committed where each may be
 pub ready_of : (o : Option FrozenFrames) (saved : SavedFrames) (age k : ℕ) → option_map (λ (f : FrozenFrames). f.left) o ≡ Some k → k ≡ 0 → ((f : FrozenFrames) → o ≡ Some f → store.MayCommit age f saved) →
     (f : FrozenFrames) × (o ≡ Some f) × (f.left ≡ 0) × store.MayCommit age f saved
 ready_of None saved age k is none may = absurd (none-some k is)

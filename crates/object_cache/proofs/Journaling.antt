@@ -1,4 +1,4 @@
--- A page is journaled: no object is another, and what is saved of the page has the words that it has now.
+-- A page is journaled: no object changes, and what is saved of the page has the words that it has now.
 use Rattle.object_cache.proofs.Names.{◌≡◌, ◌≢◌, ◌⊎◌, inl, inr, ℕ, ◌<◌, Bool, true, false, List, length, set, length-set, Option, Some, None, option_map, Result}
 use Rattle.object_cache.proofs.Names.{Ok, Err, refl, sym, ap, subst, ◌∙◌, arith, cases_eq, get_or-set_same, get_or-set_other, none-some, Cap, Frame}
 use Rattle.object_cache.proofs.Names.{ObjectHeader, Content, Role, blank_frame, frame_at, frames_in, header_at, held_at, AreKeepable, is_page, role_of}
@@ -150,7 +150,7 @@ module _ (s : Stored) (m : Memory) (left count : ℕ) (is : IsCache s m left cou
         ap (option_map (λ (f : FrozenPuts). record { frames = frozen_in after m; size = f.size; left = left })) none
         ∙ sym (ap (option_map (λ (f : FrozenPuts). record { frames = frozen_in s m; size = f.size; left = left })) none)
 
--- an answer tells whether a checkpoint is on its way, and nothing else of it
+-- an answer depends on whether a checkpoint is on its way, and on nothing else of it
 pub answer_same : {F : Type 0} (f g : F → ℕ) (o : Option F) (old new : Disk) (saved : SavedFrames) (is_page is_saved : Bool) (r : Result ℕ JournalFault) →
     journal.IsJournalAnswer old new (option_map f o) saved is_page is_saved r → journal.IsJournalAnswer old new (option_map g o) saved is_page is_saved r
 answer_same f g None old new saved is_page is_saved r reported = reported
@@ -161,7 +161,7 @@ answer_same f g (Some x) old new saved is_page is_saved (Err fault.NotPage) repo
 answer_same f g (Some x) old new saved is_page is_saved (Err fault.Renewed) reported = absurd (none-some (f x) (sym reported.1))
 answer_same f g (Some x) old new saved is_page is_saved (Err fault.Failed) reported = absurd (none-some (f x) (sym reported.1))
 
--- which words it has is asked of a page alone
+-- its words matter only if it is a page
 next_words : {F : Type 0} (age n : ℕ) (ws vs : List ℕ) (o : Option F) (saved : SavedFrames) (is_page is_saved : Bool) → (o ≡ None → is_page ≡ true → ws ≡ vs) →
     next_journaled {F = F} age n ws o saved is_page is_saved ≡ next_journaled {F = F} age n vs o saved is_page is_saved
 next_words age n ws vs None saved true is_saved same = ap (λ (xs : List ℕ). journal.saved_next age n xs saved true is_saved) (same refl refl)

@@ -1,4 +1,4 @@
--- What leads from one value of a cache to another, and on.
+-- Why one value of a cache continues as another.
 use Rattle.object_cache.proofs.Names.{◌≡◌, ℕ, Bool, List, Option, sym, ap, ◌∙◌, Cap, Content, Disk, stored_of, Snapshots, Held, Owed, StoreState, GoesOnIn}
 use Rattle.object_cache.proofs.Names.{on_device}
 
@@ -11,7 +11,7 @@ module _ {D : Type 0} where
   put_on s t u first second = second ∙ ap (λ (x : StoreState D). on_device x u) first
 
 module _ {D : Type 0} (disk : D → Disk) where
-  -- what is in memory isn't looked at
+  -- what is in memory doesn't matter
   pub continues_cached : (s t : StoreState D) (cached : List (Option (Content Cap))) (owed : List Owed) (order : List ℕ) → GoesOnIn disk s t → GoesOnIn disk s (record t { cached = cached; owed = owed; order = order })
   continues_cached s t cached owed order first = record {
     goes_on = first.goes_on;

@@ -1,4 +1,4 @@
--- What is seen of a cache of which one object was changed.
+-- What is seen of a cache after one object was changed.
 use Rattle.object_cache.proofs.Names.{◌≡◌, inl, inr, ℕ, ◌<◌, true, List, length, set, map, Option, Some, None, IsSome, is_some, option_map, true≢false, refl}
 use Rattle.object_cache.proofs.Names.{sym, ap, subst, ◌∙◌, arith, length-set, none-some, same_Some, get_or-map-range_with_len, length-map-range_with_len}
 use Rattle.object_cache.proofs.Names.{get_or-map, get_or-set_same, get_or-set_other, map-set, set-get_or, Cap, Frame, ObjectHeader, Content, Role, blank_header}
@@ -28,7 +28,7 @@ kept_stays c (Some e) = refl
 pub present_kept : (c : Content Cap) (n : ℕ) (es : List (Option Entry)) → n < length es → option_map kept_of (entry_at (with_entry (holding c) n es) n) ≡ option_map kept_of (entry_at es n)
 present_kept c n es within = ap (option_map kept_of) (get_or-set_same es n (option_map (holding c) (entry_at es n)) None within) ∙ kept_stays c (entry_at es n)
 
--- the rooms of entries stay
+-- the buffers of entries stay
 room_stays : (c : Content Cap) (o : Option Entry) → option_map buffer_of (option_map (holding c) o) ≡ option_map buffer_of o
 room_stays c None = refl
 room_stays c (Some e) = refl
@@ -88,7 +88,7 @@ module _ {D : Type 0} (disk : D → Disk) (d : DurableState D) (m : Memory) (lef
   abbrev old : StoreState D
   old = cache_of disk d m left order most_entries
 
-  -- all that is seen but for headers, contents and rooms
+  -- all that is seen but for headers, contents and buffers
   pub seen_changed : (hs : List ObjectHeader) (es : List (Option Entry)) (n : ℕ) → Changes m hs es n → mark_at m.touched n ≡ true →
       cache_of disk d (with_objects m hs es) left order most_entries ≡ record old { headers = hs; contents = contents_in (stored_of disk d) (with_objects m hs es); cached = cached_in es }
   seen_changed hs es n change touched =

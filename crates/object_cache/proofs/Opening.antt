@@ -151,5 +151,5 @@ module _ {D : Type 0} (disk : D → Disk) (device : D) (d : DurableState D) (hs 
             ∙ again (stored_of disk d).saved.frames
             ∙ ap (λ (x : DurableState D). (stored_of disk x).saved.frames) (sym over.durable)
 
--- a store is told apart from its making
+-- a store apart from its making
 module _ {D : Type 0} (disk : D → Disk) where

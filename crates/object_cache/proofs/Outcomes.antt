@@ -1,4 +1,4 @@
--- What a call that may fail leaves, told for each outcome.
+-- What a call that may fail leaves, by its outcome.
 use Rattle.object_cache.proofs.Names.{◌≡◌, Bool, true, false, Result, Ok, Err, refl, sym, subst, OnOk, OnErr}
 
 -- what holds of both

@@ -1,4 +1,4 @@
--- What an entry owes is paid, its body is put, and it is dropped: what that comes to, call by call.
+-- What an entry owes is paid, its body is put, and it is dropped: the outcome, call by call.
 use Rattle.object_cache.proofs.Names.{◌≡◌, ◌∙◌, inl, inr, ℕ, Bool, false, cond, List, Result, Ok, Err, Some, None, length, set, refl, sym, ap, subst, arith}
 use Rattle.object_cache.proofs.Names.{length-set, OnOk, OnErr, cases_lt, eq-eqb, get_or_past, get_or-set_same, header_at, held_at, IsKeepable, Disk, Counts}
 use Rattle.object_cache.proofs.Names.{most, stored_of, without, Held, Owed, Nothing, let_go, mark_at, masked, StoreState, GoesOnIn, IsFetchedIn, on_device}
@@ -18,7 +18,7 @@ mark_gone ms n = elim (cases_lt n (length ms)) [
   | inr past ↦ get_or_past (set ms n false) n false (let size = length-set ms n false in omega (arith, size, past))
 ]
 
--- a hand lets go of what it holds
+-- a staging buffer releases the body that it has
 pub let_go_own : (h : Held) → let_go h.number (Some h) ≡ None
 let_go_own h = ap (λ (b : Bool). cond b None (Some h)) (eq-eqb h.number h.number refl)
 

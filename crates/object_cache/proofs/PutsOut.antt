@@ -1,4 +1,4 @@
--- The frozen frame of an object is put of which an entry has the frozen body, or was to be.
+-- The frozen frame of an object is put, or was to be, from the frozen body in its entry.
 use Rattle.object_cache.proofs.Names.{◌≡◌, ◌≢◌, inl, inr, ℕ, ◌<◌, ◌≤◌, Bool, true, false, true≢false, cond, ◌||◌, List, length, map, set, Option, Some, None}
 use Rattle.object_cache.proofs.Names.{option_map, refl, sym, ap, subst, ◌∙◌, arith, length-set, count_by, range_with_len, cases_eq, cases_lt, eq-eqb, ne_eqb}
 use Rattle.object_cache.proofs.Names.{get_or-set_same, get_or-set_other, get_or_past, length-map-range_with_len, get_or-map-range_with_len, none-some}
@@ -15,7 +15,7 @@ use Rattle.object_cache.proofs.Objects.{fetched_known}
 use Rattle.object_cache.proofs.Puts.{has_free_slot}
 use Rattle.object_cache.proofs.Caching.{owed_entry}
 
--- ---- what is in the hand, once it has let go of a number
+-- ---- what is in the staging buffer, once it has released a number's body
 
 pub let_go_others : (staging : Option Held) (n k : ℕ) (c : Content Cap) → k ≢ n → in_staging (let_go n staging) k c ≡ in_staging staging k c
 let_go_others None n k c other = refl

@@ -1,4 +1,4 @@
--- Numbers are made ready to be written: room, and what was frozen, are put aside, and marks come last.
+-- Numbers are made ready to be written: first spare bodies and copies of frozen bodies, and marks last.
 use Rattle.object_cache.proofs.Names.{◌≡◌, ◌≢◌, inl, inr, ℕ, ◌<◌, ◌≤◌, Bool, List, length, set, Option, Some, None, IsSome, is_some, true, true≢false, refl}
 use Rattle.object_cache.proofs.Names.{sym, ap, subst, ◌∙◌, arith, Contains, cases_eq, get_or-set_same, get_or-set_other, length-map-range_with_len, Cap}
 use Rattle.object_cache.proofs.Names.{Content, header_at, touched_count, touching, Image, Disk, peeks_started, DurableState, stored_of, goes_none}

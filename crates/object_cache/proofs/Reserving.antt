@@ -1,4 +1,4 @@
--- Another room lies aside for a number that has an entry.
+-- A number that has an entry gets another buffer.
 use Rattle.object_cache.proofs.Names.{◌≡◌, inl, inr, ℕ, ◌<◌, Bool, true, false, List, length, set, Option, Some, None, option_map, refl, sym, ap, ◌∙◌, arith}
 use Rattle.object_cache.proofs.Names.{length-set, get_or-set_same, get_or-set_other, none-some, same_Some, Cap, Content, header_at, Disk, DurableState, Stored}
 use Rattle.object_cache.proofs.Names.{below_at, stored_of, Entry, entry_at, with_entry, reserving, buffer_of, Memory, mark_at, present_body, newest_body}

@@ -1,4 +1,4 @@
--- The frozen frame of the body in the hand is put, or was to be.
+-- The frozen frame of the body in the staging buffer is put, or was to be.
 use Rattle.object_cache.proofs.Names.{◌≡◌, ◌⊎◌, inl, inr, ℕ, ◌<◌, ◌≤◌, Bool, true, false, true≢false, cond, List, length, set, Option, Some, None, option_map}
 use Rattle.object_cache.proofs.Names.{refl, sym, ap, subst, ◌∙◌, arith, count_by, cases_lt, eq-eqb, ne_eqb, get_or-set_same, get_or_past, none-some, same_Some}
 use Rattle.object_cache.proofs.Names.{Cap, Frame, ObjectHeader, Content, Role, frame_at, header_at, IsKeepable, Disk, Put, Absent, Broken, Kept, put_at, put_or}
@@ -14,7 +14,7 @@ use Rattle.object_cache.proofs.Leading.{same_put}
 use Rattle.object_cache.proofs.PutsOut.{running_here, frozen_room, frozen_keepable, put_continues}
 use Rattle.object_cache.proofs.Caching.{nothing_owed, owed_entry}
 
--- a body that was frozen as free isn't looked at, or the object is free
+-- a body that was frozen as free doesn't matter, or the object is free
 mask_under : (fr r : Role) (c : Content Cap) → (fr ≡ role.Free → r ≡ role.Free) → masked r (masked fr c) ≡ masked r c
 mask_under role.Free r c free = ap (λ (x : Role). masked x content.Free) (free refl) ∙ sym (ap (λ (x : Role). masked x c) (free refl))
 mask_under role.Page r c free = refl
@@ -94,7 +94,7 @@ module _ (s : Stored) (m : Memory) (left count : ℕ) (is : IsCache s m left cou
       content = content_put (entry_at m.entries h.number) refl;
     }
 
--- the number of the body in the hand is known
+-- the number of the body in the staging buffer is known
 module _ {D : Type 0} (disk : D → Disk) (d : DurableState D) (m : Memory) (left count : ℕ) (order : List ℕ) (most_entries : ℕ) (s : StoreState D)
     (view : cache_of disk d m left order most_entries ≡ s) (is : IsCache (stored_of disk d) m left count) (h : Held) (staging : m.staging ≡ Some h) where
   pub held_frozen : h.number < length m.frozen_headers

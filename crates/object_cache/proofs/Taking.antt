@@ -1,4 +1,4 @@
--- The frozen body of an object is taken up from below the entries: nothing that is seen is another but the hand.
+-- The frozen body of an object is taken up from below the entries: nothing that is seen changes but the staging buffer.
 use Rattle.object_cache.proofs.Names.{◌≡◌, inl, inr, ℕ, ◌<◌, ◌≤◌, Bool, true, cond, List, length, Option, Some, None, option_map, refl, sym, ap, subst, ◌∙◌}
 use Rattle.object_cache.proofs.Names.{arith, cases_eq, eq-eqb, ne_eqb, same_Some, Cap, Frame, Content, header_at, AreKeepable, object_count, Disk, Kept, put_at}
 use Rattle.object_cache.proofs.Names.{most, DurableState, FrozenPuts, Stored, ReadsStore, below_at, stored_of, maps_same, Held, entry_at, Memory, Owed, mark_at}

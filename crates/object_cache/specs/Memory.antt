@@ -1,4 +1,4 @@
--- Where the bodies of objects are: in an entry, in the hand, or on the device.
+-- Where the bodies of objects are: in an entry, in the staging buffer, or on the device.
 use Rattle.object_cache.specs.Names.{◌==◌, if◌then◌else◌, ℕ, Bool, true, false, Option, Some, None, List, length, map}
 use Rattle.object_cache.specs.Names.{slice_index_or, range_with_len, Cap, Frame, ObjectHeader, Content, Role, header_at}
 use Rattle.object_cache.specs.Names.{Put, Absent, Broken, Kept, put_at, Stored, below_at, Entry, entry_at}
@@ -37,12 +37,12 @@ abbrev pub masked : Role → Content Cap → Content Cap
 masked role.Free c = content.Free
 masked _ c = c
 
--- the body in the hand, if it is of the number, or else another
+-- the body in the staging buffer, if it is this number's, or else another
 abbrev pub in_staging : Option Held → ℕ → Content Cap → Content Cap
 in_staging None n c = c
 in_staging (Some h) n c = if h.number == n then h.content else c
 
--- the hand once it has let go of a number
+-- the staging buffer once it has released a number's body
 abbrev pub let_go : ℕ → Option Held → Option Held
 let_go n None = None
 let_go n (Some h) = if h.number == n then None else Some h
@@ -53,7 +53,7 @@ put_body Absent c = c
 put_body Broken c = c
 put_body (Kept f) c = f.content
 
--- the body that lies below the ones in entries: in the hand, or else the frozen one that was put, or the saved one
+-- the body below the entries: that in the staging buffer, or else the frozen one that was put, or the saved one
 abbrev pub below_body : Stored → Memory → ℕ → Content Cap
 below_body s m n = in_staging m.staging n (below_at s n).content
 

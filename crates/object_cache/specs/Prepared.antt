@@ -8,7 +8,7 @@ use Rattle.object_cache.specs.StoreState.{StoreState, IsFetchedIn, on_device, ca
 abbrev pub IsRecentIn : {D : Type 0} → StoreState D → ℕ → ℕ → Type 0
 IsRecentIn s k n = IsFetchedIn s n × (is_member (take k s.order) n ≡ true)
 
--- a free number that has an entry has room
+-- a free number that has an entry has a spare body there
 abbrev pub HasSpareBodyIn : {D : Type 0} → (D → Disk) → StoreState D → ℕ → Type 0
 HasSpareBodyIn disk s n = (header_at s.headers n).role ≡ role.Free → IsSome (cached_at s.cached n) → cached_at s.cached n ≡ Some (spare_body_at (stored_of disk s.durable).saved.geometry n)
 

@@ -1,4 +1,4 @@
--- The body in the hand, and the room that is spare beside it.
+-- The staging buffer: the body in it, and the words and slots that are spare beside it.
 use Rattle.object_cache.specs.Names.{◌≡◌, ℕ, Bool, true, false, Option, Some, None, List, is_some, Cap, Content}
 use Rattle.model.specs.declared.object.Content.TheVariants as content
 use Rattle.object_cache.specs.declared.held.Held.{Held}
@@ -28,7 +28,7 @@ abbrev pub holds_no_slots : Option Held → Bool
 holds_no_slots None = true
 holds_no_slots (Some h) = has_no_slots h.content
 
--- the room of what isn't held is spare
+-- words and slots that the body doesn't use are spare
 pub record HasSpare (staging : Option Held) (words : Option (List ℕ)) (slots : Option (List Cap)) : Type 0 where
   pub for_page : holds_no_words staging ≡ true → is_some words ≡ true
   pub for_node : holds_no_slots staging ≡ true → is_some slots ≡ true

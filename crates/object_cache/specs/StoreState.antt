@@ -17,7 +17,7 @@ use Rattle.object_cache.specs.Memory.{frozen_in, owed_in}
 
 -- ---- what is seen of it
 
--- what the fields of entries are seen as: by number, the room of the entry, if there is one
+-- what the fields of entries are seen as: by number, the entry's buffer, if there is one
 unfoldable pub cached_in : List (Option Entry) → List (Option (Content Cap))
 cached_in es = map (option_map buffer_of) es
 
@@ -139,7 +139,7 @@ pub record IsFetchedIn {D : Type 0} (s : StoreState D) (n : ℕ) : Type 0 where
   pub content : n < length s.contents
   pub cached : IsSome (cached_at s.cached n)
 
--- a number may be written where it is to be put, and where a free one with an entry has room
+-- a number may be written: it is dirty, and a free one with an entry has a spare body
 pub record IsAnnouncedIn {D : Type 0} (disk : D → Disk) (s : StoreState D) (n : ℕ) : Type 0 where
   pub header : n < length s.headers
   pub content : n < length s.contents

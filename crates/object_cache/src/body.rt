@@ -6,8 +6,8 @@ use layout::{Body, Scratch};
 use model::{Cap, Content};
 use std::alloc::{AllocError, Global};
 
-/// The content of an object whose body was read, in memory of its own. The slots of a node or
-/// an annex and the words of a page are those in `room`. Fails only where memory runs out.
+/// The content of an object whose body was read, in memory of its own. The slots of a node or an
+/// annex and the words of a page are those in `scratch`. Fails only where memory runs out.
 pub(crate) fn held(alloc: Global, body: Body, scratch: &Scratch) -> Result<Content<Cap>, AllocError>
     ensures { IfOk result (λ content. content ≡ content_of body scratch.now.slots scratch.now.words) }
 {

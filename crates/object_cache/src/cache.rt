@@ -88,7 +88,7 @@ impl<D: Device> Cache<D> {
     ghost use Rattle.cache_entries.specs.Order.{without};
     ghost use Rattle.object_cache.specs.contracts.cache.Cache.{the_row};
 
-    /// How much there is room for.
+    /// How many objects and slots there may be.
     pub fn geometry(&self) -> Geometry
         ensures geometry { result ≡ (stored_of D.disk self.now.durable).saved.geometry }
         ensures within { touched_count self.now.touched ≤ (stored_of D.disk self.now.durable).saved.geometry.log }
@@ -153,7 +153,7 @@ impl<D: Device> Cache<D> {
         self.table.consume(root);
     }
 
-    /// Makes a free number an object, in the room that was put aside for it. Its counts stay.
+    /// Makes a free number an object, in its spare body. Its counts stay.
     pub fn claim(&mut self, number: u64, fresh: Fresh, owner: u64)
         requires fetched { IsFetchedIn self.old number }
         requires announced { IsAnnouncedIn D.disk self.old number }
@@ -205,7 +205,7 @@ impl<D: Device> Cache<D> {
         })
     }
 
-    // Says that an object was used last, where it has an entry, and tells whether it has one.
+    // Marks an object as used last, where it has an entry, and returns whether it has one.
     pub(crate) fn use_now(&mut self, number: u64) -> bool
         requires { number < length self.old.headers }
         ensures fetched { result ≡ true → IsFetchedIn self.old number }
@@ -361,8 +361,8 @@ impl<D: Device> Cache<D> {
         Ok(())
     }
 
-    // Makes room for an entry, where there are as many as there may be: the one that was used
-    // longest ago is put away. The seven that were used last stay.
+    // Frees a place for an entry, where the cache is full: it evicts the one that was used longest
+    // ago. The seven that were used last stay.
     pub(crate) fn make_room(&mut self) -> Result<(), Failed>
         requires keepable { AreKeepable (parts_of D.disk self.old).geometry most
             (frames_of (parts_of D.disk self.old)) }

@@ -45,8 +45,8 @@ fn is_page_saved<D: Device>(
 /// nothing.
 ///
 /// It is refused as `ObjectStore::journal` is: by `CheckpointRunning`, `MigrationPending` and
-/// `NotPage` before the device is asked, else by `Renewed`, and by `Failed` exactly where the
-/// device failed.
+/// `NotPage` before any device call, else by `Renewed`, and by `Failed` exactly where the device
+/// failed.
 pub(crate) fn may_journal<D: Device>(
     durable: &mut Durable<D>,
     header: ObjectHeader,

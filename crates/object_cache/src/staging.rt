@@ -1,4 +1,4 @@
-// The hand: a body that is in no entry.
+// The staging buffer: a frozen body on its way from one slot to another, which is in no entry.
 ghost use Rattle.std.specs.Prelude.{◌≡◌, None, Some, IfOk, IsSome, is_some, option_copied};
 ghost use Rattle.layout.specs.Frame.{content_of};
 ghost use Rattle.object_cache.specs.Memory.{let_go};
@@ -14,9 +14,9 @@ use std::mem;
 #[derive(Drop)]
 pub(crate) struct Staging {
     held: Option<Held>,
-    /// Room for the words of a page, unless they are held.
+    /// The words of a page, unless the body has them.
     words: Option<Words>,
-    /// Room for the slots of a node or an annex, unless they are held.
+    /// The slots of a node or an annex, unless the body has them.
     slots: Option<Slots<Cap>>,
 }
 
@@ -32,7 +32,7 @@ impl Model for Staging {
     ghost invariant = { λ h. HasSpare h.held h.words h.slots };
 }
 
-// Lifts what fills a room out of it, and leaves the spare one there.
+// Swaps a filled value with the spare one, and returns the filled one.
 fn lift<T>(spare: &mut Option<T>, filled: &mut T) -> T
     requires { IsSome spare.old }
     ensures { result ≡ filled.old }
@@ -44,7 +44,7 @@ fn lift<T>(spare: &mut Option<T>, filled: &mut T) -> T
 }
 
 impl Staging {
-    /// An empty hand. Fails only where memory runs out.
+    /// An empty staging buffer. Fails only where memory runs out.
     pub(crate) fn new(alloc: Global) -> Result<Staging, AllocError>
         ensures { IfOk result (λ staging. staging ≡ None) }
     {
@@ -55,7 +55,7 @@ impl Staging {
         })
     }
 
-    /// The body in the hand.
+    /// The body in the staging buffer.
     pub(crate) fn get(&self) -> Option<&Held>
         ensures { option_copied result ≡ self.now }
     {
@@ -72,7 +72,7 @@ impl Staging {
         self.held.is_some()
     }
 
-    /// Takes the body of an object up that was read into a room.
+    /// Takes the body of an object that was read into a scratch buffer.
     pub(crate) fn take_up(&mut self, number: u64, body: Body, scratch: &mut Scratch)
         requires { self.old ≡ None }
         ensures { self.new ≡ Some (record {
@@ -91,7 +91,7 @@ impl Staging {
         self.held = Some(Held { number, content });
     }
 
-    /// Lets the body go, if there is one.
+    /// Releases the body, if there is one.
     pub(crate) fn let_go(&mut self)
         ensures { self.new ≡ None }
     {
@@ -106,7 +106,7 @@ impl Staging {
         }
     }
 
-    /// Lets the body go, if it is of that number.
+    /// Releases the body, if it is that number's.
     pub(crate) fn release(&mut self, number: u64)
         ensures { self.new ≡ let_go number self.old }
     {

@@ -44,7 +44,7 @@ abbrev pub next_journaled : {F : Type 0} → ℕ → ℕ → List ℕ → Option
 next_journaled age n words None s is_page is_saved = saved_next age n words s is_page is_saved
 next_journaled age n words (Some f) s is_page is_saved = None
 
--- it is refused before the device is asked
+-- it is refused before any device call
 abbrev pub IsTurnedAway : Result ℕ JournalFault → Type 0
 IsTurnedAway (Err fault.CheckpointRunning) = Unit {0}
 IsTurnedAway (Err fault.MigrationPending) = Unit {0}

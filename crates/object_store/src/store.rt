@@ -37,7 +37,7 @@ pub trait ObjectStore<D: Device>: PresentFrames + Sized {
 
     /// Opens a device, and writes nothing to it. The present objects are the saved ones.
     ///
-    /// A refusal hands the device back: `Failed` exactly where the device failed, `NoMemory` only
+    /// A refusal gives the device back: `Failed` exactly where the device failed, `NoMemory` only
     /// where memory ran out, and else the least of the reasons 1 to 7 to refuse an image.
     fn open(alloc: Global, device: D, setting: Self::Setting) -> Result<Self, OpenRefused<D>>
         ensures opened { IfOk result (λ s. OpensStore D.disk device (Self.parts s) (view s)) }
@@ -163,15 +163,15 @@ pub trait ObjectStore<D: Device>: PresentFrames + Sized {
         ensures cause { Counts (D.disk (view self.old).beneath) (D.disk (view self.new).beneath) result };
 
     /// Saves a page with the words that it has now, at an age; of the page nothing else, and of the
-    /// other objects what was saved: one page is durable without a checkpoint. Answers the new
+    /// other objects what was saved: one page is durable without a checkpoint. Returns the new
     /// generation. It takes no memory.
     ///
     /// It is refused by `CheckpointRunning` exactly where a checkpoint is on its way, else by
     /// `MigrationPending` exactly where something saved isn't home, else by `NotPage` exactly where
     /// the number isn't that of a page, else by `Renewed` exactly where no page is saved, or the
-    /// one that is was given up since; nothing is written then, and before `Renewed` nothing is
-    /// asked of the device. It returns `Failed` exactly where the device failed; then a crash
-    /// leaves what was saved or, where nothing else refuses it, that with the page.
+    /// one that is was given up since. Nothing is written then, and before `Renewed` no device call
+    /// is made. It returns `Failed` exactly where the device failed; then a crash leaves what was
+    /// saved or, where nothing else refuses it, that with the page.
     fn journal(&mut self, number: u64, age: u64) -> Result<u64, JournalFault>
         requires keepable { AreKeepable (Self.parts self.old).geometry u64.MAX
             (frames_of (Self.parts self.old)) }

@@ -26,7 +26,7 @@ named_more old new (Some m) more inside = more m inside
 pub stays_more : (old new : ℕ → Bool) (c : Capability) → ((n : ℕ) → IsTrue (old n) → IsTrue (new n)) → StaysInside old c → StaysInside new c
 stays_more old new c more stays = ⊎_elim (λ weak. inl weak) (λ inside. inr (named_more old new (named c) more inside)) stays
 
--- a list of capabilities, of which one more stays inside
+-- a list of capabilities, with one more that stays inside
 pub stay_one : (old new : ℕ → Bool) (cs : List Capability) (i : ℕ) → ((n : ℕ) → IsTrue (old n) → IsTrue (new n))
     → ((k : ℕ) (d : Capability) → k < i → StaysInside old (slice_index_or cs k d)) → ((d : Capability) → StaysInside new (slice_index_or cs i d))
     → (k : ℕ) (d : Capability) → k < i + 1 → StaysInside new (slice_index_or cs k d)
@@ -38,7 +38,7 @@ stay_one old new cs i more before one k d lt = if_lt (nat_lt k i) refl
         let here : i ≡ k = grind (arith, nat_tests) in
         subst (λ (j : ℕ). StaysInside new (slice_index_or cs j d)) here (one d)
 
--- numbers, of which one more is in a set where a test passes
+-- numbers, with one more in a set where a test passes
 pub owned_one : (old new : ℕ → Bool) (P : ℕ → Type 0) (i : ℕ) → ((n : ℕ) → IsTrue (old n) → IsTrue (new n))
     → ((m : ℕ) → m < i → P m → IsTrue (old m)) → (P i → IsTrue (new i)) → (m : ℕ) → m < i + 1 → P m → IsTrue (new m)
 owned_one old new P i more before one m lt passes = if_lt (nat_lt m i) refl

@@ -1,4 +1,4 @@
--- The lines that tell a chain.
+-- The lines that print a chain.
 use Rattle.reach.specs.Names.{ℕ, Option, None, Some, List, [], ◌∷◌, ◌++◌, Vec, codes, decimal, flat_map, Global}
 use Rattle.reach.specs.Names.{Capability, Content, Object, capability_text, line_of, spaced, content_at, object_at}
 use Rattle.model.specs.declared.object.Content.TheVariants as content

@@ -1,4 +1,4 @@
--- The lines that tell a closed set, and why it is what it is.
+-- The lines that print a closed set, with a reason for each member.
 use Rattle.reach.specs.Names.{ℕ, ◌==◌, Bool, false, not, if◌then◌else◌, List, [], ◌∷◌, ◌++◌, codes, decimal, count_by}
 use Rattle.reach.specs.Names.{enumerate_from, flat_map, is_marked, Capability, Process, Start, Resume, Bank, Object}
 use Rattle.reach.specs.Names.{slots_in, capability_text, line_of, spaced, content_at}

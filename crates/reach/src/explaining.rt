@@ -1,4 +1,4 @@
-// The lines that tell a chain of steps.
+// The lines that print a chain of steps.
 ghost use Rattle.std.specs.Prelude.{◌≡◌, ◌≤◌, ◌<◌, length};
 ghost use Rattle.std.specs.List.{flat_map};
 ghost use Rattle.model.specs.Text.{line_of, spaced};

@@ -1,4 +1,4 @@
-// The lines that tell a closed set.
+// The lines that print a closed set.
 ghost use Rattle.std.specs.Prelude.{◌≡◌, ◌≤◌, ◌<◌, [], ◌∷◌, length, codes, decimal};
 ghost use Rattle.std.specs.List.{count_by, enumerate_from, flat_map};
 ghost use Rattle.model.specs.Object.{slots_in};

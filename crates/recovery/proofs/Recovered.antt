@@ -46,7 +46,7 @@ opened_by : (g : Geometry) (at : Saved) (now : World) (touched renewed : List Bo
     to_move ≡ at.entries → record { now = now; touched = touched; renewed = renewed; frozen = frozen; saved = at; to_move = to_move } ≡ opened g at
 opened_by g at now touched renewed frozen to_move a b c d e = cc
 
--- two looks at a device are one, where a crash leaves what a read gives
+-- two reads of a device are one, where a crash leaves what a read gives
 only_reads_on : (old mid new : Disk) → OnlyReads old mid → Only mid.seen mid → new.sectors ≡ mid.sectors → Peeks mid new → CountsNow new → new.may_leave new.seen → OnlyReads old new
 only_reads_on old mid new first durable size peeks counts_now seen_left =
     let crash : (c : Image) → new.may_leave c → mid.may_leave c = λ c left. ends {old = mid} {new = new} {P = mid.may_leave} peeks counts_now c left in
@@ -175,7 +175,7 @@ module _ {D S : Type 0} (disk : D → Disk) (view : S → View D) (parts : S →
       failures = failures ∙ opens.failures;
     }
 
--- ---- the failures of a look, as the device counts them
+-- ---- the failures of a read, as the device counts them
 
 module _ (p q : Parts) (old new : Disk) (before : p.failures ≡ old.failures) (after : q.failures ≡ new.failures) where
   pub risen_later : p.failures ≤ q.failures → old.failures ≤ new.failures

@@ -370,7 +370,7 @@ fn capacity_of(cache: Option<u64>) -> Result<Option<Capacity>, u8> {
     }
 }
 
-// Tells why the file that is to be explained can't be read, and gives the status.
+// Writes why the file that is to be explained can't be read, and gives the status.
 fn refuse_file(file: &str, cause: &io::Error, errors: &mut Stderr) -> u8 {
     let _reported = writeln!(errors, "eros: {file}: {cause}");
     1
@@ -512,7 +512,7 @@ fn words(rt: &HostRuntime) -> Result<Vec<String>, JobFault> {
     }
 }
 
-// Tells why words name no job, and gives the status.
+// Writes why words name no job, and gives the status.
 fn refuse(rt: &HostRuntime, fault: &JobFault) -> Result<u8, Fault> {
     match fault {
         JobFault::NoMemory => Err(Fault::NoMemory),
@@ -523,7 +523,7 @@ fn refuse(rt: &HostRuntime, fault: &JobFault) -> Result<u8, Fault> {
     }
 }
 
-// Does what words ask, and gives the status.
+// Does what words request, and gives the status.
 fn work_by(rt: &HostRuntime, words: &[String]) -> Result<u8, Fault> {
     match job(rt.alloc(), words) {
         Ok(job) => serve_whole(rt, &job),
@@ -531,7 +531,7 @@ fn work_by(rt: &HostRuntime, words: &[String]) -> Result<u8, Fault> {
     }
 }
 
-// Does what the command line asks, and gives the status.
+// Does what the command line requests, and gives the status.
 fn work(rt: &HostRuntime) -> Result<u8, Fault> {
     match words(rt) {
         Ok(words) => work_by(rt, words.as_slice()),

@@ -26,7 +26,7 @@ lines_before (l ∷ ls) more each =
     ∙ first_line l (flat_map line_of ls ++ more) (All-head IsOneLine l ls each)
     ∙ ap (λ (xs : List (List ℕ)). l ∷ xs) (lines_before ls more (All-tail IsOneLine l ls each))
 
--- of a text of which nothing was read
+-- a text that wasn't read yet
 pub no_lines : AreLines [] [] []
 no_lines = record { whole = refl; each = All-nil IsOneLine; none = All-nil (λ b. b ≢ 10) }
 

@@ -24,7 +24,7 @@ split_one g size c (s ∷ ss) ts one = ⊎_elim (λ here. inl (inl here)) (λ th
 
 -- ---- failures
 
--- an answer tells of a failure exactly where there was one
+-- an answer reports a failure exactly where there was one
 answer_reported : (old new : Disk) (a : Answer) → IsCaused old new a → IsReportedBy old new (Reported a)
 answer_reported old new a caused = record {
   later = caused.later;
@@ -286,11 +286,11 @@ module _ {D S O : Type 0} (disk : D → Disk) (view : S → View D) (parts : S �
         subst (λ (t : List ℕ). SoFar disk view parts sees g m start k begins seen t longer_line output written) (append_assoc text read bytes)
         (longer g m start k begins seen (text ++ read) line longer_line output written bytes (goes g m start begins text output so_far) one extended)
 
-    -- so were the first bytes of a piece, of which these are left
+    -- so were the first bytes of a piece, and these are left
     abbrev pub GoesTo : List ℕ → List ℕ → Power D S → O → LineBuffer → Option (List ℕ) → Type 0
     GoesTo piece rest k seen line written = (read : List ℕ) × (piece ≡ read ++ rest) × Goes read k seen line written
 
-    -- a line is at its end, of which these are the last bytes
+    -- a line is at its end, and these are its last bytes
     module _ (read : List ℕ) (k new : Power D S) (before seen : O) (line next : LineBuffer) (written wrote : Option (List ℕ)) (goes : Goes read k before line written) (bytes : List ℕ) (one : IsOneLine bytes)
         (empty : (held : List ℕ) → Holds line held → Holds next []) (result : Result Bool RunFault)
         (turn : (g : Geometry) (m : Machine) (held : List ℕ) → Stands disk view parts g k m → Holds line held → TakesLine disk view parts sees g m (held ++ bytes) k new before seen written wrote result) where

@@ -23,7 +23,7 @@ use script::{LineBuffer, RunFault, parse_line, print_answer, print_bad_line};
 use std::alloc::Global;
 use std::io::Write;
 
-// How many bytes a reader is asked for at a time.
+// How many bytes a read requests.
 const PIECE_SIZE: usize = 4096;
 
 // Does what a line says, shows the observer what became of it, and writes the answer. It returns

@@ -6,7 +6,7 @@ use Rattle.script.proofs.Commands.{number_gives}
 use Rattle.script.proofs.Numbers.{digits_are_decimal, value_more}
 use Rattle.script.proofs.Split.{word_alone, word_and_more}
 
--- a text that begins with so many digits, up to a space or the end
+-- a text that begins with a number of digits, up to a space or the end
 abbrev Begins : List ℕ → ℕ → ℕ → Type 0
 Begins text size n =
     (0 < size) × (size ≤ length text) × AllDigits 10 (take size text) × (get_or text 0 0 ≡ 48 → size ≡ 1) × (n ≡ digits_value 10 (take size text)) × (n < 2 ^ 64)

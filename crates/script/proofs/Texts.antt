@@ -83,7 +83,7 @@ put_spaced word words more numbers last =
     ∙ ap (λ (t : List ℕ). t ++ flat_map (λ w. 32 ∷ w) last) (sym (spaced_more word (words ++ more) numbers))
     ∙ sym (spaced_more word ((words ++ more) ++ numbers) last)
 
--- the first line of a process, as it is put together
+-- the first line of a process, as its parts are joined
 abbrev pub process_put : ℕ → ℕ → ℕ → ℕ → List ℕ → List ℕ → List ℕ → List ℕ
 process_put number owner annex key state words space =
     ((((((((spaced (headed (codes "process") number owner) ++ 32 ∷ codes "annex") ++ 32 ∷ decimal annex) ++ 32 ∷ state) ++ 32 ∷ codes "key") ++ 32 ∷ decimal key) ++ 32 ∷ codes "words")

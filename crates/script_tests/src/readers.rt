@@ -14,14 +14,14 @@ use std::io::{ErrorKind, Read};
 use std::process::Abort;
 use std::test::Fail;
 
-/// The bytes that every read asks for.
+/// The bytes that every read requests.
 const ASKED: usize = 4096;
 
 const WIDTHS: [usize; 4] = [1, 7, 4095, 4096];
 
-/// Gives a piece of some bytes, and then pieces of `width` bytes. Where it interrupts it does
-/// so before each, and at the end it fails where it is to. It keeps whether another number of bytes
-/// was asked for.
+/// Gives a piece of some bytes, and then pieces of `width` bytes. Where it interrupts it does so
+/// before each, and at the end it fails where it is to. It keeps whether a read requested another
+/// number of bytes.
 #[derive(Drop)]
 struct Pieces<'a> {
     rest: &'a [u8],

@@ -16,7 +16,7 @@ use std::io::{BufWriter, ErrorKind, Write};
 use std::process::Abort;
 use std::test::Fail;
 
-// Takes `width` bytes at a time, as long as it has room, and then fails or takes nothing. It is
+// Takes `width` bytes at a time, up to its capacity, and then fails or takes nothing. It is
 // interrupted before each time.
 #[derive(Drop)]
 struct Narrow {
@@ -67,7 +67,7 @@ impl Output for Narrow {
     }
 }
 
-// A writer that had so much room took all of a text, or there was a fault and it took what fits.
+// A writer with this capacity took all of a text, or there was a fault and it took what fits.
 fn has_taken(
     rt: &impl Abort,
     writer: &Narrow,
@@ -84,7 +84,7 @@ fn has_taken(
     assert_eq!(rt; writer.taken.as_slice(), &text[..room.min(text.len())]);
 }
 
-// An answer is written to writers with more and more room, which take `width` bytes at a time.
+// An answer is written to writers with more and more capacity, which take `width` bytes at a time.
 fn is_written(rt: &impl Abort, alloc: Global, answer: &Answer, text: &[u8], width: usize) {
     for fails in [false, true] {
         for room in 0..text.len() + 2 {
@@ -124,7 +124,7 @@ fn narrow_writers_take_an_answer(rt: HostRuntime) -> Result<(), Fail> {
     Ok(())
 }
 
-// A script over a world is written so to a writer with so much room.
+// A script over a world is written so to a writer with this capacity.
 fn is_answered(
     rt: &impl Abort,
     alloc: Global,

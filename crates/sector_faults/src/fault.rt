@@ -71,7 +71,7 @@ pub enum HeaderPart {
     Generation { generation: u64, age: u64 },
     /// The sequence number is above its limit at the age.
     Sequence { sequence: u64, age: u64 },
-    /// The magic, or a byte that has to be 0.
+    /// The magic, or a byte that must be 0.
     Bytes,
 }
 
@@ -113,6 +113,6 @@ pub enum FramePart {
     Count { slot: u64, count: u64, age: u64 },
     /// A slot has no capability that can be kept.
     Slot(u64),
-    /// The role, the owner and the body don't fit together, or a byte that has to be 0 isn't.
+    /// The role, the owner and the body don't fit together, or a byte that must be 0 isn't.
     Body,
 }

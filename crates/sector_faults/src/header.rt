@@ -73,8 +73,8 @@ fn header_at(sector: u64, bytes: &[u8], log: u64) -> Result<CheckpointHeader, Se
     }
 }
 
-/// Reads the committed one of two headers, each with its gate, or tells why there is none. A half
-/// of the log has `log` slots.
+/// Returns the committed one of two headers, each with its gate, or why there is none. A half of
+/// the log has `log` slots.
 pub(crate) fn choose(
     first: &[u8],
     first_gate: &[u8],

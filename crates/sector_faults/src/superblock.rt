@@ -21,7 +21,7 @@ fn has_version(bytes: &[u8]) -> bool
     version == [1, 0, 0, 0].as_slice() || version == [2, 0, 0, 0].as_slice()
 }
 
-// Which part of the mark is another than a superblock's.
+// Which part of the mark isn't a superblock's.
 fn mark_part(bytes: &[u8]) -> SuperblockPart
     requires size { length bytes.now ≡ 512 }
     requires refused { HasMark bytes.now → ⊥ }
@@ -59,7 +59,7 @@ fn geometry_part(bytes: &[u8]) -> GeometryPart
     }
 }
 
-/// Reads the superblock in a sector, or tells why it is none.
+/// Returns the superblock in a sector, or why it is none.
 pub(crate) fn superblock_in(bytes: &[u8]) -> Result<Superblock, SectorFault>
     requires { length bytes.now ≡ 512 }
     ensures found { IfOk result (λ s. bytes.now ≡ superblock_bytes s) }

@@ -39,20 +39,20 @@ pub limit_held : (p : Parts) (n : ℕ) (c : Content Cap) → n < length p.header
 limit_held p n c known is =
     sym ((mapped (conveyed p.headers) c).limit) ∙ sym (ap (λ (d : Content Capability). limit_in d) (content_there p n known c (sym is)))
 
--- a look leaves the objects as they were
+-- a read-only call leaves the objects
 pub objects_looked : (old now : Parts) → now.headers ≡ old.headers → now.contents ≡ old.contents → objects_in now ≡ objects_in old
 objects_looked old now headers contents =
     ap (λ (fs : List Frame). objects_of fs)
     (ap (λ (hs : List ObjectHeader). frames_in hs now.contents) headers ∙ ap (frames_in old.headers) contents)
 
--- a look that didn't fail leaves the count of failures
+-- a read-only call that didn't fail leaves the count of failures
 pub never_failed : (old mid now : ℕ) → mid ≡ old → mid ≤ now → (mid < now → ⊥) → now ≡ old
 never_failed old mid now so later never = elim (cases_lt mid now) [
   | inl more ↦ absurd (never more)
   | inr same ↦ omega arith
 ]
 
--- one number more, read after a look
+-- one number more, read after a read-only call
 pub numbers_more : (old now : Parts) (r : Role) (n one : ℕ) (kept new : List ℕ) → now.headers ≡ old.headers → now.contents ≡ old.contents →
     one ≡ kept_number r (content_at (objects_in now) n) →
     kept ≡ map (λ m. kept_number r (content_at (objects_in old) m)) (range_with_len 0 n) → new ≡ kept ++ one ∷ [] →

@@ -47,7 +47,7 @@ module _ (set : List ℕ) (os : List Object) (n : ℕ) where
       subst (λ (o : Object). IsMapped (void_where (names_member set)) (content_at os n) o.content) (sym (kept stays))
       (without_mapped (names_member set) (object_at os n))
 
--- The chain of a bank accounts for so many fewer, and a set is marked as free.
+-- The chain of a bank accounts for `count` objects fewer, and a set is marked as free.
 pub record IsReleased (banks : List ℕ) (count : ℕ) (s t : BanksState) (set : List ℕ) : Type 0 where
   pub usages : IsRaised banks count t.usages s.usages
   pub nodes : length t.free_nodes ≡ length s.free_nodes

@@ -83,7 +83,7 @@ module _ (os : List Object) (marks : List Bool) (same : (n : ℕ) → n < length
       ∙ ap (λ (a : ℕ). Some (MakeProcess (0 + n) a b)) (sym (zero-add m))
       ∙ ap (process_at b) (sym (found_two os 0 marks same n m first second))
 
--- the marks that are looked at are those that are counted
+-- the marks that are read are those that are counted
 module _ (g : Geometry) (os : List Object) (s : BanksState) (h : AreCounted g os s) (marks : List Bool) where
   pub nodes_marked : marks ≡ s.free_nodes → AreMarked os 0 (length marks) marks
   nodes_marked are = subst (λ (m : List Bool). AreMarked os 0 (length m) m) (sym are) (record {
@@ -109,7 +109,7 @@ module _ (g : Geometry) (os : List Object) (s : BanksState) (h : AreCounted g os
       let all : g.pages ≡ length marks = omega (arith, h.pages, ap (λ (m : List Bool). length m) are) in
       ap (λ (k : ℕ). are_free os (range_with_len g.nodes k)) all ∙ ap (λ (n : ℕ). are_free os (range_with_len n (length marks))) (sym is)
 
--- what takes no more than so many numbers takes no more than more
+-- what takes at most some count of numbers takes at most any greater count
 pub fewer : (r : Option BankChange) (m n : ℕ) → m ≤ n → IfSome r (λ c. length (numbers_of c) ≤ m) → IfSome r (λ c. length (numbers_of c) ≤ n)
 fewer None m n more few = tt
 fewer (Some c) m n more few = omega (arith, few, more)

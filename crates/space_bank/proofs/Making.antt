@@ -11,7 +11,7 @@ use Rattle.space_bank.specs.declared.planning_new.New.TheVariants as new
 use Rattle.space_bank.proofs.Giving.{destroyed_gives, freed_list}
 use Rattle.space_bank.proofs.Plans.{deep_alike, made_alike}
 
--- a free number among so many
+-- a free number among the `count` numbers from `from` on
 pub record IsFreeAmong (os : List Object) (from count n : ℕ) : Type 0 where
   pub from_on : from ≤ n
   pub below : n < from + count

@@ -1,10 +1,10 @@
--- Objects that are handed on to another bank, one after another.
+-- Objects that are transferred to another bank, one after another.
 use Rattle.space_bank.proofs.Names.{◌≡◌, inl, inr, ℕ, ◌+◌, ◌<◌, ◌||◌, Bool, true, false, List, take, length, refl, sym, ap, ◌∙◌, if◌then◌else◌, slice_index}
 use Rattle.space_bank.proofs.Names.{slice_set, cases_eq, eq-eqb, ne_eqb, get_or-set_other, get_or-set_same, length-set, list_any_more, Capability, Content}
 use Rattle.space_bank.proofs.Names.{Object, free, is_free, is_member, content_at, object_at, AreTransferred}
 use Rattle.std.specs.Prelude.{nat_eq}
 
--- an object with another owner, where it is handed on
+-- an object with another owner, where it is transferred
 abbrev pub transferred : Bool → ℕ → Object → Object
 transferred goes b o = if goes then record { owner = b; content = o.content } else o
 
@@ -12,7 +12,7 @@ pub transferred_content : (goes : Bool) (b : ℕ) (o : Object) → (transferred 
 transferred_content true b o = refl
 transferred_content false b o = refl
 
--- objects that are handed on hold what they held
+-- objects that are transferred hold what they held
 pub transferred_same : (list : List ℕ) (b : ℕ) (os us : List Object) → AreTransferred list b os us → (n : ℕ) → content_at us n ≡ content_at os n
 transferred_same list b os us are n = ap (λ (o : Object). o.content) (are.each n) ∙ transferred_content (is_member list n) b (object_at os n)
 

@@ -1,4 +1,4 @@
--- What is planned is what an order comes to.
+-- The plan of an order is its effect.
 use Rattle.space_bank.proofs.Names.{◌≡◌, ◌+◌, ◌<◌, ◌≤◌, ◌++◌, ◌∙◌, ℕ, Bool, true, false, List, [], ◌∷◌, None, Some, length, refl, sym, ap, subst, arith, IsTrue}
 use Rattle.space_bank.proofs.Names.{if◌then◌else◌, nat_lt, eq-eqb, ne_eqb, append-nil, length-append, Capability, Void, Number, Page, Node, Space, Process}
 use Rattle.space_bank.proofs.Names.{Start, Resume, Bank, Discrim, Geometry, Content, Object, Arguments, BankOrder, ResultCode, chain, usage, allocated}
@@ -18,7 +18,7 @@ use Rattle.capability.specs.declared.present.Fresh.TheVariants as fresh
 use Rattle.space_bank.specs.declared.planning_new.New.TheVariants as new
 use Rattle.space_bank.proofs.Walks.{node_of_bank}
 
--- a plan that tells no, one that makes a change of a bank, and one that tells three words
+-- a plan that refuses, one that makes a change of a bank, and one that replies three words
 abbrev pub refusal : ResultCode → OrderPlan
 refusal why = record { reply = reply_of_code why; change = change.Nothing }
 
@@ -53,7 +53,7 @@ module _ (p : Parts) (b : ℕ) (order : BankOrder) (args : Arguments) (first lis
   pub planned_none : PlansAs p.geometry (objects_in p) b order args [] plan → list ≡ first → IsPlanned p b order args first plan list
   planned_none plans is = planned_as [] plans (is ∙ sym (append-nil first))
 
--- what an order that allocates comes to
+-- the effect of an order that allocates
 one_allocated : (os : List Object) (b : ℕ) (f : Fresh) (named : ℕ → Capability) → ((n : ℕ) → named n ≡ given_for n f) → (ns : List ℕ)
     → allocated os b ns (fresh_content Void f) named ≡ allocated_by os false (new_at b f ns)
 one_allocated os b f named are [] = refl
@@ -129,7 +129,7 @@ module _ (g : Geometry) (os : List Object) (b : ℕ) (order : BankOrder) (args :
       allocating_is g us b order args kind is
       ∙ rw (room_alike os us frame b (count_of kind), room, made_alike os us frame g b kind, some, deep_alike os us frame g b kind, short) refl
 
--- what orders that give up come to
+-- the effect of orders that give up
 module _ (g : Geometry) (os : List Object) (b : ℕ) (args : Arguments) where
   pub frees_none : (c : Capability) → args.capability ≡ c → freed_by os c ≡ [] → on_bank g os b bank.Free args ≡ refused os code.BadCapability
   unfolding on_bank
@@ -193,7 +193,7 @@ module _ (g : Geometry) (os : List Object) (b : ℕ) (args : Arguments) (us : Li
   pub remaining_there : on_bank g us b bank.Remaining args ≡ replying_three us (remaining os b) (usage os b) (limit_in (content_at os b))
   remaining_there = remaining_replying g us b args ∙ rw (remaining_alike os us frame b, usage_same os us frame b, (frame.alike b).limit) refl
 
--- what a bank that is asked leaves room for, and what its frames are
+-- the capacity that is left for a bank's order, and what the bank's frames are
 module _ (p : Parts) (s : BanksState) (b : ℕ) (h : IsBankOf p s b) where
   pub bank_roles : HaveTheirRoles (frames_of p)
   bank_roles = keepable_roles p.geometry h.sound.0 (frames_of p) h.sound.1.keepable
@@ -209,7 +209,7 @@ root_not_bank (content.Node slots) root is = cc
 root_not_bank (content.Annex registers) root is = cc
 root_not_bank (content.Bank limit) root is = cc
 
--- beside a bank and a process there is room for four numbers
+-- beside a bank and a process four more numbers fit
 pub process_room : (p : Parts) (s t : BanksState) (b : ℕ) (c : Capability) (q n : ℕ) → IsBankOf p s b → MayBeHeld (objects_in p) c → c ≡ Process q →
     length s.listed ≤ 2 → t ≡ record s { listed = s.listed ++ n ∷ [] } → length t.listed < t.room
 process_room p s t b c q n h sent is few listed =
@@ -232,6 +232,6 @@ annex_kept p s b (Resume q) h sent = refl
 annex_kept p s b (Bank m) h sent = refl
 annex_kept p s b Discrim h sent = refl
 
--- a bank that may be asked is one
+-- if an order of a bank may be planned, it is a bank
 pub bank_requested : (p : Parts) (s : BanksState) (b : ℕ) (args : Arguments) → MayAsk p s b args → IsBankOf p s b
 bank_requested p s b args h = record { sound = h.sound; counted = h.counted; bank = h.bank }

@@ -45,7 +45,7 @@ mark_one before now n inside is m =
 pub only_used : (os : List Object) (b : ℕ) → IsTrue (is_bank (content_at os b)) → (n : ℕ) → is_member (b ∷ []) n ≡ true → is_free (content_at os n) ≡ false
 only_used os b is n member = subst (λ (k : ℕ). is_free (content_at os k) ≡ false) (sym (only_member b n member)) (used_where is_bank refl (content_at os b) is)
 
--- what a bank owns is handed on
+-- what a bank owns is transferred
 pub owned_used : (os : List Object) (b : ℕ) → All (λ n. is_free (content_at os n) ≡ false) (owned_by os b)
 owned_used os b = all_members (λ n. is_free (content_at os n) ≡ false) (owned_by os b) (λ n member. (owned_found os b n member).1)
 
@@ -104,7 +104,7 @@ module _ (p : Parts) (s : BanksState) (b : ℕ) (asks : MayServe p s b) (on : b 
         keepable = keepable;
       }
 
-  -- the bank's counts can rise after what it owns is handed on
+  -- the bank's counts can rise after what it owns is transferred
   module _ (q : Parts) (keepable : (age : ℕ) → AreKeepable p.geometry age (frames_of p) → AreKeepable p.geometry age (frames_of q)) (known : b < length q.headers) where
     pub transferred_allocations : (header_at q.headers b).allocations < 2 ^ 64 - 1
     transferred_allocations =

@@ -1,4 +1,4 @@
--- What sound frames that are counted tell of their objects.
+-- What sound frames that are counted say of their objects.
 use Rattle.space_bank.proofs.Names.{◌≡◌, ◌≢◌, ℕ, ◌+◌, ◌^◌, ◌<◌, ◌≤◌, true, false, List, length, refl, sym, ap, arith, ◌∙◌, IsTrue, nat_le, slice_index}
 use Rattle.space_bank.proofs.Names.{leb-true, Cap, Capability, Frame, Geometry, Content, Object, chain, usage, has_quota, conveyed, header_at, held_at}
 use Rattle.space_bank.proofs.Names.{objects_of, AreKeepable, IsSoundFrames, world_at, is_bank, is_free, limit_in, map_content, role_of, is_member, HasShape}
@@ -60,7 +60,7 @@ limit_shape (content.Root r) shape = omega arith
 limit_shape (content.Annex registers) shape = omega arith
 limit_shape (content.Bank limit) shape = shape
 
--- room in a chain
+-- quota in a chain
 pub room_within : (os : List Object) (b count x : ℕ) → IsTrue (has_quota os b count) → is_member (chain os b) x ≡ true → usage os x + count ≤ limit_in (content_at os x)
 unfolding has_quota
 room_within os b count x room member =

@@ -48,7 +48,7 @@ marks_counted g os s counted n known = elim (cases_lt n g.nodes) [
       ∙ (counted.page (n - g.nodes) (omega arith) ∙ ap (λ (m : ℕ). is_free (content_at os m)) at)
 ]
 
--- how many there are of each, and the room, stay as they were
+-- how many there are of each, and the capacity of the list, stay as they were
 pub record IsAsWide (s t : BanksState) : Type 0 where
   pub nodes : length t.free_nodes ≡ length s.free_nodes
   pub pages : length t.free_pages ≡ length s.free_pages
@@ -174,7 +174,7 @@ module _ (g : Geometry) (os : List Object) (size : length os ≡ object_count g)
       (subst (HasEach is_bank limit_in (with_new os n b c)) (sym taken.limits) (each_kept os n b inside c is_bank limit_in s.limits counted.limit plain))
       (subst (HasEach is_root annex_in (with_new os n b c)) (sym taken.annexes) (each_kept os n b inside c is_root annex_in s.annexes counted.annex other))
 
-  -- a bank, of which nothing is counted yet
+  -- a bank that isn't counted yet
   pub counted_bank : (limit : ℕ) (u v : BanksState) → length (chain os b) < 16 → n < g.nodes → IsTaken (chain os b) 1 s u (slice_set (marks_of s) n false)
       → v ≡ record u { usages = slice_set u.usages n 0; limits = slice_set u.limits n limit } → AreCounted g (with_new os n b (content.Bank limit)) v
   counted_bank limit u v short place taken is =
@@ -205,7 +205,7 @@ module _ (g : Geometry) (os : List Object) (size : length os ≡ object_count g)
       (each_set os n b inside c is_bank limit_in s.limits counted.limit limit refl within_limits))
       (subst (HasEach is_root annex_in (with_new os n b c)) (sym taken.annexes) (each_kept os n b inside c is_root annex_in s.annexes counted.annex refl)))
 
-  -- a process: two objects, neither of which is a bank
+  -- a process: two objects, neither a bank
   pub counted_process : (m : ℕ) (u v : BanksState) → m < length os → m ≢ n → n < g.nodes → IsTrue (is_free (content_at os m))
       → IsTaken (chain os b) 2 s u (slice_set (slice_set (marks_of s) n false) m false) → v ≡ record u { annexes = slice_set u.annexes n m }
       → AreCounted g (with_new (with_new os n b (new_root m)) m b new_annex) v

@@ -60,7 +60,7 @@ module _ (os : List Object) (i b sought : ℕ) (other : b ≡ sought → ⊥) wh
       ap (list_any (nat_eq sought)) (chain_next os i b owner inside inner is)
       ∙ rw (ne_eqb sought b (λ e. other (sym e))) refl
 
--- whether so many more objects pass no limit in the rest
+-- whether this number of further objects passes no limit in the rest
 abbrev pub fits : List Object → ℕ → ℕ → Bool
 fits os count c = nat_le (usage os c + count) (limit_in (content_at os c))
 

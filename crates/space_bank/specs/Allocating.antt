@@ -71,7 +71,7 @@ is_deep os b new.Node = false
 is_deep os b new.Process = false
 is_deep os b (new.Bank limit) = not (nat_lt (length (chain os b)) 16)
 
--- the outcome of an order that allocates: no room, no free number, too deep, or done
+-- the outcome of an order that allocates: over a limit, no free number, too deep, or done
 abbrev pub allocated_by : List Object → Bool → Option BankChange → OrderOutcome
 allocated_by os deep None = refused os code.NoFrame
 allocated_by os deep (Some c) = if deep then refused os code.TooDeep else made (bank_changed os (numbers_of c) c) (numbers_of c) (given_by c)

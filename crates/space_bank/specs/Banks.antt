@@ -5,7 +5,7 @@ use Rattle.space_bank.specs.Names.{annex_at, content_at, is_process, AreSound, P
 
 -- Which nodes and which pages are free, counted from the first of each; by number of a bank how many objects it
 -- accounts for, and its limit; by number of a process its annex; and the numbers that were listed for an order, with
--- so much room for them.
+-- the capacity of that list.
 pub record BanksState : Type 0 where
   pub free_nodes : List Bool
   pub free_pages : List Bool
@@ -29,7 +29,7 @@ pub record AreCounted (g : Geometry) (os : List Object) (s : BanksState) : Type 
   pub annex : (p : ℕ) → IsTrue (is_process os p) → slice_index s.annexes p ≡ annex_at os p
   pub room : object_count g + 2 ≤ s.room
 
--- a bank may be asked: the frames are sound and counted, and what is sent may be held
+-- a bank's order may be planned: the frames are sound and counted, and what is sent may be held
 pub record MayAsk (p : Parts) (s : BanksState) (b : ℕ) (args : Arguments) : Type 0 where
   pub sound : AreSound p
   pub counted : AreCounted p.geometry (objects_in p) s

@@ -1,4 +1,4 @@
--- What the orders of a bank ask, and what they leave.
+-- What the orders of a bank require, and what they leave.
 use Rattle.space_bank.specs.Names.{◌≡◌, ◌≢◌, [], ◌∷◌, ℕ, ◌+◌, ◌^◌, ◌<◌, ◌++◌, Bool, true, false, List, length}
 use Rattle.space_bank.specs.Names.{slice_index, if◌then◌else◌, IsTrue, Capability, Geometry, Object, Arguments}
 use Rattle.space_bank.specs.Names.{BankOrder, chain, usage, freed_by, has_quota, on_bank, owned_by, AreCurrent}

@@ -3,7 +3,7 @@ use Rattle.space_bank.specs.Names.{◌≡◌, ℕ, ◌+◌, ◌<◌, Bool, List,
 use Rattle.space_bank.specs.Names.{Object, Role, is_free, limit_in, root_in, content_at, is_marked}
 use Rattle.model.specs.declared.object.Role.TheVariants as role
 
--- `count` marks: each tells whether a number is free, from the number `first` on
+-- `count` marks: each says whether a number is free, from the number `first` on
 pub record AreMarked (os : List Object) (first count : ℕ) (marks : List Bool) : Type 0 where
   pub size : length marks ≡ count
   pub each : (n : ℕ) → n < count → is_marked marks n ≡ is_free (content_at os (first + n))

@@ -18,7 +18,7 @@ impl Banks {
     /// Makes a change that was planned, whose order's numbers are listed from `skip` on. They are
     /// announced, and those of new objects fetched.
     ///
-    /// Takes no memory, and can't fail. Where objects are given up or handed on, it goes over the
+    /// Takes no memory, and can't fail. Where objects are given up or transferred, it goes over the
     /// numbers listed, and else over at most 16 banks.
     pub fn carry_out<F: PresentFrames>(&mut self, store: &mut F, skip: usize, change: BankChange)
         requires sound { AreSound (F.parts store.old) }

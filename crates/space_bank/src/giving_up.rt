@@ -50,7 +50,7 @@ impl Banks {
         self.give_up(store, skip, parent);
     }
 
-    /// Gives up a bank other than the prime bank, and hands what it owns on to its own bank. The
+    /// Gives up a bank other than the prime bank, and transfers what it owns to its own bank. The
     /// bank and what it owns are announced, and listed from `skip` on.
     pub fn return_to_parent<F: PresentFrames>(&mut self, store: &mut F, skip: usize, bank: u64)
         requires asks { MayServe (F.parts store.old) self.old bank }

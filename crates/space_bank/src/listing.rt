@@ -1,4 +1,5 @@
-// Lists of the numbers that an order writes. No push takes memory, since there is room.
+// Lists of the numbers that an order writes. No push takes memory, since the list has its full
+// capacity.
 ghost use Rattle.std.specs.Prelude.{◌≡◌, ◌≢◌, ◌+◌, ◌<◌, ◌≤◌, ◌++◌, [], ◌∷◌, false, length, vec_len};
 ghost use Rattle.std.specs.Vec.{vec_capacity};
 ghost use Rattle.model.specs.Banking.{owned_by, under};

@@ -6,7 +6,7 @@ use std::alloc::Global;
 // How many sectors may be written and syncs made, with those of the image.
 const ROOM: usize = 10_000;
 
-// Writes these sectors durably to a device, and tells whether it has as many and they are.
+// Writes these sectors durably to a device, and returns whether it has as many and they are.
 fn is_filled<D: Device>(device: &mut D, image: &[u8]) -> bool {
     if image.len() % SECTOR_SIZE != 0 || (image.len() / SECTOR_SIZE) as u64 != device.sectors() {
         return false;

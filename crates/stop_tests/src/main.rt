@@ -1,6 +1,6 @@
-//! Runs a script over an image in memory, whole, or again and again with a device that stops at each
-//! of its calls in turn, and tells what was answered and what a power cut then leaves; and upgrades an
-//! image so. It expects nothing: `checks/stops` and `checks/upgrades` do.
+//! Runs a script over an image in memory, whole, or again and again with a device that stops at
+//! each of its calls in turn, and prints what was answered and what a power cut then leaves; and
+//! upgrades an image so. It expects nothing: `checks/stops` and `checks/upgrades` do.
 #![tactic(auto)]
 
 mod deeds;
@@ -94,7 +94,7 @@ fn work(rt: &HostRuntime, files: &[String], settings: &[String]) -> anyhow::Resu
     }
 }
 
-// Does what the words ask. With too few it tells which are wanted.
+// Does what the words request. With too few it prints which are wanted.
 fn main(rt: HostRuntime) -> anyhow::Result<()> {
     let words: Vec<String> = std::env::args(&rt)?.collect(rt.alloc())?;
     match (words.get(1..5), words.get(5..)) {

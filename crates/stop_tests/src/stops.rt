@@ -12,7 +12,7 @@ use std::io::Write;
 
 const FAULT: &[u8] = b"fault\n";
 
-// Tells where a kernel stands.
+// Reports where a kernel stands.
 fn tell_saved(saved: Option<Checkpoint>, reported: &mut Vec<u8>) -> Result<(), RunFault> {
     let Some(saved) = saved else {
         return writeln!(reported, "= down").or(Err(RunFault::Write));
@@ -21,7 +21,7 @@ fn tell_saved(saved: Option<Checkpoint>, reported: &mut Vec<u8>) -> Result<(), R
     writeln!(reported, "= left {generation} {age} {entries}").or(Err(RunFault::Write))
 }
 
-// Tells in which line of a script there was a fault.
+// Reports in which line of a script there was a fault.
 fn tell_stop(stop: Option<usize>, reported: &mut Vec<u8>) -> Result<(), RunFault> {
     let Some(line) = stop else {
         return writeln!(reported, "= whole").or(Err(RunFault::Write));
@@ -29,7 +29,7 @@ fn tell_stop(stop: Option<usize>, reported: &mut Vec<u8>) -> Result<(), RunFault
     writeln!(reported, "= stopped {line}").or(Err(RunFault::Write))
 }
 
-// Tells what is answered to a line, and answers whether that is a fault.
+// Reports what is answered to a line, and answers whether that is a fault.
 fn tell_line<D: Device, S: ObjectStore<D>>(
     alloc: Global,
     kernel: &mut Kernel<D, S>,
@@ -41,7 +41,7 @@ fn tell_line<D: Device, S: ObjectStore<D>>(
     Ok(reported.get(before..) == Some(FAULT))
 }
 
-// Tells what is answered to a script up to the first fault, and gives the number of its line.
+// Reports what is answered to a script up to the first fault, and gives the number of its line.
 fn tell_to_fault<D: Device, S: ObjectStore<D>>(
     alloc: Global,
     kernel: &mut Kernel<D, S>,
@@ -56,7 +56,7 @@ fn tell_to_fault<D: Device, S: ObjectStore<D>>(
     Ok(None)
 }
 
-// Tells where a kernel stands, and what it answers to a script.
+// Reports where a kernel stands, and what it answers to a script.
 fn tell_standing<D: Device, S: ObjectStore<D>>(
     alloc: Global,
     kernel: &mut Kernel<D, S>,
@@ -68,7 +68,7 @@ fn tell_standing<D: Device, S: ObjectStore<D>>(
     run(alloc, kernel, &mut reader, reported)
 }
 
-/// Tells what a power cut leaves of a device, and what a kernel answers that opens it.
+/// Reports what a power cut leaves of a device, and what a kernel answers that opens it.
 pub(crate) fn tell_left<D: Device>(
     alloc: Global,
     device: D,
@@ -89,7 +89,7 @@ pub(crate) fn tell_left<D: Device>(
     }
 }
 
-// Runs a task over a kernel, and tells whether its device stopped.
+// Runs a task over a kernel, and returns whether its device stopped.
 fn tell_task<D: Device, S: ObjectStore<D>>(
     alloc: Global,
     kernel: &mut Kernel<D, S>,
@@ -102,7 +102,7 @@ fn tell_task<D: Device, S: ObjectStore<D>>(
     Ok(stop.is_some())
 }
 
-// The same, and tells what is left of the device then.
+// The same, and reports what is left of the device then.
 fn tell_all<D: Device, S: ObjectStore<D>>(
     alloc: Global,
     kernel: Kernel<D, S>,

@@ -20,9 +20,9 @@ pub(crate) struct Task<'a> {
     pub(crate) image: &'a [u8],
     /// The script that the device stops in, or the sectors that the new device of an upgrade has.
     pub(crate) script: &'a [u8],
-    /// What the same kernel is asked after the stop.
+    /// The lines for the same kernel after the stop.
     pub(crate) tail: &'a [u8],
-    /// What a kernel is asked that opens what is left after all that, and holds all objects.
+    /// The lines for a kernel that opens what is left after all that, and holds all objects.
     pub(crate) last: &'a [u8],
 }
 

@@ -6,7 +6,7 @@ use script::RunFault;
 use std::alloc::Global;
 use std::io::Write;
 
-// Tells what an upgrade came to.
+// Reports the outcome of an upgrade.
 fn tell_outcome(outcome: Result<(), UpgradeFault>, reported: &mut Vec<u8>) -> Result<(), RunFault> {
     let Err(fault) = outcome else {
         return writeln!(reported, "= upgraded").or(Err(RunFault::Write));
@@ -14,8 +14,8 @@ fn tell_outcome(outcome: Result<(), UpgradeFault>, reported: &mut Vec<u8>) -> Re
     writeln!(reported, "= {fault}").or(Err(RunFault::Write))
 }
 
-/// Upgrades the image of one device to another one. Tells what that came to and what a power cut
-/// leaves of the new one, and answers whether a device stopped.
+/// Upgrades the image of one device to another one. Reports its outcome and what a power cut leaves
+/// of the new one, and answers whether a device stopped.
 pub(crate) fn run_upgrade<D: Device, E: Device>(
     alloc: Global,
     old: D,

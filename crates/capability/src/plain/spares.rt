@@ -1,4 +1,4 @@
-// The room that is put aside for what a free number becomes.
+// Spare bodies: a blank body for what a free number becomes.
 ghost use Rattle.std.specs.Prelude.{◌≡◌, ◌≢◌, ℕ, ◌<◌, ◌++◌, length, replicate, IfOk, OnOk, IsErr};
 ghost use Rattle.std.specs.List.{All, Contains};
 ghost use Rattle.model.specs.Frame.{header_at, held_at, void_held};
@@ -10,8 +10,8 @@ use crate::table::ObjectTable;
 use model::{Cap, Content, Geometry, Role, Root, Slots, State, Words};
 use std::alloc::{AllocError, Global};
 
-/// Puts a blank body aside for each free number of a list. Takes memory for no other, and where
-/// that runs out the bodies put aside so far stay.
+/// Makes a spare body for each free number of a list, and takes memory for no other. Where memory
+/// runs out the spare bodies made so far stay.
 pub fn make_spares(
     alloc: Global,
     geometry: Geometry,
@@ -32,7 +32,7 @@ pub fn make_spares(
     Ok(())
 }
 
-// Puts a blank body aside for a number, where it is free.
+// Makes a spare body for a number, where it is free.
 fn put_one(
     alloc: Global,
     geometry: Geometry,
@@ -79,7 +79,7 @@ pub fn push_free(contents: &mut Vec<Content<Cap>>, count: usize) -> Result<(), A
     Ok(())
 }
 
-/// A new object in the blank body that was put aside for it.
+/// A new object in its spare body.
 pub fn filled(room: Content<Cap>, fresh: Fresh) -> Content<Cap>
     requires { room ≡ spare_body_for fresh }
     ensures { result ≡ fresh_content void_held fresh }

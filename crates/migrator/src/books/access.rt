@@ -68,7 +68,7 @@ impl Books {
     }
 
     /// Reads the frozen frame of an object, or else the saved one. The slots of a node or an annex and the words of a
-    /// page are left in `room`, and no memory is taken.
+    /// page are left in `scratch`, and no memory is taken.
     pub(crate) fn fetch_below<D: Device>(
         &self,
         device: &mut D,

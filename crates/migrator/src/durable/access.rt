@@ -1,4 +1,4 @@
-// What a store tells, and what it gives back.
+// What a store says of itself, and what it gives back.
 ghost use Rattle.std.specs.Prelude.{◌≡◌, ◌+◌, ◌≤◌, IfOk, option_map};
 ghost use Rattle.device.specs.Calls.{Counts};
 ghost use Rattle.layout.specs.Frame.{frame_of};
@@ -12,7 +12,7 @@ use layout::{Body, Entry, Scratch, Superblock};
 use model::{Geometry, ObjectHeader};
 
 impl<D: Device> Durable<D> {
-    /// How much there is room for.
+    /// How many objects and slots there may be.
     pub fn geometry(&self) -> Geometry
         ensures geometry { result ≡ (stored_of D.disk self.now).saved.geometry }
         ensures few { result.nodes + result.pages ≤ 8192 }
@@ -71,7 +71,7 @@ impl<D: Device> Durable<D> {
 
     /// Reads what lies below a frame of an object that is kept in memory: the frozen one that was
     /// put, else the saved one. The slots of a node or an annex and the words of a page are left in
-    /// `room`, and no memory is taken. It is refused exactly where the device failed.
+    /// `scratch`, and no memory is taken. It is refused exactly where the device failed.
     pub fn fetch_below(
         &mut self,
         number: u64,
@@ -87,8 +87,8 @@ impl<D: Device> Durable<D> {
     }
 
     /// Reads the newest frame of an object: the one that was put last, else the frozen one, else
-    /// the saved one. The slots of a node or an annex and the words of a page are left in `room`,
-    /// and no memory is taken. It is refused exactly where the device failed.
+    /// the saved one. The slots of a node or an annex and the words of a page are left in
+    /// `scratch`, and no memory is taken. It is refused exactly where the device failed.
     pub fn fetch(
         &mut self,
         number: u64,

@@ -52,7 +52,7 @@ struct Reserve {
     buffer: ClusterBuffer,
 }
 
-// What takes the frames, and room for the one that is read.
+// What takes the frames, and the scratch buffer for the one that is read.
 #[derive(Drop)]
 struct Sink<I: Intake> {
     taken: I,
@@ -156,7 +156,7 @@ fn read_into<D: Device, I: Intake>(
     }
 }
 
-// Does so with room, and with what takes the frames.
+// Reads it with a scratch buffer, and with what takes the frames.
 fn read_with_sink<D: Device, I: Intake>(
     alloc: Global,
     device: &mut D,
@@ -213,7 +213,7 @@ impl<D: Device> Durable<D> {
     /// Opens a device, and writes nothing to it. It begins with a sync, and reads what is committed
     /// and every saved frame, once: `I` takes each when it is read. No later call takes memory.
     ///
-    /// A refusal hands the device back: `Failed` exactly where the device failed, `NoMemory` only
+    /// A refusal gives the device back: `Failed` exactly where the device failed, `NoMemory` only
     /// where memory ran out, and else the least of the reasons 1 to 7 to refuse an image.
     pub fn open<I: Intake>(alloc: Global, device: D) -> Result<Opened<D, I>, OpenRefused<D>>
         ensures opened { IfOk result (λ o. OpensDurable D.disk device o.store) }

@@ -15,7 +15,7 @@ use model::{Cap, Content};
 use std::alloc::Global;
 
 impl<D: Device> Cache<D> {
-    // Makes room for an entry, as a part of preparing.
+    // Frees a place for an entry, as a part of preparing.
     fn make_place(&mut self) -> Result<(), PrepareFault>
         requires keepable { AreKeepable (parts_of D.disk self.old).geometry most
             (frames_of (parts_of D.disk self.old)) }
@@ -53,7 +53,7 @@ impl<D: Device> Cache<D> {
         }
     }
 
-    // Brings an object that has no entry into memory, where no body is in the hand. The seven
+    // Brings an object that has no entry into memory, where the staging buffer is empty. The seven
     // entries used last stay.
     #[inline(never)]
     fn bring(&mut self, alloc: Global, number: u64) -> Result<(), PrepareFault>
@@ -99,7 +99,7 @@ impl<D: Device> Cache<D> {
         self.bring(alloc, number)
     }
 
-    // Brings the objects of a list into memory, where no body is in the hand.
+    // Brings the objects of a list into memory, where the staging buffer is empty.
     pub(crate) fn fetch_all(&mut self, alloc: Global, fetched: &[u64]) -> Result<(), PrepareFault>
         requires few { length fetched.now ≤ MAX_FETCHED }
         requires known { All (λ n. n < length self.old.headers) fetched.now }

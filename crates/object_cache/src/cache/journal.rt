@@ -149,8 +149,8 @@ fn journal_page<D: Device>(
 
 impl<D: Device> Cache<D> {
     /// Saves a page with the words that it has now, at an age; of the page nothing else, and of the
-    /// other objects what was saved. Answers the new generation. It takes no memory: where the page
-    /// isn't in memory its words are read into room that was taken at the opening.
+    /// other objects what was saved. Returns the new generation. It takes no memory: the words of a
+    /// page that isn't in memory are read into the scratch buffer, which `open` allocated.
     ///
     /// It is refused by `CheckpointRunning` exactly where a checkpoint is on its way, else by
     /// `MigrationPending` exactly where something saved isn't home, else by `NotPage` exactly where

@@ -38,7 +38,8 @@ impl Marks {
     }
 }
 
-// Where bodies are to be held: no entries, an empty hand, and room for what is read.
+// What `open` begins with: no entries, an empty staging buffer, and a scratch buffer for what is
+// read.
 #[derive(Drop)]
 struct Bodies {
     entries: Entries,

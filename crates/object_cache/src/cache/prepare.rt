@@ -23,8 +23,8 @@ use model::Role;
 use std::alloc::{AllocError, Global};
 
 impl<D: Device> Cache<D> {
-    // Says that objects were used, in turn, as far as they were used lately, and tells whether it
-    // said so of each. Then they are in memory.
+    // Marks objects as used, in turn, up to the first that isn't among the last few used. Returns
+    // whether it marked them all; then they are in memory.
     fn use_again(&mut self, numbers: &[u64]) -> bool
         requires { All (λ n. n < length self.old.headers) numbers.now }
         ensures fetched { result ≡ true → (n : ℕ) → Contains numbers.now n → IsFetchedIn self.new n }
@@ -113,7 +113,7 @@ impl<D: Device> Cache<D> {
         Ok(())
     }
 
-    // Does so for the numbers of a list.
+    // The same for the numbers of a list.
     pub(crate) fn keep_all_apart(
         &mut self,
         alloc: Global,
@@ -130,8 +130,8 @@ impl<D: Device> Cache<D> {
         Ok(())
     }
 
-    // Puts a blank body aside for a number that has an entry. Fails only where memory runs out, and
-    // then all is as it was.
+    // Makes a spare body for a number that has an entry. Fails only where memory runs out, and then
+    // nothing changes.
     pub(crate) fn reserve(&mut self, alloc: Global, number: u64) -> Result<(), AllocError>
         requires { IsFetchedIn self.old number }
         ensures reserved { OnOk result (self.new ≡ record self.old {
@@ -145,7 +145,7 @@ impl<D: Device> Cache<D> {
         Ok(())
     }
 
-    // Puts a blank body aside for a number, where it has an entry.
+    // Makes a spare body for a number, where it has an entry.
     fn reserve_cached(&mut self, alloc: Global, number: u64) -> Result<(), AllocError>
         requires { number < length self.old.headers }
         ensures room { OnOk result (HasSpareBodyIn D.disk self.new number) }
@@ -159,7 +159,7 @@ impl<D: Device> Cache<D> {
         Ok(())
     }
 
-    // Does so where the number is free.
+    // The same, where the number is free.
     fn reserve_free(&mut self, alloc: Global, number: u64) -> Result<(), AllocError>
         requires { number < length self.old.headers }
         ensures room { OnOk result (HasSpareBodyIn D.disk self.new number) }
@@ -173,7 +173,7 @@ impl<D: Device> Cache<D> {
         Ok(())
     }
 
-    // Does so for the free numbers of a list.
+    // The same for the free numbers of a list.
     fn reserve_all(&mut self, alloc: Global, written: &[u64]) -> Result<(), AllocError>
         requires { All (λ n. n < length self.old.headers) written.now }
         ensures room { OnOk result ((n : ℕ) → Contains written.now n
@@ -187,8 +187,8 @@ impl<D: Device> Cache<D> {
         Ok(())
     }
 
-    // Keeps apart what the numbers of a list were frozen as, and puts room aside for those that are
-    // free.
+    // Copies the frozen bodies that the numbers of a list share, and makes spare bodies for those
+    // that are free.
     fn copy_frozen_bodies(&mut self, alloc: Global, written: &[u64]) -> Result<(), AllocError>
         requires { All (λ n. n < length self.old.headers) written.now }
         ensures apart { OnOk result ((n : ℕ) → Contains written.now n
@@ -221,7 +221,7 @@ impl<D: Device> Cache<D> {
         }
     }
 
-    // Leaves no body in the hand, as a part of preparing.
+    // Empties the staging buffer, as a part of preparing.
     fn free_staging(&mut self) -> Result<(), PrepareFault>
         ensures empty { OnOk result (self.new.staging ≡ None) }
         ensures within { touched_count self.old.touched
@@ -279,10 +279,10 @@ impl<D: Device> Cache<D> {
         self.bring_all(alloc, fetched)
     }
 
-    /// Announces the numbers that are to be written, and puts the room aside that a free one among
-    /// them needs. It makes no call of the device.
+    /// Announces the numbers that are to be written, and makes a spare body for each free one among
+    /// them. It makes no call of the device.
     ///
-    /// After an error no number written is another than before: `NoMemory` if memory ran out,
+    /// An error changes none of the numbers written: `NoMemory` if memory ran out,
     /// `LogFull` only if the numbers written would be more than half of the log holds.
     pub(crate) fn make_writable(
         &mut self,
@@ -313,10 +313,11 @@ impl<D: Device> Cache<D> {
         self.announce(written)
     }
 
-    /// Brings what the objects hold that are to be read or changed into memory, at most 8, announces
-    /// the numbers that are to be written, and puts the room aside that a free one among them needs.
+    /// Brings what the objects hold that are to be read or changed into memory, at most 8,
+    /// announces the numbers that are to be written, and makes a spare body for each free one among
+    /// them.
     ///
-    /// After an error no object and no number written is another than before: `NoMemory` where
+    /// An error changes no object and none of the numbers written: `NoMemory` where
     /// memory ran out, `LogFull` only where the numbers written would be more than half of the log
     /// holds, and `Failed` exactly where the device failed.
     pub fn prepare(

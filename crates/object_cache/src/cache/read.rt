@@ -51,7 +51,7 @@ fn mask(role: Role, content: Content<Cap>) -> Content<Cap>
 }
 
 impl<D: Device> Cache<D> {
-    // Reads what an object holds that has no entry, where no body is in the hand.
+    // Reads what an object holds that has no entry, where the staging buffer is empty.
     pub(crate) fn read(&mut self, alloc: Global, number: u64) -> Result<Content<Cap>, PrepareFault>
         requires known { number < length self.old.headers }
         requires uncached { cached_at self.old.cached number ≡ None }

@@ -44,7 +44,7 @@ impl<D: Device> Cache<D> {
         self.put_held()
     }
 
-    // Puts the frozen frame of an object, where no body is in the hand.
+    // Puts the frozen frame of an object, where the staging buffer is empty.
     fn put_pending(&mut self, number: u64) -> Result<(), Failed>
         requires pending { mark_at self.old.pending number ≡ true }
         requires empty { self.old.staging ≡ None }
@@ -61,7 +61,7 @@ impl<D: Device> Cache<D> {
     }
 
     // Puts one more frozen frame that isn't in its slot, if there is one: that of the body in the
-    // hand first.
+    // staging buffer first.
     fn put_next(&mut self) -> Result<(), Failed>
         ensures fewer { OnOk result (pending_count self.new ≤ pending_count self.old - 1) }
         ensures few { (f : FrozenFrames) → self.old.frozen ≡ Some f → pending_count self.old ≤ f.left }

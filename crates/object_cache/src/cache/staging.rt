@@ -1,4 +1,4 @@
-// The body in the hand.
+// Use of the staging buffer.
 ghost use Rattle.std.specs.Prelude.{◌≡◌, ◌≢◌, ◌<◌, ◌≤◌, None, Some, OnOk};
 ghost use Rattle.model.specs.Machine.{touched_count};
 ghost use Rattle.migrator.specs.Durable.{stored_of};
@@ -33,7 +33,7 @@ impl<D: Device> Cache<D> {
         Ok(())
     }
 
-    // Leaves no body in the hand: the frozen frame of one that is there is put. At `Failed` it stays.
+    // Empties the staging buffer: puts the frozen frame of the body in it. At `Failed` it stays.
     pub(crate) fn empty_staging(&mut self) -> Result<(), Failed>
         ensures empty { OnOk result (self.new.staging ≡ None) }
         ensures fewer { OnOk result (self.old.staging ≢ None → pending_count self.new < pending_count self.old) }

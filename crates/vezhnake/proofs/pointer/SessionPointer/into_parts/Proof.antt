@@ -1,4 +1,4 @@
--- `into_parts` moves two fields, of which it casts one, and what they own goes with them.
+-- `into_parts` moves two fields and casts one, and what they own goes with them.
 use mathlib.Core.Path.{refl, sym, subst}
 use Rattle.vezhnake.proofs.Names.{Option, None, IsSome, D, B, word, box_typed, box_out, box_in}
 use Rattle.std.specs.Prelude.{◌≡◌, true, false, Some}
