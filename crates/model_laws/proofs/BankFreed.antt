@@ -10,7 +10,7 @@ use Rattle.model_laws.proofs.SoundParts.{IsFramed}
 use Rattle.model_laws.proofs.SoundOrders.{IsNow}
 use Rattle.model_laws.proofs.BankTree.{IsTree, tree_of, member_head, member_tail, chain_zero, chain_unfolds, chain_longer, chain_itself, chain_nonempty}
 use Rattle.model_laws.proofs.BankTree.{owner_bank}
-use Rattle.model_laws.proofs.NumberLists.{AllDiffer, member_cases, no_member, only_member, all_members, found_in, stands_in, filter_once, filter_rises}
+use Rattle.model_laws.proofs.NumberLists.{AllDiffer, member_cases, no_member, only_member, all_members, found_in, stands_in, filter_once}
 use Rattle.model_laws.proofs.BankRescind.{IsClosedSet, lost_together, used_owner, used_where, usage_rescinded}
 
 -- what isn't free is one of the objects

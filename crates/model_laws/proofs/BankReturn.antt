@@ -16,7 +16,7 @@ use Rattle.model_laws.proofs.BankTree.{IsTree, tree_of, member_tail, chain_prime
 use Rattle.model_laws.proofs.BankTree.{chain_length, chain_owner_length, owner_bank}
 use Rattle.model_laws.proofs.NumberLists.{AllDiffer, no_member, only_member}
 use Rattle.model_laws.proofs.BankRescind.{held_as_before, rescinded_now, used_owner, used_where}
-use Rattle.model_laws.proofs.BankFreed.{IsGivenUp, differ_where, freed_set, owned_found, owned_once, tree_induction, under_given_up, under_owner}
+use Rattle.model_laws.proofs.BankFreed.{IsGivenUp, differ_where, freed_set, owned_found, tree_induction, under_given_up, under_owner}
 use Rattle.model_laws.proofs.BankFreed.{usage_given_up}
 
 -- who owns what a bank owned

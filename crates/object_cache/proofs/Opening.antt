@@ -150,6 +150,3 @@ module _ {D : Type 0} (disk : D → Disk) (device : D) (d : DurableState D) (hs 
             ∙ ap (λ (cs : List (Content Cap)). frames_in (headers (stored_of disk d).saved.frames) cs) over.contents
             ∙ again (stored_of disk d).saved.frames
             ∙ ap (λ (x : DurableState D). (stored_of disk x).saved.frames) (sym over.durable)
-
--- a store apart from its making
-module _ {D : Type 0} (disk : D → Disk) where
