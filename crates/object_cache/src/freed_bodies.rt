@@ -55,7 +55,7 @@ fn blank_node(alloc: Global, nodes: &mut Vec<Slots<Cap>>) -> Result<Content<Cap>
 }
 
 // Keeps a body, unless there are as many as are kept or memory runs out.
-fn keep<T>(bodies: &mut Vec<T>, body: T) {
+fn keep<T: Drop>(bodies: &mut Vec<T>, body: T) {
     if bodies.len() < MOST {
         let _ = bodies.push(body);
     }
