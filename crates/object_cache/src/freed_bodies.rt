@@ -12,8 +12,8 @@ use std::marker::Model;
 // How many bodies of each kind are kept.
 const MOST: usize = 16;
 
-/// Bodies of freed objects: a new object needs no memory while there are some, and only the words
-/// that the freed page had written are cleared.
+/// Bodies of freed objects. A new object is made in one of them, if there is one. Then it takes no
+/// memory, and a page is cleared only as far as it was written.
 #[derive(Drop)]
 pub(crate) struct FreedBodies {
     pages: Vec<Words>,
@@ -54,7 +54,7 @@ fn blank_node(alloc: Global, nodes: &mut Vec<Slots<Cap>>) -> Result<Content<Cap>
     Ok(Content::Node(slots))
 }
 
-// Keeps a body, unless there are as many as are kept or memory runs out.
+// Keeps a body if there is room for it. It takes no memory.
 fn keep<T: Drop>(bodies: &mut Vec<T>, body: T) {
     if bodies.len() < MOST {
         let _ = bodies.push(body);
@@ -62,12 +62,12 @@ fn keep<T: Drop>(bodies: &mut Vec<T>, body: T) {
 }
 
 impl FreedBodies {
-    /// No bodies.
-    pub(crate) fn new(alloc: Global) -> FreedBodies {
-        FreedBodies {
-            pages: Vec::new(alloc),
-            nodes: Vec::new(alloc),
-        }
+    /// No bodies. Fails only where memory runs out.
+    pub(crate) fn new(alloc: Global) -> Result<FreedBodies, AllocError> {
+        Ok(FreedBodies {
+            pages: Vec::with_capacity(alloc, MOST)?,
+            nodes: Vec::with_capacity(alloc, MOST)?,
+        })
     }
 
     /// A blank node for a number of a node, else a blank page. Fails only where memory runs out.
@@ -86,7 +86,7 @@ impl FreedBodies {
         }
     }
 
-    /// Keeps the body of a freed object, if there is room for it.
+    /// Keeps the body of a freed object if there is room for it. It takes no memory.
     pub(crate) fn keep(&mut self, freed: Content<Cap>) {
         match freed {
             Content::Page(words) => keep(&mut self.pages, words),

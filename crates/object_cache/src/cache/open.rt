@@ -63,7 +63,7 @@ impl Bodies {
             entries: Entries::new(alloc, capacity, count)?,
             staging: Staging::new(alloc)?,
             scratch: Scratch::new(alloc)?,
-            freed: FreedBodies::new(alloc),
+            freed: FreedBodies::new(alloc)?,
         })
     }
 }
