@@ -16,6 +16,7 @@ use crate::use_order::UseOrder;
 use model::{Cap, Content};
 use std::alloc::{AllocError, Global};
 use std::marker::Model;
+use std::mem;
 use std::num::NonZeroUsize;
 
 /// Entries by number, no more than a capacity, in the order of their last use.
@@ -122,14 +123,15 @@ impl Entries {
         self.arena.replace_buffer(number, buffer)
     }
 
-    /// Leaves nothing in an object, where it has an entry.
-    pub fn free(&mut self, number: u64)
+    /// Leaves nothing in an object, where it has an entry, and hands out what it held.
+    pub fn free(&mut self, number: u64) -> Content<Cap>
         requires { number < length self.old.at }
         ensures { self.new ≡ with_entry_of (holding Content.Free) number self.old }
     {
-        if self.holds(number) {
-            *self.present_mut(number) = Content::Free;
+        if !self.holds(number) {
+            return Content::Free;
         }
+        mem::replace(self.present_mut(number), Content::Free)
     }
 
     /// Puts an entry of a number in that has none, which was so used last. There are fewer than

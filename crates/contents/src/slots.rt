@@ -72,4 +72,13 @@ impl<C: Copy> Slots<C> {
     {
         self.items[index] = held;
     }
+
+    /// Puts this into all slots.
+    pub fn fill(&mut self, held: C)
+        ensures { self.new ≡ replicate 32 held }
+    {
+        for index in 0..SLOTS {
+            self.items[index] = held;
+        }
+    }
 }

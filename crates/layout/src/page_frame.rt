@@ -21,14 +21,24 @@ pub const PAGE_FRAME_BYTES: usize = 4608;
 // Where the words of a page begin.
 const FRONT_BYTES: usize = 512;
 
+// Reads 512 words one after the other.
+fn read_words(bytes: &[u8], into: &mut [u64])
+    requires bytes { length bytes.now ≡ 4096 }
+    requires words { length into.old ≡ 512 }
+    ensures words { AreKeptWords 512 into.new }
+    ensures bytes { bytes.now ≡ words_bytes into.new }
+{
+    for i in 0..into.len() {
+        into[i] = number_at(bytes, 8 * i);
+    }
+}
+
 fn decode_words(bytes: &[u8], into: &mut Words)
     requires { length bytes.now ≡ 4096 }
     ensures words { AreKeptWords 512 into.new }
     ensures bytes { bytes.now ≡ words_bytes into.new }
 {
-    for i in 0..into.as_slice().len() {
-        into.set(i, number_at(bytes, 8 * i));
-    }
+    read_words(bytes, into.as_mut_slice());
 }
 
 fn encode_words(words: &[u64], into: &mut [u8])

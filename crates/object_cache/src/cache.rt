@@ -14,6 +14,7 @@ ghost use Rattle.checkpoint.specs.Saved.{most};
 ghost use Rattle.model.specs.Machine.{touched_count};
 ghost use Rattle.migrator.specs.Durable.{stored_of};
 
+use crate::freed_bodies::FreedBodies;
 use crate::frozen::put_own;
 use crate::headers::Headers;
 use crate::owed::is_owing;
@@ -61,6 +62,8 @@ pub struct Cache<D: Device> {
     /// A body that is in no entry, and perhaps no longer in its slot.
     staging: Staging,
     scratch: Scratch,
+    /// Bodies in which new objects are made.
+    freed: FreedBodies,
 }
 
 impl<D: Device> Model for Cache<D> {
@@ -182,7 +185,8 @@ impl<D: Device> Cache<D> {
           contents = slice_set self.old.contents number Content.Free;
         } }
     {
-        self.entries.free(number);
+        let freed = self.entries.free(number);
+        self.freed.keep(freed);
         self.table.rescind(number);
     }
 

@@ -4,6 +4,7 @@
 mod all_objects;
 mod body;
 mod cache;
+mod freed_bodies;
 mod frozen;
 mod headers;
 mod held;

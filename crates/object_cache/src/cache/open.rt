@@ -4,6 +4,7 @@ ghost use Rattle.migrator.specs.Durable.{stored_of};
 ghost use Rattle.object_cache.specs.StoreState.{IsJustOpened, IsMadeOver, IsWhole, cached_at};
 
 use crate::cache::Cache;
+use crate::freed_bodies::FreedBodies;
 use crate::headers::Headers;
 use crate::staging::Staging;
 use cache_entries::{Capacity, Entries};
@@ -45,6 +46,7 @@ struct Bodies {
     entries: Entries,
     staging: Staging,
     scratch: Scratch,
+    freed: FreedBodies,
 }
 
 impl Bodies {
@@ -61,6 +63,7 @@ impl Bodies {
             entries: Entries::new(alloc, capacity, count)?,
             staging: Staging::new(alloc)?,
             scratch: Scratch::new(alloc)?,
+            freed: FreedBodies::new(alloc)?,
         })
     }
 }
@@ -135,6 +138,7 @@ impl<D: Device> Cache<D> {
                     left: 0,
                     staging: bodies.staging,
                     scratch: bodies.scratch,
+                    freed: bodies.freed,
                 })
             }
             Err(_) => Err(durable),

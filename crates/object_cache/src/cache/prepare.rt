@@ -15,7 +15,6 @@ ghost use Rattle.object_cache.specs.Prepared.{HasSpareBodyIn, on_device_with, re
 
 use crate::cache::Cache;
 use crate::owed::is_shared;
-use capability::plain::spares::blank;
 use capability::plain::touched::{are_ready, fresh_count, mark};
 use capability::{MAX_FETCHED, PrepareFault};
 use device::Device;
@@ -140,7 +139,8 @@ impl<D: Device> Cache<D> {
         }) }
         ensures unchanged { OnErr result (self.new ≡ self.old) }
     {
-        let room = blank(alloc, self.durable.geometry(), number)?;
+        let geometry = self.durable.geometry();
+        let room = self.freed.blank(alloc, geometry, number)?;
         drop(self.entries.replace_buffer(number, room));
         Ok(())
     }
