@@ -77,8 +77,8 @@ impl<C: Copy> Slots<C> {
     pub fn fill(&mut self, held: C)
         ensures { self.new ≡ replicate 32 held }
     {
-        for index in 0..SLOTS {
-            self.items[index] = held;
+        for slot in 0..SLOTS {
+            self.items[slot] = held;
         }
     }
 }
