@@ -3,7 +3,9 @@
 
 mod explaining;
 mod limits;
+mod naming;
 mod place;
+mod place_text;
 mod text;
 
 pub use explaining::explain;

@@ -1,6 +1,10 @@
-// The text for a place.
+// What an explanation says. Each call that makes a text fails only where memory runs out.
+ghost use Rattle.std.specs.Prelude.{IfOk, string_bytes};
+ghost use Rattle.description_explainer.specs.Text.{IsExplanation};
 
+use crate::naming::listed_number;
 use crate::place::{Place, Rule};
+use crate::place_text::{list_of, parts_of, place_text};
 use consistency::Unbanked;
 use described_world::is_capability;
 use description::member::member;
@@ -57,17 +61,6 @@ fn keys_in(table: TableName) -> &'static str {
     }
 }
 
-// The key of the list that a table stands in, and its index there.
-fn list_of(name: TableName) -> Option<(&'static str, usize)> {
-    match name {
-        TableName::Whole => None,
-        TableName::Bank(k) => Some(("bank", k)),
-        TableName::Process(k) => Some(("process", k)),
-        TableName::Node(k) => Some(("node", k)),
-        TableName::Page(k) => Some(("page", k)),
-    }
-}
-
 // The table of that name, if there is one.
 fn table_at<'a>(whole: &'a Table, name: TableName) -> Option<&'a Table> {
     match list_of(name) {
@@ -102,14 +95,6 @@ fn entry_text<'a>(whole: &'a Table, name: TableName, key: &str, i: usize) -> &'a
     entry_at(whole, name, key, i).unwrap_or("")
 }
 
-// How a table is named before anything is known of it, with what follows.
-fn table_text(alloc: Global, name: TableName) -> Result<String, AllocError> {
-    match list_of(name) {
-        None => Ok(String::new(alloc)),
-        Some((key, k)) => format!(in alloc; "{key}[{k}], "),
-    }
-}
-
 // What was found at a key.
 fn found_text(alloc: Global, value: &Value) -> Result<String, AllocError> {
     match value.as_integer() {
@@ -127,30 +112,26 @@ fn misfit_text(
     name: TableName,
     key: Key,
 ) -> Result<String, AllocError> {
-    let (key_name, wanted) = (key.name(), wanted(key));
-    match value_at(whole, name, key_name) {
-        None => format!(in alloc; "{key_name}: is missing; expected {wanted}"),
+    let wanted = wanted(key);
+    match value_at(whole, name, key.name()) {
+        None => format!(in alloc; ": is missing; expected {wanted}"),
         Some(value) => {
             let found = found_text(alloc, value)?;
-            format!(in alloc; "{key_name}: expected {wanted}, {found}")
+            format!(in alloc; ": expected {wanted}, {found}")
         }
     }
 }
 
 fn shape_text(alloc: Global, whole: &Table, place: ShapePlace<'_>) -> Result<String, AllocError> {
-    let before = table_text(alloc, place.table)?;
     match place.flaw {
-        Flaw::Unknown(key) => {
+        Flaw::Unknown(_) => {
             let keys = keys_in(place.table);
-            format!(in alloc; "{before}key {key:?} is unknown; the keys are {keys}")
+            format!(in alloc; " is unknown; the keys are {keys}")
         }
-        Flaw::Misfit(key) => {
-            let what = misfit_text(alloc, whole, place.table, key)?;
-            format!(in alloc; "{before}{what}")
-        }
-        Flaw::Item(key, i) => {
-            let (key_name, wanted) = (key.name(), wanted_item(key));
-            format!(in alloc; "{before}{key_name}[{i}]: expected {wanted}")
+        Flaw::Misfit(key) => misfit_text(alloc, whole, place.table, key),
+        Flaw::Item(key, _) => {
+            let wanted = wanted_item(key);
+            format!(in alloc; ": expected {wanted}")
         }
     }
 }
@@ -159,24 +140,19 @@ fn shape_text(alloc: Global, whole: &Table, place: ShapePlace<'_>) -> Result<Str
 fn range_text(
     alloc: Global,
     geometry: Geometry,
-    index: usize,
     range: NumberRange,
     next: u64,
 ) -> Result<String, AllocError> {
     let NumberRange { first, count } = range;
     let nodes = geometry.nodes;
     if first != next {
-        format!(in alloc;
-            "ranges[{index}]: begins at {first}; expected {next}, where those before it end"
-        )
+        format!(in alloc; ": begins at {first}; expected {next}, where those before it end")
     } else if count == 0 {
-        format!(in alloc; "ranges[{index}]: is empty")
+        format!(in alloc; ": is empty")
     } else if first < nodes && count > nodes - first {
-        format!(in alloc;
-            "ranges[{index}]: has nodes and pages; numbers below {nodes} are of nodes"
-        )
+        format!(in alloc; ": has nodes and pages; numbers below {nodes} are of nodes")
     } else {
-        format!(in alloc; "ranges[{index}]: goes beyond the last page")
+        format!(in alloc; ": goes beyond the last page")
     }
 }
 
@@ -187,77 +163,26 @@ fn limit_text(
 ) -> Result<String, AllocError> {
     let Geometry { nodes, pages, log } = description.geometry;
     match limit {
-        Limit::Nodes => format!(in alloc; "nodes: {nodes} is not from 16 to 4096"),
-        Limit::Pages => format!(in alloc; "pages: {pages} is not from 1 to 4096"),
-        Limit::Log => format!(in alloc; "log: {log} is not from 16 to 4096"),
+        Limit::Nodes => format!(in alloc; ": {nodes} is not from 16 to 4096"),
+        Limit::Pages => format!(in alloc; ": {pages} is not from 1 to 4096"),
+        Limit::Log => format!(in alloc; ": {log} is not from 16 to 4096"),
         Limit::Age => {
-            format!(in alloc;
-                "age: {} is above 4611686018427387904, 2^62",
-                description.age
-            )
+            format!(in alloc; ": {} is above 4611686018427387904, 2^62", description.age)
         }
-        Limit::Layout => format!(in alloc; "layout: {} is not 1 or 2", description.layout),
+        Limit::Layout => format!(in alloc; ": {} is not 1 or 2", description.layout),
         Limit::RangeCount => {
-            format!(in alloc;
-                "ranges: there are {}; expected 1 to 8",
-                description.ranges.len()
-            )
+            format!(in alloc; ": there are {}; expected 1 to 8", description.ranges.len())
         }
         Limit::RangesEnd { next } => {
             let end = nodes.saturating_add(pages);
             format!(in alloc;
-                "ranges: they end before {next}; expected {end}, that all numbers have a home"
+                ": they end before {next}; expected {end}, that all numbers have a home"
             )
         }
         Limit::Range { index, next } => match description.ranges.get(index) {
-            Some(range) => range_text(alloc, description.geometry, index, *range, next),
+            Some(range) => range_text(alloc, description.geometry, *range, next),
             None => Ok(String::new(alloc)),
         },
-    }
-}
-
-// The list that a number stands in, its index there, its key and itself.
-fn named_parts(
-    description: &Description,
-    named: Named,
-) -> (&'static str, usize, &'static str, u64) {
-    match named {
-        Named::Bank(k) => (
-            "bank",
-            k,
-            "number",
-            description.banks.get(k).map_or(0, |bank| bank.number),
-        ),
-        Named::Root(k) => (
-            "process",
-            k,
-            "root",
-            description
-                .processes
-                .get(k)
-                .map_or(0, |process| process.root),
-        ),
-        Named::Annex(k) => (
-            "process",
-            k,
-            "annex",
-            description
-                .processes
-                .get(k)
-                .map_or(0, |process| process.annex),
-        ),
-        Named::Node(k) => (
-            "node",
-            k,
-            "number",
-            description.nodes.get(k).map_or(0, |node| node.number),
-        ),
-        Named::Page(k) => (
-            "page",
-            k,
-            "number",
-            description.pages.get(k).map_or(0, |page| page.number),
-        ),
     }
 }
 
@@ -270,27 +195,24 @@ fn number_text(
     let end = nodes.saturating_add(description.geometry.pages);
     match place {
         Misnumbered::OutOfRange(named) => {
-            let (list, k, key, number) = named_parts(description, named);
+            let number = listed_number(description, named);
             let (kind, first, end) = match named {
                 Named::Page(_) => ("page", nodes, end),
                 _ => ("node", 0, nodes),
             };
             let last = end.saturating_sub(1);
-            format!(in alloc;
-                "{list}[{k}], {key}: {number} is not the number of a {kind}, {first} to {last}"
-            )
+            format!(in alloc; ": {number} is not the number of a {kind}, {first} to {last}")
         }
         Misnumbered::Twice(one, other) => {
-            let (first_list, i, first_key, _) = named_parts(description, one);
-            let (list, k, key, number) = named_parts(description, other);
-            format!(in alloc;
-                "{list}[{k}], {key}: {number} is already used, as {first_key} of {first_list}[{i}]"
-            )
+            let number = listed_number(description, other);
+            let (list, i, key) = parts_of(one);
+            format!(in alloc; ": {number} is already used, as {key} of {list}[{i}]")
         }
     }
 }
 
-// What is wrong with the index of an entry: the list and what its entries are, their indexes, and which indexes there are.
+// What is wrong with the index of an entry: the key of the list and what its entries are, their indexes, and which indexes
+// there are.
 fn indexed_text(
     alloc: Global,
     list: &str,
@@ -303,66 +225,44 @@ fn indexed_text(
     match flaw {
         Indexed::OutOfRange(i) => {
             let index = indexes.get(i).copied().unwrap_or(0);
-            format!(in alloc; "{list}[{i}]: {what} {index} is not from {first} to {last}")
+            format!(in alloc; ": {what} {index} is not from {first} to {last}")
         }
         Indexed::Twice(i, j) => {
             let index = indexes.get(j).copied().unwrap_or(0);
-            format!(in alloc; "{list}[{j}]: {what} {index} is already named, by {list}[{i}]")
+            format!(in alloc; ": {what} {index} is already named, by {list}[{i}]")
         }
     }
 }
 
-// Where an entry stands: the process or node, its name, and the key of the list.
-#[derive(Drop)]
+// Where an entry stands: the table of the process or node, and the key of the list.
+#[derive(Clone, Copy)]
 struct Entries<'a> {
     whole: &'a Table,
     table: TableName,
-    object: &'a str,
     key: &'a str,
 }
 
 impl Entries<'_> {
     // What is wrong with an entry in a list of slots or registers.
     fn slot_text(
-        &self,
+        self,
         alloc: Global,
         slots: &[SlotEntry],
         what: &str,
         first: u64,
         flaw: SlotFlaw,
     ) -> Result<String, AllocError> {
-        let (object, key) = (self.object, self.key);
         match flaw {
             SlotFlaw::Index(flaw) => {
                 let indexes = slot_indexes(alloc, slots)?;
-                let text = indexed_text(alloc, key, what, &indexes, first, 31, flaw)?;
-                format!(in alloc; "{object}, {text}")
+                indexed_text(alloc, self.key, what, &indexes, first, 31, flaw)
             }
             SlotFlaw::Text(i) => {
-                let text = entry_text(self.whole, self.table, key, i);
-                format!(in alloc; "{object}, {key}[{i}]: {text:?} is not the text of a capability")
+                let text = entry_text(self.whole, self.table, self.key, i);
+                format!(in alloc; ": {text:?} is not the text of a capability")
             }
         }
     }
-}
-
-// How a process, a node and a page are named.
-fn process_name(alloc: Global, description: &Description, k: usize) -> Result<String, AllocError> {
-    let root = description
-        .processes
-        .get(k)
-        .map_or(0, |process| process.root);
-    format!(in alloc; "process {root}")
-}
-
-fn node_name(alloc: Global, description: &Description, k: usize) -> Result<String, AllocError> {
-    let number = description.nodes.get(k).map_or(0, |node| node.number);
-    format!(in alloc; "node {number}")
-}
-
-fn page_name(alloc: Global, description: &Description, k: usize) -> Result<String, AllocError> {
-    let number = description.pages.get(k).map_or(0, |page| page.number);
-    format!(in alloc; "page {number}")
 }
 
 fn slots_text(
@@ -373,29 +273,19 @@ fn slots_text(
 ) -> Result<String, AllocError> {
     match part {
         Part::Registers(k, flaw) => {
-            let object = process_name(alloc, description, k)?;
-            let entries = Entries {
-                whole,
-                table: TableName::Process(k),
-                object: object.as_str(),
-                key: "registers",
-            };
+            let (table, key) = (TableName::Process(k), "registers");
+            let entries = Entries { whole, table, key };
             match description.processes.get(k) {
                 Some(process) => entries.slot_text(alloc, &process.registers, "register", 1, flaw),
-                None => Ok(object),
+                None => Ok(String::new(alloc)),
             }
         }
         Part::Slots(k, flaw) => {
-            let object = node_name(alloc, description, k)?;
-            let entries = Entries {
-                whole,
-                table: TableName::Node(k),
-                object: object.as_str(),
-                key: "slots",
-            };
+            let (table, key) = (TableName::Node(k), "slots");
+            let entries = Entries { whole, table, key };
             match description.nodes.get(k) {
                 Some(node) => entries.slot_text(alloc, &node.slots, "slot", 0, flaw),
-                None => Ok(object),
+                None => Ok(String::new(alloc)),
             }
         }
         _ => Ok(String::new(alloc)),
@@ -408,14 +298,12 @@ fn words_text(
     k: usize,
     flaw: Indexed,
 ) -> Result<String, AllocError> {
-    let object = page_name(alloc, description, k)?;
     match description.pages.get(k) {
         Some(page) => {
             let indexes = word_indexes(alloc, &page.words)?;
-            let text = indexed_text(alloc, "words", "word", &indexes, 0, 511, flaw)?;
-            format!(in alloc; "{object}, {text}")
+            indexed_text(alloc, "words", "word", &indexes, 0, 511, flaw)
         }
-        None => Ok(object),
+        None => Ok(String::new(alloc)),
     }
 }
 
@@ -426,12 +314,11 @@ fn space_text(
     k: usize,
     process: &ProcessEntry,
 ) -> Result<String, AllocError> {
-    let root = process.root;
     let text = text_at(whole, TableName::Process(k), "space");
     if is_capability(process.space) {
-        format!(in alloc; "process {root}, space: {text:?} is not void, a page or a space")
+        format!(in alloc; ": {text:?} is not void, a page or a space")
     } else {
-        format!(in alloc; "process {root}, space: {text:?} is not the text of a capability")
+        format!(in alloc; ": {text:?} is not the text of a capability")
     }
 }
 
@@ -445,17 +332,15 @@ fn field_text(
         Part::Registers(_, _) | Part::Slots(_, _) => slots_text(alloc, whole, description, part),
         Part::Words(k, flaw) => words_text(alloc, description, k, flaw),
         Part::State(k) => {
-            let object = process_name(alloc, description, k)?;
             let text = text_at(whole, TableName::Process(k), "state");
-            format!(in alloc; "{object}, state: {text:?} is not available, running or waiting")
+            format!(in alloc; ": {text:?} is not available, running or waiting")
         }
         Part::Key(k) => {
-            let object = process_name(alloc, description, k)?;
             let key = description
                 .processes
                 .get(k)
                 .map_or(0, |process| process.key);
-            format!(in alloc; "{object}, key: {key} is above 65535")
+            format!(in alloc; ": {key} is above 65535")
         }
         Part::Space(k) => match description.processes.get(k) {
             Some(process) => space_text(alloc, whole, k, process),
@@ -503,61 +388,29 @@ fn target_text(
     )?;
     match held {
         Held::Space(k) => {
-            let object = process_name(alloc, description, k)?;
             let text = text_at(whole, TableName::Process(k), "space");
-            format!(in alloc; "{object}, space: {text:?}: {absent}")
+            format!(in alloc; ": {text:?}: {absent}")
         }
         Held::Register(k, i) => {
-            let object = process_name(alloc, description, k)?;
             let text = entry_text(whole, TableName::Process(k), "registers", i);
-            format!(in alloc; "{object}, registers[{i}]: {text:?}: {absent}")
+            format!(in alloc; ": {text:?}: {absent}")
         }
         Held::Slot(k, i) => {
-            let object = node_name(alloc, description, k)?;
             let text = entry_text(whole, TableName::Node(k), "slots", i);
-            format!(in alloc; "{object}, slots[{i}]: {text:?}: {absent}")
+            format!(in alloc; ": {text:?}: {absent}")
         }
     }
 }
 
-// What the object of a number is. The annex of a process is named as that process.
-fn object_name(
-    alloc: Global,
-    description: &Description,
-    number: u64,
-) -> Result<String, AllocError> {
-    if description.banks.iter().any(|bank| bank.number == number) {
-        return format!(in alloc; "bank {number}");
-    }
-    for process in &description.processes {
-        if process.root == number || process.annex == number {
-            return format!(in alloc; "process {}", process.root);
-        }
-    }
-    if description.nodes.iter().any(|node| node.number == number) {
-        return format!(in alloc; "node {number}");
-    }
-    format!(in alloc; "page {number}")
-}
-
-fn owner_text(
-    alloc: Global,
-    description: &Description,
-    unbanked: Unbanked,
-) -> Result<String, AllocError> {
+fn owner_text(alloc: Global, unbanked: Unbanked) -> Result<String, AllocError> {
     match unbanked {
-        Unbanked::Prime => format!(in alloc; "bank 0: expected a bank of number 0 with owner 0"),
-        Unbanked::Owner { object, owner } => {
-            let object = object_name(alloc, description, object)?;
-            format!(in alloc; "{object}, owner: there is no bank {owner}")
+        Unbanked::Prime => format!(in alloc; ": expected a bank of number 0 with owner 0"),
+        Unbanked::Owner { owner, .. } => format!(in alloc; ": there is no bank {owner}"),
+        Unbanked::Chain(_) => {
+            format!(in alloc; ": its owners do not lead to bank 0 in a chain of 16 banks")
         }
-        Unbanked::Chain(bank) => {
-            format!(in alloc;
-                "bank {bank}, owner: its owners do not lead to bank 0 in a chain of 16 banks"
-            )
-        }
-        Unbanked::Limit { bank, used, limit } => {
-            format!(in alloc; "bank {bank}, limit: {limit} is below its usage {used}")
+        Unbanked::Limit { used, limit, .. } => {
+            format!(in alloc; ": {limit} is below its usage {used}")
         }
     }
 }
@@ -573,16 +426,25 @@ fn rule_text(
         Rule::Number(place) => number_text(alloc, description, place),
         Rule::Field(part) => field_text(alloc, whole, description, part),
         Rule::Target(held) => target_text(alloc, whole, description, held),
-        Rule::Owner(unbanked) => owner_text(alloc, description, unbanked),
+        Rule::Owner(unbanked) => owner_text(alloc, unbanked),
     }
 }
 
-/// The line that names a place in the table of a description, and says what has to stand there. Fails only where memory runs
-/// out.
-pub fn explanation(alloc: Global, table: &Table, place: &Place<'_>) -> Result<String, AllocError> {
-    let what = match place {
-        Place::Shape(shape) => shape_text(alloc, table, *shape)?,
-        Place::Rule(description, rule) => rule_text(alloc, table, description, *rule)?,
-    };
-    format!(in alloc; "{what} (bad description {})", place.fault().number())
+// What is wrong at a place.
+fn fault_text(alloc: Global, table: &Table, place: &Place<'_>) -> Result<String, AllocError> {
+    match place {
+        Place::Shape(shape) => shape_text(alloc, table, *shape),
+        Place::Rule(description, rule) => rule_text(alloc, table, description, *rule),
+    }
+}
+
+/// The line that names a place in the table of a description, says what has to stand there, and ends with the number of the
+/// fault that `build` answers. Fails only where memory runs out.
+pub fn explanation(alloc: Global, table: &Table, place: &Place<'_>) -> Result<String, AllocError>
+    ensures { IfOk result (λ text. IsExplanation place.now (string_bytes text)) }
+{
+    let at = place_text(alloc, place)?;
+    let what = fault_text(alloc, table, place)?;
+    let number = place.fault().number();
+    format!(in alloc; "{at}{what} (bad description {number})")
 }

@@ -73,65 +73,46 @@ fn first_misfit(alloc: Global, table: &Table, keys: &[Key]) -> Result<Option<Key
     Ok(None)
 }
 
+// The keys of a table.
+fn keys_of(name: TableName) -> &'static [Key]
+    ensures { result.now ≡ keys_of name }
+{
+    match name {
+        TableName::Whole => &[
+            Key::Nodes,
+            Key::Pages,
+            Key::Log,
+            Key::Layout,
+            Key::Age,
+            Key::Ranges,
+            Key::Banks,
+            Key::Processes,
+            Key::NodeList,
+            Key::PageList,
+        ],
+        TableName::Bank(_) => &[Key::BankNumber, Key::BankOwner, Key::BankLimit],
+        TableName::Process(_) => &[
+            Key::ProcessRoot,
+            Key::ProcessAnnex,
+            Key::ProcessOwner,
+            Key::ProcessState,
+            Key::ProcessKey,
+            Key::ProcessWords,
+            Key::ProcessSpace,
+            Key::ProcessRegisters,
+        ],
+        TableName::Node(_) => &[Key::NodeNumber, Key::NodeOwner, Key::NodeSlots],
+        TableName::Page(_) => &[Key::PageNumber, Key::PageOwner, Key::PageWords],
+    }
+}
+
 // The first key of a table where nothing fits, if there is one.
 fn misfit_in(alloc: Global, table: &Table, name: TableName) -> Result<Option<Key>, AllocError>
     ensures { IfOk result (λ found. MatchOption found
         (All (λ key. Fits key (table_view table.now)) (keys_of name))
         (λ key. Contains (keys_of name) key × (Fits key (table_view table.now) → ⊥))) }
 {
-    match name {
-        TableName::Whole => first_misfit(
-            alloc,
-            table,
-            &[
-                Key::Nodes,
-                Key::Pages,
-                Key::Log,
-                Key::Layout,
-                Key::Age,
-                Key::Ranges,
-                Key::Banks,
-                Key::Processes,
-                Key::NodeList,
-                Key::PageList,
-            ],
-        ),
-        TableName::Bank(_) => {
-            first_misfit(
-                alloc,
-                table,
-                &[Key::BankNumber, Key::BankOwner, Key::BankLimit],
-            )
-        }
-        TableName::Process(_) => first_misfit(
-            alloc,
-            table,
-            &[
-                Key::ProcessRoot,
-                Key::ProcessAnnex,
-                Key::ProcessOwner,
-                Key::ProcessState,
-                Key::ProcessKey,
-                Key::ProcessWords,
-                Key::ProcessSpace,
-                Key::ProcessRegisters,
-            ],
-        ),
-        TableName::Node(_) => {
-            first_misfit(
-                alloc,
-                table,
-                &[Key::NodeNumber, Key::NodeOwner, Key::NodeSlots],
-            )
-        }
-        TableName::Page(_) => {
-            first_misfit(
-                alloc,
-                table,
-                &[Key::PageNumber, Key::PageOwner, Key::PageWords],
-            )
-        }
-    }
+    first_misfit(alloc, table, keys_of(name))
 }
 
 // A key that is none of the table's, if there is one.

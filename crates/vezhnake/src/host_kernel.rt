@@ -182,7 +182,7 @@ impl HostKernel {
         self.recorder().since(taken)
     }
 
-    /// Notes that the host has taken all calls.
+    /// Notes that the host has taken all calls, as `Pending::note_taken` does. Returns nothing.
     pub fn note_taken(&self) {
         self.recorder().note_taken();
     }

@@ -52,7 +52,7 @@ impl Recorder {
         self.pending.since(taken)
     }
 
-    /// Notes that the host has taken all calls.
+    /// Notes that the host has taken all calls, as `Pending::note_taken` does. Returns nothing.
     pub fn note_taken(&self) {
         self.pending.note_taken();
     }

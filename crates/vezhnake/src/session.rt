@@ -55,7 +55,7 @@ impl Session {
         }
     }
 
-    /// Drops the session.
+    /// Drops the session, with the image and the calls that it keeps. Returns nothing.
     pub fn end(self) {
         drop(self);
     }

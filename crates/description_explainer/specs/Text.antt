@@ -1,0 +1,165 @@
+-- The text of a place, and what an explanation says.
+use Rattle.std.specs.Prelude.{◌≡◌, ℕ, ◌==◌, ◌||◌, if◌then◌else◌, List, [], ◌++◌, Option, None, Some, IfSome, codes}
+use Rattle.std.specs.Prelude.{decimal, position, unwrap_or}
+use Rattle.std.specs.Fmt.{debug_str}
+use Rattle.std.specs.List.{list_any}
+use Rattle.consistency.specs.declared.reason.Unbanked.{Unbanked}
+use Rattle.consistency.specs.declared.reason.Unbanked.TheVariants as unbanked
+use Rattle.description.specs.declared.entry.Description.{Description}
+use Rattle.image_builder.specs.Built.{fault_number}
+use Rattle.description_faults.specs.Broken.{number_at}
+use Rattle.description_faults.specs.Shapes.{key_name}
+use Rattle.description_faults.specs.declared.place.Flaw.{Flaw}
+use Rattle.description_faults.specs.declared.place.Flaw.TheVariants as flaw
+use Rattle.description_faults.specs.declared.place.Held.{Held}
+use Rattle.description_faults.specs.declared.place.Held.TheVariants as held
+use Rattle.description_faults.specs.declared.place.Indexed.{Indexed}
+use Rattle.description_faults.specs.declared.place.Indexed.TheVariants as indexed
+use Rattle.description_faults.specs.declared.place.Limit.{Limit}
+use Rattle.description_faults.specs.declared.place.Limit.TheVariants as limit
+use Rattle.description_faults.specs.declared.place.Misnumbered.{Misnumbered}
+use Rattle.description_faults.specs.declared.place.Misnumbered.TheVariants as misnumbered
+use Rattle.description_faults.specs.declared.place.Named.{Named}
+use Rattle.description_faults.specs.declared.place.Named.TheVariants as named
+use Rattle.description_faults.specs.declared.place.Part.{Part}
+use Rattle.description_faults.specs.declared.place.Part.TheVariants as part
+use Rattle.description_faults.specs.declared.place.ShapePlace.{ShapePlace}
+use Rattle.description_faults.specs.declared.place.SlotFlaw.{SlotFlaw}
+use Rattle.description_faults.specs.declared.place.SlotFlaw.TheVariants as slot
+use Rattle.description_faults.specs.declared.place.TableName.{TableName}
+use Rattle.description_faults.specs.declared.place.TableName.TheVariants as name
+use Rattle.description_explainer.specs.declared.place.Place.{Place}
+use Rattle.description_explainer.specs.declared.place.Place.TheVariants as place
+use Rattle.description_explainer.specs.declared.place.Rule.{Rule}
+use Rattle.description_explainer.specs.declared.place.Rule.TheVariants as rule
+use Rattle.description_explainer.specs.Places.{fault_of}
+
+-- Shapes.
+
+-- an item of a list, and what follows
+abbrev pub item_text : List ℕ → ℕ → List ℕ → List ℕ
+item_text list i after = list ++ (codes "[" ++ (decimal i ++ (codes "]" ++ after)))
+
+-- what stands before a key of a table
+abbrev pub table_text : TableName → List ℕ
+table_text name.Whole = []
+table_text (name.Bank k) = item_text (codes "bank") k (codes ", ")
+table_text (name.Process k) = item_text (codes "process") k (codes ", ")
+table_text (name.Node k) = item_text (codes "node") k (codes ", ")
+table_text (name.Page k) = item_text (codes "page") k (codes ", ")
+
+-- a key, or an item of its list; an unknown key stands in quotes, as `{:?}` writes it
+abbrev pub IsFlawText : Flaw → List ℕ → Type 0
+IsFlawText (flaw.Unknown key) text =
+    (shown : List ℕ) × IfSome (debug_str key.now) (λ s. shown ≡ s) × (text ≡ codes "key " ++ shown)
+IsFlawText (flaw.Misfit key) text = text ≡ key_name key
+IsFlawText (flaw.Item key i) text = text ≡ item_text (key_name key) i []
+
+abbrev pub IsShapeText : ShapePlace → List ℕ → Type 0
+IsShapeText s text = (at : List ℕ) × IsFlawText s.flaw at × (text ≡ table_text s.table ++ at)
+
+-- Sizes and numbers.
+
+abbrev pub limit_text : Limit → List ℕ
+limit_text limit.Nodes = codes "nodes"
+limit_text limit.Pages = codes "pages"
+limit_text limit.Log = codes "log"
+limit_text limit.Age = codes "age"
+limit_text limit.Layout = codes "layout"
+limit_text limit.RangeCount = codes "ranges"
+limit_text (limit.RangesEnd next) = codes "ranges"
+limit_text (limit.Range i next) = item_text (codes "ranges") i []
+
+-- the key of a number
+abbrev pub named_text : Named → List ℕ
+named_text (named.Bank k) = item_text (codes "bank") k (codes ", number")
+named_text (named.Root k) = item_text (codes "process") k (codes ", root")
+named_text (named.Annex k) = item_text (codes "process") k (codes ", annex")
+named_text (named.Node k) = item_text (codes "node") k (codes ", number")
+named_text (named.Page k) = item_text (codes "page") k (codes ", number")
+
+-- of two equal numbers the second
+abbrev pub misnumbered_text : Misnumbered → List ℕ
+misnumbered_text (misnumbered.OutOfRange who) = named_text who
+misnumbered_text (misnumbered.Twice who other) = named_text other
+
+-- Objects.
+
+-- the number of an object, or 0 if it isn't listed
+abbrev pub listed_number : Description → Named → ℕ
+listed_number d who = unwrap_or (number_at d who) 0
+
+-- a process, a node and a page, by its index in its list
+abbrev pub process_text : Description → ℕ → List ℕ
+process_text d k = codes "process " ++ decimal (listed_number d (named.Root k))
+
+abbrev pub node_text : Description → ℕ → List ℕ
+node_text d k = codes "node " ++ decimal (listed_number d (named.Node k))
+
+abbrev pub page_text : Description → ℕ → List ℕ
+page_text d k = codes "page " ++ decimal (listed_number d (named.Page k))
+
+-- an object by its number, which is a process if a number of the process at this index is
+abbrev pub part_text : Description → ℕ → Option ℕ → List ℕ
+part_text d n (Some k) = process_text d k
+part_text d n None =
+    if list_any (λ o. o.number == n) d.nodes.items then codes "node " ++ decimal n else codes "page " ++ decimal n
+
+-- an object by its number; an annex is named as its process
+abbrev pub object_text : Description → ℕ → List ℕ
+object_text d n =
+    if list_any (λ b. b.number == n) d.banks.items then codes "bank " ++ decimal n
+    else part_text d n (position (λ p. p.root == n || p.annex == n) d.processes.items)
+
+-- Fields, capabilities and owners.
+
+-- the entry that is wrong; of two with one index the second
+abbrev pub indexed_entry : Indexed → ℕ
+indexed_entry (indexed.OutOfRange i) = i
+indexed_entry (indexed.Twice i j) = j
+
+abbrev pub slot_entry : SlotFlaw → ℕ
+slot_entry (slot.Index i) = indexed_entry i
+slot_entry (slot.Text i) = i
+
+-- an entry of a list of an object
+abbrev pub entry_text : List ℕ → List ℕ → ℕ → List ℕ
+entry_text object list i = object ++ (codes ", " ++ item_text list i [])
+
+abbrev pub field_text : Description → Part → List ℕ
+field_text d (part.State k) = process_text d k ++ codes ", state"
+field_text d (part.Key k) = process_text d k ++ codes ", key"
+field_text d (part.Space k) = process_text d k ++ codes ", space"
+field_text d (part.Registers k why) = entry_text (process_text d k) (codes "registers") (slot_entry why)
+field_text d (part.Slots k why) = entry_text (node_text d k) (codes "slots") (slot_entry why)
+field_text d (part.Words k why) = entry_text (page_text d k) (codes "words") (indexed_entry why)
+
+abbrev pub target_text : Description → Held → List ℕ
+target_text d (held.Space k) = process_text d k ++ codes ", space"
+target_text d (held.Register k i) = entry_text (process_text d k) (codes "registers") i
+target_text d (held.Slot k i) = entry_text (node_text d k) (codes "slots") i
+
+abbrev pub owner_text : Description → Unbanked → List ℕ
+owner_text d unbanked.Prime = codes "bank 0"
+owner_text d (unbanked.Owner n owner) = object_text d n ++ codes ", owner"
+owner_text d (unbanked.Chain bank) = codes "bank " ++ decimal bank ++ codes ", owner"
+owner_text d (unbanked.Limit bank used most) = codes "bank " ++ decimal bank ++ codes ", limit"
+
+-- Explanations.
+
+abbrev pub rule_text : Description → Rule → List ℕ
+rule_text d (rule.Limit l) = limit_text l
+rule_text d (rule.Number n) = misnumbered_text n
+rule_text d (rule.Field p) = field_text d p
+rule_text d (rule.Target h) = target_text d h
+rule_text d (rule.Owner u) = owner_text d u
+
+abbrev pub IsPlaceText : Place → List ℕ → Type 0
+IsPlaceText (place.Shape s) text = IsShapeText s text
+IsPlaceText (place.Rule d r) text = text ≡ rule_text d r
+
+-- the place, what is wrong there, and the number of the fault that `build` answers
+abbrev pub IsExplanation : Place → List ℕ → Type 0
+IsExplanation p text =
+    (at : List ℕ) × IsPlaceText p at × (what : List ℕ)
+    × (text ≡ at ++ (what ++ (codes " (bad description " ++ (decimal (fault_number (fault_of p)) ++ codes ")"))))
