@@ -1,10 +1,9 @@
 // The store in memory.
-ghost use Rattle.std.specs.Prelude.{◌≡◌, ℕ, ◌+◌, ◌<◌, ◌≤◌, ◌^◌, length, replicate, None, IfSome, IfOk, OnOk};
+ghost use Rattle.std.specs.Prelude.{◌≡◌, ℕ, ◌<◌, ◌≤◌, length, replicate, IfOk, OnOk};
 ghost use Rattle.std.specs.List.{All, Contains};
 ghost use Rattle.model.specs.Keepable.{AreKeepable};
-ghost use Rattle.model.specs.Machine.{touched_count, untouched};
+ghost use Rattle.model.specs.Machine.{untouched};
 ghost use Rattle.model.specs.Sound.{object_count};
-ghost use Rattle.number_set.specs.Marks.{IsNextMarked, HasNoneMarked};
 ghost use Rattle.capability.specs.Parts.{frames_of};
 ghost use Rattle.capability.specs.Plain.{Announces, GoesOn, HasSpareBody, IsThere, parts_of, with_content_at};
 
@@ -93,35 +92,6 @@ impl Plain {
         ensures contents { result.1.items ≡ self.contents }
     {
         (self.table.into_headers(), self.contents)
-    }
-
-    /// The least number from a number on that was written since that was last forgotten.
-    pub fn next_touched(&self, from: u64) -> Option<u64>
-        ensures some { IfSome result (λ number. IsNextMarked self.now.touched from number) }
-        ensures none { result ≡ None → HasNoneMarked self.now.touched from }
-        ensures few { length self.now.touched < 2 ^ 64 }
-    {
-        match self.touched.next(from as usize) {
-            Some(number) => Some(number as u64),
-            None => None,
-        }
-    }
-
-    /// How many numbers were written since that was last forgotten, at most as many as half of the
-    /// log holds.
-    pub fn touched_count(&self) -> u64
-        ensures count { result ≡ touched_count self.now.touched }
-        ensures few { result ≤ self.now.geometry.log }
-    {
-        self.count
-    }
-
-    /// Forgets which numbers were written.
-    pub fn forget_touched(&mut self)
-        ensures { self.new ≡ record self.old { touched = untouched self.old.geometry } }
-    {
-        self.touched.clear();
-        self.count = 0;
     }
 
     // Marks numbers that are to be written, and makes a spare body for each free one.

@@ -52,7 +52,7 @@ pub use Rattle.std.specs.Prelude.{IfNone, IfSome, codes, decimal}
 pub use Rattle.image_explainer.specs.Breaking.{BreaksFrames, IsMisnamed, IsUnmatched, reason_of}
 pub use Rattle.image_explainer.specs.Explained.{AreBadForOneReason, Explains, IsExplainedBy}
 pub use Rattle.image_explainer.specs.Finding.{HasRoot, IsConsistentOr, IsMatched, MatchesOr, annex_noted}
-pub use Rattle.image_explainer.specs.Text.{directory_part_text, frame_part_text, header_part_text, not_counted_text, number_of_reason, place_text}
+pub use Rattle.image_explainer.specs.Text.{directory_part_text, frame_part_text, header_part_text, not_counted_text, place_text, reason_number}
 unfoldable pub use Rattle.image_explainer.specs.Text.{fault_text}
 pub use Rattle.image_explainer.specs.declared.fault.ImageFault.{ImageFault}
 pub use Rattle.image_explainer.specs.declared.fault.Misnamed.{Misnamed}

@@ -34,18 +34,18 @@ use Rattle.image_explainer.specs.Breaking.{reason_of}
 abbrev pub numbered : List ℕ → ℕ → List ℕ
 numbered word n = spaced (word ∷ decimal n ∷ [])
 
--- the number of a reason, as `check` reports it
-abbrev pub number_of_reason : BadImage → ℕ
-number_of_reason bad.Small = 1
-number_of_reason bad.NotASuperblock = 2
-number_of_reason bad.BadGeometry = 3
-number_of_reason bad.NoHeader = 4
-number_of_reason bad.BadHeader = 5
-number_of_reason bad.BadDirectory = 6
-number_of_reason bad.BadFrame = 7
-number_of_reason bad.BadCapability = 8
-number_of_reason bad.BadProcess = 9
-number_of_reason bad.BadBank = 10
+-- the number of a reason to refuse an image, as `check` reports it
+abbrev pub reason_number : BadImage → ℕ
+reason_number bad.Small = 1
+reason_number bad.NotASuperblock = 2
+reason_number bad.BadGeometry = 3
+reason_number bad.NoHeader = 4
+reason_number bad.BadHeader = 5
+reason_number bad.BadDirectory = 6
+reason_number bad.BadFrame = 7
+reason_number bad.BadCapability = 8
+reason_number bad.BadProcess = 9
+reason_number bad.BadBank = 10
 
 abbrev pub superblock_text : SuperblockPart → List ℕ
 superblock_text superblock.Magic = codes "superblock: the magic is not EROSCKPT"
@@ -147,4 +147,4 @@ place_text (fault.Bank u) = unbanked_text u
 
 -- the place, what is wrong there, and the number of the reason
 unfoldable pub fault_text : ImageFault → List ℕ
-fault_text f = place_text f ++ codes " (bad image" ++ 32 ∷ decimal (number_of_reason (reason_of f)) ++ codes ")"
+fault_text f = place_text f ++ codes " (bad image" ++ 32 ∷ decimal (reason_number (reason_of f)) ++ codes ")"

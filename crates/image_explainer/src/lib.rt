@@ -13,3 +13,4 @@ mod text;
 pub use explaining::explain;
 pub use fault::{ImageFault, Misnamed, Unmatched};
 pub use laws::images_are_bad_for_one_reason;
+pub use text::reason_number;

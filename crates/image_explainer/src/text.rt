@@ -1,7 +1,7 @@
 // The line about a fault.
 ghost use Rattle.std.specs.Prelude.{◌≡◌, ◌+◌, ◌++◌, ◌≤◌, length};
-ghost use Rattle.image_explainer.specs.Text.{number_of_reason, fault_text, holder_text, kind_text, misnamed_text};
-ghost use Rattle.image_explainer.specs.Text.{place_text, sectors_text, unbanked_text, unmatched_text};
+ghost use Rattle.image_explainer.specs.Text.{fault_text, holder_text, kind_text, misnamed_text};
+ghost use Rattle.image_explainer.specs.Text.{place_text, reason_number, sectors_text, unbanked_text, unmatched_text};
 ghost use Rattle.image_explainer.specs.Text.{directory_part_text, directory_text, frame_part_text, frame_text};
 ghost use Rattle.image_explainer.specs.Text.{geometry_text, header_part_text, header_text, no_header_text};
 ghost use Rattle.image_explainer.specs.Text.{not_counted_text, numbered, superblock_text};
@@ -396,9 +396,9 @@ fn sector_reason_of(fault: SectorFault) -> BadImage
     }
 }
 
-// The number of a reason, as `check` answers it.
-fn number_of(reason: BadImage) -> u64
-    ensures { result ≡ number_of_reason reason }
+/// The number of a reason to refuse an image, as `check` answers it.
+pub fn reason_number(reason: BadImage) -> u64
+    ensures { result ≡ reason_number reason }
 {
     reason as u64
 }
@@ -434,14 +434,13 @@ impl ImageFault {
     }
 
     /// The line about the fault: the place, what is wrong there, and the number of the reason.
-
     pub fn line(self) -> LineText
         ensures text { result ≡ fault_text self }
         ensures short { length result ≤ 260 }
     {
         let mut line = self.place();
         line.push(b" (bad image");
-        line.number(number_of(self.reason()));
+        line.number(reason_number(self.reason()));
         line.push(b")");
         line
     }

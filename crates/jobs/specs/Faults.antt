@@ -1,8 +1,7 @@
 -- The message of a fault, and the exit status of a command.
-use Rattle.jobs.specs.Names.{◌≡◌, ℕ, List, [], ◌∷◌, ◌++◌, codes, decimal, Option, None, Some, Result, Ok, Err, BadImage}
+use Rattle.jobs.specs.Names.{◌≡◌, ℕ, List, [], ◌∷◌, ◌++◌, codes, decimal, Option, None, Some, Result, Ok, Err}
 use Rattle.jobs.specs.Names.{OpenFault, line_of, spaced, BuildFault, UpgradeFault, fault_number, GrowthFault, Stop}
-use Rattle.jobs.specs.Names.{cause_text, RunFault, Writes}
-use Rattle.layout.specs.declared.bad_image.BadImage.TheVariants as bad
+use Rattle.jobs.specs.Names.{cause_text, RunFault, Writes, reason_number}
 use Rattle.checkpoint.specs.declared.open_fault.OpenFault.TheVariants as opening
 use Rattle.image_builder.specs.declared.fault.BuildFault.TheVariants as build
 use Rattle.image_builder.specs.declared.upgrade_fault.UpgradeFault.TheVariants as upgrade
@@ -10,19 +9,6 @@ use Rattle.image_describer.specs.declared.sizes.GrowthFault.TheVariants as growt
 use Rattle.script.specs.declared.fault.RunFault.TheVariants as run
 use Rattle.jobs.specs.declared.fault.Fault.{Fault}
 use Rattle.jobs.specs.declared.fault.Fault.TheVariants as fault
-
--- the number of a reason to refuse an image
-abbrev pub reason_number : BadImage → ℕ
-reason_number bad.Small = 1
-reason_number bad.NotASuperblock = 2
-reason_number bad.BadGeometry = 3
-reason_number bad.NoHeader = 4
-reason_number bad.BadHeader = 5
-reason_number bad.BadDirectory = 6
-reason_number bad.BadFrame = 7
-reason_number bad.BadCapability = 8
-reason_number bad.BadProcess = 9
-reason_number bad.BadBank = 10
 
 abbrev pub build_text : BuildFault → List ℕ
 build_text build.Small = codes "eros: cannot write image"

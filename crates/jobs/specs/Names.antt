@@ -7,6 +7,7 @@ pub use Rattle.checkpoint.specs.declared.open_fault.OpenFault.{OpenFault}
 pub use Rattle.description.specs.Reading.{IsDescription}
 pub use Rattle.description.specs.declared.entry.Description.{Description}
 pub use Rattle.description_explainer.specs.Places.{Explains}
+pub use Rattle.description_explainer.specs.Text.{IsExplanation}
 pub use Rattle.description_explainer.specs.declared.place.Place.{Place}
 pub use Rattle.device.specs.Disk.{Disk, Image}
 pub use Rattle.image_builder.specs.Built.{BuildsFrom, IsAccepted, IsSavedOf, Refuses, fault_number, plan_for}
@@ -22,6 +23,7 @@ pub use Rattle.image_describer.specs.declared.sizes.Sizes.{Sizes}
 pub use Rattle.image_drawer.specs.Graph.{boxes}
 unfoldable pub use Rattle.image_drawer.specs.Graph.{graph_text}
 pub use Rattle.image_drawer.specs.Part.{IsPart, holders, is_listed}
+pub use Rattle.image_explainer.specs.Text.{reason_number}
 unfoldable pub use Rattle.image_explainer.specs.Text.{fault_text}
 pub use Rattle.image_explainer.specs.declared.fault.ImageFault.{ImageFault}
 pub use Rattle.image_writer.specs.Laid.{MayBeLaid, laid_again, numbers_of}
@@ -31,7 +33,6 @@ pub use Rattle.kernel.specs.Power.{Power}
 pub use Rattle.kernel.specs.Standing.{IsDeviceOf}
 pub use Rattle.layout.specs.Image.{Encodes, SavedState}
 pub use Rattle.layout.specs.Superblock.{IsGeometry, Plan, version_number}
-pub use Rattle.layout.specs.declared.bad_image.BadImage.{BadImage}
 pub use Rattle.layout.specs.declared.extent.HomeRange.{HomeRange}
 pub use Rattle.layout.specs.declared.version.Version.{Version}
 pub use Rattle.layout.specs.declared.version.Version.TheVariants.{Two}
@@ -67,8 +68,8 @@ pub use Rattle.script.specs.declared.fault.RunFault.{RunFault}
 pub use Rattle.std.specs.Io.KnownBytes.{Appends}
 pub use Rattle.std.specs.List.{All, count_by, find, flat_map}
 pub use Rattle.std.specs.Prelude.{Bool, Err, IsTrue, List, None, Ok, Option, Result, Some, Vec, [], codes, decimal}
-pub use Rattle.std.specs.Prelude.{false, is_some, length, map, not, true, ℕ, ◌++◌, ◌<◌, ◌==◌, ◌||◌, ◌↔◌, ◌∷◌, ◌≡◌, ◌≢◌}
-pub use Rattle.std.specs.Prelude.{◌≤◌}
+pub use Rattle.std.specs.Prelude.{false, if◌then◌else◌, is_some, length, map, nat_lt, not, take, true, ℕ, ◌++◌, ◌+◌}
+pub use Rattle.std.specs.Prelude.{◌<◌, ◌==◌, ◌||◌, ◌↔◌, ◌∷◌, ◌≡◌, ◌≢◌, ◌≤◌}
 pub use Rattle.std.specs.declared.alloc.Global.{Global}
 pub use Rattle.toml.specs.Data.{Members}
 unfoldable pub use Rattle.toml.specs.Parse.{parse_document}

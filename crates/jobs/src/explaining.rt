@@ -1,6 +1,9 @@
 // The command that says why a description is refused.
-ghost use Rattle.std.specs.Prelude.{◌≡◌, IfOk};
-ghost use Rattle.jobs.specs.Explained.{IsAcceptedText, TellsOf};
+ghost use Rattle.std.specs.Prelude.{◌≡◌, Bool, IfOk, Result, string_bytes};
+ghost use Rattle.toml.specs.Errors.{IsWithin};
+ghost use Rattle.jobs.specs.Explained.{ExplainsText, IsSyntaxLine, TellsLine, TellsOf, accepted_status, position_from};
+ghost use Rattle.jobs.specs.Explained.{without_answer};
+ghost use Rattle.jobs.specs.Faults.{IsReported};
 
 use crate::fault::{Fault, status};
 use description_explainer::{explain, explanation};
@@ -9,40 +12,40 @@ use std::alloc::{AllocError, Global};
 use std::io::Write;
 use toml::de::Error;
 
-// The line and the column of an index in a text, both from 1. A column counts characters.
-fn position(text: &str, index: usize) -> (u64, u64) {
+// The line and the column after a text, both from 1. A column counts characters.
+fn position_after(before: &[u8]) -> (u64, u64)
+    ensures { result ≡ position_from 1 1 before.now }
+{
     let mut line = 1u64;
     let mut column = 1u64;
-    for (i, byte) in text.as_bytes().iter().enumerate() {
-        if index <= i {
-            break;
-        }
+    for byte in before {
         if *byte == b'\n' {
-            line = line.saturating_add(1);
+            line += 1;
             column = 1;
-        } else if *byte & 0xC0 != 0x80 {
-            column = column.saturating_add(1);
+        } else if *byte < 128 || *byte >= 192 {
+            column += 1;
         }
     }
     (line, column)
 }
 
 // The line for a text that isn't TOML.
-fn toml_line(alloc: Global, text: &str, error: &Error) -> Result<String, AllocError> {
+fn syntax_line(alloc: Global, text: &str, error: &Error) -> Result<String, AllocError>
+    requires { IsWithin text.now error.now }
+    ensures { IfOk result (λ line. IsSyntaxLine text.now (string_bytes line)) }
+{
     let start = match error.span() {
         Some(span) => span.start,
         None => return Err(AllocError),
     };
-    let (line, column) = position(text, start);
-    format!(in alloc;
-        "line {line}, column {column}: {} (bad description)\n",
-        error.message()
-    )
+    let (line, column) = position_after(&text.as_bytes()[..start]);
+    let why = error.message();
+    format!(in alloc; "line {line}, column {column}: {why} (bad description)")
 }
 
-// The explanation of the description in a text, and whether the description is accepted.
+// The line about the description in a text, and whether the description is accepted.
 fn explained(alloc: Global, text: &str) -> Result<(String, bool), AllocError>
-    ensures { IfOk result (λ reported. TellsOf text.now reported.1) }
+    ensures { IfOk result (λ answer. TellsOf text.now (string_bytes answer.0) answer.1) }
 {
     let table = match toml::table_from_str(alloc, text) {
         Ok(table) => table,
@@ -50,43 +53,63 @@ fn explained(alloc: Global, text: &str) -> Result<(String, bool), AllocError>
             if error.is_memory() {
                 return Err(AllocError);
             }
-            let line = toml_line(alloc, text, &error)?;
+            let line = syntax_line(alloc, text, &error)?;
             return Ok((line, false));
         }
     };
     match explain(alloc, &table)? {
-        None => Ok((format!(in alloc; "ok\n")?, true)),
+        None => {
+            let line = String::from_str(alloc, "ok")?;
+            Ok((line, true))
+        }
         Some(place) => {
             let line = explanation(alloc, &table, &place)?;
-            Ok((format!(in alloc; "{line}\n")?, false))
+            Ok((line, false))
         }
     }
 }
 
-// Writes the explanation of the description in a text, and answers whether it is accepted.
+// Ends a line and writes it.
+fn tell_line<W: Write>(line: String, writer: &mut W) -> Result<(), Fault>
+    ensures { TellsLine (string_bytes line) (W.contents writer.old) (W.contents writer.new) result }
+{
+    let mut line = line;
+    if line.push_str("\n").is_err() {
+        return Err(Fault::NoMemory);
+    }
+    match write_fully(writer, line.as_bytes()) {
+        Ok(()) => Ok(()),
+        Err(_) => Err(Fault::CannotWriteOutput),
+    }
+}
+
+// Writes the line about the description in a text, and answers whether the description is accepted.
 fn explain_and_tell<W: Write>(alloc: Global, text: &str, writer: &mut W) -> Result<bool, Fault>
-    ensures { IfOk result (λ is_accepted. TellsOf text.now is_accepted) }
+    ensures { ExplainsText text.now (W.contents writer.old) (W.contents writer.new) result }
 {
     let (line, is_accepted) = match explained(alloc, text) {
         Ok(explained) => explained,
         Err(_) => return Err(Fault::NoMemory),
     };
-    match write_fully(writer, line.as_bytes()) {
+    match tell_line(line, writer) {
         Ok(()) => Ok(is_accepted),
-        Err(_) => Err(Fault::CannotWriteOutput),
+        Err(fault) => Err(fault),
     }
 }
 
 /// Writes `ok` if `build` accepts the description in a text on a device that is large enough; then the status is 0. Else it
-/// writes one line with the place of the first mistake, and the status is 1. After a fault one line is written to `errors`,
-/// and the status is 1: `no memory`, or `cannot write output` where the writer fails.
+/// writes one line and the status is 1: the place of the first mistake, what is wrong there, and `(bad description K)` with
+/// the number that `build` answers; or, if the text isn't TOML, the line and the column where it isn't. After a fault one
+/// line is written to `errors`, and the status is 1: `no memory`, or `cannot write output` where the writer fails.
 pub fn explain_description<W: Write, V: Write>(
     alloc: Global,
     text: &str,
     writer: &mut W,
     errors: &mut V,
 ) -> u8
-    ensures { result ≡ 0 → IsAcceptedText text.now }
+    ensures { (outcome : Result Bool Fault) × (result ≡ accepted_status outcome)
+        × IsReported (without_answer outcome) (V.contents errors.old) (V.contents errors.new)
+        × ExplainsText text.now (W.contents writer.old) (W.contents writer.new) outcome }
 {
     match explain_and_tell(alloc, text, writer) {
         Ok(true) => 0,

@@ -2,13 +2,13 @@
 ghost use Rattle.std.specs.Prelude.{◌≡◌, ◌≤◌, length};
 ghost use Rattle.model.specs.Text.{line_of};
 ghost use Rattle.script.specs.Writing.{Writes};
-ghost use Rattle.jobs.specs.Faults.{HasStop, IsRunEnd, IsReported, build_text, fault_text, open_text, reason_number};
+ghost use Rattle.jobs.specs.Faults.{HasStop, IsRunEnd, IsReported, build_text, fault_text, open_text};
 ghost use Rattle.jobs.specs.Faults.{sizes_text, status_of, stop_text, upgrade_text};
 
 use checkpoint::OpenFault;
 use image_builder::{BuildFault, UpgradeFault};
 use image_describer::GrowthFault;
-use layout::BadImage;
+use image_explainer::reason_number;
 use runs::Stop;
 use script::{LineText, RunFault};
 use std::io::Write;
@@ -85,13 +85,6 @@ fn build_line(fault: BuildFault) -> LineText
     }
 }
 
-// The number of a reason to refuse an image: their order, from 1.
-fn number_of(reason: BadImage) -> u64
-    ensures { result ≡ reason_number reason }
-{
-    reason as u64
-}
-
 // The message where a device isn't opened.
 fn open_line(fault: OpenFault) -> LineText
     ensures text { result ≡ open_text fault }
@@ -100,7 +93,7 @@ fn open_line(fault: OpenFault) -> LineText
     match fault {
         OpenFault::Failed => LineText::new(b"eros: device failed"),
         OpenFault::NoMemory => LineText::new(b"eros: no memory"),
-        OpenFault::Bad(reason) => LineText::numbered(b"eros: bad image", number_of(reason)),
+        OpenFault::Bad(reason) => LineText::numbered(b"eros: bad image", reason_number(reason)),
     }
 }
 

@@ -17,6 +17,7 @@ use memory_device::Fuse;
 use object_cache::{BoundedCache, Capacity, PlainStore};
 use object_store::ObjectStore;
 use runs::{ScriptReader, TraceOptions, Tracer};
+use std::fmt::Display;
 use std::fs::{self, File};
 use std::io::{self, BufWriter, ErrorKind, IsTerminal, Read, Stderr, Stdout, Write};
 use std::os::unix::fs::{FileTypeExt, MetadataExt};
@@ -370,30 +371,10 @@ fn capacity_of(cache: Option<u64>) -> Result<Option<Capacity>, u8> {
     }
 }
 
-// Writes why the file that is to be explained can't be read, and gives the status.
-fn refuse_file(file: &str, cause: &io::Error, errors: &mut Stderr) -> u8 {
+// Writes why a file can't be explained, and gives the status.
+fn refuse_file<C: Display>(file: &str, cause: C, errors: &mut Stderr) -> u8 {
     let _reported = writeln!(errors, "eros: {file}: {cause}");
     1
-}
-
-// Whether a file is a block device, which may have an image.
-fn is_block_device(rt: &HostRuntime, file: &str) -> bool {
-    match fs::metadata(rt, file) {
-        Ok(about) => about.file_type().is_block_device(),
-        Err(_) => false,
-    }
-}
-
-// The bytes of a regular file.
-fn read_regular(rt: &HostRuntime, file: &str) -> io::Result<Vec<u8>> {
-    let about = fs::metadata(rt, file)?;
-    if about.is_dir() {
-        return Err(io::Error::from(ErrorKind::IsADirectory));
-    }
-    if !about.is_file() {
-        return Err(io::Error::from(ErrorKind::InvalidInput));
-    }
-    fs::read(rt, file)
 }
 
 // Says why the image in a file is refused, and gives the status.
@@ -413,18 +394,15 @@ fn explain_file(
     }
 }
 
-// Says why a file is refused as a description or an image, and gives the status. A file is an image if its bytes are no
-// text, or one of them is zero; so is a block device.
-fn explain(
+// Says why a regular file is refused as a description or an image, and gives the status. It is an image if its bytes
+// are no text, or one of them is zero.
+fn explain_regular(
     rt: &HostRuntime,
     file: &str,
     writer: &mut BufWriter<Stdout>,
     errors: &mut Stderr,
 ) -> Result<u8, Fault> {
-    if is_block_device(rt, file) {
-        return explain_file(rt, file, writer, errors);
-    }
-    let bytes = match read_regular(rt, file) {
+    let bytes = match fs::read(rt, file) {
         Ok(bytes) => bytes,
         Err(error) if error.kind() == ErrorKind::OutOfMemory => return Err(Fault::NoMemory),
         Err(error) => return Ok(refuse_file(file, &error, errors)),
@@ -434,6 +412,28 @@ fn explain(
             Ok(explain_description(rt.alloc(), text, writer, errors))
         }
         _ => explain_file(rt, file, writer, errors),
+    }
+}
+
+// Says why a file is refused as a description or an image, and gives the status. A block device may have an image. Any
+// other file that isn't regular, such as a FIFO, isn't opened: reading one waits until somebody writes to it.
+fn explain(
+    rt: &HostRuntime,
+    file: &str,
+    writer: &mut BufWriter<Stdout>,
+    errors: &mut Stderr,
+) -> Result<u8, Fault> {
+    let kind = match fs::metadata(rt, file) {
+        Ok(found) => found.file_type(),
+        Err(error) if error.kind() == ErrorKind::OutOfMemory => return Err(Fault::NoMemory),
+        Err(error) => return Ok(refuse_file(file, &error, errors)),
+    };
+    if kind.is_block_device() {
+        explain_file(rt, file, writer, errors)
+    } else if kind.is_file() {
+        explain_regular(rt, file, writer, errors)
+    } else {
+        Ok(refuse_file(file, "not a regular file", errors))
     }
 }
 
