@@ -4,7 +4,9 @@ pub use Rattle.device.specs.Disk.{Disk, Image}
 pub use Rattle.device.specs.Moments.{LeavesOnly, Peeks}
 pub use Rattle.layout.specs.Image.{Encodes, IsBadBy, SavedState}
 pub use Rattle.model.specs.Frame.{frame_at}
+pub use Rattle.model.specs.Keepable.{AreKeepable}
+pub use Rattle.model.specs.declared.answer.Refusal.{Refusal}
 pub use Rattle.model.specs.declared.frame.Frame.{Frame}
 pub use Rattle.model.specs.declared.geometry.Geometry.{Geometry}
-pub use Rattle.std.specs.Prelude.{Err, IsErrOf, List, None, Ok, Option, Result, Some, slice_set, ℕ, ⊤, ◌+◌, ◌-◌, ◌<◌}
-pub use Rattle.std.specs.Prelude.{◌^◌, ◌↔◌, ◌≡◌, ◌≢◌, ◌≤◌, ◌⊎◌}
+pub use Rattle.std.specs.Prelude.{Bool, Err, IsErrOf, List, None, Ok, Option, Result, Some, false, if◌then◌else◌}
+pub use Rattle.std.specs.Prelude.{option_map, slice_set, true, ℕ, ⊤, ◌+◌, ◌-◌, ◌<◌, ◌==◌, ◌^◌, ◌↔◌, ◌≡◌, ◌≢◌, ◌≤◌, ◌⊎◌}

@@ -1,17 +1,15 @@
 -- How a command ends: refused, carried out, or in a failure of the device.
 use Rattle.kernel.proofs.Names.{IsErrAnd, ◌≡◌, ◌↔◌, ◌⊎◌, inl, inr, ℕ, ◌+◌, ◌-◌, ◌^◌, ◌<◌, ◌≤◌, Bool, Option, None, Some, Result, Ok, Err, List, [], ◌∷◌, length}
 use Rattle.kernel.proofs.Names.{refl, sym, ap, ◌∙◌, subst, arith, Answer, Refusal, Command, Frame, Geometry, objects_of, AreKeepable, IsSoundFrames, world_at}
-use Rattle.kernel.proofs.Names.{Frozen, Running, Saved, Up, touched_count, untouched, Step, moved, refusal_of, second, Failed, Image, Disk, CheckpointFault}
-use Rattle.kernel.proofs.Names.{IsCommitAnswer, IsFreezeAnswer, IsRefused, Holds, LeavesSaved, LeavesEither, Parts, frames_of, objects_in, keepable_count}
-use Rattle.kernel.proofs.Names.{Snapshots, FrozenFrames, IsStabilizeAnswer, Continues, MayCommit, View, freezing, left_in, moved_saved, next_saved, stabilized}
+use Rattle.kernel.proofs.Names.{Frozen, Running, Saved, Up, touched_count, untouched, Step, moved, refusal_of, second, Failed, Image, Disk, IsCommitAnswer}
+use Rattle.kernel.proofs.Names.{IsFreezeAnswer, IsRefused, Holds, LeavesSaved, LeavesEither, Parts, frames_of, objects_in, keepable_count, MayCommit, Snapshots}
+use Rattle.kernel.proofs.Names.{freezing, left_in, moved_saved, next_saved, all_frozen, whole, FrozenFrames, IsStabilizeAnswer, Continues, View, stabilized}
 use Rattle.kernel.proofs.Names.{AreCounted, BanksState, Performs, answer_of, Live, saved_of, LeavesOne, AreSoundTogether, IsUp, base_of, disk_at, frozen_of}
-use Rattle.kernel.proofs.Names.{renewed_since, running, running_of, IsCaused, ServesUp, leaves_saved, base_frozen, none_renewed}
-use Rattle.kernel.specs.Standing.{refusal_by}
+use Rattle.kernel.proofs.Names.{renewed_since, running, running_of, IsCaused, ServesUp, leaves_saved, base_frozen, none_renewed, IsUnlooked}
+use Rattle.checkpoint.specs.Snapshots as stage
 use Rattle.model.specs.declared.answer.Answer.TheVariants as answer
 use Rattle.model.specs.declared.answer.Refusal.TheVariants as refusal
 use Rattle.model.specs.declared.command.Command.TheVariants as command
-use Rattle.checkpoint.specs.declared.checkpoint_fault.CheckpointFault.TheVariants as fault
-use Rattle.object_store.specs.Store as store
 use Rattle.kernel.proofs.Performing.{AreSame}
 use Rattle.kernel.proofs.ProcessSteps.{refused_step}
 use Rattle.kernel.proofs.Crashes.{leaves_along, leaves_either, leaves_here, leaves_home}
@@ -78,7 +76,7 @@ module _ {D S : Type 0} (disk : D → Disk) (view : S → View D) (parts : S →
         let geometry : (parts s).geometry ≡ g = serves.geometry ∙ up.sound.geometry in
         record {
           step = λ other.
-              subst (λ (x : Snapshots). Step g (Up (running disk view parts l)) c a (Up (running_of (parts s) x age l.frozen_age))) (sym continues.snapshots)
+              subst (λ (x : Snapshots FrozenFrames). Step g (Up (running disk view parts l)) c a (Up (running_of (parts s) x age l.frozen_age))) (sym continues.snapshots)
               (subst (λ (h : Geometry). Step h (Up (running disk view parts l)) c a (Up (running_of (parts s) (view l.store).snapshots age l.frozen_age))) up.sound.geometry
               (subst (λ (rs : List Bool). Step (parts l.store).geometry (Up (running disk view parts l)) c a
               (Up (record (running_of (parts s) (view l.store).snapshots age l.frozen_age) { renewed = rs })))
@@ -121,7 +119,7 @@ module _ {D S : Type 0} (disk : D → Disk) (view : S → View D) (parts : S →
   pub begun : (l : Live S) (s : S) (n : ℕ) → l.age < 2 ^ 62 → (view l.store).snapshots.frozen ≡ None → (view l.store).snapshots.saved.entries ≡ 0 →
       frames_of (parts s) ≡ frames_of (parts l.store) → (parts s).touched ≡ untouched (parts l.store).geometry → (parts s).geometry ≡ (parts l.store).geometry →
       n ≡ touched_count (parts l.store).touched →
-      (view s).snapshots ≡ freezing (frames_of (parts l.store)) (touched_count (parts l.store).touched) (view l.store).snapshots → (view s).beneath ≡ (view l.store).beneath →
+      (view s).snapshots ≡ freezing (all_frozen (frames_of (parts l.store)) (touched_count (parts l.store).touched)) (view l.store).snapshots → (view s).beneath ≡ (view l.store).beneath →
       ((view l.store).is_sound → (view s).is_sound) →
       ServesUp disk view parts l command.Checkpoint (answer.Frozen n) (record { store = s; banks = l.banks; age = l.age + 1; frozen_age = l.age + 1 })
   begun l s n young none home frames touched geometry size beside beneath sound g up =
@@ -132,7 +130,7 @@ module _ {D S : Type 0} (disk : D → Disk) (view : S → View D) (parts : S →
       record {
         step = λ other.
             subst (λ (m : ℕ). Step g (Up before) command.Checkpoint (answer.Frozen m) (Up (running_of (parts s) (view s).snapshots (l.age + 1) (l.age + 1)))) (sym size)
-            (subst (λ (x : Snapshots). Step g (Up before) command.Checkpoint (answer.Frozen k) (Up (running_of (parts s) x (l.age + 1) (l.age + 1)))) (sym beside)
+            (subst (λ (x : Snapshots FrozenFrames). Step g (Up before) command.Checkpoint (answer.Frozen k) (Up (running_of (parts s) x (l.age + 1) (l.age + 1)))) (sym beside)
             (subst (λ fs. Step g (Up before) command.Checkpoint (answer.Frozen k)
             (Up (record { now = world_at (l.age + 1) fs; touched = (parts s).touched; renewed = renewed_since (frames_of p) fs; frozen = Some (record { world = world_at (l.age + 1) (frames_of p); size = k; left = k }); saved = saved_of a.saved; to_move = a.to_move }))) (sym frames)
             (subst (λ (ts : List Bool). Step g (Up before) command.Checkpoint (answer.Frozen k)
@@ -143,7 +141,7 @@ module _ {D S : Type 0} (disk : D → Disk) (view : S → View D) (parts : S →
             (sym (none_renewed g (frames_of p) up.sound.now.keepable.count))
             (checkpoint_step g before young (frozen_none a.frozen l.frozen_age none) home)))));
         up = λ other. is_up g (record { store = s; banks = l.banks; age = l.age + 1; frozen_age = l.age + 1 }) (sound up.store)
-            (subst (λ (x : Snapshots). AreSoundTogether g (parts s) x l.banks (l.age + 1) (l.age + 1)) (sym beside)
+            (subst (λ (x : Snapshots FrozenFrames). AreSoundTogether g (parts s) x l.banks (l.age + 1) (l.age + 1)) (sym beside)
             (begun_sound g p a l.banks l.age l.frozen_age up.sound (parts s) k geometry frames young));
         leaves = subst (λ (d : D). LeavesOne g (disk_at disk view parts l) (disk d) (saved_of a.saved ∷ [])) (sym beneath)
             (leaves_here g (disk_at disk view parts l) (saved_of a.saved ∷ []) [] (only_now (view l.store).beneath) up.leaves);
@@ -152,10 +150,10 @@ module _ {D S : Type 0} (disk : D → Disk) (view : S → View D) (parts : S →
   -- a stage that writes: what it leaves of the present objects, and what a crash leaves
   module _ (l : Live S) (s : S) (same : AreSame (parts l.store) (parts s)) (size : (disk (view s).beneath).sectors ≡ (disk (view l.store).beneath).sectors) where
     -- it came to another state beside the objects
-    came : (g : Geometry) (b : Snapshots) → (view s).snapshots ≡ b → (view s).is_sound → AreSoundTogether g (parts l.store) b l.banks l.age l.frozen_age → IsUp disk view parts g (with_store l s)
+    came : (g : Geometry) (b : Snapshots FrozenFrames) → (view s).snapshots ≡ b → (view s).is_sound → AreSoundTogether g (parts l.store) b l.banks l.age l.frozen_age → IsUp disk view parts g (with_store l s)
     came g b beside store sound = is_up g (with_store l s) store (stays_sound g (parts l.store) (parts s) same b (view s).snapshots beside l.banks l.age l.frozen_age sound)
 
-    stepped : (g : Geometry) (b : Snapshots) (c : Command) (a : Answer) → (view s).snapshots ≡ b → Step g (Up (running disk view parts l)) c a (Up (running_of (parts l.store) b l.age l.frozen_age)) →
+    stepped : (g : Geometry) (b : Snapshots FrozenFrames) (c : Command) (a : Answer) → (view s).snapshots ≡ b → Step g (Up (running disk view parts l)) c a (Up (running_of (parts l.store) b l.age l.frozen_age)) →
         Step g (Up (running disk view parts l)) c a (Up (running disk view parts (with_store l s)))
     stepped g b c a beside step =
         subst (λ (r : Running). Step g (Up (running disk view parts l)) c a (Up r)) (sym (same_running g (parts l.store) (parts s) same b (view s).snapshots beside l.age l.frozen_age)) step
@@ -192,28 +190,28 @@ module _ {D S : Type 0} (disk : D → Disk) (view : S → View D) (parts : S →
         stabilize_failed = failed l (with_store l s) (command.Stabilize n) stabilize_along
 
       -- all of it is saved
-      module _ (stable : f.left ≡ 0) (moments : LeavesEither (disk (view l.store).beneath) (disk (view s).beneath) (view l.store).snapshots.saved (next_saved l.frozen_age f (view l.store).snapshots.saved)) where
+      module _ (stable : f.left ≡ 0) (moments : LeavesEither (disk (view l.store).beneath) (disk (view s).beneath) (view l.store).snapshots.saved (next_saved whole l.frozen_age f (view l.store).snapshots.saved)) where
         commit_along : (g : Geometry) → IsUp disk view parts g l →
             LeavesOne g (disk_at disk view parts l) (disk (view s).beneath) (saved_of (view l.store).snapshots.saved ∷ second (Up (running disk view parts l)) command.Commit)
         unfolding now_frozen
         commit_along g up =
             subst (λ (ss : List Saved). LeavesOne g (disk_at disk view parts l) (disk (view s).beneath) (saved_of (view l.store).snapshots.saved ∷ ss))
             (sym (second_of_commit g (running disk view parts l) now_frozen is_frozen stable))
-            (leaves_either g (disk_at disk view parts l) (disk (view s).beneath) (view l.store).snapshots.saved (next_saved l.frozen_age f (view l.store).snapshots.saved) up.sound.saved
+            (leaves_either g (disk_at disk view parts l) (disk (view s).beneath) (view l.store).snapshots.saved (next_saved whole l.frozen_age f (view l.store).snapshots.saved) up.sound.saved
             (next_sound g (parts l.store) (view l.store).snapshots l.banks l.age l.frozen_age up.sound f frozen) size moments)
 
-        pub commit_went : (generation : ℕ) → generation ≡ (view l.store).snapshots.saved.generation + 1 → (view s).snapshots ≡ store.snapshots_after_commit l.frozen_age f (view l.store).snapshots → (view s).is_sound →
+        pub commit_went : (generation : ℕ) → generation ≡ (view l.store).snapshots.saved.generation + 1 → (view s).snapshots ≡ stage.committed whole l.frozen_age f (view l.store).snapshots → (view s).is_sound →
             ServesUp disk view parts l command.Commit (answer.Committed generation) (with_store l s)
         unfolding now_frozen
         commit_went generation reported beside sound g up = record {
           step = λ other.
-              stepped g (store.snapshots_after_commit l.frozen_age f (view l.store).snapshots) command.Commit (answer.Committed generation) beside
-              (subst (λ (k : ℕ). Step g (Up (running disk view parts l)) command.Commit (answer.Committed k) (Up (running_of (parts l.store) (store.snapshots_after_commit l.frozen_age f (view l.store).snapshots) l.age l.frozen_age))) (sym reported)
+              stepped g (stage.committed whole l.frozen_age f (view l.store).snapshots) command.Commit (answer.Committed generation) beside
+              (subst (λ (k : ℕ). Step g (Up (running disk view parts l)) command.Commit (answer.Committed k) (Up (running_of (parts l.store) (stage.committed whole l.frozen_age f (view l.store).snapshots) l.age l.frozen_age))) (sym reported)
               (subst (λ (base : List Frame). Step g (Up (running disk view parts l)) command.Commit (answer.Committed ((view l.store).snapshots.saved.generation + 1))
-              (Up (record (running_of (parts l.store) (store.snapshots_after_commit l.frozen_age f (view l.store).snapshots) l.age l.frozen_age) { renewed = renewed_since base (frames_of (parts l.store)) })))
+              (Up (record (running_of (parts l.store) (stage.committed whole l.frozen_age f (view l.store).snapshots) l.age l.frozen_age) { renewed = renewed_since base (frames_of (parts l.store)) })))
               (base_frozen (view l.store).snapshots f frozen)
               (commit_step g (running disk view parts l) now_frozen is_frozen stable)));
-          up = λ other. came g (store.snapshots_after_commit l.frozen_age f (view l.store).snapshots) beside sound (committed_sound g (parts l.store) (view l.store).snapshots l.banks l.age l.frozen_age up.sound f frozen);
+          up = λ other. came g (stage.committed whole l.frozen_age f (view l.store).snapshots) beside sound (committed_sound g (parts l.store) (view l.store).snapshots l.banks l.age l.frozen_age up.sound f frozen);
           leaves = commit_along g up;
         }
 
@@ -226,20 +224,20 @@ module _ {D S : Type 0} (disk : D → Disk) (view : S → View D) (parts : S →
           LeavesOne g (disk_at disk view parts l) (disk (view s).beneath) (saved_of (view l.store).snapshots.saved ∷ second (Up (running disk view parts l)) (command.Migrate n))
       migrate_along g up = leaves_home g (disk_at disk view parts l) (disk (view s).beneath) (view l.store).snapshots n up.sound.saved size moments
 
-      pub migrate_went : (left : ℕ) → left ≡ (view l.store).snapshots.to_move - n → (view s).snapshots ≡ store.moved n (view l.store).snapshots → (view s).is_sound →
+      pub migrate_went : (left : ℕ) → left ≡ (view l.store).snapshots.to_move - n → (view s).snapshots ≡ stage.moved n (view l.store).snapshots → (view s).is_sound →
           ServesUp disk view parts l (command.Migrate n) (answer.Left left) (with_store l s)
       migrate_went left reported beside sound g up = record {
         step = λ other.
-            stepped g (store.moved n (view l.store).snapshots) (command.Migrate n) (answer.Left left) beside
-            (subst (λ (k : ℕ). Step g (Up (running disk view parts l)) (command.Migrate n) (answer.Left k) (Up (running_of (parts l.store) (store.moved n (view l.store).snapshots) l.age l.frozen_age))) (sym reported)
+            stepped g (stage.moved n (view l.store).snapshots) (command.Migrate n) (answer.Left left) beside
+            (subst (λ (k : ℕ). Step g (Up (running disk view parts l)) (command.Migrate n) (answer.Left k) (Up (running_of (parts l.store) (stage.moved n (view l.store).snapshots) l.age l.frozen_age))) (sym reported)
             (subst (λ (x : Saved). Step g (Up (running disk view parts l)) (command.Migrate n) (answer.Left ((view l.store).snapshots.to_move - n))
-            (Up (record (running_of (parts l.store) (store.moved n (view l.store).snapshots) l.age l.frozen_age) { saved = x })))
+            (Up (record (running_of (parts l.store) (stage.moved n (view l.store).snapshots) l.age l.frozen_age) { saved = x })))
             (sym (saved_moved (parts l.store) (view l.store).snapshots l.age l.frozen_age n))
             (subst (λ (base : List Frame). Step g (Up (running disk view parts l)) (command.Migrate n) (answer.Left ((view l.store).snapshots.to_move - n))
-            (Up (record (running_of (parts l.store) (store.moved n (view l.store).snapshots) l.age l.frozen_age) { saved = moved (running disk view parts l) n; renewed = renewed_since base (frames_of (parts l.store)) })))
+            (Up (record (running_of (parts l.store) (stage.moved n (view l.store).snapshots) l.age l.frozen_age) { saved = moved (running disk view parts l) n; renewed = renewed_since base (frames_of (parts l.store)) })))
             (sym (base_moved (view l.store).snapshots n))
             (migrate_step g (running disk view parts l) n))));
-        up = λ other. came g (store.moved n (view l.store).snapshots) beside sound (moved_sound g (parts l.store) (view l.store).snapshots l.banks l.age l.frozen_age up.sound n);
+        up = λ other. came g (stage.moved n (view l.store).snapshots) beside sound (moved_sound g (parts l.store) (view l.store).snapshots l.banks l.age l.frozen_age up.sound n);
         leaves = migrate_along g up;
       }
 
@@ -250,43 +248,39 @@ module _ {D S : Type 0} (disk : D → Disk) (view : S → View D) (parts : S →
 
   module _ (l : Live S) (s : S) where
     -- nothing is frozen
-    pub freeze_refused : (why : CheckpointFault) → s ≡ l.store → l.age < 2 ^ 62 → IsFreezeAnswer {T = ℕ} (left_in (view l.store).snapshots) (view l.store).snapshots.saved.entries (Err why) →
-        ServesUp disk view parts l command.Checkpoint (answer.Refused (refusal_by why)) (with_store l s)
-    freeze_refused fault.CheckpointRunning same young reported =
+    pub freeze_refused : (why : Refusal) → s ≡ l.store → l.age < 2 ^ 62 → IsFreezeAnswer {T = ℕ} (left_in whole (view l.store).snapshots) (view l.store).snapshots.saved.entries (Err why) →
+        ServesUp disk view parts l command.Checkpoint (answer.Refused why) (with_store l s)
+    freeze_refused refusal.CheckpointRunning same young reported =
         let f = some_there (view l.store).snapshots.frozen reported in
         refused_again l s command.Checkpoint refusal.CheckpointRunning same
         (λ g up. running_already g (running disk view parts l) young _ (frozen_some (view l.store).snapshots.frozen f.0 l.frozen_age f.1))
-    freeze_refused fault.MigrationPending same young reported =
+    freeze_refused refusal.MigrationPending same young reported =
         refused_again l s command.Checkpoint refusal.MigrationPending same
         (λ g up. not_home g (running disk view parts l) young (frozen_none (view l.store).snapshots.frozen l.frozen_age (none_there (view l.store).snapshots.frozen reported.0)) reported.1)
-    freeze_refused (fault.NotStable left) same young reported = absurd reported
-    freeze_refused fault.NoCheckpoint same young reported = absurd reported
-    freeze_refused fault.Failed same young reported = absurd reported
+    freeze_refused why same young reported = absurd reported
 
     module _ (same : AreSame (parts l.store) (parts s)) (size : (disk (view s).beneath).sectors ≡ (disk (view l.store).beneath).sectors) where
       -- nothing is written to the log, or not all of it
-      pub stabilize_refused : (why : CheckpointFault) (n : ℕ) → IsStabilizeAnswer (disk (view l.store).beneath) (disk (view s).beneath) (left_in (view l.store).snapshots) n (Err why) →
+      pub stabilize_refused : (why : Refusal) (n : ℕ) → IsStabilizeAnswer (disk (view l.store).beneath) (disk (view s).beneath) (left_in whole (view l.store).snapshots) n (Err why) →
           (IsRefused {T = ℕ} (Err why) → s ≡ l.store) → ((view l.store).is_sound → LeavesSaved (disk (view l.store).beneath) (disk (view s).beneath) (view l.store).snapshots.saved) →
-          ServesUp disk view parts l (command.Stabilize n) (answer.Refused (refusal_by why)) (with_store l s)
-      stabilize_refused fault.NoCheckpoint n reported again moments =
+          ServesUp disk view parts l (command.Stabilize n) (answer.Refused why) (with_store l s)
+      stabilize_refused refusal.NoCheckpoint n reported again moments =
           refused_again l s (command.Stabilize n) refusal.NoCheckpoint (again tt)
           (λ g up. none_to_stabilize g (running disk view parts l) n (frozen_none (view l.store).snapshots.frozen l.frozen_age (none_there (view l.store).snapshots.frozen reported.1)))
-      stabilize_refused fault.Failed n reported again moments =
+      stabilize_refused refusal.Fault n reported again moments =
           let f = some_there (view l.store).snapshots.frozen reported.1 in
           stabilize_failed l s same size f.0 f.1 moments n
-      stabilize_refused fault.CheckpointRunning n reported again moments = absurd reported
-      stabilize_refused fault.MigrationPending n reported again moments = absurd reported
-      stabilize_refused (fault.NotStable left) n reported again moments = absurd reported
+      stabilize_refused why n reported again moments = absurd reported
 
       -- nothing is saved, or it isn't reported
-      pub commit_refused : (why : CheckpointFault) → IsCommitAnswer (disk (view l.store).beneath) (disk (view s).beneath) (left_in (view l.store).snapshots) (view l.store).snapshots.saved.generation (Err why) →
+      pub commit_refused : (why : Refusal) → IsCommitAnswer (disk (view l.store).beneath) (disk (view s).beneath) (left_in whole (view l.store).snapshots) (view l.store).snapshots.saved.generation (Err why) →
           (IsRefused {T = ℕ} (Err why) → s ≡ l.store) → ((f : FrozenFrames) → (view l.store).snapshots.frozen ≡ Some f → f.left ≡ 0 →
-          LeavesEither (disk (view l.store).beneath) (disk (view s).beneath) (view l.store).snapshots.saved (next_saved l.frozen_age f (view l.store).snapshots.saved)) →
-          ServesUp disk view parts l command.Commit (answer.Refused (refusal_by why)) (with_store l s)
-      commit_refused fault.NoCheckpoint reported again moments =
+          LeavesEither (disk (view l.store).beneath) (disk (view s).beneath) (view l.store).snapshots.saved (next_saved whole l.frozen_age f (view l.store).snapshots.saved)) →
+          ServesUp disk view parts l command.Commit (answer.Refused why) (with_store l s)
+      commit_refused refusal.NoCheckpoint reported again moments =
           refused_again l s command.Commit refusal.NoCheckpoint (again tt)
           (λ g up. none_to_commit g (running disk view parts l) (frozen_none (view l.store).snapshots.frozen l.frozen_age (none_there (view l.store).snapshots.frozen reported.1)))
-      commit_refused (fault.NotStable left) reported again moments =
+      commit_refused (refusal.NotStable left) reported again moments =
           let f = some_left (view l.store).snapshots.frozen left (sym reported.1) in
           subst (λ (n : ℕ). ServesUp disk view parts l command.Commit (answer.Refused (refusal.NotStable n)) (with_store l s)) f.2
           (refused_again l s command.Commit (refusal.NotStable f.0.left) (again tt)
@@ -295,59 +289,62 @@ module _ {D S : Type 0} (disk : D → Disk) (view : S → View D) (parts : S →
         where
           above : (n : ℕ) → 0 < n → n ≡ 0 → ⊥
           above n some none = omega (arith, some, none)
-      commit_refused fault.Failed reported again moments =
+      commit_refused refusal.Fault reported again moments =
           let f = some_left (view l.store).snapshots.frozen 0 (sym reported.1) in
           commit_failed l s same size f.0 f.1 f.2 (moments f.0 f.1 f.2)
-      commit_refused fault.CheckpointRunning reported again moments = absurd reported
-      commit_refused fault.MigrationPending reported again moments = absurd reported
+      commit_refused why reported again moments = absurd reported
 
 -- who failed is reported where a store refuses
-pub refused_cause : (old new : Disk) (why : CheckpointFault) → ((why ≡ fault.Failed) × (old.failures < new.failures)) ⊎ ((why ≡ fault.Failed → ⊥) × (new.failures ≡ old.failures)) → IsCaused old new (answer.Refused (refusal_by why))
-refused_cause old new why (inl failed) = record {
-  later = let more = failed.1 in omega (arith, more);
-  exact = (λ e. failed.1, λ rose. ap (λ (x : CheckpointFault). answer.Refused (refusal_by x)) failed.0);
+pub failed_cause : (old new : Disk) → old.failures < new.failures → IsCaused old new (answer.Refused refusal.Fault)
+failed_cause old new more = record { later = omega (arith, more); exact = (λ e. more, λ rose. refl) }
+
+pub other_cause : (old new : Disk) (why : Refusal) → new.failures ≡ old.failures → (answer.Refused why ≡ answer.Refused refusal.Fault → ⊥) → IsCaused old new (answer.Refused why)
+other_cause old new why same other = record {
+  later = omega (arith, same);
+  exact = (λ e. absurd (other e), λ rose. absurd (omega (arith, same, rose)));
 }
-refused_cause old new why (inr other) = record {
-  later = let same = other.1 in omega (arith, same);
-  exact = (λ e. absurd (other.0 (only_failed why e)), λ rose. let same = other.1 in absurd (omega (arith, same, rose)));
-} where
-  only_failed : (why : CheckpointFault) → answer.Refused (refusal_by why) ≡ answer.Refused refusal.Fault → why ≡ fault.Failed
-  only_failed fault.Failed e = refl
-  only_failed fault.CheckpointRunning e = cc
-  only_failed fault.MigrationPending e = cc
-  only_failed (fault.NotStable left) e = cc
-  only_failed fault.NoCheckpoint e = cc
 
-pub freeze_cause : (old new : Disk) (left : Option ℕ) (entries : ℕ) (why : CheckpointFault) → IsFreezeAnswer {T = ℕ} left entries (Err why) → new.failures ≡ old.failures → IsCaused old new (answer.Refused (refusal_by why))
-freeze_cause old new left entries fault.CheckpointRunning reported same = refused_cause old new fault.CheckpointRunning (inr (λ e. cc, same))
-freeze_cause old new left entries fault.MigrationPending reported same = refused_cause old new fault.MigrationPending (inr (λ e. cc, same))
-freeze_cause old new left entries fault.Failed reported same = absurd reported
-freeze_cause old new left entries (fault.NotStable n) reported same = absurd reported
-freeze_cause old new left entries fault.NoCheckpoint reported same = absurd reported
+pub freeze_cause : (old new : Disk) (left : Option ℕ) (entries : ℕ) (why : Refusal) → IsFreezeAnswer {T = ℕ} left entries (Err why) → new.failures ≡ old.failures → IsCaused old new (answer.Refused why)
+freeze_cause old new left entries refusal.Fault reported same = absurd reported
+freeze_cause old new left entries why reported same = other_cause old new why same (λ e. cc)
 
-pub stabilize_cause : (old new : Disk) (left : Option ℕ) (count : ℕ) (why : CheckpointFault) → IsStabilizeAnswer old new left count (Err why) → IsCaused old new (answer.Refused (refusal_by why))
-stabilize_cause old new left count fault.NoCheckpoint reported = refused_cause old new fault.NoCheckpoint (inr (λ e. cc, reported.0))
-stabilize_cause old new left count fault.Failed reported = refused_cause old new fault.Failed (inl (refl, reported.0))
-stabilize_cause old new left count fault.CheckpointRunning reported = absurd reported
-stabilize_cause old new left count fault.MigrationPending reported = absurd reported
-stabilize_cause old new left count (fault.NotStable n) reported = absurd reported
+pub stabilize_cause : (old new : Disk) (left : Option ℕ) (count : ℕ) (why : Refusal) → IsStabilizeAnswer old new left count (Err why) → IsCaused old new (answer.Refused why)
+stabilize_cause old new left count refusal.NoCheckpoint reported = other_cause old new refusal.NoCheckpoint reported.0 (λ e. cc)
+stabilize_cause old new left count refusal.Fault reported = failed_cause old new reported.0
+stabilize_cause old new left count why reported = absurd reported
 
-pub commit_cause : (old new : Disk) (left : Option ℕ) (saved : ℕ) (why : CheckpointFault) → IsCommitAnswer old new left saved (Err why) → IsCaused old new (answer.Refused (refusal_by why))
-commit_cause old new left saved fault.NoCheckpoint reported = refused_cause old new fault.NoCheckpoint (inr (λ e. cc, reported.0))
-commit_cause old new left saved (fault.NotStable n) reported = refused_cause old new (fault.NotStable n) (inr (λ e. cc, reported.0))
-commit_cause old new left saved fault.Failed reported = refused_cause old new fault.Failed (inl (refl, reported.0))
-commit_cause old new left saved fault.CheckpointRunning reported = absurd reported
-commit_cause old new left saved fault.MigrationPending reported = absurd reported
+pub commit_cause : (old new : Disk) (left : Option ℕ) (saved : ℕ) (why : Refusal) → IsCommitAnswer old new left saved (Err why) → IsCaused old new (answer.Refused why)
+commit_cause old new left saved refusal.NoCheckpoint reported = other_cause old new refusal.NoCheckpoint reported.0 (λ e. cc)
+commit_cause old new left saved (refusal.NotStable n) reported = other_cause old new (refusal.NotStable n) reported.0 (λ e. cc)
+commit_cause old new left saved refusal.Fault reported = failed_cause old new reported.0
+commit_cause old new left saved why reported = absurd reported
+
+-- none of them needs no look at an object
+pub freeze_looks : (left : Option ℕ) (entries : ℕ) (why : Refusal) → IsFreezeAnswer {T = ℕ} left entries (Err why) → IsUnlooked (answer.Refused why) → ⊥
+freeze_looks left entries refusal.CheckpointRunning reported is = is
+freeze_looks left entries refusal.MigrationPending reported is = is
+freeze_looks left entries why reported is = reported
+
+pub stabilize_looks : (old new : Disk) (left : Option ℕ) (count : ℕ) (why : Refusal) → IsStabilizeAnswer old new left count (Err why) → IsUnlooked (answer.Refused why) → ⊥
+stabilize_looks old new left count refusal.NoCheckpoint reported is = is
+stabilize_looks old new left count refusal.Fault reported is = is
+stabilize_looks old new left count why reported is = reported
+
+pub commit_looks : (old new : Disk) (left : Option ℕ) (saved : ℕ) (why : Refusal) → IsCommitAnswer old new left saved (Err why) → IsUnlooked (answer.Refused why) → ⊥
+commit_looks old new left saved refusal.NoCheckpoint reported is = is
+commit_looks old new left saved (refusal.NotStable n) reported is = is
+commit_looks old new left saved refusal.Fault reported is = is
+commit_looks old new left saved why reported is = reported
 
 -- what is frozen can be committed at its age
 pub may_commit : {D S : Type 0} (disk : D → Disk) (view : S → View D) (parts : S → Parts) (l : Live S) → ((g : Geometry) × IsUp disk view parts g l) → (f : FrozenFrames) → (view l.store).snapshots.frozen ≡ Some f →
-    MayCommit l.frozen_age f (view l.store).snapshots.saved
+    MayCommit whole l.frozen_age f (view l.store).snapshots.saved
 may_commit disk view parts l up f frozen =
     let sound = up.1.sound in
     let held = sound.frozen f frozen in record {
       later = held.after;
       most = held.sound.sound.age;
-      keepable = subst (λ (g : Geometry). AreKeepable g l.frozen_age f.frames) (sym sound.saved.geometry) held.sound.keepable;
+      keepable = λ stable. subst (λ (g : Geometry). AreKeepable g l.frozen_age f.frames) (sym sound.saved.geometry) held.sound.keepable;
     }
 
 -- what passes a failure on is answered by `Fault`

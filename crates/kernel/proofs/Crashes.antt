@@ -1,8 +1,8 @@
 -- What a crash leaves, in terms of saved parts.
 use Rattle.kernel.proofs.Names.{◌≡◌, ◌⊎◌, ℕ, ◌-◌, Bool, true, false, List, [], ◌∷◌, ◌++◌, refl, sym, ap, subst, ⊎_elim, inl, inr, arith, ◌==◌, if◌then◌else◌}
 use Rattle.kernel.proofs.Names.{nat_tests, Geometry, Saved, at_home, Image, Disk, CountsNow, OnlyNow, ends, leaves_weaker, started, SavedFrames, Holds}
-use Rattle.kernel.proofs.Names.{LeavesSaved, LeavesEither, home_saved, Snapshots, moved_saved, denoted_by, saved_of, IsSoundSaved, DenotesOne, Leaves}
-use Rattle.kernel.proofs.Names.{LeavesOne}
+use Rattle.kernel.proofs.Names.{Snapshots, moved_saved, FrozenFrames, LeavesSaved, LeavesEither, home_saved, denoted_by, saved_of, IsSoundSaved, DenotesOne}
+use Rattle.kernel.proofs.Names.{Leaves, LeavesOne}
 
 -- one of the first is one of all
 pub among : (g : Geometry) (size : ℕ) (c : Image) (ss ts : List Saved) → DenotesOne g size ss c → DenotesOne g size (ss ++ ts) c
@@ -51,7 +51,7 @@ home_or_saved g size c fs sound true true is holds =
     let none : fs.entries ≡ 0 = grind (arith, nat_tests) in
     inl (denoted_by g size c fs sound (subst (Holds size c) (home_same fs none) holds))
 
-pub leaves_home : (g : Geometry) (old new : Disk) (a : Snapshots) (n : ℕ) → IsSoundSaved g a.saved → new.sectors ≡ old.sectors → LeavesEither old new a.saved (moved_saved n a) →
+pub leaves_home : (g : Geometry) (old new : Disk) (a : Snapshots FrozenFrames) (n : ℕ) → IsSoundSaved g a.saved → new.sectors ≡ old.sectors → LeavesEither old new a.saved (moved_saved n a) →
     LeavesOne g old new (saved_of a.saved ∷ (if a.saved.entries == 0 then [] else if a.to_move - n == 0 then at_home (saved_of a.saved) ∷ [] else []))
 leaves_home g old new a n sound size moments =
     let more : List Saved = if a.saved.entries == 0 then [] else if a.to_move - n == 0 then at_home (saved_of a.saved) ∷ [] else [] in

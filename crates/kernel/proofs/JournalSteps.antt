@@ -6,8 +6,8 @@ use Rattle.kernel.proofs.Names.{ObjectHeader, Geometry, Content, Object, Role, b
 use Rattle.kernel.proofs.Names.{objects_of, AreCurrent, AreKeepable, AreKeptWords, IsCurrent, IsKeepable, IsSoundFrames, MayBeKept, caps_in, Frozen, Running}
 use Rattle.kernel.proofs.Names.{Saved, Up, is_page, map_content, role_of, words_in, IsOfKind, IsSound, object_count, Step, carried_out, refusal_of, second}
 use Rattle.kernel.proofs.Names.{unjournaled, unless, World, content_at, owner_at, with_content, journal_keeps_sound, journaled_saved, with_words, SavedFrames}
-use Rattle.kernel.proofs.Names.{maps_same, Parts, frames_of, objects_in, at_set, frame_in, keepable_count, is_page_now, is_page_role, is_still_saved}
-use Rattle.kernel.proofs.Names.{snapshots_after_journal, next_journaled, words_now, Snapshots, BanksState, saved_of, IsSoundSaved, AreSoundTogether, base_of}
+use Rattle.kernel.proofs.Names.{maps_same, Parts, frames_of, objects_in, at_set, frame_in, keepable_count, is_page_now, is_page_role, is_still_saved, Snapshots}
+use Rattle.kernel.proofs.Names.{journaled, FrozenFrames, next_journaled, words_now, BanksState, saved_of, IsSoundSaved, AreSoundTogether, base_of}
 use Rattle.kernel.proofs.Names.{renewed_since, running_of, allocations_at, base_saved, renewed_at}
 use Rattle.std.proofs.Common.{◌==◌}
 use Rattle.model.specs.declared.answer.Answer.TheVariants as answer
@@ -238,7 +238,7 @@ not_twice : (b : Bool) → not (not b) ≡ b
 not_twice true = refl
 not_twice false = refl
 
-module _ (g : Geometry) (p : Parts) (a : Snapshots) (banks : BanksState) (age frozen_age : ℕ) (s : AreSoundTogether g p a banks age frozen_age) (n : ℕ) where
+module _ (g : Geometry) (p : Parts) (a : Snapshots FrozenFrames) (banks : BanksState) (age frozen_age : ℕ) (s : AreSoundTogether g p a banks age frozen_age) (n : ℕ) where
   abbrev r : Running
   r = running_of p a age frozen_age
 
@@ -310,10 +310,10 @@ module _ (g : Geometry) (p : Parts) (a : Snapshots) (banks : BanksState) (age fr
           sound = sound_after a.saved.frames n (words_now p n) g (a.saved.age + 1) frames_next saved_page known_now words_kept world_next;
         }
 
-        base_next : base_of (snapshots_after_journal (a.saved.age + 1) n (words_now p n) a) ≡ set a.saved.frames n (with_words (words_now p n) (frame_at a.saved.frames n))
-        base_next = base_saved (snapshots_after_journal (a.saved.age + 1) n (words_now p n) a) none
+        base_next : base_of (journaled (a.saved.age + 1) n (words_now p n) a) ≡ set a.saved.frames n (with_words (words_now p n) (frame_at a.saved.frames n))
+        base_next = base_saved (journaled (a.saved.age + 1) n (words_now p n) a) none
 
-        pub together_next : AreSoundTogether g p (snapshots_after_journal (a.saved.age + 1) n (words_now p n) a) banks (age + 1) frozen_age
+        pub together_next : AreSoundTogether g p (journaled (a.saved.age + 1) n (words_now p n) a) banks (age + 1) frozen_age
         together_next = record {
           geometry = s.geometry;
           now = frames_later g age (age + 1) (frames_of p) (omega arith) (omega (arith, young)) s.now;
@@ -327,7 +327,7 @@ module _ (g : Geometry) (p : Parts) (a : Snapshots) (banks : BanksState) (age fr
               (subst (λ (fs : List Frame). allocations_at fs m ≤ allocations_at (frames_of p) m) (base_saved a none) (s.risen m));
         }
 
-        pub running_next : running_of p (snapshots_after_journal (a.saved.age + 1) n (words_now p n) a) (age + 1) frozen_age
+        pub running_next : running_of p (journaled (a.saved.age + 1) n (words_now p n) a) (age + 1) frozen_age
             ≡ (let now : World = record { objects = objects_in p; age = age + 1 } in let x : Running = record (running_of p a age frozen_age) { now = now; saved = machine.journaled (running_of p a age frozen_age) n; to_move = 1 } in x)
         running_next =
             ap (λ (rs : List Bool). let now : World = record { objects = objects_in p; age = age + 1 } in let x : Running = record (running_of p a age frozen_age) { now = now; renewed = rs; saved = saved_of (journaled_saved (a.saved.age + 1) n (words_now p n) a.saved); to_move = 1 } in x)

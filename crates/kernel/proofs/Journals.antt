@@ -1,17 +1,16 @@
 -- How the journaling of a page ends: refused, done, or in a failure of the device.
 use Rattle.kernel.proofs.Names.{◌≡◌, ◌⊎◌, inl, inr, ℕ, ◌+◌, ◌^◌, ◌<◌, ◌≤◌, Bool, true, false, Option, None, Some, Ok, Err, List, [], ◌∷◌, length, refl, sym, ap}
 use Rattle.kernel.proofs.Names.{◌∙◌, subst, arith, if◌then◌else◌, nat_lt, IsErrOf, nat_tests, Refusal, NotPage, Renewed, Geometry, Running, Saved, Up, Step}
-use Rattle.kernel.proofs.Names.{second, World, Image, Disk, journaled_saved, SavedFrames, Holds, LeavesOneOf, Parts, keepable_count, JournalFault}
-use Rattle.kernel.proofs.Names.{IsJournalAnswer, IsTurnedAway, is_page_now, is_still_saved, snapshots_after_journal, next_journaled, words_now, Snapshots, View}
-use Rattle.kernel.proofs.Names.{left_in, IsUnlooked, Live, saved_of, LeavesOne, unjournaled_by, IsUp, disk_at, running, IsCaused, ServesUp}
+use Rattle.kernel.proofs.Names.{second, World, Image, Disk, journaled_saved, SavedFrames, Holds, LeavesOneOf, Parts, keepable_count, Snapshots, journaled}
+use Rattle.kernel.proofs.Names.{left_in, FrozenFrames, whole, IsJournalAnswer, IsTurnedAway, is_page_now, is_still_saved, next_journaled, words_now, View}
+use Rattle.kernel.proofs.Names.{IsUnlooked, Live, saved_of, LeavesOne, IsUp, disk_at, running, IsCaused, ServesUp}
 use Rattle.model.specs.declared.answer.Answer.TheVariants as answer
 use Rattle.model.specs.declared.answer.Refusal.TheVariants as refusal
 use Rattle.model.specs.declared.command.Command.TheVariants as command
 use Rattle.model.specs.Step as machine
-use Rattle.object_store.specs.declared.journal_fault.JournalFault.TheVariants as fault
 use Rattle.kernel.proofs.Performing.{AreSame}
 use Rattle.kernel.proofs.ProcessSteps.{refused_step}
-use Rattle.kernel.proofs.Acts.{failed, is_up, refused, refused_again, with_store}
+use Rattle.kernel.proofs.Acts.{failed, failed_cause, is_up, other_cause, refused, refused_again, with_store}
 use Rattle.kernel.proofs.Crashes.{leaves_along, leaves_either}
 use Rattle.kernel.proofs.JournalSteps.{journal_no_page, journal_pending, journal_renewed, journal_running, journal_step, journal_unknown, journal_worn}
 use Rattle.kernel.proofs.JournalSteps.{known_now, next_is, now_is, page_now, running_next, saved_is, saved_next, saved_too, second_of_journal, sound_next}
@@ -23,29 +22,28 @@ abbrev pub with_age : {S : Type 0} → Live S → S → ℕ → Live S
 with_age l s age = record { store = s; banks = l.banks; age = age; frozen_age = l.frozen_age }
 
 -- whether an object has a number
-pub lies_within : (n count size : ℕ) → count ≡ size → nat_lt n count ≡ true → n < size
-lies_within n count size is known = let less : n < count = grind (arith, nat_tests) in omega (arith, less, is)
+lies_within : (n count : ℕ) → nat_lt n count ≡ true → n < count
+lies_within n count known = grind (arith, nat_tests)
 
-pub lies_past : (n count size : ℕ) → count ≡ size → nat_lt n count ≡ false → size ≤ n
-lies_past n count size is past = let more : count ≤ n = grind (arith, nat_tests) in omega (arith, more, is)
+lies_past : (n count : ℕ) → nat_lt n count ≡ false → count ≤ n
+lies_past n count past = grind (arith, nat_tests)
 
 -- what was done left a sound store
-pub sound_done : {P : Type 0} (n : ℕ) → IsErrOf {T = ℕ} (Ok n) fault.Failed ⊎ P → P
+pub sound_done : {P : Type 0} (n : ℕ) → IsErrOf {T = ℕ} (Ok n) refusal.Fault ⊎ P → P
 sound_done n (inl failed) = absurd cc
 sound_done n (inr sound) = sound
 
-sound_still : {P : Type 0} → IsErrOf {T = ℕ} (Err fault.Renewed) fault.Failed ⊎ P → P
+sound_still : {P : Type 0} → IsErrOf {T = ℕ} (Err (refusal.NotJournaled Renewed)) refusal.Fault ⊎ P → P
 sound_still (inl failed) = absurd cc
 sound_still (inr sound) = sound
 
 -- where it is refused with no read of an object, the store is the same
-pub unlooked_same : {S : Type 0} (known : Bool) (why : JournalFault) {old new : S} → (IsTurnedAway (Err why) → new ≡ old) →
-    IsUnlooked (answer.Refused (unjournaled_by known why)) → new ≡ old
-unlooked_same known fault.CheckpointRunning same is = absurd is
-unlooked_same known fault.MigrationPending same is = absurd is
-unlooked_same known fault.NotPage same is = same tt
-unlooked_same known fault.Renewed same is = absurd is
-unlooked_same known fault.Failed same is = absurd is
+pub unlooked_same : {S : Type 0} (was now : Disk) (left : Option ℕ) (s : SavedFrames) (known page saved : Bool) (why : Refusal) {old new : S} → IsJournalAnswer was now left s known page saved (Err why) →
+    (IsTurnedAway (Err why) → new ≡ old) → IsUnlooked (answer.Refused why) → new ≡ old
+unlooked_same was now left s known page saved refusal.BadNumber reported same is = same tt
+unlooked_same was now left s known page saved refusal.NoProcess reported same is = absurd reported
+unlooked_same was now left s known page saved refusal.Down reported same is = absurd reported
+unlooked_same was now left s known page saved why reported same is = absurd is
 
 module _ {D S : Type 0} (disk : D → Disk) (view : S → View D) (parts : S → Parts)
     (only_now : (d : D) (c : Image) → (disk d).left_since (disk d).moment c → (disk d).may_leave c)
@@ -54,7 +52,7 @@ module _ {D S : Type 0} (disk : D → Disk) (view : S → View D) (parts : S →
   too_old l n old = refused disk view parts only_now sound_holds l (command.Journal n) refusal.Worn (λ g up. journal_worn g (running disk view parts l) n old)
 
   module _ (l : Live S) (s : S) (n : ℕ) (young : l.age < 2 ^ 62) where
-    abbrev a : Snapshots
+    abbrev a : Snapshots FrozenFrames
     a = (view l.store).snapshots
 
     abbrev age : ℕ
@@ -116,12 +114,12 @@ module _ {D S : Type 0} (disk : D → Disk) (view : S → View D) (parts : S →
 
       -- it is saved
       pub journal_went : is_still_saved (parts l.store) (view l.store).snapshots.saved n ≡ true → (generation : ℕ) → generation ≡ (view l.store).snapshots.saved.generation + 2 →
-          (view s).snapshots ≡ snapshots_after_journal ((view l.store).snapshots.saved.age + 1) n (words_now (parts l.store) n) (view l.store).snapshots → (view s).is_sound →
+          (view s).snapshots ≡ journaled ((view l.store).snapshots.saved.age + 1) n (words_now (parts l.store) n) (view l.store).snapshots → (view s).is_sound →
           ServesUp disk view parts l (command.Journal n) (answer.Journaled generation) (with_age l s (l.age + 1))
       journal_went is generation reported beside sound g up =
           let p = parts l.store in
           let r = running disk view parts l in
-          let b = snapshots_after_journal age n (words_now p n) a in
+          let b = journaled age n (words_now p n) a in
           record {
             step = λ not_fault.
                 subst (λ (x : Running). Step g (Up r) (command.Journal n) (answer.Journaled generation) (Up x))
@@ -135,46 +133,38 @@ module _ {D S : Type 0} (disk : D → Disk) (view : S → View D) (parts : S →
           }
 
     -- it is refused
-    pub journal_refused : (why : JournalFault) (known : Bool) → AreSame (parts l.store) (parts s) → (disk (view s).beneath).sectors ≡ (disk (view l.store).beneath).sectors →
-        IsJournalAnswer (disk (view l.store).beneath) (disk (view s).beneath) (left_in (view l.store).snapshots) (view l.store).snapshots.saved (is_page_now (parts l.store) n) (is_still_saved (parts l.store) (view l.store).snapshots.saved n) (Err why) →
-        (IsTurnedAway (Err why) → s ≡ l.store) → (known ≡ true → n < length (parts l.store).headers) → (known ≡ false → length (parts l.store).headers ≤ n) →
-        (view s).snapshots ≡ (view l.store).snapshots → (IsErrOf {T = ℕ} (Err why) fault.Failed ⊎ (view s).is_sound) →
+    pub journal_refused : (why : Refusal) → AreSame (parts l.store) (parts s) → (disk (view s).beneath).sectors ≡ (disk (view l.store).beneath).sectors →
+        IsJournalAnswer (disk (view l.store).beneath) (disk (view s).beneath) (left_in whole (view l.store).snapshots) (view l.store).snapshots.saved (nat_lt n (length (parts l.store).headers)) (is_page_now (parts l.store) n) (is_still_saved (parts l.store) (view l.store).snapshots.saved n) (Err why) →
+        (IsTurnedAway (Err why) → s ≡ l.store) → (view s).snapshots ≡ (view l.store).snapshots → (IsErrOf {T = ℕ} (Err why) refusal.Fault ⊎ (view s).is_sound) →
         LeavesOneOf (disk (view l.store).beneath) (disk (view s).beneath) (view l.store).snapshots.saved
         (next_journaled ((view l.store).snapshots.saved.age + 1) n (words_now (parts l.store) n) (view l.store).snapshots.frozen (view l.store).snapshots.saved (is_page_now (parts l.store) n) (is_still_saved (parts l.store) (view l.store).snapshots.saved n)) →
-        ServesUp disk view parts l (command.Journal n) (answer.Refused (unjournaled_by known why)) (with_store l s)
-    journal_refused fault.CheckpointRunning known same size reported away within past beside sound run =
+        ServesUp disk view parts l (command.Journal n) (answer.Refused why) (with_store l s)
+    journal_refused refusal.CheckpointRunning same size reported away beside sound run =
         let f = some_there a.frozen reported.1 in
         turned_away refusal.CheckpointRunning (away tt) (λ g up. journal_running g (running disk view parts l) n young _ (frozen_some a.frozen f.0 l.frozen_age f.1))
-    journal_refused fault.MigrationPending known same size reported away within past beside sound run =
+    journal_refused refusal.MigrationPending same size reported away beside sound run =
         turned_away refusal.MigrationPending (away tt)
         (λ g up. journal_pending g (running disk view parts l) n young (frozen_none a.frozen l.frozen_age (none_there a.frozen reported.1)) reported.2)
-    journal_refused fault.NotPage true same size reported away within past beside sound run =
-        turned_away (refusal.NotJournaled NotPage) (away tt)
-        (λ g up. journal_no_page g (running disk view parts l) n young (frozen_none a.frozen l.frozen_age (none_there a.frozen reported.1)) reported.2
-        (subst (λ (m : ℕ). n < m) (keepable_count g l.age (parts l.store) up.sound.now.keepable) (within refl))
-        (sym (now_is g (parts l.store) a l.banks l.age l.frozen_age up.sound n) ∙ reported.3))
-    journal_refused fault.NotPage false same size reported away within past beside sound run =
+    journal_refused refusal.BadNumber same size reported away beside sound run =
         turned_away refusal.BadNumber (away tt)
         (λ g up. journal_unknown g (running disk view parts l) n young (frozen_none a.frozen l.frozen_age (none_there a.frozen reported.1)) reported.2
-        (subst (λ (m : ℕ). m ≤ n) (keepable_count g l.age (parts l.store) up.sound.now.keepable) (past refl)))
-    journal_refused fault.Renewed known same size reported away within past beside sound run =
+        (subst (λ (m : ℕ). m ≤ n) (keepable_count g l.age (parts l.store) up.sound.now.keepable) (lies_past n (length (parts l.store).headers) reported.3)))
+    journal_refused (refusal.NotJournaled NotPage) same size reported away beside sound run =
+        turned_away (refusal.NotJournaled NotPage) (away tt)
+        (λ g up. journal_no_page g (running disk view parts l) n young (frozen_none a.frozen l.frozen_age (none_there a.frozen reported.1)) reported.2
+        (subst (λ (m : ℕ). n < m) (keepable_count g l.age (parts l.store) up.sound.now.keepable) (lies_within n (length (parts l.store).headers) reported.3))
+        (sym (now_is g (parts l.store) a l.banks l.age l.frozen_age up.sound n) ∙ reported.4))
+    journal_refused (refusal.NotJournaled Renewed) same size reported away beside sound run =
         not_saved same size run (none_there a.frozen reported.1) reported.2 reported.3 reported.4 beside (sound_still sound)
-    journal_refused fault.Failed known same size reported away within past beside sound run = journal_failed same size run (none_there a.frozen reported.1) reported.2 reported.3
-
-other_cause : (old new : Disk) (why : Refusal) → new.failures ≡ old.failures → (answer.Refused why ≡ answer.Refused refusal.Fault → ⊥) → IsCaused old new (answer.Refused why)
-other_cause old new why same other = record {
-  later = omega (arith, same);
-  exact = (λ e. absurd (other e), λ rose. absurd (omega (arith, same, rose)));
-}
+    journal_refused refusal.Fault same size reported away beside sound run = journal_failed same size run (none_there a.frozen reported.1) reported.2 reported.3
+    journal_refused why same size reported away beside sound run = absurd reported
 
 -- who failed is reported where a store refuses
-pub journal_cause : (old new : Disk) (left : Option ℕ) (s : SavedFrames) (page saved known : Bool) (why : JournalFault) → IsJournalAnswer old new left s page saved (Err why) → IsCaused old new (answer.Refused (unjournaled_by known why))
-journal_cause old new left s page saved known fault.Failed reported = record {
-  later = let more = reported.0 in omega (arith, more);
-  exact = (λ e. reported.0, λ rose. refl);
-}
-journal_cause old new left s page saved known fault.CheckpointRunning reported = other_cause old new refusal.CheckpointRunning reported.0 (λ e. cc)
-journal_cause old new left s page saved known fault.MigrationPending reported = other_cause old new refusal.MigrationPending reported.0 (λ e. cc)
-journal_cause old new left s page saved true fault.NotPage reported = other_cause old new (refusal.NotJournaled NotPage) reported.0 (λ e. cc)
-journal_cause old new left s page saved false fault.NotPage reported = other_cause old new refusal.BadNumber reported.0 (λ e. cc)
-journal_cause old new left s page saved known fault.Renewed reported = other_cause old new (refusal.NotJournaled Renewed) reported.0 (λ e. cc)
+pub journal_cause : (old new : Disk) (left : Option ℕ) (s : SavedFrames) (known page saved : Bool) (why : Refusal) → IsJournalAnswer old new left s known page saved (Err why) → IsCaused old new (answer.Refused why)
+journal_cause old new left s known page saved refusal.Fault reported = failed_cause old new reported.0
+journal_cause old new left s known page saved refusal.CheckpointRunning reported = other_cause old new refusal.CheckpointRunning reported.0 (λ e. cc)
+journal_cause old new left s known page saved refusal.MigrationPending reported = other_cause old new refusal.MigrationPending reported.0 (λ e. cc)
+journal_cause old new left s known page saved refusal.BadNumber reported = other_cause old new refusal.BadNumber reported.0 (λ e. cc)
+journal_cause old new left s known page saved (refusal.NotJournaled NotPage) reported = other_cause old new (refusal.NotJournaled NotPage) reported.0 (λ e. cc)
+journal_cause old new left s known page saved (refusal.NotJournaled Renewed) reported = other_cause old new (refusal.NotJournaled Renewed) reported.0 (λ e. cc)
+journal_cause old new left s known page saved why reported = absurd reported

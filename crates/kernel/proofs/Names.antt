@@ -5,9 +5,9 @@ pub use Rattle.capability.proofs.Keeping.{keepable_count, keepable_later}
 pub use Rattle.capability.specs.Parts.{IsUnchanged, OnlyFetches, OnlyReads, Parts, Renews, frames_of, objects_in}
 pub use Rattle.capability.specs.declared.present.PrepareFault.{PrepareFault}
 pub use Rattle.checkpoint.proofs.Lists.{maps_same}
-pub use Rattle.checkpoint.specs.Refused.{IsCommitAnswer, IsFreezeAnswer, IsRefused}
+pub use Rattle.checkpoint.specs.Refused.{IsCommitAnswer, IsFreezeAnswer, IsJournalAnswer, IsRefused, IsTurnedAway}
 pub use Rattle.checkpoint.specs.Saved.{Holds, LeavesEither, LeavesOneOf, LeavesSaved, SavedFrames, home_saved, journaled_saved, most, with_words}
-pub use Rattle.checkpoint.specs.declared.checkpoint_fault.CheckpointFault.{CheckpointFault}
+pub use Rattle.checkpoint.specs.Snapshots.{MayCommit, Snapshots, freezing, journaled, left_in, moved_saved, next_saved}
 pub use Rattle.checkpoint.specs.declared.open_fault.OpenFault.{OpenFault}
 pub use Rattle.device.proofs.Images.{agrees_is}
 pub use Rattle.device.proofs.Moments.{CountsNow, OnlyNow, ends, goes_on_cut, leaves_on, leaves_weaker, started}
@@ -55,11 +55,8 @@ pub use Rattle.model_laws.proofs.GivenUp.{none_given_up, none_in_frame, renewing
 pub use Rattle.model_laws.proofs.InvocationFrame.{word_frame}
 pub use Rattle.model_laws.proofs.Journaling.{journal_keeps_sound}
 pub use Rattle.model_laws.proofs.Usage.{SameFrame, frame_refl, tests_at}
-pub use Rattle.object_store.specs.Journal.{IsJournalAnswer, IsTurnedAway, is_page_now, is_page_role, is_still_saved, next_journaled, snapshots_after_journal}
-pub use Rattle.object_store.specs.Journal.{words_now}
-pub use Rattle.object_store.specs.Store.{Continues, FrozenFrames, IsStabilizeAnswer, MayCommit, Snapshots, View, freezing, left_in, moved_saved, next_saved}
-pub use Rattle.object_store.specs.Store.{stabilized}
-pub use Rattle.object_store.specs.declared.journal_fault.JournalFault.{JournalFault}
+pub use Rattle.object_store.specs.Journal.{is_page_now, is_page_role, is_still_saved, next_journaled, words_now}
+pub use Rattle.object_store.specs.Store.{Continues, FrozenFrames, IsStabilizeAnswer, View, all_frozen, stabilized, whole}
 pub use Rattle.recovery.proofs.Denoted.{denoted_by, leaves_saved, one_denoted, one_not_bad}
 pub use Rattle.recovery.proofs.Renewed.{allocations_at, base_by, base_frozen, base_saved, none_renewed, renewed_at, renewed_length}
 pub use Rattle.recovery.specs.Denotes.{DenotesOne, IsSoundSaved, Leaves, LeavesOne, saved_of}
@@ -80,7 +77,6 @@ pub use Rattle.std.proofs.lemmas.List.Elements.{All-nil}
 pub use Rattle.std.proofs.lemmas.List.FromFn.{get_or-map-range_with_len, length-map-range_with_len}
 pub use Rattle.std.specs.List.{All, Contains, range_with_len}
 pub use Rattle.std.specs.Prelude.{IfOk, IsErr, IsErrAnd, IsErrOf, if◌then◌else◌, nat_lt, option_map, slice_index_or, ◌==◌}
-pub use Rattle.kernel.specs.Journal.{unjournaled_by}
 pub use Rattle.kernel.specs.Machine.{IsEarly, IsUnlooked, Performs, answer_of, answer_with, code_with, machine_at, renewed_by}
 pub use Rattle.kernel.specs.Opening.{IsNoReason, IsSomeDown, Opens, Reopened, ReopensAs}
 pub use Rattle.kernel.specs.Power.{Power, power_of}

@@ -2,9 +2,10 @@
 use Rattle.kernel.proofs.Names.{◌≡◌, ℕ, ◌+◌, ◌-◌, ◌<◌, ◌≤◌, ◌||◌, Bool, true, false, not, List, length, map, refl, sym, ap, ◌∙◌, arith, if◌then◌else◌}
 use Rattle.kernel.proofs.Names.{range_with_len, get_or-map, ne_eqb, ext_get_or, get_or-map-range_with_len, length-map-range_with_len, Cap, Frame, ObjectHeader}
 use Rattle.kernel.proofs.Names.{Content, blank_frame, frame_at, frames_in, header_at, renewing, is_given_up, Parts, Renews, frames_of, objects_in, headers_in}
-use Rattle.kernel.proofs.Names.{SavedFrames, home_saved, Snapshots, moved_saved, base_of, renewed_since, allocations_at, base_by, renewed_at, renewed_length}
+use Rattle.kernel.proofs.Names.{Snapshots, moved_saved, FrozenFrames, SavedFrames, home_saved, base_of, renewed_since, allocations_at, base_by, renewed_at}
+use Rattle.kernel.proofs.Names.{renewed_length}
+use Rattle.checkpoint.specs.Snapshots.{moved}
 use Rattle.std.proofs.Common.{◌==◌, slice_index_or}
-use Rattle.object_store.specs.Store.{moved}
 
 pub header_in : (hs : List ObjectHeader) (cs : List (Content Cap)) (n : ℕ) → (frame_at (frames_in hs cs) n).header ≡ header_at hs n
 header_in hs cs n = sym (get_or-map (λ (f : Frame). f.header) (frames_in hs cs) n blank_frame) ∙ ap (λ (ks : List ObjectHeader). header_at ks n) (headers_in hs cs)
@@ -61,8 +62,8 @@ frames_if : (b : Bool) (fs : SavedFrames) → (if b then home_saved fs else fs).
 frames_if true fs = refl
 frames_if false fs = refl
 
-pub base_moved : (a : Snapshots) (n : ℕ) → base_of (moved n a) ≡ base_of a
+pub base_moved : (a : Snapshots FrozenFrames) (n : ℕ) → base_of (moved n a) ≡ base_of a
 base_moved a n = ap (λ (fs : List Frame). base_by fs a.frozen) (moved_frames a n)
   where
-    moved_frames : (a : Snapshots) (n : ℕ) → (moved_saved n a).frames ≡ a.saved.frames
+    moved_frames : (a : Snapshots FrozenFrames) (n : ℕ) → (moved_saved n a).frames ≡ a.saved.frames
     moved_frames a n = frames_if (a.to_move - n == 0) a.saved

@@ -1,10 +1,10 @@
 -- What is sound stays sound through each stage of a checkpoint.
 use Rattle.kernel.proofs.Names.{◌≡◌, ℕ, ◌+◌, ◌-◌, ◌^◌, ◌<◌, ◌≤◌, Bool, true, false, Option, None, Some, List, refl, sym, ap, ◌∙◌, subst, arith, ◌==◌}
 use Rattle.kernel.proofs.Names.{if◌then◌else◌, option_map, Frame, Geometry, frames_in, objects_of, AreKeepable, IsSoundFrames, world_at, Running, IsSound}
-use Rattle.kernel.proofs.Names.{at_home, moved, Parts, Renews, frames_of, objects_in, keepable_later, most, SavedFrames, home_saved, Snapshots, FrozenFrames}
-use Rattle.kernel.proofs.Names.{freezing, next_saved, moved_saved, stabilized, AreCounted, BanksState, saved_of, IsSoundSaved, AreSoundTogether, IsSoundFrozen}
-use Rattle.kernel.proofs.Names.{base_of, frozen_of, renewed_since, running_of, allocations_at, base_frozen}
-use Rattle.object_store.specs.Store as store
+use Rattle.kernel.proofs.Names.{Snapshots, freezing, moved_saved, next_saved, all_frozen, whole, at_home, moved, Parts, Renews, frames_of, objects_in}
+use Rattle.kernel.proofs.Names.{keepable_later, most, SavedFrames, home_saved, FrozenFrames, stabilized, AreCounted, BanksState, saved_of, IsSoundSaved}
+use Rattle.kernel.proofs.Names.{AreSoundTogether, IsSoundFrozen, base_of, frozen_of, renewed_since, running_of, allocations_at, base_frozen}
+use Rattle.checkpoint.specs.Snapshots as stage
 use Rattle.kernel.proofs.Performing.{AreSame, same_frames}
 use Rattle.kernel.proofs.Renewed.{base_moved, risen_on}
 
@@ -48,15 +48,15 @@ keepable_most g p age same f =
 pub frames_again : (p q : Parts) → q.headers ≡ p.headers → q.contents ≡ p.contents → frames_of q ≡ frames_of p
 frames_again p q headers contents = ap (λ hs. frames_in hs q.contents) headers ∙ ap (frames_in p.headers) contents
 
-module _ (g : Geometry) (p q : Parts) (same : AreSame p q) (a b : Snapshots) (beside : b ≡ a) where
+module _ (g : Geometry) (p q : Parts) (same : AreSame p q) (a b : Snapshots FrozenFrames) (beside : b ≡ a) where
   pub same_running : (age frozen_age : ℕ) → running_of q b age frozen_age ≡ running_of p a age frozen_age
   same_running age frozen_age =
-      ap (λ (x : Snapshots). running_of q x age frozen_age) beside
+      ap (λ (x : Snapshots FrozenFrames). running_of q x age frozen_age) beside
       ∙ ap (λ (fs : List Frame). let r : Running = record { now = world_at age fs; touched = q.touched; renewed = renewed_since (base_of a) fs; frozen = frozen_of frozen_age a.frozen; saved = saved_of a.saved; to_move = a.to_move } in r) (same_frames p q same)
       ∙ ap (λ (ts : List Bool). let r : Running = record { now = world_at age (frames_of p); touched = ts; renewed = renewed_since (base_of a) (frames_of p); frozen = frozen_of frozen_age a.frozen; saved = saved_of a.saved; to_move = a.to_move } in r) same.touched
 
   pub stays_sound : (banks : BanksState) (age frozen_age : ℕ) → AreSoundTogether g p a banks age frozen_age → AreSoundTogether g q b banks age frozen_age
-  stays_sound banks age frozen_age s = subst (λ (x : Snapshots). AreSoundTogether g q x banks age frozen_age) (sym beside) (record {
+  stays_sound banks age frozen_age s = subst (λ (x : Snapshots FrozenFrames). AreSoundTogether g q x banks age frozen_age) (sym beside) (record {
     geometry = same.geometry ∙ s.geometry;
     now = subst (λ (fs : List Frame). IsSoundFrames g age fs) (sym (same_frames p q same)) s.now;
     counted = subst (λ (fs : List Frame). AreCounted g (objects_of fs) banks) (sym (same_frames p q same)) s.counted;
@@ -67,9 +67,9 @@ module _ (g : Geometry) (p q : Parts) (same : AreSame p q) (a b : Snapshots) (be
   })
 
 -- other objects, at an age that didn't fall
-pub acts_sound : (g : Geometry) (p q : Parts) (a b : Snapshots) (old_banks banks : BanksState) (old_age age frozen_age : ℕ) → b ≡ a → old_age ≤ age → q.geometry ≡ g → Renews p q → IsSoundFrames g age (frames_of q) →
+pub acts_sound : (g : Geometry) (p q : Parts) (a b : Snapshots FrozenFrames) (old_banks banks : BanksState) (old_age age frozen_age : ℕ) → b ≡ a → old_age ≤ age → q.geometry ≡ g → Renews p q → IsSoundFrames g age (frames_of q) →
     AreCounted g (objects_in q) banks → AreSoundTogether g p a old_banks old_age frozen_age → AreSoundTogether g q b banks age frozen_age
-acts_sound g p q a b old_banks banks old_age age frozen_age beside later geometry renews now counted s = subst (λ (x : Snapshots). AreSoundTogether g q x banks age frozen_age) (sym beside) (record {
+acts_sound g p q a b old_banks banks old_age age frozen_age beside later geometry renews now counted s = subst (λ (x : Snapshots FrozenFrames). AreSoundTogether g q x banks age frozen_age) (sym beside) (record {
   geometry = geometry;
   now = now;
   counted = counted;
@@ -81,9 +81,9 @@ acts_sound g p q a b old_banks banks old_age age frozen_age beside later geometr
 
 -- ---- stages
 
-module _ (g : Geometry) (p : Parts) (a : Snapshots) (banks : BanksState) (age frozen_age : ℕ) (s : AreSoundTogether g p a banks age frozen_age) where
+module _ (g : Geometry) (p : Parts) (a : Snapshots FrozenFrames) (banks : BanksState) (age frozen_age : ℕ) (s : AreSoundTogether g p a banks age frozen_age) where
   -- all is frozen, one age later
-  pub begun_sound : (q : Parts) (n : ℕ) → q.geometry ≡ p.geometry → frames_of q ≡ frames_of p → age < 2 ^ 62 → AreSoundTogether g q (freezing (frames_of p) n a) banks (age + 1) (age + 1)
+  pub begun_sound : (q : Parts) (n : ℕ) → q.geometry ≡ p.geometry → frames_of q ≡ frames_of p → age < 2 ^ 62 → AreSoundTogether g q (freezing (all_frozen (frames_of p) n) a) banks (age + 1) (age + 1)
   begun_sound q n geometry frames young =
       let now : IsSoundFrames g (age + 1) (frames_of p) = frames_later g age (age + 1) (frames_of p) (omega arith) (omega (arith, young)) s.now in
       record {
@@ -126,10 +126,10 @@ module _ (g : Geometry) (p : Parts) (a : Snapshots) (banks : BanksState) (age fr
           subst (IsSoundFrozen g a.saved.age frozen_age age) it (record { after = was.after; before = was.before; sound = was.sound })
 
   -- it is saved
-  pub next_sound : (f : FrozenFrames) → a.frozen ≡ Some f → IsSoundSaved g (next_saved frozen_age f a.saved)
+  pub next_sound : (f : FrozenFrames) → a.frozen ≡ Some f → IsSoundSaved g (next_saved whole frozen_age f a.saved)
   next_sound f is = record { geometry = s.saved.geometry; sound = (s.frozen f is).sound }
 
-  pub committed_sound : (f : FrozenFrames) → a.frozen ≡ Some f → AreSoundTogether g p (store.snapshots_after_commit frozen_age f a) banks age frozen_age
+  pub committed_sound : (f : FrozenFrames) → a.frozen ≡ Some f → AreSoundTogether g p (stage.committed whole frozen_age f a) banks age frozen_age
   committed_sound f is = record {
     geometry = s.geometry;
     now = s.now;
@@ -155,7 +155,7 @@ module _ (g : Geometry) (p : Parts) (a : Snapshots) (banks : BanksState) (age fr
   pub moved_saved_sound : (n : ℕ) → IsSoundSaved g (moved_saved n a)
   moved_saved_sound n = home_or_not (a.to_move - n == 0)
 
-  pub moved_sound : (n : ℕ) → AreSoundTogether g p (store.moved n a) banks age frozen_age
+  pub moved_sound : (n : ℕ) → AreSoundTogether g p (stage.moved n a) banks age frozen_age
   moved_sound n =
       let same : (moved_saved n a).age ≡ a.saved.age = age_or_not (a.to_move - n == 0) in
       record {
@@ -173,7 +173,7 @@ saved_if : (b : Bool) (fs : SavedFrames) → saved_of (if b then home_saved fs e
 saved_if true fs = refl
 saved_if false fs = refl
 
-pub saved_moved : (p : Parts) (a : Snapshots) (age frozen_age n : ℕ) → saved_of (moved_saved n a) ≡ moved (running_of p a age frozen_age) n
+pub saved_moved : (p : Parts) (a : Snapshots FrozenFrames) (age frozen_age n : ℕ) → saved_of (moved_saved n a) ≡ moved (running_of p a age frozen_age) n
 saved_moved p a age frozen_age n = saved_if (a.to_move - n == 0) a.saved
 
 -- ---- the checkpoint on its way

@@ -4,4 +4,3 @@ pub mod Prepared
 pub mod Power
 pub mod Standing
 pub mod Opening
-pub mod Journal

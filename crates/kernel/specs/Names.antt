@@ -2,7 +2,6 @@
 pub use Rattle.capability.specs.Parts.{Parts, Renews, frames_of, objects_in}
 pub use Rattle.capability.specs.declared.present.PrepareFault.{PrepareFault}
 pub use Rattle.checkpoint.specs.Opened.{OnlyReads}
-pub use Rattle.checkpoint.specs.declared.checkpoint_fault.CheckpointFault.{CheckpointFault}
 pub use Rattle.checkpoint.specs.declared.committed.Checkpoint.{Checkpoint}
 pub use Rattle.checkpoint.specs.declared.open_fault.OpenFault.{OpenFault}
 pub use Rattle.device.specs.Calls.{Only}
@@ -17,16 +16,14 @@ pub use Rattle.model.specs.Step.{Reopens, Step, second}
 pub use Rattle.model.specs.World.{is_process, is_running_process}
 pub use Rattle.model.specs.declared.answer.Answer.{Answer}
 pub use Rattle.model.specs.declared.answer.Refusal.{Refusal}
-pub use Rattle.model.specs.declared.answer.Unjournaled.TheVariants.{NotPage, Renewed}
 pub use Rattle.model.specs.declared.command.Command.{Command}
 pub use Rattle.model.specs.declared.command.Invocation.{Invocation}
 pub use Rattle.model.specs.declared.geometry.Geometry.{Geometry}
 pub use Rattle.model.specs.declared.object.Object.{Object}
 pub use Rattle.model.specs.declared.order.ResultCode.{ResultCode}
 pub use Rattle.object_store.specs.Store.{View}
-pub use Rattle.object_store.specs.declared.journal_fault.JournalFault.{JournalFault}
 pub use Rattle.recovery.specs.Denotes.{Denotes, Leaves, LeavesOne}
 pub use Rattle.recovery.specs.Live.{IsUp, disk_at, running}
 pub use Rattle.recovery.specs.declared.live.Live.{Live}
-pub use Rattle.std.specs.Prelude.{Bool, Err, List, None, Ok, Option, Result, Some, [], false, if◌then◌else◌, true, ℕ}
-pub use Rattle.std.specs.Prelude.{◌++◌, ◌<◌, ◌↔◌, ◌≡◌, ◌≢◌, ◌≤◌, ◌⊎◌}
+pub use Rattle.std.specs.Prelude.{Bool, Err, List, None, Ok, Option, Result, Some, [], false, true, ℕ, ◌++◌, ◌<◌, ◌↔◌}
+pub use Rattle.std.specs.Prelude.{◌≡◌, ◌≢◌, ◌≤◌, ◌⊎◌}

@@ -1,23 +1,14 @@
 -- The machine that a kernel stands for, and how it serves a command.
-use Rattle.kernel.specs.Names.{◌≡◌, ◌↔◌, ◌<◌, ◌≤◌, Option, None, Some, [], ◌++◌, Answer, Refusal, Command, Geometry}
-use Rattle.kernel.specs.Names.{ResultCode, Machine, Up, Down, candidates, Step, second, Disk, Parts, CheckpointFault}
-use Rattle.kernel.specs.Names.{Checkpoint, View, Live, Leaves, LeavesOne, IsUp, disk_at, running}
+use Rattle.kernel.specs.Names.{◌≡◌, ◌↔◌, ◌<◌, ◌≤◌, Option, None, Some, [], ◌++◌, Answer, Command, Geometry, ResultCode}
+use Rattle.kernel.specs.Names.{Machine, Up, Down, candidates, Step, second, Disk, Parts, Checkpoint, View, Live, Leaves}
+use Rattle.kernel.specs.Names.{LeavesOne, IsUp, disk_at, running}
 use Rattle.model.specs.declared.answer.Answer.TheVariants as answer
 use Rattle.model.specs.declared.answer.Refusal.TheVariants as refusal
 use Rattle.model.specs.declared.command.Command.TheVariants as command
-use Rattle.checkpoint.specs.declared.checkpoint_fault.CheckpointFault.TheVariants as fault
 use Rattle.kernel.specs.declared.processes.served.Served.{Served}
 use Rattle.kernel.specs.Machine.{code_with}
 use Rattle.kernel.specs.Power.{Power}
 use Rattle.kernel.specs.Power as power
-
--- the machine's refusal where its store refuses
-abbrev pub refusal_by : CheckpointFault → Refusal
-refusal_by fault.CheckpointRunning = refusal.CheckpointRunning
-refusal_by fault.MigrationPending = refusal.MigrationPending
-refusal_by (fault.NotStable left) = refusal.NotStable left
-refusal_by fault.NoCheckpoint = refusal.NoCheckpoint
-refusal_by fault.Failed = refusal.Fault
 
 -- no device
 abbrev pub nothing : Disk

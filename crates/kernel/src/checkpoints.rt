@@ -3,29 +3,23 @@ ghost use Rattle.std.specs.Prelude.{◌≡◌};
 ghost use Rattle.model.specs.declared.command.Command.TheVariants as command;
 ghost use Rattle.kernel.specs.Machine.{IsReportedOnce, IsUnlooked, answer_of};
 ghost use Rattle.recovery.specs.Live.{IsSomeUp, disk_at};
-ghost use Rattle.kernel.specs.Standing.{IsCaused, ServesUp, refusal_by};
+ghost use Rattle.kernel.specs.Standing.{IsCaused, ServesUp};
 
 use crate::processes;
-use checkpoint::CheckpointFault;
 use device::{Device, Failed};
 use model::{Answer, Refusal};
 use object_store::ObjectStore;
 use recovery::Live;
 
-// What is answered where the store refuses.
-fn refused(fault: CheckpointFault) -> Result<Answer, Failed>
-    ensures answer { answer_of result ≡ Answer.Refused (refusal_by fault) }
-    ensures only_reads { IsUnlooked (answer_of result) → ⊥ }
+/// What is answered where the store refuses. A failure of the device is passed on.
+pub(crate) fn refused(why: Refusal) -> Result<Answer, Failed>
+    ensures answer { answer_of result ≡ Answer.Refused why }
     ensures reported_once { IsReportedOnce result }
 {
-    let refusal = match fault {
-        CheckpointFault::CheckpointRunning => Refusal::CheckpointRunning,
-        CheckpointFault::MigrationPending => Refusal::MigrationPending,
-        CheckpointFault::NotStable(left) => Refusal::NotStable(left),
-        CheckpointFault::NoCheckpoint => Refusal::NoCheckpoint,
-        CheckpointFault::Failed => return Err(Failed),
-    };
-    Ok(Answer::Refused(refusal))
+    match why {
+        Refusal::Fault => Err(Failed),
+        why => Ok(Answer::Refused(why)),
+    }
 }
 
 /// Begins a checkpoint: all objects are frozen as they are, and the age rises by one.
@@ -50,7 +44,7 @@ pub fn checkpoint<D: Device, S: ObjectStore<D>>(live: &mut Live<S>) -> Result<An
             live.frozen_age = live.age;
             Ok(Answer::Frozen(size))
         }
-        Err(fault) => refused(fault),
+        Err(why) => refused(why),
     }
 }
 
@@ -70,7 +64,7 @@ pub fn stabilize<D: Device, S: ObjectStore<D>>(
 {
     match live.store.stabilize(count) {
         Ok(left) => Ok(Answer::Left(left)),
-        Err(fault) => refused(fault),
+        Err(why) => refused(why),
     }
 }
 
@@ -88,7 +82,7 @@ pub fn commit<D: Device, S: ObjectStore<D>>(live: &mut Live<S>) -> Result<Answer
 {
     match live.store.commit(live.frozen_age) {
         Ok(generation) => Ok(Answer::Committed(generation)),
-        Err(fault) => refused(fault),
+        Err(why) => refused(why),
     }
 }
 

@@ -4,34 +4,13 @@ ghost use Rattle.model.specs.declared.command.Command.TheVariants as command;
 ghost use Rattle.kernel.specs.Machine.{IsReportedOnce, IsUnlooked, answer_of};
 ghost use Rattle.recovery.specs.Live.{IsSomeUp, disk_at};
 ghost use Rattle.kernel.specs.Standing.{IsCaused, ServesUp};
-ghost use Rattle.kernel.specs.Journal.{unjournaled_by};
 
+use crate::checkpoints::refused;
 use crate::processes;
 use device::{Device, Failed};
-use model::{Answer, Refusal, Unjournaled};
-use object_store::{JournalFault, ObjectStore};
+use model::{Answer, Refusal};
+use object_store::ObjectStore;
 use recovery::Live;
-
-// What is answered where the store refuses, by whether an object has the number.
-fn refused(fault: JournalFault, is_known: bool) -> Result<Answer, Failed>
-    ensures answer { answer_of result ≡ Answer.Refused (unjournaled_by is_known fault) }
-    ensures reported_once { IsReportedOnce result }
-{
-    let refusal = match fault {
-        JournalFault::CheckpointRunning => Refusal::CheckpointRunning,
-        JournalFault::MigrationPending => Refusal::MigrationPending,
-        JournalFault::NotPage => {
-            if is_known {
-                Refusal::NotJournaled(Unjournaled::NotPage)
-            } else {
-                Refusal::BadNumber
-            }
-        }
-        JournalFault::Renewed => Refusal::NotJournaled(Unjournaled::Renewed),
-        JournalFault::Failed => return Err(Failed),
-    };
-    Ok(Answer::Refused(refusal))
-}
 
 /// Saves the present words of a page without a checkpoint. All else that is saved of the page
 /// stays, and so do all other objects. The age rises by one.
@@ -57,13 +36,12 @@ pub fn journal<D: Device, S: ObjectStore<D>>(
     if processes::is_worn(live.age) {
         return Ok(Answer::Refused(Refusal::Worn));
     }
-    let is_known = number < live.store.table().count();
     let age = live.store.saved().age + 1;
     match live.store.journal(number, age) {
         Ok(generation) => {
             live.age += 1;
             Ok(Answer::Journaled(generation))
         }
-        Err(fault) => refused(fault, is_known),
+        Err(why) => refused(why),
     }
 }

@@ -1,7 +1,7 @@
 -- The slots of a checkpoint were completed, and its header is adopted.
 use Rattle.migrator.proofs.Names.{◌≡◌, ℕ, ◌<◌, ◌≤◌, ◌^◌, Option, Some, None, refl, ap, subst, ◌∙◌, AreKeepable, Disk, LeavesEither, AreComplete, Keeps, Books}
-use Rattle.migrator.proofs.Names.{FrozenPuts, GoesOnDisk, IsDurable, IsKept, IsSoundOn, Stored, frozen_generation, frozen_of, next_header, next_saved, seen_by}
-use Rattle.migrator.proofs.Names.{stored_after_commit, stored_in, stored_on, Unwritten, mended, MayAdopt, adopted, entries_of, whole_count}
+use Rattle.migrator.proofs.Names.{committed, next_saved, FrozenPuts, GoesOnDisk, IsDurable, IsKept, IsSoundOn, Stored, frozen_generation, frozen_of}
+use Rattle.migrator.proofs.Names.{next_header, seen_by, puts, on_snapshots, stored_in, stored_on, Unwritten, mended, MayAdopt, adopted, entries_of, whole_count}
 use Rattle.migrator.proofs.Adopting.{kept_raw, sound_raw, stored_raw}
 use Rattle.migrator.proofs.Committing.{committed_stored, may_commit}
 use Rattle.migrator.proofs.Completed.{IsReady, goes_after, has_after, keepable_at, kept_with, mid_kept, ready, stored_after}
@@ -28,7 +28,7 @@ module _ (old mid : Disk) (b : Books) (o : Option Unwritten) (k : ℕ) (is : IsD
       (goes_with (mended_disk old b.unwritten) (mended_disk mid o) b b mid_books refl refl refl (goes_after old mid b b.unwritten o k is.kept running keeps))
 
   module _ (none : o ≡ None) (stable : k ≤ whole_count b.frozen) (complete : AreComplete mid.seen b.plan (frozen_generation b) (entries_of b.frozen)) (age : ℕ) (later : b.header.age < age) (most : age ≤ 2 ^ 62)
-      (keepable : AreKeepable b.plan.geometry age (next_saved age (frozen_of (seen_by old.seen b) b k) (stored_on old b).saved).frames) where
+      (keepable : AreKeepable b.plan.geometry age (next_saved puts age (frozen_of (seen_by old.seen b) b k) (stored_on old b).saved).frames) where
     now : IsReady old (seen_by old.seen b) b k mid
     now = ready old mid b b.unwritten o k is.kept running keeps none
 
@@ -39,16 +39,16 @@ module _ (old mid : Disk) (b : Books) (o : Option Unwritten) (k : ℕ) (is : IsD
     may_commit_now sound =
         may_commit mid mid_books k kept running stable complete age later most (keepable_at age old (seen_by old.seen b) b k mid now keepable) mid_durable none (sound_raw mid mid_books none (mid_goes_on.sound sound))
 
-    pub commit_stored : stored_on mid (adopted (next_header age b) (entries_of b.frozen) (record b { unwritten = o })) ≡ stored_after_commit age (frozen_of (seen_by old.seen b) b k) (stored_on old b)
+    pub commit_stored : stored_on mid (adopted (next_header age b) (entries_of b.frozen) (record b { unwritten = o })) ≡ on_snapshots (committed puts age (frozen_of (seen_by old.seen b) b k)) (stored_on old b)
     commit_stored =
         stored_raw mid mid_books none (adopted (next_header age b) (entries_of b.frozen) mid_books) refl
         ∙ committed_stored mid mid_books k kept running stable complete age later most (keepable_at age old (seen_by old.seen b) b k mid now keepable)
-        ∙ ap (λ (f : FrozenPuts). stored_after_commit age f (stored_in mid.seen b)) now.frozen ∙ ap (stored_after_commit age (frozen_of (seen_by old.seen b) b k)) now.stored
+        ∙ ap (λ (f : FrozenPuts). on_snapshots (committed puts age f) (stored_in mid.seen b)) now.frozen ∙ ap (on_snapshots (committed puts age (frozen_of (seen_by old.seen b) b k))) now.stored
 
     pub commit_run : (new : Disk) → IsSoundOn old b
         → LeavesEither mid new (stored_on mid (record b { unwritten = o })).saved (stored_on mid (adopted (next_header age b) (entries_of b.frozen) (record b { unwritten = o }))).saved
-        → LeavesEither old new (stored_on old b).saved (next_saved age (frozen_of (seen_by old.seen b) b k) (stored_on old b).saved)
+        → LeavesEither old new (stored_on old b).saved (next_saved puts age (frozen_of (seen_by old.seen b) b k) (stored_on old b).saved)
     commit_run new sound run =
-        both_runs old mid new (stored_on old b).saved (next_saved age (frozen_of (seen_by old.seen b) b k) (stored_on old b).saved) mid_goes_on.size (mid_goes_on.any_moment sound)
+        both_runs old mid new (stored_on old b).saved (next_saved puts age (frozen_of (seen_by old.seen b) b k) (stored_on old b).saved) mid_goes_on.size (mid_goes_on.any_moment sound)
         (subst (λ (s : Stored). LeavesEither mid new (stored_on old b).saved s.saved) commit_stored
         (subst (λ (s : Stored). LeavesEither mid new s.saved (stored_on mid (adopted (next_header age b) (entries_of b.frozen) mid_books)).saved) mid_stored run))

@@ -6,8 +6,8 @@ use Rattle.migrator.proofs.Names.{slot_beside, half_sector, count_of, frame_read
 use Rattle.migrator.proofs.Names.{apart_inside, half_within, length_read, read_at, spelt_same, spelt_at, beside_frame_slot, places_within, header_sector}
 use Rattle.migrator.proofs.Names.{slot_extent, place_extent, directory_extent, frames_behind, frames_in_slots, directories_inside, slots_spare_directories}
 use Rattle.migrator.proofs.Names.{Place, Nowhere, Torn, Whole, place_at, slot_of, taken_count, whole_count, has_slot, entries_of, Put, Absent, put_at, put_or}
-use Rattle.migrator.proofs.Names.{overlaid, slot_bytes, put_of, puts_in, ArePut, most, Books, IsDurable, frozen_generation, working_generation}
-use Rattle.migrator.proofs.Names.{generation_after, Stored, saved_state, frozen_of, stored_in, IsRunning, IsKept, LeavesState, next_header, stored_after_commit}
+use Rattle.migrator.proofs.Names.{overlaid, slot_bytes, put_of, puts_in, ArePut, most, Books, IsDurable, frozen_generation, working_generation, committed}
+use Rattle.migrator.proofs.Names.{generation_after, Stored, saved_state, frozen_of, stored_in, IsRunning, IsKept, LeavesState, next_header, puts, on_snapshots}
 use Rattle.migrator.proofs.Names.{AreComplete, MayAdopt, MaySave, SavesOnly, SparesKept, adopted, SparesFrames, Spares, maps_same}
 use Rattle.migrator.proofs.Tables.{all_whole, whole_taken, entries_directory, length_entries, slot_entries, blank_at, blank_table, tally-blank}
 use Rattle.migrator.proofs.Spared.{state_stays}
@@ -264,7 +264,7 @@ module _ (disk : Disk) (b : Books) (k : ℕ) (kept : IsKept disk.sectors disk.se
     to_move = entries - 0;
   }
 
-  pub committed_stored : stored_in disk.seen (adopted (next_header age b) (entries_of b.frozen) b) ≡ stored_after_commit age (frozen_of disk.seen b k) (stored_in disk.seen b)
+  pub committed_stored : stored_in disk.seen (adopted (next_header age b) (entries_of b.frozen) b) ≡ on_snapshots (committed puts age (frozen_of disk.seen b k)) (stored_in disk.seen b)
   committed_stored =
       ap (λ (g : ℕ). stored_as (taken_count b.frozen) (puts_in disk.seen b.plan g b.working) (frames_read disk.seen b.plan (frozen_generation b) (entries_of b.frozen))) (sym generation_is)
       ∙ ap (λ (fs : List Frame). stored_as (taken_count b.frozen) (puts_in disk.seen b.plan (working_generation b) b.working) fs) (frames_next disk.sectors disk.seen b k kept running stable complete)

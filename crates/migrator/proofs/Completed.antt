@@ -2,8 +2,8 @@
 use Rattle.migrator.proofs.Names.{◌≡◌, ℕ, ◌+◌, ◌*◌, ◌%◌, ◌<◌, Option, Some, None, List, refl, sym, ap, subst, ◌∙◌, arith, Image, Disk, IsTorn, AreKeepable}
 use Rattle.migrator.proofs.Names.{Entry, Extent, CheckpointHeader, entry_at, half_sector, count_of, Plan, IsInside, half_extent, shape_of, found_slot, own_slot}
 use Rattle.migrator.proofs.Names.{spelt_same, Place, Whole, place_at, slot_of, entries_of, AreComplete, Keeps, Unwritten, mended, IfUnwritten, Put, slot_bytes}
-use Rattle.migrator.proofs.Names.{puts_in, Books, frozen_generation, working_generation, generation_after, FrozenPuts, Stored, stored_in, frozen_of}
-use Rattle.migrator.proofs.Names.{next_header, next_saved, saved_state, IsKept, IsRunning, LeavesState, MayHaveUnwritten, Holds, LeavesSaved, kept_of, Spares}
+use Rattle.migrator.proofs.Names.{puts_in, Books, frozen_generation, working_generation, generation_after, FrozenPuts, Stored, stored_in, frozen_of, next_saved}
+use Rattle.migrator.proofs.Names.{next_header, saved_state, IsKept, IsRunning, LeavesState, MayHaveUnwritten, Holds, LeavesSaved, kept_of, Spares, puts}
 use Rattle.migrator.proofs.Names.{Touches, SparesPuts}
 use Rattle.migrator.proofs.Committing.{frozen_fits}
 use Rattle.migrator.proofs.GoingOn.{GoesOnSeen, goes_spared}
@@ -167,8 +167,8 @@ complete_at b image p h es plan header entries complete =
     (subst (λ (x : CheckpointHeader). AreComplete image p x.generation (entries_of b.frozen)) header (subst (λ (fs : List Entry). AreComplete image p h.generation fs) entries complete))
 
 -- what is to be saved may be
-pub keepable_at : (age : ℕ) (old : Disk) (image : Image) (b : Books) (k : ℕ) (mid : Disk) → IsReady old image b k mid → AreKeepable b.plan.geometry age (next_saved age (frozen_of image b k) (stored_in image b).saved).frames
-    → AreKeepable b.plan.geometry age (next_saved age (frozen_of mid.seen b k) (stored_in mid.seen b).saved).frames
+pub keepable_at : (age : ℕ) (old : Disk) (image : Image) (b : Books) (k : ℕ) (mid : Disk) → IsReady old image b k mid → AreKeepable b.plan.geometry age (next_saved puts age (frozen_of image b k) (stored_in image b).saved).frames
+    → AreKeepable b.plan.geometry age (next_saved puts age (frozen_of mid.seen b k) (stored_in mid.seen b).saved).frames
 keepable_at age old image b k mid is keepable =
-    subst (λ (s : Stored). AreKeepable b.plan.geometry age (next_saved age (frozen_of mid.seen b k) s.saved).frames) (sym is.stored)
-    (subst (λ (f : FrozenPuts). AreKeepable b.plan.geometry age (next_saved age f (stored_in image b).saved).frames) (sym is.frozen) keepable)
+    subst (λ (s : Stored). AreKeepable b.plan.geometry age (next_saved puts age (frozen_of mid.seen b k) s.saved).frames) (sym is.stored)
+    (subst (λ (f : FrozenPuts). AreKeepable b.plan.geometry age (next_saved puts age f (stored_in image b).saved).frames) (sym is.frozen) keepable)

@@ -4,7 +4,8 @@ use Rattle.migrator.proofs.Names.{◌==◌, ne_eqb, Frame, Disk, Extent, Checkpo
 use Rattle.migrator.proofs.Names.{AreSpelt, frames_read, Plan, IsApart, IsInside, half_extent, half_within, within_inside, read_same, spelt_same}
 use Rattle.migrator.proofs.Names.{frame_slot_entry, home_extent, directory_extent, Nowhere, place_at, Books, IsDurable, IsSoundOn, seen_by, stored_on}
 use Rattle.migrator.proofs.Names.{frozen_generation, working_generation, generation_after, Stored, saved_state, stored_in, IsRunning, IsKept, LeavesState}
-use Rattle.migrator.proofs.Names.{home_header, finished, MayAdopt, MaySave, SparesKept, SparesPuts, adopted, SparesFrames, Spares, Unwritten, mended}
+use Rattle.migrator.proofs.Names.{all_moved, home_header, MayAdopt, MaySave, SparesKept, SparesPuts, adopted, SparesFrames, Spares, Unwritten, mended}
+use Rattle.migrator.proofs.Names.{on_snapshots}
 use Rattle.migrator.proofs.PlacesApart.{at_home, frame_apart, home_apart}
 use Rattle.migrator.proofs.FrameSlots.{frame_slot_fits}
 use Rattle.migrator.proofs.Putting.{none_spares, half_spares, homes_spare, other_parity}
@@ -126,7 +127,7 @@ module _ (disk : Disk) (b : Books) (is : IsDurable disk b) (some : 0 < b.header.
   abbrev stored_as : List Frame → ℕ → Stored
   stored_as frames to_move = record (stored_in disk.seen b) { saved = record { geometry = b.plan.geometry; frames = frames; generation = b.header.generation; entries = 0; age = b.header.age }; to_move = to_move }
 
-  home_stored : stored_in disk.seen (with_header b (home_header b.header) []) ≡ finished (stored_in disk.seen b)
+  home_stored : stored_in disk.seen (with_header b (home_header b.header) []) ≡ on_snapshots all_moved (stored_in disk.seen b)
   home_stored =
       let zero' : 0 - 0 ≡ 0 = omega arith in
       ap (λ (fs : List Frame). stored_as fs (0 - 0)) frames_home ∙ ap (stored_as (frames_read disk.seen b.plan b.header.generation b.directory)) zero'
@@ -135,7 +136,7 @@ module _ (disk : Disk) (b : Books) (is : IsDurable disk b) (some : 0 < b.header.
   may_finish sound =
       may_adopt_idle disk b (home_header b.header) [] is none (may_save (sound_raw disk b (none_idle b b.unwritten is.unwritten none) sound)) home_kept spares_now spares_home_books
 
-  pub finished_stored : stored_on disk (adopted (home_header b.header) [] b) ≡ finished (stored_on disk b)
+  pub finished_stored : stored_on disk (adopted (home_header b.header) [] b) ≡ on_snapshots all_moved (stored_on disk b)
   finished_stored =
       ap (stored_on disk) (sym (idle_books disk b (home_header b.header) [] is none))
-      ∙ subst (λ (o : Option Unwritten). stored_in (mended disk.seen o) (with_header b (home_header b.header) []) ≡ finished (stored_in (mended disk.seen o) b)) (sym (none_idle b b.unwritten is.unwritten none)) home_stored
+      ∙ subst (λ (o : Option Unwritten). stored_in (mended disk.seen o) (with_header b (home_header b.header) []) ≡ on_snapshots all_moved (stored_in (mended disk.seen o) b)) (sym (none_idle b b.unwritten is.unwritten none)) home_stored

@@ -2,7 +2,7 @@
 use Rattle.migrator.proofs.Names.{◌≡◌, ℕ, ◌+◌, ◌<◌, ◌≤◌, Some, None, List, length, sym, ap, subst, ◌∙◌, arith, map, replicate, range_with_len, same_lists}
 use Rattle.migrator.proofs.Names.{length-replicate, get_or-replicate, length-map-range_with_len, get_or-map-range_with_len, Image, count_of, Plan, Place}
 use Rattle.migrator.proofs.Names.{Nowhere, Whole, place_at, Put, Absent, held_slot, sum_of, put_of, puts_in, ArePut, Books, frozen_generation}
-use Rattle.migrator.proofs.Names.{working_generation, generation_after, Stored, stored_in, IsRunning, IsKept, freezing}
+use Rattle.migrator.proofs.Names.{working_generation, generation_after, Stored, stored_in, IsRunning, IsKept, freezing_puts}
 use Rattle.migrator.proofs.Putting.{held_taken}
 
 pub length_puts : (image : Image) (p : Plan) (generation : ℕ) (ps : List Place) → length (puts_in image p generation ps) ≡ count_of p
@@ -55,7 +55,7 @@ module _ (size : ℕ) (image : Image) (b : Books) (k : ℕ) (none : b.size ≡ N
   abbrev stored_of : List Put → List Put → Stored
   stored_of working put = record (stored_in image b) { working = working; frozen = Some (record { put = put; size = k }) }
 
-  pub freeze_stored : stored_in image (frozen_books b k) ≡ freezing k (stored_in image b)
+  pub freeze_stored : stored_in image (frozen_books b k) ≡ freezing_puts k (stored_in image b)
   freeze_stored =
       ap (λ (puts : List Put). stored_of puts (puts_in image b.plan (frozen_generation b) b.working))
       (puts_blank image b.plan (b.header.generation + 1 + 1) (length (puts_in image b.plan (working_generation b) b.working)) b.frozen blank (length_puts image b.plan (working_generation b) b.working))

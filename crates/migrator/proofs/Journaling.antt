@@ -9,9 +9,9 @@ use Rattle.migrator.proofs.Names.{half_start, slot_here, slot_behind, length_rea
 use Rattle.migrator.proofs.Names.{IsShapeFor, page_bytes, WritesAt, slot_extent, directory_extent, slots_inside, Place, Nowhere, Torn, Whole, place_at, Put}
 use Rattle.migrator.proofs.Names.{Kept, slot_bytes, put_of, puts_in, ArePut, most, SavedFrames, Holds, LeavesSaved, LeavesEither, replaced_saved, with_words}
 use Rattle.migrator.proofs.Names.{journaled_saved, Books, IsDurable, IsSoundOn, frozen_generation, working_generation, generation_after, FrozenPuts, Stored}
-use Rattle.migrator.proofs.Names.{saved_state, frozen_of, stored_in, stored_on, IsRunning, IsKept, LeavesState, replaced, replaced_header, stored_after_journal}
-use Rattle.migrator.proofs.Names.{first_bytes, first_frame, beside_frame_slot, alone, IsHeaderOf, MayAdopt, MaySave, SparesKept, adopted, SparesFrames}
-use Rattle.migrator.proofs.Names.{maps_same, Unwritten, mended}
+use Rattle.migrator.proofs.Names.{journaled, replaced, saved_state, frozen_of, stored_in, stored_on, IsRunning, IsKept, LeavesState, replaced_header}
+use Rattle.migrator.proofs.Names.{on_snapshots, first_bytes, first_frame, beside_frame_slot, alone, IsHeaderOf, MayAdopt, MaySave, SparesKept, adopted}
+use Rattle.migrator.proofs.Names.{SparesFrames, maps_same, Unwritten, mended}
 use Rattle.model.specs.declared.object.Content.TheVariants as content
 use Rattle.model.specs.declared.object.Role.TheVariants as role
 use Rattle.migrator.proofs.Spared.{touches}
@@ -326,7 +326,7 @@ module _ (disk : Disk) (b : Books) (is : IsDurable disk b) (free : b.size ≡ No
     to_move = 1;
   }
 
-  replaced_stored : stored_in disk.seen (with_header b (replaced_header age b) (one_entry n)) ≡ replaced age n (first_frame disk.seen b n) (stored_in disk.seen b)
+  replaced_stored : stored_in disk.seen (with_header b (replaced_header age b) (one_entry n)) ≡ on_snapshots (replaced age n (first_frame disk.seen b n)) (stored_in disk.seen b)
   replaced_stored =
       ap (λ (puts : List Put). stored_as puts (option_map (frozen_of disk.seen (with_header b (replaced_header age b) (one_entry n))) b.size) (frames_read disk.seen b.plan again (one_entry n)))
       (puts_same disk.seen b.plan (working_generation (with_header b (replaced_header age b) (one_entry n))) (working_generation b) (after_half b.header.generation b.size) b.working)
@@ -341,10 +341,15 @@ module _ (disk : Disk) (b : Books) (is : IsDurable disk b) (free : b.size ≡ No
   pub may_replace : IsSoundOn disk b → MayAdopt disk b (replaced_header age b) (one_entry n)
   may_replace sound = may_adopt_idle disk b (replaced_header age b) (one_entry n) is free (may_save (sound_raw disk b (none_idle b b.unwritten is.unwritten free) sound)) replaced_kept spares_now replaced_spares
 
-  pub replaced_on : stored_on disk (adopted (replaced_header age b) (one_entry n) b) ≡ replaced age n (first_frame disk.seen b n) (stored_on disk b)
+  pub replaced_on : stored_on disk (adopted (replaced_header age b) (one_entry n) b) ≡ on_snapshots (replaced age n (first_frame disk.seen b n)) (stored_on disk b)
   replaced_on =
       ap (stored_on disk) (sym (idle_books disk b (replaced_header age b) (one_entry n) is free))
-      ∙ subst (λ (o : Option Unwritten). stored_in (mended disk.seen o) (with_header b (replaced_header age b) (one_entry n)) ≡ replaced age n (first_frame disk.seen b n) (stored_in (mended disk.seen o) b)) (sym (none_idle b b.unwritten is.unwritten free)) replaced_stored
+      ∙ subst (λ (o : Option Unwritten). stored_in (mended disk.seen o) (with_header b (replaced_header age b) (one_entry n)) ≡ on_snapshots (replaced age n (first_frame disk.seen b n)) (stored_in (mended disk.seen o) b)) (sym (none_idle b b.unwritten is.unwritten free)) replaced_stored
+
+-- no checkpoint is on its way
+pub size_none : (f : ℕ → FrozenPuts) (o : Option ℕ) → option_map f o ≡ None → o ≡ None
+size_none f None is = refl
+size_none f (Some k) is = absurd cc
 
 -- ---- the write, and then the commit
 
@@ -370,8 +375,8 @@ module _ (old mid : Disk) (b : Books) (n age : ℕ) (words : List ℕ) (stored :
   pub object_is : n < b.plan.geometry.nodes + b.plan.geometry.pages
   object_is = spelt.0.kind.1
 
-  pub journaled_is : replaced age n (first_frame mid.seen b n) (stored_on mid b) ≡ stored_after_journal age n words (stored_on old b)
-  journaled_is = ap (λ (f : Frame). replaced age n f (stored_on mid b)) found.1 ∙ ap (λ (s : Stored). replaced age n page s) stored
+  pub journaled_is : on_snapshots (replaced age n (first_frame mid.seen b n)) (stored_on mid b) ≡ on_snapshots (journaled age n words) (stored_on old b)
+  journaled_is = ap (λ (f : Frame). on_snapshots (replaced age n f) (stored_on mid b)) found.1 ∙ ap (λ (s : Stored). on_snapshots (replaced age n page) s) stored
 
   -- the run to its end
   pub either_run : (new : Disk) → mid.sectors ≡ old.sectors → LeavesSaved old mid (stored_on old b).saved

@@ -1,7 +1,7 @@
 -- Saved frames go home one after the other.
 use Rattle.migrator.proofs.Names.{◌≡◌, ◌⊎◌, ℕ, ◌+◌, ◌-◌, ◌<◌, ◌≤◌, Bool, true, false, refl, sym, ap, subst, ◌∙◌, inl, ⊎_elim, arith, ◌==◌, if◌then◌else◌}
 use Rattle.migrator.proofs.Names.{eq-eqb, ne_eqb, Image, Disk, LeavesOnly, leaves_weaker, leaves_on, SavedFrames, home_saved, Holds, LeavesEither, Books}
-use Rattle.migrator.proofs.Names.{IsSoundOn, Stored, stored_on, MovedBy, IsLesser, finished, moved_saved, moved}
+use Rattle.migrator.proofs.Names.{all_moved, moved_saved, moved, IsSoundOn, Stored, stored_on, MovedBy, IsLesser, on_snapshots, snapshots_in}
 use Rattle.migrator.proofs.Moving.{moved_books, goes_trans, goes_none}
 
 module _ (disk : Disk) (b : Books) (only_now : (c : Image) → disk.left_since disk.moment c → disk.may_leave c) where
@@ -45,10 +45,10 @@ home_same s none = ap (λ (n : ℕ). record { geometry = s.geometry; frames = s.
 saved_if : (t : Bool) (test : Bool) (a b : SavedFrames) → test ≡ t → (if test then a else b) ≡ (if t then a else b)
 saved_if t test a b e = ap (λ (x : Bool). if x then a else b) e
 
-reaches : (n : ℕ) (s : Stored) → s.to_move ≤ n → moved_saved n s ≡ home_saved s.saved
+reaches : (n : ℕ) (s : Stored) → s.to_move ≤ n → moved_saved n (snapshots_in s) ≡ home_saved s.saved
 reaches n s le = saved_if true (s.to_move - n == 0) (home_saved s.saved) s.saved (eq-eqb (s.to_move - n) 0 (omega (arith, le)))
 
-stops : (n : ℕ) (s : Stored) → n < s.to_move → moved_saved n s ≡ s.saved
+stops : (n : ℕ) (s : Stored) → n < s.to_move → moved_saved n (snapshots_in s) ≡ s.saved
 stops n s lt = saved_if false (s.to_move - n == 0) (home_saved s.saved) s.saved (ne_eqb (s.to_move - n) 0 (λ none. omega (arith, lt, none)))
 
 abbrev stored_with : Stored → SavedFrames → ℕ → Stored
@@ -59,10 +59,10 @@ move_left entries m count some few lesser = ⊎_elim (λ e. omega (arith, e, few
 
 -- a crash while some go home leaves what is saved
 pub part_moments : (old mid : Disk) (a b : Books) (count k : ℕ) → MovedBy old mid a b k → IsSoundOn old a
-    → LeavesEither old mid (stored_on old a).saved (moved_saved count (stored_on old a))
+    → LeavesEither old mid (stored_on old a).saved (moved_saved count (snapshots_in (stored_on old a)))
 part_moments old mid a b count k so_far sound =
     leaves_weaker {old = old} {new = mid} {P = λ c. Holds old.sectors c (stored_on old a).saved}
-    (λ c. Holds old.sectors c (stored_on old a).saved ⊎ Holds old.sectors c (moved_saved count (stored_on old a))) (λ c is. inl is) (so_far.goes_on.any_moment sound)
+    (λ c. Holds old.sectors c (stored_on old a).saved ⊎ Holds old.sectors c (moved_saved count (snapshots_in (stored_on old a)))) (λ c is. inl is) (so_far.goes_on.any_moment sound)
 
 module _ (old mid : Disk) (a b : Books) (count some : ℕ) (few : a.moved ≤ a.header.entries)
     (lesser : IsLesser some count (a.header.entries - a.moved)) (so_far : MovedBy old mid a b some) where
@@ -70,14 +70,14 @@ module _ (old mid : Disk) (a b : Books) (count some : ℕ) (few : a.moved ≤ a.
   left_is = move_left a.header.entries a.moved count some few lesser
 
   -- not all is home yet, or all was
-  pub left_stored : (a.header.entries ≡ 0) ⊎ (b.moved < b.header.entries) → stored_on mid b ≡ moved count (stored_on old a)
+  pub left_stored : (a.header.entries ≡ 0) ⊎ (b.moved < b.header.entries) → stored_on mid b ≡ on_snapshots (moved count) (stored_on old a)
   left_stored why =
       so_far.stored ∙ ap (λ (n : ℕ). stored_with (stored_on old a) (stored_on old a).saved n) left_is
       ∙ ap (λ (s : SavedFrames). stored_with (stored_on old a) s (a.header.entries - a.moved - count)) (sym saved_is) where
         low : a.moved + some < a.header.entries → count < a.header.entries - a.moved
         low lt = ⊎_elim (λ e. omega (arith, e, lt)) (λ e. absurd (omega (arith, e, lt, few))) lesser.2
 
-        saved_is : moved_saved count (stored_on old a) ≡ (stored_on old a).saved
+        saved_is : moved_saved count (snapshots_in (stored_on old a)) ≡ (stored_on old a).saved
         saved_is =
             ⊎_elim (λ none. reaches count (stored_on old a) (omega (arith, none)) ∙ home_same (stored_on old a).saved none)
             (λ lt. stops count (stored_on old a) (low (subst (λ (x : Books). x.moved < x.header.entries) so_far.books lt))) why
@@ -85,7 +85,7 @@ module _ (old mid : Disk) (a b : Books) (count some : ℕ) (few : a.moved ≤ a.
   pub left_number : a.header.entries - a.moved - some ≡ a.header.entries - a.moved - count
   left_number = omega (arith, left_is)
 
-  pub left_moments : IsSoundOn old a → LeavesEither old mid (stored_on old a).saved (moved_saved count (stored_on old a))
+  pub left_moments : IsSoundOn old a → LeavesEither old mid (stored_on old a).saved (moved_saved count (snapshots_in (stored_on old a)))
   left_moments sound = part_moments old mid a b count some so_far sound
 
   -- all is home
@@ -93,22 +93,22 @@ module _ (old mid : Disk) (a b : Books) (count some : ℕ) (few : a.moved ≤ a.
     all_old : a.moved + some ≡ a.header.entries
     all_old = subst (λ (x : Books). x.moved ≡ x.header.entries) so_far.books all
 
-    saved_home : moved_saved count (stored_on old a) ≡ home_saved (stored_on old a).saved
+    saved_home : moved_saved count (snapshots_in (stored_on old a)) ≡ home_saved (stored_on old a).saved
     saved_home = reaches count (stored_on old a) (omega (arith, all_old, lesser.0))
 
     pub all_number : 0 ≡ a.header.entries - a.moved - count
     all_number = omega (arith, all_old, lesser.0)
 
-    pub all_stored : (new : Disk) (c : Books) → stored_on new c ≡ finished (stored_on mid b) → stored_on new c ≡ moved count (stored_on old a)
+    pub all_stored : (new : Disk) (c : Books) → stored_on new c ≡ on_snapshots all_moved (stored_on mid b) → stored_on new c ≡ on_snapshots (moved count) (stored_on old a)
     all_stored new c is =
-        is ∙ ap finished so_far.stored ∙ ap (λ (s : SavedFrames). stored_with (stored_on old a) s 0) (sym saved_home)
-        ∙ ap (λ (n : ℕ). stored_with (stored_on old a) (moved_saved count (stored_on old a)) n) all_number
+        is ∙ ap (on_snapshots all_moved) so_far.stored ∙ ap (λ (s : SavedFrames). stored_with (stored_on old a) s 0) (sym saved_home)
+        ∙ ap (λ (n : ℕ). stored_with (stored_on old a) (moved_saved count (snapshots_in (stored_on old a))) n) all_number
 
     pub all_moments : (new : Disk) → IsSoundOn old a → LeavesEither mid new (stored_on mid b).saved (home_saved (stored_on mid b).saved)
-        → LeavesEither old new (stored_on old a).saved (moved_saved count (stored_on old a))
+        → LeavesEither old new (stored_on old a).saved (moved_saved count (snapshots_in (stored_on old a)))
     all_moments new sound run =
         leaves_on {old = old} {mid = mid} {new = new}
-        {P = λ c. Holds old.sectors c (stored_on old a).saved ⊎ Holds old.sectors c (moved_saved count (stored_on old a))} (left_moments sound)
+        {P = λ c. Holds old.sectors c (stored_on old a).saved ⊎ Holds old.sectors c (moved_saved count (snapshots_in (stored_on old a)))} (left_moments sound)
         (subst (λ (s : SavedFrames). LeavesOnly mid new (λ c. Holds old.sectors c (stored_on old a).saved ⊎ Holds old.sectors c s)) (sym saved_home)
         (subst (λ (k : ℕ). LeavesOnly mid new (λ c. Holds k c (stored_on old a).saved ⊎ Holds k c (home_saved (stored_on old a).saved))) so_far.goes_on.size
         (subst (λ (s : Stored). LeavesEither mid new s.saved (home_saved s.saved)) so_far.stored run)))

@@ -2,6 +2,7 @@
 pub use Rattle.checkpoint.proofs.Lists.{maps_same}
 pub use Rattle.checkpoint.specs.Opened.{IsBadFor, OnlyReads}
 pub use Rattle.checkpoint.specs.Saved.{Holds, LeavesEither, LeavesSaved, SavedFrames, home_saved, journaled_saved, kept_of, most, replaced_saved, with_words}
+pub use Rattle.checkpoint.specs.Snapshots.{MayCommit, all_moved, committed, journaled, moved, moved_saved, next_saved, replaced}
 pub use Rattle.checkpoint.specs.declared.open_fault.OpenFault.{OpenFault}
 pub use Rattle.ckpt_log.proofs.BesideHeaders.{next_follows}
 pub use Rattle.ckpt_log.proofs.Denoted.{frames_behind, new_denoted, old_denoted}
@@ -9,7 +10,6 @@ pub use Rattle.ckpt_log.proofs.Places.{directories_inside, frames_in_slots, halv
 pub use Rattle.ckpt_log.proofs.SavedStates.{same_saved}
 pub use Rattle.ckpt_log.specs.Commit.{CommitsOne, HasNew, IsOld, Precedes, header_sector}
 pub use Rattle.ckpt_log.specs.CommitLaws.{HomesAreBehind, IsReady}
-pub use Rattle.ckpt_log.specs.Log.{HasNoCommitted}
 pub use Rattle.ckpt_log.specs.Places.{directory_extent, place_extent, slot_extent}
 pub use Rattle.ckpt_log.specs.SavedSectors.{SameFrom, SameWhereRead}
 pub use Rattle.device.proofs.Images.{agrees_is, elsewhere_on, elsewhere_same}
@@ -91,10 +91,10 @@ pub use Rattle.std.specs.Prelude.{IfErr, IfOk, IsErr, OnErr, OnOk, if◌then◌e
 pub use Rattle.std.specs.Vec.{vec_capacity}
 pub use Rattle.migrator.specs.Completed.{AreComplete, IsComplete, IsFilled, Keeps, KeepsOne}
 pub use Rattle.migrator.specs.Durable.{DurableState, FrozenPuts, GoesOn, GoesOnDisk, HasUnwritten, IsDurable, IsHome, IsKept, IsLesser, IsRunning, IsSoundOn}
-pub use Rattle.migrator.specs.Durable.{LeavesState, MayCommit, MayHaveUnwritten, MovedBy, ReadsStore, Stored, below_at, finished, first_bytes, first_frame}
-pub use Rattle.migrator.specs.Durable.{freezing, frozen_generation, frozen_of, frozen_put, generation_after, home_header, is_sound, left_of, moved, moved_saved}
-pub use Rattle.migrator.specs.Durable.{newest, next_header, next_saved, replaced, replaced_header, saved_state, seen_by, stored_after_commit}
-pub use Rattle.migrator.specs.Durable.{stored_after_journal, stored_in, stored_of, stored_on, with_frozen, with_put, with_working, working_generation}
+pub use Rattle.migrator.specs.Durable.{LeavesState, MayHaveUnwritten, MayJournal, MovedBy, ReadsStore, Stored, below_at, first_bytes, first_frame}
+pub use Rattle.migrator.specs.Durable.{freezing_puts, frozen_generation, frozen_of, frozen_put, generation_after, home_header, is_sound, left_of, newest}
+pub use Rattle.migrator.specs.Durable.{next_header, on_snapshots, puts, replaced_header, saved_state, seen_by, snapshots_in, stored_in, stored_of, stored_on}
+pub use Rattle.migrator.specs.Durable.{with_frozen, with_put, with_working, working_generation}
 pub use Rattle.migrator.specs.Gathered.{HasZerosAt, IsCopied, IsFirst, IsGathered}
 pub use Rattle.migrator.specs.Headers.{IsHeaderOf}
 pub use Rattle.migrator.specs.Mended.{IfUnwritten, IsSpeltIn, IsUnwritten, Unwritten, mended, unwritten_of}

@@ -1,9 +1,9 @@
 -- A durable store: what it keeps in memory, and what that and the device make.
-use Rattle.migrator.specs.Names.{⊤, ◌≡◌, ◌⊎◌, ◌==◌, if◌then◌else◌, ℕ, ◌+◌, ◌-◌, ◌^◌, ◌<◌, ◌≤◌, Option, Some, None, List}
-use Rattle.migrator.specs.Names.{length, option_map, slice_set, replicate, Frame, frame_at, AreKeepable, Image, Disk}
-use Rattle.migrator.specs.Names.{Agrees, Narrows, Peeks, Entry, CheckpointHeader, IsDirectory, entry_at, IsHeader}
-use Rattle.migrator.specs.Names.{Packed, shape_of, SavedState, Encodes, slot_sector, AreSpelt, state_in, Plan, IsPlan}
-use Rattle.migrator.specs.Names.{SavedFrames, kept_of, home_saved, LeavesSaved, replaced_saved, with_words}
+use Rattle.migrator.specs.Names.{⊤, ◌≡◌, ◌⊎◌, ℕ, ◌+◌, ◌-◌, ◌^◌, ◌<◌, ◌≤◌, Option, Some, None, List, length, option_map}
+use Rattle.migrator.specs.Names.{slice_set, replicate, Frame, frame_at, Image, Disk, Agrees, Narrows, Peeks, Entry}
+use Rattle.migrator.specs.Names.{CheckpointHeader, IsDirectory, entry_at, IsHeader, Packed, shape_of, SavedState}
+use Rattle.migrator.specs.Names.{Encodes, slot_sector, AreSpelt, state_in, Plan, IsPlan, SavedFrames, kept_of}
+use Rattle.migrator.specs.Names.{LeavesSaved, FrozenView, Snapshots, freezing}
 use Rattle.model.specs.declared.object.Role.TheVariants as role
 use Rattle.migrator.specs.Gathered.{IsCopied}
 use Rattle.migrator.specs.Mended.{Unwritten, mended}
@@ -49,6 +49,22 @@ pub record Stored : Type 0 where
   pub frozen : Option FrozenPuts
   pub saved : SavedFrames
   pub to_move : ℕ
+
+-- what a frozen state saves, over the frames saved before
+abbrev pub puts : FrozenView FrozenPuts
+puts = record { frames = λ (f : FrozenPuts) (fs : List Frame). overlaid f.put fs; size = λ (f : FrozenPuts). f.size; left = left_of }
+
+-- what is kept beside the frames put since, and a stage of a checkpoint, which leaves these alone
+abbrev pub snapshots_in : Stored → Snapshots FrozenPuts
+snapshots_in s = record { frozen = s.frozen; saved = s.saved; to_move = s.to_move }
+
+abbrev pub on_snapshots : (Snapshots FrozenPuts → Snapshots FrozenPuts) → Stored → Stored
+on_snapshots stage s = record {
+  working = s.working;
+  frozen = (stage (snapshots_in s)).frozen;
+  saved = (stage (snapshots_in s)).saved;
+  to_move = (stage (snapshots_in s)).to_move;
+}
 
 abbrev pub saved_state : Image → Books → SavedState
 saved_state image b = state_in image b.plan b.header b.directory
@@ -155,27 +171,10 @@ module _ {D : Type 0} (disk : D → Disk) where
   is_sound s = IsSoundOn (disk s.beneath) s.books
 
 -- what was put is frozen, and nothing is put since
-abbrev pub freezing : ℕ → Stored → Stored
-freezing size s = record {
-  working = replicate (length s.working) Absent;
-  frozen = Some (record { put = s.working; size = size });
-  saved = s.saved;
-  to_move = s.to_move;
-}
-
--- what is saved once the frozen frames are, at an age
-abbrev pub next_saved : ℕ → FrozenPuts → SavedFrames → SavedFrames
-next_saved age f s = record { geometry = s.geometry; frames = overlaid f.put s.frames; generation = s.generation + 1; entries = f.size; age = age }
-
--- frozen frames may be saved at an age, once all of them were put
-pub record MayCommit (age : ℕ) (f : FrozenPuts) (s : SavedFrames) : Type 0 where
-  pub later : s.age < age
-  pub most : age ≤ 2 ^ 62
-  pub keepable : left_of f ≡ 0 → AreKeepable s.geometry age (next_saved age f s).frames
-
--- they are saved
-abbrev pub stored_after_commit : ℕ → FrozenPuts → Stored → Stored
-stored_after_commit age f s = record { working = s.working; frozen = None; saved = next_saved age f s.saved; to_move = f.size }
+abbrev pub freezing_puts : ℕ → Stored → Stored
+freezing_puts size s =
+    let f : FrozenPuts = record { put = s.working; size = size } in
+    record (on_snapshots (freezing f) s) { working = replicate (length s.working) Absent }
 
 -- the header that is committed next, at an age
 abbrev pub next_header : ℕ → Books → CheckpointHeader
@@ -206,17 +205,6 @@ IsLesser some count left = (some ≤ count) × (some ≤ left) × ((some ≡ cou
 abbrev pub home_header : CheckpointHeader → CheckpointHeader
 home_header h = record { sequence = h.sequence + 1; generation = h.generation; entries = 0; age = h.age }
 
--- all is home
-abbrev pub finished : Stored → Stored
-finished s = record { working = s.working; frozen = s.frozen; saved = home_saved s.saved; to_move = 0 }
-
--- what is saved, and what a store holds, after n more of the saved objects went home
-abbrev pub moved_saved : ℕ → Stored → SavedFrames
-moved_saved n s = if s.to_move - n == 0 then home_saved s.saved else s.saved
-
-abbrev pub moved : ℕ → Stored → Stored
-moved n s = record { working = s.working; frozen = s.frozen; saved = moved_saved n s; to_move = s.to_move - n }
-
 -- the device was read, and nothing was written
 pub record ReadsStore {D : Type 0} (disk : D → Disk) (old new : DurableState D) : Type 0 where
   pub books : new.books ≡ old.books
@@ -228,13 +216,7 @@ pub record ReadsStore {D : Type 0} (disk : D → Disk) (old new : DurableState D
 
 -- ---- one object is saved anew
 
-abbrev pub replaced : ℕ → ℕ → Frame → Stored → Stored
-replaced age n f s = record { working = s.working; frozen = s.frozen; saved = replaced_saved age n f s.saved; to_move = 1 }
-
-abbrev pub stored_after_journal : ℕ → ℕ → List ℕ → Stored → Stored
-stored_after_journal age n words s = replaced age n (with_words words (frame_at s.saved.frames n)) s
-
--- it may be at an age, where a page is saved
+-- a page may be at an age
 pub record MayJournal (age n : ℕ) (s : SavedFrames) : Type 0 where
   pub page : (frame_at s.frames n).header.role ≡ role.Page
   pub later : s.age < age

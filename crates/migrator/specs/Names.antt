@@ -1,7 +1,7 @@
 -- The names of other crates that the definitions here cite.
 pub use Rattle.checkpoint.specs.Opened.{OnlyReads}
-pub use Rattle.checkpoint.specs.Saved.{Holds, LeavesSaved, SavedFrames, home_saved, kept_of, most, replaced_saved}
-pub use Rattle.checkpoint.specs.Saved.{with_words}
+pub use Rattle.checkpoint.specs.Saved.{Holds, LeavesSaved, SavedFrames, kept_of, most}
+pub use Rattle.checkpoint.specs.Snapshots.{FrozenView, Snapshots, freezing}
 pub use Rattle.checkpoint.specs.declared.open_fault.OpenFault.{OpenFault}
 pub use Rattle.ckpt_log.specs.Commit.{header_sector}
 pub use Rattle.ckpt_log.specs.Places.{directory_extent, place_extent}
@@ -31,11 +31,10 @@ pub use Rattle.layout.specs.declared.header.CheckpointHeader.{CheckpointHeader}
 pub use Rattle.layout.specs.declared.shape.Shape.{Shape}
 pub use Rattle.layout.specs.declared.shape.Shape.TheVariants.{Packed}
 pub use Rattle.model.specs.Frame.{frame_at}
-pub use Rattle.model.specs.Keepable.{AreKeepable}
 pub use Rattle.model.specs.declared.frame.Frame.{Frame}
 pub use Rattle.model.specs.declared.frame.ObjectHeader.{ObjectHeader}
 pub use Rattle.model.specs.declared.geometry.Geometry.{Geometry}
 pub use Rattle.std.specs.List.{range_with_len}
 pub use Rattle.std.specs.Prelude.{Bool, List, None, Option, Some, [], false, if◌then◌else◌, length, map, nat_le, nat_lt}
 pub use Rattle.std.specs.Prelude.{option_map, replicate, slice_index_or, slice_set, take, true, vec_capacity, ℕ, ⊤}
-pub use Rattle.std.specs.Prelude.{◌&&◌, ◌*◌, ◌+◌, ◌-◌, ◌<◌, ◌==◌, ◌^◌, ◌∷◌, ◌≡◌, ◌≢◌, ◌≤◌, ◌⊎◌}
+pub use Rattle.std.specs.Prelude.{◌&&◌, ◌*◌, ◌+◌, ◌-◌, ◌<◌, ◌^◌, ◌∷◌, ◌≡◌, ◌≢◌, ◌≤◌, ◌⊎◌}

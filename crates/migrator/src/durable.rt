@@ -5,15 +5,15 @@ ghost use Rattle.device.specs.Calls.{Counts};
 ghost use Rattle.frame_io.specs.Frames.{IsObject};
 ghost use Rattle.migrator.specs.Put.{Broken, Kept, held_slot, sum_of, HasFreeSlot};
 ghost use Rattle.checkpoint.specs.Saved.{most, LeavesOneOf};
-ghost use Rattle.migrator.specs.Durable.{FrozenPuts, left_of, stored_of, is_sound, next_saved, stored_after_commit};
-ghost use Rattle.migrator.specs.Durable.{MayCommit, with_working, with_frozen, freezing, GoesOn};
+ghost use Rattle.checkpoint.specs.Snapshots.{committed, next_saved, MayCommit};
+ghost use Rattle.migrator.specs.Durable.{FrozenPuts, left_of, stored_of, is_sound, with_working, with_frozen, GoesOn};
+ghost use Rattle.migrator.specs.Durable.{puts, on_snapshots, freezing_puts};
 ghost use Rattle.checkpoint.specs.Refused.{IsPutAnswer, IsFreezeAnswer, IsCommitAnswer, IsRefused};
 
 use crate::books::Books;
 use crate::directory::Directory;
-use checkpoint::CheckpointFault;
 use device::{Device, Failed};
-use model::{Cap, Content, ObjectHeader};
+use model::{Cap, Content, ObjectHeader, Refusal};
 use std::marker::Model;
 
 mod access;
@@ -72,7 +72,7 @@ impl<D: Device> Durable<D> {
     }
 
     /// Puts the frame of an object for the checkpoint on its way. It is written into a slot of its
-    /// own in the half of the log that nothing saved lies in. It returns `Failed` exactly where the
+    /// own in the half of the log that nothing saved lies in. It returns `Fault` exactly where the
     /// device failed; then the slot may hold any bytes. It returns `NoCheckpoint` exactly where
     /// no checkpoint is on its way.
     pub fn put_frozen(
@@ -80,7 +80,7 @@ impl<D: Device> Durable<D> {
         number: u64,
         header: ObjectHeader,
         content: &Content<Cap>,
-    ) -> Result<(), CheckpointFault>
+    ) -> Result<(), Refusal>
         requires object { IsObject self.old.books.plan.geometry number }
         requires keepable { IsKeepable self.old.books.plan.geometry most number
             (record { header = header; content = content.now }) }
@@ -96,13 +96,13 @@ impl<D: Device> Durable<D> {
         ensures goes_on { GoesOn D.disk self.old self.new }
     {
         match self.books.size {
-            None => Err(CheckpointFault::NoCheckpoint),
+            None => Err(Refusal::NoCheckpoint),
             Some(size) => match self
                 .books
                 .put_running(&mut self.device, size, number, header, content)
             {
                 Ok(()) => Ok(()),
-                Err(Failed) => Err(CheckpointFault::Failed),
+                Err(Failed) => Err(Refusal::Fault),
             },
         }
     }
@@ -111,11 +111,11 @@ impl<D: Device> Durable<D> {
     /// `size` objects, those that were put among them. It makes no device call. It is refused by
     /// `CheckpointRunning` exactly where one is on its way, and else by `MigrationPending` exactly
     /// where something saved isn't home.
-    pub fn freeze(&mut self, size: u64) -> Result<(), CheckpointFault>
+    pub fn freeze(&mut self, size: u64) -> Result<(), Refusal>
         requires enough { sum_of held_slot (stored_of D.disk self.old).working ≤ size }
         requires few { size ≤ self.old.books.plan.geometry.log }
         ensures frozen { OnOk result
-            (stored_of D.disk self.new ≡ freezing size (stored_of D.disk self.old)) }
+            (stored_of D.disk self.new ≡ freezing_puts size (stored_of D.disk self.old)) }
         ensures unchanged { OnErr result (self.new ≡ self.old) }
         ensures answer { IsFreezeAnswer (option_map left_of (stored_of D.disk self.old).frozen)
             (stored_of D.disk self.old).saved.entries result }
@@ -124,10 +124,10 @@ impl<D: Device> Durable<D> {
         ensures sound { is_sound D.disk self.old → is_sound D.disk self.new }
     {
         if self.books.size.is_some() {
-            return Err(CheckpointFault::CheckpointRunning);
+            return Err(Refusal::CheckpointRunning);
         }
         if self.books.header.entries != 0 {
-            return Err(CheckpointFault::MigrationPending);
+            return Err(Refusal::MigrationPending);
         }
         self.books.freeze(size);
         Ok(())
@@ -138,15 +138,15 @@ impl<D: Device> Durable<D> {
     ///
     /// It is refused by `NoCheckpoint` exactly where none is on its way, and else by
     /// `NotStable(left)` exactly where `left` of its frames are still to be put. It returns
-    /// `Failed` exactly where the device failed; then a crash leaves what was saved before, or what
+    /// `Fault` exactly where the device failed; then a crash leaves what was saved before, or what
     /// the frozen frames make of it.
-    pub fn commit(&mut self, age: u64) -> Result<u64, CheckpointFault>
+    pub fn commit(&mut self, age: u64) -> Result<u64, Refusal>
         requires sound { is_sound D.disk self.old }
         requires ready { (f : FrozenPuts) → (stored_of D.disk self.old).frozen ≡ Some f
-            → MayCommit age f (stored_of D.disk self.old).saved }
+            → MayCommit puts age f (stored_of D.disk self.old).saved }
         ensures committed { (f : FrozenPuts) → (stored_of D.disk self.old).frozen ≡ Some f
             → OnOk result (stored_of D.disk self.new
-            ≡ stored_after_commit age f (stored_of D.disk self.old)) }
+            ≡ on_snapshots (committed puts age f) (stored_of D.disk self.old)) }
         ensures stable { OnOk result ((f : FrozenPuts) × ((stored_of D.disk self.old).frozen ≡ Some f)
             × (left_of f ≡ 0)) }
         ensures unchanged { OnErr result (stored_of D.disk self.new ≡ stored_of D.disk self.old) }
@@ -155,25 +155,25 @@ impl<D: Device> Durable<D> {
         ensures answer { IsCommitAnswer (D.disk self.old.beneath) (D.disk self.new.beneath)
             (option_map left_of (stored_of D.disk self.old).frozen)
             (stored_of D.disk self.old).saved.generation result }
-        ensures sound { IsErrOf result CheckpointFault.Failed ⊎ is_sound D.disk self.new }
+        ensures sound { IsErrOf result Refusal.Fault ⊎ is_sound D.disk self.new }
         ensures size { (D.disk self.new.beneath).sectors ≡ (D.disk self.old.beneath).sectors }
         ensures any_moment { LeavesOneOf (D.disk self.old.beneath) (D.disk self.new.beneath)
             (stored_of D.disk self.old).saved
-            (option_map (λ f. next_saved age f (stored_of D.disk self.old).saved)
+            (option_map (λ f. next_saved puts age f (stored_of D.disk self.old).saved)
             (stored_of D.disk self.old).frozen) }
     {
         let Some(size) = self.books.size else {
-            return Err(CheckpointFault::NoCheckpoint);
+            return Err(Refusal::NoCheckpoint);
         };
         let left = size - self.books.frozen.whole();
         if left != 0 {
-            return Err(CheckpointFault::NotStable(left));
+            return Err(Refusal::NotStable(left));
         }
         let Ok(()) = self
             .books
             .commit(&mut self.device, &mut self.spare, size, age)
         else {
-            return Err(CheckpointFault::Failed);
+            return Err(Refusal::Fault);
         };
         Ok(self.books.header.generation)
     }

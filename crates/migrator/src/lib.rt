@@ -14,7 +14,7 @@ mod read;
 mod table;
 mod turn;
 
-pub use checkpoint::{Checkpoint, CheckpointFault, OpenFault, OpenRefused};
+pub use checkpoint::{Checkpoint, OpenFault, OpenRefused};
 pub use durable::{Durable, Opened};
 pub use intake::Intake;
 pub use read::superblock_of;

@@ -12,7 +12,8 @@ use Rattle.model.specs.Frame.{frame_at, blank_frame}
 use Rattle.model.specs.Keepable.{IsKeepable, AreKeepable, AreKeptWords}
 use Rattle.capability.proofs.Keeping.{frame_later}
 use Rattle.migrator.specs.Put.{Put, Absent, Broken, Kept, put_at, put_or, held_slot, sum_of, overlaid}
-use Rattle.migrator.specs.Durable.{FrozenPuts, Stored, with_working, with_frozen, with_put, freezing, next_saved, stored_after_commit, moved, moved_saved}
+use Rattle.checkpoint.specs.Snapshots.{committed, next_saved, moved_saved, moved}
+use Rattle.migrator.specs.Durable.{FrozenPuts, Stored, with_working, with_frozen, with_put, puts, on_snapshots, freezing_puts, snapshots_in}
 use Rattle.checkpoint.specs.Saved.{SavedFrames, home_saved}
 use Rattle.migrator_tests.specs.Rig.{AreLight, IsLight, IsLightFor, IsLoad}
 
@@ -135,7 +136,7 @@ module _ (g : Geometry) (working frozen size : ℕ) (s : Stored) (is : IsLoad g 
   pub frozen_broken : (n : ℕ) → IsLoad g working (frozen + 1) size (with_frozen n Broken s)
   frozen_broken n = record { saved = is.saved; working = is.working; frozen = frozen_by s.frozen is.frozen Broken n (λ ps light. light_broken g frozen ps n light) }
 
-  pub frozen_now : (k : ℕ) → IsLoad g 0 working k (freezing k s)
+  pub frozen_now : (k : ℕ) → IsLoad g 0 working k (freezing_puts k s)
   frozen_now k = record {
     saved = is.saved;
     working = none_light g (length s.working) 0;
@@ -145,10 +146,10 @@ module _ (g : Geometry) (working frozen size : ℕ) (s : Stored) (is : IsLoad g 
   }
 
   -- what is saved next can be kept
-  pub next_keepable : (age : ℕ) (f : FrozenPuts) → s.frozen ≡ Some f → s.saved.age < age → AreKeepable g age (next_saved age f s.saved).frames
+  pub next_keepable : (age : ℕ) (f : FrozenPuts) → s.frozen ≡ Some f → s.saved.age < age → AreKeepable g age (next_saved puts age f s.saved).frames
   next_keepable age f e later = overlaid_keepable g s.saved.age age f.put s.saved.frames (omega (arith, later)) (is.frozen f e).put.light is.saved
 
-  pub committed_now : (age : ℕ) (f : FrozenPuts) → s.frozen ≡ Some f → s.saved.age < age → (k : ℕ) → IsLoad g working 0 k (stored_after_commit age f s)
+  pub committed_now : (age : ℕ) (f : FrozenPuts) → s.frozen ≡ Some f → s.saved.age < age → (k : ℕ) → IsLoad g working 0 k (on_snapshots (committed puts age f) s)
   committed_now age f e later k = record { saved = next_keepable age f e later; working = is.working; frozen = λ h none. absurd (none_frozen h none) }
 
   moved_to : (k : ℕ) (saved : SavedFrames) → AreKeepable g saved.age saved.frames → IsLoad g working frozen size (record { working = s.working; frozen = s.frozen; saved = saved; to_move = k })
@@ -158,8 +159,8 @@ module _ (g : Geometry) (working frozen size : ℕ) (s : Stored) (is : IsLoad g 
   saved_home true = is.saved
   saved_home false = is.saved
 
-  pub moved_now : (n : ℕ) → IsLoad g working frozen size (moved n s)
-  moved_now n = moved_to (s.to_move - n) (moved_saved n s) (saved_home (s.to_move - n == 0))
+  pub moved_now : (n : ℕ) → IsLoad g working frozen size (on_snapshots (moved n) s)
+  moved_now n = moved_to (s.to_move - n) (moved_saved n (snapshots_in s)) (saved_home (s.to_move - n == 0))
 
   pub moved_some : (k : ℕ) → IsLoad g working frozen size (record s { to_move = k })
   moved_some k = moved_to k s.saved is.saved

@@ -10,8 +10,9 @@ use Rattle.layout.specs.Image.{SavedState}
 use Rattle.layout.specs.Superblock.{Plan}
 use Rattle.migrator.specs.Put.{Put, Absent, Broken, Kept}
 use Rattle.checkpoint.specs.Saved.{SavedFrames, Holds}
-use Rattle.migrator.specs.Durable.{DurableState, FrozenPuts, Stored, seen_of, stored_of, is_sound, with_working, with_frozen, freezing, next_saved}
-use Rattle.migrator.specs.Durable.{stored_after_commit, stored_after_journal, moved, saved_state, GoesOn, ReadsStore}
+use Rattle.checkpoint.specs.Snapshots.{committed, journaled, next_saved, moved}
+use Rattle.migrator.specs.Durable.{DurableState, FrozenPuts, Stored, seen_of, stored_of, is_sound, with_working, with_frozen, saved_state, GoesOn, ReadsStore}
+use Rattle.migrator.specs.Durable.{puts, on_snapshots, freezing_puts}
 use Rattle.migrator.specs.Opened.{OpensDurable}
 use Rattle.migrator_tests.specs.Rig.{IsLight, IsLightFor, IsLoad, IsRig}
 use Rattle.migrator_tests.proofs.Loads.{none_light, none_frozen, working_kept, working_broken, frozen_kept, frozen_broken, frozen_now, next_keepable}
@@ -72,22 +73,22 @@ module _ {D : Type 0} (disk : D → Disk) (goes_on : Bool) (slots frozen_slots s
       rig_by new goes_on slots (frozen_slots + 1) size (with_frozen n Broken (stored_of disk old)) goes.plan (λ still. goes.sound (rig.sound still)) broken
       (frozen_broken old.books.plan.geometry slots frozen_slots size (stored_of disk old) rig.load n)
 
-  pub rig_frozen : (new : DurableState D) (k : ℕ) → stored_of disk new ≡ freezing k (stored_of disk old) → new.books.plan ≡ old.books.plan → (is_sound disk old → is_sound disk new)
+  pub rig_frozen : (new : DurableState D) (k : ℕ) → stored_of disk new ≡ freezing_puts k (stored_of disk old) → new.books.plan ≡ old.books.plan → (is_sound disk old → is_sound disk new)
       → IsRig disk goes_on 0 slots k new
   rig_frozen new k frozen plan sound =
-      rig_by new goes_on 0 slots k (freezing k (stored_of disk old)) plan (λ still. sound (rig.sound still)) frozen (frozen_now old.books.plan.geometry slots frozen_slots size (stored_of disk old) rig.load k)
+      rig_by new goes_on 0 slots k (freezing_puts k (stored_of disk old)) plan (λ still. sound (rig.sound still)) frozen (frozen_now old.books.plan.geometry slots frozen_slots size (stored_of disk old) rig.load k)
 
   pub rig_keepable : (age : ℕ) (f : FrozenPuts) → (stored_of disk old).frozen ≡ Some f → (stored_of disk old).saved.age < age
-      → AreKeepable old.books.plan.geometry age (next_saved age f (stored_of disk old).saved).frames
+      → AreKeepable old.books.plan.geometry age (next_saved puts age f (stored_of disk old).saved).frames
   rig_keepable age f some later =
       next_keepable old.books.plan.geometry slots frozen_slots size (stored_of disk old) rig.load age f some later
 
   pub rig_committed : (new : DurableState D) (age : ℕ) (f : FrozenPuts) (k : ℕ) → (stored_of disk old).frozen ≡ Some f → (stored_of disk old).saved.age < age
-      → stored_of disk new ≡ stored_after_commit age f (stored_of disk old) → new.books.plan ≡ old.books.plan → is_sound disk new → IsRig disk goes_on slots 0 k new
+      → stored_of disk new ≡ on_snapshots (committed puts age f) (stored_of disk old) → new.books.plan ≡ old.books.plan → is_sound disk new → IsRig disk goes_on slots 0 k new
   rig_committed new age f k some later is plan sound =
-      rig_by new goes_on slots 0 k (stored_after_commit age f (stored_of disk old)) plan (λ still. sound) is (committed_now old.books.plan.geometry slots frozen_slots size (stored_of disk old) rig.load age f some later k)
+      rig_by new goes_on slots 0 k (on_snapshots (committed puts age f) (stored_of disk old)) plan (λ still. sound) is (committed_now old.books.plan.geometry slots frozen_slots size (stored_of disk old) rig.load age f some later k)
 
-  pub rig_journaled : (new : DurableState D) (age n : ℕ) (words : List ℕ) → stored_of disk new ≡ stored_after_journal age n words (stored_of disk old) → new.books.plan ≡ old.books.plan → is_sound disk new
+  pub rig_journaled : (new : DurableState D) (age n : ℕ) (words : List ℕ) → stored_of disk new ≡ on_snapshots (journaled age n words) (stored_of disk old) → new.books.plan ≡ old.books.plan → is_sound disk new
       → (disk new.beneath).may_leave (disk new.beneath).seen → IsRig disk goes_on slots frozen_slots size new
   rig_journaled new age n words is plan sound left = record {
     sound = λ _. sound;
@@ -106,10 +107,10 @@ module _ {D : Type 0} (disk : D → Disk) (goes_on : Bool) (slots frozen_slots s
       rig_by new false slots frozen_slots size (record (stored_of disk old) { to_move = k }) plan (λ never. absurd (let e : false ≡ true = never in cc)) is
       (moved_some old.books.plan.geometry slots frozen_slots size (stored_of disk old) rig.load k)
 
-  pub rig_migrated : {E : Type 0} (r : Result ℕ E) (went : Bool) → went ≡ is_ok r → (new : DurableState D) (n : ℕ) → OnOk r (stored_of disk new ≡ moved n (stored_of disk old))
+  pub rig_migrated : {E : Type 0} (r : Result ℕ E) (went : Bool) → went ≡ is_ok r → (new : DurableState D) (n : ℕ) → OnOk r (stored_of disk new ≡ on_snapshots (moved n) (stored_of disk old))
       → OnErr r ((k : ℕ) × (k ≤ (stored_of disk old).to_move) × (stored_of disk new ≡ record (stored_of disk old) { to_move = k })) → new.books.plan ≡ old.books.plan → OnOk r (is_sound disk new)
       → IsRig disk went slots frozen_slots size new
   rig_migrated (Ok left) went is new n done unmoved plan sound =
-      subst (λ (b : Bool). IsRig disk b slots frozen_slots size new) (sym is) (rig_by new true slots frozen_slots size (moved n (stored_of disk old)) plan (λ _. sound) done
+      subst (λ (b : Bool). IsRig disk b slots frozen_slots size new) (sym is) (rig_by new true slots frozen_slots size (on_snapshots (moved n) (stored_of disk old)) plan (λ _. sound) done
       (moved_now old.books.plan.geometry slots frozen_slots size (stored_of disk old) rig.load n))
   rig_migrated (Err e) went is new n done unmoved plan sound = subst (λ (b : Bool). IsRig disk b slots frozen_slots size new) (sym is) (rig_stopped new unmoved.0 unmoved.2 plan)

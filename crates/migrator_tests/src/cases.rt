@@ -1,11 +1,10 @@
 // What a store answers, step by step.
 use crate::images::{AT_HOME, IN_LOG, LOGGED, OPENING, image};
 use crate::steps::{Step, try_each};
-use checkpoint::CheckpointFault;
 use device::{Device, Failed};
 use memory_device::Outcome;
 use migrator::Durable;
-use model::{ObjectHeader, Role};
+use model::{ObjectHeader, Refusal, Role};
 use std::alloc::Global;
 use std::test::Fail;
 
@@ -40,19 +39,19 @@ const STEPS: &[Step] = &[
     Step::NoPut(3),
     Step::Fetch(4, Err(Failed)),
     Step::Freeze(3, Ok(())),
-    Step::PutFrozen(4, 100, Err(CheckpointFault::Failed)),
+    Step::PutFrozen(4, 100, Err(Refusal::Fault)),
     Step::NoPut(3),
     Step::Fetch(3, Err(Failed)),
     Step::Image(AT_HOME, OPENING + 1),
     Step::Put(&[(&[3], 100)]),
     Step::Fetch(4, Err(Failed)),
     Step::Freeze(3, Ok(())),
-    Step::PutFrozen(4, 100, Err(CheckpointFault::Failed)),
+    Step::PutFrozen(4, 100, Err(Refusal::Fault)),
     Step::Image(AT_HOME, OPENING + 2),
     Step::Put(&[(&[3], 100)]),
     Step::Fetch(4, Ok(4)),
     Step::Freeze(3, Ok(())),
-    Step::PutFrozen(4, 100, Err(CheckpointFault::Failed)),
+    Step::PutFrozen(4, 100, Err(Refusal::Fault)),
     Step::Image(AT_HOME, OPENING + 3),
     Step::Put(&[(&[3], 100)]),
     Step::Fetch(4, Ok(4)),
@@ -119,22 +118,22 @@ const STEPS: &[Step] = &[
     Step::Put(&[(&[3], 100)]),
     Step::Freeze(1, Ok(())),
     Step::Put(&[(&[3], 101)]),
-    Step::Freeze(1, Err(CheckpointFault::CheckpointRunning)),
+    Step::Freeze(1, Err(Refusal::CheckpointRunning)),
     Step::Fetch(3, Ok(101)),
     // Nothing is committed before all of it was put.
     Step::Image(AT_HOME, u64::MAX),
     Step::Freeze(3, Ok(())),
     Step::PutFrozen(3, 100, Ok(())),
-    Step::Commit(1, Err(CheckpointFault::NotStable(2))),
+    Step::Commit(1, Err(Refusal::NotStable(2))),
     Step::PutFrozen(17, 101, Ok(())),
-    Step::Commit(1, Err(CheckpointFault::NotStable(1))),
+    Step::Commit(1, Err(Refusal::NotStable(1))),
     Step::PutFrozen(4, 102, Ok(())),
     Step::Commit(1, Ok(1)),
     // Nothing is committed without a checkpoint.
     Step::Image(AT_HOME, u64::MAX),
     Step::Put(&[(&[3], 100)]),
-    Step::Commit(1, Err(CheckpointFault::NoCheckpoint)),
-    Step::PutFrozen(3, 101, Err(CheckpointFault::NoCheckpoint)),
+    Step::Commit(1, Err(Refusal::NoCheckpoint)),
+    Step::PutFrozen(3, 101, Err(Refusal::NoCheckpoint)),
     Step::Fetch(3, Ok(100)),
     // A page is journaled: it is saved, and what was put goes on.
     Step::Image(AT_HOME, u64::MAX),
@@ -142,14 +141,14 @@ const STEPS: &[Step] = &[
     Step::Journal(17, 417, 1, Ok(2)),
     Step::Saved(2, 1, 1),
     Step::Hold(&[(&[3, 18], 100), (&[17], 417)]),
-    Step::Journal(17, 418, 2, Err(CheckpointFault::MigrationPending)),
+    Step::Journal(17, 418, 2, Err(Refusal::MigrationPending)),
     Step::Migrate(1, Ok(0)),
     Step::Journal(18, 418, 2, Ok(4)),
     Step::Migrate(1, Ok(0)),
     Step::Put(&[(&[5], 105)]),
     Step::Hold(&[(&[3, 18], 100), (&[17], 417), (&[5], 105)]),
     Step::Freeze(3, Ok(())),
-    Step::Journal(17, 419, 3, Err(CheckpointFault::CheckpointRunning)),
+    Step::Journal(17, 419, 3, Err(Refusal::CheckpointRunning)),
     Step::Commit(3, Ok(5)),
     Step::Cut,
     Step::Saved(5, 3, 3),
@@ -192,11 +191,11 @@ const STEPS: &[Step] = &[
     Step::Migrate(1, Err(Failed)),
     // Nothing is frozen while something is in the log.
     Step::Image(IN_LOG, u64::MAX),
-    Step::Freeze(0, Err(CheckpointFault::MigrationPending)),
+    Step::Freeze(0, Err(Refusal::MigrationPending)),
     Step::Migrate(0, Ok(3)),
-    Step::Freeze(0, Err(CheckpointFault::MigrationPending)),
+    Step::Freeze(0, Err(Refusal::MigrationPending)),
     Step::Migrate(2, Ok(1)),
-    Step::Freeze(0, Err(CheckpointFault::MigrationPending)),
+    Step::Freeze(0, Err(Refusal::MigrationPending)),
     Step::Migrate(1, Ok(0)),
     Step::Freeze(0, Ok(())),
 ];

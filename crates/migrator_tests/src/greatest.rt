@@ -1,10 +1,9 @@
 // An image of the greatest size. Every second object is put.
 use crate::images::{build, opened};
 use crate::rig::Rig;
-use checkpoint::CheckpointFault;
 use device::{Device, Failed};
 use memory_device::{Memory, Outcome};
-use model::Geometry;
+use model::{Geometry, Refusal};
 use std::alloc::Global;
 use std::test::Fail;
 
@@ -15,10 +14,10 @@ const GREATEST: Geometry = Geometry {
 };
 
 // Commits every second object.
-fn commit_half<D: Device>(alloc: Global, rig: &mut Rig<D>) -> Result<u64, CheckpointFault> {
+fn commit_half<D: Device>(alloc: Global, rig: &mut Rig<D>) -> Result<u64, Refusal> {
     for index in 0..4096 {
         if rig.put(alloc, 2 * index, 9000).is_err() {
-            return Err(CheckpointFault::Failed);
+            return Err(Refusal::Fault);
         }
     }
     rig.freeze(4096)?;

@@ -3,11 +3,11 @@ ghost use Rattle.std.specs.Prelude.{◌≡◌, true, None};
 ghost use Rattle.migrator.specs.Durable.{stored_of, MayJournal};
 
 use crate::frames::{frame, value_of};
-use checkpoint::{Checkpoint, CheckpointFault, OpenFault, OpenRefused};
+use checkpoint::{Checkpoint, OpenFault, OpenRefused};
 use device::{Device, Failed};
 use layout::Scratch;
 use migrator::{Durable, Opened};
-use model::{MAX_AGE, ObjectHeader, Role};
+use model::{MAX_AGE, ObjectHeader, Refusal, Role};
 use std::alloc::Global;
 use std::marker::Model;
 
@@ -97,21 +97,21 @@ impl<D: Device> Rig<D> {
         alloc: Global,
         number: u64,
         value: u64,
-    ) -> Result<(), CheckpointFault> {
+    ) -> Result<(), Refusal> {
         let Ok((header, content)) = frame(alloc, self.store.geometry(), number, value) else {
-            return Err(CheckpointFault::Failed);
+            return Err(Refusal::Fault);
         };
         if self.frozen >= self.size {
-            return Err(CheckpointFault::Failed);
+            return Err(Refusal::Fault);
         }
         self.frozen += 1;
         self.store.put_frozen(number, header, &content)
     }
 
     /// Freezes what was put, for a checkpoint that writes `size` objects.
-    pub(crate) fn freeze(&mut self, size: u64) -> Result<(), CheckpointFault> {
+    pub(crate) fn freeze(&mut self, size: u64) -> Result<(), Refusal> {
         if size < self.working || size > self.store.geometry().log {
-            return Err(CheckpointFault::Failed);
+            return Err(Refusal::Fault);
         }
         self.store.freeze(size)?;
         self.frozen = self.working;
@@ -121,10 +121,10 @@ impl<D: Device> Rig<D> {
     }
 
     /// Commits the checkpoint on its way at an age, and answers its generation.
-    pub(crate) fn commit(&mut self, age: u64) -> Result<u64, CheckpointFault> {
+    pub(crate) fn commit(&mut self, age: u64) -> Result<u64, Refusal> {
         let is_later = age > self.store.saved().age && age <= MAX_AGE;
         if !self.sound || !is_later {
-            return Err(CheckpointFault::Failed);
+            return Err(Refusal::Fault);
         }
         match self.store.commit(age) {
             Ok(generation) => {
@@ -132,7 +132,7 @@ impl<D: Device> Rig<D> {
                 Ok(generation)
             }
             Err(refusal) => {
-                self.sound = refusal != CheckpointFault::Failed;
+                self.sound = refusal != Refusal::Fault;
                 Err(refusal)
             }
         }
@@ -169,20 +169,15 @@ impl<D: Device> Rig<D> {
     }
 
     /// Saves a page with a value at an age, and answers its generation.
-    pub(crate) fn journal(
-        &mut self,
-        number: u64,
-        value: u64,
-        age: u64,
-    ) -> Result<u64, CheckpointFault> {
+    pub(crate) fn journal(&mut self, number: u64, value: u64, age: u64) -> Result<u64, Refusal> {
         if !self.may_journal(number, age) || !self.sound {
-            return Err(CheckpointFault::Failed);
+            return Err(Refusal::Fault);
         }
         self.scratch.words.set(0, value);
         match self.store.journal(number, &self.scratch.words, age) {
             Ok(generation) => Ok(generation),
             Err(refusal) => {
-                self.sound = refusal != CheckpointFault::Failed;
+                self.sound = refusal != Refusal::Fault;
                 Err(refusal)
             }
         }

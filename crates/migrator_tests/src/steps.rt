@@ -1,9 +1,10 @@
 // Calls of a store, and what each of them answers.
 use crate::images::{LOGGED, image, opened, put_header};
 use crate::rig::Rig;
-use checkpoint::{Checkpoint, CheckpointFault};
+use checkpoint::Checkpoint;
 use device::{Device, Failed};
 use memory_device::{Fuse, Outcome};
+use model::Refusal;
 use std::alloc::Global;
 use std::process::Abort;
 use std::test::Fail;
@@ -21,17 +22,17 @@ pub(crate) enum Step<'a> {
     /// An object can't be put.
     NoPut(u64),
     /// An object is put for the checkpoint on its way, with a value.
-    PutFrozen(u64, u64, Result<(), CheckpointFault>),
+    PutFrozen(u64, u64, Result<(), Refusal>),
     /// An object has a value.
     Fetch(u64, Result<u64, Failed>),
     /// Objects have these values, and all others of 24 their numbers.
     Hold(&'a [Values]),
     /// A checkpoint of this number of objects begins.
-    Freeze(u64, Result<(), CheckpointFault>),
+    Freeze(u64, Result<(), Refusal>),
     /// The checkpoint is committed at an age, as a generation.
-    Commit(u64, Result<u64, CheckpointFault>),
+    Commit(u64, Result<u64, Refusal>),
     /// A page is journaled with a value at an age, as a generation.
-    Journal(u64, u64, u64, Result<u64, CheckpointFault>),
+    Journal(u64, u64, u64, Result<u64, Refusal>),
     /// The first number of objects are copied home, and the second are left.
     Migrate(u64, Result<u64, Failed>),
     /// Pairs of numbers copied and left, one time after another. The three objects stay readable.

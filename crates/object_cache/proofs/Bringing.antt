@@ -3,8 +3,8 @@ use Rattle.object_cache.proofs.Names.{◌≡◌, ◌↔◌, inl, inr, ℕ, zero,
 use Rattle.object_cache.proofs.Names.{take, Option, Some, None, IsSome, is_some, Result, Ok, Err, refl, sym, ap, subst, ◌∙◌, arith, IsErrOf, OnOk, OnErr}
 use Rattle.object_cache.proofs.Names.{slice_index_or, Contains, cases_eq, cases_lt, eq-eqb, get_or_past, get_or_default, get_or-set_same, get_or-set_other}
 use Rattle.object_cache.proofs.Names.{length-map, Cap, Geometry, Content, AreKeepable, is_member, Image, Disk, most, DurableState, stored_of, frames_of}
-use Rattle.object_cache.proofs.Names.{Snapshots, Entry, buffer_of, Memory, without, StoreState, IsCache, IsFetchedIn, GoesOnIn, cache_of, parts_of, cached_at}
-use Rattle.object_cache.proofs.Names.{cached_in, with_cached, IsRecentIn, on_device_with, goes_on_same, front_without}
+use Rattle.object_cache.proofs.Names.{Snapshots, FrozenFrames, Entry, buffer_of, Memory, without, StoreState, IsCache, IsFetchedIn, GoesOnIn, cache_of}
+use Rattle.object_cache.proofs.Names.{parts_of, cached_at, cached_in, with_cached, IsRecentIn, on_device_with, goes_on_same, front_without}
 use Rattle.std.specs.Prelude.{option_map}
 use Rattle.model.specs.declared.object.Content.TheVariants as content
 use Rattle.capability.specs.declared.present.PrepareFault.TheVariants as fault
@@ -153,7 +153,7 @@ module _ {D : Type 0} (disk : D → Disk) where
   pub keepable_on : (s t : StoreState D) → t ≡ on_device_with s t → GoesOnIn disk s t → AreKeepable (parts_of disk s).geometry most (frames_of (parts_of disk s)) →
       AreKeepable (parts_of disk t).geometry most (frames_of (parts_of disk t))
   keepable_on s t rest continues keepable =
-      subst (λ (h : Geometry). AreKeepable h most (frames_of (parts_of disk t))) (sym (ap (λ (a : Snapshots). a.saved.geometry) continues.snapshots))
+      subst (λ (h : Geometry). AreKeepable h most (frames_of (parts_of disk t))) (sym (ap (λ (a : Snapshots FrozenFrames). a.saved.geometry) continues.snapshots))
       (subst (λ (x : StoreState D). AreKeepable (parts_of disk s).geometry most (frames_of (parts_of disk x))) (sym rest) keepable)
 
 -- a call that succeeded had no failure of the device

@@ -4,12 +4,11 @@ use Rattle.object_cache.proofs.Names.{Option, Some, None, option_map, refl, sym,
 use Rattle.object_cache.proofs.Names.{length-replicate, get_or-replicate, get_or_past, same_lists, ext_get_or, length-map-range_with_len}
 use Rattle.object_cache.proofs.Names.{get_or-map-range_with_len, sum_by-cons, none-some, same_Some, Cap, Frame, ObjectHeader, Content, Role, blank_frame}
 use Rattle.object_cache.proofs.Names.{frame_at, frames_in, header_at, AreKeepable, touched_count, untouched, object_count, Disk, role_of, Put, Absent, Broken}
-use Rattle.object_cache.proofs.Names.{Kept, put_at, put_or, held_slot, sum_of, most, DurableState, FrozenPuts, Stored, below_at, freezing, frozen_put}
-use Rattle.object_cache.proofs.Names.{stored_of, maps_same, frame_in, length_in, Entry, entry_at, Memory, mark_at, masked, in_staging, put_body, present_body}
-use Rattle.object_cache.proofs.Names.{content_at, present_at, newest_body, below_body, apart_body, frozen_body, frozen_frame, frozen_at, contents_in, frozen_in}
-use Rattle.object_cache.proofs.Names.{StoreState, IsCache, AreFrozen, snapshots_of, cache_of, frozen_seen, is_kept}
+use Rattle.object_cache.proofs.Names.{freezing, all_frozen, freezing_puts, Kept, put_at, put_or, held_slot, sum_of, most, DurableState, FrozenPuts, Stored}
+use Rattle.object_cache.proofs.Names.{below_at, frozen_put, stored_of, maps_same, frame_in, length_in, Entry, entry_at, Memory, mark_at, masked, in_staging}
+use Rattle.object_cache.proofs.Names.{put_body, present_body, content_at, present_at, newest_body, below_body, apart_body, frozen_body, frozen_frame, frozen_at}
+use Rattle.object_cache.proofs.Names.{contents_in, frozen_in, StoreState, IsCache, AreFrozen, snapshots_of, cache_of, frozen_seen, is_kept}
 use Rattle.model.specs.declared.object.Content.TheVariants as content
-use Rattle.object_store.specs.Store as store
 use Rattle.object_cache.proofs.Objects.{content_in}
 use Rattle.object_cache.proofs.Puts.{held_touched}
 use Rattle.object_cache.proofs.Caching.{no_staging}
@@ -75,7 +74,7 @@ module _ (s : Stored) (m : Memory) (left count : ℕ) (is : IsCache s m left cou
     (fh : List ObjectHeader) (fh_count : length fh ≡ length m.frozen_headers) (same_headers : (n : ℕ) → mark_at m.dirty n ≡ true → header_at fh n ≡ header_at m.headers n)
     (keepable : AreKeepable s.saved.geometry most (frames_in m.headers (contents_in s m))) where
   abbrev begun : Stored
-  begun = freezing count s
+  begun = freezing_puts count s
 
   abbrev now : Memory
   now = frozen_memory fh m
@@ -230,7 +229,7 @@ module _ {D : Type 0} (disk : D → Disk) (d : DurableState D) (m : Memory) (lef
   pub freeze_enough : sum_of held_slot (stored_of disk d).working ≤ count
   freeze_enough = let few = held_touched (stored_of disk d).working m.touched (is.puts ∙ sym is.marks) is.unput in omega (arith, few, is.counted)
 
-  module _ (new : DurableState D) (none : (stored_of disk d).frozen ≡ None) (begun : stored_of disk new ≡ freezing count (stored_of disk d))
+  module _ (new : DurableState D) (none : (stored_of disk d).frozen ≡ None) (begun : stored_of disk new ≡ freezing_puts count (stored_of disk d))
       (fh : List ObjectHeader) (fh_count : length fh ≡ length m.frozen_headers) (same_headers : (n : ℕ) → mark_at m.dirty n ≡ true → header_at fh n ≡ header_at m.headers n)
       (keepable : AreKeepable (stored_of disk s.durable).saved.geometry most (frames_in s.headers s.contents)) where
     kept : AreKeepable (stored_of disk d).saved.geometry most (frames_in m.headers (contents_in (stored_of disk d) m))
@@ -249,10 +248,10 @@ module _ {D : Type 0} (disk : D → Disk) (d : DurableState D) (m : Memory) (lef
     unfolding untouched
     freeze_touched = ap (λ (k : ℕ). replicate k false) is.marks ∙ ap (λ (t : StoreState D). replicate (object_count (stored_of disk t.durable).saved.geometry) false) view
 
-    pub freeze_snapshots : snapshots_of disk (cache_of disk new (frozen_memory fh m) count order most_entries) ≡ store.freezing (frames_in s.headers s.contents) (touched_count s.touched) (snapshots_of disk s)
+    pub freeze_snapshots : snapshots_of disk (cache_of disk new (frozen_memory fh m) count order most_entries) ≡ freezing (all_frozen (frames_in s.headers s.contents) (touched_count s.touched)) (snapshots_of disk s)
     freeze_snapshots =
         ap (λ (t : Stored). record { frozen = frozen_seen t (frozen_memory fh m) count; saved = t.saved; to_move = t.to_move }) begun
         ∙ ap (λ (fs : List Frame). record { frozen = Some (record { frames = fs; size = count; left = count }); saved = (stored_of disk d).saved; to_move = (stored_of disk d).to_move })
         (begun_frozen (stored_of disk d) m left count is none fh fh_count same_headers kept)
         ∙ ap (λ (k : ℕ). record { frozen = Some (record { frames = frames_in m.headers (contents_in (stored_of disk d) m); size = k; left = k }); saved = (stored_of disk d).saved; to_move = (stored_of disk d).to_move }) is.counted
-        ∙ ap (λ (t : StoreState D). store.freezing (frames_in t.headers t.contents) (touched_count t.touched) (snapshots_of disk t)) view
+        ∙ ap (λ (t : StoreState D). freezing (all_frozen (frames_in t.headers t.contents) (touched_count t.touched)) (snapshots_of disk t)) view

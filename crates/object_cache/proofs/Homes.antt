@@ -3,13 +3,12 @@ use Rattle.object_cache.proofs.Names.{◌≡◌, inl, inr, ℕ, zero, suc, ◌+�
 use Rattle.object_cache.proofs.Names.{None, option_map, Result, Ok, Err, refl, sym, ap, subst, ◌∙◌, arith, ◌==◌, count_by, slice_index_or, range_with_len}
 use Rattle.object_cache.proofs.Names.{cases_lt, length-map, same_lists, get_or_past, length-map-range_with_len, get_or-map-range_with_len, sum_by-cons}
 use Rattle.object_cache.proofs.Names.{none-some, same_Some, Cap, Frame, Content, blank_frame, frame_at, header_at, AreKeepable, Disk, Put, Absent, Broken, Kept}
-use Rattle.object_cache.proofs.Names.{put_at, put_or, overlaid, kept_count, sum_of, SavedFrames, LeavesEither, LeavesOneOf, home_saved, DurableState}
-use Rattle.object_cache.proofs.Names.{FrozenPuts, Stored, below_at, frozen_put, left_of, moved, stored_after_commit, stored_of, maps_same, FrozenFrames}
-use Rattle.object_cache.proofs.Names.{entry_at, Memory, mark_at, in_staging, put_body, present_body, content_at, present_at, frozen_body, frozen_frame}
-use Rattle.object_cache.proofs.Names.{frozen_at, contents_in, frozen_in, StoreState, IsCache, snapshots_of, cache_of, frozen_seen, is_kept}
+use Rattle.object_cache.proofs.Names.{put_at, put_or, overlaid, kept_count, sum_of, SavedFrames, LeavesEither, LeavesOneOf, home_saved, DurableState, MayCommit}
+use Rattle.object_cache.proofs.Names.{committed, moved, next_saved, whole, on_snapshots, puts, FrozenPuts, Stored, below_at, frozen_put, left_of, stored_of}
+use Rattle.object_cache.proofs.Names.{maps_same, FrozenFrames, entry_at, Memory, mark_at, in_staging, put_body, present_body, content_at, present_at}
+use Rattle.object_cache.proofs.Names.{frozen_body, frozen_frame, frozen_at, contents_in, frozen_in, StoreState, IsCache, snapshots_of, cache_of, frozen_seen}
+use Rattle.object_cache.proofs.Names.{is_kept}
 use Rattle.std.proofs.Common.{OnOk, OnErr}
-use Rattle.migrator.specs.Durable as durable
-use Rattle.object_store.specs.Store as store
 use Rattle.object_cache.proofs.Puts.{some_touched}
 
 -- ---- what is saved goes home
@@ -31,9 +30,11 @@ module _ (s : Stored) (m : Memory) where
   frozen_home true k = refl
   frozen_home false k = refl
 
-  pub home_stands : (left count : ℕ) (b : Bool) (k : ℕ) → IsCache s m left count → IsCache (stored_with s b k) m left count
+  -- the numbers of the checkpoint are no matter
+  numbered_stands : (left count generation entries age k : ℕ) → IsCache s m left count →
+      IsCache (record { working = s.working; frozen = s.frozen; saved = record { geometry = s.saved.geometry; frames = s.saved.frames; generation = generation; entries = entries; age = age }; to_move = k }) m left count
   unfolding frozen_in
-  home_stands left count true k is = record {
+  numbered_stands left count generation entries age k is = record {
     headers = is.headers;
     frozen_headers = is.frozen_headers;
     marks = is.marks;
@@ -55,28 +56,10 @@ module _ (s : Stored) (m : Memory) where
     apart = is.apart;
     freed = is.freed;
   }
-  home_stands left count false k is = record {
-    headers = is.headers;
-    frozen_headers = is.frozen_headers;
-    marks = is.marks;
-    dirty_marks = is.dirty_marks;
-    pending_marks = is.pending_marks;
-    entries = is.entries;
-    frames = is.frames;
-    puts = is.puts;
-    counted = is.counted;
-    within = is.within;
-    marked = is.marked;
-    clean = is.clean;
-    unput = is.unput;
-    unwritten = is.unwritten;
-    idle = is.idle;
-    running = is.running;
-    keepable = is.keepable;
-    held = is.held;
-    apart = is.apart;
-    freed = is.freed;
-  }
+
+  pub home_stands : (left count : ℕ) (b : Bool) (k : ℕ) → IsCache s m left count → IsCache (stored_with s b k) m left count
+  home_stands left count true k is = numbered_stands left count s.saved.generation 0 s.saved.age k is
+  home_stands left count false k is = numbered_stands left count s.saved.generation s.saved.entries s.saved.age k is
 
 -- the same by what is seen
 module _ {D : Type 0} (disk : D → Disk) (d : DurableState D) (m : Memory) (left count : ℕ) (order : List ℕ) (most_entries : ℕ) (s : StoreState D)
@@ -90,28 +73,28 @@ module _ {D : Type 0} (disk : D → Disk) (d : DurableState D) (m : Memory) (lef
       ∙ ap (λ (t : StoreState D). record t { durable = new }) view
 
   module _ (amount : ℕ) where
-    pub moved_stands : {T E : Type 0} (r : Result T E) → OnOk r (stored_of disk new ≡ moved amount (stored_of disk d)) →
+    pub moved_stands : {T E : Type 0} (r : Result T E) → OnOk r (stored_of disk new ≡ on_snapshots (moved amount) (stored_of disk d)) →
         OnErr r ((k : ℕ) × (k ≤ (stored_of disk d).to_move) × (stored_of disk new ≡ record (stored_of disk d) { to_move = k })) → IsCache (stored_of disk new) m left count
     moved_stands (Ok x) done left_over = subst (λ (t : Stored). IsCache t m left count) (sym done)
         (home_stands (stored_of disk d) m left count ((stored_of disk d).to_move - amount == 0) ((stored_of disk d).to_move - amount) is)
     moved_stands (Err e) done left_over = subst (λ (t : Stored). IsCache t m left count) (sym left_over.2) (home_stands (stored_of disk d) m left count false left_over.0 is)
 
-    pub moved_seen : {T E : Type 0} (r : Result T E) → OnOk r (stored_of disk new ≡ moved amount (stored_of disk d)) →
+    pub moved_seen : {T E : Type 0} (r : Result T E) → OnOk r (stored_of disk new ≡ on_snapshots (moved amount) (stored_of disk d)) →
         OnErr r ((k : ℕ) × (k ≤ (stored_of disk d).to_move) × (stored_of disk new ≡ record (stored_of disk d) { to_move = k })) →
         cache_of disk new m left order most_entries ≡ record s { durable = new }
     moved_seen (Ok x) done left_over = home_seen ((stored_of disk d).to_move - amount == 0) ((stored_of disk d).to_move - amount) done
     moved_seen (Err e) done left_over = home_seen false left_over.0 left_over.2
 
-    pub moved_snapshots : {T E : Type 0} (r : Result T E) → OnOk r (stored_of disk new ≡ moved amount (stored_of disk d)) → OnOk r (snapshots_of disk (record s { durable = new }) ≡ store.moved amount (snapshots_of disk s))
+    pub moved_snapshots : {T E : Type 0} (r : Result T E) → OnOk r (stored_of disk new ≡ on_snapshots (moved amount) (stored_of disk d)) → OnOk r (snapshots_of disk (record s { durable = new }) ≡ moved amount (snapshots_of disk s))
     moved_snapshots (Ok x) done =
         ap (λ (t : Stored). record { frozen = s.frozen; saved = t.saved; to_move = t.to_move }) done
-        ∙ ap (λ (t : StoreState D). store.moved amount (record { frozen = s.frozen; saved = (stored_of disk t.durable).saved; to_move = (stored_of disk t.durable).to_move })) view
+        ∙ ap (λ (t : StoreState D). moved amount (record { frozen = s.frozen; saved = (stored_of disk t.durable).saved; to_move = (stored_of disk t.durable).to_move })) view
     moved_snapshots (Err e) done = tt
 
-    pub moved_then : {T E : Type 0} (r : Result T E) → OnOk r (stored_of disk new ≡ moved amount (stored_of disk d)) →
+    pub moved_then : {T E : Type 0} (r : Result T E) → OnOk r (stored_of disk new ≡ on_snapshots (moved amount) (stored_of disk d)) →
         OnErr r ((k : ℕ) × (k ≤ (stored_of disk d).to_move) × (stored_of disk new ≡ record (stored_of disk d) { to_move = k })) →
-        OnOk r (snapshots_of disk (cache_of disk new m left order most_entries) ≡ store.moved amount (snapshots_of disk s))
-    moved_then r done left_over = subst (λ (t : StoreState D). OnOk r (snapshots_of disk t ≡ store.moved amount (snapshots_of disk s))) (sym (moved_seen r done left_over)) (moved_snapshots r done)
+        OnOk r (snapshots_of disk (cache_of disk new m left order most_entries) ≡ moved amount (snapshots_of disk s))
+    moved_then r done left_over = subst (λ (t : StoreState D). OnOk r (snapshots_of disk t ≡ moved amount (snapshots_of disk s))) (sym (moved_seen r done left_over)) (moved_snapshots r done)
 
 -- ---- what is frozen is saved
 
@@ -163,7 +146,7 @@ module _ (s : Stored) (m : Memory) (count : ℕ) (is : IsCache s m 0 count) (f :
 
   module _ (age : ℕ) where
     abbrev after : Stored
-    after = stored_after_commit age f s
+    after = on_snapshots (committed puts age f) s
 
     length_over : length (overlaid f.put s.saved.frames) ≡ length s.saved.frames
     unfolding overlaid
@@ -252,37 +235,37 @@ module _ {D : Type 0} (disk : D → Disk) (d : DurableState D) (m : Memory) (lef
   save_left = ap (option_map left_of) found.1 ∙ ap Some (all_put (stored_of disk d) m count stands_here found.0 found.1)
 
   module _ (age : ℕ) where
-    pub save_ready : store.MayCommit age f (stored_of disk s.durable).saved → (h : FrozenPuts) → (stored_of disk d).frozen ≡ Some h → durable.MayCommit age h (stored_of disk d).saved
+    pub save_ready : MayCommit whole age f (stored_of disk s.durable).saved → (h : FrozenPuts) → (stored_of disk d).frozen ≡ Some h → MayCommit puts age h (stored_of disk d).saved
     save_ready may h at =
-        let here : store.MayCommit age f (stored_of disk d).saved = subst (store.MayCommit age f) (sym saved_here) may in
+        let here : MayCommit whole age f (stored_of disk d).saved = subst (MayCommit whole age f) (sym saved_here) may in
         record {
           later = here.later;
           most = here.most;
-          keepable = λ none. subst (AreKeepable (stored_of disk d).saved.geometry age) (sym (overlaid_are h at)) here.keepable;
+          keepable = λ none. subst (AreKeepable (stored_of disk d).saved.geometry age) (sym (overlaid_are h at)) (here.keepable stable);
         }
 
-    next_are : (h : FrozenPuts) → (stored_of disk d).frozen ≡ Some h → durable.next_saved age h (stored_of disk d).saved ≡ store.next_saved age f (stored_of disk s.durable).saved
+    next_are : (h : FrozenPuts) → (stored_of disk d).frozen ≡ Some h → next_saved puts age h (stored_of disk d).saved ≡ next_saved whole age f (stored_of disk s.durable).saved
     next_are h at =
         ap (λ (fs : List Frame). record { geometry = (stored_of disk d).saved.geometry; frames = fs; generation = (stored_of disk d).saved.generation + 1; entries = h.size; age = age }) (overlaid_are h at)
         ∙ ap (λ (k : ℕ). record { geometry = (stored_of disk d).saved.geometry; frames = f.frames; generation = (stored_of disk d).saved.generation + 1; entries = k; age = age })
         (ap (λ (g : FrozenPuts). g.size) (sym (the_same h at)) ∙ ap (λ (g : FrozenFrames). g.size) found.2)
-        ∙ ap (store.next_saved age f) saved_here
+        ∙ ap (next_saved whole age f) saved_here
 
-    pub save_moments : (old new : Disk) → LeavesOneOf old new (stored_of disk d).saved (option_map (λ (h : FrozenPuts). durable.next_saved age h (stored_of disk d).saved) (stored_of disk d).frozen) →
-        LeavesEither old new (stored_of disk s.durable).saved (store.next_saved age f (stored_of disk s.durable).saved)
+    pub save_moments : (old new : Disk) → LeavesOneOf old new (stored_of disk d).saved (option_map (λ (h : FrozenPuts). next_saved puts age h (stored_of disk d).saved) (stored_of disk d).frozen) →
+        LeavesEither old new (stored_of disk s.durable).saved (next_saved whole age f (stored_of disk s.durable).saved)
     save_moments old new moments =
         subst (λ (next : SavedFrames). LeavesEither old new (stored_of disk s.durable).saved next) (next_are found.0 found.1)
-        (subst (λ (saved : SavedFrames). LeavesEither old new saved (durable.next_saved age found.0 (stored_of disk d).saved)) saved_here
-        (subst (λ (o : Option FrozenPuts). LeavesOneOf old new (stored_of disk d).saved (option_map (λ (h : FrozenPuts). durable.next_saved age h (stored_of disk d).saved) o)) found.1 moments))
+        (subst (λ (saved : SavedFrames). LeavesEither old new saved (next_saved puts age found.0 (stored_of disk d).saved)) saved_here
+        (subst (λ (o : Option FrozenPuts). LeavesOneOf old new (stored_of disk d).saved (option_map (λ (h : FrozenPuts). next_saved puts age h (stored_of disk d).saved) o)) found.1 moments))
 
     module _ (new : DurableState D) where
-      pub save_stands : {T E : Type 0} (r : Result T E) → ((h : FrozenPuts) → (stored_of disk d).frozen ≡ Some h → OnOk r (stored_of disk new ≡ stored_after_commit age h (stored_of disk d))) →
+      pub save_stands : {T E : Type 0} (r : Result T E) → ((h : FrozenPuts) → (stored_of disk d).frozen ≡ Some h → OnOk r (stored_of disk new ≡ on_snapshots (committed puts age h) (stored_of disk d))) →
           OnErr r (stored_of disk new ≡ stored_of disk d) → IsCache (stored_of disk new) m left count
       save_stands (Ok x) done undone = subst (λ (t : Stored). IsCache t m left count) (sym (done found.0 found.1))
-          (subst (λ (k : ℕ). IsCache (stored_after_commit age found.0 (stored_of disk d)) m k count) (sym none_left) (saved_stands (stored_of disk d) m count stands_here found.0 found.1 age))
+          (subst (λ (k : ℕ). IsCache (on_snapshots (committed puts age found.0) (stored_of disk d)) m k count) (sym none_left) (saved_stands (stored_of disk d) m count stands_here found.0 found.1 age))
       save_stands (Err e) done undone = subst (λ (t : Stored). IsCache t m left count) (sym undone) is
 
-      pub save_contents : {T E : Type 0} (r : Result T E) → ((h : FrozenPuts) → (stored_of disk d).frozen ≡ Some h → OnOk r (stored_of disk new ≡ stored_after_commit age h (stored_of disk d))) →
+      pub save_contents : {T E : Type 0} (r : Result T E) → ((h : FrozenPuts) → (stored_of disk d).frozen ≡ Some h → OnOk r (stored_of disk new ≡ on_snapshots (committed puts age h) (stored_of disk d))) →
           OnErr r (stored_of disk new ≡ stored_of disk d) → contents_in (stored_of disk new) m ≡ s.contents
       save_contents (Ok x) done undone =
           ap (λ (t : Stored). contents_in t m) (done found.0 found.1)
@@ -296,16 +279,16 @@ module _ {D : Type 0} (disk : D → Disk) (d : DurableState D) (m : Memory) (lef
           ap (λ (cs : List (Content Cap)). record old { durable = new; contents = cs; frozen = frozen_seen (stored_of disk new) m left }) contents
           ∙ ap (λ (t : StoreState D). record t { durable = new; contents = s.contents; frozen = frozen_seen (stored_of disk new) m left }) view
 
-      pub save_snapshots : {T E : Type 0} (r : Result T E) → ((h : FrozenPuts) → (stored_of disk d).frozen ≡ Some h → OnOk r (stored_of disk new ≡ stored_after_commit age h (stored_of disk d))) →
-          OnOk r (snapshots_of disk (cache_of disk new m left order most_entries) ≡ store.snapshots_after_commit age f (snapshots_of disk s))
+      pub save_snapshots : {T E : Type 0} (r : Result T E) → ((h : FrozenPuts) → (stored_of disk d).frozen ≡ Some h → OnOk r (stored_of disk new ≡ on_snapshots (committed puts age h) (stored_of disk d))) →
+          OnOk r (snapshots_of disk (cache_of disk new m left order most_entries) ≡ committed whole age f (snapshots_of disk s))
       save_snapshots (Ok x) done =
           ap (λ (t : Stored). record { frozen = frozen_seen t m left; saved = t.saved; to_move = t.to_move }) (done found.0 found.1)
           ∙ ap (λ (saved : SavedFrames). record { frozen = None; saved = saved; to_move = found.0.size }) (next_are found.0 found.1)
-          ∙ ap (λ (g : FrozenFrames). record { frozen = None; saved = store.next_saved age f (stored_of disk s.durable).saved; to_move = g.size }) found.2
+          ∙ ap (λ (g : FrozenFrames). record { frozen = None; saved = next_saved whole age f (stored_of disk s.durable).saved; to_move = g.size }) found.2
       save_snapshots (Err e) done = tt
 
 -- a checkpoint with no frame left to write may be committed where each may be
-pub ready_of : (o : Option FrozenFrames) (saved : SavedFrames) (age k : ℕ) → option_map (λ (f : FrozenFrames). f.left) o ≡ Some k → k ≡ 0 → ((f : FrozenFrames) → o ≡ Some f → store.MayCommit age f saved) →
-    (f : FrozenFrames) × (o ≡ Some f) × (f.left ≡ 0) × store.MayCommit age f saved
+pub ready_of : (o : Option FrozenFrames) (saved : SavedFrames) (age k : ℕ) → option_map (λ (f : FrozenFrames). f.left) o ≡ Some k → k ≡ 0 → ((f : FrozenFrames) → o ≡ Some f → MayCommit whole age f saved) →
+    (f : FrozenFrames) × (o ≡ Some f) × (f.left ≡ 0) × MayCommit whole age f saved
 ready_of None saved age k is none may = absurd (none-some k is)
 ready_of (Some f) saved age k is none may = (f, refl, same_Some f.left k is ∙ none, may f refl)

@@ -4,17 +4,17 @@ use Rattle.object_cache.proofs.Names.{Ok, Err, refl, sym, ap, subst, ◌∙◌, 
 use Rattle.object_cache.proofs.Names.{ObjectHeader, Content, Role, blank_frame, frame_at, frames_in, header_at, held_at, AreKeepable, is_page, role_of}
 use Rattle.object_cache.proofs.Names.{words_in, object_count, Image, Disk, LeavesOnly, leaves_on, leaves_weaker, Body, Scratch, content_of, frame_of, Put}
 use Rattle.object_cache.proofs.Names.{Absent, Broken, Kept, put_at, put_or, most, SavedFrames, Holds, LeavesEither, LeavesOneOf, journaled_saved, with_words}
-use Rattle.object_cache.proofs.Names.{DurableState, FrozenPuts, Stored, below_at, ReadsStore, frozen_put, is_sound, left_of, stored_after_journal, stored_of}
-use Rattle.object_cache.proofs.Names.{maps_same, frame_in, JournalFault, is_page_role, next_journaled, Snapshots, FrozenFrames, page_is, role_is_page}
-use Rattle.object_cache.proofs.Names.{content_is_page, known_page, next_same, Entry, entry_at, entry_body, held_now, Memory, mark_at, masked, in_staging}
-use Rattle.object_cache.proofs.Names.{put_body, newest_body, below_body, present_body, content_at, present_at, frozen_body, frozen_frame, frozen_at}
-use Rattle.object_cache.proofs.Names.{contents_in, frozen_in, StoreState, IsCache, snapshots_of, cache_of, frozen_seen}
+use Rattle.object_cache.proofs.Names.{Snapshots, journaled, on_snapshots, DurableState, FrozenPuts, Stored, below_at, ReadsStore, frozen_put, is_sound, left_of}
+use Rattle.object_cache.proofs.Names.{stored_of, maps_same, frame_in, is_page_role, next_journaled, FrozenFrames, page_is, role_is_page, content_is_page}
+use Rattle.object_cache.proofs.Names.{known_page, next_same, Entry, entry_at, entry_body, held_now, Memory, mark_at, masked, in_staging, put_body, newest_body}
+use Rattle.object_cache.proofs.Names.{below_body, present_body, content_at, present_at, frozen_body, frozen_frame, frozen_at, contents_in, frozen_in}
+use Rattle.object_cache.proofs.Names.{StoreState, IsCache, snapshots_of, cache_of, frozen_seen, nat_lt, Refusal, NotPage, Renewed, IsJournalAnswer}
 use Rattle.std.proofs.Common.{OnOk, OnErr}
 use Rattle.model.specs.declared.object.Role.TheVariants as role
 use Rattle.layout.specs.declared.body.Body.TheVariants as body
-use Rattle.object_store.specs.declared.journal_fault.JournalFault.TheVariants as fault
+use Rattle.model.specs.declared.answer.Refusal.TheVariants as refusal
 use Rattle.object_store.specs.Journal as journal
-use Rattle.object_cache.proofs.Freezing.{put_or_body}
+use Rattle.object_cache.proofs.Freezing.{none_of, put_or_body}
 use Rattle.object_cache.proofs.Objects.{content_in}
 use Rattle.object_cache.proofs.Caching.{no_staging}
 
@@ -39,7 +39,7 @@ module _ (s : Stored) (m : Memory) (left count : ℕ) (is : IsCache s m left cou
     words = words_in (content_at s m n)
 
     abbrev after : Stored
-    after = stored_after_journal age n words s
+    after = on_snapshots (journaled age n words) s
 
     abbrev page : Frame
     page = with_words words (frame_at s.saved.frames n)
@@ -95,7 +95,7 @@ module _ (s : Stored) (m : Memory) (left count : ℕ) (is : IsCache s m left cou
     present_same : (k : ℕ) → present_at after m k ≡ present_at s m k
     present_same k = ap (λ (c : Content Cap). record { header = header_at m.headers k; content = c }) (content_same k)
 
-    pub journal_contents : contents_in (stored_after_journal age n (words_in (content_at s m n)) s) m ≡ contents_in s m
+    pub journal_contents : contents_in (on_snapshots (journaled age n (words_in (content_at s m n))) s) m ≡ contents_in s m
     unfolding contents_in
     journal_contents = maps_same (content_at after m) (content_at s m) (length m.headers) (λ k below. content_same k)
 
@@ -114,7 +114,7 @@ module _ (s : Stored) (m : Memory) (left count : ℕ) (is : IsCache s m left cou
         ∙ ap (λ (c : Content Cap). let f : Frame = record { header = (frame_at s.saved.frames n).header; content = c } in f) (sym was ∙ page_is (content_at s m n) holds)
         ∙ sym below_here
 
-    pub journal_stands : IsCache (stored_after_journal age n (words_in (content_at s m n)) s) m left count
+    pub journal_stands : IsCache (on_snapshots (journaled age n (words_in (content_at s m n))) s) m left count
     journal_stands = record {
       headers = is.headers;
       frozen_headers = is.frozen_headers;
@@ -145,21 +145,23 @@ module _ (s : Stored) (m : Memory) (left count : ℕ) (is : IsCache s m left cou
     }
 
     -- none is seen before and after
-    pub journal_frozen : frozen_seen (stored_after_journal age n (words_in (content_at s m n)) s) m left ≡ frozen_seen s m left
+    pub journal_frozen : frozen_seen (on_snapshots (journaled age n (words_in (content_at s m n))) s) m left ≡ frozen_seen s m left
     journal_frozen =
         ap (option_map (λ (f : FrozenPuts). record { frames = frozen_in after m; size = f.size; left = left })) none
         ∙ sym (ap (option_map (λ (f : FrozenPuts). record { frames = frozen_in s m; size = f.size; left = left })) none)
 
 -- an answer depends on whether a checkpoint is on its way, and on nothing else of it
-pub answer_same : {F : Type 0} (f g : F → ℕ) (o : Option F) (old new : Disk) (saved : SavedFrames) (is_page is_saved : Bool) (r : Result ℕ JournalFault) →
-    journal.IsJournalAnswer old new (option_map f o) saved is_page is_saved r → journal.IsJournalAnswer old new (option_map g o) saved is_page is_saved r
-answer_same f g None old new saved is_page is_saved r reported = reported
-answer_same f g (Some x) old new saved is_page is_saved (Ok generation) reported = absurd (none-some (f x) (sym reported.1))
-answer_same f g (Some x) old new saved is_page is_saved (Err fault.CheckpointRunning) reported = (reported.0, λ e. none-some (g x) (sym e))
-answer_same f g (Some x) old new saved is_page is_saved (Err fault.MigrationPending) reported = absurd (none-some (f x) (sym reported.1))
-answer_same f g (Some x) old new saved is_page is_saved (Err fault.NotPage) reported = absurd (none-some (f x) (sym reported.1))
-answer_same f g (Some x) old new saved is_page is_saved (Err fault.Renewed) reported = absurd (none-some (f x) (sym reported.1))
-answer_same f g (Some x) old new saved is_page is_saved (Err fault.Failed) reported = absurd (none-some (f x) (sym reported.1))
+pub answer_same : {F : Type 0} (f g : F → ℕ) (o : Option F) (old new : Disk) (saved : SavedFrames) (is_known is_page is_saved : Bool) (r : Result ℕ Refusal) →
+    IsJournalAnswer old new (option_map f o) saved is_known is_page is_saved r → IsJournalAnswer old new (option_map g o) saved is_known is_page is_saved r
+answer_same f g None old new saved is_known is_page is_saved r reported = reported
+answer_same f g (Some x) old new saved is_known is_page is_saved (Err refusal.CheckpointRunning) reported = (reported.0, λ e. none-some (g x) (sym e))
+answer_same f g (Some x) old new saved is_known is_page is_saved (Ok generation) reported = absurd (none-some (f x) (sym reported.1))
+answer_same f g (Some x) old new saved is_known is_page is_saved (Err refusal.MigrationPending) reported = absurd (none-some (f x) (sym reported.1))
+answer_same f g (Some x) old new saved is_known is_page is_saved (Err refusal.BadNumber) reported = absurd (none-some (f x) (sym reported.1))
+answer_same f g (Some x) old new saved is_known is_page is_saved (Err (refusal.NotJournaled NotPage)) reported = absurd (none-some (f x) (sym reported.1))
+answer_same f g (Some x) old new saved is_known is_page is_saved (Err (refusal.NotJournaled Renewed)) reported = absurd (none-some (f x) (sym reported.1))
+answer_same f g (Some x) old new saved is_known is_page is_saved (Err refusal.Fault) reported = absurd (none-some (f x) (sym reported.1))
+answer_same f g (Some x) old new saved is_known is_page is_saved (Err why) reported = absurd reported
 
 -- its words matter only if it is a page
 next_words : {F : Type 0} (age n : ℕ) (ws vs : List ℕ) (o : Option F) (saved : SavedFrames) (is_page is_saved : Bool) → (o ≡ None → is_page ≡ true → ws ≡ vs) →
@@ -167,10 +169,6 @@ next_words : {F : Type 0} (age n : ℕ) (ws vs : List ℕ) (o : Option F) (saved
 next_words age n ws vs None saved true is_saved same = ap (λ (xs : List ℕ). journal.saved_next age n xs saved true is_saved) (same refl refl)
 next_words age n ws vs None saved false is_saved same = refl
 next_words age n ws vs (Some f) saved is_page is_saved same = refl
-
-none_in : (o : Option FrozenPuts) → option_map left_of o ≡ None → o ≡ None
-none_in None is = refl
-none_in (Some f) is = absurd (none-some (left_of f) (sym is))
 
 -- the same by what is seen
 module _ {D : Type 0} (disk : D → Disk) (d : DurableState D) (m : Memory) (left count : ℕ) (order : List ℕ) (most_entries : ℕ) (s : StoreState D)
@@ -216,26 +214,26 @@ module _ {D : Type 0} (disk : D → Disk) (d : DurableState D) (m : Memory) (lef
     IsThere = (option_map left_of st.frozen ≡ None) × (is_page_role header.role ≡ true)
 
     abbrev IsDone : Type 0
-    IsDone = stored_of disk new ≡ stored_after_journal age n (words_in (held_now m.entries st n)) st
+    IsDone = stored_of disk new ≡ on_snapshots (journaled age n (words_in (held_now m.entries st n))) st
 
     -- the store is another by a page with the words of now
-    done_is : IsThere → IsDone → stored_of disk new ≡ stored_after_journal age n (words_in (content_at st m n)) st
+    done_is : IsThere → IsDone → stored_of disk new ≡ on_snapshots (journaled age n (words_in (content_at st m n))) st
     done_is there done =
-        done ∙ ap (λ (c : Content Cap). stored_after_journal age n (words_in c) st)
-        (sym (page_held st m left count is (none_in st.frozen there.0) n (role_is_page header.role there.1)))
+        done ∙ ap (λ (c : Content Cap). on_snapshots (journaled age n (words_in c)) st)
+        (sym (page_held st m left count is (none_of left_of st.frozen there.0) n (role_is_page header.role there.1)))
 
     pub stands_after : {T E : Type 0} (r : Result T E) → OnOk r IsThere → OnOk r IsDone → OnErr r (stored_of disk new ≡ st) → IsCache (stored_of disk new) m left count
     stands_after (Ok x) there done undone = subst (λ (t : Stored). IsCache t m left count) (sym (done_is there done))
-        (journal_stands st m left count is (none_in st.frozen there.0) n (role_is_page header.role there.1) age (content_page there.1))
+        (journal_stands st m left count is (none_of left_of st.frozen there.0) n (role_is_page header.role there.1) age (content_page there.1))
     stands_after (Err e) there done undone = subst (λ (t : Stored). IsCache t m left count) (sym undone) is
 
     pub seen_after : {T E : Type 0} (r : Result T E) → OnOk r IsThere → OnOk r IsDone → OnErr r (stored_of disk new ≡ st) → cache_of disk new m left order most_entries ≡ record s { durable = new }
     seen_after (Ok x) there done undone =
         let old = cache_of disk d m left order most_entries in
-        let none = none_in st.frozen there.0 in
+        let none = none_of left_of st.frozen there.0 in
         let page = role_is_page header.role there.1 in
         ap (λ (t : Stored). record old { durable = new; contents = contents_in t m; frozen = frozen_seen t m left }) (done_is there done)
-        ∙ ap (λ (cs : List (Content Cap)). record old { durable = new; contents = cs; frozen = frozen_seen (stored_after_journal age n (words_in (content_at st m n)) st) m left })
+        ∙ ap (λ (cs : List (Content Cap)). record old { durable = new; contents = cs; frozen = frozen_seen (on_snapshots (journaled age n (words_in (content_at st m n))) st) m left })
         (journal_contents st m left count is none n page age (content_page there.1))
         ∙ ap (λ (o : Option FrozenFrames). record old { durable = new; frozen = o }) (journal_frozen st m left count is none n page age (content_page there.1))
         ∙ ap (λ (t : StoreState D). record t { durable = new }) view
@@ -245,43 +243,44 @@ module _ {D : Type 0} (disk : D → Disk) (d : DurableState D) (m : Memory) (lef
         ∙ ap (λ (t : StoreState D). record t { durable = new }) view
 
     snapshots_own : {T E : Type 0} (r : Result T E) → OnOk r IsThere → OnOk r IsDone →
-        OnOk r (snapshots_of disk (record s { durable = new }) ≡ journal.snapshots_after_journal age n (words_in (held_at s.contents n)) (snapshots_of disk s))
+        OnOk r (snapshots_of disk (record s { durable = new }) ≡ journaled age n (words_in (held_at s.contents n)) (snapshots_of disk s))
     snapshots_own (Ok x) there done =
-        ap (λ (t : Stored). let a : Snapshots = record { frozen = s.frozen; saved = t.saved; to_move = t.to_move } in a) done
-        ∙ ap (λ (ws : List ℕ). journal.snapshots_after_journal age n ws (record { frozen = s.frozen; saved = st.saved; to_move = st.to_move })) (words_seen (none_in st.frozen there.0) there.1)
-        ∙ ap (λ (t : StoreState D). journal.snapshots_after_journal age n (words_in (held_at s.contents n)) (record { frozen = s.frozen; saved = (stored_of disk t.durable).saved; to_move = (stored_of disk t.durable).to_move })) view
+        ap (λ (t : Stored). let a : Snapshots FrozenFrames = record { frozen = s.frozen; saved = t.saved; to_move = t.to_move } in a) done
+        ∙ ap (λ (ws : List ℕ). journaled age n ws (record { frozen = s.frozen; saved = st.saved; to_move = st.to_move })) (words_seen (none_of left_of st.frozen there.0) there.1)
+        ∙ ap (λ (t : StoreState D). journaled age n (words_in (held_at s.contents n)) (record { frozen = s.frozen; saved = (stored_of disk t.durable).saved; to_move = (stored_of disk t.durable).to_move })) view
     snapshots_own (Err e) there done = tt
 
     pub snapshots_after : {T E : Type 0} (r : Result T E) → OnOk r IsThere → OnOk r IsDone → OnErr r (stored_of disk new ≡ st) →
-        OnOk r (snapshots_of disk (cache_of disk new m left order most_entries) ≡ journal.snapshots_after_journal age n (words_in (held_at s.contents n)) (snapshots_of disk s))
-    snapshots_after r there done undone = subst (λ (t : StoreState D). OnOk r (snapshots_of disk t ≡ journal.snapshots_after_journal age n (words_in (held_at s.contents n)) (snapshots_of disk s)))
+        OnOk r (snapshots_of disk (cache_of disk new m left order most_entries) ≡ journaled age n (words_in (held_at s.contents n)) (snapshots_of disk s))
+    snapshots_after r there done undone = subst (λ (t : StoreState D). OnOk r (snapshots_of disk t ≡ journaled age n (words_in (held_at s.contents n)) (snapshots_of disk s)))
         (sym (seen_after r there done undone)) (snapshots_own r there done)
 
     pub snapshots_stays : {T E : Type 0} (r : Result T E) → OnErr r (stored_of disk new ≡ stored_of disk d) → OnErr r (snapshots_of disk (cache_of disk new m left order most_entries) ≡ snapshots_of disk s)
     snapshots_stays (Ok x) undone = tt
     snapshots_stays (Err e) undone =
-        ap (λ (t : Stored). let a : Snapshots = record { frozen = frozen_seen t m left; saved = t.saved; to_move = t.to_move } in a) undone
+        ap (λ (t : Stored). let a : Snapshots FrozenFrames = record { frozen = frozen_seen t m left; saved = t.saved; to_move = t.to_move } in a) undone
         ∙ ap (λ (t : StoreState D). snapshots_of disk t) view
 
-    abbrev answer_of : StoreState D → Result ℕ JournalFault → Type 0
-    answer_of t r = journal.IsJournalAnswer (disk t.durable.beneath) (disk new.beneath) (option_map (λ (f : FrozenFrames). f.left) t.frozen) (stored_of disk t.durable).saved
-        (is_page_role (header_at t.headers n).role) (journal.is_same_page (header_at t.headers n).allocations (frame_at (stored_of disk t.durable).saved.frames n)) r
+    abbrev answer_of : StoreState D → Result ℕ Refusal → Type 0
+    answer_of t r = IsJournalAnswer (disk t.durable.beneath) (disk new.beneath) (option_map (λ (f : FrozenFrames). f.left) t.frozen) (stored_of disk t.durable).saved
+        (nat_lt n (length t.headers)) (is_page_role (header_at t.headers n).role) (journal.is_same_page (header_at t.headers n).allocations (frame_at (stored_of disk t.durable).saved.frames n)) r
 
     -- how many are left of a checkpoint on its way
     left_seen : (o : Option FrozenPuts) → option_map (λ (f : FrozenFrames). f.left) (option_map (λ (f : FrozenPuts). record { frames = frozen_in st m; size = f.size; left = left }) o) ≡ option_map (λ (f : FrozenPuts). left) o
     left_seen None = refl
     left_seen (Some f) = refl
 
-    pub answer_seen : (r : Result ℕ JournalFault) → journal.IsJournalAnswer (disk d.beneath) (disk new.beneath) (option_map left_of (stored_of disk d).frozen) (stored_of disk d).saved
-        (is_page_role (header_at m.headers n).role) (journal.is_same_page (header_at m.headers n).allocations (frame_at (stored_of disk d).saved.frames n)) r →
-        journal.IsJournalAnswer (disk s.durable.beneath) (disk new.beneath) (option_map (λ (f : FrozenFrames). f.left) s.frozen) (stored_of disk s.durable).saved
-        (is_page_role (header_at s.headers n).role) (journal.is_same_page (header_at s.headers n).allocations (frame_at (stored_of disk s.durable).saved.frames n)) r
+    pub answer_seen : (r : Result ℕ Refusal) → IsJournalAnswer (disk d.beneath) (disk new.beneath) (option_map left_of (stored_of disk d).frozen) (stored_of disk d).saved
+        (nat_lt n (length m.headers)) (is_page_role (header_at m.headers n).role) (journal.is_same_page (header_at m.headers n).allocations (frame_at (stored_of disk d).saved.frames n)) r →
+        IsJournalAnswer (disk s.durable.beneath) (disk new.beneath) (option_map (λ (f : FrozenFrames). f.left) s.frozen) (stored_of disk s.durable).saved
+        (nat_lt n (length s.headers)) (is_page_role (header_at s.headers n).role) (journal.is_same_page (header_at s.headers n).allocations (frame_at (stored_of disk s.durable).saved.frames n)) r
     answer_seen r reported =
+        let is_known = nat_lt n (length m.headers) in
         let is_page = is_page_role header.role in
         let is_saved = journal.is_same_page header.allocations (frame_at st.saved.frames n) in
         subst (λ (t : StoreState D). answer_of t r) view
-        (subst (λ (o : Option ℕ). journal.IsJournalAnswer (disk d.beneath) (disk new.beneath) o st.saved is_page is_saved r) (sym (left_seen st.frozen))
-        (answer_same left_of (λ (f : FrozenPuts). left) st.frozen (disk d.beneath) (disk new.beneath) st.saved is_page is_saved r reported))
+        (subst (λ (o : Option ℕ). IsJournalAnswer (disk d.beneath) (disk new.beneath) o st.saved is_known is_page is_saved r) (sym (left_seen st.frozen))
+        (answer_same left_of (λ (f : FrozenPuts). left) st.frozen (disk d.beneath) (disk new.beneath) st.saved is_known is_page is_saved r reported))
 
     abbrev moments_of : StoreState D → List ℕ → Type 0
     moments_of t ws = LeavesOneOf (disk t.durable.beneath) (disk new.beneath) (stored_of disk t.durable).saved

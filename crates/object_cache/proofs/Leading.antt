@@ -1,6 +1,6 @@
 -- Why one value of a cache continues as another.
-use Rattle.object_cache.proofs.Names.{◌≡◌, ℕ, Bool, List, Option, sym, ap, ◌∙◌, Cap, Content, Disk, stored_of, Snapshots, Held, Owed, StoreState, GoesOnIn}
-use Rattle.object_cache.proofs.Names.{on_device}
+use Rattle.object_cache.proofs.Names.{Snapshots, FrozenFrames, ◌≡◌, ℕ, Bool, List, Option, sym, ap, ◌∙◌, Cap, Content, Disk, stored_of, Held, Owed, StoreState}
+use Rattle.object_cache.proofs.Names.{GoesOnIn, on_device}
 
 module _ {D : Type 0} where
   -- what was put is on the device
@@ -33,4 +33,4 @@ module _ {D : Type 0} (disk : D → Disk) where
   }
 
   pub geometry_stays : (s t : StoreState D) → GoesOnIn disk s t → (stored_of disk t.durable).saved.geometry ≡ (stored_of disk s.durable).saved.geometry
-  geometry_stays s t first = ap (λ (a : Snapshots). a.saved.geometry) first.snapshots
+  geometry_stays s t first = ap (λ (a : Snapshots FrozenFrames). a.saved.geometry) first.snapshots

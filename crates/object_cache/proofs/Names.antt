@@ -13,8 +13,9 @@ pub use Rattle.capability.specs.Plain.{spare_body_at, spare_body_for}
 pub use Rattle.capability.specs.declared.present.Fresh.{Fresh}
 pub use Rattle.checkpoint.proofs.Lists.{maps_same}
 pub use Rattle.checkpoint.specs.Opened.{OnlyReads}
-pub use Rattle.checkpoint.specs.Refused.{IsCommitAnswer}
+pub use Rattle.checkpoint.specs.Refused.{IsCommitAnswer, IsJournalAnswer}
 pub use Rattle.checkpoint.specs.Saved.{Holds, LeavesEither, LeavesOneOf, LeavesSaved, SavedFrames, home_saved, journaled_saved, most, with_words}
+pub use Rattle.checkpoint.specs.Snapshots.{MayCommit, Snapshots, committed, freezing, journaled, moved, next_saved}
 pub use Rattle.device.proofs.Moments.{counted_ok, counts_on, leaves_on, leaves_weaker, peeks_started}
 pub use Rattle.device.specs.Calls.{Counts, Only}
 pub use Rattle.device.specs.Disk.{Disk, Image}
@@ -24,8 +25,8 @@ pub use Rattle.layout.specs.declared.body.Body.{Body}
 pub use Rattle.layout.specs.declared.body.Scratch.{Scratch}
 pub use Rattle.migrator.proofs.Kept.{map_set}
 pub use Rattle.migrator.proofs.Moving.{goes_none, goes_trans}
-pub use Rattle.migrator.specs.Durable.{DurableState, FrozenPuts, GoesOn, ReadsStore, Stored, below_at, freezing, frozen_put, is_sound, left_of, moved, newest}
-pub use Rattle.migrator.specs.Durable.{stored_after_commit, stored_after_journal, stored_of, with_frozen, with_put, with_working}
+pub use Rattle.migrator.specs.Durable.{DurableState, FrozenPuts, GoesOn, ReadsStore, Stored, below_at, freezing_puts, frozen_put, is_sound, left_of, newest}
+pub use Rattle.migrator.specs.Durable.{on_snapshots, puts, stored_of, with_frozen, with_put, with_working}
 pub use Rattle.migrator.specs.Opened.{OpensDurable}
 pub use Rattle.migrator.specs.Put.{Absent, Broken, HasFreeSlot, Kept, Put, held_slot, kept_count, put_at, put_or}
 unfoldable pub use Rattle.migrator.specs.Put.{overlaid, sum_of}
@@ -38,6 +39,8 @@ pub use Rattle.model.specs.Object.{is_page, role_of, words_in}
 unfoldable pub use Rattle.model.specs.Object.{all_slots, zero_words}
 pub use Rattle.model.specs.Revoke.{is_member}
 pub use Rattle.model.specs.Sound.{object_count}
+pub use Rattle.model.specs.declared.answer.Refusal.{Refusal}
+pub use Rattle.model.specs.declared.answer.Unjournaled.TheVariants.{NotPage, Renewed}
 pub use Rattle.model.specs.declared.capability.Cap.{Cap}
 pub use Rattle.model.specs.declared.frame.Frame.{Frame}
 pub use Rattle.model.specs.declared.frame.ObjectHeader.{ObjectHeader}
@@ -47,11 +50,10 @@ pub use Rattle.model.specs.declared.object.Role.{Role}
 pub use Rattle.number_set.specs.Marks.{HasNoneMarked, IsNextMarked}
 pub use Rattle.object_store.proofs.Journaling.{content_is_page, journal_there, known_page, next_same, page_is, role_is_page}
 pub use Rattle.object_store.specs.Journal.{is_page_role, next_journaled}
-pub use Rattle.object_store.specs.Store.{FrozenFrames, MayCommit, OpensStore, Snapshots, next_saved, stabilized}
-pub use Rattle.object_store.specs.declared.journal_fault.JournalFault.{JournalFault}
+pub use Rattle.object_store.specs.Store.{FrozenFrames, OpensStore, all_frozen, stabilized, whole}
 pub use Rattle.std.proofs.Common.{Bool, Err, IsSome, List, None, Ok, Option, Result, Some, [], ap, arith, cond, false, inl, inr, is_some, length, length-set}
-pub use Rattle.std.proofs.Common.{map, nat_eq, option_map, refl, replicate, rules, set, subst, suc, sym, take, true, true≢false, zero, ℕ, ◌++◌, ◌+◌, ◌-◌, ◌<◌}
-pub use Rattle.std.proofs.Common.{◌||◌, ◌↔◌, ◌∙◌, ◌∷◌, ◌≡◌, ◌≢◌, ◌≤◌, ◌⊎◌}
+pub use Rattle.std.proofs.Common.{map, nat_eq, nat_lt, option_map, refl, replicate, rules, set, subst, suc, sym, take, true, true≢false, zero, ℕ, ◌++◌, ◌+◌}
+pub use Rattle.std.proofs.Common.{◌-◌, ◌<◌, ◌||◌, ◌↔◌, ◌∙◌, ◌∷◌, ◌≡◌, ◌≢◌, ◌≤◌, ◌⊎◌}
 pub use Rattle.std.proofs.Math.ListN.{get_or-map}
 pub use Rattle.std.proofs.lemmas.Bool.{cases_eq, cases_lt, eq-eqb, le-ltb, lt-ltb, ne_eqb}
 pub use Rattle.std.proofs.lemmas.List.{ext_get_or, get_or-replicate, get_or-set_other, get_or-set_same, get_or_append_left, get_or_at, get_or_default}

@@ -1,7 +1,7 @@
 -- Frozen frames are put in turn, and as many fewer are said to be left.
 use Rattle.object_cache.proofs.Names.{◌≡◌, ℕ, ◌+◌, ◌-◌, ◌<◌, ◌≤◌, Bool, false, true≢false, List, [], Option, Some, None, option_map, is_some, refl, sym, ap}
 use Rattle.object_cache.proofs.Names.{subst, ◌∙◌, arith, count_by, none-some, same_Some, HasNoneMarked, Frame, Image, Disk, DurableState, FrozenPuts, stored_of}
-use Rattle.object_cache.proofs.Names.{goes_trans, FrozenFrames, Snapshots, stabilized, Held, Memory, frozen_in, StoreState, IsCache, AreFrozen, GoesOnIn}
+use Rattle.object_cache.proofs.Names.{Snapshots, goes_trans, FrozenFrames, stabilized, Held, Memory, frozen_in, StoreState, IsCache, AreFrozen, GoesOnIn}
 use Rattle.object_cache.proofs.Names.{PutsBy, snapshots_of, cache_of, on_device, on_device_frozen, pending_count, goes_on_same}
 use Rattle.object_cache.proofs.Freezing.{fewer_of}
 
@@ -84,12 +84,12 @@ module _ {D : Type 0} (disk : D → Disk) where
     snapshots = λ g is_g.
         let mid : FrozenFrames = record { frames = g.frames; size = g.size; left = g.left - i } in
         let one = first.snapshots g is_g in
-        second.snapshots mid (ap (λ (x : Snapshots). x.frozen) one)
-        ∙ ap (λ (x : Snapshots). stabilized k mid x) one
+        second.snapshots mid (ap (λ (x : Snapshots FrozenFrames). x.frozen) one)
+        ∙ ap (λ (x : Snapshots FrozenFrames). stabilized k mid x) one
         ∙ ap (λ (n : ℕ). record { frozen = Some (record { frames = g.frames; size = g.size; left = n }); saved = (snapshots_of disk a).saved; to_move = (snapshots_of disk a).to_move }) (total g);
     rest = second.rest ∙ ap (λ (x : StoreState D). on_device_frozen x c) first.rest;
     goes_on = goes_trans (disk a.durable.beneath) (disk b.durable.beneath) (disk c.durable.beneath) a.durable.books b.durable.books c.durable.books
-        (ap (λ (x : Snapshots). x.saved) (first.snapshots f is_some)) first.goes_on second.goes_on;
+        (ap (λ (x : Snapshots FrozenFrames). x.saved) (first.snapshots f is_some)) first.goes_on second.goes_on;
   } where
     total : (g : FrozenFrames) → g.left - i - k ≡ g.left - (i + k)
     total g = omega arith
@@ -98,6 +98,6 @@ module _ {D : Type 0} (disk : D → Disk) where
   pub next_requested : (a b : StoreState D) (count i : ℕ) → ((f : FrozenFrames) × (a.frozen ≡ Some f) × (count ≤ f.left)) → PutsBy disk a b i → i < count → (f : FrozenFrames) × (b.frozen ≡ Some f) × (0 < f.left)
   next_requested a b count i requested so_far lt = (
     record { frames = requested.0.frames; size = requested.0.size; left = requested.0.left - i },
-    ap (λ (x : Snapshots). x.frozen) (so_far.snapshots requested.0 requested.1),
+    ap (λ (x : Snapshots FrozenFrames). x.frozen) (so_far.snapshots requested.0 requested.1),
     omega (arith, requested.2, lt),
   )

@@ -5,6 +5,7 @@ pub use Rattle.cache_entries.specs.declared.entry.Entry.{Entry}
 pub use Rattle.capability.specs.Parts.{HaveTheirRoles, Parts}
 pub use Rattle.capability.specs.Plain.{spare_body_at}
 pub use Rattle.checkpoint.specs.Saved.{Holds, most}
+pub use Rattle.checkpoint.specs.Snapshots.{Snapshots}
 pub use Rattle.device.proofs.Moments.{ends, leaves_on, leaves_weaker, peeks_started}
 pub use Rattle.device.specs.Disk.{Disk, Image}
 pub use Rattle.device.specs.Moments.{Peeks}
@@ -24,7 +25,7 @@ pub use Rattle.model.specs.declared.frame.Frame.{Frame}
 pub use Rattle.model.specs.declared.frame.ObjectHeader.{ObjectHeader}
 pub use Rattle.model.specs.declared.object.Content.{Content}
 pub use Rattle.model.specs.declared.object.Role.{Role}
-pub use Rattle.object_store.specs.Store.{Continues, FrozenFrames, Snapshots, View, stabilized}
+pub use Rattle.object_store.specs.Store.{Continues, FrozenFrames, View, stabilized}
 pub use Rattle.std.proofs.Common.{ap, arith, length-set, refl, ◌∙◌, ◌≤◌}
 pub use Rattle.std.specs.List.{range_with_len}
 pub use Rattle.std.specs.Prelude.{Bool, IsSome, List, None, Option, Some, [], count_by, false, if◌then◌else◌, is_some}

@@ -1,6 +1,6 @@
 -- What is seen of a store goes on while its objects change.
 use Rattle.object_cache.specs.Names.{◌≤◌, refl, ap, ◌∙◌, arith, length-set, Cap, Content, Image, Disk, ends, leaves_on}
-use Rattle.object_cache.specs.Names.{leaves_weaker, peeks_started, goes_trans, goes_none, Snapshots}
+use Rattle.object_cache.specs.Names.{leaves_weaker, peeks_started, Snapshots, FrozenFrames, goes_trans, goes_none}
 use Rattle.std.proofs.Common.{ℕ, Bool}
 use Rattle.object_cache.specs.StoreState.{StoreState, GoesOnIn, ContinuesIn, IsFetchedIn, IsAnnouncedIn}
 use Rattle.object_cache.specs.StoreState.{with_content_in}
@@ -27,14 +27,14 @@ module _ {D : Type 0} (disk : D → Disk) where
   pub goes_on_twice : ((d : D) (t : ℕ) (c : Image) → t ≤ (disk d).moment → (disk d).may_leave c → (disk d).left_since t c) → (s t u : StoreState D) → GoesOnIn disk s t → GoesOnIn disk t u → GoesOnIn disk s u
   goes_on_twice counts_now s t u first second = record {
     goes_on = goes_trans (disk s.durable.beneath) (disk t.durable.beneath) (disk u.durable.beneath) s.durable.books t.durable.books u.durable.books
-        (ap (λ (a : Snapshots). a.saved) first.snapshots) first.goes_on second.goes_on;
+        (ap (λ (a : Snapshots FrozenFrames). a.saved) first.snapshots) first.goes_on second.goes_on;
     snapshots = second.snapshots ∙ first.snapshots;
     later = omega (arith, first.later, second.later);
     grows = omega (arith, first.grows, second.grows);
     most = second.most ∙ first.most;
     only_reads = λ none idle.
         let one = first.only_reads (omega (arith, none, second.grows)) idle in
-        let two = second.only_reads none (ap (λ (a : Snapshots). a.frozen) first.snapshots ∙ idle) in
+        let two = second.only_reads none (ap (λ (a : Snapshots FrozenFrames). a.frozen) first.snapshots ∙ idle) in
         leaves_on {old = disk s.durable.beneath} {mid = disk t.durable.beneath} {new = disk u.durable.beneath} {P = (disk s.durable.beneath).may_leave} one
         (leaves_weaker {old = disk t.durable.beneath} {new = disk u.durable.beneath} {P = (disk t.durable.beneath).may_leave} (disk s.durable.beneath).may_leave
         (ends {old = disk s.durable.beneath} {new = disk t.durable.beneath} {P = (disk s.durable.beneath).may_leave} one (counts_now t.durable.beneath)) two);

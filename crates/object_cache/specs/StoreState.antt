@@ -5,7 +5,7 @@ use Rattle.object_cache.specs.Names.{slice_set, ◌||◌, range_with_len, Cap, O
 use Rattle.object_cache.specs.Names.{headers, AreKeepable, touched_count, untouched, is_member, object_count, Disk}
 use Rattle.object_cache.specs.Names.{Peeks, Put, Absent, Broken, Kept, put_at, most, DurableState, FrozenPuts, Stored}
 use Rattle.object_cache.specs.Names.{GoesOn, saved_state, seen_of, stored_of, is_sound, SavedState, Parts}
-use Rattle.object_cache.specs.Names.{HaveTheirRoles, spare_body_at, FrozenFrames, Snapshots, View, stabilized, Entry}
+use Rattle.object_cache.specs.Names.{HaveTheirRoles, Snapshots, spare_body_at, FrozenFrames, View, stabilized, Entry}
 use Rattle.object_cache.specs.Names.{entry_at, buffer_of, AllDiffer, without}
 use Rattle.std.specs.Prelude.{◌≤◌}
 use Rattle.model.specs.declared.object.Content.TheVariants as content
@@ -70,7 +70,7 @@ module _ {D : Type 0} (disk : D → Disk) where
   abbrev pub saved_by : StoreState D → SavedState
   saved_by s = saved_state (seen_of disk s.durable) s.durable.books
 
-  abbrev pub snapshots_of : StoreState D → Snapshots
+  abbrev pub snapshots_of : StoreState D → Snapshots FrozenFrames
   snapshots_of s = record { frozen = s.frozen; saved = (stored_of disk s.durable).saved; to_move = (stored_of disk s.durable).to_move }
 
   abbrev pub view_of : StoreState D → View D

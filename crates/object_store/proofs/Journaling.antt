@@ -14,7 +14,8 @@ use Rattle.model.specs.Object.{is_page, role_of, words_in}
 use Rattle.device.specs.Disk.{Image, Disk}
 use Rattle.device.proofs.Moments.{leaves_weaker}
 use Rattle.checkpoint.specs.Saved.{SavedFrames, Holds, LeavesSaved, LeavesOneOf, journaled_saved}
-use Rattle.object_store.specs.declared.journal_fault.JournalFault.{JournalFault}
+use Rattle.model.specs.declared.answer.Refusal.{Refusal}
+use Rattle.checkpoint.specs.Refused.{IsJournalAnswer}
 use Rattle.object_store.specs.Journal as journal
 use Rattle.object_store.specs.Journal.{is_page_role}
 
@@ -57,7 +58,7 @@ next_is left_of age n ws None saved false is_saved none home page there = absurd
 next_is left_of age n ws (Some f) saved is_page is_saved none home page there = absurd cc
 
 -- it is done where no checkpoint is on its way, and the object is a page
-pub journal_there : (old new : Disk) (left : Option ℕ) (saved : SavedFrames) (is_page is_saved : Bool) (r : Result ℕ JournalFault) → journal.IsJournalAnswer old new left saved is_page is_saved r →
+pub journal_there : (old new : Disk) (left : Option ℕ) (saved : SavedFrames) (is_known is_page is_saved : Bool) (r : Result ℕ Refusal) → IsJournalAnswer old new left saved is_known is_page is_saved r →
     OnOk r ((left ≡ None) × (is_page ≡ true))
-journal_there old new left saved is_page is_saved (Ok generation) reported = (reported.1, reported.3)
-journal_there old new left saved is_page is_saved (Err why) reported = tt
+journal_there old new left saved is_known is_page is_saved (Ok generation) reported = (reported.1, reported.3)
+journal_there old new left saved is_known is_page is_saved (Err why) reported = tt

@@ -1,4 +1,4 @@
--- What an object store keeps beside the present objects, and what its calls do to that.
+-- An object store: its frozen state, what holds once it is opened, and what its calls answer.
 use Rattle.std.specs.Prelude.{◌≡◌, ◌≢◌, ◌==◌, if◌then◌else◌, ℕ, ◌+◌, ◌-◌, ◌<◌, ◌≤◌, ◌^◌, Option, Some, None, option_map}
 use Rattle.std.specs.Prelude.{List, Result, Ok, Err}
 use Rattle.model.specs.declared.frame.Frame.{Frame}
@@ -6,9 +6,10 @@ use Rattle.model.specs.Keepable.{AreKeepable}
 use Rattle.model.specs.Machine.{untouched}
 use Rattle.device.specs.Disk.{Disk}
 use Rattle.device.specs.Calls.{Only}
-use Rattle.checkpoint.specs.declared.checkpoint_fault.CheckpointFault.{CheckpointFault}
-use Rattle.checkpoint.specs.declared.checkpoint_fault.CheckpointFault.TheVariants as fault
-use Rattle.checkpoint.specs.Saved.{SavedFrames, Holds, LeavesSaved, home_saved}
+use Rattle.model.specs.declared.answer.Refusal.{Refusal}
+use Rattle.model.specs.declared.answer.Refusal.TheVariants as refusal
+use Rattle.checkpoint.specs.Saved.{Holds, LeavesSaved}
+use Rattle.checkpoint.specs.Snapshots.{FrozenView, Snapshots, freezing}
 use Rattle.checkpoint.specs.Opened.{OnlyReads}
 use Rattle.capability.specs.Parts.{Parts, frames_of}
 
@@ -18,16 +19,18 @@ pub record FrozenFrames : Type 0 where
   pub size : ℕ
   pub left : ℕ
 
--- what a store keeps beside the present objects; to_move counts the saved objects that aren't home
-pub record Snapshots : Type 0 where
-  pub frozen : Option FrozenFrames
-  pub saved : SavedFrames
-  pub to_move : ℕ
+-- all of its frames are saved
+abbrev pub whole : FrozenView FrozenFrames
+whole = record { frames = λ (f : FrozenFrames) (fs : List Frame). f.frames; size = λ (f : FrozenFrames). f.size; left = λ (f : FrozenFrames). f.left }
+
+-- all objects as they are, none of them in the log yet
+abbrev pub all_frozen : List Frame → ℕ → FrozenFrames
+all_frozen fs size = record { frames = fs; size = size; left = size }
 
 -- a store over a device; it is sound until a publishing fails
 pub record View (D : Type 0) : Type 1 where
   pub beneath : D
-  pub snapshots : Snapshots
+  pub snapshots : Snapshots FrozenFrames
   pub is_sound : Type 0
 
 -- the store went on with no commit and no checkpoint, whether or not the device failed
@@ -51,42 +54,15 @@ pub record OpensStore {D : Type 0} (disk : D → Disk) (device : D) (parts : Par
   pub only_reads : OnlyReads (disk device) (disk store.beneath)
   pub failures : (disk store.beneath).failures ≡ (disk device).failures
 
--- all objects are frozen with their present frames; `size` objects are to be written
-abbrev pub freezing : List Frame → ℕ → Snapshots → Snapshots
-freezing fs size c = record { frozen = Some (record { frames = fs; size = size; left = size }); saved = c.saved; to_move = c.to_move }
-
--- of how many objects of a checkpoint on its way the frame isn't in the log
-abbrev pub left_in : Snapshots → Option ℕ
-left_in c = option_map (λ (f : FrozenFrames). f.left) c.frozen
-
 -- frozen frames are written to the log only where a checkpoint is on its way
-abbrev pub IsStabilizeAnswer : Disk → Disk → Option ℕ → ℕ → Result ℕ CheckpointFault → Type 0
+abbrev pub IsStabilizeAnswer : Disk → Disk → Option ℕ → ℕ → Result ℕ Refusal → Type 0
 IsStabilizeAnswer old new left count (Ok n) = (new.failures ≡ old.failures) × (option_map (λ (k : ℕ). k - count) left ≡ Some n)
-IsStabilizeAnswer old new left count (Err fault.NoCheckpoint) = (new.failures ≡ old.failures) × (left ≡ None)
-IsStabilizeAnswer old new left count (Err fault.Failed) = (old.failures < new.failures) × (left ≢ None)
+IsStabilizeAnswer old new left count (Err refusal.NoCheckpoint) = (new.failures ≡ old.failures) × (left ≡ None)
+IsStabilizeAnswer old new left count (Err refusal.Fault) = (old.failures < new.failures) × (left ≢ None)
 IsStabilizeAnswer old new left count (Err _) = ⊥
 
 -- `n` more of the frozen objects are in the log
-abbrev pub stabilized : ℕ → FrozenFrames → Snapshots → Snapshots
-stabilized n f c = record { frozen = Some (record { frames = f.frames; size = f.size; left = f.left - n }); saved = c.saved; to_move = c.to_move }
-
--- what is saved once the frozen frames are, at an age
-abbrev pub next_saved : ℕ → FrozenFrames → SavedFrames → SavedFrames
-next_saved age f s = record { geometry = s.geometry; frames = f.frames; generation = s.generation + 1; entries = f.size; age = age }
-
--- they are saved
-abbrev pub snapshots_after_commit : ℕ → FrozenFrames → Snapshots → Snapshots
-snapshots_after_commit age f c = record { frozen = None; saved = next_saved age f c.saved; to_move = f.size }
-
--- frozen frames may be saved at an age, once all of them are in the log
-pub record MayCommit (age : ℕ) (f : FrozenFrames) (s : SavedFrames) : Type 0 where
-  pub later : s.age < age
-  pub most : age ≤ 2 ^ 62
-  pub keepable : AreKeepable s.geometry age f.frames
-
--- what is saved after n more of the saved objects went home
-abbrev pub moved_saved : ℕ → Snapshots → SavedFrames
-moved_saved n c = if c.to_move - n == 0 then home_saved c.saved else c.saved
-
-abbrev pub moved : ℕ → Snapshots → Snapshots
-moved n c = record { frozen = c.frozen; saved = moved_saved n c; to_move = c.to_move - n }
+abbrev pub stabilized : ℕ → FrozenFrames → Snapshots FrozenFrames → Snapshots FrozenFrames
+stabilized n f s =
+    let rest : FrozenFrames = record { frames = f.frames; size = f.size; left = f.left - n } in
+    freezing rest s

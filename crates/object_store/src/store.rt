@@ -1,25 +1,25 @@
 // The trait of object stores.
-ghost use Rattle.std.specs.Prelude.{◌≡◌, ◌⊎◌, ℕ, ◌-◌, ◌<◌, ◌≤◌, ◌^◌, None, Some, length, IfOk, IfErr, OnOk, OnErr};
-ghost use Rattle.std.specs.Prelude.{IsErrOf};
+ghost use Rattle.std.specs.Prelude.{◌≡◌, ◌⊎◌, ℕ, ◌-◌, ◌<◌, ◌≤◌, ◌^◌, None, Some, length, nat_lt, IfOk, IfErr, OnOk};
+ghost use Rattle.std.specs.Prelude.{OnErr, IsErrOf};
 ghost use Rattle.model.specs.Keepable.{AreKeepable};
 ghost use Rattle.model.specs.Machine.{untouched, touched_count};
 ghost use Rattle.device.specs.Disk.{Image};
 ghost use Rattle.device.specs.Calls.{Counts};
 ghost use Rattle.device.specs.Moments.{Peeks};
 ghost use Rattle.checkpoint.specs.Saved.{Holds, LeavesSaved, LeavesEither, LeavesOneOf};
-ghost use Rattle.object_store.specs.Journal.{IsJournalAnswer, IsTurnedAway, is_page_now, is_still_saved};
-ghost use Rattle.object_store.specs.Journal.{snapshots_after_journal, next_journaled, words_now};
+ghost use Rattle.checkpoint.specs.Snapshots.{MayCommit, committed, freezing, journaled, left_in, moved, moved_saved};
+ghost use Rattle.checkpoint.specs.Snapshots.{next_saved};
+ghost use Rattle.object_store.specs.Journal.{is_page_now, is_still_saved, next_journaled, words_now};
 ghost use Rattle.checkpoint.specs.Opened.{Refuses};
 ghost use Rattle.capability.specs.Parts.{frames_of};
-ghost use Rattle.checkpoint.specs.Refused.{IsCommitAnswer, IsFreezeAnswer, IsRefused};
-ghost use Rattle.object_store.specs.Store.{FrozenFrames, View, Continues, OpensStore, freezing, stabilized, next_saved};
-ghost use Rattle.object_store.specs.Store.{snapshots_after_commit, IsStabilizeAnswer, MayCommit, left_in, moved};
-ghost use Rattle.object_store.specs.Store.{moved_saved};
+ghost use Rattle.checkpoint.specs.Refused.{IsCommitAnswer, IsFreezeAnswer, IsJournalAnswer, IsRefused, IsTurnedAway};
+ghost use Rattle.object_store.specs.Store.{all_frozen, whole, FrozenFrames, View, Continues, OpensStore, stabilized};
+ghost use Rattle.object_store.specs.Store.{IsStabilizeAnswer};
 
-use crate::journal_fault::JournalFault;
 use capability::PresentFrames;
-use checkpoint::{Checkpoint, CheckpointFault, OpenRefused};
+use checkpoint::{Checkpoint, OpenRefused};
 use device::{Device, Failed};
+use model::Refusal;
 use std::alloc::Global;
 
 /// The present objects, those of a checkpoint on its way as they were when it began, and those that
@@ -59,7 +59,7 @@ pub trait ObjectStore<D: Device>: PresentFrames + Sized {
 
     /// How many objects of a checkpoint on its way aren't in the log, where there is one.
     fn left(&self) -> Option<u64>
-        ensures { result ≡ left_in (view self.now).snapshots };
+        ensures { result ≡ left_in whole (view self.now).snapshots };
 
     /// Puts an object out of memory, where the store may. Fails exactly where the device does.
     fn evict(&mut self, number: u64) -> Result<(), Failed>
@@ -78,10 +78,10 @@ pub trait ObjectStore<D: Device>: PresentFrames + Sized {
     ///
     /// It is refused by `CheckpointRunning` exactly where one is on its way, and else by
     /// `MigrationPending` exactly where something saved isn't home, and changes nothing then.
-    fn freeze(&mut self) -> Result<u64, CheckpointFault>
+    fn freeze(&mut self) -> Result<u64, Refusal>
         requires keepable { AreKeepable (Self.parts self.old).geometry u64.MAX
             (frames_of (Self.parts self.old)) }
-        ensures answer { IsFreezeAnswer (left_in (view self.old).snapshots)
+        ensures answer { IsFreezeAnswer (left_in whole (view self.old).snapshots)
             (view self.old).snapshots.saved.entries result }
         ensures unchanged { OnErr result (self.new ≡ self.old) }
         ensures size { IfOk result (λ n. n ≡ touched_count (Self.parts self.old).touched) }
@@ -91,18 +91,19 @@ pub trait ObjectStore<D: Device>: PresentFrames + Sized {
             ((Self.parts self.new).touched ≡ untouched (Self.parts self.old).geometry) }
         ensures geometry { (Self.parts self.new).geometry ≡ (Self.parts self.old).geometry }
         ensures snapshots { OnOk result ((view self.new).snapshots
-            ≡ freezing (frames_of (Self.parts self.old)) (touched_count (Self.parts self.old).touched) (view self.old).snapshots) }
+            ≡ freezing (all_frozen (frames_of (Self.parts self.old)) (touched_count (Self.parts self.old).touched))
+            (view self.old).snapshots) }
         ensures beneath { (view self.new).beneath ≡ (view self.old).beneath }
         ensures sound { (view self.old).is_sound → (view self.new).is_sound };
 
     /// Writes `count` of the frozen objects to the log, and answers how many are left.
     ///
     /// It is refused by `NoCheckpoint` exactly where none is on its way, and changes nothing then.
-    /// It returns `Failed` exactly where the device failed; then at most `count` objects were
+    /// It returns `Fault` exactly where the device failed; then at most `count` objects were
     /// written.
-    fn stabilize(&mut self, count: u64) -> Result<u64, CheckpointFault>
+    fn stabilize(&mut self, count: u64) -> Result<u64, Refusal>
         ensures answer { IsStabilizeAnswer (D.disk (view self.old).beneath) (D.disk (view self.new).beneath)
-            (left_in (view self.old).snapshots) count result }
+            (left_in whole (view self.old).snapshots) count result }
         ensures unchanged { IsRefused result → self.new ≡ self.old }
         ensures headers { (Self.parts self.new).headers ≡ (Self.parts self.old).headers }
         ensures contents { (Self.parts self.new).contents ≡ (Self.parts self.old).contents }
@@ -122,26 +123,26 @@ pub trait ObjectStore<D: Device>: PresentFrames + Sized {
     ///
     /// It is refused by `NoCheckpoint` exactly where none is on its way, and else by
     /// `NotStable(left)` exactly where `left` of its objects aren't in the log, and changes nothing
-    /// then. It returns `Failed` exactly where the device failed; then a crash leaves what was
+    /// then. It returns `Fault` exactly where the device failed; then a crash leaves what was
     /// saved or what is frozen.
-    fn commit(&mut self, age: u64) -> Result<u64, CheckpointFault>
+    fn commit(&mut self, age: u64) -> Result<u64, Refusal>
         requires sound { (view self.old).is_sound }
         requires ready { (f : FrozenFrames) → (view self.old).snapshots.frozen ≡ Some f
-            → MayCommit age f (view self.old).snapshots.saved }
+            → MayCommit whole age f (view self.old).snapshots.saved }
         ensures answer { IsCommitAnswer (D.disk (view self.old).beneath) (D.disk (view self.new).beneath)
-            (left_in (view self.old).snapshots) (view self.old).snapshots.saved.generation result }
+            (left_in whole (view self.old).snapshots) (view self.old).snapshots.saved.generation result }
         ensures unchanged { IsRefused result → self.new ≡ self.old }
         ensures headers { (Self.parts self.new).headers ≡ (Self.parts self.old).headers }
         ensures contents { (Self.parts self.new).contents ≡ (Self.parts self.old).contents }
         ensures touched { (Self.parts self.new).touched ≡ (Self.parts self.old).touched }
         ensures geometry { (Self.parts self.new).geometry ≡ (Self.parts self.old).geometry }
         ensures snapshots { (f : FrozenFrames) → (view self.old).snapshots.frozen ≡ Some f
-            → OnOk result ((view self.new).snapshots ≡ snapshots_after_commit age f (view self.old).snapshots) }
+            → OnOk result ((view self.new).snapshots ≡ committed whole age f (view self.old).snapshots) }
         ensures sound { OnOk result ((view self.new).is_sound) }
         ensures size { (D.disk (view self.new).beneath).sectors ≡ (D.disk (view self.old).beneath).sectors }
         ensures any_moment { (f : FrozenFrames) → (view self.old).snapshots.frozen ≡ Some f → f.left ≡ 0
             → LeavesEither (D.disk (view self.old).beneath) (D.disk (view self.new).beneath)
-            (view self.old).snapshots.saved (next_saved age f (view self.old).snapshots.saved) };
+            (view self.old).snapshots.saved (next_saved whole age f (view self.old).snapshots.saved) };
 
     /// Copies `count` of the saved objects home, and answers how many are left. Fails exactly where
     /// the device does, and then a crash leaves what was saved, or the same with all of it home
@@ -166,31 +167,31 @@ pub trait ObjectStore<D: Device>: PresentFrames + Sized {
     /// other objects what was saved: one page is durable without a checkpoint. Returns the new
     /// generation. It takes no memory.
     ///
-    /// It is refused by `CheckpointRunning` exactly where a checkpoint is on its way, else by
-    /// `MigrationPending` exactly where something saved isn't home, else by `NotPage` exactly where
-    /// the number isn't that of a page, else by `Renewed` exactly where no page is saved, or the
-    /// one that is was given up since. Nothing is written then, and before `Renewed` no device call
-    /// is made. It returns `Failed` exactly where the device failed; then a crash leaves what was
-    /// saved or, where nothing else refuses it, that with the page.
-    fn journal(&mut self, number: u64, age: u64) -> Result<u64, JournalFault>
+    /// It is refused by `CheckpointRunning` exactly where a checkpoint is on its way, else by `MigrationPending` exactly
+    /// where something saved isn't home, else by `BadNumber` exactly where no object has the number, else by
+    /// `NotJournaled(NotPage)` exactly where it isn't a page, else by `NotJournaled(Renewed)` exactly where no page is
+    /// saved, or the one that is was given up since; nothing is written then, and only before `Renewed` the device is
+    /// asked. It returns `Fault` exactly where the device failed; then a crash leaves what was saved or, where nothing
+    /// else refuses it, that with the page.
+    fn journal(&mut self, number: u64, age: u64) -> Result<u64, Refusal>
         requires keepable { AreKeepable (Self.parts self.old).geometry u64.MAX
             (frames_of (Self.parts self.old)) }
         requires sound { (view self.old).is_sound }
         requires later { (view self.old).snapshots.saved.age < age }
         requires most { age ≤ 2 ^ 62 }
         ensures answer { IsJournalAnswer (D.disk (view self.old).beneath) (D.disk (view self.new).beneath)
-            (left_in (view self.old).snapshots) (view self.old).snapshots.saved
-            (is_page_now (Self.parts self.old) number)
+            (left_in whole (view self.old).snapshots) (view self.old).snapshots.saved
+            (nat_lt number (length (Self.parts self.old).headers)) (is_page_now (Self.parts self.old) number)
             (is_still_saved (Self.parts self.old) (view self.old).snapshots.saved number) result }
         ensures turned_away { IsTurnedAway result → self.new ≡ self.old }
         ensures headers { (Self.parts self.new).headers ≡ (Self.parts self.old).headers }
         ensures contents { (Self.parts self.new).contents ≡ (Self.parts self.old).contents }
         ensures touched { (Self.parts self.new).touched ≡ (Self.parts self.old).touched }
         ensures geometry { (Self.parts self.new).geometry ≡ (Self.parts self.old).geometry }
-        ensures snapshots { OnOk result ((view self.new).snapshots ≡ snapshots_after_journal age number
+        ensures snapshots { OnOk result ((view self.new).snapshots ≡ journaled age number
             (words_now (Self.parts self.old) number) (view self.old).snapshots) }
         ensures unchanged { OnErr result ((view self.new).snapshots ≡ (view self.old).snapshots) }
-        ensures sound { IsErrOf result JournalFault.Failed ⊎ (view self.new).is_sound }
+        ensures sound { IsErrOf result Refusal.Fault ⊎ (view self.new).is_sound }
         ensures size { (D.disk (view self.new).beneath).sectors ≡ (D.disk (view self.old).beneath).sectors }
         ensures any_moment { LeavesOneOf (D.disk (view self.old).beneath) (D.disk (view self.new).beneath)
             (view self.old).snapshots.saved (next_journaled age number

@@ -20,7 +20,8 @@ use Rattle.checkpoint.specs.declared.open_fault.OpenFault.TheVariants as fault
 use Rattle.checkpoint.specs.Opened.{OnlyReads}
 use Rattle.checkpoint.specs.Saved.{Holds}
 use Rattle.capability.specs.Parts.{OnlyFetches, Parts, frames_of, objects_in}
-use Rattle.object_store.specs.Store.{Snapshots, FrozenFrames, Continues, OpensStore, View}
+use Rattle.checkpoint.specs.Snapshots.{Snapshots}
+use Rattle.object_store.specs.Store.{FrozenFrames, Continues, OpensStore, View}
 use Rattle.space_bank.specs.Banks.{AreCounted, BanksState}
 use Rattle.recovery.specs.declared.live.Live.{Live}
 use Rattle.recovery.specs.Denotes.{saved_of, IsSoundSaved}
@@ -109,13 +110,13 @@ module _ {D S : Type 0} (disk : D → Disk) (view : S → View D) (parts : S →
     geometry = sym same.geometry ∙ geometry_is t
 
     frames : frames_of (parts t) ≡ (view t).snapshots.saved.frames
-    frames = same_frames ∙ opens.frames ∙ ap (λ (a : Snapshots). a.saved.frames) (sym continues.snapshots)
+    frames = same_frames ∙ opens.frames ∙ ap (λ (a : Snapshots FrozenFrames). a.saved.frames) (sym continues.snapshots)
 
     age_saved : age ≡ (view t).snapshots.saved.age
-    age_saved = age_is ∙ ap (λ (a : Snapshots). a.saved.age) (sym continues.snapshots)
+    age_saved = age_is ∙ ap (λ (a : Snapshots FrozenFrames). a.saved.age) (sym continues.snapshots)
 
     frozen : (view t).snapshots.frozen ≡ None
-    frozen = ap (λ (a : Snapshots). a.frozen) continues.snapshots ∙ opens.frozen
+    frozen = ap (λ (a : Snapshots FrozenFrames). a.frozen) continues.snapshots ∙ opens.frozen
 
     now_sound : IsSoundFrames (view t).snapshots.saved.geometry age (frames_of (parts t))
     now_sound =
@@ -154,15 +155,15 @@ module _ {D S : Type 0} (disk : D → Disk) (view : S → View D) (parts : S →
         let g = a.saved.geometry in
         opened_by g (saved_of a.saved) (world_at age (frames_of (parts t))) (parts t).touched (renewed_since (base_of a) (frames_of (parts t))) (frozen_of age a.frozen) a.to_move
         (ap (λ (n : ℕ). world_at n (frames_of (parts t))) age_saved ∙ ap (world_at a.saved.age) frames)
-        (same.touched ∙ opens.touched ∙ ap (λ (x : Snapshots). untouched x.saved.geometry) (sym continues.snapshots))
+        (same.touched ∙ opens.touched ∙ ap (λ (x : Snapshots FrozenFrames). untouched x.saved.geometry) (sym continues.snapshots))
         (ap (λ (fs : List Frame). renewed_since fs (frames_of (parts t))) base_is ∙ none_renewed g (frames_of (parts t)) now_sound.keepable.count)
         (ap (frozen_of age) frozen)
-        (ap (λ (x : Snapshots). x.to_move) continues.snapshots ∙ opens.to_move ∙ ap (λ (x : Snapshots). x.saved.entries) (sym continues.snapshots))
+        (ap (λ (x : Snapshots FrozenFrames). x.to_move) continues.snapshots ∙ opens.to_move ∙ ap (λ (x : Snapshots FrozenFrames). x.saved.entries) (sym continues.snapshots))
 
     pub recovers : Recovers disk view parts device (record { store = t; banks = banks; age = age; frozen_age = age })
     unfolding live
     recovers = record {
-      holds = subst (λ (a : Snapshots). Holds (disk device).sectors (disk device).seen a.saved) (sym continues.snapshots) opens.holds;
+      holds = subst (λ (a : Snapshots FrozenFrames). Holds (disk device).sectors (disk device).seen a.saved) (sym continues.snapshots) opens.holds;
       up = record {
         store = continues.sound opens.sound;
         sound = is_sound;

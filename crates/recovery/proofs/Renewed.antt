@@ -7,7 +7,8 @@ use Rattle.model.specs.declared.frame.Frame.{Frame}
 use Rattle.model.specs.declared.geometry.Geometry.{Geometry}
 use Rattle.model.specs.Frame.{frame_at}
 use Rattle.model.specs.Machine.{untouched}
-use Rattle.object_store.specs.Store.{Snapshots, FrozenFrames}
+use Rattle.checkpoint.specs.Snapshots.{Snapshots}
+use Rattle.object_store.specs.Store.{FrozenFrames}
 use Rattle.recovery.specs.Live.{base_of, renewed_since}
 
 -- the count of allocations of a number, among frames
@@ -43,8 +44,8 @@ none_renewed g fs count =
 abbrev pub base_by : List Frame → Option FrozenFrames → List Frame
 base_by saved o = elim o [ None ↦ saved | Some f ↦ f.frames ]
 
-pub base_frozen : (a : Snapshots) (f : FrozenFrames) → a.frozen ≡ Some f → base_of a ≡ f.frames
+pub base_frozen : (a : Snapshots FrozenFrames) (f : FrozenFrames) → a.frozen ≡ Some f → base_of a ≡ f.frames
 base_frozen a f is = ap (base_by a.saved.frames) is
 
-pub base_saved : (a : Snapshots) → a.frozen ≡ None → base_of a ≡ a.saved.frames
+pub base_saved : (a : Snapshots FrozenFrames) → a.frozen ≡ None → base_of a ≡ a.saved.frames
 base_saved a is = ap (base_by a.saved.frames) is

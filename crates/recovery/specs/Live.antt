@@ -1,7 +1,7 @@
 -- The machine that an open store stands for.
 use Rattle.recovery.specs.Names.{◌≡◌, ℕ, ◌<◌, ◌≤◌, ◌==◌, Bool, not, Option, None, Some, List, [], ◌∷◌, length, map}
-use Rattle.recovery.specs.Names.{range_with_len, Frame, Geometry, frame_at, IsSoundFrames, world_at, Frozen, Running}
-use Rattle.recovery.specs.Names.{Disk, Parts, frames_of, objects_in, Snapshots, FrozenFrames, View, AreCounted}
+use Rattle.recovery.specs.Names.{range_with_len, Frame, Geometry, frame_at, Snapshots, IsSoundFrames, world_at, Frozen}
+use Rattle.recovery.specs.Names.{Running, Disk, Parts, frames_of, objects_in, FrozenFrames, View, AreCounted}
 use Rattle.recovery.specs.Names.{BanksState}
 use Rattle.recovery.specs.declared.live.Live.{Live}
 use Rattle.recovery.specs.Denotes.{saved_of, IsSoundSaved, Leaves}
@@ -12,7 +12,7 @@ frozen_of age None = None
 frozen_of age (Some f) = Some (record { world = world_at age f.frames; size = f.size; left = f.left })
 
 -- the frames that the last checkpoint or restart began from
-abbrev pub base_of : Snapshots → List Frame
+abbrev pub base_of : Snapshots FrozenFrames → List Frame
 base_of a = elim a.frozen [ None ↦ a.saved.frames | Some f ↦ f.frames ]
 
 -- the numbers whose counts of allocations have risen since
@@ -20,7 +20,7 @@ unfoldable pub renewed_since : List Frame → List Frame → List Bool
 renewed_since base fs = map (λ n. not ((frame_at fs n).header.allocations == (frame_at base n).header.allocations)) (range_with_len 0 (length base))
 
 -- the machine of present frames and of what is kept beside them
-abbrev pub running_of : Parts → Snapshots → ℕ → ℕ → Running
+abbrev pub running_of : Parts → Snapshots FrozenFrames → ℕ → ℕ → Running
 running_of p snapshots age frozen_age = record {
   now = world_at age (frames_of p);
   touched = p.touched;
@@ -37,7 +37,7 @@ pub record IsSoundFrozen (g : Geometry) (saved_age frozen_age age : ℕ) (f : Fr
   pub sound : IsSoundFrames g frozen_age f.frames
 
 -- all that a kernel keeps is sound, what is counted of banks is what there is, and no count of allocations has fallen
-pub record AreSoundTogether (g : Geometry) (p : Parts) (snapshots : Snapshots) (banks : BanksState) (age frozen_age : ℕ) : Type 0 where
+pub record AreSoundTogether (g : Geometry) (p : Parts) (snapshots : Snapshots FrozenFrames) (banks : BanksState) (age frozen_age : ℕ) : Type 0 where
   pub geometry : p.geometry ≡ g
   pub now : IsSoundFrames g age (frames_of p)
   pub counted : AreCounted g (objects_in p) banks

@@ -2,6 +2,7 @@
 pub use Rattle.capability.specs.Parts.{Parts, frames_of, objects_in}
 pub use Rattle.checkpoint.specs.Opened.{OnlyReads}
 pub use Rattle.checkpoint.specs.Saved.{Holds, SavedFrames}
+pub use Rattle.checkpoint.specs.Snapshots.{Snapshots}
 pub use Rattle.checkpoint.specs.declared.open_fault.OpenFault.{OpenFault}
 pub use Rattle.consistency.specs.Consistency.{IsInconsistent}
 pub use Rattle.consistency.specs.declared.reason.CheckFault.{CheckFault}
@@ -18,7 +19,7 @@ pub use Rattle.model.specs.Machine.{Frozen, Running, Saved, opened}
 pub use Rattle.model.specs.Sound.{IsSound}
 pub use Rattle.model.specs.declared.frame.Frame.{Frame}
 pub use Rattle.model.specs.declared.geometry.Geometry.{Geometry}
-pub use Rattle.object_store.specs.Store.{FrozenFrames, Snapshots, View}
+pub use Rattle.object_store.specs.Store.{FrozenFrames, View}
 pub use Rattle.space_bank.specs.Banks.{AreCounted, BanksState}
 pub use Rattle.std.specs.List.{Contains, range_with_len}
 pub use Rattle.std.specs.Prelude.{Bool, List, None, Option, Some, [], length, map, not, ℕ, ◌<◌, ◌==◌, ◌∷◌, ◌≡◌, ◌≤◌}

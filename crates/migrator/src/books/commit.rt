@@ -4,8 +4,9 @@ ghost use Rattle.model.specs.Keepable.{AreKeepable};
 ghost use Rattle.device.specs.Calls.{Counts};
 ghost use Rattle.layout.specs.Header.{IsHeader};
 ghost use Rattle.checkpoint.specs.Saved.{LeavesEither};
-ghost use Rattle.migrator.specs.Durable.{IsDurable, IsSoundOn, frozen_of, next_header, next_saved, seen_by};
-ghost use Rattle.migrator.specs.Durable.{stored_after_commit, stored_on};
+ghost use Rattle.checkpoint.specs.Snapshots.{committed, next_saved};
+ghost use Rattle.migrator.specs.Durable.{IsDurable, IsSoundOn, frozen_of, next_header, seen_by, stored_on, puts};
+ghost use Rattle.migrator.specs.Durable.{on_snapshots};
 ghost use Rattle.migrator.specs.Table.{whole_count};
 
 use crate::books::Books;
@@ -42,11 +43,11 @@ impl Books {
         requires later { self.old.header.age < age }
         requires most { age ≤ 2 ^ 62 }
         requires keepable { AreKeepable self.old.plan.geometry age
-            (next_saved age (frozen_of (seen_by (D.disk device.old).seen self.old) self.old size)
+            (next_saved puts age (frozen_of (seen_by (D.disk device.old).seen self.old) self.old size)
             (stored_on (D.disk device.old) self.old).saved).frames }
         ensures stands { IsDurable (D.disk device.new) self.new }
         ensures committed { OnOk result (stored_on (D.disk device.new) self.new
-            ≡ stored_after_commit age (frozen_of (seen_by (D.disk device.old).seen self.old) self.old size)
+            ≡ on_snapshots (committed puts age (frozen_of (seen_by (D.disk device.old).seen self.old) self.old size))
             (stored_on (D.disk device.old) self.old)) }
         ensures unchanged { OnErr result (stored_on (D.disk device.new) self.new
             ≡ stored_on (D.disk device.old) self.old) }
@@ -55,7 +56,7 @@ impl Books {
         ensures size { (D.disk device.new).sectors ≡ (D.disk device.old).sectors }
         ensures any_moment { LeavesEither (D.disk device.old) (D.disk device.new)
             (stored_on (D.disk device.old) self.old).saved
-            (next_saved age (frozen_of (seen_by (D.disk device.old).seen self.old) self.old size)
+            (next_saved puts age (frozen_of (seen_by (D.disk device.old).seen self.old) self.old size)
             (stored_on (D.disk device.old) self.old).saved) }
         ensures cause { Counts (D.disk device.old) (D.disk device.new) result }
     {

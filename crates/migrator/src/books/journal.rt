@@ -1,5 +1,5 @@
 // One page is saved beside the checkpoints.
-ghost use Rattle.std.specs.Prelude.{◌≡◌, ℕ, ◌≤◌, ◌<◌, ◌^◌, None, [], length, IfOk, OnOk, OnErr};
+ghost use Rattle.std.specs.Prelude.{◌≡◌, ℕ, ◌≤◌, ◌<◌, ◌^◌, None, length, IfOk, OnOk, OnErr};
 ghost use Rattle.device.specs.Calls.{Counts};
 ghost use Rattle.layout.specs.Frame.{IsFrameOf};
 ghost use Rattle.layout.specs.Header.{IsHeader};
@@ -8,8 +8,9 @@ ghost use Rattle.model.specs.declared.object.Role.TheVariants as role;
 ghost use Rattle.frame_io.specs.Calls.{ReadsOnly};
 ghost use Rattle.frame_io.specs.Frames.{IsObject};
 ghost use Rattle.checkpoint.specs.Saved.{LeavesEither, journaled_saved, replaced_saved, with_words};
+ghost use Rattle.checkpoint.specs.Snapshots.{journaled, replaced};
 ghost use Rattle.migrator.specs.Durable.{GoesOnDisk, IsDurable, IsSoundOn, MayJournal, first_bytes, first_frame};
-ghost use Rattle.migrator.specs.Durable.{replaced, replaced_header, stored_after_journal, stored_on};
+ghost use Rattle.migrator.specs.Durable.{replaced_header, stored_on, on_snapshots};
 
 use crate::books::Books;
 use crate::directory::Directory;
@@ -41,14 +42,22 @@ impl Books {
         read_header_of(device, at, self.plan.shape(number))
     }
 
-    // Writes a page with other words, under the header that is saved, into the first slot of the half of the log that
-    // the saved generation used.
-    fn put_page<D: Device>(&self, device: &mut D, number: u64, words: &[u64]) -> Result<(), Failed>
+    // Writes a page with other words, under its saved header, into the first slot of the half of the log that the saved
+    // generation used.
+    fn put_page<D: Device>(
+        &self,
+        device: &mut D,
+        number: u64,
+        header: ObjectHeader,
+        words: &[u64],
+    ) -> Result<(), Failed>
         requires stands { IsDurable (D.disk device.old) self.now }
         requires free { self.now.size ≡ None }
         requires home { self.now.header.entries ≡ 0 }
         requires page { (frame_at (stored_on (D.disk device.old) self.now).saved.frames number).header.role
             ≡ role.Page }
+        requires header { header
+            ≡ (frame_at (stored_on (D.disk device.old) self.now).saved.frames number).header }
         requires words { length words.now ≡ 512 }
         ensures stands { IsDurable (D.disk device.new) self.now }
         ensures spelt { OnOk result ((age : ℕ) → self.now.header.age ≤ age
@@ -59,7 +68,6 @@ impl Books {
         ensures goes_on { GoesOnDisk (D.disk device.old) (D.disk device.new) self.now self.now }
         ensures cause { Counts (D.disk device.old) (D.disk device.new) result }
     {
-        let header = self.saved_header(device, number)?;
         let log = Log::new(&self.plan);
         log.write_page(device, self.header.generation, 0, header, words)
     }
@@ -97,8 +105,8 @@ impl Books {
         requires later { self.old.header.age < age }
         requires most { age ≤ 2 ^ 62 }
         ensures stands { IsDurable (D.disk device.new) self.new }
-        ensures saved { OnOk result (stored_on (D.disk device.new) self.new ≡ replaced age number
-            (first_frame (D.disk device.old).seen self.old number)
+        ensures saved { OnOk result (stored_on (D.disk device.new) self.new ≡ on_snapshots (replaced age number
+            (first_frame (D.disk device.old).seen self.old number))
             (stored_on (D.disk device.old) self.old)) }
         ensures unchanged { OnErr result (stored_on (D.disk device.new) self.new
             ≡ stored_on (D.disk device.old) self.old) }
@@ -119,7 +127,43 @@ impl Books {
         self.adopt(device, header, spare)
     }
 
-    /// Saves a page with other words, where no checkpoint is on its way and all that is saved is home.
+    /// Saves a page with other words, under its saved header, where no checkpoint is on its way and all that is saved is
+    /// home.
+    pub(crate) fn save_page<D: Device>(
+        &mut self,
+        device: &mut D,
+        spare: &mut Directory,
+        number: u64,
+        header: ObjectHeader,
+        words: &[u64],
+        age: u64,
+    ) -> Result<(), Failed>
+        requires stands { IsDurable (D.disk device.old) self.old }
+        requires free { self.old.size ≡ None }
+        requires home { self.old.header.entries ≡ 0 }
+        requires may { MayJournal age number (stored_on (D.disk device.old) self.old).saved }
+        requires header { header
+            ≡ (frame_at (stored_on (D.disk device.old) self.old).saved.frames number).header }
+        requires words { length words.now ≡ 512 }
+        requires sound { IsSoundOn (D.disk device.old) self.old }
+        ensures stands { IsDurable (D.disk device.new) self.new }
+        ensures journaled { OnOk result (stored_on (D.disk device.new) self.new
+            ≡ on_snapshots (journaled age number words.now) (stored_on (D.disk device.old) self.old)) }
+        ensures unchanged { OnErr result (stored_on (D.disk device.new) self.new
+            ≡ stored_on (D.disk device.old) self.old) }
+        ensures plan { self.new.plan ≡ self.old.plan }
+        ensures sound { OnOk result (IsSoundOn (D.disk device.new) self.new) }
+        ensures size { (D.disk device.new).sectors ≡ (D.disk device.old).sectors }
+        ensures any_moment { LeavesEither (D.disk device.old) (D.disk device.new)
+            (stored_on (D.disk device.old) self.old).saved
+            (journaled_saved age number words.now (stored_on (D.disk device.old) self.old).saved) }
+        ensures cause { Counts (D.disk device.old) (D.disk device.new) result }
+    {
+        self.put_page(device, number, header, words)?;
+        self.save_first(device, spare, number, age)
+    }
+
+    /// Reads the saved header of a page, and saves the page with other words.
     pub(crate) fn journal<D: Device>(
         &mut self,
         device: &mut D,
@@ -136,7 +180,7 @@ impl Books {
         requires sound { IsSoundOn (D.disk device.old) self.old }
         ensures stands { IsDurable (D.disk device.new) self.new }
         ensures journaled { OnOk result (stored_on (D.disk device.new) self.new
-            ≡ stored_after_journal age number words.now (stored_on (D.disk device.old) self.old)) }
+            ≡ on_snapshots (journaled age number words.now) (stored_on (D.disk device.old) self.old)) }
         ensures unchanged { OnErr result (stored_on (D.disk device.new) self.new
             ≡ stored_on (D.disk device.old) self.old) }
         ensures plan { self.new.plan ≡ self.old.plan }
@@ -147,7 +191,7 @@ impl Books {
             (journaled_saved age number words.now (stored_on (D.disk device.old) self.old).saved) }
         ensures cause { Counts (D.disk device.old) (D.disk device.new) result }
     {
-        self.put_page(device, number, words)?;
-        self.save_first(device, spare, number, age)
+        let header = self.saved_header(device, number)?;
+        self.save_page(device, spare, number, header, words, age)
     }
 }

@@ -2,8 +2,9 @@
 ghost use Rattle.std.specs.Prelude.{◌≡◌, ◌⊎◌, ℕ, ◌+◌, ◌-◌, ◌<◌, ◌≤◌, true, false, IfOk, OnOk, OnErr};
 ghost use Rattle.device.specs.Calls.{Counts};
 ghost use Rattle.checkpoint.specs.Saved.{LeavesEither, home_saved};
-ghost use Rattle.migrator.specs.Durable.{IsDurable, IsLesser, IsSoundOn, MovedBy, finished, moved, moved_saved};
-ghost use Rattle.migrator.specs.Durable.{stored_on};
+ghost use Rattle.checkpoint.specs.Snapshots.{all_moved, moved_saved, moved};
+ghost use Rattle.migrator.specs.Durable.{IsDurable, IsLesser, IsSoundOn, MovedBy, stored_on, on_snapshots};
+ghost use Rattle.migrator.specs.Durable.{snapshots_in};
 
 use crate::books::Books;
 use crate::copy::copy_home;
@@ -43,7 +44,7 @@ impl Books {
         requires sound { IsSoundOn (D.disk device.old) self.old }
         ensures stands { IsDurable (D.disk device.new) self.new }
         ensures finished { OnOk result (stored_on (D.disk device.new) self.new
-            ≡ finished (stored_on (D.disk device.old) self.old)) }
+            ≡ on_snapshots all_moved (stored_on (D.disk device.old) self.old)) }
         ensures unchanged { OnErr result (stored_on (D.disk device.new) self.new
             ≡ stored_on (D.disk device.old) self.old) }
         ensures plan { self.new.plan ≡ self.old.plan }
@@ -119,7 +120,7 @@ impl Books {
         ensures stands { IsDurable (D.disk device.new) self.new }
         ensures left { IfOk result (λ n. n ≡ (stored_on (D.disk device.old) self.old).to_move - count) }
         ensures moved { OnOk result (stored_on (D.disk device.new) self.new
-            ≡ moved count (stored_on (D.disk device.old) self.old)) }
+            ≡ on_snapshots (moved count) (stored_on (D.disk device.old) self.old)) }
         ensures unmoved { OnErr result ((k : ℕ) × (k ≤ (stored_on (D.disk device.old) self.old).to_move)
             × (stored_on (D.disk device.new) self.new
             ≡ record (stored_on (D.disk device.old) self.old) { to_move = k })) }
@@ -130,7 +131,7 @@ impl Books {
         ensures size { (D.disk device.new).sectors ≡ (D.disk device.old).sectors }
         ensures any_moment { LeavesEither (D.disk device.old) (D.disk device.new)
             (stored_on (D.disk device.old) self.old).saved
-            (moved_saved count (stored_on (D.disk device.old) self.old)) }
+            (moved_saved count (snapshots_in (stored_on (D.disk device.old) self.old))) }
         ensures cause { Counts (D.disk device.old) (D.disk device.new) result }
     {
         let (some, left) = self.share(count);

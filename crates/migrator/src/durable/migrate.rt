@@ -2,7 +2,8 @@
 ghost use Rattle.std.specs.Prelude.{◌≡◌, ℕ, ◌-◌, ◌≤◌, IfOk, OnOk, OnErr};
 ghost use Rattle.device.specs.Calls.{Counts};
 ghost use Rattle.checkpoint.specs.Saved.{LeavesEither};
-ghost use Rattle.migrator.specs.Durable.{stored_of, is_sound, moved_saved, moved};
+ghost use Rattle.checkpoint.specs.Snapshots.{moved_saved, moved};
+ghost use Rattle.migrator.specs.Durable.{stored_of, is_sound, snapshots_in, on_snapshots};
 
 use crate::durable::Durable;
 use device::{Device, Failed};
@@ -18,7 +19,7 @@ impl<D: Device> Durable<D> {
         requires sound { is_sound D.disk self.old }
         ensures left { IfOk result (λ n. n ≡ (stored_of D.disk self.old).to_move - count) }
         ensures moved { OnOk result
-            (stored_of D.disk self.new ≡ moved count (stored_of D.disk self.old)) }
+            (stored_of D.disk self.new ≡ on_snapshots (moved count) (stored_of D.disk self.old)) }
         ensures unmoved { OnErr result ((k : ℕ) × (k ≤ (stored_of D.disk self.old).to_move)
             × (stored_of D.disk self.new ≡ record (stored_of D.disk self.old) { to_move = k })) }
         ensures untouched { (stored_of D.disk self.old).saved.entries ≡ 0 → self.new ≡ self.old }
@@ -26,7 +27,7 @@ impl<D: Device> Durable<D> {
         ensures sound { OnOk result (is_sound D.disk self.new) }
         ensures size { (D.disk self.new.beneath).sectors ≡ (D.disk self.old.beneath).sectors }
         ensures any_moment { LeavesEither (D.disk self.old.beneath) (D.disk self.new.beneath)
-            (stored_of D.disk self.old).saved (moved_saved count (stored_of D.disk self.old)) }
+            (stored_of D.disk self.old).saved (moved_saved count (snapshots_in (stored_of D.disk self.old))) }
         ensures cause { Counts (D.disk self.old.beneath) (D.disk self.new.beneath) result }
     {
         self.books.migrate(&mut self.device, &mut self.spare, count)

@@ -1,6 +1,6 @@
 // One page is saved beside the checkpoints.
-ghost use Rattle.std.specs.Prelude.{◌≡◌, ◌⊎◌, ◌+◌, ◌<◌, ◌≤◌, ◌^◌, None, length, option_map, true, IfOk, OnOk, OnErr};
-ghost use Rattle.std.specs.Prelude.{IsErrOf};
+ghost use Rattle.std.specs.Prelude.{◌≡◌, ◌⊎◌, ◌+◌, ◌<◌, ◌≤◌, ◌^◌, None, length, nat_lt, option_map, true, IfOk, OnOk};
+ghost use Rattle.std.specs.Prelude.{OnErr, IsErrOf};
 ghost use Rattle.model.specs.declared.object.Role.TheVariants as role;
 ghost use Rattle.model.specs.Frame.{frame_at, header_at};
 ghost use Rattle.model.specs.Keepable.{AreKeepable};
@@ -9,26 +9,29 @@ ghost use Rattle.model.specs.Sound.{object_count};
 ghost use Rattle.device.specs.Calls.{Counts};
 ghost use Rattle.capability.specs.Parts.{frames_of};
 ghost use Rattle.checkpoint.specs.Saved.{LeavesEither, LeavesOneOf, journaled_saved};
-ghost use Rattle.migrator.specs.Durable.{stored_of, is_sound, left_of, newest, stored_after_journal};
-ghost use Rattle.object_store.specs.Journal.{IsJournalAnswer, IsTurnedAway, snapshots_after_journal, is_page_now};
-ghost use Rattle.object_store.specs.Journal.{is_page_role, is_same_page, is_still_saved, next_journaled, words_now};
-ghost use Rattle.object_store.specs.Store.{left_in};
+ghost use Rattle.checkpoint.specs.Snapshots.{journaled, left_in};
+ghost use Rattle.object_store.specs.Store.{whole};
+ghost use Rattle.migrator.specs.Durable.{on_snapshots, stored_of, is_sound, left_of, newest};
+ghost use Rattle.checkpoint.specs.Refused.{IsJournalAnswer, IsTurnedAway};
+ghost use Rattle.object_store.specs.Journal.{is_page_now, is_page_role, is_same_page, is_still_saved, next_journaled};
+ghost use Rattle.object_store.specs.Journal.{words_now};
 ghost use Rattle.object_cache.specs.Journaled.{held_now};
 ghost use Rattle.object_cache.specs.StoreState.{parts_of, view_of};
 
 use crate::cache::Cache;
-use crate::page::{may_journal, save_content, save_words};
+use crate::page::{may_journal, save_content};
 use cache_entries::Entries;
 use capability::ObjectTable;
 use device::{Device, Failed};
 use layout::Scratch;
 use migrator::Durable;
-use object_store::JournalFault;
+use model::{ObjectHeader, Refusal};
 
 // Saves a page with the words that it has on the device. Fails exactly where the device does.
 fn save_read<D: Device>(
     durable: &mut Durable<D>,
     scratch: &mut Scratch,
+    header: ObjectHeader,
     number: u64,
     age: u64,
 ) -> Result<u64, Failed>
@@ -38,11 +41,12 @@ fn save_read<D: Device>(
     requires home { (stored_of D.disk durable.old).saved.entries ≡ 0 }
     requires saved { (frame_at (stored_of D.disk durable.old).saved.frames number).header.role
         ≡ role.Page }
+    requires header { header ≡ (frame_at (stored_of D.disk durable.old).saved.frames number).header }
     requires sound { is_sound D.disk durable.old }
     requires later { (stored_of D.disk durable.old).saved.age < age }
     requires most { age ≤ 2 ^ 62 }
-    ensures journaled { OnOk result (stored_of D.disk durable.new ≡ stored_after_journal age number
-        (words_in (newest (stored_of D.disk durable.old) number).content) (stored_of D.disk durable.old)) }
+    ensures journaled { OnOk result (stored_of D.disk durable.new ≡ on_snapshots (journaled age number
+        (words_in (newest (stored_of D.disk durable.old) number).content)) (stored_of D.disk durable.old)) }
     ensures unchanged { OnErr result (stored_of D.disk durable.new ≡ stored_of D.disk durable.old) }
     ensures plan { durable.new.books.plan ≡ durable.old.books.plan }
     ensures generation { IfOk result (λ generation. generation
@@ -56,7 +60,7 @@ fn save_read<D: Device>(
     ensures cause { Counts (D.disk durable.old.beneath) (D.disk durable.new.beneath) result }
 {
     match durable.fetch(number, scratch) {
-        Ok(_) => save_words(durable, &scratch.words, number, age),
+        Ok(_) => durable.save_page(number, header, &scratch.words, age),
         Err(_) => Err(Failed),
     }
 }
@@ -66,6 +70,7 @@ fn save_present<D: Device>(
     durable: &mut Durable<D>,
     entries: &Entries,
     scratch: &mut Scratch,
+    header: ObjectHeader,
     number: u64,
     age: u64,
 ) -> Result<u64, Failed>
@@ -76,11 +81,12 @@ fn save_present<D: Device>(
     requires home { (stored_of D.disk durable.old).saved.entries ≡ 0 }
     requires saved { (frame_at (stored_of D.disk durable.old).saved.frames number).header.role
         ≡ role.Page }
+    requires header { header ≡ (frame_at (stored_of D.disk durable.old).saved.frames number).header }
     requires sound { is_sound D.disk durable.old }
     requires later { (stored_of D.disk durable.old).saved.age < age }
     requires most { age ≤ 2 ^ 62 }
-    ensures journaled { OnOk result (stored_of D.disk durable.new ≡ stored_after_journal age number
-        (words_in (held_now entries.now.at (stored_of D.disk durable.old) number))
+    ensures journaled { OnOk result (stored_of D.disk durable.new ≡ on_snapshots (journaled age number
+        (words_in (held_now entries.now.at (stored_of D.disk durable.old) number)))
         (stored_of D.disk durable.old)) }
     ensures unchanged { OnErr result (stored_of D.disk durable.new ≡ stored_of D.disk durable.old) }
     ensures plan { durable.new.books.plan ≡ durable.old.books.plan }
@@ -95,8 +101,8 @@ fn save_present<D: Device>(
     ensures cause { Counts (D.disk durable.old.beneath) (D.disk durable.new.beneath) result }
 {
     match entries.get(number) {
-        Some(entry) => save_content(durable, &entry.present, number, age),
-        None => save_read(durable, scratch, number, age),
+        Some(entry) => save_content(durable, &entry.present, header, number, age),
+        None => save_read(durable, scratch, header, number, age),
     }
 }
 
@@ -108,7 +114,7 @@ fn journal_page<D: Device>(
     scratch: &mut Scratch,
     number: u64,
     age: u64,
-) -> Result<u64, JournalFault>
+) -> Result<u64, Refusal>
     requires known { is_page_role (header_at table.now number).role ≡ true → number < length entries.now.at }
     requires object { is_page_role (header_at table.now number).role ≡ true
         → number < object_count durable.old.books.plan.geometry }
@@ -117,18 +123,18 @@ fn journal_page<D: Device>(
     requires sound { is_sound D.disk durable.old }
     requires later { (stored_of D.disk durable.old).saved.age < age }
     requires most { age ≤ 2 ^ 62 }
-    ensures journaled { OnOk result (stored_of D.disk durable.new ≡ stored_after_journal age number
-        (words_in (held_now entries.now.at (stored_of D.disk durable.old) number))
+    ensures journaled { OnOk result (stored_of D.disk durable.new ≡ on_snapshots (journaled age number
+        (words_in (held_now entries.now.at (stored_of D.disk durable.old) number)))
         (stored_of D.disk durable.old)) }
     ensures unchanged { OnErr result (stored_of D.disk durable.new ≡ stored_of D.disk durable.old) }
     ensures turned_away { IsTurnedAway result → durable.new ≡ durable.old }
     ensures plan { durable.new.books.plan ≡ durable.old.books.plan }
     ensures answer { IsJournalAnswer (D.disk durable.old.beneath) (D.disk durable.new.beneath)
         (option_map left_of (stored_of D.disk durable.old).frozen)
-        (stored_of D.disk durable.old).saved (is_page_role (header_at table.now number).role)
-        (is_same_page (header_at table.now number).allocations
+        (stored_of D.disk durable.old).saved (nat_lt number (length table.now))
+        (is_page_role (header_at table.now number).role) (is_same_page (header_at table.now number).allocations
         (frame_at (stored_of D.disk durable.old).saved.frames number)) result }
-    ensures sound { IsErrOf result JournalFault.Failed ⊎ is_sound D.disk durable.new }
+    ensures sound { IsErrOf result Refusal.Fault ⊎ is_sound D.disk durable.new }
     ensures size { (D.disk durable.new.beneath).sectors ≡ (D.disk durable.old.beneath).sectors }
     ensures any_moment { LeavesOneOf (D.disk durable.old.beneath) (D.disk durable.new.beneath)
         (stored_of D.disk durable.old).saved (next_journaled age number
@@ -138,12 +144,13 @@ fn journal_page<D: Device>(
         (frame_at (stored_of D.disk durable.old).saved.frames number))) }
 {
     let header = table.header(number);
-    match may_journal(durable, header, number) {
-        Ok(()) => match save_present(durable, entries, scratch, number, age) {
+    let is_known = number < table.count();
+    match may_journal(durable, header, is_known, number) {
+        Ok(saved) => match save_present(durable, entries, scratch, saved, number, age) {
             Ok(generation) => Ok(generation),
-            Err(_) => Err(JournalFault::Failed),
+            Err(_) => Err(Refusal::Fault),
         },
-        Err(fault) => Err(fault),
+        Err(why) => Err(why),
     }
 }
 
@@ -152,28 +159,28 @@ impl<D: Device> Cache<D> {
     /// other objects what was saved. Returns the new generation. It takes no memory: the words of a
     /// page that isn't in memory are read into the scratch buffer, which `open` allocated.
     ///
-    /// It is refused by `CheckpointRunning` exactly where a checkpoint is on its way, else by
-    /// `MigrationPending` exactly where something saved isn't home, else by `NotPage` exactly where
-    /// the number isn't that of a page, else by `Renewed` exactly where no page is saved, or the
-    /// one that is was given up since. It returns `Failed` exactly where the device failed.
-    pub fn journal(&mut self, number: u64, age: u64) -> Result<u64, JournalFault>
+    /// It is refused by `CheckpointRunning` exactly where a checkpoint is on its way, else by `MigrationPending` exactly
+    /// where something saved isn't home, else by `BadNumber` exactly where no object has the number, else by
+    /// `NotJournaled(NotPage)` exactly where it isn't a page, else by `NotJournaled(Renewed)` exactly where no page is
+    /// saved, or the one that is was given up since. It returns `Fault` exactly where the device failed.
+    pub fn journal(&mut self, number: u64, age: u64) -> Result<u64, Refusal>
         requires keepable { AreKeepable (parts_of D.disk self.old).geometry u64.MAX
             (frames_of (parts_of D.disk self.old)) }
         requires sound { (view_of D.disk self.old).is_sound }
         requires later { (view_of D.disk self.old).snapshots.saved.age < age }
         requires most { age ≤ 2 ^ 62 }
         ensures answer { IsJournalAnswer (D.disk self.old.durable.beneath) (D.disk self.new.durable.beneath)
-            (left_in (view_of D.disk self.old).snapshots) (view_of D.disk self.old).snapshots.saved
-            (is_page_now (parts_of D.disk self.old) number)
+            (left_in whole (view_of D.disk self.old).snapshots) (view_of D.disk self.old).snapshots.saved
+            (nat_lt number (length self.old.headers)) (is_page_now (parts_of D.disk self.old) number)
             (is_still_saved (parts_of D.disk self.old) (view_of D.disk self.old).snapshots.saved number) result }
         ensures turned_away { IsTurnedAway result → self.new ≡ self.old }
         ensures rest { self.new ≡ record self.old { durable = self.new.durable } }
         ensures geometry { (stored_of D.disk self.new.durable).saved.geometry
             ≡ (stored_of D.disk self.old.durable).saved.geometry }
-        ensures snapshots { OnOk result ((view_of D.disk self.new).snapshots ≡ snapshots_after_journal age number
+        ensures snapshots { OnOk result ((view_of D.disk self.new).snapshots ≡ journaled age number
             (words_now (parts_of D.disk self.old) number) (view_of D.disk self.old).snapshots) }
         ensures unchanged { OnErr result ((view_of D.disk self.new).snapshots ≡ (view_of D.disk self.old).snapshots) }
-        ensures sound { IsErrOf result JournalFault.Failed ⊎ (view_of D.disk self.new).is_sound }
+        ensures sound { IsErrOf result Refusal.Fault ⊎ (view_of D.disk self.new).is_sound }
         ensures size { (D.disk self.new.durable.beneath).sectors ≡ (D.disk self.old.durable.beneath).sectors }
         ensures any_moment { LeavesOneOf (D.disk self.old.durable.beneath) (D.disk self.new.durable.beneath)
             (view_of D.disk self.old).snapshots.saved (next_journaled age number

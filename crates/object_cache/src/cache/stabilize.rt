@@ -4,15 +4,16 @@ ghost use Rattle.device.specs.Calls.{Counts};
 ghost use Rattle.migrator.specs.Durable.{is_sound};
 ghost use Rattle.checkpoint.specs.Refused.{IsRefused};
 ghost use Rattle.checkpoint.specs.Saved.{LeavesSaved};
-ghost use Rattle.object_store.specs.Store.{FrozenFrames, IsStabilizeAnswer, left_in, stabilized};
+ghost use Rattle.checkpoint.specs.Snapshots.{left_in};
+ghost use Rattle.object_store.specs.Store.{whole, FrozenFrames, IsStabilizeAnswer, stabilized};
 ghost use Rattle.object_cache.specs.declared.held.Held.{Held};
 ghost use Rattle.object_cache.specs.Memory.{Nothing, mark_at};
 ghost use Rattle.object_cache.specs.StoreState.{GoesOnIn, PutsBy, on_device, on_device_frozen, owed_at, parts_of};
 ghost use Rattle.object_cache.specs.StoreState.{pending_count, view_of};
 
 use crate::cache::Cache;
-use checkpoint::CheckpointFault;
 use device::{Device, Failed};
+use model::Refusal;
 
 impl<D: Device> Cache<D> {
     // Reads a pending object's frozen body into `staging`. After `Failed`, `staging` is still empty.
@@ -79,11 +80,11 @@ impl<D: Device> Cache<D> {
     }
 
     // Puts one more, and says that one fewer is left.
-    fn put_one(&mut self) -> Result<(), CheckpointFault>
+    fn put_one(&mut self) -> Result<(), Refusal>
         requires { (f : FrozenFrames) × (self.old.frozen ≡ Some f) × (0 < f.left) }
         ensures put { OnOk result (PutsBy D.disk self.old self.new 1) }
         ensures unput { OnErr result (PutsBy D.disk self.old self.new 0) }
-        ensures failed { IfErr result (λ e. e ≡ CheckpointFault.Failed) }
+        ensures failed { IfErr result (λ e. e ≡ Refusal.Fault) }
         ensures cause { Counts (D.disk self.old.durable.beneath) (D.disk self.new.durable.beneath) result }
     {
         match self.put_next() {
@@ -91,16 +92,16 @@ impl<D: Device> Cache<D> {
                 self.left -= 1;
                 Ok(())
             }
-            Err(_) => Err(CheckpointFault::Failed),
+            Err(_) => Err(Refusal::Fault),
         }
     }
 
     // Calls `put_one` `count` times, up to its first fault.
-    fn put_some(&mut self, count: u64) -> Result<(), CheckpointFault>
+    fn put_some(&mut self, count: u64) -> Result<(), Refusal>
         requires { (f : FrozenFrames) × (self.old.frozen ≡ Some f) × (count ≤ f.left) }
         ensures put { OnOk result (PutsBy D.disk self.old self.new count) }
         ensures unput { OnErr result ((k : ℕ) × (k ≤ count) × PutsBy D.disk self.old self.new k) }
-        ensures failed { IfErr result (λ e. e ≡ CheckpointFault.Failed) }
+        ensures failed { IfErr result (λ e. e ≡ Refusal.Fault) }
         ensures cause { Counts (D.disk self.old.durable.beneath) (D.disk self.new.durable.beneath) result }
     {
         for _ in 0..count {
@@ -113,11 +114,11 @@ impl<D: Device> Cache<D> {
     /// that an eviction wrote before its turn is still counted as left until its turn.
     ///
     /// It is refused by `NoCheckpoint` exactly where none is on its way, and changes nothing then.
-    /// It returns `Failed` exactly where the device failed; then at most `count` objects were
+    /// It returns `Fault` exactly where the device failed; then at most `count` objects were
     /// written. It takes no memory.
-    pub fn stabilize(&mut self, count: u64) -> Result<u64, CheckpointFault>
+    pub fn stabilize(&mut self, count: u64) -> Result<u64, Refusal>
         ensures answer { IsStabilizeAnswer (D.disk self.old.durable.beneath) (D.disk self.new.durable.beneath)
-            (left_in (view_of D.disk self.old).snapshots) count result }
+            (left_in whole (view_of D.disk self.old).snapshots) count result }
         ensures unchanged { IsRefused result → self.new ≡ self.old }
         ensures rest { self.new ≡ on_device_frozen self.old self.new }
         ensures geometry { (parts_of D.disk self.new).geometry ≡ (parts_of D.disk self.old).geometry }
@@ -133,7 +134,7 @@ impl<D: Device> Cache<D> {
             (view_of D.disk self.old).snapshots.saved }
     {
         let Some(left) = self.left() else {
-            return Err(CheckpointFault::NoCheckpoint);
+            return Err(Refusal::NoCheckpoint);
         };
         let some = if count < left { count } else { left };
         self.put_some(some)?;

@@ -7,16 +7,17 @@ ghost use Rattle.capability.specs.Parts.{frames_of};
 ghost use Rattle.checkpoint.specs.Saved.{most, LeavesEither};
 ghost use Rattle.migrator.specs.Durable.{stored_of, is_sound};
 ghost use Rattle.checkpoint.specs.Refused.{IsCommitAnswer, IsFreezeAnswer, IsRefused};
-ghost use Rattle.object_store.specs.Store.{FrozenFrames, MayCommit, snapshots_after_commit, freezing, left_in, moved};
-ghost use Rattle.object_store.specs.Store.{moved_saved, next_saved};
+ghost use Rattle.checkpoint.specs.Snapshots.{MayCommit, committed, freezing, left_in, moved, moved_saved, next_saved};
+ghost use Rattle.object_store.specs.Store.{all_frozen, whole, FrozenFrames};
 ghost use Rattle.object_cache.specs.StoreState.{AreObjectsOf, IsWhole, parts_of, view_of};
 
 use crate::all_objects::{AllObjects, take_bodies};
 use crate::cache::Cache;
-use checkpoint::{Checkpoint, CheckpointFault};
+use checkpoint::Checkpoint;
 use device::{Device, Failed};
 use layout::Superblock;
 use migrator::Durable;
+use model::Refusal;
 use std::alloc::{AllocError, Global};
 use std::mem;
 
@@ -79,7 +80,7 @@ impl<D: Device> Cache<D> {
 
     /// How many objects of a checkpoint on its way are said to be left, where there is one.
     pub fn left(&self) -> Option<u64>
-        ensures { result ≡ left_in (view_of D.disk self.now).snapshots }
+        ensures { result ≡ left_in whole (view_of D.disk self.now).snapshots }
     {
         match self.durable.left() {
             Some(_) => Some(self.left),
@@ -90,49 +91,49 @@ impl<D: Device> Cache<D> {
     /// Commits the checkpoint on its way at an age, and answers its generation. It is refused by
     /// `NoCheckpoint` exactly where none is on its way, and else by `NotStable(left)` exactly where
     /// `stabilize` has yet to reach `left` of its objects, and changes nothing then.
-    pub fn commit(&mut self, age: u64) -> Result<u64, CheckpointFault>
+    pub fn commit(&mut self, age: u64) -> Result<u64, Refusal>
         requires sound { (view_of D.disk self.old).is_sound }
         requires ready { (f : FrozenFrames) → (view_of D.disk self.old).snapshots.frozen ≡ Some f
-            → MayCommit age f (view_of D.disk self.old).snapshots.saved }
+            → MayCommit whole age f (view_of D.disk self.old).snapshots.saved }
         ensures answer { IsCommitAnswer (D.disk self.old.durable.beneath) (D.disk self.new.durable.beneath)
-            (left_in (view_of D.disk self.old).snapshots) (view_of D.disk self.old).snapshots.saved.generation result }
+            (left_in whole (view_of D.disk self.old).snapshots) (view_of D.disk self.old).snapshots.saved.generation result }
         ensures unchanged { IsRefused result → self.new ≡ self.old }
         ensures rest { self.new ≡ record self.old { durable = self.new.durable; frozen = self.new.frozen } }
         ensures geometry { (parts_of D.disk self.new).geometry ≡ (parts_of D.disk self.old).geometry }
         ensures snapshots { (f : FrozenFrames) → (view_of D.disk self.old).snapshots.frozen ≡ Some f
-            → OnOk result ((view_of D.disk self.new).snapshots ≡ snapshots_after_commit age f (view_of D.disk self.old).snapshots) }
+            → OnOk result ((view_of D.disk self.new).snapshots ≡ committed whole age f (view_of D.disk self.old).snapshots) }
         ensures sound { OnOk result ((view_of D.disk self.new).is_sound) }
         ensures size { (D.disk self.new.durable.beneath).sectors ≡ (D.disk self.old.durable.beneath).sectors }
         ensures any_moment { (f : FrozenFrames) → (view_of D.disk self.old).snapshots.frozen ≡ Some f → f.left ≡ 0
             → LeavesEither (D.disk self.old.durable.beneath) (D.disk self.new.durable.beneath)
-            (view_of D.disk self.old).snapshots.saved (next_saved age f (view_of D.disk self.old).snapshots.saved) }
+            (view_of D.disk self.old).snapshots.saved (next_saved whole age f (view_of D.disk self.old).snapshots.saved) }
     {
         let Some(left) = self.left() else {
-            return Err(CheckpointFault::NoCheckpoint);
+            return Err(Refusal::NoCheckpoint);
         };
         if left != 0 {
-            return Err(CheckpointFault::NotStable(left));
+            return Err(Refusal::NotStable(left));
         }
         self.save(age)
     }
 
     // Commits the frozen frames. All of them are in the log.
-    fn save(&mut self, age: u64) -> Result<u64, CheckpointFault>
+    fn save(&mut self, age: u64) -> Result<u64, Refusal>
         requires sound { (view_of D.disk self.old).is_sound }
         requires ready { (f : FrozenFrames) × ((view_of D.disk self.old).snapshots.frozen ≡ Some f)
-            × (f.left ≡ 0) × MayCommit age f (view_of D.disk self.old).snapshots.saved }
+            × (f.left ≡ 0) × MayCommit whole age f (view_of D.disk self.old).snapshots.saved }
         ensures answer { IsCommitAnswer (D.disk self.old.durable.beneath) (D.disk self.new.durable.beneath)
             (Some 0) (view_of D.disk self.old).snapshots.saved.generation result }
         ensures unchanged { IsRefused result → self.new ≡ self.old }
         ensures rest { self.new ≡ record self.old { durable = self.new.durable; frozen = self.new.frozen } }
         ensures geometry { (parts_of D.disk self.new).geometry ≡ (parts_of D.disk self.old).geometry }
         ensures snapshots { (f : FrozenFrames) → (view_of D.disk self.old).snapshots.frozen ≡ Some f
-            → OnOk result ((view_of D.disk self.new).snapshots ≡ snapshots_after_commit age f (view_of D.disk self.old).snapshots) }
+            → OnOk result ((view_of D.disk self.new).snapshots ≡ committed whole age f (view_of D.disk self.old).snapshots) }
         ensures sound { OnOk result ((view_of D.disk self.new).is_sound) }
         ensures size { (D.disk self.new.durable.beneath).sectors ≡ (D.disk self.old.durable.beneath).sectors }
         ensures any_moment { (f : FrozenFrames) → (view_of D.disk self.old).snapshots.frozen ≡ Some f
             → LeavesEither (D.disk self.old.durable.beneath) (D.disk self.new.durable.beneath)
-            (view_of D.disk self.old).snapshots.saved (next_saved age f (view_of D.disk self.old).snapshots.saved) }
+            (view_of D.disk self.old).snapshots.saved (next_saved whole age f (view_of D.disk self.old).snapshots.saved) }
     {
         self.durable.commit(age)
     }
@@ -141,10 +142,10 @@ impl<D: Device> Cache<D> {
     /// the last one began. It takes no memory, and makes no call of the device. It is refused by
     /// `CheckpointRunning` exactly where one is on its way, and else by `MigrationPending` exactly
     /// where something saved isn't home, and changes nothing then.
-    pub fn freeze(&mut self) -> Result<u64, CheckpointFault>
+    pub fn freeze(&mut self) -> Result<u64, Refusal>
         requires keepable { AreKeepable (parts_of D.disk self.old).geometry most
             (frames_of (parts_of D.disk self.old)) }
-        ensures answer { IsFreezeAnswer (left_in (view_of D.disk self.old).snapshots)
+        ensures answer { IsFreezeAnswer (left_in whole (view_of D.disk self.old).snapshots)
             (view_of D.disk self.old).snapshots.saved.entries result }
         ensures unchanged { OnErr result (self.new ≡ self.old) }
         ensures size { IfOk result (λ n. n ≡ touched_count self.old.touched) }
@@ -154,7 +155,8 @@ impl<D: Device> Cache<D> {
         ensures contents { self.new.contents ≡ self.old.contents }
         ensures touched { OnOk result (self.new.touched ≡ untouched (parts_of D.disk self.old).geometry) }
         ensures snapshots { OnOk result ((view_of D.disk self.new).snapshots
-            ≡ freezing (frames_of (parts_of D.disk self.old)) (touched_count self.old.touched) (view_of D.disk self.old).snapshots) }
+            ≡ freezing (all_frozen (frames_of (parts_of D.disk self.old)) (touched_count self.old.touched))
+            (view_of D.disk self.old).snapshots) }
         ensures saved { (view_of D.disk self.new).snapshots.saved ≡ (view_of D.disk self.old).snapshots.saved }
         ensures beneath { self.new.durable.beneath ≡ self.old.durable.beneath }
         ensures sound { (view_of D.disk self.old).is_sound → (view_of D.disk self.new).is_sound }

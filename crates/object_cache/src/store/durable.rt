@@ -11,10 +11,11 @@ ghost use Rattle.object_cache.specs.StoreState.{ContinuesIn, on_device, parts_of
 use crate::policy::Policy;
 use crate::saved_objects::SavedObjects;
 use crate::store::{Store, cache_over};
-use checkpoint::{Checkpoint, CheckpointFault, OpenFault, OpenRefused};
+use checkpoint::{Checkpoint, OpenFault, OpenRefused};
 use device::{Device, Failed};
 use migrator::{Durable, Opened};
-use object_store::{JournalFault, ObjectStore};
+use model::Refusal;
+use object_store::ObjectStore;
 use std::alloc::Global;
 use std::marker::PhantomData;
 
@@ -84,15 +85,15 @@ impl<D: Device, P: Policy> ObjectStore<D> for Store<D, P> {
         self.cache.evict(number)
     }
 
-    fn freeze(&mut self) -> Result<u64, CheckpointFault> {
+    fn freeze(&mut self) -> Result<u64, Refusal> {
         self.cache.freeze()
     }
 
-    fn stabilize(&mut self, count: u64) -> Result<u64, CheckpointFault> {
+    fn stabilize(&mut self, count: u64) -> Result<u64, Refusal> {
         self.cache.stabilize(count)
     }
 
-    fn commit(&mut self, age: u64) -> Result<u64, CheckpointFault> {
+    fn commit(&mut self, age: u64) -> Result<u64, Refusal> {
         self.cache.commit(age)
     }
 
@@ -100,7 +101,7 @@ impl<D: Device, P: Policy> ObjectStore<D> for Store<D, P> {
         self.cache.migrate(count)
     }
 
-    fn journal(&mut self, number: u64, age: u64) -> Result<u64, JournalFault> {
+    fn journal(&mut self, number: u64, age: u64) -> Result<u64, Refusal> {
         self.cache.journal(number, age)
     }
 

@@ -1,7 +1,7 @@
-use Rattle.kernel.proofs.Names.{ap, sym, subst, Answer, left_in, running, IsCaused, ServesUp}
+use Rattle.kernel.proofs.Names.{left_in, whole, ap, sym, subst, Answer, running, IsCaused, ServesUp, IsUnlooked}
 use Rattle.model.specs.declared.answer.Refusal.TheVariants as refusal
 use Rattle.model.specs.declared.command.Command.TheVariants as command
-use Rattle.kernel.proofs.Acts.{begun, freeze_cause, freeze_refused, refused, with_store}
+use Rattle.kernel.proofs.Acts.{begun, freeze_cause, freeze_looks, freeze_refused, refused, with_store}
 use Rattle.kernel.proofs.Stages.{frames_again, keepable_most, none_there}
 use Rattle.kernel.proofs.Steps.{worn}
 use Rattle.kernel.proofs.checkpoints.checkpoint.Goals as goal
@@ -41,7 +41,7 @@ returns-in-Err-clause-serves g c =
     let holds = g.met.S.ObjectStore.sound_holds in
     let said = c.in-Err.ensures in
     subst (λ (a : Answer). ServesUp disk view parts c.args.live.now command.Checkpoint a (with_store c.args.live.now c.freeze.new.self)) (sym c.refused.ensures.answer)
-    (freeze_refused disk view parts only holds c.args.live.now c.freeze.new.self c.in-Err.fault said.unchanged (c.is_worn.ensures.young c.if-is_worn.false) said.answer)
+    (freeze_refused disk view parts only holds c.args.live.now c.freeze.new.self c.in-Err.why said.unchanged (c.is_worn.ensures.young c.if-is_worn.false) said.answer)
 
 pub returns-in-Err-clause-cause : goal.returns-in-Err-clause-cause
 returns-in-Err-clause-cause g c =
@@ -50,4 +50,9 @@ returns-in-Err-clause-cause g c =
     let old = g.D.Device.disk (g.S.ObjectStore.view c.args.live.now.store).beneath in
     let new = g.D.Device.disk (g.S.ObjectStore.view c.freeze.new.self).beneath in
     subst (λ (a : Answer). IsCaused old new a) (sym c.refused.ensures.answer)
-    (freeze_cause old new (left_in snapshots) snapshots.saved.entries c.in-Err.fault said.answer (ap (λ d. (g.D.Device.disk d).failures) said.beneath))
+    (freeze_cause old new (left_in whole snapshots) snapshots.saved.entries c.in-Err.why said.answer (ap (λ d. (g.D.Device.disk d).failures) said.beneath))
+
+pub returns-in-Err-clause-only_reads : goal.returns-in-Err-clause-only_reads
+returns-in-Err-clause-only_reads g c =
+    let snapshots = (g.S.ObjectStore.view c.args.live.now.store).snapshots in
+    λ unlooked. freeze_looks (left_in whole snapshots) snapshots.saved.entries c.in-Err.why c.in-Err.ensures.answer (subst IsUnlooked c.refused.ensures.answer unlooked)

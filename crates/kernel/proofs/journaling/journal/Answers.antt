@@ -1,9 +1,9 @@
-use Rattle.kernel.proofs.Names.{ℕ, ◌≡◌, ◌+◌, ◌∙◌, ap, length, sym, subst, nat_lt, Answer, LeavesOneOf, IsUnlooked, left_in, is_page_now, is_still_saved}
-use Rattle.kernel.proofs.Names.{snapshots_after_journal, next_journaled, words_now, IsCaused, ServesUp}
+use Rattle.kernel.proofs.Names.{journaled, left_in, whole, ℕ, ◌≡◌, ◌+◌, ◌∙◌, ap, length, sym, subst, nat_lt, Answer, LeavesOneOf, IsUnlooked, is_page_now}
+use Rattle.kernel.proofs.Names.{is_still_saved, next_journaled, words_now, IsCaused, ServesUp}
 use Rattle.model.specs.declared.command.Command.TheVariants as command
 use Rattle.kernel.proofs.Performing.{AreSame}
 use Rattle.kernel.proofs.Acts.{with_store}
-use Rattle.kernel.proofs.Journals.{journal_cause, journal_refused, journal_went, lies_past, lies_within, sound_done, too_old, unlooked_same}
+use Rattle.kernel.proofs.Journals.{journal_cause, journal_refused, journal_went, sound_done, too_old, unlooked_same}
 use Rattle.kernel.proofs.Stages.{keepable_most, none_there}
 use Rattle.kernel.proofs.journaling.journal.Goals as goal
 
@@ -34,7 +34,7 @@ returns-in-Ok-clause-serves g c =
     (subst (λ (k : ℕ). LeavesOneOf (disk (view c.args.live.now.store).beneath) (disk (view c.journal.new.self).beneath) snapshots.saved
     (next_journaled (k + 1) n (words_now p n) snapshots.frozen snapshots.saved (is_page_now p n) (is_still_saved p snapshots.saved n))) age said.any_moment)
     (none_there snapshots.frozen reported.1) reported.2 reported.3 reported.4 c.in-Ok.generation reported.5
-    (subst (λ (k : ℕ). (view c.journal.new.self).snapshots ≡ snapshots_after_journal (k + 1) n (words_now p n) snapshots) age said.snapshots)
+    (subst (λ (k : ℕ). (view c.journal.new.self).snapshots ≡ journaled (k + 1) n (words_now p n) snapshots) age said.snapshots)
     (sound_done c.in-Ok.generation said.sound)
 
 pub returns-in-Err-clause-serves : goal.returns-in-Err-clause-serves
@@ -48,11 +48,9 @@ returns-in-Err-clause-serves g c =
     let snapshots = (view c.args.live.now.store).snapshots in
     let n = c.args.number in
     let said = c.in-Err.ensures in
-    let count : c.count.result ≡ length p.headers = c.count.ensures ∙ ap length c.table.ensures in
     let same : AreSame (parts c.args.live.now.store) (parts c.journal.new.self) = record { headers = said.headers; contents = said.contents; touched = said.touched; geometry = said.geometry } in
     subst (λ (a : Answer). ServesUp disk view parts c.args.live.now (command.Journal n) a (with_store c.args.live.now c.journal.new.self)) (sym c.refused.ensures.answer)
-    (journal_refused disk view parts only holds c.args.live.now c.journal.new.self n (c.is_worn.ensures.young c.if-is_worn.false) c.in-Err.fault (nat_lt n c.count.result) same said.size said.answer said.turned_away
-    (lies_within n c.count.result (length p.headers) count) (lies_past n c.count.result (length p.headers) count) said.unchanged said.sound
+    (journal_refused disk view parts only holds c.args.live.now c.journal.new.self n (c.is_worn.ensures.young c.if-is_worn.false) c.in-Err.why same said.size said.answer said.turned_away said.unchanged said.sound
     (subst (λ (k : ℕ). LeavesOneOf (disk (view c.args.live.now.store).beneath) (disk (view c.journal.new.self).beneath) snapshots.saved
     (next_journaled (k + 1) n (words_now p n) snapshots.frozen snapshots.saved (is_page_now p n) (is_still_saved p snapshots.saved n))) c.saved-age.ensures.age said.any_moment))
 
@@ -63,11 +61,14 @@ returns-in-Err-clause-cause g c =
     let old = g.D.Device.disk (g.S.ObjectStore.view c.args.live.now.store).beneath in
     let new = g.D.Device.disk (g.S.ObjectStore.view c.journal.new.self).beneath in
     subst (λ (a : Answer). IsCaused old new a) (sym c.refused.ensures.answer)
-    (journal_cause old new (left_in snapshots) snapshots.saved (is_page_now (parts c.args.live.now.store) c.args.number) (is_still_saved (parts c.args.live.now.store) snapshots.saved c.args.number)
-    (nat_lt c.args.number c.count.result) c.in-Err.fault c.in-Err.ensures.answer)
+    (journal_cause old new (left_in whole snapshots) snapshots.saved (nat_lt c.args.number (length (parts c.args.live.now.store).headers)) (is_page_now (parts c.args.live.now.store) c.args.number)
+    (is_still_saved (parts c.args.live.now.store) snapshots.saved c.args.number) c.in-Err.why c.in-Err.ensures.answer)
 
 pub returns-in-Err-clause-untouched : goal.returns-in-Err-clause-untouched
 returns-in-Err-clause-untouched g c is =
     let view = g.S.ObjectStore.view in
+    let p = g.S.PresentFrames.parts c.args.live.now.store in
+    let snapshots = (view c.args.live.now.store).snapshots in
     ap (λ s. (view s).beneath)
-    (unlooked_same (nat_lt c.args.number c.count.result) c.in-Err.fault c.in-Err.ensures.turned_away (subst IsUnlooked c.refused.ensures.answer is))
+    (unlooked_same (g.D.Device.disk (view c.args.live.now.store).beneath) (g.D.Device.disk (view c.journal.new.self).beneath) (left_in whole snapshots) snapshots.saved
+    (nat_lt c.args.number (length p.headers)) (is_page_now p c.args.number) (is_still_saved p snapshots.saved c.args.number) c.in-Err.why c.in-Err.ensures.answer c.in-Err.ensures.turned_away (subst IsUnlooked c.refused.ensures.answer is))

@@ -1,4 +1,4 @@
-use Rattle.migrator.proofs.Names.{◌∙◌, refl, arith, frozen_of, next_saved, seen_by, stored_on}
+use Rattle.migrator.proofs.Names.{next_saved, ◌∙◌, refl, arith, frozen_of, seen_by, stored_on, puts}
 use Rattle.migrator.proofs.Buffered.{entry_of}
 use Rattle.migrator.proofs.Commits.{commit_run, commit_stored, may_commit_now, mid_durable, mid_goes_on, mid_stored}
 use Rattle.migrator.proofs.Committing.{frozen_fits}
@@ -37,7 +37,7 @@ returns-in_err-complete-clause-any_moment g c =
     let saved = (stored_on disk c.args.self.now).saved in
     let entries = c.as_slice.ensures ∙ c.fill.ensures in
     let keeps = keeps_at c.args.self.now (g.D.Device.disk c.args.device.now) (g.D.Device.disk c.complete.new.device) c.args.self.now.unwritten c.complete.new.self c.args.self.now.plan c.next_header-header.result c.as_slice.result.now refl c.next_header-header.ensures entries c.complete.ensures.keeps in
-    either_first disk (g.D.Device.disk c.complete.new.device) saved (next_saved c.args.age (frozen_of (seen_by disk.seen c.args.self.now) c.args.self.now c.args.size) saved)
+    either_first disk (g.D.Device.disk c.complete.new.device) saved (next_saved puts c.args.age (frozen_of (seen_by disk.seen c.args.self.now) c.args.self.now c.args.size) saved)
     ((mid_goes_on (g.D.Device.disk c.args.device.now) (g.D.Device.disk c.complete.new.device) c.args.self.now c.complete.new.self c.args.size c.requires.stands c.requires.running keeps).any_moment c.requires.sound)
 
 pub adopt-requires : goal.adopt-requires

@@ -1,5 +1,5 @@
-use Rattle.migrator.proofs.Names.{rules, ◌≡◌, ◌∙◌, ◌-◌, ◌<◌, ap, sym, subst, refl, arith, ℕ, Some, option_map, Image, Books, FrozenPuts, IsRunning, MayCommit}
-use Rattle.migrator.proofs.Names.{frozen_generation, frozen_of, is_sound, left_of, seen_by, stored_of}
+use Rattle.migrator.proofs.Names.{MayCommit, rules, ◌≡◌, ◌∙◌, ◌-◌, ◌<◌, ap, sym, subst, refl, arith, ℕ, Some, option_map, Image, Books, FrozenPuts, IsRunning}
+use Rattle.migrator.proofs.Names.{puts, frozen_generation, frozen_of, is_sound, left_of, seen_by, stored_of}
 use Rattle.migrator.proofs.Putting.{kept_whole}
 use Rattle.migrator.proofs.Tables.{whole_taken}
 use Rattle.migrator.proofs.durable.Durable.commit.Goals as goal
@@ -38,7 +38,7 @@ pub commit-requires-clause-later : goal.commit-requires-clause-later
 commit-requires-clause-later g c =
     let disk = g.D.Device.disk c.self.inside.device in
     let b = c.self.inside.books in
-    let ready = subst (λ t. (f : FrozenPuts) → (stored_of g.D.Device.disk t).frozen ≡ Some f → MayCommit c.args.age f (stored_of g.D.Device.disk t).saved) (sym c.self.view_is) c.requires.ready in
+    let ready = subst (λ t. (f : FrozenPuts) → (stored_of g.D.Device.disk t).frozen ≡ Some f → MayCommit puts c.args.age f (stored_of g.D.Device.disk t).saved) (sym c.self.view_is) c.requires.ready in
     let may = ready (frozen_of (seen_by disk.seen b) b c.in-Some.size) (ap (option_map (frozen_of (seen_by disk.seen b) b)) c.in-Some.is) in
     may.later
 
@@ -46,7 +46,7 @@ pub commit-requires-clause-most : goal.commit-requires-clause-most
 commit-requires-clause-most g c =
     let disk = g.D.Device.disk c.self.inside.device in
     let b = c.self.inside.books in
-    let ready = subst (λ t. (f : FrozenPuts) → (stored_of g.D.Device.disk t).frozen ≡ Some f → MayCommit c.args.age f (stored_of g.D.Device.disk t).saved) (sym c.self.view_is) c.requires.ready in
+    let ready = subst (λ t. (f : FrozenPuts) → (stored_of g.D.Device.disk t).frozen ≡ Some f → MayCommit puts c.args.age f (stored_of g.D.Device.disk t).saved) (sym c.self.view_is) c.requires.ready in
     let may = ready (frozen_of (seen_by disk.seen b) b c.in-Some.size) (ap (option_map (frozen_of (seen_by disk.seen b) b)) c.in-Some.is) in
     may.most
 
@@ -54,7 +54,7 @@ pub commit-requires-clause-keepable : goal.commit-requires-clause-keepable
 commit-requires-clause-keepable g c =
     let disk = g.D.Device.disk c.self.inside.device in
     let b = c.self.inside.books in
-    let ready = subst (λ t. (f : FrozenPuts) → (stored_of g.D.Device.disk t).frozen ≡ Some f → MayCommit c.args.age f (stored_of g.D.Device.disk t).saved) (sym c.self.view_is) c.requires.ready in
+    let ready = subst (λ t. (f : FrozenPuts) → (stored_of g.D.Device.disk t).frozen ≡ Some f → MayCommit puts c.args.age f (stored_of g.D.Device.disk t).saved) (sym c.self.view_is) c.requires.ready in
     let may = ready (frozen_of (seen_by disk.seen b) b c.in-Some.size) (ap (option_map (frozen_of (seen_by disk.seen b) b)) c.in-Some.is) in
     let none : c.in-Some.size - c.whole.result ≡ 0 = search rules in
     let left = ap (λ (n : ℕ). c.in-Some.size - n) (c.whole.ensures ∙ sym (kept_whole (seen_by disk.seen b) b.plan (frozen_generation b) b.frozen c.self.invariant.kept.frozen.count)) in

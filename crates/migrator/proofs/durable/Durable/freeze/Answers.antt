@@ -1,4 +1,4 @@
-use Rattle.migrator.proofs.Names.{◌≡◌, ◌≤◌, None, rules, sym, subst, freezing, seen_by, stored_of, stored_on, held_slot, sum_of}
+use Rattle.migrator.proofs.Names.{◌≡◌, ◌≤◌, None, rules, sym, subst, seen_by, stored_of, stored_on, held_slot, sum_of, freezing_puts}
 use Rattle.migrator.proofs.Buffered.{none_idle, without}
 use Rattle.migrator.proofs.Freezing.{freeze_kept, freeze_stored, frozen_books}
 use Rattle.migrator.proofs.durable.Durable.freeze.Goals as goal
@@ -21,4 +21,4 @@ returns-clause-frozen g c =
     let disk = g.D.Device.disk c.self.inside.device in
     let b = c.self.inside.books in
     let none : b.size ≡ None = search rules in
-    rw c.freeze.ensures (subst (λ t. stored_on disk (frozen_books b c.args.size) ≡ freezing c.args.size (stored_of g.D.Device.disk t)) c.self.view_is (freeze_stored disk.sectors (seen_by disk.seen b) b c.args.size none c.self.invariant.kept))
+    rw c.freeze.ensures (subst (λ t. stored_on disk (frozen_books b c.args.size) ≡ freezing_puts c.args.size (stored_of g.D.Device.disk t)) c.self.view_is (freeze_stored disk.sectors (seen_by disk.seen b) b c.args.size none c.self.invariant.kept))

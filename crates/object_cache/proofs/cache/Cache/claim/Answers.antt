@@ -18,10 +18,9 @@ filled-content-requires g c =
 pub invariant_of-self : goal.invariant_of-self
 invariant_of-self g c =
     let i = c.self.inside in
-    let m = memory_of i.table i.frozen_headers i.touched i.dirty i.pending i.entries.at i.staging in
     let body = fresh_content void_held c.args.fresh in
     rw (c.claim.ensures, c.role.ensures, c.filled-content.ensures, c.replace_buffer-buffer.ensures.entries) (
-      claim_stands g.D.Device.disk i.durable m i.left i.count i.entries.order i.entries.most c.args.self.now c.self.view_is c.self.invariant.0 c.args.number c.requires.fetched c.requires.announced
+      claim_stands g.D.Device.disk _ _ _ _ _ _ _ c.self.view_is c.self.invariant.0 c.args.number c.requires.fetched c.requires.announced
           (claimed (role_of body) c.args.owner (header_at i.table c.args.number)) body,
       c.self.invariant.1,
     )
@@ -29,10 +28,9 @@ invariant_of-self g c =
 pub returns : goal.returns
 returns g c =
     let i = c.self.inside in
-    let m = memory_of i.table i.frozen_headers i.touched i.dirty i.pending i.entries.at i.staging in
     let body = fresh_content void_held c.args.fresh in
     rw (c.claim.ensures, c.role.ensures, c.filled-content.ensures, c.replace_buffer-buffer.ensures.entries)
-    (claim_seen g.D.Device.disk i.durable m i.left i.count i.entries.order i.entries.most c.args.self.now c.self.view_is c.self.invariant.0 c.args.number c.requires.fetched c.requires.announced
+    (claim_seen g.D.Device.disk _ _ _ _ _ _ _ c.self.view_is c.self.invariant.0 c.args.number c.requires.fetched c.requires.announced
     (claimed (role_of body) c.args.owner (header_at i.table c.args.number)) body
     ∙ ap (λ (hs : List ObjectHeader). record c.args.self.now {
       headers = set c.args.self.now.headers c.args.number (claimed (role_of body) c.args.owner (header_at hs c.args.number));

@@ -12,7 +12,7 @@ invariant_of-self g c =
     let i = c.self.inside in
     let m = memory_of i.table i.frozen_headers i.touched i.dirty i.pending i.entries.at i.staging in
     let h = called (header_at i.table c.args.root) in
-    let k = known g.D.Device.disk i.durable m i.left i.count i.entries.order i.entries.most c.args.self.now c.self.view_is c.self.invariant.0 c.args.root c.requires.announced in
+    let k = known g.D.Device.disk _ _ _ _ _ _ _ c.self.view_is c.self.invariant.0 c.args.root c.requires.announced in
     (rw c.consume.ensures (header_stands (stored_of g.D.Device.disk i.durable) m i.left i.count c.self.invariant.0 c.args.root h k.header refl k.dirty), c.self.invariant.1)
 
 pub returns : goal.returns
@@ -20,7 +20,7 @@ returns g c =
     let i = c.self.inside in
     let m = memory_of i.table i.frozen_headers i.touched i.dirty i.pending i.entries.at i.staging in
     let h = called (header_at i.table c.args.root) in
-    let k = known g.D.Device.disk i.durable m i.left i.count i.entries.order i.entries.most c.args.self.now c.self.view_is c.self.invariant.0 c.args.root c.requires.announced in
+    let k = known g.D.Device.disk _ _ _ _ _ _ _ c.self.view_is c.self.invariant.0 c.args.root c.requires.announced in
     rw c.consume.ensures
     (seen_header g.D.Device.disk i.durable m i.left i.entries.order i.entries.most c.args.root h k.header refl k.touched
     ∙ ap (λ (s : StoreState g.row.D.Denot). record s { headers = set s.headers c.args.root (called (header_at s.headers c.args.root)) }) c.self.view_is)

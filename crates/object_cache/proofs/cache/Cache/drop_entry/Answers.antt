@@ -10,18 +10,14 @@ remove-requires g c =
 
 pub invariant_of-self : goal.invariant_of-self
 invariant_of-self g c =
-    let i = c.self.inside in
-    let m = memory_of i.table i.frozen_headers i.touched i.dirty i.pending i.entries.at i.staging in
     rw c.remove.ensures.entries (
-      drop_stands g.D.Device.disk i.durable m i.left i.count i.entries.order i.entries.most c.args.self.now c.self.view_is c.self.invariant.0 c.args.number c.requires.fetched c.requires.clean c.requires.owed c.requires.masked
+      drop_stands g.D.Device.disk _ _ _ _ _ _ _ c.self.view_is c.self.invariant.0 c.args.number c.requires.fetched c.requires.clean c.requires.owed c.requires.masked
           c.remove.result c.remove.ensures.entry,
       c.self.invariant.1,
     )
 
 pub returns : goal.returns
 returns g c =
-    let i = c.self.inside in
-    let m = memory_of i.table i.frozen_headers i.touched i.dirty i.pending i.entries.at i.staging in
     rw c.remove.ensures.entries
-    (drop_seen g.D.Device.disk i.durable m i.left i.count i.entries.order i.entries.most c.args.self.now c.self.view_is c.self.invariant.0 c.args.number c.requires.fetched c.requires.clean c.requires.owed c.requires.masked
+    (drop_seen g.D.Device.disk _ _ _ _ _ _ _ c.self.view_is c.self.invariant.0 c.args.number c.requires.fetched c.requires.clean c.requires.owed c.requires.masked
     c.remove.result c.remove.ensures.entry)

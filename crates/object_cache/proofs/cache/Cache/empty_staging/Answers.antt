@@ -1,5 +1,4 @@
-use Rattle.object_cache.proofs.Names.{◌≤◌, refl, sym, ap, subst, ◌∙◌, arith, option_copied, touched_count, stored_of, let_go, memory_of, StoreState}
-use Rattle.object_cache.proofs.Names.{goes_on_same}
+use Rattle.object_cache.proofs.Names.{◌≤◌, refl, sym, ap, subst, ◌∙◌, arith, option_copied, touched_count, stored_of, let_go, StoreState, goes_on_same}
 use Rattle.object_cache.proofs.Outcomes.{ok_then}
 use Rattle.object_cache.proofs.Paying.{let_go_own, ok_counts, paid_put}
 use Rattle.object_cache.proofs.Settling.{held_number}
@@ -28,9 +27,7 @@ returns-in_default-clause-cause g c = ok_counts refl
 
 pub owes-requires : goal.owes-requires
 owes-requires g c =
-    let i = c.self.inside in
-    let m = memory_of i.table i.frozen_headers i.touched i.dirty i.pending i.entries.at i.staging in
-    held_number g.D.Device.disk i.durable m i.left i.count i.entries.order i.entries.most c.args.self.now c.self.view_is c.self.invariant.0 c.in-Some.held.now (sym c.get.ensures ∙ ap option_copied c.in-Some.is)
+    held_number g.D.Device.disk _ _ _ _ _ _ _ c.self.view_is c.self.invariant.0 c.in-Some.held.now (sym c.get.ensures ∙ ap option_copied c.in-Some.is)
 
 pub put_own_frozen-requires-clause-fetched : goal.put_own_frozen-requires-clause-fetched
 put_own_frozen-requires-clause-fetched g c = c.owes.ensures.fetched c.if-owes.true

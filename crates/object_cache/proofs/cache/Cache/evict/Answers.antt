@@ -6,9 +6,7 @@ use Rattle.object_cache.proofs.cache.Cache.evict.Goals as goal
 
 pub put_away-requires-clause-fetched : goal.put_away-requires-clause-fetched
 put_away-requires-clause-fetched g c =
-    let i = c.self.inside in
-    let m = memory_of i.table i.frozen_headers i.touched i.dirty i.pending i.entries.at i.staging in
-    fetched_by g.D.Device.disk i.durable m i.left i.count i.entries.order i.entries.most c.args.self.now c.self.view_is c.self.invariant.0 c.args.number c.requires.known (sym c.holds.ensures ∙ c.if-holds.true)
+    fetched_by g.D.Device.disk _ _ _ _ _ _ _ c.self.view_is c.self.invariant.0 c.args.number c.requires.known (sym c.holds.ensures ∙ c.if-holds.true)
 
 pub put_away-requires-clause-keepable : goal.put_away-requires-clause-keepable
 put_away-requires-clause-keepable g c =
@@ -24,9 +22,7 @@ returns-then-holds-clause-gone g c =
 
 pub returns-clause-gone : goal.returns-clause-gone
 returns-clause-gone g c =
-    let i = c.self.inside in
-    let m = memory_of i.table i.frozen_headers i.touched i.dirty i.pending i.entries.at i.staging in
-    uncached_by g.D.Device.disk i.durable m i.left i.count i.entries.order i.entries.most c.args.self.now c.self.view_is c.self.invariant.0 c.args.number (sym c.holds.ensures ∙ c.if-holds.false)
+    uncached_by g.D.Device.disk _ _ _ _ _ _ _ c.self.view_is c.self.invariant.0 c.args.number (sym c.holds.ensures ∙ c.if-holds.false)
 
 pub returns-then-holds-clause-rest : goal.returns-then-holds-clause-rest
 returns-then-holds-clause-rest g c = away_rest c.put_away.result c.args.self.now c.put_away.new.self c.args.number c.put_away.ensures.away c.put_away.ensures.stays

@@ -11,14 +11,14 @@ pub invariant_of-self-lent : goal.invariant_of-self-lent
 invariant_of-self-lent g c = λ w.
     let i = c.self.inside in
     let m = memory_of i.table i.frozen_headers i.touched i.dirty i.pending i.entries.at i.staging in
-    let k = known g.D.Device.disk i.durable m i.left i.count i.entries.order i.entries.most c.args.self.now c.self.view_is c.self.invariant.0 c.args.number c.requires.announced in
+    let k = known g.D.Device.disk _ _ _ _ _ _ _ c.self.view_is c.self.invariant.0 c.args.number c.requires.announced in
     (body_stands (stored_of g.D.Device.disk i.durable) m i.left i.count c.self.invariant.0 c.args.number w k.entry k.dirty, c.self.invariant.1)
 
 pub returns : goal.returns
 returns g c =
     let i = c.self.inside in
     let m = memory_of i.table i.frozen_headers i.touched i.dirty i.pending i.entries.at i.staging in
-    let k = known g.D.Device.disk i.durable m i.left i.count i.entries.order i.entries.most c.args.self.now c.self.view_is c.self.invariant.0 c.args.number c.requires.announced in
+    let k = known g.D.Device.disk _ _ _ _ _ _ _ c.self.view_is c.self.invariant.0 c.args.number c.requires.announced in
     let some = has_entry g.D.Device.disk i.durable m i.left i.entries.order i.entries.most c.args.self.now c.self.view_is c.args.number c.requires.fetched in (
       (
         refl,

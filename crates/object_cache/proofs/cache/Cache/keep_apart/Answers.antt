@@ -10,17 +10,13 @@ present-requires g c =
 
 pub invariant_of-self : goal.invariant_of-self
 invariant_of-self g c =
-    let i = c.self.inside in
-    let m = memory_of i.table i.frozen_headers i.touched i.dirty i.pending i.entries.at i.staging in
     rw c.set_kept.ensures (
-      apart_stands g.D.Device.disk i.durable m i.left i.count i.entries.order i.entries.most c.args.self.now c.self.view_is c.self.invariant.0 c.args.number c.requires.fetched c.requires.shared
+      apart_stands g.D.Device.disk _ _ _ _ _ _ _ c.self.view_is c.self.invariant.0 c.args.number c.requires.fetched c.requires.shared
           c.in_ok-copy.copy (c.present.ensures ∙ ap Some (sym c.in_ok-copy.ensures)),
       c.self.invariant.1,
     )
 
 pub returns-clause-apart : goal.returns-clause-apart
 returns-clause-apart g c =
-    let i = c.self.inside in
-    let m = memory_of i.table i.frozen_headers i.touched i.dirty i.pending i.entries.at i.staging in
-    rw c.set_kept.ensures (apart_seen g.D.Device.disk i.durable m i.left i.count i.entries.order i.entries.most c.args.self.now c.self.view_is c.self.invariant.0 c.args.number c.requires.fetched c.requires.shared
+    rw c.set_kept.ensures (apart_seen g.D.Device.disk _ _ _ _ _ _ _ c.self.view_is c.self.invariant.0 c.args.number c.requires.fetched c.requires.shared
     c.in_ok-copy.copy (c.present.ensures ∙ ap Some (sym c.in_ok-copy.ensures)))

@@ -1,4 +1,4 @@
-use Rattle.object_cache.proofs.Names.{sym, subst, is_sound, memory_of, StoreState}
+use Rattle.object_cache.proofs.Names.{sym, subst, is_sound, StoreState}
 use Rattle.object_cache.proofs.Homes.{moved_stands, moved_seen, moved_then}
 use Rattle.object_cache.proofs.cache.Cache.migrate.Goals as goal
 
@@ -7,18 +7,12 @@ migrate-requires g c = record { sound = subst (λ (t : StoreState g.row.D.Denot)
 
 pub invariant_of-self : goal.invariant_of-self
 invariant_of-self g c =
-    let i = c.self.inside in
-    let m = memory_of i.table i.frozen_headers i.touched i.dirty i.pending i.entries.at i.staging in
-    (moved_stands g.D.Device.disk i.durable m i.left i.count i.entries.order i.entries.most c.args.self.now c.self.view_is c.self.invariant.0 c.migrate.new.self c.args.count c.migrate.result c.migrate.ensures.moved c.migrate.ensures.unmoved, c.self.invariant.1)
+    (moved_stands g.D.Device.disk _ _ _ _ _ _ _ c.self.view_is c.self.invariant.0 c.migrate.new.self c.args.count c.migrate.result c.migrate.ensures.moved c.migrate.ensures.unmoved, c.self.invariant.1)
 
 pub returns-clause-rest : goal.returns-clause-rest
 returns-clause-rest g c =
-    let i = c.self.inside in
-    let m = memory_of i.table i.frozen_headers i.touched i.dirty i.pending i.entries.at i.staging in
-    moved_seen g.D.Device.disk i.durable m i.left i.count i.entries.order i.entries.most c.args.self.now c.self.view_is c.self.invariant.0 c.migrate.new.self c.args.count c.migrate.result c.migrate.ensures.moved c.migrate.ensures.unmoved
+    moved_seen g.D.Device.disk _ _ _ _ _ _ _ c.self.view_is c.self.invariant.0 c.migrate.new.self c.args.count c.migrate.result c.migrate.ensures.moved c.migrate.ensures.unmoved
 
 pub returns-clause-snapshots : goal.returns-clause-snapshots
 returns-clause-snapshots g c =
-    let i = c.self.inside in
-    let m = memory_of i.table i.frozen_headers i.touched i.dirty i.pending i.entries.at i.staging in
-    moved_then g.D.Device.disk i.durable m i.left i.count i.entries.order i.entries.most c.args.self.now c.self.view_is c.self.invariant.0 c.migrate.new.self c.args.count c.migrate.result c.migrate.ensures.moved c.migrate.ensures.unmoved
+    moved_then g.D.Device.disk _ _ _ _ _ _ _ c.self.view_is c.self.invariant.0 c.migrate.new.self c.args.count c.migrate.result c.migrate.ensures.moved c.migrate.ensures.unmoved

@@ -1,4 +1,4 @@
-use Rattle.object_cache.proofs.Names.{◌∙◌, true≢false, sym, ap, arith, memory_of, StoreState, pending_count}
+use Rattle.object_cache.proofs.Names.{◌∙◌, true≢false, sym, ap, arith, StoreState, pending_count}
 use Rattle.std.specs.Prelude.{is_some}
 use Rattle.object_cache.proofs.Outcomes.{ok_then}
 use Rattle.object_cache.proofs.Turns.{few_left, none_marked}
@@ -14,18 +14,12 @@ returns-then-is_held-clause-fewer g c =
 
 pub returns-then-is_held-clause-few : goal.returns-then-is_held-clause-few
 returns-then-is_held-clause-few g c =
-    let i = c.self.inside in
-    let m = memory_of i.table i.frozen_headers i.touched i.dirty i.pending i.entries.at i.staging in
-    λ f f_is. few_left g.D.Device.disk i.durable m i.left i.count i.entries.order i.entries.most c.args.self.now c.self.view_is c.self.invariant.0 f f_is
+    λ f f_is. few_left g.D.Device.disk _ _ _ _ _ _ _ c.self.view_is c.self.invariant.0 f f_is
 
 pub returns-in-Some-clause-few : goal.returns-in-Some-clause-few
 returns-in-Some-clause-few g c =
-    let i = c.self.inside in
-    let m = memory_of i.table i.frozen_headers i.touched i.dirty i.pending i.entries.at i.staging in
-    λ f f_is. few_left g.D.Device.disk i.durable m i.left i.count i.entries.order i.entries.most c.args.self.now c.self.view_is c.self.invariant.0 f f_is
+    λ f f_is. few_left g.D.Device.disk _ _ _ _ _ _ _ c.self.view_is c.self.invariant.0 f f_is
 
 pub returns-in-None-clause-few : goal.returns-in-None-clause-few
 returns-in-None-clause-few g c =
-    let i = c.self.inside in
-    let m = memory_of i.table i.frozen_headers i.touched i.dirty i.pending i.entries.at i.staging in
-    λ f f_is. few_left g.D.Device.disk i.durable m i.left i.count i.entries.order i.entries.most c.args.self.now c.self.view_is c.self.invariant.0 f f_is
+    λ f f_is. few_left g.D.Device.disk _ _ _ _ _ _ _ c.self.view_is c.self.invariant.0 f f_is

@@ -14,60 +14,40 @@ unreachable-requires g c =
 
 pub put_own-requires-clause-running : goal.put_own-requires-clause-running
 put_own-requires-clause-running g c =
-    let i = c.self.inside in
-    let m = memory_of i.table i.frozen_headers i.touched i.dirty i.pending i.entries.at i.staging in
-    own_running g.D.Device.disk i.durable m i.left i.count i.entries.order i.entries.most c.args.self.now c.self.view_is c.self.invariant.0 c.args.number c.requires.fetched c.requires.owed c.in-Some.entry.now (sym c.get.ensures ∙ ap option_copied c.in-Some.is) c.header-header.result c.header-header.ensures
+    own_running g.D.Device.disk _ _ _ _ _ _ _ c.self.view_is c.self.invariant.0 c.args.number c.requires.fetched c.requires.owed c.in-Some.entry.now (sym c.get.ensures ∙ ap option_copied c.in-Some.is) c.header-header.result c.header-header.ensures
 
 pub put_own-requires-clause-keepable : goal.put_own-requires-clause-keepable
 put_own-requires-clause-keepable g c =
-    let i = c.self.inside in
-    let m = memory_of i.table i.frozen_headers i.touched i.dirty i.pending i.entries.at i.staging in
-    own_keepable g.D.Device.disk i.durable m i.left i.count i.entries.order i.entries.most c.args.self.now c.self.view_is c.self.invariant.0 c.args.number c.requires.fetched c.requires.owed c.in-Some.entry.now (sym c.get.ensures ∙ ap option_copied c.in-Some.is) c.header-header.result c.header-header.ensures
+    own_keepable g.D.Device.disk _ _ _ _ _ _ _ c.self.view_is c.self.invariant.0 c.args.number c.requires.fetched c.requires.owed c.in-Some.entry.now (sym c.get.ensures ∙ ap option_copied c.in-Some.is) c.header-header.result c.header-header.ensures
 
 pub put_own-requires-clause-room : goal.put_own-requires-clause-room
 put_own-requires-clause-room g c =
-    let i = c.self.inside in
-    let m = memory_of i.table i.frozen_headers i.touched i.dirty i.pending i.entries.at i.staging in
-    own_room g.D.Device.disk i.durable m i.left i.count i.entries.order i.entries.most c.args.self.now c.self.view_is c.self.invariant.0 c.args.number c.requires.fetched c.requires.owed c.in-Some.entry.now (sym c.get.ensures ∙ ap option_copied c.in-Some.is) c.header-header.result c.header-header.ensures
+    own_room g.D.Device.disk _ _ _ _ _ _ _ c.self.view_is c.self.invariant.0 c.args.number c.requires.fetched c.requires.owed c.in-Some.entry.now (sym c.get.ensures ∙ ap option_copied c.in-Some.is) c.header-header.result c.header-header.ensures
 
 pub invariant_of-self : goal.invariant_of-self
 invariant_of-self g c =
-    let i = c.self.inside in
-    let m = memory_of i.table i.frozen_headers i.touched i.dirty i.pending i.entries.at i.staging in
-    (torn_stands g.D.Device.disk i.durable m i.left i.count i.entries.order i.entries.most c.args.self.now c.self.view_is c.self.invariant.0 c.args.number c.requires.fetched c.requires.owed c.in-Some.entry.now (sym c.get.ensures ∙ ap option_copied c.in-Some.is) c.header-header.result c.header-header.ensures c.put_own.new.durable c.in_err-put_own.ensures.broken, c.self.invariant.1)
+    (torn_stands g.D.Device.disk _ _ _ _ _ _ _ c.self.view_is c.self.invariant.0 c.args.number c.requires.fetched c.requires.owed c.in-Some.entry.now (sym c.get.ensures ∙ ap option_copied c.in-Some.is) c.header-header.result c.header-header.ensures c.put_own.new.durable c.in_err-put_own.ensures.broken, c.self.invariant.1)
 
 pub returns-in_err-put_own-clause-unput : goal.returns-in_err-put_own-clause-unput
 returns-in_err-put_own-clause-unput g c =
-    let i = c.self.inside in
-    let m = memory_of i.table i.frozen_headers i.touched i.dirty i.pending i.entries.at i.staging in
-    on_err c.from_residual.result (torn_seen g.D.Device.disk i.durable m i.left i.count i.entries.order i.entries.most c.args.self.now c.self.view_is c.self.invariant.0 c.args.number c.requires.fetched c.requires.owed c.in-Some.entry.now (sym c.get.ensures ∙ ap option_copied c.in-Some.is) c.header-header.result c.header-header.ensures c.put_own.new.durable c.in_err-put_own.ensures.broken)
+    on_err c.from_residual.result (torn_seen g.D.Device.disk _ _ _ _ _ _ _ c.self.view_is c.self.invariant.0 c.args.number c.requires.fetched c.requires.owed c.in-Some.entry.now (sym c.get.ensures ∙ ap option_copied c.in-Some.is) c.header-header.result c.header-header.ensures c.put_own.new.durable c.in_err-put_own.ensures.broken)
 
 pub returns-in_err-put_own-clause-continues : goal.returns-in_err-put_own-clause-continues
 returns-in_err-put_own-clause-continues g c =
-    let i = c.self.inside in
-    let m = memory_of i.table i.frozen_headers i.touched i.dirty i.pending i.entries.at i.staging in
-    torn_continues g.D.Device.disk i.durable m i.left i.count i.entries.order i.entries.most c.args.self.now c.self.view_is c.self.invariant.0 c.args.number c.requires.fetched c.requires.owed c.in-Some.entry.now (sym c.get.ensures ∙ ap option_copied c.in-Some.is) c.header-header.result c.header-header.ensures c.put_own.new.durable c.in_err-put_own.ensures.broken c.put_own.ensures.goes_on c.put_own.ensures.cause.never_falls
+    torn_continues g.D.Device.disk _ _ _ _ _ _ _ c.self.view_is c.self.invariant.0 c.args.number c.requires.fetched c.requires.owed c.in-Some.entry.now (sym c.get.ensures ∙ ap option_copied c.in-Some.is) c.header-header.result c.header-header.ensures c.put_own.new.durable c.in_err-put_own.ensures.broken c.put_own.ensures.goes_on c.put_own.ensures.cause.never_falls
 
 pub invariant_of-self-2 : goal.invariant_of-self-2
 invariant_of-self-2 g c =
-    let i = c.self.inside in
-    let m = memory_of i.table i.frozen_headers i.touched i.dirty i.pending i.entries.at i.staging in
-    rw (c.set.ensures, c.set_kept.ensures, c.release.ensures) (out_stands g.D.Device.disk i.durable m i.left i.count i.entries.order i.entries.most c.args.self.now c.self.view_is c.self.invariant.0 c.args.number c.requires.fetched c.requires.owed c.in-Some.entry.now (sym c.get.ensures ∙ ap option_copied c.in-Some.is) c.header-header.result c.header-header.ensures c.put_own.new.durable c.in_ok-put_own.ensures.put, c.self.invariant.1)
+    rw (c.set.ensures, c.set_kept.ensures, c.release.ensures) (out_stands g.D.Device.disk _ _ _ _ _ _ _ c.self.view_is c.self.invariant.0 c.args.number c.requires.fetched c.requires.owed c.in-Some.entry.now (sym c.get.ensures ∙ ap option_copied c.in-Some.is) c.header-header.result c.header-header.ensures c.put_own.new.durable c.in_ok-put_own.ensures.put, c.self.invariant.1)
 
 pub returns-clause-put : goal.returns-clause-put
 returns-clause-put g c =
-    let i = c.self.inside in
-    let m = memory_of i.table i.frozen_headers i.touched i.dirty i.pending i.entries.at i.staging in
-    rw (c.set.ensures, c.set_kept.ensures, c.release.ensures) (out_seen g.D.Device.disk i.durable m i.left i.count i.entries.order i.entries.most c.args.self.now c.self.view_is c.self.invariant.0 c.args.number c.requires.fetched c.requires.owed c.in-Some.entry.now (sym c.get.ensures ∙ ap option_copied c.in-Some.is) c.header-header.result c.header-header.ensures c.put_own.new.durable c.in_ok-put_own.ensures.put)
+    rw (c.set.ensures, c.set_kept.ensures, c.release.ensures) (out_seen g.D.Device.disk _ _ _ _ _ _ _ c.self.view_is c.self.invariant.0 c.args.number c.requires.fetched c.requires.owed c.in-Some.entry.now (sym c.get.ensures ∙ ap option_copied c.in-Some.is) c.header-header.result c.header-header.ensures c.put_own.new.durable c.in_ok-put_own.ensures.put)
 
 pub returns-clause-continues : goal.returns-clause-continues
 returns-clause-continues g c =
-    let i = c.self.inside in
-    let m = memory_of i.table i.frozen_headers i.touched i.dirty i.pending i.entries.at i.staging in
-    rw (c.set.ensures, c.set_kept.ensures, c.release.ensures) (out_continues g.D.Device.disk i.durable m i.left i.count i.entries.order i.entries.most c.args.self.now c.self.view_is c.self.invariant.0 c.args.number c.requires.fetched c.requires.owed c.in-Some.entry.now (sym c.get.ensures ∙ ap option_copied c.in-Some.is) c.header-header.result c.header-header.ensures c.put_own.new.durable c.in_ok-put_own.ensures.put c.put_own.ensures.goes_on c.put_own.ensures.cause.never_falls)
+    rw (c.set.ensures, c.set_kept.ensures, c.release.ensures) (out_continues g.D.Device.disk _ _ _ _ _ _ _ c.self.view_is c.self.invariant.0 c.args.number c.requires.fetched c.requires.owed c.in-Some.entry.now (sym c.get.ensures ∙ ap option_copied c.in-Some.is) c.header-header.result c.header-header.ensures c.put_own.new.durable c.in_ok-put_own.ensures.put c.put_own.ensures.goes_on c.put_own.ensures.cause.never_falls)
 
 pub returns-clause-fewer : goal.returns-clause-fewer
 returns-clause-fewer g c =
-    let i = c.self.inside in
-    let m = memory_of i.table i.frozen_headers i.touched i.dirty i.pending i.entries.at i.staging in
-    rw c.set.ensures (own_fewer g.D.Device.disk i.durable m i.left i.count i.entries.order i.entries.most c.args.self.now c.self.view_is c.self.invariant.0 c.args.number c.requires.fetched c.requires.owed c.in-Some.entry.now (sym c.get.ensures ∙ ap option_copied c.in-Some.is) c.header-header.result c.header-header.ensures)
+    rw c.set.ensures (own_fewer g.D.Device.disk _ _ _ _ _ _ _ c.self.view_is c.self.invariant.0 c.args.number c.requires.fetched c.requires.owed c.in-Some.entry.now (sym c.get.ensures ∙ ap option_copied c.in-Some.is) c.header-header.result c.header-header.ensures)

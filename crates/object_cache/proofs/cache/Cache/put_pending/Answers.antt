@@ -1,13 +1,10 @@
 use Rattle.object_cache.proofs.Paying.{paid_put}
 use Rattle.object_cache.proofs.Taking.{pending_known}
-use Rattle.object_cache.specs.Memory.{memory_of}
 use Rattle.object_cache.proofs.cache.Cache.put_pending.Goals as goal
 
 pub owes-requires : goal.owes-requires
 owes-requires g c =
-    let i = c.self.inside in
-    let m = memory_of i.table i.frozen_headers i.touched i.dirty i.pending i.entries.at i.staging in
-    pending_known g.D.Device.disk i.durable m i.left i.count i.entries.order i.entries.most c.args.self.now c.self.view_is c.self.invariant.0 c.args.number c.requires.pending
+    pending_known g.D.Device.disk _ _ _ _ _ _ _ c.self.view_is c.self.invariant.0 c.args.number c.requires.pending
 
 pub put_own_frozen-requires-clause-fetched : goal.put_own_frozen-requires-clause-fetched
 put_own_frozen-requires-clause-fetched g c = c.owes.ensures.fetched c.if-owes.true

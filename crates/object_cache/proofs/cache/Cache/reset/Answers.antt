@@ -13,7 +13,7 @@ invariant_of-self g c =
     let i = c.self.inside in
     let m = memory_of i.table i.frozen_headers i.touched i.dirty i.pending i.entries.at i.staging in
     let h = given_up (header_at i.table c.args.number) in
-    let k = known g.D.Device.disk i.durable m i.left i.count i.entries.order i.entries.most c.args.self.now c.self.view_is c.self.invariant.0 c.args.number c.requires.announced in
+    let k = known g.D.Device.disk _ _ _ _ _ _ _ c.self.view_is c.self.invariant.0 c.args.number c.requires.announced in
     (rw (c.rescind.ensures, c.free-freed.ensures) (free_stands (stored_of g.D.Device.disk i.durable) m i.left i.count c.self.invariant.0 c.args.number h k.header k.entry refl k.dirty), rw c.free-freed.ensures c.self.invariant.1)
 
 pub returns : goal.returns
@@ -21,7 +21,7 @@ returns g c =
     let i = c.self.inside in
     let m = memory_of i.table i.frozen_headers i.touched i.dirty i.pending i.entries.at i.staging in
     let h = given_up (header_at i.table c.args.number) in
-    let k = known g.D.Device.disk i.durable m i.left i.count i.entries.order i.entries.most c.args.self.now c.self.view_is c.self.invariant.0 c.args.number c.requires.announced in
+    let k = known g.D.Device.disk _ _ _ _ _ _ _ c.self.view_is c.self.invariant.0 c.args.number c.requires.announced in
     rw (c.rescind.ensures, c.free-freed.ensures)
     (seen_free g.D.Device.disk i.durable m i.left i.entries.order i.entries.most c.args.number h k.header k.entry refl k.touched
     ∙ ap (λ (s : StoreState g.row.D.Denot). record s {

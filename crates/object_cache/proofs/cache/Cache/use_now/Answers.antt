@@ -11,15 +11,11 @@ invariant_of-self g c =
 
 pub returns-clause-fetched : goal.returns-clause-fetched
 returns-clause-fetched g c =
-    let i = c.self.inside in
-    let m = memory_of i.table i.frozen_headers i.touched i.dirty i.pending i.entries.at i.staging in
-    λ held. fetched_by g.D.Device.disk i.durable m i.left i.count i.entries.order i.entries.most c.args.self.now c.self.view_is c.self.invariant.0 c.args.number c.requires (sym c.promote.ensures.held ∙ held)
+    λ held. fetched_by g.D.Device.disk _ _ _ _ _ _ _ c.self.view_is c.self.invariant.0 c.args.number c.requires (sym c.promote.ensures.held ∙ held)
 
 pub returns-clause-uncached : goal.returns-clause-uncached
 returns-clause-uncached g c =
-    let i = c.self.inside in
-    let m = memory_of i.table i.frozen_headers i.touched i.dirty i.pending i.entries.at i.staging in
-    λ none. uncached_by g.D.Device.disk i.durable m i.left i.count i.entries.order i.entries.most c.args.self.now c.self.view_is c.self.invariant.0 c.args.number (sym c.promote.ensures.held ∙ none)
+    λ none. uncached_by g.D.Device.disk _ _ _ _ _ _ _ c.self.view_is c.self.invariant.0 c.args.number (sym c.promote.ensures.held ∙ none)
 
 pub returns-clause-used : goal.returns-clause-used
 returns-clause-used g c =

@@ -1,0 +1,59 @@
+-- What a store keeps beside its present objects, and what each stage of a checkpoint does to that, whatever it keeps of a
+-- frozen state.
+use Rattle.checkpoint.specs.Names.{◌≡◌, ◌==◌, if◌then◌else◌, ℕ, ◌+◌, ◌-◌, ◌<◌, ◌≤◌, ◌^◌, Option, Some, None, option_map}
+use Rattle.checkpoint.specs.Names.{List, Frame, frame_at, AreKeepable}
+use Rattle.checkpoint.specs.Saved.{SavedFrames, home_saved, replaced_saved, with_words}
+
+-- the frozen state, if there is one, and what is saved; to_move counts the saved objects that aren't home
+pub record Snapshots (F : Type 0) : Type 0 where
+  pub frozen : Option F
+  pub saved : SavedFrames
+  pub to_move : ℕ
+
+-- what a frozen state is: the frames that it saves over those saved before, how many objects it writes, and how many of
+-- these aren't in the log
+pub record FrozenView (F : Type 0) : Type 0 where
+  pub frames : F → List Frame → List Frame
+  pub size : F → ℕ
+  pub left : F → ℕ
+
+-- a state is frozen
+abbrev pub freezing : {F : Type 0} → F → Snapshots F → Snapshots F
+freezing f s = record { frozen = Some f; saved = s.saved; to_move = s.to_move }
+
+-- n more of the saved objects went home
+abbrev pub moved_saved : {F : Type 0} → ℕ → Snapshots F → SavedFrames
+moved_saved n s = if s.to_move - n == 0 then home_saved s.saved else s.saved
+
+abbrev pub moved : {F : Type 0} → ℕ → Snapshots F → Snapshots F
+moved n s = record { frozen = s.frozen; saved = moved_saved n s; to_move = s.to_move - n }
+
+-- all of them are home
+abbrev pub all_moved : {F : Type 0} → Snapshots F → Snapshots F
+all_moved s = record { frozen = s.frozen; saved = home_saved s.saved; to_move = 0 }
+
+-- one object is saved anew beside the checkpoints, and so a page with other words
+abbrev pub replaced : {F : Type 0} → ℕ → ℕ → Frame → Snapshots F → Snapshots F
+replaced age n f s = record { frozen = s.frozen; saved = replaced_saved age n f s.saved; to_move = 1 }
+
+abbrev pub journaled : {F : Type 0} → ℕ → ℕ → List ℕ → Snapshots F → Snapshots F
+journaled age n words s = replaced age n (with_words words (frame_at s.saved.frames n)) s
+
+module _ {F : Type 0} (of : FrozenView F) where
+  -- how many frozen frames aren't in the log
+  abbrev pub left_in : Snapshots F → Option ℕ
+  left_in s = option_map of.left s.frozen
+
+  -- what a frozen state saves at an age
+  abbrev pub next_saved : ℕ → F → SavedFrames → SavedFrames
+  next_saved age f s = record { geometry = s.geometry; frames = of.frames f s.frames; generation = s.generation + 1; entries = of.size f; age = age }
+
+  -- it is saved
+  abbrev pub committed : ℕ → F → Snapshots F → Snapshots F
+  committed age f s = record { frozen = None; saved = next_saved age f s.saved; to_move = of.size f }
+
+  -- it may be, once all of it is in the log
+  pub record MayCommit (age : ℕ) (f : F) (s : SavedFrames) : Type 0 where
+    pub later : s.age < age
+    pub most : age ≤ 2 ^ 62
+    pub keepable : of.left f ≡ 0 → AreKeepable s.geometry age (of.frames f s.frames)
