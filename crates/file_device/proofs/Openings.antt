@@ -50,29 +50,24 @@ gets_more a b c xs ys gets adds =
       subst (Adds a c) (sym (reads_one gets.0 ys)) (adds_more a b c (reads 0 gets.0) (got (length (concat gets.0)) ys ∷ []) gets.2 behind),
     )
 
--- the front of a list, once n bytes were got behind it
-front_more : (i k n : ℕ) (into part : List ℕ) → i ≤ length into → n ≤ length part → take i into ++ take n part ≡ take (i + n) (put_mid i k into part)
-front_more i k n into part within fits =
-    let after = post_of i k into in
-    ap (λ (l : List ℕ). l ++ take n part) (sym (take-put_mid_below i k into part i (omega arith) within))
-    ∙ ap (λ (l : List ℕ). take i (put_mid i k into part) ++ l)
-    (sym (ap (take n) (drop_at (take i into) (part ++ after) i (length-take-le i into within)) ∙ take-append-le n part after fits))
-    ∙ sym (take-add i n (put_mid i k into part))
+-- one more part is appended
+pub part_more : (old before after bytes : List ℕ) (at size : ℕ) → before ≡ old ++ take at bytes → after ≡ before ++ take size (drop at bytes)
+    → after ≡ old ++ take (at + size) bytes
+part_more old before after bytes at size was is =
+    is ∙ ap (λ (l : List ℕ). l ++ take size (drop at bytes)) was ∙ append_assoc old (take at bytes) (take size (drop at bytes))
+    ∙ ap (λ (l : List ℕ). old ++ l) (sym (take-add at size bytes))
 
--- a call got n bytes into the rest of a buffer
-pub gets_on : (a b c : Calls) (into part : List ℕ) (i k n : ℕ) → i ≤ length into → n ≤ length part
-    → Gets a b (take i into) → Adds b c (got i (take n part) ∷ []) → Gets a c (take (i + n) (put_mid i k into part))
-gets_on a b c into part i k n within fits gets adds =
-    let there : i ≡ length (take i into) = sym (length-take-le i into within) in
-    subst (Gets a c) (front_more i k n into part within fits)
-    (gets_more a b c (take i into) (take n part) gets (subst (λ (m : ℕ). Adds b c (got m (take n part) ∷ [])) there adds))
+-- the rest is appended
+pub parts_whole : (old before after bytes : List ℕ) (at : ℕ) → before ≡ old ++ take at bytes → after ≡ before ++ drop at bytes → after ≡ old ++ bytes
+parts_whole old before after bytes at was is =
+    is ∙ ap (λ (l : List ℕ). l ++ drop at bytes) was ∙ append_assoc old (take at bytes) (drop at bytes)
+    ∙ ap (λ (l : List ℕ). old ++ l) (take-append-drop at bytes)
 
--- a call that got nothing
-pub gets_kept : (a b c : Calls) (into part : List ℕ) (i k : ℕ) → i ≤ length into → Gets a b (take i into) → c ≡ b
-    → Gets a c (take i (put_mid i k into part))
-gets_kept a b c into part i k within gets same =
-    subst (Gets a c) (sym (take-put_mid_below i k into part i (omega arith) within))
-    (subst (λ (d : Calls). Gets a d (take i into)) (sym same) gets)
+-- a call got n bytes, which were appended
+pub gets_on : (a b c : Calls) (copy after buffer : List ℕ) (done n : ℕ) → done ≡ length copy → after ≡ copy ++ take n buffer
+    → Gets a b copy → Adds b c (got done (take n buffer) ∷ []) → Gets a c after
+gets_on a b c copy after buffer done n is appended gets adds =
+    subst (Gets a c) (sym appended) (gets_more a b c copy (take n buffer) gets (subst (λ (m : ℕ). Adds b c (got m (take n buffer) ∷ [])) is adds))
 
 -- a file that was just opened, and then loaded
 pub opens : (path : List ℕ) (access : Access) (lock : Lock) (a b : Calls) (copy : List ℕ) (disk : Disk)
