@@ -1,10 +1,10 @@
 -- The calls that open or make a device, one after another.
 use Rattle.file_device.proofs.Names.{◌≡◌, ℕ, ◌+◌, ◌*◌, ◌≤◌, List, [], ◌∷◌, ◌++◌, Option, option_map, None, Some, IfSome, length, take, refl, sym, ap, ◌∙◌}
-use Rattle.file_device.proofs.Names.{subst, append-nil, arith, length-append, length-take-le, drop_at, take-add, take-append-le, concat-append}
-use Rattle.file_device.proofs.Names.{take-put_mid_below, concat, Disk, Agrees, image_of, sectors_of, Access, Create, Lock, Exclusive, OpeningCall, opened}
+use Rattle.file_device.proofs.Names.{subst, append-nil, append_assoc, arith, drop, length-append, length-take-le, take-add, take-append-le, concat-append}
+use Rattle.file_device.proofs.Names.{concat, Disk, Agrees, image_of, sectors_of, Access, Create, Lock, Exclusive, OpeningCall, opened}
 use Rattle.file_device.proofs.Names.{locked, synced, measured, got, resized, listed, resizes, KeepsLength, reads, Gets, LoadsLocked, MakesZeros, IsOpened}
 use Rattle.file_device.proofs.Names.{IsMade, Adds}
-use borrow.Rule.Slice.PartMut.{put_mid, post_of}
+use Rattle.std.proofs.lemmas.List.{take-append-drop}
 use Rattle.file_device.proofs.Deeds.{adds_none, adds_more}
 
 abbrev Calls : Type 0
@@ -63,11 +63,18 @@ parts_whole old before after bytes at was is =
     is ∙ ap (λ (l : List ℕ). l ++ drop at bytes) was ∙ append_assoc old (take at bytes) (drop at bytes)
     ∙ ap (λ (l : List ℕ). old ++ l) (take-append-drop at bytes)
 
--- a call got n bytes, which were appended
-pub gets_on : (a b c : Calls) (copy after buffer : List ℕ) (done n : ℕ) → done ≡ length copy → after ≡ copy ++ take n buffer
-    → Gets a b copy → Adds b c (got done (take n buffer) ∷ []) → Gets a c after
-gets_on a b c copy after buffer done n is appended gets adds =
-    subst (Gets a c) (sym appended) (gets_more a b c copy (take n buffer) gets (subst (λ (m : ℕ). Adds b c (got m (take n buffer) ∷ [])) is adds))
+-- a call got n bytes into the front of a buffer, which were appended
+pub gets_on : (a b c : Calls) (copy after part rest : List ℕ) (done n : ℕ) → done ≡ length copy → n ≤ length part → after ≡ copy ++ take n (part ++ rest)
+    → Gets a b copy → Adds b c (got done (take n part) ∷ []) → Gets a c after
+gets_on a b c copy after part rest done n is fits appended gets adds =
+    let whole : after ≡ copy ++ take n part = appended ∙ ap (λ (l : List ℕ). copy ++ l) (take-append-le n part rest fits) in
+    subst (Gets a c) (sym whole) (gets_more a b c copy (take n part) gets (subst (λ (m : ℕ). Adds b c (got m (take n part) ∷ [])) is adds))
+
+-- and they are no more than were asked for
+pub stays_within : (copy after part rest : List ℕ) (n bytes : ℕ) → n ≤ length part → after ≡ copy ++ take n (part ++ rest)
+    → length copy + length part ≤ bytes → length after ≤ bytes
+stays_within copy after part rest n bytes fits appended room =
+    omega (arith, ap length appended, length-append copy (take n (part ++ rest)), length-take-le n (part ++ rest) (omega (arith, length-append part rest)))
 
 -- a file that was just opened, and then loaded
 pub opens : (path : List ℕ) (access : Access) (lock : Lock) (a b : Calls) (copy : List ℕ) (disk : Disk)

@@ -48,11 +48,11 @@ fn get_fully<F: Openable>(
     buffer: &mut [u8],
     copy: &mut Vec<u8>,
 ) -> Result<(), FileFault>
-    requires few { bytes ≤ 67108864 }
-    requires empty { copy.old.items ≡ [] }
+    requires { copy.old.items ≡ [] }
     ensures bytes { OnOk result (Gets (F.opening file.old) (F.opening file.new) copy.new.items) }
     ensures size { OnOk result (length copy.new.items ≡ bytes) }
-    ensures fault { IfErr result (λ fault. (fault ≡ FileFault.Io) ⊎ (fault ≡ FileFault.NoMemory)) }
+    ensures held { IfErr result (λ fault. fault ≢ FileFault.Held) }
+    ensures long { IfErr result (λ fault. fault ≢ FileFault.Long) }
     ensures length { KeepsLength (F.opening file.old) (F.opening file.new) }
     ensures calls { F.calls file.new ≡ F.calls file.old }
 {
@@ -75,6 +75,21 @@ fn get_fully<F: Openable>(
     Err(FileFault::Io)
 }
 
+// The first bytes of the file.
+fn get_all<F: Openable>(alloc: Global, file: &mut F, bytes: usize) -> Result<Vec<u8>, FileFault>
+    ensures bytes { IfOk result (λ copy. Gets (F.opening file.old) (F.opening file.new) copy.items) }
+    ensures size { IfOk result (λ copy. length copy.items ≡ bytes) }
+    ensures held { IfErr result (λ fault. fault ≢ FileFault.Held) }
+    ensures long { IfErr result (λ fault. fault ≢ FileFault.Long) }
+    ensures length { KeepsLength (F.opening file.old) (F.opening file.new) }
+    ensures calls { F.calls file.new ≡ F.calls file.old }
+{
+    let mut copy = Vec::with_capacity(alloc, bytes)?;
+    let mut buffer = vec![in alloc; 0; READ_BYTES]?;
+    get_fully(file, bytes, &mut buffer, &mut copy)?;
+    Ok(copy)
+}
+
 // Reads all whole sectors of the file.
 fn load<F: Openable>(alloc: Global, file: &mut F) -> Result<Vec<u8>, FileFault>
     ensures read { IfOk result (λ copy. Loads (F.opening file.old) (F.opening file.new) copy.items) }
@@ -85,10 +100,8 @@ fn load<F: Openable>(alloc: Global, file: &mut F) -> Result<Vec<u8>, FileFault>
     ensures length { KeepsLength (F.opening file.old) (F.opening file.new) }
     ensures calls { F.calls file.new ≡ F.calls file.old }
 {
-    let bytes = whole_sectors(file.length()?)? as usize * SECTOR_SIZE;
-    let mut copy = Vec::with_capacity(alloc, bytes)?;
-    let mut buffer = vec![in alloc; 0; READ_BYTES]?;
-    get_fully(file, bytes, &mut buffer, &mut copy)?;
+    let sectors = whole_sectors(file.length()?)?;
+    let copy = get_all(alloc, file, sectors as usize * SECTOR_SIZE)?;
     Ok(copy)
 }
 
