@@ -1,10 +1,8 @@
 -- The calls that open or make a device, one after another.
 use Rattle.file_device.proofs.Names.{◌≡◌, ℕ, ◌+◌, ◌*◌, ◌≤◌, List, [], ◌∷◌, ◌++◌, Option, option_map, None, Some, IfSome, length, take, refl, sym, ap, ◌∙◌}
 use Rattle.file_device.proofs.Names.{subst, append-nil, append_assoc, arith, drop, length-append, length-take-le, take-add, take-append-le, concat-append}
-use Rattle.file_device.proofs.Names.{concat, Disk, Agrees, image_of, sectors_of, Access, Create, Lock, Exclusive, OpeningCall, opened}
-use Rattle.file_device.proofs.Names.{locked, synced, measured, got, resized, listed, resizes, KeepsLength, reads, Gets, LoadsLocked, MakesZeros, IsOpened}
-use Rattle.file_device.proofs.Names.{IsMade, Adds}
-use Rattle.std.proofs.lemmas.List.{take-append-drop}
+use Rattle.file_device.proofs.Names.{concat, Disk, Agrees, image_of, sectors_of, Access, Create, Lock, Exclusive, OpeningCall, opened, locked, synced, measured}
+use Rattle.file_device.proofs.Names.{got, resized, listed, resizes, KeepsLength, reads, Gets, LoadsLocked, MakesZeros, IsOpened, IsMade, Adds}
 use Rattle.file_device.proofs.Deeds.{adds_none, adds_more}
 
 abbrev Calls : Type 0
@@ -56,12 +54,6 @@ pub part_more : (old before after bytes : List ℕ) (at size : ℕ) → before �
 part_more old before after bytes at size was is =
     is ∙ ap (λ (l : List ℕ). l ++ take size (drop at bytes)) was ∙ append_assoc old (take at bytes) (take size (drop at bytes))
     ∙ ap (λ (l : List ℕ). old ++ l) (sym (take-add at size bytes))
-
--- the rest is appended
-pub parts_whole : (old before after bytes : List ℕ) (at : ℕ) → before ≡ old ++ take at bytes → after ≡ before ++ drop at bytes → after ≡ old ++ bytes
-parts_whole old before after bytes at was is =
-    is ∙ ap (λ (l : List ℕ). l ++ drop at bytes) was ∙ append_assoc old (take at bytes) (drop at bytes)
-    ∙ ap (λ (l : List ℕ). old ++ l) (take-append-drop at bytes)
 
 -- a call got n bytes into the front of a buffer, which were appended
 pub gets_on : (a b c : Calls) (copy after part rest : List ℕ) (done n : ℕ) → done ≡ length copy → n ≤ length part → after ≡ copy ++ take n (part ++ rest)

@@ -4,9 +4,8 @@ use Rattle.layout.proofs.Names.{append_assoc, arith, replicate, map, between, re
 use Rattle.layout.proofs.Names.{take-append-drop, length-append, length-take-le, length-map, Cap, Frame, ObjectHeader, Geometry, Content, Role, Root, State}
 use Rattle.layout.proofs.Names.{Available, Running, Waiting, void_held, IsCount, AreKeptSlots, role_of, role_number, state_number, number, short_number, zeros}
 use Rattle.layout.proofs.Names.{Body, capability_bytes, head_bytes, front_numbers, front_bytes, number_cap, slots_of, slots_bytes, node_frame_bytes, root_slots}
-use Rattle.layout.proofs.Names.{root_from, role_in, state_in, body_in, content_of, FollowsRole, IsFront, IsBody, IsNodeFrame}
-use Rattle.layout.proofs.Names.{All-replicate, IsTrue, IsKeptCap, is_free}
-use Rattle.std.proofs.lemmas.List.{take-replicate}
+use Rattle.layout.proofs.Names.{root_from, role_in, state_in, body_in, content_of, FollowsRole, IsFront, IsBody, IsNodeFrame, All-replicate, IsTrue, IsKeptCap}
+use Rattle.layout.proofs.Names.{is_free, take-replicate}
 use borrow.Rule.Slice.PartMut.{put_mid}
 use Rattle.model.specs.declared.object.Content.TheVariants as content
 use Rattle.model.specs.declared.object.Role.TheVariants as role

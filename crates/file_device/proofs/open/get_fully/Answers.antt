@@ -12,20 +12,20 @@ returns-in_err-append-in-Ok-clause-length g c = keeps_length _ _ _ c.in-Ok.ensur
 pub loop-preserved : goal.loop-preserved
 loop-preserved g c = elim c.match-get.branch [
   | in-Ok+in_ok-append-in-Ok w ↦
-  let done : c.len-done.result ≡ length c.loop.copy.items = search rules in
-  let asked : c.min-most.result ≤ c.args.bytes - c.len-done.result = search rules in
-  let lent : length c.get.new.into ≤ c.min-most.result = omega (arith, length-take c.min-most.result c.loop.buffer) in
-  record {
-    within =
-        rw w.copy-is
-        (stays_within c.loop.copy.items _ c.get.new.into _ w.in-Ok.count c.args.bytes w.in-Ok.ensures.bound.0 w.in_ok-append-in-Ok.ensures (omega (arith, done, asked, lent)));
-    bytes =
-        rw w.copy-is
-        (gets_on _ _ _ c.loop.copy.items _ c.get.new.into _ c.len-done.result w.in-Ok.count done w.in-Ok.ensures.bound.0 w.in_ok-append-in-Ok.ensures
-        c.loop.invariant.bytes w.in-Ok.ensures.ok);
-    length_kept = keeps_length _ _ _ w.in-Ok.ensures.ok refl ∙ c.loop.invariant.length_kept;
-    calls = w.in-Ok.ensures.calls ∙ c.loop.invariant.calls;
-  }
+      let done : c.len-done.result ≡ length c.loop.copy.items = search rules in
+      let asked : c.min-most.result ≤ c.args.bytes - c.len-done.result = search rules in
+      let lent : length c.get.new.into ≤ c.min-most.result = omega (arith, length-take c.min-most.result c.loop.buffer) in
+      record {
+        within =
+            rw w.copy-is
+            (stays_within c.loop.copy.items _ c.get.new.into _ w.in-Ok.count c.args.bytes w.in-Ok.ensures.bound.0 w.in_ok-append-in-Ok.ensures (omega (arith, done, asked, lent)));
+        bytes =
+            rw w.copy-is
+            (gets_on _ _ _ c.loop.copy.items _ c.get.new.into _ c.len-done.result w.in-Ok.count done w.in-Ok.ensures.bound.0 w.in_ok-append-in-Ok.ensures
+            c.loop.invariant.bytes w.in-Ok.ensures.ok);
+        length_kept = keeps_length _ _ _ w.in-Ok.ensures.ok refl ∙ c.loop.invariant.length_kept;
+        calls = w.in-Ok.ensures.calls ∙ c.loop.invariant.calls;
+      }
   | in-Err+else-ne w ↦ record {
     within = rw w.copy-is c.loop.invariant.within;
     bytes = rw w.copy-is (rw w.in-Err.ensures.err c.loop.invariant.bytes);

@@ -1,9 +1,8 @@
 use Rattle.layout.proofs.Names.{◌≡◌, ◌-◌, ℕ, List, [], refl, sym, ap, subst, ◌∙◌, arith, false≢true, err_from_is_err_and, Cap, ObjectHeader, IsCount, zeros}
-use Rattle.layout.proofs.Names.{Body, IsBody, slots_of, content_of, body_in}
+use Rattle.layout.proofs.Names.{Body, IsBody, slots_of, content_of, body_in, front_numbers, role_in}
+use Rattle.std.specs.Prelude.{◌++◌, drop}
 use Rattle.layout.proofs.Numbers.{AllFit}
 use Rattle.layout.proofs.Frames.{front_list, node_parts, node_reported, body_reported, node_found, any_words, free_node_found, free_node_spelling}
-use Rattle.std.specs.Prelude.{◌++◌, drop}
-use Rattle.layout.proofs.Names.{front_numbers, role_in}
 use Rattle.layout.proofs.node_frame.decode_node_frame.Goals as goal
 use Rattle.layout.proofs.node_frame.decode_node_frame.Goals.{else-has_counts-via-then-has_counts+then-is_blank+else-is_body}
 use Rattle.layout.proofs.node_frame.decode_node_frame.Goals.{else-has_counts-via-then-has_counts+else-is_blank, else-has_counts-via-else-has_counts}

@@ -1,10 +1,12 @@
-use Rattle.layout.proofs.Names.{◌≡◌, ℕ, List, drop, refl, sym, ap, ◌∙◌, rules, arith, inl, inr, false, false≢true, IsTrue, take_rest, ObjectHeader, zero_words, page_body_in}
+use Rattle.layout.proofs.Names.{◌≡◌, ℕ, List, drop, refl, sym, ap, ◌∙◌, rules, arith, inl, inr, false, false≢true, IsTrue, take_rest, ObjectHeader, zero_words}
+use Rattle.layout.proofs.Names.{page_body_in}
 use Rattle.layout.specs.declared.body.Body.TheVariants as body
 use Rattle.layout.proofs.Numbers.{AllFit}
 use Rattle.layout.proofs.Frames.{front_list}
 use Rattle.layout.proofs.Pages.{page_spelling, page_found, zero_words_fit, zero_words_bytes}
 use Rattle.layout.proofs.page_frame.decode_page_frame.Goals as goal
-use Rattle.layout.proofs.page_frame.decode_page_frame.Goals.{then-not-has_counts-via-then-not-has_counts, then-not-has_counts-via-else-not-has_counts+then-not-is_blank_between}
+use Rattle.layout.proofs.page_frame.decode_page_frame.Goals.{then-not-has_counts-via-then-not-has_counts}
+use Rattle.layout.proofs.page_frame.decode_page_frame.Goals.{then-not-has_counts-via-else-not-has_counts+then-not-is_blank_between}
 
 pub returns-then-role-eq1-clause-found : goal.returns-then-role-eq1-clause-found
 returns-then-role-eq1-clause-found c =
