@@ -26,12 +26,13 @@ fn whole_sectors(bytes: u64) -> Result<u64, FileFault>
     Ok(bytes / SECTOR_SIZE as u64)
 }
 
-// How many bytes a call reads at most, and how many are copied at once: the C library copies more than 8192 byte by byte.
+// How many bytes a call reads at most.
 const READ_BYTES: usize = 65536;
 
+// How many bytes are copied at once. Copies of 8192 and more are slower: the C library uses `rep movsb`.
 const COPY_BYTES: usize = 4096;
 
-// Appends bytes.
+// Appends bytes. Fails only if memory runs out.
 fn append(copy: &mut Vec<u8>, bytes: &[u8]) -> Result<(), AllocError>
     ensures { OnOk result (copy.new.items ≡ copy.old.items ++ bytes.now) }
 {
@@ -43,7 +44,8 @@ fn append(copy: &mut Vec<u8>, bytes: &[u8]) -> Result<(), AllocError>
     copy.extend_from_slice(&bytes[COPY_BYTES * parts..])
 }
 
-// Appends the first bytes of the file to an empty vector, read through `buffer`. A call that was interrupted is made again.
+// Appends the first bytes of the file to an empty vector. They are read through `buffer`, so that the vector's memory
+// isn't cleared first. An interrupted call is made again.
 fn get_fully<F: Openable>(
     file: &mut F,
     bytes: usize,
@@ -77,7 +79,7 @@ fn get_fully<F: Openable>(
     Err(FileFault::Io)
 }
 
-// The first bytes of the file.
+// Returns the first bytes of the file.
 fn get_all<F: Openable>(alloc: Global, file: &mut F, bytes: usize) -> Result<Vec<u8>, FileFault>
     ensures bytes { IfOk result (λ copy. Gets (F.opening file.old) (F.opening file.new) copy.items) }
     ensures size { IfOk result (λ copy. length copy.items ≡ bytes) }

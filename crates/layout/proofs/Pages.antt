@@ -148,7 +148,8 @@ page_spelling age role h f bytes rest fits role_is front is e =
     record {
       counts = subst (λ (x : ObjectHeader). IsCount age x.allocations × IsCount age x.calls) (sym same) (is.front.allocations, is.front.calls);
       gap = parts.gap;
-      kind = page_kind role h.owner (drop 512 bytes) f.content reported.0 parts.last is.holds (λ t. ap (λ (x : ObjectHeader). x.owner) same ∙ is.front.unowned t);
+      kind = page_kind role h.owner (drop 512 bytes) f.content reported.0 parts.last is.holds
+          (λ t. ap (λ (x : ObjectHeader). x.owner) same ∙ is.front.unowned t);
     }
 
 -- what a role's number and 512 words are as a content

@@ -18,7 +18,8 @@ loop-preserved g c = elim c.match-get.branch [
       record {
         within =
             rw w.copy-is
-            (stays_within c.loop.copy.items _ c.get.new.into _ w.in-Ok.count c.args.bytes w.in-Ok.ensures.bound.0 w.in_ok-append-in-Ok.ensures (omega (arith, done, asked, lent)));
+            (stays_within c.loop.copy.items _ c.get.new.into _ w.in-Ok.count c.args.bytes w.in-Ok.ensures.bound.0 w.in_ok-append-in-Ok.ensures
+            (omega (arith, done, asked, lent)));
         bytes =
             rw w.copy-is
             (gets_on _ _ _ c.loop.copy.items _ c.get.new.into _ c.len-done.result w.in-Ok.count done w.in-Ok.ensures.bound.0 w.in_ok-append-in-Ok.ensures

@@ -4,8 +4,10 @@ use Rattle.layout.proofs.page_frame.decode_words.Goals as goal
 
 pub returns-clause-words : goal.returns-clause-words
 returns-clause-words c =
-    rw (c.copy_from.ensures) (words_read c.args.bytes.now c.read_u64_into.new.dst (λ i. omega (arith, c.type_inv.bytes i)) c.requires (omega arith) c.read_u64_into.ensures).0
+    rw (c.copy_from.ensures) (words_read c.args.bytes.now c.read_u64_into.new.dst (λ i. omega (arith, c.type_inv.bytes i)) c.requires (omega arith)
+    c.read_u64_into.ensures).0
 
 pub returns-clause-bytes : goal.returns-clause-bytes
 returns-clause-bytes c =
-    rw (c.copy_from.ensures) (words_read c.args.bytes.now c.read_u64_into.new.dst (λ i. omega (arith, c.type_inv.bytes i)) c.requires (omega arith) c.read_u64_into.ensures).1
+    rw (c.copy_from.ensures) (words_read c.args.bytes.now c.read_u64_into.new.dst (λ i. omega (arith, c.type_inv.bytes i)) c.requires (omega arith)
+    c.read_u64_into.ensures).1
