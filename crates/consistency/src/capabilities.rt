@@ -14,6 +14,7 @@ use model::{Cap, Capability, Content, Role};
 use std::alloc::Global;
 
 /// Whether the object that a capability names is what the capability is for.
+#[inline(always)]
 pub fn names_its_role<F: PresentFrames>(
     store: &F,
     notes: &[Option<Noted>],
@@ -38,6 +39,7 @@ pub fn names_its_role<F: PresentFrames>(
 
 /// Whether a held capability has no greater count than its object, and where the counts are the same
 /// names what it is for.
+#[inline(always)]
 pub fn is_named<F: PresentFrames>(store: &F, notes: &[Option<Noted>], held: Cap) -> bool
     requires { AreNoted (frames_of (F.parts store.now)) notes.now }
     ensures { IsTrue result ↔ IsNamed (frames_of (F.parts store.now)) held }

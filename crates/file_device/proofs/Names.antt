@@ -7,8 +7,8 @@ pub use Rattle.memory_device.proofs.Past.{replay-append, replay-one, written-dur
 pub use Rattle.memory_device.specs.Past.{Event, MayLeave, State, after, at_first, cut, disk_of, writes_of}
 pub use Rattle.memory_device.specs.PastLaws.{image_whole}
 pub use Rattle.memory_device.specs.declared.record.Outcome.TheVariants.{Keep}
-pub use Rattle.std.proofs.Common.{All, Err, IfSome, List, None, Ok, OnErr, OnOk, Option, Result, Some, [], ap, append-nil, append_assoc, arith, drop, drop_at}
-pub use Rattle.std.proofs.Common.{inl, is_ok, length, length-append, length-take, length-take-le, option_map, refl, replicate, rules, subst, sym, take, true, ℕ}
+pub use Rattle.std.proofs.Common.{All, Err, IfSome, List, None, Ok, OnErr, OnOk, Option, Result, Some, [], ap, append-nil, append_assoc, arith, drop, inl}
+pub use Rattle.std.proofs.Common.{is_ok, length, length-append, length-take, length-take-le, option_map, refl, replicate, rules, subst, sym, take, true, ℕ}
 pub use Rattle.std.proofs.Common.{⊎_elim, ◌*◌, ◌++◌, ◌+◌, ◌-◌, ◌/◌, ◌<◌, ◌^◌, ◌∙◌, ◌∷◌, ◌≡◌, ◌≤◌}
 pub use Rattle.std.proofs.Math.Logic.{∥∥₁_map}
 pub use Rattle.std.proofs.Math.Seq.{take-add}
@@ -16,7 +16,6 @@ pub use Rattle.std.proofs.lemmas.Bool.{cases_lt}
 pub use Rattle.std.proofs.lemmas.List.{drop-drop, length-replicate, take-append-le, take-replicate, take_rest}
 pub use Rattle.std.proofs.lemmas.List.Concat.{flat_map-append}
 pub use Rattle.std.proofs.lemmas.List.Folds.{concat-append}
-pub use Rattle.std.proofs.lemmas.Slice.{take-put_mid_below}
 pub use Rattle.std.specs.List.{concat}
 pub use Rattle.file_device.specs.FileDevice.{file_disk}
 pub use Rattle.file_device.specs.OpeningCalls.{Answers, Gets, IsMade, IsOpened, KeepsLength, LoadsLocked, MakesZeros, Mirrors, OpeningCall, got, listed, locked}

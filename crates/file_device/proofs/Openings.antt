@@ -1,10 +1,8 @@
 -- The calls that open or make a device, one after another.
 use Rattle.file_device.proofs.Names.{◌≡◌, ℕ, ◌+◌, ◌*◌, ◌≤◌, List, [], ◌∷◌, ◌++◌, Option, option_map, None, Some, IfSome, length, take, refl, sym, ap, ◌∙◌}
-use Rattle.file_device.proofs.Names.{subst, append-nil, arith, length-append, length-take-le, drop_at, take-add, take-append-le, concat-append}
-use Rattle.file_device.proofs.Names.{take-put_mid_below, concat, Disk, Agrees, image_of, sectors_of, Access, Create, Lock, Exclusive, OpeningCall, opened}
-use Rattle.file_device.proofs.Names.{locked, synced, measured, got, resized, listed, resizes, KeepsLength, reads, Gets, LoadsLocked, MakesZeros, IsOpened}
-use Rattle.file_device.proofs.Names.{IsMade, Adds}
-use borrow.Rule.Slice.PartMut.{put_mid, post_of}
+use Rattle.file_device.proofs.Names.{subst, append-nil, append_assoc, arith, drop, length-append, length-take-le, take-add, take-append-le, concat-append}
+use Rattle.file_device.proofs.Names.{concat, Disk, Agrees, image_of, sectors_of, Access, Create, Lock, Exclusive, OpeningCall, opened, locked, synced, measured}
+use Rattle.file_device.proofs.Names.{got, resized, listed, resizes, KeepsLength, reads, Gets, LoadsLocked, MakesZeros, IsOpened, IsMade, Adds}
 use Rattle.file_device.proofs.Deeds.{adds_none, adds_more}
 
 abbrev Calls : Type 0
@@ -50,29 +48,25 @@ gets_more a b c xs ys gets adds =
       subst (Adds a c) (sym (reads_one gets.0 ys)) (adds_more a b c (reads 0 gets.0) (got (length (concat gets.0)) ys ∷ []) gets.2 behind),
     )
 
--- the front of a list, once n bytes were got behind it
-front_more : (i k n : ℕ) (into part : List ℕ) → i ≤ length into → n ≤ length part → take i into ++ take n part ≡ take (i + n) (put_mid i k into part)
-front_more i k n into part within fits =
-    let after = post_of i k into in
-    ap (λ (l : List ℕ). l ++ take n part) (sym (take-put_mid_below i k into part i (omega arith) within))
-    ∙ ap (λ (l : List ℕ). take i (put_mid i k into part) ++ l)
-    (sym (ap (take n) (drop_at (take i into) (part ++ after) i (length-take-le i into within)) ∙ take-append-le n part after fits))
-    ∙ sym (take-add i n (put_mid i k into part))
+-- one more part is appended
+pub part_more : (old before after bytes : List ℕ) (at size : ℕ) → before ≡ old ++ take at bytes → after ≡ before ++ take size (drop at bytes)
+    → after ≡ old ++ take (at + size) bytes
+part_more old before after bytes at size was is =
+    is ∙ ap (λ (l : List ℕ). l ++ take size (drop at bytes)) was ∙ append_assoc old (take at bytes) (take size (drop at bytes))
+    ∙ ap (λ (l : List ℕ). old ++ l) (sym (take-add at size bytes))
 
--- a call got n bytes into the rest of a buffer
-pub gets_on : (a b c : Calls) (into part : List ℕ) (i k n : ℕ) → i ≤ length into → n ≤ length part
-    → Gets a b (take i into) → Adds b c (got i (take n part) ∷ []) → Gets a c (take (i + n) (put_mid i k into part))
-gets_on a b c into part i k n within fits gets adds =
-    let there : i ≡ length (take i into) = sym (length-take-le i into within) in
-    subst (Gets a c) (front_more i k n into part within fits)
-    (gets_more a b c (take i into) (take n part) gets (subst (λ (m : ℕ). Adds b c (got m (take n part) ∷ [])) there adds))
+-- a call got n bytes into the front of a buffer, which were appended
+pub gets_on : (a b c : Calls) (copy after part rest : List ℕ) (done n : ℕ) → done ≡ length copy → n ≤ length part → after ≡ copy ++ take n (part ++ rest)
+    → Gets a b copy → Adds b c (got done (take n part) ∷ []) → Gets a c after
+gets_on a b c copy after part rest done n is fits appended gets adds =
+    let whole : after ≡ copy ++ take n part = appended ∙ ap (λ (l : List ℕ). copy ++ l) (take-append-le n part rest fits) in
+    subst (Gets a c) (sym whole) (gets_more a b c copy (take n part) gets (subst (λ (m : ℕ). Adds b c (got m (take n part) ∷ [])) is adds))
 
--- a call that got nothing
-pub gets_kept : (a b c : Calls) (into part : List ℕ) (i k : ℕ) → i ≤ length into → Gets a b (take i into) → c ≡ b
-    → Gets a c (take i (put_mid i k into part))
-gets_kept a b c into part i k within gets same =
-    subst (Gets a c) (sym (take-put_mid_below i k into part i (omega arith) within))
-    (subst (λ (d : Calls). Gets a d (take i into)) (sym same) gets)
+-- and they are no more than were asked for
+pub stays_within : (copy after part rest : List ℕ) (n bytes : ℕ) → n ≤ length part → after ≡ copy ++ take n (part ++ rest)
+    → length copy + length part ≤ bytes → length after ≤ bytes
+stays_within copy after part rest n bytes fits appended room =
+    omega (arith, ap length appended, length-append copy (take n (part ++ rest)), length-take-le n (part ++ rest) (omega (arith, length-append part rest)))
 
 -- a file that was just opened, and then loaded
 pub opens : (path : List ℕ) (access : Access) (lock : Lock) (a b : Calls) (copy : List ℕ) (disk : Disk)

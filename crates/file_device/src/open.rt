@@ -1,5 +1,6 @@
 // Opening and making a device in a file.
-ghost use Rattle.std.specs.Prelude.{◌≡◌, ◌≢◌, ◌⊎◌, ◌<◌, ◌≤◌, ◌*◌, ◌/◌, ◌%◌, ℕ, [], ◌∷◌, length, replicate, nat_lt};
+ghost use Rattle.std.specs.Prelude.{◌≡◌, ◌≢◌, ◌⊎◌, ◌<◌, ◌≤◌, ◌*◌, ◌/◌, ◌%◌, ℕ, [], ◌∷◌, ◌++◌, length, replicate};
+ghost use Rattle.std.specs.Prelude.{nat_lt};
 ghost use Rattle.std.specs.Prelude.{if◌then◌else◌, IfErr, IfOk, IfSome, IsErrOf, OnOk, OnErr, Ok, Err};
 ghost use Rattle.device.specs.Calls.{Agrees, Only, sectors_of, image_of};
 ghost use Rattle.file_device.specs.FileDevice.{file_disk, raw_file};
@@ -12,7 +13,7 @@ use crate::file_device::CopiedFile;
 use crate::host_file::HostFile;
 use crate::openable::{Access, Lock, LockAnswer, Openable};
 use device::{MAX_SECTORS, SECTOR_SIZE};
-use std::alloc::Global;
+use std::alloc::{AllocError, Global};
 use std::io::ErrorKind;
 
 // The number of whole sectors in this number of bytes, or `Long`.
@@ -25,22 +26,49 @@ fn whole_sectors(bytes: u64) -> Result<u64, FileFault>
     Ok(bytes / SECTOR_SIZE as u64)
 }
 
-// Fills `into` from byte 0 of the file on. A call that was interrupted is made again.
-fn get_fully<F: Openable>(file: &mut F, into: &mut [u8]) -> Result<(), FileFault>
-    requires { length into.old ≤ 67108864 }
-    ensures bytes { OnOk result (Gets (F.opening file.old) (F.opening file.new) into.new) }
-    ensures fault { IfErr result (λ fault. fault ≡ FileFault.Io) }
+// How many bytes a call reads at most.
+const READ_BYTES: usize = 65536;
+
+// How many bytes are copied at once. Copies of 8192 and more are slower: the C library uses `rep movsb`.
+const COPY_BYTES: usize = 4096;
+
+// Appends bytes. Fails only if memory runs out.
+fn append(copy: &mut Vec<u8>, bytes: &[u8]) -> Result<(), AllocError>
+    ensures { OnOk result (copy.new.items ≡ copy.old.items ++ bytes.now) }
+{
+    let parts = bytes.len() / COPY_BYTES;
+    for i in 0..parts {
+        let at = COPY_BYTES * i;
+        copy.extend_from_slice(&bytes[at..at + COPY_BYTES])?;
+    }
+    copy.extend_from_slice(&bytes[COPY_BYTES * parts..])
+}
+
+// Appends the first bytes of the file to an empty vector. They are read through `buffer`, so that the vector's memory
+// isn't cleared first. An interrupted call is made again.
+fn get_fully<F: Openable>(
+    file: &mut F,
+    bytes: usize,
+    buffer: &mut [u8],
+    copy: &mut Vec<u8>,
+) -> Result<(), FileFault>
+    requires { copy.old.items ≡ [] }
+    ensures bytes { OnOk result (Gets (F.opening file.old) (F.opening file.new) copy.new.items) }
+    ensures size { OnOk result (length copy.new.items ≡ bytes) }
+    ensures held { IfErr result (λ fault. fault ≢ FileFault.Held) }
+    ensures long { IfErr result (λ fault. fault ≢ FileFault.Long) }
     ensures length { KeepsLength (F.opening file.old) (F.opening file.new) }
     ensures calls { F.calls file.new ≡ F.calls file.old }
 {
-    let mut done = 0;
     for _ in 0..u64::MAX {
-        if done == into.len() {
+        let done = copy.len();
+        if done == bytes {
             return Ok(());
         }
-        match file.get(done as u64, &mut into[done..]) {
+        let most = (bytes - done).min(buffer.len());
+        match file.get(done as u64, &mut buffer[..most]) {
             Ok(0) => return Err(FileFault::Io),
-            Ok(count) => done += count,
+            Ok(count) => append(copy, &buffer[..count])?,
             Err(error) => {
                 if error.kind() != ErrorKind::Interrupted {
                     return Err(FileFault::Io);
@@ -49,6 +77,21 @@ fn get_fully<F: Openable>(file: &mut F, into: &mut [u8]) -> Result<(), FileFault
         }
     }
     Err(FileFault::Io)
+}
+
+// Returns the first bytes of the file.
+fn get_all<F: Openable>(alloc: Global, file: &mut F, bytes: usize) -> Result<Vec<u8>, FileFault>
+    ensures bytes { IfOk result (λ copy. Gets (F.opening file.old) (F.opening file.new) copy.items) }
+    ensures size { IfOk result (λ copy. length copy.items ≡ bytes) }
+    ensures held { IfErr result (λ fault. fault ≢ FileFault.Held) }
+    ensures long { IfErr result (λ fault. fault ≢ FileFault.Long) }
+    ensures length { KeepsLength (F.opening file.old) (F.opening file.new) }
+    ensures calls { F.calls file.new ≡ F.calls file.old }
+{
+    let mut copy = Vec::with_capacity(alloc, bytes)?;
+    let mut buffer = vec![in alloc; 0; READ_BYTES]?;
+    get_fully(file, bytes, &mut buffer, &mut copy)?;
+    Ok(copy)
 }
 
 // Reads all whole sectors of the file.
@@ -62,8 +105,7 @@ fn load<F: Openable>(alloc: Global, file: &mut F) -> Result<Vec<u8>, FileFault>
     ensures calls { F.calls file.new ≡ F.calls file.old }
 {
     let sectors = whole_sectors(file.length()?)?;
-    let mut copy = vec![in alloc; 0; sectors as usize * SECTOR_SIZE]?;
-    get_fully(file, &mut copy)?;
+    let copy = get_all(alloc, file, sectors as usize * SECTOR_SIZE)?;
     Ok(copy)
 }
 

@@ -4,7 +4,8 @@ use Rattle.layout.proofs.Names.{append_assoc, arith, replicate, map, between, re
 use Rattle.layout.proofs.Names.{take-append-drop, length-append, length-take-le, length-map, Cap, Frame, ObjectHeader, Geometry, Content, Role, Root, State}
 use Rattle.layout.proofs.Names.{Available, Running, Waiting, void_held, IsCount, AreKeptSlots, role_of, role_number, state_number, number, short_number, zeros}
 use Rattle.layout.proofs.Names.{Body, capability_bytes, head_bytes, front_numbers, front_bytes, number_cap, slots_of, slots_bytes, node_frame_bytes, root_slots}
-use Rattle.layout.proofs.Names.{root_from, role_in, state_in, body_in, content_of, FollowsRole, IsFront, IsBody, IsNodeFrame}
+use Rattle.layout.proofs.Names.{root_from, role_in, state_in, body_in, content_of, FollowsRole, IsFront, IsBody, IsNodeFrame, All-replicate, IsTrue, IsKeptCap}
+use Rattle.layout.proofs.Names.{is_free, take-replicate}
 use borrow.Rule.Slice.PartMut.{put_mid}
 use Rattle.model.specs.declared.object.Content.TheVariants as content
 use Rattle.model.specs.declared.object.Role.TheVariants as role
@@ -265,6 +266,54 @@ node_found g age role h slots c bytes fits role_is counts are is front middle la
       },
       spelt ∙ sym (append_assoc (front_bytes h) (slots_bytes (slots_of c)) (zeros 224)),
     )
+
+-- ---- free numbers
+
+all_void : slots_bytes (replicate 32 void_held) ≡ zeros 768
+all_void = voids_bytes 32
+
+front_zeros : (m n : ℕ) → m ≤ n → take m (zeros n) ≡ zeros m
+unfolding zeros
+front_zeros m n le = take-replicate m n 0 le
+
+-- the frame of a free number is read
+pub free_node_found : (g : Geometry) (age : ℕ) (h : ObjectHeader) (bytes : List ℕ) → AllFit (front_list 0 h) → h.role ≡ role_in 0
+    → IsCount age h.allocations × IsCount age h.calls → h.owner ≡ 0 → bytes ≡ front_numbers 0 h ++ drop 32 bytes → drop 32 bytes ≡ zeros 992
+    → IsNodeFrame g age (record { header = h; content = content.Free }) × (bytes ≡ node_frame_bytes (record { header = h; content = content.Free }))
+free_node_found g age h bytes fits role_is counts unowned front blank =
+    node_found g age 0 h (replicate 32 void_held) content.Free bytes fits role_is counts
+    (record { count = refl; each = All-replicate (IsKeptCap g age) 32 void_held refl })
+    (record { role_is = refl; slots_are = refl; follows = tt; unowned = λ _. unowned })
+    front (ap (take 768) blank ∙ front_zeros 768 992 (omega arith) ∙ sym all_void) (sym (drop-drop 768 32 bytes) ∙ ap (drop 768) blank ∙ drop_zeros 768 992)
+
+-- what the bytes of a frame with the number of a node are, whose role's number is 0
+pub record IsFreeSpelling (age : ℕ) (h : ObjectHeader) (bytes : List ℕ) : Type 0 where
+  pub counts : IsCount age h.allocations × IsCount age h.calls
+  pub unowned : h.owner ≡ 0
+  pub blank : drop 32 bytes ≡ zeros 992
+
+free_slots : (c : Content Cap) → FollowsRole c → 0 ≡ role_number (role_of c) → record { free : IsTrue (is_free c); slots : slots_of c ≡ replicate 32 void_held }
+free_slots content.Free f e = record { free = refl; slots = refl }
+free_slots (content.Page words) f e = absurd f
+free_slots (content.Node slots) f e = absurd (omega (arith, e))
+free_slots (content.Root root) f e = absurd (omega (arith, e))
+free_slots (content.Annex registers) f e = absurd (omega (arith, e))
+free_slots (content.Bank limit) f e = absurd (omega (arith, e))
+
+pub free_node_spelling : (g : Geometry) (age : ℕ) (h : ObjectHeader) (f : Frame) (bytes rest : List ℕ) → AllFit (front_list 0 h) → h.role ≡ role_in 0
+    → bytes ≡ front_numbers 0 h ++ rest → IsNodeFrame g age f → bytes ≡ node_frame_bytes f → IsFreeSpelling age h bytes
+free_node_spelling g age h f bytes rest fits role_is front is e =
+    let parts = node_parts g age f bytes is e in
+    let spelt : List ℕ = slots_bytes (slots_of f.content) ++ zeros 224 in
+    let reported = front_reported age 0 h f rest spelt fits role_is is.front (sym front ∙ parts.whole) in
+    let same : h ≡ f.header = reported.1 in
+    let free = free_slots f.content is.follows reported.0 in
+    record {
+      counts = subst (λ (x : ObjectHeader). IsCount age x.allocations × IsCount age x.calls) (sym same) (is.front.allocations, is.front.calls);
+      unowned = ap (λ (x : ObjectHeader). x.owner) same ∙ is.front.unowned free.free;
+      blank = ap (drop 32) parts.whole ∙ drop_at (front_numbers (role_number f.header.role) f.header) spelt 32 (length-front _ f.header)
+          ∙ ap (λ (s : List Cap). slots_bytes s ++ zeros 224) free.slots ∙ ap (λ (r : List ℕ). r ++ zeros 224) all_void ∙ zeros_add 768 224;
+    }
 
 -- given bytes spell at most one frame
 pub one_node_frame : (g : Geometry) (age : ℕ) (e f : Frame) → IsNodeFrame g age e → IsNodeFrame g age f → node_frame_bytes e ≡ node_frame_bytes f → e ≡ f

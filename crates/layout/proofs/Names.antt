@@ -1,6 +1,6 @@
 -- The names that the proofs here cite: of other crates, and of the definitions of this one.
-pub use Rattle.byteorder.specs.Endian.{little_number}
-pub use Rattle.byteorder.specs.Numbers.{little_from-take, little_number-reads_back}
+pub use Rattle.byteorder.specs.Endian.{IsRead, little_number}
+pub use Rattle.byteorder.specs.Numbers.{little_from-lt, little_from-take, little_number-reads_back}
 pub use Rattle.device.specs.Disk.{Image}
 pub use Rattle.model.specs.Capability.{IsAccess, access_bits, tag_of}
 pub use Rattle.model.specs.Frame.{blank_frame, frame_at, void_held}
@@ -29,8 +29,8 @@ pub use Rattle.std.proofs.lemmas.Bool.Decides.{nat_tests}
 pub use Rattle.std.proofs.lemmas.List.{append-nil, drop-append-le, drop-drop, drop-replicate, drop-take, drop_all, drop_at, drop_more, get_or-append-add}
 pub use Rattle.std.proofs.lemmas.List.{get_or-append_right, get_or-drop, get_or-map, get_or-replicate, get_or-set_other, get_or-set_same, get_or-take}
 pub use Rattle.std.proofs.lemmas.List.{get_or_append_left, get_or_default, get_or_past, length-append, length-drop, length-map, length-replicate, length-set}
-pub use Rattle.std.proofs.lemmas.List.{length-take, length-take-le, replicate-append-replicate, same_lists, take-append-drop, take-append-le, take_all, take_at}
-pub use Rattle.std.proofs.lemmas.List.{take_more, take_more_set, take_rest}
+pub use Rattle.std.proofs.lemmas.List.{length-take, length-take-le, replicate-append-replicate, same_lists, take-append-drop, take-append-le, take-replicate}
+pub use Rattle.std.proofs.lemmas.List.{take_all, take_at, take_more, take_more_set, take_rest}
 pub use Rattle.std.proofs.lemmas.List.Concat.{flat_map-append}
 pub use Rattle.std.proofs.lemmas.List.Elements.{All-append, All-cons, All-from_recursion, All-head, All-map, All-nil, All-push, All-replicate, All-same}
 pub use Rattle.std.proofs.lemmas.List.Elements.{All-tail, All-weaker}
@@ -41,7 +41,7 @@ pub use Rattle.std.proofs.lemmas.Slice.{between-put_mid, between_is, drop-put_mi
 pub use Rattle.std.proofs.lemmas.Slice.Eq.{slice_eq-Decides}
 pub use Rattle.std.specs.Int.{from_le_bytes, w32, w64}
 pub use Rattle.std.specs.List.{All, between, flat_map, range_with_len}
-pub use Rattle.std.specs.Prelude.{IfNone, IfSome, IsTrue, bit_or, codes, if◌then◌else◌, map, nat_eq, replicate, ◌==◌, ◌↔◌}
+pub use Rattle.std.specs.Prelude.{IfNone, IfSome, IsTrue, bit_or, codes, if◌then◌else◌, map, nat_eq, replicate, ◌==◌, ◌↔◌, ◌⊎◌}
 unfoldable pub use Rattle.layout.specs.Bytes.{half_number, number, number_from, short_number, zeros}
 pub use Rattle.layout.specs.Capability.{HeadFits, assembled, head_number, height_of, key_of, number_of}
 unfoldable pub use Rattle.layout.specs.Capability.{capability_bytes, head_bytes}

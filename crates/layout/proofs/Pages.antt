@@ -1,14 +1,13 @@
 -- Frames of pages read back from their bytes.
-use Rattle.layout.proofs.Names.{◌≡◌, ℕ, suc, ◌+◌, ◌-◌, ◌*◌, ◌^◌, ◌<◌, ◌≤◌, List, [], ◌∷◌, ◌++◌, length, set, take, drop, refl, sym, ap, subst, ◌∙◌}
-use Rattle.layout.proofs.Names.{append_assoc, inl, inr, arith, replicate, IsTrue, false≢true, All, flat_map, same_lists, length-replicate, get_or-replicate}
-use Rattle.layout.proofs.Names.{drop-drop, take_at, drop_at, take_all, take-append-drop, append-nil, take_more_set, length-set, length-append, length-drop}
-use Rattle.layout.proofs.Names.{length-take-le, drop-take, drop_all, take-add, flat_map-append, All-same, All-replicate, All-push, All-nil, Cap, Frame}
+use Rattle.layout.proofs.Names.{◌≡◌, ℕ, suc, ◌+◌, ◌-◌, ◌*◌, ◌^◌, ◌<◌, ◌≤◌, List, [], ◌∷◌, ◌++◌, length, take, drop, refl, sym, ap, subst, ◌∙◌, append_assoc}
+use Rattle.layout.proofs.Names.{inl, inr, arith, IsTrue, false≢true, All, flat_map, length-replicate, drop-drop, take_at, drop_at, take_all, take-append-drop}
+use Rattle.layout.proofs.Names.{append-nil, length-drop, length-take-le, drop-take, drop_all, take-add, flat_map-append, All-replicate, Cap, Frame}
 use Rattle.layout.proofs.Names.{ObjectHeader, Content, IsCount, AreKeptWords, role_of, role_number, is_free, zero_words, number, zeros, Body, front_numbers}
-use Rattle.layout.proofs.Names.{front_bytes, page_words, words_bytes, page_frame_bytes, role_in, page_body_in, content_of, IsFront, HoldsPage, IsPageFrame}
-use Rattle.layout.proofs.Names.{IsPageBody}
+use Rattle.layout.proofs.Names.{front_bytes, page_words, words_bytes, page_frame_bytes, role_in, page_body_in, content_of, HoldsPage, IsPageFrame, IsPageBody}
+use Rattle.layout.proofs.Names.{zero, get_or, get_or-drop, get_or_default, take_more, little_number, ◌⊎◌, IsRead, little_from-lt}
 use borrow.Rule.Slice.PartMut.{put_mid}
 use Rattle.model.specs.declared.object.Content.TheVariants as content
-use Rattle.layout.proofs.Numbers.{length-number, stream, AllFit, stream_splits}
+use Rattle.layout.proofs.Numbers.{length-number, stream, AllFit, stream_splits, IsBytes, number_read}
 use Rattle.layout.proofs.Frames.{length-front, front_list, front_reported, front_bytes_are, role_again, role_fits, drop_zeros}
 
 pub words_bytes-nil : words_bytes [] ≡ []
@@ -31,45 +30,38 @@ all_fit (w ∷ ws) all = (all 0 0 (omega arith), all_fit ws (λ k d lt. all (suc
 -- ---- reading words
 
 -- the first i words are those of the first bytes
-pub record WordsRead (bytes into : List ℕ) (i : ℕ) : Type 0 where
-  pub bytes_are : take (8 * i) bytes ≡ words_bytes (take i into)
-  pub each : All (λ w. w < 2 ^ 64) (take i into)
-  pub count : length into ≡ 512
-
-pub no_word_read : (bytes into : List ℕ) → length into ≡ 512 → WordsRead bytes into 0
-no_word_read bytes into len = record { bytes_are = sym words_bytes-nil; each = All-nil (λ (w : ℕ). w < 2 ^ 64); count = len }
-
-pub word_read : (bytes into : List ℕ) (i n : ℕ) → i < 512 → WordsRead bytes into i → n < 2 ^ 64 → drop (8 * i) bytes ≡ number n ++ drop (8 * i + 8) bytes → WordsRead bytes (set into i n) (i + 1)
-word_read bytes into i n lt before fits is =
-    let more : take (i + 1) (set into i n) ≡ take i into ++ n ∷ [] = take_more_set into i n (omega (arith, before.count)) in
-    let next : 8 * (i + 1) ≡ 8 * i + 8 = omega arith in
+words_taken : (bytes words : List ℕ) → IsBytes bytes → length bytes ≡ 4096 → length words ≡ 512 → IsRead little_number 8 bytes words
+    → (i : ℕ) → i ≤ 512 → take (8 * i) bytes ≡ words_bytes (take i words)
+words_taken bytes words small size count read zero le = sym words_bytes-nil
+words_taken bytes words small size count read (suc i) le =
+    let next : 8 * suc i ≡ 8 * i + 8 = omega arith in
+    let n : ℕ = get_or words i 0 in
+    let on : suc i ≡ i + 1 = omega arith in
+    let more : take (suc i) words ≡ take i words ++ n ∷ [] = ap (λ (m : ℕ). take m words) on ∙ take_more words i 0 (omega arith) in
+    let is : drop (8 * i) bytes ≡ number n ++ drop (8 * i + 8) bytes = number_read bytes (8 * i) n (omega arith) small (read i (omega arith)) in
     let piece : take 8 (drop (8 * i) bytes) ≡ number n = ap (take 8) is ∙ take_at (number n) (drop (8 * i + 8) bytes) 8 (length-number n) in
-    record {
-      bytes_are = ap (λ (m : ℕ). take m bytes) next ∙ take-add (8 * i) 8 bytes ∙ ap (λ (r : List ℕ). r ++ take 8 (drop (8 * i) bytes)) before.bytes_are
-          ∙ ap (λ (r : List ℕ). words_bytes (take i into) ++ r) piece ∙ sym (words_bytes-push (take i into) n) ∙ ap words_bytes (sym more);
-      each = All-same (λ (w : ℕ). w < 2 ^ 64) (take (i + 1) (set into i n)) (take i into ++ n ∷ []) more (All-push (λ (w : ℕ). w < 2 ^ 64) (take i into) n before.each fits);
-      count = length-set into i n ∙ before.count;
-    }
+    ap (λ (m : ℕ). take m bytes) next ∙ take-add (8 * i) 8 bytes
+    ∙ ap (λ (r : List ℕ). r ++ take 8 (drop (8 * i) bytes)) (words_taken bytes words small size count read i (omega arith))
+    ∙ ap (λ (r : List ℕ). words_bytes (take i words) ++ r) piece ∙ sym (words_bytes-push (take i words) n) ∙ ap words_bytes (sym more)
 
-pub words_read : (bytes into : List ℕ) (i : ℕ) → 512 ≤ i → length bytes ≡ 4096 → WordsRead bytes into i → AreKeptWords 512 into × (bytes ≡ words_bytes into)
-words_read bytes into i done len was =
-    let whole : take i into ≡ into = take_all i into (omega (arith, was.count)) in (
-      record { count_is = was.count; each = All-same (λ (w : ℕ). w < 2 ^ 64) into (take i into) (sym whole) was.each },
-      sym (take_all (8 * i) bytes (omega arith)) ∙ was.bytes_are ∙ ap words_bytes whole,
-    )
+word_fits : (bytes words : List ℕ) → IsBytes bytes → IsRead little_number 8 bytes words → (k d : ℕ) → k < length words → get_or words k d < 2 ^ 64
+word_fits bytes words small read k d lt =
+    let fits : little_number 8 (drop (8 * k) bytes) < 256 ^ 8 =
+    little_from-lt 0 8 (drop (8 * k) bytes) (λ (i : ℕ). rw (get_or-drop (8 * k) bytes i 0) (small (8 * k + i))) in
+    rw (get_or_default words k d 0 lt, read k lt) (omega (arith, fits))
+
+-- 512 words that were read of their bytes
+pub words_read : (bytes words : List ℕ) → IsBytes bytes → length bytes ≡ 4096 → length words ≡ 512 → IsRead little_number 8 bytes words
+    → AreKeptWords 512 words × (bytes ≡ words_bytes words)
+words_read bytes words small size count read = (
+  record { count_is = count; each = word_fits bytes words small read },
+  sym (take_all (8 * 512) bytes (omega arith)) ∙ words_taken bytes words small size count read 512 (omega arith)
+      ∙ ap words_bytes (take_all 512 words (omega arith)),
+)
 
 -- ---- free pages
 
-pub zero_words_are : (ws : List ℕ) → length ws ≡ 512 → All (λ w. w ≡ 0) ws → ws ≡ zero_words
-unfolding zero_words
-zero_words_are ws len all =
-    same_lists ws (replicate 512 0) (len ∙ sym (length-replicate {A = ℕ} 512 0)) (λ k d lt. all k d lt ∙ sym (get_or-replicate 512 k 0 d (omega arith)))
-
-pub are_zero_words : (ws : List ℕ) → ws ≡ zero_words → All (λ w. w ≡ 0) ws
-unfolding zero_words
-are_zero_words ws e = All-same (λ (w : ℕ). w ≡ 0) ws (replicate 512 0) e (All-replicate (λ (w : ℕ). w ≡ 0) 512 0 refl)
-
-zero_words_fit : AreKeptWords 512 zero_words
+pub zero_words_fit : AreKeptWords 512 zero_words
 unfolding zero_words
 zero_words_fit = record { count_is = length-replicate {A = ℕ} 512 0; each = All-replicate (λ (w : ℕ). w < 2 ^ 64) 512 0 (omega arith) }
 
@@ -132,17 +124,33 @@ page_reported age role h words f bytes rest fits role_is are front last is e =
     (sym (words_stream words) ∙ sym last ∙ parts.last ∙ words_stream (page_words f.content)) in
     record { role_is = reported.0; header_is = reported.1; words_are = same.0 }
 
-body_reported : (role owner : ℕ) (words : List ℕ) (c : Content Cap) → role ≡ role_number (role_of c) → words ≡ page_words c → HoldsPage c → (IsTrue (is_free c) → owner ≡ 0) → IsPageBody role owner words
-body_reported role owner words content.Free r w h unowned = inr (r, unowned refl, w)
-body_reported role owner words (content.Page _) r w h unowned = inl r
-body_reported role owner words (content.Node slots) r w h unowned = absurd h
-body_reported role owner words (content.Root root) r w h unowned = absurd h
-body_reported role owner words (content.Annex registers) r w h unowned = absurd h
-body_reported role owner words (content.Bank limit) r w h unowned = absurd h
+page_kind : (role owner : ℕ) (last : List ℕ) (c : Content Cap) → role ≡ role_number (role_of c) → last ≡ words_bytes (page_words c) → HoldsPage c
+    → (IsTrue (is_free c) → owner ≡ 0) → (role ≡ 1) ⊎ ((role ≡ 0) × (owner ≡ 0) × (last ≡ zeros 4096))
+page_kind role owner last content.Free r l h unowned = inr (r, unowned refl, l ∙ zero_words_bytes)
+page_kind role owner last (content.Page _) r l h unowned = inl r
+page_kind role owner last (content.Node slots) r l h unowned = absurd h
+page_kind role owner last (content.Root root) r l h unowned = absurd h
+page_kind role owner last (content.Annex registers) r l h unowned = absurd h
+page_kind role owner last (content.Bank limit) r l h unowned = absurd h
 
-pub page_body_reported : (f : Frame) (role : ℕ) (h : ObjectHeader) (words : List ℕ) (age : ℕ) → IsPageReadOf f role h words → HoldsPage f.content → IsFront age f → IsPageBody role h.owner words
-page_body_reported f role h words age read holds front =
-    body_reported role h.owner words f.content read.role_is read.words_are holds (λ t. ap (λ (x : ObjectHeader). x.owner) read.header_is ∙ front.unowned t)
+-- what the bytes of a frame with the number of a page are
+pub record IsPageSpelling (age role : ℕ) (h : ObjectHeader) (bytes : List ℕ) : Type 0 where
+  pub counts : IsCount age h.allocations × IsCount age h.calls
+  pub gap : take 480 (drop 32 bytes) ≡ zeros 480
+  pub kind : (role ≡ 1) ⊎ ((role ≡ 0) × (h.owner ≡ 0) × (drop 512 bytes ≡ zeros 4096))
+
+pub page_spelling : (age role : ℕ) (h : ObjectHeader) (f : Frame) (bytes rest : List ℕ) → AllFit (front_list role h) → h.role ≡ role_in role
+    → bytes ≡ front_numbers role h ++ rest → IsPageFrame age f → bytes ≡ page_frame_bytes f → IsPageSpelling age role h bytes
+page_spelling age role h f bytes rest fits role_is front is e =
+    let parts = page_parts f bytes e in
+    let reported = front_reported age role h f rest (zeros 480 ++ words_bytes (page_words f.content)) fits role_is is.front (sym front ∙ parts.whole) in
+    let same : h ≡ f.header = reported.1 in
+    record {
+      counts = subst (λ (x : ObjectHeader). IsCount age x.allocations × IsCount age x.calls) (sym same) (is.front.allocations, is.front.calls);
+      gap = parts.gap;
+      kind = page_kind role h.owner (drop 512 bytes) f.content reported.0 parts.last is.holds
+          (λ t. ap (λ (x : ObjectHeader). x.owner) same ∙ is.front.unowned t);
+    }
 
 -- what a role's number and 512 words are as a content
 record IsPageContent (role owner : ℕ) (words : List ℕ) (c : Content Cap) : Type 0 where

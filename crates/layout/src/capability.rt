@@ -162,6 +162,7 @@ pub fn encode_capability(cap: Cap, into: &mut [u8])
 /// Reads a capability from its 24 bytes. Its object has to be of its kind on a device of this
 /// geometry, and its count at most the age. All that is no spelling of such a capability is a
 /// `BadFrame`.
+#[inline(always)]
 pub fn decode_capability(bytes: &[u8], geometry: Geometry, age: u64) -> Result<Cap, BadImage>
     requires { length bytes.now ≡ 24 }
     ensures found { IfOk result (λ c. IsKeptCap geometry age c

@@ -1,7 +1,9 @@
 // Frames with the number of a node.
-ghost use Rattle.std.specs.Prelude.{◌-◌, ◌≡◌, ◌*◌, ◌<◌, ◌≤◌, ◌++◌, ◌↔◌, ◌^◌, [], length, take, IsTrue, IfOk, IfErr};
+ghost use Rattle.std.specs.Prelude.{◌-◌, ◌≡◌, ◌*◌, ◌<◌, ◌≤◌, ◌++◌, ◌↔◌, ◌^◌, [], length, take, drop, IsTrue, IfOk};
+ghost use Rattle.std.specs.Prelude.{IfErr};
 ghost use Rattle.model.specs.declared.frame.Frame.{Frame};
 ghost use Rattle.model.specs.declared.object.Content.TheVariants as content;
+ghost use Rattle.model.specs.Keepable.{IsCount};
 ghost use Rattle.layout.specs.Bytes.{zeros};
 ghost use Rattle.layout.specs.Frame.{number_held, number_cap, state_in, root_from, body_in, root_slots, slots_of};
 ghost use Rattle.layout.specs.Frame.{slots_bytes, content_of, frame_of, node_frame_bytes, FollowsRole, IsBody};
@@ -123,6 +125,15 @@ fn is_body(body: &Body, role: u64, owner: u64, slots: &[Cap]) -> bool
     }
 }
 
+// Whether a frame whose role's number is 0 is that of a free number.
+fn is_free_node(header: ObjectHeader, age: u64, bytes: &[u8]) -> bool
+    requires { length bytes.now ≡ 1024 }
+    ensures { IsTrue result ↔ (IsCount age header.allocations × IsCount age header.calls)
+        × (header.owner ≡ 0) × (drop 32 bytes.now ≡ zeros 992) }
+{
+    has_counts(header, age) && header.owner == 0 && is_blank_from(bytes, 32)
+}
+
 /// Reads the 1024 bytes of a frame with the number of a node. The slots of a node or an annex are
 /// left in `scratch`. All that is no spelling of such a frame is a `BadFrame`, which leaves any
 /// slots.
@@ -139,6 +150,13 @@ pub fn decode_node_frame(
         × ((f : Frame) → IsNodeFrame geometry age f → bytes.now ≡ node_frame_bytes f → ⊥)) }
 {
     let (role, header) = decode_front(bytes);
+    if role == 0 {
+        return if is_free_node(header, age, bytes) {
+            Ok((header, Body::Free))
+        } else {
+            Err(BadImage::BadFrame)
+        };
+    }
     decode_slots(&bytes[32..800], geometry, age, &mut scratch.slots)?;
     let slots = scratch.slots.as_slice();
     let body = body_in(role, slots);

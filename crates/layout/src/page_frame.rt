@@ -1,16 +1,14 @@
 // Frames with the number of a page.
-ghost use Rattle.std.specs.Prelude.{◌≡◌, ◌*◌, ◌++◌, ◌↔◌, length, take, IsTrue, IfOk, IfErr};
+ghost use Rattle.std.specs.Prelude.{◌≡◌, ◌*◌, ◌++◌, ◌↔◌, length, take, drop, IsTrue, IfOk, IfErr};
 ghost use Rattle.model.specs.declared.frame.Frame.{Frame};
 ghost use Rattle.model.specs.declared.object.Content.TheVariants as content;
 ghost use Rattle.model.specs.Keepable.{AreKeptWords};
-ghost use Rattle.model.specs.Object.{zero_words};
 ghost use Rattle.layout.specs.Bytes.{zeros};
-ghost use Rattle.layout.specs.Frame.{front_bytes, words_bytes, frame_of, page_frame_bytes, page_body_in, IsPageBody};
-ghost use Rattle.layout.specs.Frame.{IsPageFrame};
+ghost use Rattle.layout.specs.Frame.{front_bytes, words_bytes, frame_of, page_frame_bytes, IsPageFrame};
 
 use crate::bad_image::BadImage;
 use crate::body::{Body, Scratch};
-use crate::bytes::{blank_from, blank_front, is_blank_between, number_at};
+use crate::bytes::{blank_from, blank_front, is_blank_between, is_blank_from};
 use crate::front::{decode_front, encode_front, has_counts};
 use byteorder::{ByteOrder, LittleEndian};
 use model::{Cap, Content, ObjectHeader, Words};
@@ -28,9 +26,7 @@ fn read_words(bytes: &[u8], into: &mut [u64])
     ensures words { AreKeptWords 512 into.new }
     ensures bytes { bytes.now ≡ words_bytes into.new }
 {
-    for i in 0..into.len() {
-        into[i] = number_at(bytes, 8 * i);
-    }
+    LittleEndian::read_u64_into(bytes, into);
 }
 
 fn decode_words(bytes: &[u8], into: &mut Words)
@@ -48,26 +44,12 @@ fn encode_words(words: &[u64], into: &mut [u8])
     LittleEndian::write_u64_into(words, into);
 }
 
-// Whether 512 words are all 0.
-fn are_zeros(words: &[u64]) -> bool
-    requires { length words.now ≡ 512 }
-    ensures { IsTrue result ↔ (words.now ≡ zero_words) }
+// Whether a frame with this role's number and owner is that of a free number, by its words.
+fn is_free_page(role: u64, owner: u64, bytes: &[u8]) -> bool
+    requires { length bytes.now ≡ 4608 }
+    ensures { IsTrue result ↔ (role ≡ 0) × (owner ≡ 0) × (drop 512 bytes.now ≡ zeros 4096) }
 {
-    words.iter().all(|word| *word == 0)
-}
-
-// The body that a role's number would be.
-fn body_in(role: u64) -> Body
-    ensures { result ≡ page_body_in role }
-{
-    if role == 1 { Body::Page } else { Body::Free }
-}
-
-fn is_body(role: u64, owner: u64, words: &[u64]) -> bool
-    requires { length words.now ≡ 512 }
-    ensures { IsTrue result ↔ IsPageBody role owner words.now }
-{
-    role == 1 || role == 0 && owner == 0 && are_zeros(words)
+    role == 0 && owner == 0 && is_blank_from(bytes, FRONT_BYTES)
 }
 
 /// Reads the 4608 bytes of a frame with the number of a page. The words of a page are left in
@@ -84,15 +66,17 @@ pub fn decode_page_frame(
         × ((f : Frame) → IsPageFrame age f → bytes.now ≡ page_frame_bytes f → ⊥)) }
 {
     let (role, header) = decode_front(bytes);
-    decode_words(&bytes[FRONT_BYTES..], &mut scratch.words);
-    let words = scratch.words.as_slice();
-    let has_counts = has_counts(header, age);
-    let is_blank = is_blank_between(bytes, 32, FRONT_BYTES);
-    if has_counts && is_blank && is_body(role, header.owner, words) {
-        Ok((header, body_in(role)))
-    } else {
-        Err(BadImage::BadFrame)
+    if !has_counts(header, age) || !is_blank_between(bytes, 32, FRONT_BYTES) {
+        return Err(BadImage::BadFrame);
     }
+    if role == 1 {
+        decode_words(&bytes[FRONT_BYTES..], &mut scratch.words);
+        return Ok((header, Body::Page));
+    }
+    if is_free_page(role, header.owner, bytes) {
+        return Ok((header, Body::Free));
+    }
+    Err(BadImage::BadFrame)
 }
 
 // Writes the front of a frame, and zeros up to the words.

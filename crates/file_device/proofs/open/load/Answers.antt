@@ -6,10 +6,7 @@ pub returns-in_err-sectors-clause-length : goal.returns-in_err-sectors-clause-le
 returns-in_err-sectors-clause-length g c = keeps_length _ _ _ c.in_ok-length.ensures.ok refl
 
 pub returns-in_err-copy-clause-length : goal.returns-in_err-copy-clause-length
-returns-in_err-copy-clause-length g c = keeps_length _ _ _ c.in_ok-length.ensures.ok refl
-
-pub returns-in_err-get_fully-clause-length : goal.returns-in_err-get_fully-clause-length
-returns-in_err-get_fully-clause-length g c = c.get_fully.ensures.length ∙ keeps_length _ _ _ c.in_ok-length.ensures.ok refl
+returns-in_err-copy-clause-length g c = c.get_all.ensures.length ∙ keeps_length _ _ _ c.in_ok-length.ensures.ok refl
 
 pub returns-clause-length : goal.returns-clause-length
-returns-clause-length g c = c.get_fully.ensures.length ∙ keeps_length _ _ _ c.in_ok-length.ensures.ok refl
+returns-clause-length g c = c.get_all.ensures.length ∙ keeps_length _ _ _ c.in_ok-length.ensures.ok refl

@@ -1,7 +1,8 @@
 use Rattle.layout.proofs.Names.{◌≡◌, ◌-◌, ℕ, List, [], refl, sym, ap, subst, ◌∙◌, arith, false≢true, err_from_is_err_and, Cap, ObjectHeader, IsCount, zeros}
-use Rattle.layout.proofs.Names.{Body, IsBody, slots_of, content_of, body_in}
+use Rattle.layout.proofs.Names.{Body, IsBody, slots_of, content_of, body_in, front_numbers, role_in}
+use Rattle.std.specs.Prelude.{◌++◌, drop}
 use Rattle.layout.proofs.Numbers.{AllFit}
-use Rattle.layout.proofs.Frames.{front_list, node_parts, node_reported, body_reported, node_found, any_words}
+use Rattle.layout.proofs.Frames.{front_list, node_parts, node_reported, body_reported, node_found, any_words, free_node_found, free_node_spelling}
 use Rattle.layout.proofs.node_frame.decode_node_frame.Goals as goal
 use Rattle.layout.proofs.node_frame.decode_node_frame.Goals.{else-has_counts-via-then-has_counts+then-is_blank+else-is_body}
 use Rattle.layout.proofs.node_frame.decode_node_frame.Goals.{else-has_counts-via-then-has_counts+else-is_blank, else-has_counts-via-else-has_counts}
@@ -46,4 +47,26 @@ returns-else-has_counts-clause-refused c =
                 false≢true (sym w.if-has_counts.false ∙ c.has_counts-has_counts.ensures.1
                 (subst (λ (h : ObjectHeader). IsCount c.args.age h.allocations × IsCount c.args.age h.calls) (sym reported.header_is) (is.front.allocations, is.front.calls)))
           ],
+    )
+
+pub returns-then-is_free_node-clause-found : goal.returns-then-is_free_node-clause-found
+returns-then-is_free_node-clause-found c =
+    let header : ObjectHeader = c.decode_front-role.result.1 in
+    let none : c.decode_front-role.result.0 ≡ 0 = omega (arith, c.if-role-eq0.true) in
+    let free = c.is_free_node.ensures.0 c.if-is_free_node.true in
+    free_node_found c.args.geometry c.args.age header c.args.bytes.now (omega arith, (omega arith, (omega arith, (omega arith, tt))))
+    (c.decode_front-role.ensures.role ∙ ap role_in none) free.0 free.1
+    (c.decode_front-role.ensures.bytes ∙ ap (λ (n : ℕ). front_numbers n header ++ drop 32 c.args.bytes.now) none) free.2
+
+pub returns-else-is_free_node-clause-refused : goal.returns-else-is_free_node-clause-refused
+returns-else-is_free_node-clause-refused c =
+    let header : ObjectHeader = c.decode_front-role.result.1 in
+    let none : c.decode_front-role.result.0 ≡ 0 = omega (arith, c.if-role-eq0.true) in
+    let fits : AllFit (front_list 0 header) = (omega arith, (omega arith, (omega arith, (omega arith, tt)))) in (
+      refl,
+      λ f is e.
+          let free = free_node_spelling c.args.geometry c.args.age header f c.args.bytes.now (drop 32 c.args.bytes.now) fits
+          (c.decode_front-role.ensures.role ∙ ap role_in none)
+          (c.decode_front-role.ensures.bytes ∙ ap (λ (n : ℕ). front_numbers n header ++ drop 32 c.args.bytes.now) none) is e in
+          false≢true (sym c.if-is_free_node.false ∙ c.is_free_node.ensures.1 (free.counts, free.unowned, free.blank)),
     )
