@@ -2,7 +2,8 @@
 use Rattle.capability.proofs.Names.{◌≡◌, ℕ, ◌<◌, ◌^◌, true, List, length, refl, sym, ap, subst, ◌∙◌, arith, IsTrue, All, Cap, Capability, Void, Content, Object}
 use Rattle.capability.proofs.Names.{Root, conveyed, header_at, held_at, AreCurrent, AreKeepable, IsCurrent, IsKeepable, IsKeptCap, MayBeKept, caps_in, is_annex}
 use Rattle.capability.proofs.Names.{is_root, map_content, root_in, with_slot_in, with_word_in, content_at, is_process, root_at, with_content, with_root}
-use Rattle.capability.proofs.Names.{with_slot, with_word, live_cap, with_root_in, Edits, Parts, frames_of, objects_in, with_held}
+use Rattle.capability.proofs.Names.{with_slot, with_word, live_cap, with_root_in, Edits, Parts, frames_of, objects_in, with_held, with_slots_in}
+use Rattle.capability.proofs.Names.{with_slots_from, [], ◌∷◌, ◌+◌, suc, map, set-get_or, set-set, get_or-set_same, length-set}
 use Rattle.model.specs.declared.object.Content.TheVariants as content
 use Rattle.capability.proofs.Edits.{current_held, header_kept, held_current, held_objects, live, slot_current, slot_through_map, word_current, word_through_map}
 use Rattle.capability.proofs.Frames.{content_there}
@@ -62,6 +63,33 @@ module _ (p q : Parts) (n : ℕ) (known : n < length p.headers) (inside : n < le
       content_edit (with_root_in change held) (content.Root (after (root_at (objects_in p) n))) may
       (through_map change after (conveyed p.headers) through held (sym (ap is_root there) ∙ process) ∙ ap (λ (d : Content Capability). content.Root (after (root_in d))) (sym there))
       (root_current p.headers change current held) (λ age allowed. root_keeps p.geometry age n (header_at p.headers n) change (stays age allowed) held)
+
+-- capabilities in the slots from i on, behind the first
+pub slots_edit : (p q : Parts) (n : ℕ) → n < length p.headers → n < length p.contents → (i : ℕ) → 0 < i → (cs : List Capability) →
+    q ≡ with_held p n (with_slots_in (held_at p.contents n) i (map (live_cap p.headers) cs)) →
+    IsEdit p q (with_slots_from (objects_in p) n i cs) (λ age. All (λ c. IsKeptCap p.geometry age (live_cap p.headers c)) cs)
+slots_edit p q n known inside i behind [] is =
+    let same : q ≡ p = is ∙ ap (λ (held : List (Content Cap)). let r : Parts = record p { contents = held } in r) (set-get_or p.contents n content.Free) in
+    record {
+      objects = ap (λ (r : Parts). objects_in r) same;
+      current = subst (λ (r : Parts). AreCurrent (frames_of r)) (sym same);
+      keepable = λ age may. subst (λ (r : Parts). AreKeepable p.geometry age (frames_of r)) (sym same);
+    }
+slots_edit p q n known inside i behind (c ∷ cs) is =
+    let first : Content Cap = with_slot_in (held_at p.contents n) i (live_cap p.headers c) in
+    let mid : Parts = with_held p n first in
+    let step = slot_edit p mid n known inside i c refl in
+    let last : Content Cap → Parts = λ d. with_held mid n (with_slots_in d (i + 1) (map (live_cap p.headers) cs)) in
+    let again : with_held p n (with_slots_in first (i + 1) (map (live_cap p.headers) cs)) ≡ last first =
+    ap (λ (held : List (Content Cap)). let r : Parts = record p { contents = held } in r) (sym (set-set p.contents n first (with_slots_in first (i + 1) (map (live_cap p.headers) cs)))) in
+    let rest = slots_edit mid q n known (omega (arith, length-set p.contents n first)) (i + 1) (omega arith) cs
+    (is ∙ again ∙ ap last (sym (get_or-set_same p.contents n first content.Free inside))) in
+    record {
+      objects = rest.objects ∙ ap (λ (os : List Object). with_slots_from os n (i + 1) cs) step.objects;
+      current = λ current. rest.current (step.current current);
+      keepable = λ age may keepable.
+          rest.keepable age (λ k d within. may (suc k) d (omega arith)) (step.keepable age (may 0 Void (omega arith), λ annex zeroth. absurd (omega arith)) keepable);
+    }
 
 -- an edit of a lent content, by the laws of present frames
 pub edited : {S : Type 0} (parts : S → Parts) (Fetched Announced : S → ℕ → Type 0) (Continues : S → S → Type 0) (with_content : S → ℕ → Content Cap → S) →

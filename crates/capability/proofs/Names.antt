@@ -13,7 +13,7 @@ pub use Rattle.model.specs.Order.{with_root_word, with_space}
 pub use Rattle.model.specs.Revoke.{is_member, names_member, resumes, void_where, without}
 unfoldable pub use Rattle.model.specs.Revoke.{consume, rescind}
 pub use Rattle.model.specs.Sound.{IsOfKind, IsSound, IsSpace, object_count}
-pub use Rattle.model.specs.World.{content_at, is_process, object_at, owner_at, root_at, slot_at, word_at}
+pub use Rattle.model.specs.World.{content_at, is_process, object_at, owner_at, root_at, slot_at, with_slots_from, word_at}
 unfoldable pub use Rattle.model.specs.World.{with_content, with_root, with_slot, with_state, with_word}
 pub use Rattle.model.specs.declared.frame.Frame.{Frame}
 pub use Rattle.model.specs.declared.frame.ObjectHeader.{ObjectHeader}
@@ -27,14 +27,14 @@ pub use Rattle.model.specs.declared.object.State.{State}
 pub use Rattle.model.specs.declared.object.State.TheVariants.{Running}
 pub use Rattle.std.proofs.Common.{Bool, List, Some, [], ap, arith, cond, eqb, false, get_or, if◌then◌else◌, inl, inr, length, map, nat_lt, refl, replicate}
 pub use Rattle.std.proofs.Common.{rules, set, slice_get, slice_index, slice_index_or, slice_set, subst, suc, sym, take, true, zero, zero-add, ℕ, ⊎_elim, ◌++◌}
-pub use Rattle.std.proofs.Common.{◌+◌, ◌<◌, ◌==◌, ◌^◌, ◌||◌, ◌∙◌, ◌∷◌, ◌≡◌, ◌≤◌}
+pub use Rattle.std.proofs.Common.{◌+◌, ◌<◌, ◌==◌, ◌^◌, ◌||◌, ◌∙◌, ◌∷◌, ◌≡◌, ◌≤◌, ◌⊎◌}
 pub use Rattle.std.proofs.Math.ListN.{get_or-map}
 pub use Rattle.std.proofs.Math.Seq.{map-set_same}
 pub use Rattle.std.proofs.lemmas.Bool.{cases_eq, cases_lt, eq-eqb, eqb-false, eqb-true, ne_eqb}
 pub use Rattle.std.proofs.lemmas.Bool.Decides.{nat_tests}
 pub use Rattle.std.proofs.lemmas.Grind.{get_or_default_zero}
-pub use Rattle.std.proofs.lemmas.List.{ext_get_or, get_or-set_other, get_or-set_same, get_or_past, length-map, length-set, map-set, set-get_or, set_past}
-pub use Rattle.std.proofs.lemmas.List.{take_all, take_more}
+pub use Rattle.std.proofs.lemmas.List.{ext_get_or, get_or-set_other, get_or-set_same, get_or_past, length-map, length-set, map-set, set-get_or, set-set}
+pub use Rattle.std.proofs.lemmas.List.{set_past, take_all, take_more}
 pub use Rattle.std.proofs.lemmas.List.Elements.{All-replicate, All-set, All-weaker}
 pub use Rattle.std.proofs.lemmas.List.FromFn.{get_or-enumerate_from, length-enumerate_from}
 pub use Rattle.std.proofs.lemmas.List.Sums.{count_by-le-length, sum_by-set}
@@ -44,7 +44,7 @@ pub use Rattle.std.specs.List.{All, enumerate_from, list_any}
 pub use Rattle.std.specs.Option.{option_map}
 pub use Rattle.std.specs.Prelude.{IsTrue, ◌≢◌}
 pub use Rattle.capability.specs.Laws.{CalledIsConsumed, ConsumeKeepsSoundFrames, GivenUpIsRescinded, RescindKeepsSoundFrames}
-pub use Rattle.capability.specs.Objects.{live_cap, with_root_in}
+pub use Rattle.capability.specs.Objects.{live_cap, with_root_in, with_slots_in}
 pub use Rattle.capability.specs.Parts.{AreGivenUp, Edits, FreshFits, HaveTheirRoles, IsFreshAt, KeepsRest, OnlyFetches, Parts, frames_of, fresh_content}
 pub use Rattle.capability.specs.Parts.{objects_in, with_both, with_header, with_held}
 pub use Rattle.capability.specs.Plain.{PlainState, spare_body_at}

@@ -5,7 +5,7 @@ pub use Rattle.model.specs.Frame.{called, current_count, frame_at, given_up, hea
 unfoldable pub use Rattle.model.specs.Frame.{frames_in, objects_of}
 pub use Rattle.model.specs.Keepable.{AreCurrent, AreKeepable, IsSoundFrames}
 pub use Rattle.model.specs.Machine.{touched_count, touching}
-pub use Rattle.model.specs.Object.{role_of}
+pub use Rattle.model.specs.Object.{role_of, with_slot_in}
 unfoldable pub use Rattle.model.specs.Object.{all_slots, zero_words}
 pub use Rattle.model.specs.Order.{with_root_word, with_space}
 pub use Rattle.model.specs.OrderOutcome.{OrderOutcome, code_number}

@@ -1,6 +1,6 @@
 -- The delivery of a message.
-use Rattle.capability.specs.Names.{ℕ, List, Cap, Capability, ObjectHeader, Content, Object, Root, Running}
-use Rattle.capability.specs.Names.{current_count, root_at, with_root}
+use Rattle.capability.specs.Names.{ℕ, ◌+◌, List, [], ◌∷◌, Cap, Capability, ObjectHeader, Content, Object, Root, Running}
+use Rattle.capability.specs.Names.{current_count, root_at, with_root, with_slot_in}
 use Rattle.model.specs.declared.object.Content.TheVariants as content
 
 -- the objects with words and a key given to a process, which runs
@@ -11,6 +11,11 @@ with_message os p words key = with_root os p (record (root_at os p) { state = Ru
 abbrev pub with_root_in : {C : Type 0} → (Root C → Root C) → Content C → Content C
 with_root_in change (content.Root root) = content.Root (change root)
 with_root_in change other = other
+
+-- a content with capabilities in the slots from i on, where it has some
+abbrev pub with_slots_in : {C : Type 0} → Content C → ℕ → List C → Content C
+with_slots_in content i [] = content
+with_slots_in content i (c ∷ cs) = with_slots_in (with_slot_in content i c) (i + 1) cs
 
 -- the stored form of a live capability: its count is the current one
 abbrev pub live_cap : List ObjectHeader → Capability → Cap

@@ -1,17 +1,19 @@
 // Present frames, read and changed as the objects that they stand for.
-ghost use Rattle.std.specs.Prelude.{◌≡◌, ◌↔◌, ℕ, ◌+◌, ◌<◌, ◌≤◌, ◌^◌, false, length, slice_set, IsTrue, OnOk, IsErrOf};
+ghost use Rattle.std.specs.Prelude.{[], ◌∷◌, ◌≡◌, ◌↔◌, ℕ, ◌+◌, ◌<◌, ◌≤◌, ◌^◌, false, length, slice_set, IsTrue, OnOk};
+ghost use Rattle.std.specs.Prelude.{IsErrOf};
 ghost use Rattle.std.specs.List.{All, Contains};
 ghost use Rattle.model.specs.Frame.{current_count, header_at, held_at};
 ghost use Rattle.model.specs.Keepable.{AreCurrent, AreKeepable, AreKeptWords, IsKeptCap};
 ghost use Rattle.model.specs.Object.{is_annex, with_slot_in, with_word_in};
 ghost use Rattle.model.specs.Revoke.{consume as consumed, is_member, rescind as rescinded};
 ghost use Rattle.model.specs.World.{word_at, slot_at, annex_at, content_at, is_process, with_word, with_slot};
-ghost use Rattle.capability.specs.Objects.{live_cap, with_message, with_root_in};
+ghost use Rattle.model.specs.World.{with_slots_from};
+ghost use Rattle.capability.specs.Objects.{live_cap, with_message, with_root_in, with_slots_in};
 ghost use Rattle.capability.specs.Parts.{AreGivenUp, Edits, FreshFits, IsFreshAt, IsOnce, KeepsRest, OnlyFetches};
 ghost use Rattle.capability.specs.Parts.{frames_of, fresh_content, objects_in};
 
 use crate::present::{Fresh, MAX_FETCHED, PrepareFault, PresentFrames};
-use model::{Cap, Capability, Content, Role, State};
+use model::{Cap, Capability, Content, Message, Role, Slots, State};
 use std::alloc::Global;
 
 /// The word of a page that is fetched, or 0 where it is no page.
@@ -50,6 +52,35 @@ pub fn slot<F: PresentFrames>(store: &F, number: u64, slot: usize) -> Capability
     }
 }
 
+/// The capabilities in four slots of a node, or registers of an annex, that is fetched, as `slot` reads each.
+#[inline(always)]
+pub fn four_slots<F: PresentFrames>(
+    store: &F,
+    number: u64,
+    first: usize,
+    second: usize,
+    third: usize,
+    fourth: usize,
+) -> [Capability; 4]
+    requires fetched { F.IsFetched store.now number }
+    requires within { (first < 32) × (second < 32) × (third < 32) × (fourth < 32) }
+    ensures { let read = slot_at (objects_in (F.parts store.now)) number in
+        result ≡ read first ∷ read second ∷ read third ∷ read fourth ∷ [] }
+{
+    match store.frame(number) {
+        Content::Node(slots) | Content::Annex(slots) => {
+            let table = store.table();
+            [
+                table.conveyed(slots.get(first)),
+                table.conveyed(slots.get(second)),
+                table.conveyed(slots.get(third)),
+                table.conveyed(slots.get(fourth)),
+            ]
+        }
+        _ => [Capability::Void; 4],
+    }
+}
+
 /// Puts a word into a page that is fetched and announced. What is no page stays.
 pub fn set_word<F: PresentFrames>(store: &mut F, number: u64, index: usize, word: u64)
     requires fetched { F.IsFetched store.old number }
@@ -76,6 +107,28 @@ pub fn set_slot<F: PresentFrames>(store: &mut F, number: u64, slot: usize, capab
 {
     let held = store.table().live_cap(capability);
     put_slot(store.frame_mut(number), slot, held);
+}
+
+/// Puts the capabilities of a message, live, into the last four slots of a node or registers of an
+/// annex that is fetched and announced. What is neither stays.
+#[inline(always)]
+pub fn set_last_slots<F: PresentFrames>(store: &mut F, number: u64, message: &Message)
+    requires fetched { F.IsFetched store.old number }
+    requires announced { F.IsAnnounced store.old number }
+    ensures { Edits F.parts F.IsFetched F.IsAnnounced F.ContinuesTo store.old store.new
+        (with_slots_from (objects_in (F.parts store.old)) number 28 message.now.capabilities)
+        (λ age. All (λ c. IsKeptCap (F.parts store.old).geometry age (live_cap (F.parts store.old).headers c))
+        message.now.capabilities) }
+{
+    let [first, second, third, fourth] = message.capabilities;
+    let table = store.table();
+    let held = LastSlots {
+        first: table.live_cap(first),
+        second: table.live_cap(second),
+        third: table.live_cap(third),
+        fourth: table.live_cap(fourth),
+    };
+    put_last_slots(store.frame_mut(number), &held);
 }
 
 /// Gives a process, whose root is fetched and announced, words and a key. It is running.
@@ -213,6 +266,40 @@ fn put_slot(content: &mut Content<Cap>, slot: usize, held: Cap)
     match content {
         Content::Node(slots) => slots.set(slot, held),
         Content::Annex(registers) => registers.set(slot, held),
+        _ => {}
+    }
+}
+
+// What the last four slots are to hold.
+#[derive(Clone, Copy)]
+struct LastSlots {
+    first: Cap,
+    second: Cap,
+    third: Cap,
+    fourth: Cap,
+}
+
+// Slots with other last four.
+#[inline(always)]
+fn set_last(slots: &mut Slots<Cap>, held: &LastSlots)
+    ensures { slots.new ≡ slice_set (slice_set (slice_set (slice_set slots.old
+        28 held.now.first) 29 held.now.second) 30 held.now.third) 31 held.now.fourth }
+{
+    slots.set(28, held.first);
+    slots.set(29, held.second);
+    slots.set(30, held.third);
+    slots.set(31, held.fourth);
+}
+
+// A content with other capabilities in its last four slots or registers, where it has some.
+#[inline(always)]
+fn put_last_slots(content: &mut Content<Cap>, held: &LastSlots)
+    ensures { content.new ≡ with_slots_in content.old 28
+        (held.now.first ∷ held.now.second ∷ held.now.third ∷ held.now.fourth ∷ []) }
+{
+    match content {
+        Content::Node(slots) => set_last(slots, held),
+        Content::Annex(registers) => set_last(registers, held),
         _ => {}
     }
 }

@@ -6,7 +6,7 @@ pub use Rattle.capability.proofs.KindNumbers.{bank_number, node_number, page_num
 pub use Rattle.capability.proofs.SnapshotLaws.{keeps_twice}
 pub use Rattle.capability.specs.Changes.{changed, message_of, outcome_by, target_of, written_of}
 pub use Rattle.capability.specs.Objects.{with_message}
-pub use Rattle.capability.specs.Parts.{AreSound, IsUnchanged, KeepsRest, OnlyFetches, OnlyReads, Parts, Prepares, Renews, frames_of, objects_in}
+pub use Rattle.capability.specs.Parts.{AreSound, IsUnchanged, OnlyFetches, OnlyReads, Parts, Prepares, Renews, frames_of, objects_in}
 pub use Rattle.capability.specs.declared.order.BankChange.{BankChange}
 pub use Rattle.capability.specs.declared.order.Caller.{Caller}
 pub use Rattle.capability.specs.declared.order.Change.{Change}
@@ -63,12 +63,11 @@ pub use Rattle.space_bank.specs.Allocating.{numbers_of}
 pub use Rattle.space_bank.specs.Banks.{AreCounted, BanksState, MayAsk}
 pub use Rattle.space_bank.specs.Carrying.{IsForBank, MayMake, PlansAs}
 pub use Rattle.space_bank.specs.Planning.{writer_count, writers}
-pub use Rattle.std.proofs.Common.{Bool, Err, List, None, Ok, Option, Result, Some, [], add-zero, ap, arith, drop, false, get_or, if◌then◌else◌, length, refl}
-pub use Rattle.std.proofs.Common.{rules, subst, suc, sym, take, true, zero, ℕ, ⊎_elim, ◌&&◌, ◌++◌, ◌+◌, ◌-◌, ◌<◌, ◌^◌, ◌||◌, ◌∙◌, ◌∷◌, ◌≡◌, ◌≤◌}
+pub use Rattle.std.proofs.Common.{Bool, Err, List, None, Ok, Option, Result, Some, [], ap, arith, drop, false, get_or, if◌then◌else◌, length, refl, rules}
+pub use Rattle.std.proofs.Common.{subst, suc, sym, true, zero, ℕ, ⊎_elim, ◌&&◌, ◌++◌, ◌+◌, ◌-◌, ◌<◌, ◌^◌, ◌||◌, ◌∙◌, ◌∷◌, ◌≡◌, ◌≤◌}
 pub use Rattle.std.proofs.Math.ListN.{get_or-map}
 pub use Rattle.std.proofs.Math.Seq.{map-set_same}
 pub use Rattle.std.proofs.lemmas.Bool.{cases_lt}
-pub use Rattle.std.proofs.lemmas.List.{length-take, take_all, take_more}
 pub use Rattle.std.proofs.lemmas.List.Elements.{All-drop, All-map, All-set}
 pub use Rattle.std.proofs.lemmas.Result.{err_from_is_err_and}
 pub use Rattle.std.specs.List.{All, Contains}

@@ -10,9 +10,6 @@ ghost use Rattle.gate.specs.Plan.{FitsCap};
 use capability::{PresentFrames, objects};
 use model::Message;
 
-// The first of the four registers that a message fills.
-const FIRST_REGISTER: usize = 28;
-
 /// Delivers a message to a process, whose root and annex are fetched and announced: words, a key,
 /// and capabilities to its last four registers. The process is running from then on.
 #[inline(always)]
@@ -36,7 +33,5 @@ pub fn deliver<F: PresentFrames>(store: &mut F, process: u64, message: Message)
 {
     let annex = objects::annex(store, process);
     objects::set_message(store, process, message.words, message.key);
-    for i in 0..4 {
-        objects::set_slot(store, annex, FIRST_REGISTER + i, message.capabilities[i]);
-    }
+    objects::set_last_slots(store, annex, &message);
 }

@@ -31,26 +31,26 @@ pub fn invoke<F: PresentFrames>(
     alloc: Global,
     store: &mut F,
     banks: &mut Banks,
-    invocation: Invocation,
+    invocation: &Invocation,
 ) -> Result<Option<ResultCode>, InvokeFault>
     requires sound { AreSound (F.parts store.old) }
     requires process { IsTrue (is_process
-        (objects_in (F.parts store.old)) invocation.process) }
+        (objects_in (F.parts store.old)) invocation.now.process) }
     requires counted { AreCounted (F.parts store.old).geometry
         (objects_in (F.parts store.old)) banks.old }
-    ensures state { TellsState (objects_in (F.parts store.old)) invocation result }
-    ensures invoked { Invoked F.parts F.ContinuesTo store.old store.new invocation result }
+    ensures state { TellsState (objects_in (F.parts store.old)) invocation.now result }
+    ensures invoked { Invoked F.parts F.ContinuesTo store.old store.new invocation.now result }
     ensures counted { AreCounted (F.parts store.new).geometry
         (objects_in (F.parts store.new)) banks.new }
 {
     invocation.can_be_spelt();
     numbers_fit(store);
-    let caller = ask(alloc, store, banks, &invocation)?;
+    let caller = ask(alloc, store, banks, invocation)?;
     if !roots::is_running(store, invocation.process) {
         return Err(InvokeFault::NotRunning);
     }
     match gate_of(caller.invoked) {
-        Some(gate) => invoke_gate(alloc, store, banks, &invocation, caller, gate),
-        None => invoke_order(alloc, store, banks, &invocation, caller),
+        Some(gate) => invoke_gate(alloc, store, banks, invocation, caller, gate),
+        None => invoke_order(alloc, store, banks, invocation, caller),
     }
 }

@@ -138,12 +138,15 @@ pub fn all_sent<F: PresentFrames>(store: &F, invocation: &Invocation, annex: u64
         ≡ annex_at (objects_in (F.parts store.now)) invocation.now.process }
     ensures { result ≡ sent_by (objects_in (F.parts store.now)) invocation.now }
 {
-    [
-        objects::slot(store, annex, invocation.sent[0].index()),
-        objects::slot(store, annex, invocation.sent[1].index()),
-        objects::slot(store, annex, invocation.sent[2].index()),
-        objects::slot(store, annex, invocation.sent[3].index()),
-    ]
+    let [first, second, third, fourth] = invocation.sent;
+    objects::four_slots(
+        store,
+        annex,
+        first.index(),
+        second.index(),
+        third.index(),
+        fourth.index(),
+    )
 }
 
 /// The numbers of objects have 64 bits. This does nothing; its contract is the fact.

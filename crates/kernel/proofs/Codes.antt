@@ -1,7 +1,9 @@
 -- Result codes beside answers.
 use Rattle.kernel.proofs.Names.{◌≡◌, None, Result, Ok, Err, refl, sym, ap, ◌∙◌, IfOk, Answer, Command, Invocation, Geometry, Down, Machine, Running, Up, Failed}
-use Rattle.kernel.proofs.Names.{Disk, Parts, objects_in, View, Served, code_with, Live, HasCode, Stands, reported_code}
+use Rattle.kernel.proofs.Names.{Disk, Parts, objects_in, View, Served, code_with, Live, HasCode, Stands, reported_code, Refusal, ResultCode, Power, done_with}
+use Rattle.kernel.proofs.Names.{Unserved, Option}
 use Rattle.model.specs.declared.command.Command.TheVariants as command
+use Rattle.model.specs.declared.answer.Answer.TheVariants as answer
 use Rattle.kernel.specs.Power as power
 
 -- a command that isn't an invocation has none
@@ -22,15 +24,20 @@ other_code g (Up r) command.Cut a other = refl
 
 -- an invocation by a store that is up has that of its objects
 module _ {D S : Type 0} (disk : D → Disk) (view : S → View D) (parts : S → Parts) where
-  invoked_code : (l : Live S) (i : Invocation) (served : Served) → served.code ≡ code_with (parts l.store).geometry (objects_in (parts l.store)) i served.answer
-      → (g : Geometry) (m : Machine) → Stands disk view parts g (power.Up l) m → served.code ≡ reported_code g m (command.Invoke i) served.answer
-  invoked_code l i served is g (Up r) stands =
+  invoked_code : (l : Live S) (i : Invocation) (code : Option ResultCode) → code ≡ code_with (parts l.store).geometry (objects_in (parts l.store)) i answer.Done
+      → HasCode disk view parts (power.Up l) (command.Invoke i) (done_with code)
+  invoked_code l i code is g (Up r) stands =
       is
-      ∙ ap (λ (h : Geometry). code_with h (objects_in (parts l.store)) i served.answer) stands.0.sound.geometry
-      ∙ ap (λ (x : Running). code_with g x.now.objects i served.answer) (sym stands.1)
-  invoked_code l i served is g (Down saved) stands = absurd stands
+      ∙ ap (λ (h : Geometry). code_with h (objects_in (parts l.store)) i answer.Done) stands.0.sound.geometry
+      ∙ ap (λ (x : Running). code_with g x.now.objects i answer.Done) (sym stands.1)
+  invoked_code l i code is g (Down saved) stands = absurd stands
 
-  pub up_code : (l : Live S) (i : Invocation) (r : Result Served Failed) → IfOk r (λ served. served.code ≡ code_with (parts l.store).geometry (objects_in (parts l.store)) i served.answer)
-      → IfOk r (λ served. HasCode disk view parts (power.Up l) (command.Invoke i) served)
-  up_code l i (Ok served) is = invoked_code l i served is
-  up_code l i (Err e) is = tt
+  pub up_code : (l : Live S) (i : Invocation) (r : Result (Option ResultCode) Unserved) → IfOk r (λ code. code ≡ code_with (parts l.store).geometry (objects_in (parts l.store)) i answer.Done)
+      → IfOk r (λ code. HasCode disk view parts (power.Up l) (command.Invoke i) (done_with code))
+  up_code l i (Ok code) is = invoked_code l i code is
+  up_code l i (Err why) is = tt
+
+  -- a refusal has none
+  pub refused_code : (p : Power D S) (i : Invocation) (why : Refusal) → HasCode disk view parts p (command.Invoke i) (record { answer = answer.Refused why; code = None })
+  refused_code p i why g (Up r) stands = refl
+  refused_code p i why g (Down saved) stands = refl

@@ -77,9 +77,10 @@ pub use Rattle.std.proofs.lemmas.List.Elements.{All-nil}
 pub use Rattle.std.proofs.lemmas.List.FromFn.{get_or-map-range_with_len, length-map-range_with_len}
 pub use Rattle.std.specs.List.{All, Contains, range_with_len}
 pub use Rattle.std.specs.Prelude.{IfOk, IsErr, IsErrAnd, IsErrOf, if◌then◌else◌, nat_lt, option_map, slice_index_or, ◌==◌}
-pub use Rattle.kernel.specs.Machine.{IsEarly, IsUnlooked, Performs, answer_of, answer_with, code_with, machine_at, renewed_by}
+pub use Rattle.kernel.specs.Machine.{IsEarly, IsOfEarly, IsUnlooked, Performs, answer_of, answer_with, code_with, machine_at, renewed_by}
 pub use Rattle.kernel.specs.Opening.{IsNoReason, IsSomeDown, Opens, Reopened, ReopensAs}
 pub use Rattle.kernel.specs.Power.{Power, power_of}
 pub use Rattle.kernel.specs.Prepared.{refusal_by, refused_by}
-pub use Rattle.kernel.specs.Standing.{HasCode, IsCaused, IsDeviceOf, IsSomeMachine, Serves, ServesFrom, ServesUp, Stands, disk_of, reported_code}
+pub use Rattle.kernel.specs.Standing.{HasCode, IsCaused, IsDeviceOf, IsSomeMachine, Serves, ServesFrom, ServesUp, Stands, disk_of, done_with, reported_code}
 pub use Rattle.kernel.specs.declared.processes.served.Served.{Served}
+pub use Rattle.kernel.specs.declared.processes.unserved.Unserved.{Unserved}

@@ -2,7 +2,7 @@
 use Rattle.kernel.proofs.Names.{◌≡◌, ℕ, ◌+◌, ◌^◌, ◌<◌, ◌≤◌, Bool, true, false, not, List, Option, None, Some, refl, sym, ap, ◌∙◌, subst, inl, inr, arith}
 use Rattle.kernel.proofs.Names.{nat_lt, nat_tests, Answer, Refusal, Command, Invocation, Geometry, Object, Effect, invoke, Running, Machine, Up, renewing}
 use Rattle.kernel.proofs.Names.{touching, touched_count, object_count, Step, Outcome, refusal_of, carried_out, unless, overfills, writing, gives_way, shown}
-use Rattle.kernel.proofs.Names.{is_process, is_running_process, IsEarly}
+use Rattle.kernel.proofs.Names.{is_process, is_running_process, IsEarly, IsOfEarly}
 use Rattle.model.specs.declared.answer.Answer.TheVariants as answer
 use Rattle.model.specs.declared.answer.Refusal.TheVariants as refusal
 use Rattle.model.specs.declared.command.Command.TheVariants as command
@@ -133,6 +133,13 @@ module _ (g : Geometry) (s : Running) (n : ℕ) where
 -- none of them is a failure
 pub early_fine : (os : List Object) (p : ℕ) (why : Refusal) → IsEarly os p (Some why) → why ≡ refusal.Fault → ⊥
 early_fine os p why early is = subst (λ (w : Refusal). IsEarly os p (Some w)) is early
+
+-- and each is one of three
+pub early_is : (os : List Object) (p : ℕ) (why : Refusal) → IsEarly os p (Some why) → IsOfEarly why
+early_is os p refusal.NoProcess early = tt
+early_is os p refusal.NotRunning early = tt
+early_is os p refusal.NoMemory early = tt
+early_is os p _ early = absurd early
 
 -- one that isn't refused runs
 pub early_none : (os : List Object) (p : ℕ) (o : Option Refusal) → ((why : Refusal) → o ≡ Some why → ⊥) → IsEarly os p o → IsEarly os p None

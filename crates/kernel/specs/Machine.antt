@@ -5,7 +5,8 @@ use Rattle.kernel.specs.Names.{IsSoundFrames, world_at, Frozen, Saved, Machine, 
 use Rattle.kernel.specs.Names.{is_running_process, Parts, Renews, frames_of, objects_in, result_code}
 use Rattle.model.specs.declared.answer.Answer.TheVariants as answer
 use Rattle.model.specs.declared.answer.Refusal.TheVariants as refusal
-use Rattle.kernel.specs.declared.processes.served.Served.{Served}
+use Rattle.kernel.specs.declared.processes.unserved.Unserved.{Unserved}
+use Rattle.kernel.specs.Prepared.{refusal_of}
 
 -- the machine whose objects now are those of present frames
 abbrev pub machine_at : ℕ → Parts → List Bool → Option Frozen → Saved → ℕ → Machine
@@ -26,14 +27,10 @@ abbrev pub IsReportedOnce : Result Answer Failed → Type 0
 IsReportedOnce (Ok a) = a ≢ answer.Refused refusal.Fault
 IsReportedOnce (Err failed) = Unit {0}
 
--- the same for an answer with its result code
-abbrev pub answer_with : Result Served Failed → Answer
-answer_with (Ok served) = served.answer
-answer_with (Err failed) = answer.Refused refusal.Fault
-
-abbrev pub IsServedOnce : Result Served Failed → Type 0
-IsServedOnce (Ok served) = served.answer ≢ answer.Refused refusal.Fault
-IsServedOnce (Err failed) = Unit {0}
+-- what an invocation is answered by
+abbrev pub answer_with : Result (Option ResultCode) Unserved → Answer
+answer_with (Ok code) = answer.Done
+answer_with (Err why) = answer.Refused (refusal_of why)
 
 -- the result code beside an answer to an invocation
 abbrev pub code_with : Geometry → List Object → Invocation → Answer → Option ResultCode
@@ -70,3 +67,10 @@ IsEarly os p (Some refusal.NoProcess) = is_process os p ≡ false
 IsEarly os p (Some refusal.NotRunning) = (is_process os p ≡ true) × (is_running_process os p ≡ false)
 IsEarly os p (Some refusal.NoMemory) = is_process os p ≡ true
 IsEarly os p _ = ⊥
+
+-- such a reason
+abbrev pub IsOfEarly : Refusal → Type 0
+IsOfEarly refusal.NoProcess = Unit {0}
+IsOfEarly refusal.NotRunning = Unit {0}
+IsOfEarly refusal.NoMemory = Unit {0}
+IsOfEarly _ = ⊥

@@ -3,6 +3,8 @@ use Rattle.kernel.specs.Names.{Refusal, PrepareFault, InvokeFault}
 use Rattle.model.specs.declared.answer.Refusal.TheVariants as refusal
 use Rattle.capability.specs.declared.present.PrepareFault.TheVariants as prepare
 use Rattle.gate.specs.declared.fault.InvokeFault.TheVariants as fault
+use Rattle.kernel.specs.declared.processes.unserved.Unserved.{Unserved}
+use Rattle.kernel.specs.declared.processes.unserved.Unserved.TheVariants as unserved
 
 -- the refusal of a load or a store
 abbrev pub refused_by : PrepareFault → Refusal
@@ -16,3 +18,9 @@ refusal_by fault.Stalled = refusal.Stalled
 refusal_by fault.LogFull = refusal.LogFull
 refusal_by fault.NoMemory = refusal.NoMemory
 refusal_by fault.Failed = refusal.Fault
+
+-- the refusal of an invocation
+abbrev pub refusal_of : Unserved → Refusal
+refusal_of unserved.NoProcess = refusal.NoProcess
+refusal_of unserved.Worn = refusal.Worn
+refusal_of (unserved.Fault f) = refusal_by f

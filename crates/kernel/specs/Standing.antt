@@ -19,6 +19,10 @@ abbrev pub reported_code : Geometry → Machine → Command → Answer → Optio
 reported_code g (Up r) (command.Invoke i) a = code_with g r.now.objects i a
 reported_code g m c a = None
 
+-- an invocation that is done, with the result code of its order
+abbrev pub done_with : Option ResultCode → Served
+done_with code = record { answer = answer.Done; code = code }
+
 -- a command is answered with `Fault` exactly where the count of failures rises
 pub record IsCaused (old new : Disk) (a : Answer) : Type 0 where
   pub later : old.failures ≤ new.failures

@@ -1,6 +1,8 @@
 // A machine that is up or down, and its steps.
 ghost use Rattle.std.specs.Prelude.{◌≡◌, List, None, false, IfOk, IfErr};
 ghost use Rattle.model.specs.declared.command.Command.TheVariants as command;
+ghost use Rattle.model.specs.declared.command.Command.TheVariants.{Invoke};
+ghost use Rattle.model.specs.declared.command.Invocation.{Invocation};
 ghost use Rattle.model.specs.declared.geometry.Geometry.{Geometry};
 ghost use Rattle.model.specs.Machine.{Saved};
 ghost use Rattle.model.specs.Step.{opens};
@@ -13,10 +15,10 @@ ghost use Rattle.kernel.specs.Standing.{SameDevice, Serves, disk_of};
 ghost use Rattle.kernel.specs.Opening.{IsNoReason, IsSomeDown, Opens, Reopened, refused_by};
 
 use crate::processes::Served;
-use crate::serving::serve;
+use crate::serving::{invoke, serve};
 use checkpoint::{Checkpoint, OpenFault, OpenRefused};
 use device::{Device, Failed};
-use model::{Answer, Command, Refusal};
+use model::{Answer, Command, Invocation, Refusal};
 use object_store::ObjectStore;
 use recovery::{Live, recover};
 use std::alloc::Global;
@@ -135,26 +137,54 @@ impl<D: Device, S: ObjectStore<D>> Kernel<D, S> {
         }
     }
 
-    // Serves a command that doesn't open the device. After a failure the machine is down.
-    fn go_on(&mut self, alloc: Global, command: Command) -> Served
-        requires { opens command ≡ false }
-        ensures serves { Serves D.disk S.view S.parts self.old command result.answer self.new }
-        ensures untouched { IsUnlooked result.answer
-            → SameDevice D.disk S.view S.parts self.old self.new }
+    // Serves a command that isn't an invocation and doesn't open the device. After a failure the
+    // machine is down.
+    fn go_on(&mut self, alloc: Global, command: Command) -> Answer
+        requires goes_on { opens command ≡ false }
+        requires other { (i : Invocation) → command ≡ Invoke i → ⊥ }
+        ensures serves { Serves D.disk S.view S.parts self.old command result self.new }
+        ensures untouched { IsUnlooked result → SameDevice D.disk S.view S.parts self.old self.new }
         ensures none_to_move { HasNoneToMove D.disk S.view S.parts self.old command
             → SameDevice D.disk S.view S.parts self.old self.new }
         ensures cause { IsCaused (disk_of D.disk S.view S.parts self.old)
-            (disk_of D.disk S.view S.parts self.new) result.answer }
-        ensures code { HasCode D.disk S.view S.parts self.old command result }
+            (disk_of D.disk S.view S.parts self.new) result }
     {
         match &mut self.live {
             Some(live) => match serve::<D, S>(alloc, live, command) {
-                Ok(served) => served,
+                Ok(answer) => answer,
                 Err(Failed) => {
                     let device = take_device::<D, S>(&mut self.live, &mut self.device);
                     self.device = Some(device);
-                    Served::from(Answer::Refused(Refusal::Fault))
+                    Answer::Refused(Refusal::Fault)
                 }
+            },
+            None => Answer::Refused(Refusal::Down),
+        }
+    }
+
+    // Carries out an invocation. After a failure the machine is down.
+    fn invoke(&mut self, alloc: Global, invocation: &Invocation) -> Served
+        ensures serves { Serves D.disk S.view S.parts self.old (Invoke invocation.now) result.answer self.new }
+        ensures untouched { IsUnlooked result.answer
+            → SameDevice D.disk S.view S.parts self.old self.new }
+        ensures cause { IsCaused (disk_of D.disk S.view S.parts self.old)
+            (disk_of D.disk S.view S.parts self.new) result.answer }
+        ensures code { HasCode D.disk S.view S.parts self.old (Invoke invocation.now) result }
+    {
+        match &mut self.live {
+            Some(live) => match invoke::<D, S>(alloc, live, invocation) {
+                Ok(code) => Served {
+                    answer: Answer::Done,
+                    code,
+                },
+                Err(why) => match why.refusal() {
+                    Refusal::Fault => {
+                        let device = take_device::<D, S>(&mut self.live, &mut self.device);
+                        self.device = Some(device);
+                        Served::from(Answer::Refused(Refusal::Fault))
+                    }
+                    refusal => Served::from(Answer::Refused(refusal)),
+                },
             },
             None => Served::from(Answer::Refused(Refusal::Down)),
         }
@@ -216,25 +246,26 @@ impl<D: Device, S: ObjectStore<D>> Kernel<D, S> {
         ensures cause { IsCaused (disk_of D.disk S.view S.parts self.old)
             (disk_of D.disk S.view S.parts self.new) result }
     {
-        self.step_with_code(alloc, command).answer
+        self.step_with_code(alloc, &command).answer
     }
 
     /// Serves one command, as `step` does, and returns the result code too. The code is that of the
     /// order if the command invoked a kernel object and the answer is `Done`, and else `None`.
-    pub fn step_with_code(&mut self, alloc: Global, command: Command) -> Served
-        ensures serves { Serves D.disk S.view S.parts self.old command result.answer self.new }
+    pub fn step_with_code(&mut self, alloc: Global, command: &Command) -> Served
+        ensures serves { Serves D.disk S.view S.parts self.old command.now result.answer self.new }
         ensures untouched { IsUnlooked result.answer
             → SameDevice D.disk S.view S.parts self.old self.new }
-        ensures none_to_move { HasNoneToMove D.disk S.view S.parts self.old command
+        ensures none_to_move { HasNoneToMove D.disk S.view S.parts self.old command.now
             → SameDevice D.disk S.view S.parts self.old self.new }
         ensures cause { IsCaused (disk_of D.disk S.view S.parts self.old)
             (disk_of D.disk S.view S.parts self.new) result.answer }
-        ensures code { HasCode D.disk S.view S.parts self.old command result }
+        ensures code { HasCode D.disk S.view S.parts self.old command.now result }
     {
         match command {
+            Command::Invoke(invocation) => self.invoke(alloc, invocation),
             Command::Restart => Served::from(self.restart(alloc)),
             Command::Cut => Served::from(self.cut(alloc)),
-            other => self.go_on(alloc, other),
+            other => Served::from(self.go_on(alloc, *other)),
         }
     }
 

@@ -5,9 +5,11 @@ mod invocation;
 mod memory;
 mod served;
 mod showing;
+mod unserved;
 
 pub use age::is_worn;
 pub use invocation::invoke;
 pub use memory::{load, store};
 pub use served::Served;
 pub use showing::show;
+pub use unserved::Unserved;

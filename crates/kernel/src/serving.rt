@@ -5,14 +5,14 @@ ghost use Rattle.model.specs.declared.command.Command.TheVariants.{Invoke};
 ghost use Rattle.model.specs.declared.command.Invocation.{Invocation};
 ghost use Rattle.model.specs.Step.{opens};
 ghost use Rattle.kernel.specs.Power as power;
-ghost use Rattle.kernel.specs.Machine.{IsServedOnce, IsReportedOnce, IsUnlooked, answer_of, answer_with};
+ghost use Rattle.kernel.specs.Machine.{IsReportedOnce, IsUnlooked, answer_of, answer_with};
 ghost use Rattle.recovery.specs.Live.{IsSomeUp, disk_at};
-ghost use Rattle.kernel.specs.Standing.{HasCode, HasNoneToMove, IsCaused, ServesUp};
+ghost use Rattle.kernel.specs.Standing.{HasCode, HasNoneToMove, IsCaused, ServesUp, done_with};
 
-use crate::processes::{self, Served};
+use crate::processes::{self, Unserved};
 use crate::{checkpoints, journaling};
 use device::{Device, Failed};
-use model::{Answer, Command, Refusal};
+use model::{Answer, Command, Invocation, Refusal, ResultCode};
 use object_store::ObjectStore;
 use recovery::Live;
 use std::alloc::Global;
@@ -36,9 +36,10 @@ fn evict<D: Device, S: ObjectStore<D>>(live: &mut Live<S>, number: u64) -> Resul
     Ok(Answer::Done)
 }
 
-// Serves a command that isn't an invocation and doesn't open the device.
+/// Serves a command that isn't an invocation and doesn't open the device, by a store that is up.
+/// Fails exactly where the device does.
 #[inline(always)]
-fn serve_other<D: Device, S: ObjectStore<D>>(
+pub fn serve<D: Device, S: ObjectStore<D>>(
     alloc: Global,
     live: &mut Live<S>,
     command: Command,
@@ -78,36 +79,26 @@ fn serve_other<D: Device, S: ObjectStore<D>>(
     }
 }
 
-/// Serves a command that doesn't open the device, by a store that is up. Fails exactly where the
-/// device does.
-pub fn serve<D: Device, S: ObjectStore<D>>(
+/// Carries out an invocation, by a store that is up.
+pub fn invoke<D: Device, S: ObjectStore<D>>(
     alloc: Global,
     live: &mut Live<S>,
-    command: Command,
-) -> Result<Served, Failed>
-    requires up { IsSomeUp D.disk S.view S.parts live.old }
-    requires goes_on { opens command ≡ false }
-    ensures serves { ServesUp D.disk S.view S.parts live.old command (answer_with result) live.new }
+    invocation: &Invocation,
+) -> Result<Option<ResultCode>, Unserved>
+    requires { IsSomeUp D.disk S.view S.parts live.old }
+    ensures serves { ServesUp D.disk S.view S.parts live.old (command.Invoke invocation.now)
+        (answer_with result) live.new }
     ensures cause { IsCaused (disk_at D.disk S.view S.parts live.old)
         (disk_at D.disk S.view S.parts live.new) (answer_with result) }
     ensures untouched { IsUnlooked (answer_with result)
         → (S.view live.new.store).beneath ≡ (S.view live.old.store).beneath }
-    ensures none_to_move { HasNoneToMove D.disk S.view S.parts (power.Up live.old) command
-        → (S.view live.new.store).beneath ≡ (S.view live.old.store).beneath }
-    ensures reported_once { IsServedOnce result }
-    ensures code { IfOk result (λ served. HasCode D.disk S.view S.parts (power.Up live.old) command served) }
+    ensures code { IfOk result (λ code. HasCode D.disk S.view S.parts (power.Up live.old) (command.Invoke invocation.now) (done_with code)) }
 {
-    match command {
-        Command::Invoke(invocation) => processes::invoke(
-            alloc,
-            &mut live.store,
-            &mut live.banks,
-            &mut live.age,
-            invocation,
-        ),
-        _ => match serve_other::<D, S>(alloc, live, command) {
-            Ok(answer) => Ok(Served::from(answer)),
-            Err(Failed) => Err(Failed),
-        },
-    }
+    processes::invoke(
+        alloc,
+        &mut live.store,
+        &mut live.banks,
+        &mut live.age,
+        invocation,
+    )
 }

@@ -53,7 +53,7 @@ fn take<D: Device, S: ObjectStore<D>, W: Write, O: Observer>(
             Ok(goes_on)
         }
         Line::Command(command) => {
-            let served = kernel.step_with_code(alloc, *command);
+            let served = kernel.step_with_code(alloc, command);
             let goes_on = observer.answer(command, &served.answer, served.code);
             print_answer(&served.answer, writer)?;
             Ok(goes_on)
@@ -89,14 +89,8 @@ fn take_line<D: Device, S: ObjectStore<D>, W: Write, O: Observer>(
     ensures fault { IfErr result (λ e. e ≡ RunFault.Write) }
 {
     if line.is_empty() {
-        return take(
-            alloc,
-            kernel,
-            Some(bytes),
-            &parse_line(bytes),
-            writer,
-            observer,
-        );
+        let parsed = parse_line(bytes);
+        return take(alloc, kernel, Some(bytes), &parsed, writer, observer);
     }
     line.extend(bytes);
     take_held(alloc, kernel, line, writer, observer)

@@ -107,6 +107,7 @@ fn command_in(line: &[u8]) -> Option<Command>
 /// the command's one spelling: its words with one space between each two, numbers decimal without
 /// leading zeros and below 2^64, registers below 32. Anything else is bad, and so is every line of
 /// more than 256 bytes. It takes no memory.
+#[inline(always)]
 pub fn parse_line(line: &[u8]) -> Line
     ensures says { Says line.now result }
     // A command's spelling is read as that command.

@@ -1,35 +1,33 @@
 // The step of an invocation.
-ghost use Rattle.std.specs.Prelude.{◌≡◌, ◌≤◌, ◌^◌, None, IfOk};
+ghost use Rattle.std.specs.Prelude.{◌≡◌, ◌≤◌, ◌^◌, IfOk};
 ghost use Rattle.model.specs.declared.command.Command.TheVariants as command;
+ghost use Rattle.model.specs.declared.answer.Answer.TheVariants.{Done, Refused};
 ghost use Rattle.model.specs.Keepable.{IsSoundFrames};
 ghost use Rattle.capability.specs.Parts.{OnlyFetches, frames_of, objects_in};
 ghost use Rattle.space_bank.specs.Banks.{AreCounted};
-ghost use Rattle.kernel.specs.Prepared.{refusal_by};
-ghost use Rattle.kernel.specs.Machine.{IsServedOnce, IsUnlooked, Performs, answer_with, code_with};
+ghost use Rattle.kernel.specs.Prepared.{refusal_of};
+ghost use Rattle.kernel.specs.Machine.{IsOfEarly, IsUnlooked, NeedsNoLook, Performs, answer_with, code_with};
 
 use crate::processes::age::is_worn;
 use crate::processes::early::early;
-use crate::processes::served::Served;
+use crate::processes::unserved::Unserved;
 use capability::{PresentFrames, roots};
 use device::Failed;
 use gate::InvokeFault;
-use model::{Answer, Invocation, Refusal};
+use model::{Invocation, Refusal, ResultCode};
 use space_bank::Banks;
 use std::alloc::Global;
 
-// What is answered to an invocation that isn't carried out.
-fn unserved(fault: InvokeFault) -> Result<Served, Failed>
-    ensures answer { answer_with result ≡ Answer.Refused (refusal_by fault) }
-    ensures only_reads { IsUnlooked (answer_with result) → ⊥ }
-    ensures reported_once { IsServedOnce result }
-    ensures code { IfOk result (λ served. served.code ≡ None) }
+// A refusal of `early`, as that of an invocation.
+fn early_refusal(refusal: Refusal) -> Unserved
+    requires { IsOfEarly refusal }
+    ensures { refusal_of result ≡ refusal }
 {
-    match fault {
-        InvokeFault::NotRunning => Ok(Served::refused(Refusal::NotRunning)),
-        InvokeFault::Stalled => Ok(Served::refused(Refusal::Stalled)),
-        InvokeFault::LogFull => Ok(Served::refused(Refusal::LogFull)),
-        InvokeFault::NoMemory => Ok(Served::refused(Refusal::NoMemory)),
-        InvokeFault::Failed => Err(Failed),
+    match refusal {
+        Refusal::NoProcess => Unserved::NoProcess,
+        Refusal::NotRunning => Unserved::Fault(InvokeFault::NotRunning),
+        Refusal::NoMemory => Unserved::Fault(InvokeFault::NoMemory),
+        _ => unreachable!(),
     }
 }
 
@@ -39,27 +37,27 @@ fn refuse_worn<F: PresentFrames>(
     alloc: Global,
     store: &mut F,
     age: u64,
-    invocation: Invocation,
-) -> Result<Served, Failed>
+    invocation: &Invocation,
+) -> Unserved
     requires sound { IsSoundFrames (F.parts store.old).geometry age
         (frames_of (F.parts store.old)) }
     requires worn { 2 ^ 62 ≤ age }
-    ensures serves { Performs age (F.parts store.old) (command.Invoke invocation) (answer_with result)
-        age (F.parts store.new) }
-    ensures untouched { IsUnlooked (answer_with result) → store.new ≡ store.old }
-    ensures reported_once { IsServedOnce result }
-    ensures code { IfOk result (λ served. served.code ≡ code_with
-        (F.parts store.old).geometry (objects_in (F.parts store.old)) invocation served.answer) }
+    ensures serves { Performs age (F.parts store.old) (command.Invoke invocation.now)
+        (Refused (refusal_of result)) age (F.parts store.new) }
+    ensures untouched { NeedsNoLook (refusal_of result) → store.new ≡ store.old }
     ensures snapshots { OnlyFetches F.parts F.ContinuesTo store.old store.new }
 {
-    match early(alloc, store, age, invocation.process)? {
-        Some(refusal) => Ok(Served::refused(refusal)),
-        None => Ok(Served::refused(Refusal::Worn)),
+    match early(alloc, store, age, invocation.process) {
+        Ok(why) => match why {
+            Some(refusal) => early_refusal(refusal),
+            None => Unserved::Worn,
+        },
+        Err(Failed) => Unserved::Fault(InvokeFault::Failed),
     }
 }
 
-/// Carries out an invocation by a process. `age` rises by one if the answer is `Done`; then the
-/// result code is that of the order, or none through a gate.
+/// Carries out an invocation by a process. If it is done, `age` rises by one, and the result is the
+/// result code of the order, or none through a gate.
 ///
 /// A refusal changes nothing: the first that applies of `NoProcess`, `NotRunning`, `Worn` at the
 /// greatest age, `Stalled` and `LogFull`, or `NoMemory` if memory ran out. `NoProcess` leaves the
@@ -71,37 +69,32 @@ pub fn invoke<F: PresentFrames>(
     store: &mut F,
     banks: &mut Banks,
     age: &mut u64,
-    invocation: Invocation,
-) -> Result<Served, Failed>
+    invocation: &Invocation,
+) -> Result<Option<ResultCode>, Unserved>
     requires sound { IsSoundFrames (F.parts store.old).geometry age.old
         (frames_of (F.parts store.old)) }
     requires counted { AreCounted (F.parts store.old).geometry
         (objects_in (F.parts store.old)) banks.old }
-    ensures serves { Performs age.old (F.parts store.old) (command.Invoke invocation) (answer_with result)
-        age.new (F.parts store.new) }
+    ensures serves { Performs age.old (F.parts store.old) (command.Invoke invocation.now)
+        (answer_with result) age.new (F.parts store.new) }
     ensures untouched { IsUnlooked (answer_with result) → store.new ≡ store.old }
-    ensures reported_once { IsServedOnce result }
-    ensures code { IfOk result (λ served. served.code ≡ code_with
-        (F.parts store.old).geometry (objects_in (F.parts store.old)) invocation served.answer) }
+    ensures code { IfOk result (λ code. code ≡ code_with (F.parts store.old).geometry (objects_in (F.parts store.old)) invocation.now Done) }
     ensures later { age.old ≤ age.new }
     ensures counted { AreCounted (F.parts store.new).geometry
         (objects_in (F.parts store.new)) banks.new }
     ensures continues { F.ContinuesTo store.old store.new }
 {
     if is_worn(*age) {
-        return refuse_worn(alloc, store, *age, invocation);
+        return Err(refuse_worn(alloc, store, *age, invocation));
     }
     if !roots::is_process(store, invocation.process) {
-        return Ok(Served::refused(Refusal::NoProcess));
+        return Err(Unserved::NoProcess);
     }
     match gate::invoke(alloc, store, banks, invocation) {
         Ok(code) => {
             *age += 1;
-            Ok(Served {
-                answer: Answer::Done,
-                code,
-            })
+            Ok(code)
         }
-        Err(fault) => unserved(fault),
+        Err(fault) => Err(Unserved::Fault(fault)),
     }
 }

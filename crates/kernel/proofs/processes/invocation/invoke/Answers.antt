@@ -6,19 +6,17 @@ use Rattle.kernel.proofs.processes.invocation.invoke.Goals as goal
 pub returns-then-not-is_process-clause-serves : goal.returns-then-not-is_process-clause-serves
 returns-then-not-is_process-clause-serves g c =
     let p = g.F.PresentFrames.parts c.args.store.now in
-    rw c.refused.ensures
-    (no_process_serves p c.args.age.now c.args.invocation c.requires.sound (sym c.is_process.ensures ∙ c.if-not-is_process.true))
+    no_process_serves p c.args.age.now c.args.invocation.now c.requires.sound (sym c.is_process.ensures ∙ c.if-not-is_process.true)
 
 pub returns-in-Ok-clause-serves : goal.returns-in-Ok-clause-serves
 returns-in-Ok-clause-serves g c =
-    invoked_serves g.F.PresentFrames.parts g.F.PresentFrames.ContinuesTo c.args.age.now c.args.store.now c.invoke.new.store c.args.invocation
+    invoked_serves g.F.PresentFrames.parts g.F.PresentFrames.ContinuesTo c.args.age.now c.args.store.now c.invoke.new.store c.args.invocation.now
     (sym c.is_process.ensures ∙ c.if-not-is_process.false) c.requires.sound (c.is_worn.ensures.young c.if-is_worn.false) c.in-Ok.code c.in-Ok.ensures.state c.in-Ok.ensures.invoked
 
 pub returns-in-Err-clause-serves : goal.returns-in-Err-clause-serves
 returns-in-Err-clause-serves g c =
-    subst (λ (a : Answer). Performs c.args.age.now (g.F.PresentFrames.parts c.args.store.now) (command.Invoke c.args.invocation) a c.args.age.now (g.F.PresentFrames.parts c.invoke.new.store)) (sym c.unserved.ensures.answer)
-    (fault_serves g.F.PresentFrames.parts g.F.PresentFrames.ContinuesTo c.args.age.now c.args.store.now c.invoke.new.store c.args.invocation
-    (sym c.is_process.ensures ∙ c.if-not-is_process.false) c.requires.sound (c.is_worn.ensures.young c.if-is_worn.false) c.in-Err.fault c.in-Err.ensures.state c.in-Err.ensures.invoked)
+    fault_serves g.F.PresentFrames.parts g.F.PresentFrames.ContinuesTo c.args.age.now c.args.store.now c.invoke.new.store c.args.invocation.now
+    (sym c.is_process.ensures ∙ c.if-not-is_process.false) c.requires.sound (c.is_worn.ensures.young c.if-is_worn.false) c.in-Err.fault c.in-Err.ensures.state c.in-Err.ensures.invoked
 
 pub returns-then-is_worn-clause-counted : goal.returns-then-is_worn-clause-counted
 returns-then-is_worn-clause-counted g c =

@@ -1,29 +1,43 @@
-use Rattle.kernel.proofs.Names.{subst, objects_in, IsEarly}
+use Rattle.kernel.proofs.Names.{refl, subst, objects_in, IsEarly}
 use Rattle.model.specs.declared.answer.Refusal.TheVariants as refusal
 use Rattle.model.specs.declared.command.Command.TheVariants as command
 use Rattle.kernel.proofs.MemoryServing.{looked_same}
 use Rattle.kernel.proofs.Performing.{ok_stayed, refused_serves, reported_cause}
-use Rattle.kernel.proofs.ProcessSteps.{early_fine, early_step, worn_step}
+use Rattle.kernel.proofs.ProcessSteps.{early_fine, early_is, early_step, worn_step}
 use Rattle.kernel.proofs.processes.invocation.refuse_worn.Goals as goal
+
+pub early_refusal-requires : goal.early_refusal-requires
+early_refusal-requires g c =
+    let os = objects_in (g.F.PresentFrames.parts c.args.store.now) in
+    early_is os c.args.invocation.now.process c.in-Some.refusal (subst (IsEarly os c.args.invocation.now.process) c.in-Some.is c.in-Ok.ensures.why)
 
 pub returns-in-Some-clause-serves : goal.returns-in-Some-clause-serves
 returns-in-Some-clause-serves g c =
     let F = g.F.PresentFrames in
     let old = F.parts c.args.store.now in
-    let early = subst (IsEarly (objects_in old) c.args.invocation.process) c.in-Some.is c.in_ok-refusal.ensures.why in
-    rw c.refused.ensures
-    (refused_serves c.args.age old (F.parts c.early.new.store) (command.Invoke c.args.invocation) c.in-Some.refusal
+    let i = c.args.invocation.now in
+    let early = subst (IsEarly (objects_in old) i.process) c.in-Some.is c.in-Ok.ensures.why in
+    rw c.early_refusal.ensures
+    (refused_serves c.args.age old (F.parts c.early.new.store) (command.Invoke i) c.in-Some.refusal
     (looked_same F.parts F.ContinuesTo c.args.store.now c.early.new.store c.early.ensures.snapshots) c.requires.sound c.early.ensures.later
-    (reported_cause c.in-Some.refusal (early_fine (objects_in old) c.args.invocation.process c.in-Some.refusal early) (ok_stayed c.in_ok-refusal.field-0 c.in_ok-refusal.ensures.cause))
-    (λ renewed frozen saved to_move other. early_step old.geometry _ c.args.invocation c.in-Some.refusal early))
+    (reported_cause c.in-Some.refusal (early_fine (objects_in old) i.process c.in-Some.refusal early) (ok_stayed c.in-Ok.why c.in-Ok.ensures.cause))
+    (λ renewed frozen saved to_move other. early_step old.geometry _ i c.in-Some.refusal early))
 
 pub returns-in-None-clause-serves : goal.returns-in-None-clause-serves
 returns-in-None-clause-serves g c =
     let F = g.F.PresentFrames in
     let old = F.parts c.args.store.now in
-    let runs = subst (IsEarly (objects_in old) c.args.invocation.process) c.in-None.is c.in_ok-refusal.ensures.why in
-    rw c.refused-in-None.ensures
-    (refused_serves c.args.age old (F.parts c.early.new.store) (command.Invoke c.args.invocation) refusal.Worn
+    let i = c.args.invocation.now in
+    let runs = subst (IsEarly (objects_in old) i.process) c.in-None.is c.in-Ok.ensures.why in
+    refused_serves c.args.age old (F.parts c.early.new.store) (command.Invoke i) refusal.Worn
     (looked_same F.parts F.ContinuesTo c.args.store.now c.early.new.store c.early.ensures.snapshots) c.requires.sound c.early.ensures.later
-    (reported_cause refusal.Worn (λ e. cc) (ok_stayed c.in_ok-refusal.field-0 c.in_ok-refusal.ensures.cause))
-    (λ renewed frozen saved to_move other. worn_step old.geometry _ c.args.invocation runs.0 runs.1 c.requires.worn))
+    (reported_cause refusal.Worn (λ e. cc) (ok_stayed c.in-Ok.why c.in-Ok.ensures.cause))
+    (λ renewed frozen saved to_move other. worn_step old.geometry _ i runs.0 runs.1 c.requires.worn)
+
+pub returns-in-Err-clause-serves : goal.returns-in-Err-clause-serves
+returns-in-Err-clause-serves g c =
+    let F = g.F.PresentFrames in
+    let rose = c.in-Err.ensures.cause.0 refl in
+    refused_serves c.args.age (F.parts c.args.store.now) (F.parts c.early.new.store) (command.Invoke c.args.invocation.now) refusal.Fault
+    (looked_same F.parts F.ContinuesTo c.args.store.now c.early.new.store c.early.ensures.snapshots) c.requires.sound c.early.ensures.later
+    (λ e. rose, λ r. refl) (λ renewed frozen saved to_move other. absurd (other refl))
