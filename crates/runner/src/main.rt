@@ -372,7 +372,7 @@ fn capacity_of(cache: Option<u64>) -> Result<Option<Capacity>, u8> {
 }
 
 // Writes why a file can't be explained, and gives the status.
-fn refuse_file<C: Display>(file: &str, cause: C, errors: &mut Stderr) -> u8 {
+fn refuse_file<C: Display + Drop>(file: &str, cause: C, errors: &mut Stderr) -> u8 {
     let _reported = writeln!(errors, "eros: {file}: {cause}");
     1
 }
