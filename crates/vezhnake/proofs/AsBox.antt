@@ -17,3 +17,9 @@ E = record {
   al = record
       { row = Heap.the_row; laws = heap.the_row_laws; g = ghosts; d = dict; drops = impl [] tnil dnil };
 }
+
+abbrev pub FromParts : Slot 0
+FromParts = plain (λ _. BoxParts.the_row Session.the_row Heap.the_row ghosts)
+
+abbrev pub FromPointer : Slot 0
+FromPointer = plain (λ _. SessionPointer.the_row)
