@@ -110,7 +110,7 @@ fn misnumbered_text(alloc: Global, place: Misnumbered) -> Result<String, AllocEr
     }
 }
 
-// The entry that is wrong. Of two with one index it is the second.
+// The entry that is wrong: the second of two with one index.
 fn indexed_entry(flaw: Indexed) -> usize
     ensures { result ≡ indexed_entry flaw }
 {
