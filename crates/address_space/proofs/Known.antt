@@ -1,7 +1,8 @@
 -- What stands where a capability says so has a header.
-use Rattle.address_space.proofs.Names.{◌≡◌, ℕ, ◌-◌, ◌^◌, ◌<◌, List, length, sym, ap, ◌∙◌, subst, arith, IsTrue, Access, Capability, Space, Frame, ObjectHeader}
-use Rattle.address_space.proofs.Names.{Geometry, frames_in, objects_of, AreKeepable, IsSoundFrames, is_page, MayBeHeld, content_at, root_at, Parts, frames_of}
-use Rattle.address_space.proofs.Names.{objects_in, known_used, node_used, page_used, keepable_later}
+use Rattle.address_space.proofs.Names.{ℕ, List, length, sym, ap, subst, arith, IsTrue, Access, Capability, Space, Frame, ObjectHeader, Geometry, frames_in}
+use Rattle.address_space.proofs.Names.{objects_of, AreKeepable, IsSoundFrames, is_page, MayBeHeld, content_at, root_at, Parts, frames_of, objects_in}
+use Rattle.address_space.proofs.Names.{known_used, node_used, page_used, keepable_later}
+use Rattle.std.proofs.Common.{◌≡◌, ◌-◌, ◌^◌, ◌<◌, ◌∙◌}
 
 pub space_known : (p : Parts) (n h : ℕ) (a : Access) → MayBeHeld (objects_in p) (Space n h a) → n < length p.headers
 space_known p n h a held = known_used p n (node_used (content_at (objects_in p) n) held.1)

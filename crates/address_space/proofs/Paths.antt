@@ -1,7 +1,8 @@
 -- Trees of nodes, level by level.
-use Rattle.address_space.proofs.Names.{◌≡◌, ◌≢◌, ℕ, zero, suc, ◌+◌, ◌-◌, ◌*◌, ◌/◌, ◌%◌, ◌^◌, ◌<◌, ◌≤◌, ◌==◌, true, false, List, Result, Ok, Err, refl, sym, ap}
-use Rattle.address_space.proofs.Names.{◌∙◌, arith, eq-eqb, ne_eqb, Access, MemoryFault, Hole, Malformed, Capability, Void, Number, Page, Node, Space, Process}
-use Rattle.address_space.proofs.Names.{Start, Resume, Bank, Discrim, Object, union, below, path, restricted, walk_along, slot_at}
+use Rattle.address_space.proofs.Names.{ℕ, zero, suc, true, false, List, Result, Ok, Err, refl, sym, ap, arith, eq-eqb, ne_eqb, Access, MemoryFault, Hole}
+use Rattle.address_space.proofs.Names.{Malformed, Capability, Void, Number, Page, Node, Space, Process, Start, Resume, Bank, Discrim, Object, union, below}
+use Rattle.address_space.proofs.Names.{path, restricted, walk_along, slot_at}
+use Rattle.std.proofs.Common.{◌≡◌, ◌≢◌, ◌+◌, ◌-◌, ◌*◌, ◌/◌, ◌%◌, ◌^◌, ◌<◌, ◌≤◌, ◌==◌, ◌∙◌}
 
 pub power_some : (h : ℕ) → 0 < 32 ^ h
 power_some zero = omega arith

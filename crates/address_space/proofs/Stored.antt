@@ -1,6 +1,7 @@
 -- Sound frames with another word in a page.
-use Rattle.address_space.proofs.Names.{◌≡◌, ℕ, ◌^◌, ◌<◌, List, sym, ap, ◌∙◌, subst, Frame, Geometry, Object, objects_of, AreCurrent, AreKeepable, IsSoundFrames}
-use Rattle.address_space.proofs.Names.{world_at, is_waiting, IsSound, World, with_word, edited_word, Waits, nearly_from, nearly_to, nearly_weaken}
+use Rattle.address_space.proofs.Names.{ℕ, List, sym, ap, subst, Frame, Geometry, Object, objects_of, AreCurrent, AreKeepable, IsSoundFrames, world_at}
+use Rattle.address_space.proofs.Names.{is_waiting, IsSound, World, with_word, edited_word, Waits, nearly_from, nearly_to, nearly_weaken}
+use Rattle.std.proofs.Common.{◌≡◌, ◌^◌, ◌<◌, ◌∙◌}
 
 world_with_word : (g : Geometry) (w : World) (n i word : ℕ) → word < 2 ^ 64 → IsSound g w →
     IsSound g (record { objects = with_word w.objects n i word; age = w.age })

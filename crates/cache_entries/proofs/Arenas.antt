@@ -1,10 +1,10 @@
 -- Entries in an arena, by number.
-use Rattle.cache_entries.proofs.Names.{◌≡◌, ◌≢◌, ◌⊎◌, inl, inr, ℕ, ◌+◌, ◌-◌, ◌<◌, List, [], ◌∷◌, ◌++◌, length, set, get_or, replicate, Option, Some, None}
-use Rattle.cache_entries.proofs.Names.{IsSome, is_some, true≢false, eqb, option_map, refl, sym, ap, subst, ◌∙◌, arith, length-append, length-set, slice_index}
-use Rattle.cache_entries.proofs.Names.{slice_get, swap_remove, cases_eq, cases_lt, eq-eqb, eqb-true, cond-true, get_or-set_same, get_or-set_other, get_or_past}
-use Rattle.cache_entries.proofs.Names.{get_or_default, get_or-replicate, length-replicate, length-map-range_with_len, get_or-map-range_with_len, fill_by_all}
-use Rattle.cache_entries.proofs.Names.{none-some, same_Some, cond_some, slice_get_within, slice_get_read, Entry, entry_at, of_number, entry_of, entries_in}
-use Rattle.cache_entries.proofs.Names.{settled, IsPlaced, ArenaState, arena_of, with_entry_in}
+use Rattle.cache_entries.proofs.Names.{inl, inr, ℕ, List, [], length, set, get_or, replicate, Option, Some, None, IsSome, is_some, true≢false, eqb, option_map}
+use Rattle.cache_entries.proofs.Names.{refl, sym, ap, subst, arith, length-append, length-set, slice_index, slice_get, swap_remove, cases_eq, cases_lt, eq-eqb}
+use Rattle.cache_entries.proofs.Names.{eqb-true, cond-true, get_or-set_same, get_or-set_other, get_or_past, get_or_default, get_or-replicate, length-replicate}
+use Rattle.cache_entries.proofs.Names.{length-map-range_with_len, get_or-map-range_with_len, fill_by_all, none-some, same_Some, cond_some, slice_get_within}
+use Rattle.cache_entries.proofs.Names.{slice_get_read, Entry, entry_at, of_number, entry_of, entries_in, settled, IsPlaced, ArenaState, arena_of, with_entry_in}
+use Rattle.std.proofs.Common.{◌≡◌, ◌≢◌, ◌⊎◌, ◌+◌, ◌-◌, ◌<◌, ◌∷◌, ◌++◌, ◌∙◌}
 use Rattle.cache_entries.proofs.Lists.{same_option, get_set_here, get_set_other, get_append, get_append_end, appended, length_swapped, swapped, swapped_still}
 
 pub length_in : (items : List Entry) (ps : List ℕ) → length (entries_in items ps) ≡ length ps

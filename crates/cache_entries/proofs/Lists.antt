@@ -1,8 +1,8 @@
 -- What stands at a place of a list.
-use Rattle.cache_entries.proofs.Names.{◌≡◌, ◌≢◌, ◌⊎◌, inl, inr, ℕ, zero, suc, ◌+◌, ◌-◌, ◌<◌, ◌≤◌, List, [], ◌∷◌, ◌++◌, length, set, take, drop, get_or, Option}
-use Rattle.cache_entries.proofs.Names.{Some, None, refl, sym, ap, ◌∙◌, arith, length-append, length-set, get_or-drop, get_or_default, length-drop}
-use Rattle.cache_entries.proofs.Names.{length-take-le, same_lists, take-append-drop, slice_get, swap_remove, cases_eq, cases_lt, slice_get_within}
-use Rattle.cache_entries.proofs.Names.{slice_get-get_or, same_Some}
+use Rattle.cache_entries.proofs.Names.{inl, inr, ℕ, zero, suc, List, [], length, set, take, drop, get_or, Option, Some, None, refl, sym, ap, arith}
+use Rattle.cache_entries.proofs.Names.{length-append, length-set, get_or-drop, get_or_default, length-drop, length-take-le, same_lists, take-append-drop}
+use Rattle.cache_entries.proofs.Names.{slice_get, swap_remove, cases_eq, cases_lt, slice_get_within, slice_get-get_or, same_Some}
+use Rattle.std.proofs.Common.{◌≡◌, ◌≢◌, ◌⊎◌, ◌+◌, ◌-◌, ◌<◌, ◌≤◌, ◌∷◌, ◌++◌, ◌∙◌}
 
 module _ {X : Type 0} where
   -- the same of two options

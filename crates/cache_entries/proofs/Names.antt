@@ -4,7 +4,7 @@ pub use Rattle.lru.specs.LruCache.{LruCache, promoted, put_entries}
 pub use Rattle.model.specs.Revoke.{is_member}
 pub use Rattle.std.proofs.Common.{Bool, IsSome, List, None, Option, Some, [], ap, arith, cond, drop, eqb, false, get_or, inl, inr, is_some, length}
 pub use Rattle.std.proofs.Common.{length-append, length-set, nat_eq, option_map, refl, replicate, set, slice_set, subst, suc, sym, take, true, true≢false}
-pub use Rattle.std.proofs.Common.{vec_capacity, zero, ℕ, ◌++◌, ◌+◌, ◌-◌, ◌<◌, ◌||◌, ◌∙◌, ◌∷◌, ◌≡◌, ◌≢◌, ◌≤◌, ◌⊎◌}
+pub use Rattle.std.proofs.Common.{vec_capacity, zero, ℕ}
 pub use Rattle.std.proofs.lemmas.Bool.{cases_eq, cases_lt, cond-true, eq-eqb, eqb-true, ne_eqb}
 pub use Rattle.std.proofs.lemmas.List.{get_or-drop, get_or-replicate, get_or-set_other, get_or-set_same, get_or_default, get_or_past, length-drop, length-map}
 pub use Rattle.std.proofs.lemmas.List.{length-replicate, length-take-le, same_lists, take-append-drop, take_all, take_more}

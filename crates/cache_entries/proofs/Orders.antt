@@ -1,8 +1,9 @@
 -- Numbers in the order of their last use, and pairs of a cache with them as its keys.
-use Rattle.cache_entries.proofs.Names.{◌≡◌, ◌≢◌, inl, inr, ℕ, ◌+◌, ◌-◌, ◌<◌, nat_eq, Bool, true, false, cond, ◌||◌, true≢false, List, [], ◌∷◌, length, take}
-use Rattle.cache_entries.proofs.Names.{Option, Some, None, is_some, IsSome, set, refl, sym, ap, ◌∙◌, arith, keys_of, lookup, lookup_entry, remove_entry}
-use Rattle.cache_entries.proofs.Names.{option_map_or, eqb-true, eq-eqb, ne_eqb, cases_eq, take_all, get_or-set_same, get_or-set_other, LruCache, promoted}
-use Rattle.cache_entries.proofs.Names.{put_entries, Contains-lookup_entry, is_member, Entry, ArenaState, entry_at, AllDiffer, without, AreKept}
+use Rattle.cache_entries.proofs.Names.{inl, inr, ℕ, nat_eq, Bool, true, false, cond, true≢false, List, [], length, take, Option, Some, None, is_some, IsSome}
+use Rattle.cache_entries.proofs.Names.{set, refl, sym, ap, arith, keys_of, lookup, lookup_entry, remove_entry, option_map_or, eqb-true, eq-eqb, ne_eqb}
+use Rattle.cache_entries.proofs.Names.{cases_eq, take_all, get_or-set_same, get_or-set_other, LruCache, promoted, put_entries, Contains-lookup_entry, is_member}
+use Rattle.cache_entries.proofs.Names.{Entry, ArenaState, entry_at, AllDiffer, without, AreKept}
+use Rattle.std.proofs.Common.{◌≡◌, ◌≢◌, ◌+◌, ◌-◌, ◌<◌, ◌||◌, ◌∷◌, ◌∙◌}
 use Rattle.cache_entries.proofs.Arenas.{some_within}
 
 -- ---- the keys of pairs

@@ -1,7 +1,7 @@
 -- The numbers used last, and the one used longest ago.
-use Rattle.cache_entries.proofs.Names.{◌≡◌, ◌≢◌, inl, inr, ℕ, zero, suc, ◌+◌, ◌<◌, nat_eq, Bool, true, false, cond, ◌||◌, true≢false, List, [], ◌∷◌, length}
-use Rattle.cache_entries.proofs.Names.{take, Some, refl, sym, ap, ◌∙◌, arith, slice_get, eq-eqb, ne_eqb, cases_eq, none-some, same_Some, is_member, AllDiffer}
-use Rattle.cache_entries.proofs.Names.{without}
+use Rattle.cache_entries.proofs.Names.{inl, inr, ℕ, zero, suc, nat_eq, Bool, true, false, cond, true≢false, List, [], length, take, Some, refl, sym, ap, arith}
+use Rattle.cache_entries.proofs.Names.{slice_get, eq-eqb, ne_eqb, cases_eq, none-some, same_Some, is_member, AllDiffer, without}
+use Rattle.std.proofs.Common.{◌≡◌, ◌≢◌, ◌+◌, ◌<◌, ◌||◌, ◌∷◌, ◌∙◌}
 
 -- what stands in a list is a member
 pub listed_member : (ns : List ℕ) (i n : ℕ) → slice_get ns i ≡ Some n → is_member ns n ≡ true

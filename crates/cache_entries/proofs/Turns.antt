@@ -1,8 +1,8 @@
 -- Numbers that are used in turn, and those whose use the order doesn't have yet.
-use Rattle.cache_entries.proofs.Names.{◌≡◌, ◌≢◌, ◌⊎◌, inl, inr, ℕ, zero, suc, ◌+◌, nat_eq, Bool, true, false, cond, ◌||◌, true≢false, List, [], ◌∷◌, ◌++◌}
-use Rattle.cache_entries.proofs.Names.{length, set, take, drop, get_or, ◌<◌, ◌≤◌, Some, refl, sym, ap, subst, ◌∙◌, arith, Contains, slice_get, take_more}
-use Rattle.cache_entries.proofs.Names.{eqb-true, eq-eqb, ne_eqb, cases_eq, none-some, same_Some, is_member, ArenaState, AllDiffer, AreKept, AreLatest}
-use Rattle.cache_entries.proofs.Names.{used_in_turn, without}
+use Rattle.cache_entries.proofs.Names.{inl, inr, ℕ, zero, suc, nat_eq, Bool, true, false, cond, true≢false, List, [], length, set, take, drop, get_or, Some}
+use Rattle.cache_entries.proofs.Names.{refl, sym, ap, subst, arith, Contains, slice_get, take_more, eqb-true, eq-eqb, ne_eqb, cases_eq, none-some, same_Some}
+use Rattle.cache_entries.proofs.Names.{is_member, ArenaState, AllDiffer, AreKept, AreLatest, used_in_turn, without}
+use Rattle.std.proofs.Common.{◌≡◌, ◌≢◌, ◌⊎◌, ◌+◌, ◌||◌, ◌∷◌, ◌++◌, ◌<◌, ◌≤◌, ◌∙◌}
 use Rattle.cache_entries.proofs.Orders.{differ_without, gone, kept_used, length_without, member_head, member_tail, still}
 use Rattle.cache_entries.proofs.Recent.{listed_member}
 

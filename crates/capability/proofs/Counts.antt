@@ -1,11 +1,12 @@
 -- What frames stand for once counts have risen: the capabilities that they were compared with are void.
-use Rattle.capability.proofs.Names.{◌≡◌, ℕ, ◌+◌, ◌^◌, ◌<◌, ◌≤◌, ◌==◌, inl, inr, nat_lt, if◌then◌else◌, Bool, true, false, List, [], ◌∷◌, map, length}
-use Rattle.capability.proofs.Names.{slice_index_or, slice_set, refl, sym, ap, ◌∙◌, subst, arith, zero-add, All, enumerate_from, cases_eq, eq-eqb, ne_eqb}
-use Rattle.capability.proofs.Names.{nat_tests, get_or-set_other, get_or-set_same, length-map, length-set, get_or-enumerate_from, length-enumerate_from, Cap}
-use Rattle.capability.proofs.Names.{Capability, Void, Number, Page, Node, Space, Process, Start, Resume, Bank, Discrim, ObjectHeader, Geometry, Content, Object}
-use Rattle.capability.proofs.Names.{blank_header, called, conveyed, current_count, frames_in, given_up, header_at, held_at, objects_of, AreCurrent, AreKeepable}
-use Rattle.capability.proofs.Names.{IsCurrent, IsKeepable, caps_in, free, map_content, consume, is_member, names_member, rescind, resumes, void_where, without}
-use Rattle.capability.proofs.Names.{object_at, AreGivenUp, Parts, frames_of, with_header, objects_in}
+use Rattle.capability.proofs.Names.{ℕ, inl, inr, nat_lt, Bool, true, false, List, [], map, length, slice_index_or, slice_set, refl, sym, ap, subst, arith}
+use Rattle.capability.proofs.Names.{zero-add, All, enumerate_from, cases_eq, eq-eqb, ne_eqb, nat_tests, get_or-set_other, get_or-set_same, length-map}
+use Rattle.capability.proofs.Names.{length-set, get_or-enumerate_from, length-enumerate_from, Cap, Capability, Void, Number, Page, Node, Space, Process, Start}
+use Rattle.capability.proofs.Names.{Resume, Bank, Discrim, ObjectHeader, Geometry, Content, Object, blank_header, called, conveyed, current_count, frames_in}
+use Rattle.capability.proofs.Names.{given_up, header_at, held_at, objects_of, AreCurrent, AreKeepable, IsCurrent, IsKeepable, caps_in, free, map_content}
+use Rattle.capability.proofs.Names.{consume, is_member, names_member, rescind, resumes, void_where, without, object_at, AreGivenUp, Parts, frames_of}
+use Rattle.capability.proofs.Names.{with_header, objects_in}
+use Rattle.std.proofs.Common.{◌≡◌, ◌+◌, ◌^◌, ◌<◌, ◌≤◌, ◌==◌, if◌then◌else◌, ◌∷◌, ◌∙◌}
 use Rattle.std.proofs.lemmas.List.{get_or-map}
 use Rattle.model.specs.declared.object.Content.TheVariants as content
 use Rattle.capability.proofs.Edits.{content_agree, current_from, current_held, field_same}

@@ -1,9 +1,10 @@
 -- What an edit of present frames leaves.
-use Rattle.capability.proofs.Names.{◌≡◌, ℕ, ◌<◌, ◌^◌, true, List, length, refl, sym, ap, subst, ◌∙◌, arith, IsTrue, All, Cap, Capability, Void, Content, Object}
-use Rattle.capability.proofs.Names.{Root, conveyed, header_at, held_at, AreCurrent, AreKeepable, IsCurrent, IsKeepable, IsKeptCap, MayBeKept, caps_in, is_annex}
-use Rattle.capability.proofs.Names.{is_root, map_content, root_in, with_slot_in, with_word_in, content_at, is_process, root_at, with_content, with_root}
-use Rattle.capability.proofs.Names.{with_slot, with_word, live_cap, with_root_in, Edits, Parts, frames_of, objects_in, with_held, with_slots_in}
-use Rattle.capability.proofs.Names.{with_slots_from, [], ◌∷◌, ◌+◌, suc, map, set-get_or, set-set, get_or-set_same, length-set}
+use Rattle.capability.proofs.Names.{ℕ, true, List, length, refl, sym, ap, subst, arith, IsTrue, All, Cap, Capability, Void, Content, Object, Root, conveyed}
+use Rattle.capability.proofs.Names.{header_at, held_at, AreCurrent, AreKeepable, IsCurrent, IsKeepable, IsKeptCap, MayBeKept, caps_in, is_annex, is_root}
+use Rattle.capability.proofs.Names.{map_content, root_in, with_slot_in, with_word_in, content_at, is_process, root_at, with_content, with_root, with_slot}
+use Rattle.capability.proofs.Names.{with_word, live_cap, with_root_in, Edits, Parts, frames_of, objects_in, with_held, with_slots_in, with_slots_from, [], suc}
+use Rattle.capability.proofs.Names.{map, set-get_or, set-set, get_or-set_same, length-set}
+use Rattle.std.proofs.Common.{◌≡◌, ◌<◌, ◌^◌, ◌∙◌, ◌∷◌, ◌+◌}
 use Rattle.model.specs.declared.object.Content.TheVariants as content
 use Rattle.capability.proofs.Edits.{current_held, header_kept, held_current, held_objects, live, slot_current, slot_through_map, word_current, word_through_map}
 use Rattle.capability.proofs.Frames.{content_there}

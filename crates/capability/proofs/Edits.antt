@@ -1,10 +1,11 @@
 -- What frames stand for once the header or the content at one number is another.
-use Rattle.capability.proofs.Names.{rules, ◌≡◌, ℕ, suc, ◌<◌, inl, inr, nat_lt, if◌then◌else◌, List, [], ◌∷◌, map, length, slice_index_or, slice_set, refl, sym}
-use Rattle.capability.proofs.Names.{ap, ◌∙◌, subst, arith, All, get_or-map, map-set_same, cases_lt, nat_tests, length-set, map-set, set-get_or, All-replicate}
-use Rattle.capability.proofs.Names.{All-set, Cap, Capability, Void, Number, Page, Node, Space, Process, Start, Resume, Bank, Discrim, Frame, ObjectHeader}
-use Rattle.capability.proofs.Names.{Content, Object, blank_header, conveyed, current_count, frames_in, header_at, headers, held_at, object_of, objects_of}
-use Rattle.capability.proofs.Names.{void_held, owned_by, claimed, AreCurrent, IsCurrent, caps_in, all_slots, map_content, role_of, with_slot_in, with_word_in}
-use Rattle.capability.proofs.Names.{content_at, with_content, Fresh, Parts, frames_of, fresh_content, with_both, with_header, with_held, objects_in}
+use Rattle.capability.proofs.Names.{rules, ℕ, suc, inl, inr, nat_lt, List, [], map, length, slice_index_or, slice_set, refl, sym, ap, subst, arith, All}
+use Rattle.capability.proofs.Names.{get_or-map, map-set_same, cases_lt, nat_tests, length-set, map-set, set-get_or, All-replicate, All-set, Cap, Capability}
+use Rattle.capability.proofs.Names.{Void, Number, Page, Node, Space, Process, Start, Resume, Bank, Discrim, Frame, ObjectHeader, Content, Object, blank_header}
+use Rattle.capability.proofs.Names.{conveyed, current_count, frames_in, header_at, headers, held_at, object_of, objects_of, void_held, owned_by, claimed}
+use Rattle.capability.proofs.Names.{AreCurrent, IsCurrent, caps_in, all_slots, map_content, role_of, with_slot_in, with_word_in, content_at, with_content}
+use Rattle.capability.proofs.Names.{Fresh, Parts, frames_of, fresh_content, with_both, with_header, with_held, objects_in}
+use Rattle.std.proofs.Common.{◌≡◌, ◌<◌, if◌then◌else◌, ◌∷◌, ◌∙◌}
 use Rattle.model.specs.declared.object.Content.TheVariants as content
 use Rattle.capability.specs.declared.present.Fresh.TheVariants as fresh
 use Rattle.capability.proofs.Frames.{at_set, content_there, frame_in, frame_past, headers_in, owner_in, set_in}

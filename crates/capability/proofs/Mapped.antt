@@ -1,6 +1,6 @@
 -- A content with each capability in it changed is as it was in all else.
-use Rattle.capability.proofs.Names.{◌≡◌, ℕ, map, refl, Geometry, Content, is_annex, is_bank, is_root, limit_in, map_content, role_of, slots_in, words_in}
-use Rattle.capability.proofs.Names.{IsOfKind}
+use Rattle.capability.proofs.Names.{ℕ, map, refl, Geometry, Content, is_annex, is_bank, is_root, limit_in, map_content, role_of, slots_in, words_in, IsOfKind}
+use Rattle.std.proofs.Common.{◌≡◌}
 use Rattle.model.specs.declared.object.Content.TheVariants as content
 
 pub record IsMapped {B C : Type 0} (f : B → C) (c : Content B) (d : Content C) : Type 0 where

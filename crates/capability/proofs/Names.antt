@@ -25,9 +25,8 @@ pub use Rattle.model.specs.declared.object.Role.TheVariants.{Free}
 pub use Rattle.model.specs.declared.object.Root.{Root}
 pub use Rattle.model.specs.declared.object.State.{State}
 pub use Rattle.model.specs.declared.object.State.TheVariants.{Running}
-pub use Rattle.std.proofs.Common.{Bool, List, Some, [], ap, arith, cond, eqb, false, get_or, if◌then◌else◌, inl, inr, length, map, nat_lt, refl, replicate}
-pub use Rattle.std.proofs.Common.{rules, set, slice_get, slice_index, slice_index_or, slice_set, subst, suc, sym, take, true, zero, zero-add, ℕ, ⊎_elim, ◌++◌}
-pub use Rattle.std.proofs.Common.{◌+◌, ◌<◌, ◌==◌, ◌^◌, ◌||◌, ◌∙◌, ◌∷◌, ◌≡◌, ◌≤◌, ◌⊎◌}
+pub use Rattle.std.proofs.Common.{Bool, List, Some, [], ap, arith, cond, eqb, false, get_or, inl, inr, length, map, nat_lt, refl, replicate, rules, set}
+pub use Rattle.std.proofs.Common.{slice_get, slice_index, slice_index_or, slice_set, subst, suc, sym, take, true, zero, zero-add, ℕ, ⊎_elim}
 pub use Rattle.std.proofs.Math.ListN.{get_or-map}
 pub use Rattle.std.proofs.Math.Seq.{map-set_same}
 pub use Rattle.std.proofs.lemmas.Bool.{cases_eq, cases_lt, eq-eqb, eqb-false, eqb-true, ne_eqb}
@@ -42,7 +41,7 @@ pub use Rattle.std.proofs.lemmas.Option.{get_or_from_slice_get, slice_get-map}
 pub use Rattle.std.proofs.lemmas.Result.{IfOk-weaker}
 pub use Rattle.std.specs.List.{All, enumerate_from, list_any}
 pub use Rattle.std.specs.Option.{option_map}
-pub use Rattle.std.specs.Prelude.{IsTrue, ◌≢◌}
+pub use Rattle.std.specs.Prelude.{IsTrue}
 pub use Rattle.capability.specs.Laws.{CalledIsConsumed, ConsumeKeepsSoundFrames, GivenUpIsRescinded, RescindKeepsSoundFrames}
 pub use Rattle.capability.specs.Objects.{live_cap, with_root_in, with_slots_in}
 pub use Rattle.capability.specs.Parts.{AreGivenUp, Edits, FreshFits, HaveTheirRoles, IsFreshAt, KeepsRest, OnlyFetches, Parts, frames_of, fresh_content}

@@ -1,8 +1,8 @@
 -- What frames stand for once the root of a process is another.
-use Rattle.capability.proofs.Names.{◌≡◌, ℕ, ◌<◌, ◌^◌, true, slice_set, List, [], ◌∷◌, refl, sym, ap, ◌∙◌, subst, arith, All, length-set, All-set, Cap}
-use Rattle.capability.proofs.Names.{Capability, ObjectHeader, Geometry, Content, Object, Root, State, conveyed, AreKeptWords, IsCurrent, IsKeepable, IsKeptCap}
-use Rattle.capability.proofs.Names.{MayBeKept, caps_in, with_space, IsSpace, is_root, map_content, root_in, root_at, with_root, with_state, live_cap}
-use Rattle.capability.proofs.Names.{with_root_in}
+use Rattle.capability.proofs.Names.{ℕ, true, slice_set, List, [], refl, sym, ap, subst, arith, All, length-set, All-set, Cap, Capability, ObjectHeader}
+use Rattle.capability.proofs.Names.{Geometry, Content, Object, Root, State, conveyed, AreKeptWords, IsCurrent, IsKeepable, IsKeptCap, MayBeKept, caps_in}
+use Rattle.capability.proofs.Names.{with_space, IsSpace, is_root, map_content, root_in, root_at, with_root, with_state, live_cap, with_root_in}
+use Rattle.std.proofs.Common.{◌≡◌, ◌<◌, ◌^◌, ◌∷◌, ◌∙◌}
 use Rattle.model.specs.declared.object.Content.TheVariants as content
 use Rattle.capability.proofs.Edits.{live}
 use Rattle.capability.proofs.Keeping.{refilled}

@@ -1,6 +1,7 @@
 -- Frames stay sound where counts are raised.
-use Rattle.capability.proofs.Names.{◌+◌, List, arith, subst, sym, Object, IsSound, CalledIsConsumed, ConsumeKeepsSoundFrames, GivenUpIsRescinded}
+use Rattle.capability.proofs.Names.{List, arith, subst, sym, Object, IsSound, CalledIsConsumed, ConsumeKeepsSoundFrames, GivenUpIsRescinded}
 use Rattle.capability.proofs.Names.{RescindKeepsSoundFrames}
+use Rattle.std.proofs.Common.{◌+◌}
 use Rattle.capability.proofs.Counts.{current_called, current_given_up, keepable_given_up, objects_called, objects_given_up}
 use Rattle.capability.proofs.Keeping.{call_stays_keepable}
 

@@ -1,7 +1,7 @@
 -- What marking a list of numbers does to the marks and to their count.
-use Rattle.capability.proofs.Names.{◌≡◌, ℕ, ◌+◌, ◌<◌, ◌≤◌, Bool, true, false, ◌||◌, cond, eqb, List, [], ◌∷◌, ◌++◌, length, get_or, set, take, refl, ap, sym}
-use Rattle.capability.proofs.Names.{◌∙◌, arith, list_any, eqb-true, eqb-false, set-get_or, take_more, sum_by-set, count_by-le-length, touching, touched_count}
-use Rattle.std.proofs.Common.{length-set, get_or-set_same, get_or-set_other}
+use Rattle.capability.proofs.Names.{ℕ, Bool, true, false, cond, eqb, List, [], length, get_or, set, take, refl, ap, sym, arith, list_any, eqb-true, eqb-false}
+use Rattle.capability.proofs.Names.{set-get_or, take_more, sum_by-set, count_by-le-length, touching, touched_count}
+use Rattle.std.proofs.Common.{◌≡◌, ◌+◌, ◌<◌, ◌≤◌, ◌||◌, ◌∷◌, ◌++◌, ◌∙◌, length-set, get_or-set_same, get_or-set_other}
 
 pub length-touching : (t : List Bool) (ns : List ℕ) → length (touching t ns) ≡ length t
 length-touching t [] = refl

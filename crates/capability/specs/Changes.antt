@@ -1,8 +1,8 @@
 -- The changes and the outcomes of orders.
-use Rattle.capability.specs.Names.{ℕ, Option, None, Some, List, [], ◌∷◌, option_to_list, Void, Message, Object}
-use Rattle.capability.specs.Names.{ResultCode, inherited, new_annex, new_root, with_new, with_root_word, with_space}
-use Rattle.capability.specs.Names.{OrderOutcome, code_number, consume, rescind, root_at, with_root, with_slot}
-use Rattle.capability.specs.Names.{with_state, with_word}
+use Rattle.capability.specs.Names.{ℕ, Option, None, Some, List, [], option_to_list, Void, Message, Object, ResultCode}
+use Rattle.capability.specs.Names.{inherited, new_annex, new_root, with_new, with_root_word, with_space, OrderOutcome}
+use Rattle.capability.specs.Names.{code_number, consume, rescind, root_at, with_root, with_slot, with_state, with_word}
+use Rattle.std.specs.Prelude.{◌∷◌}
 use Rattle.capability.specs.declared.order.BankChange.{BankChange}
 use Rattle.capability.specs.declared.order.BankChange.TheVariants as bank
 use Rattle.capability.specs.declared.order.Change.{Change}

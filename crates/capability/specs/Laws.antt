@@ -1,6 +1,7 @@
 -- Counts against the definitions of rescinding and consuming.
-use Rattle.capability.specs.Names.{◌≡◌, ℕ, ◌+◌, ◌<◌, List, length, Geometry, called, header_at, AreCurrent}
-use Rattle.capability.specs.Names.{IsSoundFrames, consume, rescind, IsSound}
+use Rattle.capability.specs.Names.{ℕ, List, length, Geometry, called, header_at, AreCurrent, IsSoundFrames, consume}
+use Rattle.capability.specs.Names.{rescind, IsSound}
+use Rattle.std.specs.Prelude.{◌≡◌, ◌+◌, ◌<◌}
 use Rattle.capability.specs.Parts.{AreGivenUp, Parts, frames_of, with_header, objects_in}
 
 -- to raise both counts of the members of a set and free them is to rescind them

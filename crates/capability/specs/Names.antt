@@ -25,9 +25,8 @@ pub use Rattle.model.specs.declared.object.State.TheVariants.{Available, Running
 pub use Rattle.model.specs.declared.order.ResultCode.{ResultCode}
 pub use Rattle.std.specs.List.{All, Contains}
 pub use Rattle.std.specs.Option.{option_to_list}
-pub use Rattle.std.specs.Prelude.{Bool, IsErrOf, List, None, OnErr, OnOk, Option, Result, Some, [], false}
-pub use Rattle.std.specs.Prelude.{if◌then◌else◌, length, nat_lt, replicate, slice_index_or, slice_set, take, ℕ, ◌+◌}
-pub use Rattle.std.specs.Prelude.{◌<◌, ◌^◌, ◌↔◌, ◌∷◌, ◌≡◌, ◌≢◌, ◌≤◌}
+pub use Rattle.std.specs.Prelude.{Bool, IsErrOf, List, None, OnErr, OnOk, Option, Result, Some, [], false, length}
+pub use Rattle.std.specs.Prelude.{nat_lt, replicate, slice_index_or, slice_set, take, ℕ}
 pub use Rattle.model.specs.declared.capability.Cap.{Cap}
 pub use Rattle.model.specs.declared.capability.Capability.{Capability}
 pub use Rattle.model.specs.declared.capability.Capability.TheVariants.{Void}

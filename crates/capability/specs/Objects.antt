@@ -1,6 +1,7 @@
 -- The delivery of a message.
-use Rattle.capability.specs.Names.{ℕ, ◌+◌, List, [], ◌∷◌, Cap, Capability, ObjectHeader, Content, Object, Root, Running}
+use Rattle.capability.specs.Names.{ℕ, List, [], Cap, Capability, ObjectHeader, Content, Object, Root, Running}
 use Rattle.capability.specs.Names.{current_count, root_at, with_root, with_slot_in}
+use Rattle.std.specs.Prelude.{◌+◌, ◌∷◌}
 use Rattle.model.specs.declared.object.Content.TheVariants as content
 
 -- the objects with words and a key given to a process, which runs

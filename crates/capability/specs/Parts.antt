@@ -1,9 +1,10 @@
 -- The parts of a store of present frames, and what goes on beside a change.
-use Rattle.capability.specs.Names.{◌≡◌, ◌↔◌, ℕ, ◌+◌, ◌<◌, ◌≤◌, ◌^◌, Bool, false, List, length, replicate}
-use Rattle.capability.specs.Names.{slice_index_or, slice_set, take, if◌then◌else◌, Result, OnOk, OnErr, IsErrOf, Cap}
-use Rattle.capability.specs.Names.{Frame, ObjectHeader, Geometry, Content, Available, Object, frame_at, frames_in}
-use Rattle.capability.specs.Names.{header_at, held_at, given_up, objects_of, AreCurrent, AreKeepable, IsSoundFrames}
-use Rattle.capability.specs.Names.{touching, touched_count, all_slots, role_of, zero_words, is_given_up, is_member}
+use Rattle.capability.specs.Names.{ℕ, Bool, false, List, length, replicate, slice_index_or, slice_set, take, Result}
+use Rattle.capability.specs.Names.{OnOk, OnErr, IsErrOf, Cap, Frame, ObjectHeader, Geometry, Content, Available, Object}
+use Rattle.capability.specs.Names.{frame_at, frames_in, header_at, held_at, given_up, objects_of, AreCurrent}
+use Rattle.capability.specs.Names.{AreKeepable, IsSoundFrames, touching, touched_count, all_slots, role_of, zero_words}
+use Rattle.capability.specs.Names.{is_given_up, is_member}
+use Rattle.std.specs.Prelude.{◌≡◌, ◌↔◌, ◌+◌, ◌<◌, ◌≤◌, ◌^◌, if◌then◌else◌}
 use Rattle.model.specs.declared.object.Content.TheVariants as content
 use Rattle.capability.specs.declared.present.Fresh.{Fresh}
 use Rattle.capability.specs.declared.present.Fresh.TheVariants as fresh

@@ -1,8 +1,8 @@
 -- The store in memory.
-use Rattle.capability.specs.Names.{◌≡◌, ◌≢◌, ◌↔◌, ℕ, ◌<◌, ◌≤◌, nat_lt, if◌then◌else◌, Bool, List, length, slice_set}
-use Rattle.capability.specs.Names.{Result, OnOk, OnErr, IsErrOf, All, Contains, Cap, Capability, ObjectHeader, Geometry}
-use Rattle.capability.specs.Names.{Content, header_at, held_at, void_held, touched_count, touching, all_slots}
-use Rattle.capability.specs.Names.{zero_words, object_count}
+use Rattle.capability.specs.Names.{ℕ, nat_lt, Bool, List, length, slice_set, Result, OnOk, OnErr, IsErrOf, All}
+use Rattle.capability.specs.Names.{Contains, Cap, Capability, ObjectHeader, Geometry, Content, header_at, held_at}
+use Rattle.capability.specs.Names.{void_held, touched_count, touching, all_slots, zero_words, object_count}
+use Rattle.std.specs.Prelude.{◌≡◌, ◌≢◌, ◌↔◌, ◌<◌, ◌≤◌, if◌then◌else◌}
 use Rattle.model.specs.declared.object.Content.TheVariants as content
 use Rattle.model.specs.declared.object.Role.TheVariants as role
 use Rattle.capability.specs.declared.present.Fresh.{Fresh}

@@ -8,5 +8,5 @@ pub use Rattle.model.specs.Keepable.{AreKeepable}
 pub use Rattle.model.specs.declared.answer.Refusal.{Refusal}
 pub use Rattle.model.specs.declared.frame.Frame.{Frame}
 pub use Rattle.model.specs.declared.geometry.Geometry.{Geometry}
-pub use Rattle.std.specs.Prelude.{Bool, Err, IsErrOf, List, None, Ok, Option, Result, Some, false, if◌then◌else◌}
-pub use Rattle.std.specs.Prelude.{option_map, slice_set, true, ℕ, ⊤, ◌+◌, ◌-◌, ◌<◌, ◌==◌, ◌^◌, ◌↔◌, ◌≡◌, ◌≢◌, ◌≤◌, ◌⊎◌}
+pub use Rattle.std.specs.Prelude.{Bool, Err, IsErrOf, List, None, Ok, Option, Result, Some, false, option_map}
+pub use Rattle.std.specs.Prelude.{slice_set, true, ℕ, ⊤}

@@ -1,6 +1,6 @@
 -- The results of opening a device, and why one isn't opened.
-use Rattle.checkpoint.specs.Names.{◌≡◌, ◌↔◌, ℕ, ◌<◌, ◌≤◌, Result, IsErrOf, ⊤, Image, Disk, Agrees, Narrows, Peeks}
-use Rattle.checkpoint.specs.Names.{IsBadBy}
+use Rattle.checkpoint.specs.Names.{ℕ, Result, IsErrOf, ⊤, Image, Disk, Agrees, Narrows, Peeks, IsBadBy}
+use Rattle.std.specs.Prelude.{◌≡◌, ◌↔◌, ◌<◌, ◌≤◌}
 use Rattle.checkpoint.specs.declared.open_fault.OpenFault.{OpenFault}
 use Rattle.checkpoint.specs.declared.open_fault.OpenFault.TheVariants as refusal
 

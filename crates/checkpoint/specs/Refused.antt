@@ -1,6 +1,6 @@
 -- What each call of a store answers, by how many frozen frames are left to be put, and why it refuses.
-use Rattle.checkpoint.specs.Names.{◌≡◌, ◌≢◌, ℕ, ◌+◌, ◌<◌, Bool, true, false, Option, Some, None, Result, Ok, Err, Disk}
-use Rattle.checkpoint.specs.Names.{Refusal}
+use Rattle.checkpoint.specs.Names.{ℕ, Bool, true, false, Option, Some, None, Result, Ok, Err, Disk, Refusal}
+use Rattle.std.specs.Prelude.{◌≡◌, ◌≢◌, ◌+◌, ◌<◌}
 use Rattle.model.specs.declared.answer.Refusal.TheVariants as refusal
 use Rattle.model.specs.declared.answer.Unjournaled.TheVariants as unjournaled
 use Rattle.checkpoint.specs.Saved.{SavedFrames}

@@ -1,6 +1,7 @@
 -- What a committed checkpoint saves, as frames.
-use Rattle.checkpoint.specs.Names.{◌≡◌, ◌⊎◌, ℕ, ◌+◌, ◌-◌, ◌^◌, Option, Some, None, List, slice_set, Frame, Geometry}
-use Rattle.checkpoint.specs.Names.{frame_at, Image, Disk, LeavesOnly, SavedState, Encodes}
+use Rattle.checkpoint.specs.Names.{ℕ, Option, Some, None, List, slice_set, Frame, Geometry, frame_at, Image, Disk}
+use Rattle.checkpoint.specs.Names.{LeavesOnly, SavedState, Encodes}
+use Rattle.std.specs.Prelude.{◌≡◌, ◌⊎◌, ◌+◌, ◌-◌, ◌^◌}
 use Rattle.model.specs.declared.object.Content.TheVariants as content
 
 -- the frames of all objects, and the numbers of the checkpoint; entries counts the objects that lie in the log

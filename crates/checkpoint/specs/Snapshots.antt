@@ -1,7 +1,7 @@
 -- What a store keeps beside its present objects, and what each stage of a checkpoint does to that, whatever it keeps of a
 -- frozen state.
-use Rattle.checkpoint.specs.Names.{◌≡◌, ◌==◌, if◌then◌else◌, ℕ, ◌+◌, ◌-◌, ◌<◌, ◌≤◌, ◌^◌, Option, Some, None, option_map}
-use Rattle.checkpoint.specs.Names.{List, Frame, frame_at, AreKeepable}
+use Rattle.checkpoint.specs.Names.{ℕ, Option, Some, None, option_map, List, Frame, frame_at, AreKeepable}
+use Rattle.std.specs.Prelude.{◌≡◌, ◌==◌, if◌then◌else◌, ◌+◌, ◌-◌, ◌<◌, ◌≤◌, ◌^◌}
 use Rattle.checkpoint.specs.Saved.{SavedFrames, home_saved, replaced_saved, with_words}
 
 -- the frozen state, if there is one, and what is saved; to_move counts the saved objects that aren't home

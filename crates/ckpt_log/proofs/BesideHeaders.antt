@@ -1,7 +1,8 @@
 -- What lies apart from the headers.
-use Rattle.ckpt_log.proofs.Names.{◌+◌, ◌*◌, ◌≤◌, ℕ, List, take, ap, arith, Plan, IsPlan, shape_of, place_length, frame_sector, half_sector, slot_sector}
-use Rattle.ckpt_log.proofs.Names.{directory_sector, directory_length, half_within, same_sectors, same_shaped, SequencesAreReported, NextFollows}
-use Rattle.ckpt_log.proofs.Names.{HeadersSpareSectors, HeadersSpareFrames, HeadersSpareSlots, HeadersSpareDirectories}
+use Rattle.ckpt_log.proofs.Names.{ℕ, List, take, ap, arith, Plan, IsPlan, shape_of, place_length, frame_sector, half_sector, slot_sector, directory_sector}
+use Rattle.ckpt_log.proofs.Names.{directory_length, half_within, same_sectors, same_shaped, SequencesAreReported, NextFollows, HeadersSpareSectors}
+use Rattle.ckpt_log.proofs.Names.{HeadersSpareFrames, HeadersSpareSlots, HeadersSpareDirectories}
+use Rattle.std.proofs.Common.{◌+◌, ◌*◌, ◌≤◌}
 use Rattle.ckpt_log.proofs.Commits.{sequence_of, next_fits, precedes}
 
 pub sequences_reported : SequencesAreReported

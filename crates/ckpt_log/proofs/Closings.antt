@@ -1,8 +1,10 @@
 -- What is committed while the gates of both headers are closed, the lesser header's first.
-use Rattle.ckpt_log.proofs.Names.{◌≡◌, ◌⊎◌, ◌%◌, ℕ, zero, suc, Bool, true, false, Option, Some, None, List, refl, sym, ap, subst, ◌∙◌, inl, inr, ⊎_elim, arith}
-use Rattle.ckpt_log.proofs.Names.{cases_lt, nat_lt, if◌then◌else◌, ◌==◌, ◌&&◌, is_open, gate_bytes, Closed, HasNoHeader, committed_of, committed_slot}
-use Rattle.ckpt_log.proofs.Names.{does_count, option_at, sequence_in, Image, Disk, LeavesOnly, Peeks, agrees_is, leaves_on, leaves_weaker, Agrees, Elsewhere}
-use Rattle.ckpt_log.proofs.Names.{AreClosed, AreInTurn, KeepsOrHasNone, SparesRest, WasKeptOrHasNone, closed_gate}
+use Rattle.ckpt_log.proofs.Names.{ℕ, zero, suc, Bool, true, false, Option, Some, None, List, refl, sym, ap, subst, inl, inr, ⊎_elim, arith, cases_lt, nat_lt}
+use Rattle.ckpt_log.proofs.Names.{is_open, gate_bytes, Closed, HasNoHeader, committed_of, committed_slot, does_count, option_at, sequence_in, Image, Disk}
+use Rattle.ckpt_log.proofs.Names.{LeavesOnly, Peeks, agrees_is, leaves_on, leaves_weaker, Agrees, Elsewhere, AreClosed, AreInTurn, KeepsOrHasNone, SparesRest}
+use Rattle.ckpt_log.proofs.Names.{WasKeptOrHasNone, closed_gate}
+use Rattle.std.proofs.Common.{◌≡◌, ◌⊎◌, ◌%◌, ◌∙◌}
+use Rattle.std.specs.Prelude.{if◌then◌else◌, ◌==◌, ◌&&◌}
 use Rattle.ckpt_log.proofs.Runs.{IsClosing}
 use Rattle.ckpt_log.proofs.Winners.{belongs, counts_if, opened, slot_of_image}
 

@@ -1,9 +1,10 @@
 -- What a torn write of a gate or a header leaves committed.
-use Rattle.ckpt_log.proofs.Names.{◌≡◌, ◌<◌, ◌≤◌, ◌+◌, ◌*◌, ◌%◌, ◌^◌, ℕ, Bool, true, false, Some, List, ◌++◌, drop, refl, sym, ap, subst, ◌∙◌, inl, inr, arith}
-use Rattle.ckpt_log.proofs.Names.{codes, cond, ◌==◌, if◌then◌else◌, w64, from_le_bytes, from_le_bytes-to_le_bytes_8, CheckpointHeader, Closed, Open, number}
-use Rattle.ckpt_log.proofs.Names.{number_from, zeros, is_open, gate_bytes, header_bytes, IsHeader, committed_bytes, sequence_in, six, Image, Agrees, Elsewhere}
-use Rattle.ckpt_log.proofs.Names.{agrees_is, elsewhere_on, HeaderSlot, slot_number, header_at, gate_at, header_sector, gate_sector, closed_gate, Precedes}
-use Rattle.ckpt_log.proofs.Names.{KeepsHeader, HasNew, IsOldOrNew}
+use Rattle.ckpt_log.proofs.Names.{ℕ, Bool, true, false, Some, List, drop, refl, sym, ap, subst, inl, inr, arith, codes, cond, w64, from_le_bytes}
+use Rattle.ckpt_log.proofs.Names.{from_le_bytes-to_le_bytes_8, CheckpointHeader, Closed, Open, number, number_from, zeros, is_open, gate_bytes, header_bytes}
+use Rattle.ckpt_log.proofs.Names.{IsHeader, committed_bytes, sequence_in, six, Image, Agrees, Elsewhere, agrees_is, elsewhere_on, HeaderSlot, slot_number}
+use Rattle.ckpt_log.proofs.Names.{header_at, gate_at, header_sector, gate_sector, closed_gate, Precedes, KeepsHeader, HasNew, IsOldOrNew}
+use Rattle.std.proofs.Common.{◌≡◌, ◌<◌, ◌≤◌, ◌+◌, ◌*◌, ◌%◌, ◌^◌, ◌++◌, ◌∙◌}
+use Rattle.std.specs.Prelude.{◌==◌, if◌then◌else◌}
 use Rattle.ckpt_log.proofs.Winners.{CountsNoMore, belongs, opened, counts_if, keeps_at, new_at}
 
 as_le : (xs : List ℕ) → number_from xs ≡ from_le_bytes w64 xs

@@ -1,7 +1,8 @@
 -- What a device denotes after a commit, and after a crash in its course.
-use Rattle.ckpt_log.proofs.Names.{ℕ, ◌≤◌, Option, Some, None, sym, subst, ◌∙◌, arith, List, Image, Elsewhere, CheckpointHeader, IsFrameOf, home_place, Plan}
-use Rattle.ckpt_log.proofs.Names.{SavedState, Encodes, half_sector, frame_slot_in, slot_sector, sector_or, frame_at, header_sector, HomesAreBehind}
-use Rattle.ckpt_log.proofs.Names.{FramesAreBehind, IsReady, NewIsDenoted, OldIsDenoted}
+use Rattle.ckpt_log.proofs.Names.{ℕ, Option, Some, None, sym, subst, arith, List, Image, Elsewhere, CheckpointHeader, IsFrameOf, home_place, Plan, SavedState}
+use Rattle.ckpt_log.proofs.Names.{Encodes, half_sector, frame_slot_in, slot_sector, sector_or, frame_at, header_sector, HomesAreBehind, FramesAreBehind}
+use Rattle.ckpt_log.proofs.Names.{IsReady, NewIsDenoted, OldIsDenoted}
+use Rattle.std.proofs.Common.{◌≤◌, ◌∙◌}
 use Rattle.ckpt_log.proofs.BesideHeaders.{half_behind, spare_sectors, spare_frames, spare_directories}
 
 behind_by : (slot : Option ℕ) (p : Plan) (generation home : ℕ) → 5 ≤ half_sector p generation → 5 ≤ home → 5 ≤ sector_or slot (slot_sector p generation) home

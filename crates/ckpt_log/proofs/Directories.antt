@@ -1,6 +1,7 @@
 -- A directory without entries.
-use Rattle.ckpt_log.proofs.Names.{◌≡◌, ◌+◌, ◌-◌, ◌*◌, ◌/◌, ◌≤◌, ℕ, List, [], ◌∷◌, length, take, drop, replicate, refl, ap, subst, ◌∙◌, arith, drop-replicate}
-use Rattle.ckpt_log.proofs.Names.{take-replicate, Image, Entry, directory_bytes, IsDirectory, Plan, directory_in, directory_length, sectors_from}
+use Rattle.ckpt_log.proofs.Names.{ℕ, List, [], length, take, drop, replicate, refl, ap, subst, arith, drop-replicate, take-replicate, Image, Entry}
+use Rattle.ckpt_log.proofs.Names.{directory_bytes, IsDirectory, Plan, directory_in, directory_length, sectors_from}
+use Rattle.std.proofs.Common.{◌≡◌, ◌+◌, ◌-◌, ◌*◌, ◌/◌, ◌≤◌, ◌∷◌, ◌∙◌}
 
 -- it is spelt by no bytes
 pub no_entries : (p : Plan) (generation : ℕ) (image : Image) (es : List Entry) → length es ≡ 0 → IsDirectory p.geometry es × (directory_in image p generation (length es) ≡ directory_bytes es)

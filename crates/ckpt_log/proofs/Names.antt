@@ -34,15 +34,14 @@ pub use Rattle.model.specs.Frame.{frame_at}
 pub use Rattle.model.specs.declared.frame.Frame.{Frame}
 pub use Rattle.model.specs.declared.geometry.Geometry.{Geometry}
 pub use Rattle.std.proofs.Common.{Bool, Err, List, None, Ok, Option, Result, Some, [], ap, append-nil, arith, drop, false, inl, inr, length, length-take-le}
-pub use Rattle.std.proofs.Common.{refl, replicate, rules, subst, suc, sym, take, true, zero, ℕ, ⊎_elim, ◌%◌, ◌*◌, ◌++◌, ◌+◌, ◌-◌, ◌/◌, ◌<◌, ◌^◌, ◌∙◌, ◌∷◌, ◌≡◌}
-pub use Rattle.std.proofs.Common.{◌≤◌, ◌⊎◌}
+pub use Rattle.std.proofs.Common.{refl, replicate, rules, subst, suc, sym, take, true, zero, ℕ, ⊎_elim}
 pub use Rattle.std.proofs.Math.Seq.{take-append_seam}
 pub use Rattle.std.proofs.lemmas.Bool.{and_from, and_parts, cases_lt, eq-eqb, eqb-true, le-ltb, lt-ltb}
 pub use Rattle.std.proofs.lemmas.List.{drop-replicate, take-replicate, take_all}
 pub use Rattle.std.proofs.lemmas.Nat.{from_le_bytes-to_le_bytes_8}
 pub use Rattle.std.proofs.lemmas.Result.{err_from_is_err_and}
 pub use Rattle.std.specs.Int.{from_le_bytes, w64}
-pub use Rattle.std.specs.Prelude.{OnOk, codes, cond, if◌then◌else◌, nat_lt, ◌&&◌, ◌==◌}
+pub use Rattle.std.specs.Prelude.{OnOk, codes, cond, nat_lt}
 pub use Rattle.ckpt_log.specs.Closing.{AreClosed, AreInTurn, KeepsOrHasNone, SparesRest, WasKeptOrHasNone}
 pub use Rattle.ckpt_log.specs.Commit.{CommitsOne, HasNew, IsInOrder, IsInOrderAfter, IsOld, IsOldOrNew, KeepsHeader, Precedes, closed_gate, gate_sector}
 pub use Rattle.ckpt_log.specs.Commit.{header_sector}

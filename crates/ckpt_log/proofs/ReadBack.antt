@@ -1,6 +1,7 @@
 -- What was written is read.
-use Rattle.ckpt_log.proofs.Names.{◌≡◌, ℕ, List, refl, sym, Frame, Entry, directory_bytes, IsDirectory, IsFrameOf, frame_bytes, Geometry, one_directory}
+use Rattle.ckpt_log.proofs.Names.{ℕ, List, refl, sym, Frame, Entry, directory_bytes, IsDirectory, IsFrameOf, frame_bytes, Geometry, one_directory}
 use Rattle.ckpt_log.proofs.Names.{directory_fits, one_frame, ReadFault, Failed, Bad, IsRefused, IsBadDirectory, SlotsAreReadBack, DirectoriesAreReadBack}
+use Rattle.std.proofs.Common.{◌≡◌}
 
 slot_not_refused : (g : Geometry) (age object : ℕ) (f : Frame) (e : ReadFault) → IsFrameOf g age object (frame_bytes g object f) f → IsRefused g age object (frame_bytes g object f) e → e ≡ Failed
 slot_not_refused g age object f Failed is bad = refl

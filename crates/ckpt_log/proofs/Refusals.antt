@@ -1,6 +1,7 @@
 -- The committed header with its directory, and why there is none.
-use Rattle.ckpt_log.proofs.Names.{◌≡◌, ℕ, List, ◌++◌, length, take, sym, ap, subst, ◌∙◌, take-append_seam, BadImage, Entry, CheckpointHeader, directory_bytes}
-use Rattle.ckpt_log.proofs.Names.{IsDirectory, Image, HasHeader, HasDirectory, directory_in, Plan, ReadFault, HasCommitted, HasNoCommitted, IsBadDirectory}
+use Rattle.ckpt_log.proofs.Names.{ℕ, List, length, take, sym, ap, subst, take-append_seam, BadImage, Entry, CheckpointHeader, directory_bytes, IsDirectory}
+use Rattle.ckpt_log.proofs.Names.{Image, HasHeader, HasDirectory, directory_in, Plan, ReadFault, HasCommitted, HasNoCommitted, IsBadDirectory}
+use Rattle.std.proofs.Common.{◌≡◌, ◌++◌, ◌∙◌}
 use Rattle.frame_io.specs.declared.fault.ReadFault.TheVariants as fault
 
 pub bad_directory : (image seen : Image) (p : Plan) (h : CheckpointHeader) (n : ℕ) (e : ReadFault) → seen ≡ image → n ≡ h.entries → HasHeader image p h → IsBadDirectory p.geometry (directory_in seen p h.generation n) e → HasNoCommitted image p e

@@ -1,8 +1,9 @@
 -- What a crash leaves in the course of a commit.
-use Rattle.ckpt_log.proofs.Names.{◌≡◌, ◌<◌, ◌^◌, ◌⊎◌, ℕ, false, inl, inr, refl, sym, ap, subst, ◌∙◌, CheckpointHeader, is_open, header_bytes, committed_bytes}
-use Rattle.ckpt_log.proofs.Names.{Image, Disk, Agrees, Elsewhere, Narrows, Only, Elapses, LeavesOnly, Peeks, agrees_is, elsewhere_same, OnlyNow, CountsNow}
-use Rattle.ckpt_log.proofs.Names.{in_one_call, leaves_weaker, leaves_on, ends, header_sector, gate_sector, IsInOrder, IsInOrderAfter, CommitsOne, Precedes}
-use Rattle.ckpt_log.proofs.Names.{KeepsHeader, HasNew, IsOldOrNew, IsOld}
+use Rattle.ckpt_log.proofs.Names.{ℕ, false, inl, inr, refl, sym, ap, subst, CheckpointHeader, is_open, header_bytes, committed_bytes, Image, Disk, Agrees}
+use Rattle.ckpt_log.proofs.Names.{Elsewhere, Narrows, Only, Elapses, LeavesOnly, Peeks, agrees_is, elsewhere_same, OnlyNow, CountsNow, in_one_call}
+use Rattle.ckpt_log.proofs.Names.{leaves_weaker, leaves_on, ends, header_sector, gate_sector, IsInOrder, IsInOrderAfter, CommitsOne, Precedes, KeepsHeader}
+use Rattle.ckpt_log.proofs.Names.{HasNew, IsOldOrNew, IsOld}
+use Rattle.std.proofs.Common.{◌≡◌, ◌<◌, ◌^◌, ◌⊎◌, ◌∙◌}
 use Rattle.ckpt_log.proofs.Commits.{closing_keeps, either_on, header_keeps, opening, precedes_on, keeps_on}
 
 -- what a crash leaves while a gate is closed where it is open

@@ -1,7 +1,8 @@
 -- Images that agree in the sectors that a saved state is read from.
-use Rattle.ckpt_log.proofs.Names.{◌≡◌, ◌<◌, ◌+◌, ◌*◌, ℕ, Option, Some, None, List, take, refl, sym, ap, subst, ◌∙◌, arith, Image, shape_of, IsFrameOf}
-use Rattle.ckpt_log.proofs.Names.{committed_slot, option_at, frame_sector, directory_sector, directory_length, same_sectors, same_shaped, SameFrom, SameHeader}
-use Rattle.ckpt_log.proofs.Names.{SameDirectory, SameFrames, SameSaved, frame_at}
+use Rattle.ckpt_log.proofs.Names.{ℕ, Option, Some, None, List, take, refl, sym, ap, subst, arith, Image, shape_of, IsFrameOf, committed_slot, option_at}
+use Rattle.ckpt_log.proofs.Names.{frame_sector, directory_sector, directory_length, same_sectors, same_shaped, SameFrom, SameHeader, SameDirectory, SameFrames}
+use Rattle.ckpt_log.proofs.Names.{SameSaved, frame_at}
+use Rattle.std.proofs.Common.{◌≡◌, ◌<◌, ◌+◌, ◌*◌, ◌∙◌}
 use Rattle.ckpt_log.proofs.Winners.{slot_of_image}
 
 same_slot : (old new : Image) → SameFrom 1 4 old new → committed_slot new ≡ committed_slot old

@@ -1,6 +1,7 @@
 -- One sector of a device.
-use Rattle.ckpt_log.proofs.Names.{◌≡◌, ◌+◌, ◌*◌, ◌/◌, ◌++◌, ℕ, List, [], Result, Ok, Err, length, take, drop, refl, sym, ap, ◌∙◌, arith, append-nil, take_all}
-use Rattle.ckpt_log.proofs.Names.{OnOk, Image, Disk, Agrees, AreSectors, sectors_of, sectors_from, LeavesOnly, CountsNow, ends}
+use Rattle.ckpt_log.proofs.Names.{ℕ, List, [], Result, Ok, Err, length, take, drop, refl, sym, ap, arith, append-nil, take_all, OnOk, Image, Disk, Agrees}
+use Rattle.ckpt_log.proofs.Names.{AreSectors, sectors_of, sectors_from, LeavesOnly, CountsNow, ends}
+use Rattle.std.proofs.Common.{◌≡◌, ◌+◌, ◌*◌, ◌/◌, ◌++◌, ◌∙◌}
 
 pub one_sector : (bytes : List ℕ) → length bytes ≡ 512 → sectors_of bytes ≡ 1
 one_sector bytes size = ap (λ (n : ℕ). n / 512) size

@@ -1,7 +1,9 @@
 -- Which of the two header slots is the committed one.
-use Rattle.ckpt_log.proofs.Names.{◌≡◌, ◌<◌, ◌≤◌, ◌+◌, ◌*◌, ◌%◌, ◌⊎◌, ℕ, zero, suc, Bool, true, false, Option, Some, None, List, refl, sym, ap, subst, ◌∙◌, inl}
-use Rattle.ckpt_log.proofs.Names.{inr, ⊎_elim, arith, if◌then◌else◌, ◌==◌, and_parts, and_from, eqb-true, eq-eqb, le-ltb, lt-ltb, cases_lt, is_open}
-use Rattle.ckpt_log.proofs.Names.{committed_of, committed_slot, committed_bytes, option_at, does_count, sequence_in, Image, Elsewhere}
+use Rattle.ckpt_log.proofs.Names.{ℕ, zero, suc, Bool, true, false, Option, Some, None, List, refl, sym, ap, subst, inl, inr, ⊎_elim, arith, and_parts, and_from}
+use Rattle.ckpt_log.proofs.Names.{eqb-true, eq-eqb, le-ltb, lt-ltb, cases_lt, is_open, committed_of, committed_slot, committed_bytes, option_at, does_count}
+use Rattle.ckpt_log.proofs.Names.{sequence_in, Image, Elsewhere}
+use Rattle.std.proofs.Common.{◌≡◌, ◌<◌, ◌≤◌, ◌+◌, ◌*◌, ◌%◌, ◌⊎◌, ◌∙◌}
+use Rattle.std.specs.Prelude.{if◌then◌else◌, ◌==◌}
 
 -- ---- of two slots
 

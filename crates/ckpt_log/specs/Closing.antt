@@ -1,6 +1,7 @@
 -- What is left where the gates of both headers are closed, so that none is committed.
-use Rattle.ckpt_log.specs.Names.{◌≡◌, ◌⊎◌, ℕ, nat_lt, true, false, is_open, HasNoHeader, committed_bytes, sequence_in}
-use Rattle.ckpt_log.specs.Names.{Image, Disk}
+use Rattle.ckpt_log.specs.Names.{ℕ, nat_lt, true, false, is_open, HasNoHeader, committed_bytes, sequence_in, Image}
+use Rattle.ckpt_log.specs.Names.{Disk}
+use Rattle.std.specs.Prelude.{◌≡◌, ◌⊎◌}
 
 -- both gates are closed
 pub record AreClosed (image : Image) : Type 0 where

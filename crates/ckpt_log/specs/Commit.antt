@@ -1,7 +1,7 @@
 -- What a commit writes, and what a crash in its course leaves.
-use Rattle.ckpt_log.specs.Names.{◌≡◌, ◌⊎◌, ℕ, ◌+◌, ◌*◌, ◌%◌, if◌then◌else◌, Some, List, CheckpointHeader, Closed}
-use Rattle.ckpt_log.specs.Names.{gate_bytes, is_open, header_bytes, committed_bytes, sequence_in, Image, Disk}
-use Rattle.ckpt_log.specs.Names.{Elsewhere}
+use Rattle.ckpt_log.specs.Names.{ℕ, Some, List, CheckpointHeader, Closed, gate_bytes, is_open, header_bytes}
+use Rattle.ckpt_log.specs.Names.{committed_bytes, sequence_in, Image, Disk, Elsewhere}
+use Rattle.std.specs.Prelude.{◌≡◌, ◌⊎◌, ◌+◌, ◌*◌, ◌%◌, if◌then◌else◌}
 
 -- the sector of a header, in the slot of its sequence number; its gate is the next one
 abbrev pub header_sector : CheckpointHeader → ℕ

@@ -1,7 +1,8 @@
 -- What a device denotes after a commit, and after a crash in its course.
-use Rattle.ckpt_log.specs.Names.{◌≡◌, ℕ, ◌+◌, ◌<◌, ◌≤◌, List, length, Image, Elsewhere, Entry, IsHeader, IsFrameOf}
-use Rattle.ckpt_log.specs.Names.{Plan, IsPlan, home_place, HasPlan, HasDirectory, SavedState, Encodes, frame_in}
-use Rattle.ckpt_log.specs.Names.{frame_sector, committed_bytes, IsObject, frame_at, CheckpointHeader}
+use Rattle.ckpt_log.specs.Names.{ℕ, List, length, Image, Elsewhere, Entry, IsHeader, IsFrameOf, Plan, IsPlan}
+use Rattle.ckpt_log.specs.Names.{home_place, HasPlan, HasDirectory, SavedState, Encodes, frame_in, frame_sector}
+use Rattle.ckpt_log.specs.Names.{committed_bytes, IsObject, frame_at, CheckpointHeader}
+use Rattle.std.specs.Prelude.{◌≡◌, ◌+◌, ◌<◌, ◌≤◌}
 use Rattle.ckpt_log.specs.Commit.{header_sector, HasNew}
 
 -- home frames lie behind the headers

@@ -1,7 +1,7 @@
 -- What a header's bytes say, and what lies apart from the headers.
-use Rattle.ckpt_log.specs.Names.{◌≡◌, ℕ, ◌+◌, ◌^◌, ◌<◌, ◌≤◌, List, Entry, CheckpointHeader, header_bytes, IsHeader}
-use Rattle.ckpt_log.specs.Names.{Plan, IsPlan, sequence_in, bytes_at, frame_in, frame_sector, slot_sector, directory_in}
-use Rattle.ckpt_log.specs.Names.{Image, Elsewhere}
+use Rattle.ckpt_log.specs.Names.{ℕ, List, Entry, CheckpointHeader, header_bytes, IsHeader, Plan, IsPlan, sequence_in}
+use Rattle.ckpt_log.specs.Names.{bytes_at, frame_in, frame_sector, slot_sector, directory_in, Image, Elsewhere}
+use Rattle.std.specs.Prelude.{◌≡◌, ◌+◌, ◌^◌, ◌<◌, ◌≤◌}
 use Rattle.ckpt_log.specs.Commit.{header_sector, Commits, Precedes}
 use Rattle.ckpt_log.specs.SavedSectors.{SameFrom}
 

@@ -1,7 +1,8 @@
 -- Which header in the log is committed, and which objects its directory names.
-use Rattle.ckpt_log.specs.Names.{◌≡◌, ℕ, Option, Some, None, List, take, ⊤, BadImage, Entry, CheckpointHeader}
-use Rattle.ckpt_log.specs.Names.{header_bytes, IsHeader, Image, HasHeader, HasDirectory, HasNoHeader, HasBadHeader}
-use Rattle.ckpt_log.specs.Names.{HasBadDirectory, Plan, ReadFault}
+use Rattle.ckpt_log.specs.Names.{ℕ, Option, Some, None, List, take, ⊤, BadImage, Entry, CheckpointHeader, header_bytes}
+use Rattle.ckpt_log.specs.Names.{IsHeader, Image, HasHeader, HasDirectory, HasNoHeader, HasBadHeader, HasBadDirectory}
+use Rattle.ckpt_log.specs.Names.{Plan, ReadFault}
+use Rattle.std.specs.Prelude.{◌≡◌}
 use Rattle.layout.specs.declared.bad_image.BadImage.TheVariants as bad
 use Rattle.ckpt_log.specs.declared.header_slot.HeaderSlot.{HeaderSlot}
 use Rattle.ckpt_log.specs.declared.header_slot.HeaderSlot.TheVariants.{First, Second}

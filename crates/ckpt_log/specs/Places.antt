@@ -1,6 +1,7 @@
 -- The slots and the directories of the log lie behind the headers, before the end, and apart.
-use Rattle.ckpt_log.specs.Names.{◌≡◌, ℕ, ◌%◌, ◌<◌, ◌≤◌, Extent, Plan, IsPlan, IsWithin, IsApart, IsInside, half_extent}
-use Rattle.ckpt_log.specs.Names.{place_length, half_sector, slot_sector, directory_sector, directory_length}
+use Rattle.ckpt_log.specs.Names.{ℕ, Extent, Plan, IsPlan, IsWithin, IsApart, IsInside, half_extent, place_length}
+use Rattle.ckpt_log.specs.Names.{half_sector, slot_sector, directory_sector, directory_length}
+use Rattle.std.specs.Prelude.{◌≡◌, ◌%◌, ◌<◌, ◌≤◌}
 
 -- the sectors of a slot in the half of a generation
 abbrev pub slot_extent : Plan → ℕ → ℕ → Extent

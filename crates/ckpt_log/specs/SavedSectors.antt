@@ -1,7 +1,8 @@
 -- The sectors that a saved state is read from.
-use Rattle.ckpt_log.specs.Names.{◌≡◌, ℕ, ◌+◌, ◌<◌, List, Entry, CheckpointHeader, Image, place_length, HasDirectory}
-use Rattle.ckpt_log.specs.Names.{frame_in, frame_sector, directory_sector, directory_length, SavedState, Encodes}
-use Rattle.ckpt_log.specs.Names.{committed_slot, committed_bytes, Plan}
+use Rattle.ckpt_log.specs.Names.{ℕ, List, Entry, CheckpointHeader, Image, place_length, HasDirectory, frame_in}
+use Rattle.ckpt_log.specs.Names.{frame_sector, directory_sector, directory_length, SavedState, Encodes, committed_slot}
+use Rattle.ckpt_log.specs.Names.{committed_bytes, Plan}
+use Rattle.std.specs.Prelude.{◌≡◌, ◌+◌, ◌<◌}
 
 -- the same bytes in n sectors from one on
 abbrev pub SameFrom : ℕ → ℕ → Image → Image → Type 0

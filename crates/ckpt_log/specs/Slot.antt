@@ -1,6 +1,7 @@
 -- What the slots of the log and its directories hold.
-use Rattle.ckpt_log.specs.Names.{◌≡◌, ℕ, List, ⊤, Frame, Geometry, BadDirectory, Entry, directory_bytes, IsDirectory}
+use Rattle.ckpt_log.specs.Names.{ℕ, List, ⊤, Frame, Geometry, BadDirectory, Entry, directory_bytes, IsDirectory}
 use Rattle.ckpt_log.specs.Names.{IsFrameOf, frame_bytes, ReadFault, Failed, Bad, IsRefused}
+use Rattle.std.specs.Prelude.{◌≡◌}
 
 -- bytes are refused where they spell no directory
 abbrev pub IsBadDirectory : Geometry → List ℕ → ReadFault → Type 0

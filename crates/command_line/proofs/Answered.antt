@@ -1,9 +1,10 @@
 -- Words that the command takes name a job, unless they are an upgrade of one word to itself.
-use Rattle.command_line.proofs.Names.{◌≡◌, ◌∙◌, ◌&&◌, ◌||◌, is_some, not, suc, arith, length, option_map, refl, sym, subst, ap, List, [], ◌∷◌, Bool, drop, true}
-use Rattle.command_line.proofs.Names.{false, Option, Some, None, true≢false, codes, inl, inr, list_any, option_map_or, bytes_eq, eqb-true, bytes_eq-Decides}
-use Rattle.command_line.proofs.Names.{answers_to, is_empty, nothing_held, stop_after, Command, ArgMatches, HasMatchesOf, Shape, app_of, built, entered}
-use Rattle.command_line.proofs.Names.{is_simple, label_of, names_of, rows_at, subcommand_of, entered_passes, level_passes, takes, both, has_all, is_whole}
-use Rattle.command_line.proofs.Names.{subcommand_named, eros_app, NamesJob, NamesNone, Job, AsksForSame}
+use Rattle.command_line.proofs.Names.{is_some, not, suc, arith, length, option_map, refl, sym, subst, ap, List, [], Bool, drop, true, false, Option, Some, None}
+use Rattle.command_line.proofs.Names.{true≢false, codes, inl, inr, list_any, option_map_or, bytes_eq, eqb-true, bytes_eq-Decides, answers_to, is_empty}
+use Rattle.command_line.proofs.Names.{nothing_held, stop_after, Command, ArgMatches, HasMatchesOf, Shape, app_of, built, entered, is_simple, label_of, names_of}
+use Rattle.command_line.proofs.Names.{rows_at, subcommand_of, entered_passes, level_passes, takes, both, has_all, is_whole, subcommand_named, eros_app}
+use Rattle.command_line.proofs.Names.{NamesJob, NamesNone, Job, AsksForSame}
+use Rattle.std.proofs.Common.{◌≡◌, ◌∙◌, ◌&&◌, ◌||◌, ◌∷◌}
 use Rattle.clap.specs.Walk.{Text}
 use Rattle.clap.specs.Simple.{App, subcommand_rows_of}
 use Rattle.command_line.proofs.Lacking.{found}

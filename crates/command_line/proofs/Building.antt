@@ -1,6 +1,7 @@
 -- What a command is once a subcommand or an argument is added.
-use Rattle.command_line.proofs.Names.{◌≡◌, ◌∙◌, ◌||◌, false, ap, ap₂, IfOk, Result, Ok, Err, AddsArg, AddsSubcommand, App, Rule, rule_of, with_rule}
-use Rattle.command_line.proofs.Names.{with_subcommand, Arg, Command, IsCommand}
+use Rattle.command_line.proofs.Names.{false, ap, ap₂, IfOk, Result, Ok, Err, AddsArg, AddsSubcommand, App, Rule, rule_of, with_rule, with_subcommand, Arg}
+use Rattle.command_line.proofs.Names.{Command, IsCommand}
+use Rattle.std.proofs.Common.{◌≡◌, ◌∙◌, ◌||◌}
 
 pub added : (a b : App) (old sub new : Command) → AddsSubcommand old sub new → IsCommand a old → IsCommand b sub → IsCommand (with_subcommand a b.top) new
 added a b old sub new adds is_old is_sub = (

@@ -1,8 +1,9 @@
 -- What the getters of the matches give.
-use Rattle.command_line.proofs.Names.{◌≡◌, ◌∙◌, ap, subst, sym, Bool, true, false, true≢false, Option, Some, None, List, codes, map, option_map, Bor, Box}
-use Rattle.command_line.proofs.Names.{IfSome, unwrap_or, box_value, bytes_eq, bytes_eq-Decides, Row, Text, all_of, first_of, first_value, matched_of}
-use Rattle.command_line.proofs.Names.{raw_values, rows_of, subcommand_name_of, subcommand_rows, subcommand_rows_of, ArgMatches, SubCommand, out-ArgMatches}
-use Rattle.command_line.proofs.Names.{out-SubCommand, Found, first_value-rows, raw_values-rows, IsFlag, IsGiven}
+use Rattle.command_line.proofs.Names.{ap, subst, sym, Bool, true, false, true≢false, Option, Some, None, List, codes, map, option_map, Bor, Box, IfSome}
+use Rattle.command_line.proofs.Names.{unwrap_or, box_value, bytes_eq, bytes_eq-Decides, Row, Text, all_of, first_of, first_value, matched_of, raw_values}
+use Rattle.command_line.proofs.Names.{rows_of, subcommand_name_of, subcommand_rows, subcommand_rows_of, ArgMatches, SubCommand, out-ArgMatches, out-SubCommand}
+use Rattle.command_line.proofs.Names.{Found, first_value-rows, raw_values-rows, IsFlag, IsGiven}
+use Rattle.std.proofs.Common.{◌≡◌, ◌∙◌}
 
 -- the subcommand that was met is that of its name and its rows
 module _ {Z : Type 0} where

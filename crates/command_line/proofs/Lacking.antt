@@ -1,10 +1,11 @@
 -- Rows that lack an argument, or have a wrong one, name no job.
-use Rattle.command_line.proofs.Names.{◌≡◌, ◌∙◌, ◌&&◌, ◌||◌, ◌⊎◌, ap, refl, subst, sym, Bool, ℕ, suc, arith, not, Option, Some, None, List, [], ◌∷◌, length}
-use Rattle.command_line.proofs.Names.{option_map, true, false, true≢false, inl, inr, codes, ⊤, cond, find, nat_lt, option_and_then, slice_get, unwrap_or, All}
-use Rattle.command_line.proofs.Names.{list_all, list_any, slice_index_or, option_map_or, bytes_eq, eqb-true, AllPass-from_list_all, bytes_eq-Decides}
-use Rattle.command_line.proofs.Names.{parser_of_value, Shape, built, label_of, values_pass, accepts, answers_to, arg_by_id, is_empty, IsUnsignedIn, Row, Rule}
-use Rattle.command_line.proofs.Names.{Text, all_of, first_of, ValueParser, Unsigned, accepts-Accepts, both, GivesNoNumber, has_all, is_filled, is_whole}
-use Rattle.command_line.proofs.Names.{subcommand_named, eros_app, IsNoJob, IsSameTwice}
+use Rattle.command_line.proofs.Names.{ap, refl, subst, sym, Bool, ℕ, suc, arith, not, Option, Some, None, List, [], length, option_map, true, false, true≢false}
+use Rattle.command_line.proofs.Names.{inl, inr, codes, ⊤, cond, find, nat_lt, option_and_then, slice_get, unwrap_or, All, list_all, list_any, slice_index_or}
+use Rattle.command_line.proofs.Names.{option_map_or, bytes_eq, eqb-true, AllPass-from_list_all, bytes_eq-Decides, parser_of_value, Shape, built, label_of}
+use Rattle.command_line.proofs.Names.{values_pass, accepts, answers_to, arg_by_id, is_empty, IsUnsignedIn, Row, Rule, Text, all_of, first_of, ValueParser}
+use Rattle.command_line.proofs.Names.{Unsigned, accepts-Accepts, both, GivesNoNumber, has_all, is_filled, is_whole, subcommand_named, eros_app, IsNoJob}
+use Rattle.command_line.proofs.Names.{IsSameTwice}
+use Rattle.std.proofs.Common.{◌≡◌, ◌∙◌, ◌&&◌, ◌||◌, ◌⊎◌, ◌∷◌}
 
 -- what is found passes its test, and each test that all pass
 pub found : {X : Type 0} (p q : X → Bool) (xs : List X) (x : X) → find p xs ≡ Some x → list_all q xs ≡ true → (p x ≡ true) × (q x ≡ true)

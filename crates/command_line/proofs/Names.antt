@@ -35,8 +35,7 @@ pub use Rattle.clap.specs.declared.parser.matches.SubCommand.{SubCommand}
 pub use Rattle.clap.specs.declared.parser.matches.ValueSource.{ValueSource}
 pub use Rattle.clap.specs.declared.parser.matches.ValueSource.TheVariants.{CommandLine, DefaultValue}
 pub use Rattle.std.proofs.Common.{Bool, Err, IfOk, IsNone, List, None, Ok, Option, Result, Some, [], ap, ap₂, arith, codes, drop, false, get_or, inl, inr}
-pub use Rattle.std.proofs.Common.{is_some, length, map, not, option_map, refl, rules, subst, suc, sym, take, true, true≢false, zero, ℕ, ◌&&◌, ◌++◌, ◌+◌, ◌<◌}
-pub use Rattle.std.proofs.Common.{◌||◌, ◌∙◌, ◌∷◌, ◌≡◌, ◌≤◌, ◌⊎◌}
+pub use Rattle.std.proofs.Common.{is_some, length, map, not, option_map, refl, rules, subst, suc, sym, take, true, true≢false, zero, ℕ}
 pub use Rattle.std.proofs.lemmas.Bool.{eqb-true, leb-true, lt-ltb}
 pub use Rattle.std.proofs.lemmas.List.{get_or-map, length-map, map-append, take_all, take_more}
 pub use Rattle.std.proofs.lemmas.List.Elements.{All-get_or, All-more}

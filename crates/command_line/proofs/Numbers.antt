@@ -1,7 +1,7 @@
 -- Words that write numbers, one after the other.
-use Rattle.command_line.proofs.Names.{◌≡◌, ◌∙◌, ◌<◌, ◌≤◌, ◌+◌, ap, ap₂, sym, subst, ℕ, List, [], ◌∷◌, ◌++◌, length, take, map, get_or, Bor, All, get_or-map}
-use Rattle.command_line.proofs.Names.{length-map, map-append, take_all, take_more, All-get_or, All-more, IsUnsignedIn, Text, IsNumber, number_of, texts_of}
-use Rattle.command_line.proofs.Names.{greatest_number}
+use Rattle.command_line.proofs.Names.{ap, ap₂, sym, subst, ℕ, List, [], length, take, map, get_or, Bor, All, get_or-map, length-map, map-append, take_all}
+use Rattle.command_line.proofs.Names.{take_more, All-get_or, All-more, IsUnsignedIn, Text, IsNumber, number_of, texts_of, greatest_number}
+use Rattle.std.proofs.Common.{◌≡◌, ◌∙◌, ◌<◌, ◌≤◌, ◌+◌, ◌∷◌, ◌++◌}
 
 -- what stands for a word where there is none
 abbrev pub no_word : Bor Text

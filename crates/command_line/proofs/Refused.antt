@@ -1,6 +1,7 @@
 -- What the error of a parse becomes.
-use Rattle.command_line.proofs.Names.{◌≡◌, ◌⊎◌, inl, inr, refl, subst, sym, Bool, true, false, List, App, HasKind, Text, fault_of, is_simple_and_free, kind_of}
-use Rattle.command_line.proofs.Names.{Command, Error, OutOfMemory, ValueValidation, eros_app, Explains, IsFaultOf, IsRefused, AsksForSame, JobFault}
+use Rattle.command_line.proofs.Names.{inl, inr, refl, subst, sym, Bool, true, false, List, App, HasKind, Text, fault_of, is_simple_and_free, kind_of, Command}
+use Rattle.command_line.proofs.Names.{Error, OutOfMemory, ValueValidation, eros_app, Explains, IsFaultOf, IsRefused, AsksForSame, JobFault}
+use Rattle.std.proofs.Common.{◌≡◌, ◌⊎◌}
 use Rattle.clap.specs.Words.{app_of, subcommand_of, takes}
 use Rattle.command_line.specs.declared.fault.JobFault.TheVariants as fault
 

@@ -1,18 +1,19 @@
 -- A parse that takes the words leaves each argument the values that it takes, and enters no help.
-use Rattle.command_line.proofs.Names.{◌≡◌, ◌<◌, ◌≤◌, ◌&&◌, ◌||◌, ℕ, zero, suc, not, is_some, refl, sym, subst, ap, ap₂, ◌∙◌, arith, List, [], ◌∷◌, ◌++◌, Bool}
-use Rattle.command_line.proofs.Names.{length, drop, true, false, Option, Some, None, true≢false, ⊤, cond, encode_utf8, fold, find, nat_le, nat_lt, slice_get}
-use Rattle.command_line.proofs.Names.{option_map_or, list_all, list_any, bytes_eq, chars, eqb-true, leb-true, lt-ltb, list_all-append, bytes_eq-Decides}
-use Rattle.command_line.proofs.Names.{long_of, short_of, is_request, ArgAction, Set, Append, SetTrue, SetFalse, Count, Help, HelpShort, HelpLong, Version}
-use Rattle.command_line.proofs.Names.{ValueSource, CommandLine, DefaultValue, explicit_source, unwrap_or_range, Held, Names, Outcome, Step, Waiting, Walk}
-use Rattle.command_line.proofs.Names.{action_of, after_flag, after_step, arg_by_id, arg_by_index, arg_by_long, arg_by_short, at_row, attached_value, bundle}
-use Rattle.command_line.proofs.Names.{bundle_met, bundle_step, default_rows, done, finished, flag_met, has_row, idle, is_empty, is_pending, long_met}
-use Rattle.command_line.proofs.Names.{long_or_other, more_values, next, nothing_held, option, option_met, option_word, plain, plain_word, positional}
-use Rattle.command_line.proofs.Names.{positional_held, reacted, reading_by, refused, settled, settled_rows, short_met, short_or_plain, subcommand}
-use Rattle.command_line.proofs.Names.{subcommand_met, subcommand_or_other, takes_several, takes_values, to_positional, trailing, used, used_as, used_by_id}
-use Rattle.command_line.proofs.Names.{value, values_or_missing, waits, walk, walk_from, walked, walked_from, with_default, with_values, without, word_met}
-use Rattle.command_line.proofs.Names.{Shape, action_passes, bundle_passes, bundle_step_passes, default_passes, flag_word_passes, flags_pass, is_given}
-use Rattle.command_line.proofs.Names.{level_passes, long_passes, option_passes, other_passes, positional_passes, react_passes, settle_passes, short_passes}
-use Rattle.command_line.proofs.Names.{step_passes, use_passes, values_pass, walk_passes, word_passes, both, is_filled, is_whole}
+use Rattle.command_line.proofs.Names.{ℕ, zero, suc, not, is_some, refl, sym, subst, ap, ap₂, arith, List, [], Bool, length, drop, true, false, Option, Some}
+use Rattle.command_line.proofs.Names.{None, true≢false, ⊤, cond, encode_utf8, fold, find, nat_le, nat_lt, slice_get, option_map_or, list_all, list_any}
+use Rattle.command_line.proofs.Names.{bytes_eq, chars, eqb-true, leb-true, lt-ltb, list_all-append, bytes_eq-Decides, long_of, short_of, is_request, ArgAction}
+use Rattle.command_line.proofs.Names.{Set, Append, SetTrue, SetFalse, Count, Help, HelpShort, HelpLong, Version, ValueSource, CommandLine, DefaultValue}
+use Rattle.command_line.proofs.Names.{explicit_source, unwrap_or_range, Held, Names, Outcome, Step, Waiting, Walk, action_of, after_flag, after_step, arg_by_id}
+use Rattle.command_line.proofs.Names.{arg_by_index, arg_by_long, arg_by_short, at_row, attached_value, bundle, bundle_met, bundle_step, default_rows, done}
+use Rattle.command_line.proofs.Names.{finished, flag_met, has_row, idle, is_empty, is_pending, long_met, long_or_other, more_values, next, nothing_held, option}
+use Rattle.command_line.proofs.Names.{option_met, option_word, plain, plain_word, positional, positional_held, reacted, reading_by, refused, settled}
+use Rattle.command_line.proofs.Names.{settled_rows, short_met, short_or_plain, subcommand, subcommand_met, subcommand_or_other, takes_several, takes_values}
+use Rattle.command_line.proofs.Names.{to_positional, trailing, used, used_as, used_by_id, value, values_or_missing, waits, walk, walk_from, walked, walked_from}
+use Rattle.command_line.proofs.Names.{with_default, with_values, without, word_met, Shape, action_passes, bundle_passes, bundle_step_passes, default_passes}
+use Rattle.command_line.proofs.Names.{flag_word_passes, flags_pass, is_given, level_passes, long_passes, option_passes, other_passes, positional_passes}
+use Rattle.command_line.proofs.Names.{react_passes, settle_passes, short_passes, step_passes, use_passes, values_pass, walk_passes, word_passes, both}
+use Rattle.command_line.proofs.Names.{is_filled, is_whole}
+use Rattle.std.proofs.Common.{◌≡◌, ◌<◌, ◌≤◌, ◌&&◌, ◌||◌, ◌∙◌, ◌∷◌, ◌++◌}
 use Rattle.std.specs.Prelude.{codes}
 use Rattle.clap.specs.Walk.{Row, Rule, Text}
 

@@ -1,14 +1,14 @@
 -- The order of a bank of a closed set stays in the set.
-use Rattle.confinement.proofs.Names.{◌≡◌, ◌≢◌, ◌⊎◌, inl, inr, ℕ, ◌+◌, ◌==◌, ◌<◌, ◌≤◌, nat_eq, Bool, true, false, not, ◌&&◌, if◌then◌else◌, List, [], ◌∷◌}
-use Rattle.confinement.proofs.Names.{length, refl, sym, ap, subst, arith, ◌∙◌, IsTrue, slice_index_or, range_with_len, false≢true, cases_eq, and_parts}
-use Rattle.confinement.proofs.Names.{or_cases, or_right, not-true, eqb-true, eqb-false, Capability, Void, Page, Node, Process, Bank, Geometry, Content, Object}
-use Rattle.confinement.proofs.Names.{Arguments, BankOrder, ResultCode, chain, is_under, allocated, are_free, bank_allocated, free_nodes, free_pages, freed}
-use Rattle.confinement.proofs.Names.{freed_by, has_quota, inherited, new_annex, new_node, new_page, new_root, on_bank, process_allocated, under, with_new}
-use Rattle.confinement.proofs.Names.{StaysInside, is_bank, is_free, is_root, root_in, slots_in, OrderOutcome, refused, is_member, rescind, NamesItsKind}
-use Rattle.confinement.proofs.Names.{annex_at, content_at, object_at, owner_at, chosen, tree_induction, under_found, used_where, inherited_content}
-use Rattle.confinement.proofs.Names.{inherited_object, IsTree, at_new, at_other, chain_unfolds, chain_zero, length_new, member_head, tree_of, AllDiffer}
-use Rattle.confinement.proofs.Names.{filter_once, found_in, member_cases, only_member, IsNow, holds_void, Encloses, IsKept, StaysWithin}
-use Rattle.std.proofs.Common.{nat_lt}
+use Rattle.confinement.proofs.Names.{inl, inr, ℕ, nat_eq, Bool, true, false, not, List, [], length, refl, sym, ap, subst, arith, IsTrue, slice_index_or}
+use Rattle.confinement.proofs.Names.{range_with_len, false≢true, cases_eq, and_parts, or_cases, or_right, not-true, eqb-true, eqb-false, Capability, Void, Page}
+use Rattle.confinement.proofs.Names.{Node, Process, Bank, Geometry, Content, Object, Arguments, BankOrder, ResultCode, chain, is_under, allocated, are_free}
+use Rattle.confinement.proofs.Names.{bank_allocated, free_nodes, free_pages, freed, freed_by, has_quota, inherited, new_annex, new_node, new_page, new_root}
+use Rattle.confinement.proofs.Names.{on_bank, process_allocated, under, with_new, StaysInside, is_bank, is_free, is_root, root_in, slots_in, OrderOutcome}
+use Rattle.confinement.proofs.Names.{refused, is_member, rescind, NamesItsKind, annex_at, content_at, object_at, owner_at, chosen, tree_induction, under_found}
+use Rattle.confinement.proofs.Names.{used_where, inherited_content, inherited_object, IsTree, at_new, at_other, chain_unfolds, chain_zero, length_new}
+use Rattle.confinement.proofs.Names.{member_head, tree_of, AllDiffer, filter_once, found_in, member_cases, only_member, IsNow, holds_void, Encloses, IsKept}
+use Rattle.confinement.proofs.Names.{StaysWithin}
+use Rattle.std.proofs.Common.{◌≡◌, ◌≢◌, ◌⊎◌, ◌+◌, ◌==◌, ◌<◌, ◌≤◌, ◌&&◌, if◌then◌else◌, ◌∷◌, ◌∙◌, nat_lt}
 use Rattle.model.specs.declared.object.Content.TheVariants as content
 use Rattle.model.specs.declared.order.BankOrder.TheVariants as bank
 use Rattle.model.specs.declared.order.ResultCode.TheVariants as code

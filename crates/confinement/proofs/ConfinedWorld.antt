@@ -1,9 +1,9 @@
 -- The world with a confined process.
-use Rattle.confinement.proofs.Names.{◌≡◌, ℕ, zero, suc, false, List, [], ◌∷◌, ◌++◌, refl, sym, ◌∙◌, inl, inr, ⊎_elim, arith, All-from_recursion, All, IsTrue}
-use Rattle.confinement.proofs.Names.{replicate, slice_set, Access, Void, Node, Bank, Object, full, weak, StaysInside, all_slots, free, is_bank, is_free}
-use Rattle.confinement.proofs.Names.{zero_words, annex_at, content_at, is_process, owner_at, root_at, slot_at, with_content, with_slot, of_prime_bank, c0}
-use Rattle.confinement.proofs.Names.{confined, rows, ConfinedIsClosed, OutwardIsNotClosed, Each, each_after, each_at, holds_set, holds_void, IsRight, machine}
-use Rattle.confinement.proofs.Names.{rows_hold, IsRow}
+use Rattle.confinement.proofs.Names.{ℕ, zero, suc, false, List, [], refl, sym, inl, inr, ⊎_elim, arith, All-from_recursion, All, IsTrue, replicate, slice_set}
+use Rattle.confinement.proofs.Names.{Access, Void, Node, Bank, Object, full, weak, StaysInside, all_slots, free, is_bank, is_free, zero_words, annex_at}
+use Rattle.confinement.proofs.Names.{content_at, is_process, owner_at, root_at, slot_at, with_content, with_slot, of_prime_bank, c0, confined, rows}
+use Rattle.confinement.proofs.Names.{ConfinedIsClosed, OutwardIsNotClosed, Each, each_after, each_at, holds_set, holds_void, IsRight, machine, rows_hold, IsRow}
+use Rattle.std.proofs.Common.{◌≡◌, ◌∷◌, ◌++◌, ◌∙◌}
 use Rattle.model.specs.declared.object.Content.TheVariants as content
 
 -- what holds of each member

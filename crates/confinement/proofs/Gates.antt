@@ -1,11 +1,12 @@
 -- Invocations by a process of a set that encloses its members.
-use Rattle.confinement.proofs.Names.{◌≡◌, inl, inr, ℕ, zero, suc, Bool, Some, List, [], ◌∷◌, map, ◌∙◌, IsTrue, slice_index, slice_index_or, slice_set}
-use Rattle.confinement.proofs.Names.{and_parts, Capability, Void, Resume, Invocation, Message, Operation, Call, Geometry, Object, Root, State, Running}
-use Rattle.confinement.proofs.Names.{StaysInside, Effect, after_gate, after_order, deliver, invoke, on_kernel_object, ordered, replied, reply_of, sent_by}
-use Rattle.confinement.proofs.Names.{sent_to_gate, through_gate, is_running, OrderOutcome, consume, annex_at, is_process, is_running_process, register_at}
-use Rattle.confinement.proofs.Names.{root_at, with_root, with_slots_from, with_state, after_gate_by, after_order_by, invoked_by, replied_by, holds_replicate}
-use Rattle.confinement.proofs.Names.{at_set, IsAfter, after_state, held_sent, IsNow, IsHeld, Waits, held_on, held_to, nearly_from, state_at, frame_refl}
-use Rattle.confinement.proofs.Names.{tests_at, Encloses, InvocationIsConfined, StaysWithin}
+use Rattle.confinement.proofs.Names.{inl, inr, ℕ, zero, suc, Bool, Some, List, [], map, IsTrue, slice_index, slice_index_or, slice_set, and_parts, Capability}
+use Rattle.confinement.proofs.Names.{Void, Resume, Invocation, Message, Operation, Call, Geometry, Object, Root, State, Running, StaysInside, Effect}
+use Rattle.confinement.proofs.Names.{after_gate, after_order, deliver, invoke, on_kernel_object, ordered, replied, reply_of, sent_by, sent_to_gate}
+use Rattle.confinement.proofs.Names.{through_gate, is_running, OrderOutcome, consume, annex_at, is_process, is_running_process, register_at, root_at, with_root}
+use Rattle.confinement.proofs.Names.{with_slots_from, with_state, after_gate_by, after_order_by, invoked_by, replied_by, holds_replicate, at_set, IsAfter}
+use Rattle.confinement.proofs.Names.{after_state, held_sent, IsNow, IsHeld, Waits, held_on, held_to, nearly_from, state_at, frame_refl, tests_at, Encloses}
+use Rattle.confinement.proofs.Names.{InvocationIsConfined, StaysWithin}
+use Rattle.std.proofs.Common.{◌≡◌, ◌∷◌, ◌∙◌}
 use Rattle.confinement.proofs.Kept.{stays_consume, stays_refl, stays_root, stays_slots, stays_state, stays_trans}
 use Rattle.confinement.proofs.Banks.{OutcomeStays}
 use Rattle.confinement.proofs.Orders.{order_stays, strong}

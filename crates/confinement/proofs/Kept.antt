@@ -1,10 +1,11 @@
 -- From some objects to others while everything outside a set is kept.
-use Rattle.confinement.proofs.Names.{◌≡◌, ◌⊎◌, inl, inr, ℕ, suc, ◌+◌, Bool, true, false, ◌||◌, if◌then◌else◌, Option, None, Some, List, [], ◌∷◌, map, refl, sym}
-use Rattle.confinement.proofs.Names.{ap, subst, ◌∙◌, IsTrue, slice_index_or, eqb-true, or_cases, Capability, Void, Resume, Content, Object, Root, State, named}
-use Rattle.confinement.proofs.Names.{StaysInside, free, is_bank, is_free, is_root, map_content, root_in, slots_in, with_slot_in, with_word_in, consume}
-use Rattle.confinement.proofs.Names.{is_member, names_member, rescind, resumes, void_where, without, content_at, is_process, object_at, owner_at, root_at}
-use Rattle.confinement.proofs.Names.{with_content, with_root, with_slot, with_slots_from, with_state, with_word, chosen, one_of, at_rescind, void_void}
-use Rattle.confinement.proofs.Names.{without_mapped, at_content, at_set, object_consume, Encloses, IsKept, NamesInside, StaysWithin}
+use Rattle.confinement.proofs.Names.{inl, inr, ℕ, suc, Bool, true, false, Option, None, Some, List, [], map, refl, sym, ap, subst, IsTrue, slice_index_or}
+use Rattle.confinement.proofs.Names.{eqb-true, or_cases, Capability, Void, Resume, Content, Object, Root, State, named, StaysInside, free, is_bank, is_free}
+use Rattle.confinement.proofs.Names.{is_root, map_content, root_in, slots_in, with_slot_in, with_word_in, consume, is_member, names_member, rescind, resumes}
+use Rattle.confinement.proofs.Names.{void_where, without, content_at, is_process, object_at, owner_at, root_at, with_content, with_root, with_slot}
+use Rattle.confinement.proofs.Names.{with_slots_from, with_state, with_word, chosen, one_of, at_rescind, void_void, without_mapped, at_content, at_set}
+use Rattle.confinement.proofs.Names.{object_consume, Encloses, IsKept, NamesInside, StaysWithin}
+use Rattle.std.proofs.Common.{◌≡◌, ◌⊎◌, ◌+◌, ◌||◌, if◌then◌else◌, ◌∷◌, ◌∙◌}
 use Rattle.model.specs.declared.object.Content.TheVariants as content
 
 -- a content that may stand at a member of a set: it makes no bank of what was none

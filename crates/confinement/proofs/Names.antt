@@ -71,8 +71,8 @@ pub use Rattle.model_laws.proofs.SoundParts.{IsHeld, Waits, held_on, held_to, ne
 pub use Rattle.model_laws.proofs.SoundWorlds.{Each, each_after, each_at, holds_replicate, holds_set, holds_void}
 pub use Rattle.model_laws.proofs.Usage.{frame_refl, tests_at}
 pub use Rattle.model_laws.specs.Worked.{IsRow}
-pub use Rattle.std.proofs.Common.{Bool, Err, List, None, Ok, Option, Result, Some, [], ap, arith, false, if◌then◌else◌, inl, inr, length, map, nat_eq, not}
-pub use Rattle.std.proofs.Common.{refl, subst, suc, sym, true, zero, ℕ, ⊎_elim, ◌%◌, ◌&&◌, ◌++◌, ◌+◌, ◌/◌, ◌<◌, ◌==◌, ◌^◌, ◌||◌, ◌∙◌, ◌∷◌, ◌≡◌, ◌≢◌, ◌≤◌, ◌⊎◌}
+pub use Rattle.std.proofs.Common.{Bool, Err, List, None, Ok, Option, Result, Some, [], ap, arith, false, inl, inr, length, map, nat_eq, not, refl, subst, suc}
+pub use Rattle.std.proofs.Common.{sym, true, zero, ℕ, ⊎_elim}
 pub use Rattle.std.proofs.lemmas.Bool.{and_parts, cases_eq, eqb-false, eqb-true, false≢true, ltb-true, not-false, not-true, or_cases, or_left, or_right}
 pub use Rattle.std.proofs.lemmas.List.Elements.{All-from_recursion, All-head, All-tail}
 pub use Rattle.std.proofs.lemmas.Nat.{le_or_l, le_or_r}

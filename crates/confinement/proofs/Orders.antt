@@ -1,10 +1,11 @@
 -- Orders on what stays inside a set that encloses its members.
-use Rattle.confinement.proofs.Names.{◌≡◌, ◌⊎◌, inl, inr, ℕ, ◌==◌, Bool, true, false, not, ◌||◌, List, refl, arith, IsTrue, nat_lt, bit_or, eqb-true, eqb-false}
-use Rattle.confinement.proofs.Names.{or_cases, not-false, Access, Capability, Void, Number, Page, Node, Space, Process, Start, Bank, Discrim, Geometry, Object}
-use Rattle.confinement.proofs.Names.{State, Available, Running, Arguments, NodeOrder, PageOrder, ProcessOrder, on_bank, IsWeak, diminished, union, StaysInside}
-use Rattle.confinement.proofs.Names.{bank_order, fetched, is_space, node_order, on_node, on_page, on_process, order, page_order, process_order, reduces, stored}
+use Rattle.confinement.proofs.Names.{inl, inr, ℕ, Bool, true, false, not, List, refl, arith, IsTrue, nat_lt, bit_or, eqb-true, eqb-false, or_cases, not-false}
+use Rattle.confinement.proofs.Names.{Access, Capability, Void, Number, Page, Node, Space, Process, Start, Bank, Discrim, Geometry, Object, State, Available}
+use Rattle.confinement.proofs.Names.{Running, Arguments, NodeOrder, PageOrder, ProcessOrder, on_bank, IsWeak, diminished, union, StaysInside, bank_order}
+use Rattle.confinement.proofs.Names.{fetched, is_space, node_order, on_node, on_page, on_process, order, page_order, process_order, reduces, stored}
 use Rattle.confinement.proofs.Names.{with_root_word, with_space, consume, NamesItsKind, annex_at, is_process, root_at, slot_at, with_state, chosen, found_or}
 use Rattle.confinement.proofs.Names.{IsNow, IsHeld, Waits, Encloses, StaysWithin}
+use Rattle.std.proofs.Common.{◌≡◌, ◌⊎◌, ◌==◌, ◌||◌}
 use Rattle.model.specs.declared.order.NodeOrder.TheVariants as node
 use Rattle.model.specs.declared.order.PageOrder.TheVariants as page
 use Rattle.model.specs.declared.order.ProcessOrder.TheVariants as process

@@ -1,15 +1,15 @@
 -- Runs by processes of a closed set: each step stays in the set, with what was free.
-use Rattle.confinement.proofs.Names.{◌≡◌, ◌⊎◌, inl, inr, ℕ, suc, ◌+◌, ◌/◌, ◌%◌, ◌^◌, ◌==◌, ◌<◌, ◌≤◌, Bool, true, false, ◌&&◌, if◌then◌else◌, Option, None, Some}
-use Rattle.confinement.proofs.Names.{Result, Ok, Err, List, [], ◌∷◌, map, refl, sym, ap, subst, arith, ◌∙◌, IsTrue, nat_lt, bit_or, slice_index_or, and_parts}
-use Rattle.confinement.proofs.Names.{eqb-true, ltb-true, or_cases, or_left, or_right, All-head, All-tail, le_or_l, le_or_r, Access, Answer, MemoryFault}
-use Rattle.confinement.proofs.Names.{Malformed, ReadOnly, Refusal, Capability, Void, Number, Page, Node, Space, Process, Start, Resume, Bank, Discrim, Command}
-use Rattle.confinement.proofs.Names.{Invocation, Geometry, Line, Content, Object, named, union, IsClosed, StaysInside, Effect, invoke, Machine, Saved, Up, Down}
-use Rattle.confinement.proofs.Names.{renewing, is_bank, is_free, is_node, is_page, is_root, is_waiting, map_content, root_in, slots_in, void_where, IsRun}
-use Rattle.confinement.proofs.Names.{IsTurn, Replies, Turn, IsSound, NamesItsKind, Answers, Outcome, Step, carried_out, outcome, reached, refusal_of, opens}
-use Rattle.confinement.proofs.Names.{without_memory, writable, writing, Fits, Says, below, path, restricted, walk, walk_along, content_at, is_running_process}
-use Rattle.confinement.proofs.Names.{object_at, owner_at, root_at, slot_at, with_word, word_at, used_where, unless_passes, edited_word, invocation_keeps, Waits}
-use Rattle.confinement.proofs.Names.{nearly_from, nearly_to, nearly_weaken, AreBy, Encloses, InvocationIsConfined, IsBy, IsKept, IsLineBy, NamesInside}
-use Rattle.confinement.proofs.Names.{RunIsConfined, StaysWithin, with_free}
+use Rattle.confinement.proofs.Names.{inl, inr, ℕ, suc, Bool, true, false, Option, None, Some, Result, Ok, Err, List, [], map, refl, sym, ap, subst, arith}
+use Rattle.confinement.proofs.Names.{IsTrue, nat_lt, bit_or, slice_index_or, and_parts, eqb-true, ltb-true, or_cases, or_left, or_right, All-head, All-tail}
+use Rattle.confinement.proofs.Names.{le_or_l, le_or_r, Access, Answer, MemoryFault, Malformed, ReadOnly, Refusal, Capability, Void, Number, Page, Node, Space}
+use Rattle.confinement.proofs.Names.{Process, Start, Resume, Bank, Discrim, Command, Invocation, Geometry, Line, Content, Object, named, union, IsClosed}
+use Rattle.confinement.proofs.Names.{StaysInside, Effect, invoke, Machine, Saved, Up, Down, renewing, is_bank, is_free, is_node, is_page, is_root, is_waiting}
+use Rattle.confinement.proofs.Names.{map_content, root_in, slots_in, void_where, IsRun, IsTurn, Replies, Turn, IsSound, NamesItsKind, Answers, Outcome, Step}
+use Rattle.confinement.proofs.Names.{carried_out, outcome, reached, refusal_of, opens, without_memory, writable, writing, Fits, Says, below, path, restricted}
+use Rattle.confinement.proofs.Names.{walk, walk_along, content_at, is_running_process, object_at, owner_at, root_at, slot_at, with_word, word_at, used_where}
+use Rattle.confinement.proofs.Names.{unless_passes, edited_word, invocation_keeps, Waits, nearly_from, nearly_to, nearly_weaken, AreBy, Encloses}
+use Rattle.confinement.proofs.Names.{InvocationIsConfined, IsBy, IsKept, IsLineBy, NamesInside, RunIsConfined, StaysWithin, with_free}
+use Rattle.std.proofs.Common.{◌≡◌, ◌⊎◌, ◌+◌, ◌/◌, ◌%◌, ◌^◌, ◌==◌, ◌<◌, ◌≤◌, ◌&&◌, if◌then◌else◌, ◌∷◌, ◌∙◌}
 use Rattle.model.specs.Machine.{Running}
 use Rattle.model.specs.declared.answer.Answer.TheVariants as answer
 use Rattle.model.specs.declared.command.Command.TheVariants as command

@@ -1,5 +1,6 @@
 -- Frames that were only read.
-use Rattle.consistency.proofs.Names.{◌≡◌, OnlyFetches, Parts}
+use Rattle.consistency.proofs.Names.{OnlyFetches, Parts}
+use Rattle.std.proofs.Common.{◌≡◌}
 
 module _ {S : Type 0} (parts : S → Parts) (Continues : S → S → Type 0) where
   -- frames were only read, and the device didn't fail

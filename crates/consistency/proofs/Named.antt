@@ -1,7 +1,8 @@
 -- What objects hold, and whether it is named.
-use Rattle.consistency.proofs.Names.{◌≡◌, ◌+◌, ◌↔◌, ℕ, ◌<◌, ◌≤◌, inl, inr, Bool, true, List, [], ◌∷◌, length, slice_index_or, refl, sym, ap, ◌∙◌, subst, arith}
-use Rattle.consistency.proofs.Names.{IsTrue, nat_lt, All, cases_lt, lt-ltb, ltb-true, get_or_default, All-from_get_or, Cap, Frame, ObjectHeader, Content, Role}
-use Rattle.consistency.proofs.Names.{Root, current_count, frame_at, headers, caps_in, role_of, Parts, frames_of, AreNamed, IsNamed, NamesItsRole}
+use Rattle.consistency.proofs.Names.{ℕ, inl, inr, Bool, true, List, [], length, slice_index_or, refl, sym, ap, subst, arith, IsTrue, nat_lt, All, cases_lt}
+use Rattle.consistency.proofs.Names.{lt-ltb, ltb-true, get_or_default, All-from_get_or, Cap, Frame, ObjectHeader, Content, Role, Root, current_count, frame_at}
+use Rattle.consistency.proofs.Names.{headers, caps_in, role_of, Parts, frames_of, AreNamed, IsNamed, NamesItsRole}
+use Rattle.std.proofs.Common.{◌≡◌, ◌+◌, ◌↔◌, ◌<◌, ◌≤◌, ◌∷◌, ◌∙◌}
 use Rattle.model.specs.declared.object.Content.TheVariants as content
 use Rattle.model.specs.declared.object.Role.TheVariants as role
 use Rattle.consistency.proofs.Tables.{frame_beyond, table_read}

@@ -26,7 +26,7 @@ pub use Rattle.model.specs.declared.object.Root.{Root}
 pub use Rattle.model_laws.proofs.BankTree.{IsTree}
 pub use Rattle.model_laws.proofs.SoundParts.{IsFilled, IsFramed, IsHeld, Waits, held_from, held_void, nearly_to}
 pub use Rattle.std.proofs.Common.{Bool, List, None, Option, Some, [], ap, arith, false, inl, inr, length, map, refl, rules, slice_index, slice_index_or, subst}
-pub use Rattle.std.proofs.Common.{suc, sym, true, vec_len, zero, zero-add, ℕ, ◌+◌, ◌-◌, ◌<◌, ◌==◌, ◌^◌, ◌||◌, ◌↔◌, ◌∙◌, ◌∷◌, ◌≡◌, ◌≢◌, ◌≤◌}
+pub use Rattle.std.proofs.Common.{suc, sym, true, vec_len, zero, zero-add, ℕ}
 pub use Rattle.std.proofs.Math.ListN.{get_or-map}
 pub use Rattle.std.proofs.lemmas.Bool.{cases_eq, cases_lt, eq-eqb, eqb-true, le-ltb, lt-ltb, ltb-false, ltb-true}
 pub use Rattle.std.proofs.lemmas.List.{get_or-set_other, get_or-set_same, get_or_default, get_or_past, length-map}
@@ -34,7 +34,7 @@ pub use Rattle.std.proofs.lemmas.List.Elements.{All-from_get_or}
 pub use Rattle.std.proofs.lemmas.List.FromFn.{get_or-map-range_with_len, length-map-range_with_len}
 pub use Rattle.std.proofs.lemmas.Map.Views.{Contains-from_any}
 pub use Rattle.std.specs.List.{All, Contains, list_any, range_with_len}
-pub use Rattle.std.specs.Prelude.{IsTrue, MatchOption, if◌then◌else◌, nat_eq, nat_lt}
+pub use Rattle.std.specs.Prelude.{IsTrue, MatchOption, nat_eq, nat_lt}
 pub use Rattle.std.specs.Vec.{vec_capacity}
 pub use Rattle.consistency.specs.Consistency.{AreBanked, AreLimited, AreNamed, AreOwned, AreWholeProcesses, IsAboveLimit, IsAnnexFor, IsNamed, IsRootOf}
 pub use Rattle.consistency.specs.Consistency.{IsUnbanked, NamesItsRole, Tells, annex_in, is_waiting_root, owner_of, role_at}

@@ -1,6 +1,7 @@
 -- What is noted of roots.
-use Rattle.consistency.proofs.Names.{◌≡◌, ℕ, ◌<◌, inl, inr, List, Option, None, Some, length, refl, sym, ap, ◌∙◌, arith, cases_lt, get_or_past, Frame, Content}
-use Rattle.consistency.proofs.Names.{Root, blank_frame, frame_at, Noted, IsRootOf, annex_in, AreNoted, note_at, noted_in}
+use Rattle.consistency.proofs.Names.{ℕ, inl, inr, List, Option, None, Some, length, refl, sym, ap, arith, cases_lt, get_or_past, Frame, Content, Root}
+use Rattle.consistency.proofs.Names.{blank_frame, frame_at, Noted, IsRootOf, annex_in, AreNoted, note_at, noted_in}
+use Rattle.std.proofs.Common.{◌≡◌, ◌<◌, ◌∙◌}
 use Rattle.model.specs.declared.object.Content.TheVariants as content
 
 -- what is no root is not noted

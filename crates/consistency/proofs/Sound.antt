@@ -1,10 +1,12 @@
 -- Consistent frames are sound, part by part.
-use Rattle.consistency.proofs.Names.{◌≡◌, ℕ, ◌^◌, ◌<◌, ◌≤◌, inl, inr, Bool, true, false, List, map, length, slice_index, slice_index_or, refl, sym, ap, ◌∙◌}
-use Rattle.consistency.proofs.Names.{subst, arith, nat_lt, if◌then◌else◌, All, get_or-map, cases_lt, ltb-false, get_or_past, length-map, Cap, Capability, Void}
-use Rattle.consistency.proofs.Names.{Number, Page, Node, Space, Process, Start, Resume, Bank, Discrim, Frame, Geometry, Content, IsWellFormed, blank_frame}
-use Rattle.consistency.proofs.Names.{conveyed, current_count, frame_at, headers, objects_of, void_held, AreKeepable, Follows, IsKeepable, IsKeptCap, MayBeKept}
-use Rattle.consistency.proofs.Names.{caps_in, map_content, IsSpace, MayBeHeld, object_count, annex_at, IsFilled, IsFramed, IsHeld, Waits, held_from, held_void}
-use Rattle.consistency.proofs.Names.{nearly_to, HaveTheirRoles, keepable_roles, AreBanked, AreWholeProcesses, IsNamed, ConsistentIsSound, kind_map}
+use Rattle.consistency.proofs.Names.{ℕ, inl, inr, Bool, true, false, List, map, length, slice_index, slice_index_or, refl, sym, ap, subst, arith, nat_lt, All}
+use Rattle.consistency.proofs.Names.{get_or-map, cases_lt, ltb-false, get_or_past, length-map, Cap, Capability, Void, Number, Page, Node, Space, Process, Start}
+use Rattle.consistency.proofs.Names.{Resume, Bank, Discrim, Frame, Geometry, Content, IsWellFormed, blank_frame, conveyed, current_count, frame_at, headers}
+use Rattle.consistency.proofs.Names.{objects_of, void_held, AreKeepable, Follows, IsKeepable, IsKeptCap, MayBeKept, caps_in, map_content, IsSpace, MayBeHeld}
+use Rattle.consistency.proofs.Names.{object_count, annex_at, IsFilled, IsFramed, IsHeld, Waits, held_from, held_void, nearly_to, HaveTheirRoles, keepable_roles}
+use Rattle.consistency.proofs.Names.{AreBanked, AreWholeProcesses, IsNamed, ConsistentIsSound, kind_map}
+use Rattle.std.proofs.Common.{◌≡◌, ◌^◌, ◌<◌, ◌≤◌, ◌∙◌}
+use Rattle.std.specs.Prelude.{if◌then◌else◌}
 use Rattle.model.specs.declared.object.Content.TheVariants as content
 use Rattle.consistency.proofs.Standing.{annex_role, bank_role, content_is, free_role, length_is, limit_is, names_kind, owner_is, process_of, role_annex}
 use Rattle.consistency.proofs.Standing.{role_bank, role_free, root_of}

@@ -1,6 +1,7 @@
 -- What the table of headers and the contents in memory say of frames.
-use Rattle.consistency.proofs.Names.{◌≡◌, ℕ, ◌<◌, ◌≤◌, inl, inr, List, length, sym, ap, ◌∙◌, arith, cases_lt, get_or_past, Cap, Frame, ObjectHeader, Content}
-use Rattle.consistency.proofs.Names.{blank_frame, frame_at, frames_in, header_at, headers, held_at, Parts, frames_of, frame_in, headers_in, length_in, role_at}
+use Rattle.consistency.proofs.Names.{ℕ, inl, inr, List, length, sym, ap, arith, cases_lt, get_or_past, Cap, Frame, ObjectHeader, Content, blank_frame, frame_at}
+use Rattle.consistency.proofs.Names.{frames_in, header_at, headers, held_at, Parts, frames_of, frame_in, headers_in, length_in, role_at}
+use Rattle.std.proofs.Common.{◌≡◌, ◌<◌, ◌≤◌, ◌∙◌}
 use Rattle.model.specs.declared.object.Role.TheVariants as role
 use Rattle.consistency.proofs.Standing.{header_is}
 

@@ -1,7 +1,8 @@
 -- Annexes, as roots take them.
-use Rattle.consistency.proofs.Names.{◌≡◌, ◌+◌, ℕ, ◌<◌, inl, inr, Bool, true, false, List, Option, None, Some, length, sym, ap, ◌∙◌, subst, arith, cases_eq}
-use Rattle.consistency.proofs.Names.{cases_lt, get_or-set_same, get_or-set_other, Frame, Parts, frames_of, AreWholeProcesses, IsAnnexFor, IsRootOf, annex_in}
-use Rattle.consistency.proofs.Names.{role_at, AreTaken, IsTaking, is_taken}
+use Rattle.consistency.proofs.Names.{ℕ, inl, inr, Bool, true, false, List, Option, None, Some, length, sym, ap, subst, arith, cases_eq, cases_lt}
+use Rattle.consistency.proofs.Names.{get_or-set_same, get_or-set_other, Frame, Parts, frames_of, AreWholeProcesses, IsAnnexFor, IsRootOf, annex_in, role_at}
+use Rattle.consistency.proofs.Names.{AreTaken, IsTaking, is_taken}
+use Rattle.std.proofs.Common.{◌≡◌, ◌+◌, ◌<◌, ◌∙◌}
 use Rattle.model.specs.declared.object.Role.TheVariants as role
 use Rattle.consistency.proofs.Standing.{some_same}
 use Rattle.consistency.proofs.Tables.{frame_beyond}

@@ -1,9 +1,10 @@
 -- Banks: their tree, their chains and their limits.
-use Rattle.consistency.proofs.Names.{◌≡◌, ◌≢◌, ◌↔◌, ℕ, zero, suc, ◌<◌, ◌≤◌, Bool, true, false, ◌||◌, List, [], ◌∷◌, length, map, slice_index, slice_index_or}
-use Rattle.consistency.proofs.Names.{zero-add, refl, sym, ap, ◌∙◌, arith, IsTrue, MatchOption, nat_eq, Contains, list_any, range_with_len, eqb-true, eq-eqb}
-use Rattle.consistency.proofs.Names.{get_or-map-range_with_len, length-map-range_with_len, Contains-from_any, Frame, ObjectHeader, Geometry, chain, usage}
-use Rattle.consistency.proofs.Names.{frame_at, objects_of, AreKeepable, is_bank, limit_in, content_at, IsTree, HaveTheirRoles, Parts, frames_of, objects_in}
-use Rattle.consistency.proofs.Names.{keepable_roles, Unbanked, AreLimited, AreOwned, IsAboveLimit, IsUnbanked, owner_of, role_at}
+use Rattle.consistency.proofs.Names.{ℕ, zero, suc, Bool, true, false, List, [], length, map, slice_index, slice_index_or, zero-add, refl, sym, ap, arith}
+use Rattle.consistency.proofs.Names.{IsTrue, MatchOption, nat_eq, Contains, list_any, range_with_len, eqb-true, eq-eqb, get_or-map-range_with_len}
+use Rattle.consistency.proofs.Names.{length-map-range_with_len, Contains-from_any, Frame, ObjectHeader, Geometry, chain, usage, frame_at, objects_of}
+use Rattle.consistency.proofs.Names.{AreKeepable, is_bank, limit_in, content_at, IsTree, HaveTheirRoles, Parts, frames_of, objects_in, keepable_roles, Unbanked}
+use Rattle.consistency.proofs.Names.{AreLimited, AreOwned, IsAboveLimit, IsUnbanked, owner_of, role_at}
+use Rattle.std.proofs.Common.{◌≡◌, ◌≢◌, ◌↔◌, ◌<◌, ◌≤◌, ◌||◌, ◌∷◌, ◌∙◌}
 use Rattle.std.specs.Prelude.{None, Option, Some}
 use Rattle.model.specs.declared.object.Role.TheVariants as role
 use Rattle.consistency.specs.declared.reason.Unbanked.TheVariants as why

@@ -1,9 +1,10 @@
 -- What follows of sound frames: no reason of inconsistency.
-use Rattle.consistency.proofs.Names.{◌≡◌, ℕ, ◌≤◌, List, Option, Some, map, slice_index_or, refl, sym, ap, ◌∙◌, subst, arith, IsTrue, All, get_or-map, le-ltb}
-use Rattle.consistency.proofs.Names.{All-from_get_or, Cap, Capability, Void, Frame, ObjectHeader, Geometry, Content, usage, conveyed, current_count, frame_at}
-use Rattle.consistency.proofs.Names.{headers, objects_of, void_held, IsSoundFrames, caps_in, is_annex, map_content, root_in, slots_in, MayBeHeld, NamesItsKind}
+use Rattle.consistency.proofs.Names.{ℕ, List, Option, Some, map, slice_index_or, refl, sym, ap, subst, arith, IsTrue, All, get_or-map, le-ltb, All-from_get_or}
+use Rattle.consistency.proofs.Names.{Cap, Capability, Void, Frame, ObjectHeader, Geometry, Content, usage, conveyed, current_count, frame_at, headers}
+use Rattle.consistency.proofs.Names.{objects_of, void_held, IsSoundFrames, caps_in, is_annex, map_content, root_in, slots_in, MayBeHeld, NamesItsKind}
 use Rattle.consistency.proofs.Names.{content_at, owner_at, HaveTheirRoles, keepable_roles, BadCapability, BadProcess, BadBank, AreBanked, AreNamed}
 use Rattle.consistency.proofs.Names.{AreWholeProcesses, IsNamed, role_at, InconsistentIsUnsound}
+use Rattle.std.proofs.Common.{◌≡◌, ◌≤◌, ◌∙◌}
 use Rattle.model.specs.declared.object.Content.TheVariants as content
 use Rattle.model.specs.declared.object.Role.TheVariants as role
 use Rattle.consistency.proofs.Standing.{annex_role, bank_role, content_is, free_role, limit_is, names_role, owner_is, process_of, role_annex, role_bank}

@@ -1,9 +1,10 @@
 -- A description is that of one list of frames.
-use Rattle.described_world.proofs.Names.{◌≡◌, ℕ, ◌<◌, ◌++◌, inl, inr, ◌⊎◌, List, [], ◌∷◌, Option, map, slice_index_or, sym, ap, ◌∙◌, arith, All, Contains}
-use Rattle.described_world.proofs.Names.{cases_eq, ext_get_or, All-append, All-contains, All-map, Contains-append_right, Contains-tail, get_or_from_slice_get}
-use Rattle.described_world.proofs.Names.{Cap, Capability, Frame, State, blank_frame, frame_at, void_held, fresh_cap, Description, NodeEntry, PageEntry}
-use Rattle.described_world.proofs.Names.{ProcessEntry, SlotEntry, WordEntry, HasNamedWords, HoldsNamed, IsDescribedAnnex, IsDescribed, IsDescribedNode}
-use Rattle.described_world.proofs.Names.{IsDescribedPage, IsDescribedRoot, first_frame, named_at, node_numbers, page_numbers, word_named_at}
+use Rattle.described_world.proofs.Names.{ℕ, inl, inr, List, [], Option, map, slice_index_or, sym, ap, arith, All, Contains, cases_eq, ext_get_or, All-append}
+use Rattle.described_world.proofs.Names.{All-contains, All-map, Contains-append_right, Contains-tail, get_or_from_slice_get, Cap, Capability, Frame, State}
+use Rattle.described_world.proofs.Names.{blank_frame, frame_at, void_held, fresh_cap, Description, NodeEntry, PageEntry, ProcessEntry, SlotEntry, WordEntry}
+use Rattle.described_world.proofs.Names.{HasNamedWords, HoldsNamed, IsDescribedAnnex, IsDescribed, IsDescribedNode, IsDescribedPage, IsDescribedRoot}
+use Rattle.described_world.proofs.Names.{first_frame, named_at, node_numbers, page_numbers, word_named_at}
+use Rattle.std.proofs.Common.{◌≡◌, ◌<◌, ◌++◌, ◌⊎◌, ◌∷◌, ◌∙◌}
 use Rattle.std.specs.Prelude.{unwrap_or}
 use Rattle.model.specs.declared.object.Content.TheVariants as content
 

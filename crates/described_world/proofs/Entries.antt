@@ -1,8 +1,9 @@
 -- The objects that a description names.
-use Rattle.described_world.proofs.Names.{◌≡◌, ◌⊎◌, inl, inr, ℕ, ◌<◌, ◌≤◌, List, ◌++◌, map, sym, ap, ◌∙◌, subst, Contains, All-contains, Contains-append_cases}
-use Rattle.described_world.proofs.Names.{Contains-append_left, Contains-append_right, Frame, Geometry, blank_frame, frame_at, object_count, Description}
-use Rattle.described_world.proofs.Names.{AreDistinct, HasNumbers, IsDescribedAnnex, IsDescribed, IsDescribedNode, IsDescribedPage, IsDescribedRoot, first_frame}
-use Rattle.described_world.proofs.Names.{node_numbers, page_numbers, Entry, OfBank, OfRoot, OfAnnex, OfNode, OfPage, entries, number_of}
+use Rattle.described_world.proofs.Names.{inl, inr, ℕ, List, map, sym, ap, subst, Contains, All-contains, Contains-append_cases, Contains-append_left}
+use Rattle.described_world.proofs.Names.{Contains-append_right, Frame, Geometry, blank_frame, frame_at, object_count, Description, AreDistinct, HasNumbers}
+use Rattle.described_world.proofs.Names.{IsDescribedAnnex, IsDescribed, IsDescribedNode, IsDescribedPage, IsDescribedRoot, first_frame, node_numbers}
+use Rattle.described_world.proofs.Names.{page_numbers, Entry, OfBank, OfRoot, OfAnnex, OfNode, OfPage, entries, number_of}
+use Rattle.std.proofs.Common.{◌≡◌, ◌⊎◌, ◌<◌, ◌≤◌, ◌++◌, ◌∙◌}
 use Rattle.model.specs.declared.object.Content.TheVariants as content
 use Rattle.described_world.proofs.Lists.{contains_either, contains_map, map_again, map_both, map_contains}
 

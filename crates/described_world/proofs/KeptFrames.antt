@@ -1,13 +1,13 @@
 -- Laid frames are those that are described, and can be kept.
-use Rattle.described_world.proofs.Names.{◌≡◌, ◌≢◌, inl, inr, ℕ, ◌+◌, ◌^◌, ◌<◌, ◌≤◌, Option, None, Some, List, ◌++◌, map, length, replicate, slice_index_or}
-use Rattle.described_world.proofs.Names.{unwrap_or, refl, sym, ap, ◌∙◌, subst, arith, All, Contains, length-replicate, All-contains, All-replicate}
-use Rattle.described_world.proofs.Names.{slice_get-get_or, Cap, Capability, Void, Number, Page, Node, Space, Process, Start, Resume, Bank, Discrim, Frame}
-use Rattle.described_world.proofs.Names.{Geometry, Available, IsWellFormed, blank_frame, frame_at, void_held, AreKeepable, AreKeptSlots, Follows, IsCount}
-use Rattle.described_world.proofs.Names.{IsKept, IsKeptCap, IsKeepable, IsOfKind, IsSpace, object_count, fresh_cap, IsGeometry, BankEntry, Description}
-use Rattle.described_world.proofs.Names.{NodeEntry, PageEntry, ProcessEntry, SlotEntry, WordEntry, World, AreSlots, AreWords, HasFields, HasNamedWords}
-use Rattle.described_world.proofs.Names.{HasNumbers, HoldsNamed, IsSomeCapability, IsDescribed, IsProcessEntry, IsSpaceEntry, first_named, AreTargets, Entry}
-use Rattle.described_world.proofs.Names.{Fits, HasProcessTargets, HasTargets, IsLaid, IsTarget, OfAnnex, OfBank, OfNode, OfPage, OfRoot, entries, frame_of}
-use Rattle.described_world.proofs.Names.{laid, number_of, slot_held, slots_of, words_of}
+use Rattle.described_world.proofs.Names.{inl, inr, ℕ, Option, None, Some, List, map, length, replicate, slice_index_or, unwrap_or, refl, sym, ap, subst, arith}
+use Rattle.described_world.proofs.Names.{All, Contains, length-replicate, All-contains, All-replicate, slice_get-get_or, Cap, Capability, Void, Number, Page}
+use Rattle.described_world.proofs.Names.{Node, Space, Process, Start, Resume, Bank, Discrim, Frame, Geometry, Available, IsWellFormed, blank_frame, frame_at}
+use Rattle.described_world.proofs.Names.{void_held, AreKeepable, AreKeptSlots, Follows, IsCount, IsKept, IsKeptCap, IsKeepable, IsOfKind, IsSpace, object_count}
+use Rattle.described_world.proofs.Names.{fresh_cap, IsGeometry, BankEntry, Description, NodeEntry, PageEntry, ProcessEntry, SlotEntry, WordEntry, World}
+use Rattle.described_world.proofs.Names.{AreSlots, AreWords, HasFields, HasNamedWords, HasNumbers, HoldsNamed, IsSomeCapability, IsDescribed, IsProcessEntry}
+use Rattle.described_world.proofs.Names.{IsSpaceEntry, first_named, AreTargets, Entry, Fits, HasProcessTargets, HasTargets, IsLaid, IsTarget, OfAnnex, OfBank}
+use Rattle.described_world.proofs.Names.{OfNode, OfPage, OfRoot, entries, frame_of, laid, number_of, slot_held, slots_of, words_of}
+use Rattle.std.proofs.Common.{◌≡◌, ◌≢◌, ◌+◌, ◌^◌, ◌<◌, ◌≤◌, ◌++◌, ◌∙◌}
 use Rattle.described_world.proofs.Entries.{IsFrameOf, IsOf, entries_distinct, entries_of, in_range, numbers_are, of_entries}
 use Rattle.described_world.proofs.LaidFrames.{laid_both}
 use Rattle.described_world.proofs.Lists.{all_from, contains_either, each_at, each_holds, each_of, each_other, first_map, length_each, map_contains, same_at}

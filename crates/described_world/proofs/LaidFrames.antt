@@ -1,7 +1,8 @@
 -- Frames that are laid one after the other.
-use Rattle.described_world.proofs.Names.{◌≡◌, ℕ, ◌+◌, ◌<◌, ◌≤◌, List, ◌∷◌, ◌++◌, drop, length, map, slice_index_or, refl, sym, ap, ◌∙◌, subst, arith, vec_len}
-use Rattle.described_world.proofs.Names.{All, drop_all, drop_more, All-append, All-cons, All-nil, Frame, Cap, Content, World, first_frame, Entry, Fits, IsLaid}
-use Rattle.described_world.proofs.Names.{IsPut, frame_of, frames_of, laid, number_of}
+use Rattle.described_world.proofs.Names.{ℕ, List, drop, length, map, slice_index_or, refl, sym, ap, subst, arith, vec_len, All, drop_all, drop_more, All-append}
+use Rattle.described_world.proofs.Names.{All-cons, All-nil, Frame, Cap, Content, World, first_frame, Entry, Fits, IsLaid, IsPut, frame_of, frames_of, laid}
+use Rattle.described_world.proofs.Names.{number_of}
+use Rattle.std.proofs.Common.{◌≡◌, ◌+◌, ◌<◌, ◌≤◌, ◌∷◌, ◌++◌, ◌∙◌}
 use Rattle.described_world.proofs.Lists.{each_append}
 
 pub laid_append : (es fs : List Entry) (xs : List Frame) → laid (es ++ fs) xs ≡ laid fs (laid es xs)

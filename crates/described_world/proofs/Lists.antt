@@ -1,8 +1,10 @@
 -- Distinct numbers, and writes at them.
-use Rattle.described_world.proofs.Names.{◌≡◌, ◌≢◌, ◌⊎◌, ℕ, zero, suc, ◌+◌, ◌<◌, ◌≤◌, inl, inr, List, [], ◌∷◌, ◌++◌, map, length, replicate, Some, slice_get}
-use Rattle.described_world.proofs.Names.{drop, take, ◌-◌, slice_index_or, slice_set, refl, sym, ap, ◌∙◌, subst, arith, ◌↔◌, All, Any, Contains, cases_eq}
-use Rattle.described_world.proofs.Names.{nat_tests, get_or-set_same, get_or-set_other, length-drop, length-set, drop_all, drop_more, take_all, All-head}
-use Rattle.described_world.proofs.Names.{All-set, All-tail, Contains-get_or, AreDistinct, first_named, set_each}
+use Rattle.described_world.proofs.Names.{ℕ, zero, suc, inl, inr, List, [], map, length, replicate, Some, slice_get, drop, take, slice_index_or, slice_set, refl}
+use Rattle.described_world.proofs.Names.{sym, ap, subst, arith, All, Any, Contains, cases_eq, nat_tests, get_or-set_same, get_or-set_other, length-drop}
+use Rattle.described_world.proofs.Names.{length-set, drop_all, drop_more, take_all, All-head, All-set, All-tail, Contains-get_or, AreDistinct, first_named}
+use Rattle.described_world.proofs.Names.{set_each}
+use Rattle.std.proofs.Common.{◌≡◌, ◌≢◌, ◌⊎◌, ◌+◌, ◌<◌, ◌≤◌, ◌∷◌, ◌++◌, ◌-◌, ◌∙◌}
+use Rattle.std.specs.Prelude.{◌↔◌}
 
 pub contains_here : {X : Type 0} → (x : X) (xs : List X) → Contains (x ∷ xs) x
 contains_here x xs = (0, omega arith, refl)

@@ -1,10 +1,11 @@
 -- In described frames in which each capability is named, each names a number of its kind.
-use Rattle.described_world.proofs.Names.{◌≡◌, ◌≢◌, inl, inr, ℕ, ◌<◌, ◌≤◌, List, [], Option, Some, unwrap_or, refl, sym, ap, ◌∙◌, subst, IsTrue, All, get_or-map}
-use Rattle.described_world.proofs.Names.{All-contains, All-head, Cap, Capability, Void, Number, Page, Node, Space, Process, Start, Resume, Bank, Discrim, Frame}
-use Rattle.described_world.proofs.Names.{ObjectHeader, Geometry, Content, blank_frame, current_count, frame_at, header_at, headers, caps_in, role_of, IsOfKind}
-use Rattle.described_world.proofs.Names.{object_count, fresh_cap, Description, NodeEntry, SlotEntry, AreNamed, IsNamed, NamesItsRole, is_waiting_root, AreSlots}
-use Rattle.described_world.proofs.Names.{HasFields, HasNumbers, HoldsNamed, IsDescribed, IsProcessEntry, first_frame, AreTargets, Entry, HasProcessTargets}
-use Rattle.described_world.proofs.Names.{HasTargets, IsTarget, OfAnnex, OfBank, OfNode, OfPage, OfRoot, number_of}
+use Rattle.described_world.proofs.Names.{inl, inr, ℕ, List, [], Option, Some, unwrap_or, refl, sym, ap, subst, IsTrue, All, get_or-map, All-contains, All-head}
+use Rattle.described_world.proofs.Names.{Cap, Capability, Void, Number, Page, Node, Space, Process, Start, Resume, Bank, Discrim, Frame, ObjectHeader, Geometry}
+use Rattle.described_world.proofs.Names.{Content, blank_frame, current_count, frame_at, header_at, headers, caps_in, role_of, IsOfKind, object_count, fresh_cap}
+use Rattle.described_world.proofs.Names.{Description, NodeEntry, SlotEntry, AreNamed, IsNamed, NamesItsRole, is_waiting_root, AreSlots, HasFields, HasNumbers}
+use Rattle.described_world.proofs.Names.{HoldsNamed, IsDescribed, IsProcessEntry, first_frame, AreTargets, Entry, HasProcessTargets, HasTargets, IsTarget}
+use Rattle.described_world.proofs.Names.{OfAnnex, OfBank, OfNode, OfPage, OfRoot, number_of}
+use Rattle.std.proofs.Common.{◌≡◌, ◌≢◌, ◌<◌, ◌≤◌, ◌∙◌}
 use Rattle.model.specs.declared.object.Content.TheVariants as content
 use Rattle.model.specs.declared.object.Role.TheVariants as role
 use Rattle.described_world.proofs.Entries.{HasRange, IsFrameOf, described_cases, described_of, in_range}

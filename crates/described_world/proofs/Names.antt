@@ -28,7 +28,7 @@ pub use Rattle.model.specs.declared.object.Role.{Role}
 pub use Rattle.model.specs.declared.object.State.{State}
 pub use Rattle.model.specs.declared.object.State.TheVariants.{Available}
 pub use Rattle.std.proofs.Common.{List, None, Option, Some, [], ap, arith, drop, inl, inr, length, map, refl, replicate, rules, slice_get, slice_index_or}
-pub use Rattle.std.proofs.Common.{slice_set, subst, suc, sym, take, unwrap_or, vec_len, zero, ℕ, ◌++◌, ◌+◌, ◌-◌, ◌<◌, ◌^◌, ◌∙◌, ◌∷◌, ◌≡◌, ◌≢◌, ◌≤◌, ◌⊎◌}
+pub use Rattle.std.proofs.Common.{slice_set, subst, suc, sym, take, unwrap_or, vec_len, zero, ℕ}
 pub use Rattle.std.proofs.Math.ListN.{get_or-map}
 pub use Rattle.std.proofs.lemmas.Bool.{cases_eq}
 pub use Rattle.std.proofs.lemmas.Bool.Decides.{nat_tests}
@@ -38,7 +38,7 @@ pub use Rattle.std.proofs.lemmas.List.Elements.{Contains-append_cases, Contains-
 pub use Rattle.std.proofs.lemmas.Map.Made.{Contains-tail}
 pub use Rattle.std.proofs.lemmas.Option.{get_or_from_slice_get, slice_get-get_or}
 pub use Rattle.std.specs.List.{All, Any, Contains}
-pub use Rattle.std.specs.Prelude.{IsTrue, ◌↔◌}
+pub use Rattle.std.specs.Prelude.{IsTrue}
 pub use Rattle.std.specs.Vec.{with_item}
 pub use Rattle.described_world.specs.Described.{AreDistinct, AreSlots, AreWords, HasFields, HasNamedWords, HasNumbers, HoldsNamed, IsDescribed}
 pub use Rattle.described_world.specs.Described.{IsDescribedAnnex, IsDescribedNode, IsDescribedPage, IsDescribedRoot, IsProcessEntry, IsSomeCapability}

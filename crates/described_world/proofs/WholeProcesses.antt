@@ -1,7 +1,8 @@
 -- In described frames each process is a root and its annex.
-use Rattle.described_world.proofs.Names.{◌≡◌, inl, inr, ℕ, List, Option, None, Some, refl, sym, ap, ◌∙◌, subst, Contains, Frame, Role, frame_at, Description}
+use Rattle.described_world.proofs.Names.{inl, inr, ℕ, List, Option, None, Some, refl, sym, ap, subst, Contains, Frame, Role, frame_at, Description}
 use Rattle.described_world.proofs.Names.{ProcessEntry, AreWholeProcesses, IsAnnexFor, IsRootOf, annex_in, owner_of, role_at, HasNumbers, IsDescribed, Entry}
 use Rattle.described_world.proofs.Names.{OfBank, OfRoot, OfAnnex, OfNode, OfPage, entries, number_of}
+use Rattle.std.proofs.Common.{◌≡◌, ◌∙◌}
 use Rattle.model.specs.declared.object.Role.TheVariants as role
 use Rattle.described_world.proofs.Entries.{IsFrameOf, IsOf, described_cases, described_of, entries_distinct, of_entries}
 use Rattle.described_world.proofs.Lists.{same_entry}

@@ -1,6 +1,7 @@
 -- Worlds as headers with contents beside them.
-use Rattle.described_world.proofs.Names.{◌≡◌, ◌∙◌, ℕ, zero, suc, ◌<◌, ◌∷◌, List, replicate, slice_set, refl, ap, arith, vec_len, with_item, Cap, Frame}
-use Rattle.described_world.proofs.Names.{ObjectHeader, Content, Role, blank_frame, blank_header, frames_in, role_of, set_in, World, first_frame, IsPut}
+use Rattle.described_world.proofs.Names.{ℕ, zero, suc, List, replicate, slice_set, refl, ap, arith, vec_len, with_item, Cap, Frame, ObjectHeader, Content, Role}
+use Rattle.described_world.proofs.Names.{blank_frame, blank_header, frames_in, role_of, set_in, World, first_frame, IsPut}
+use Rattle.std.proofs.Common.{◌≡◌, ◌∙◌, ◌<◌, ◌∷◌}
 use Rattle.model.specs.declared.object.Content.TheVariants as content
 
 -- free headers with free contents are free frames

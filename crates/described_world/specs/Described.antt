@@ -1,9 +1,9 @@
 -- The frames that a description names, and when it names some.
-use Rattle.described_world.specs.Names.{◌≡◌, ◌≢◌, ℕ, ◌^◌, ◌<◌, ◌≤◌, ◌==◌, if◌then◌else◌, List, [], ◌∷◌, ◌++◌, map}
-use Rattle.described_world.specs.Names.{length, Option, None, Some, slice_get, unwrap_or, All, Contains, Cap}
-use Rattle.described_world.specs.Names.{Capability, Void, Frame, Content, State, IsWellFormed, frame_at, blank_frame}
-use Rattle.described_world.specs.Names.{role_of, IsSpace, object_count, fresh_cap, Description, NodeEntry, PageEntry}
-use Rattle.described_world.specs.Names.{ProcessEntry, SlotEntry, WordEntry, AreNamed}
+use Rattle.described_world.specs.Names.{ℕ, List, [], map, length, Option, None, Some, slice_get, unwrap_or, All}
+use Rattle.described_world.specs.Names.{Contains, Cap, Capability, Void, Frame, Content, State, IsWellFormed, frame_at}
+use Rattle.described_world.specs.Names.{blank_frame, role_of, IsSpace, object_count, fresh_cap, Description, NodeEntry}
+use Rattle.described_world.specs.Names.{PageEntry, ProcessEntry, SlotEntry, WordEntry, AreNamed}
+use Rattle.std.specs.Prelude.{◌≡◌, ◌≢◌, ◌^◌, ◌<◌, ◌≤◌, ◌==◌, if◌then◌else◌, ◌∷◌, ◌++◌}
 use Rattle.model.specs.declared.object.Content.TheVariants as content
 use Rattle.described_world.specs.declared.fault.WorldFault.{WorldFault}
 use Rattle.described_world.specs.declared.fault.WorldFault.TheVariants as fault

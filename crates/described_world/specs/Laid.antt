@@ -1,9 +1,10 @@
 -- How frames are laid: object by object, over free ones.
-use Rattle.described_world.specs.Names.{◌≡◌, ℕ, ◌^◌, ◌<◌, ◌≤◌, List, [], ◌∷◌, ◌++◌, map, replicate, slice_set}
-use Rattle.described_world.specs.Names.{unwrap_or, vec_len, All, Cap, Capability, Void, Number, Page, Node, Space}
-use Rattle.described_world.specs.Names.{Process, Start, Resume, Bank, Discrim, Frame, Geometry, Content, Available}
-use Rattle.described_world.specs.Names.{frames_in, void_held, AreKeptWords, object_count, fresh_cap, BankEntry}
-use Rattle.described_world.specs.Names.{Description, NodeEntry, PageEntry, ProcessEntry, SlotEntry, WordEntry}
+use Rattle.described_world.specs.Names.{ℕ, List, [], map, replicate, slice_set, unwrap_or, vec_len, All, Cap}
+use Rattle.described_world.specs.Names.{Capability, Void, Number, Page, Node, Space, Process, Start, Resume, Bank}
+use Rattle.described_world.specs.Names.{Discrim, Frame, Geometry, Content, Available, frames_in, void_held}
+use Rattle.described_world.specs.Names.{AreKeptWords, object_count, fresh_cap, BankEntry, Description, NodeEntry}
+use Rattle.described_world.specs.Names.{PageEntry, ProcessEntry, SlotEntry, WordEntry}
+use Rattle.std.specs.Prelude.{◌≡◌, ◌^◌, ◌<◌, ◌≤◌, ◌∷◌, ◌++◌}
 use Rattle.model.specs.declared.object.Content.TheVariants as content
 use Rattle.described_world.specs.Described.{first_frame}
 use Rattle.described_world.specs.declared.world.World.{World}

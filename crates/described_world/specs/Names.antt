@@ -24,5 +24,5 @@ pub use Rattle.model.specs.declared.object.Content.{Content}
 pub use Rattle.model.specs.declared.object.State.{State}
 pub use Rattle.model.specs.declared.object.State.TheVariants.{Available}
 pub use Rattle.std.specs.List.{All, Contains}
-pub use Rattle.std.specs.Prelude.{List, None, Option, Some, [], if◌then◌else◌, length, map, replicate, slice_get}
-pub use Rattle.std.specs.Prelude.{slice_set, unwrap_or, vec_len, ℕ, ◌++◌, ◌<◌, ◌==◌, ◌^◌, ◌∷◌, ◌≡◌, ◌≢◌, ◌≤◌}
+pub use Rattle.std.specs.Prelude.{List, None, Option, Some, [], length, map, replicate, slice_get, slice_set, unwrap_or}
+pub use Rattle.std.specs.Prelude.{vec_len, ℕ}

@@ -1,6 +1,7 @@
 -- Lists of values, element by element.
-use Rattle.description.proofs.Names.{◌≡◌, ℕ, zero, suc, ◌+◌, ◌<◌, List, [], ◌∷◌, ◌++◌, length, get_or, take, refl, sym, ap, ◌∙◌, arith, take_more, same_Some}
-use Rattle.description.proofs.Names.{Data, Items, no_items, item, array, as_array, view, items_view, Value, AreItems, IsList}
+use Rattle.description.proofs.Names.{ℕ, zero, suc, List, [], length, get_or, take, refl, sym, ap, arith, take_more, same_Some, Data, Items, no_items, item}
+use Rattle.description.proofs.Names.{array, as_array, view, items_view, Value, AreItems, IsList}
+use Rattle.std.proofs.Common.{◌≡◌, ◌+◌, ◌<◌, ◌∷◌, ◌++◌, ◌∙◌}
 
 abbrev item_count : Items → ℕ
 item_count no_items = 0

@@ -1,6 +1,7 @@
 -- What is at a key, and what isn't.
-use Rattle.description.proofs.Names.{◌≡◌, ℕ, List, Option, Some, None, IsSomeAnd, MatchOption, Result, Vec, Global, refl, sym, none-some, same_Some, Data}
-use Rattle.description.proofs.Names.{Members, get_member, AtOr, ReadsList, DescriptionFault}
+use Rattle.description.proofs.Names.{ℕ, List, Option, Some, None, IsSomeAnd, MatchOption, Result, Vec, Global, refl, sym, none-some, same_Some, Data, Members}
+use Rattle.description.proofs.Names.{get_member, AtOr, ReadsList, DescriptionFault}
+use Rattle.std.proofs.Common.{◌≡◌}
 
 pub missing : {A : Type 0} (P : Data → A → Type 0) (o : Option Data) → None ≡ o → (x : A) → IsSomeAnd o (λ d. P d x) → ⊥
 missing P None is x at = at

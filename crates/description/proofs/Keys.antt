@@ -1,6 +1,7 @@
 -- Keys that are known, and texts that are the same.
-use Rattle.description.proofs.Names.{◌≡◌, ℕ, true, List, [], ◌∷◌, map, nat_eq, nat_cmp, is_eq, Bor, refl, sym, ◌∙◌, arith, nat_tests, same_from_slice_cmp}
-use Rattle.description.proofs.Names.{slice_cmp, pointwise, list_any, same_key}
+use Rattle.description.proofs.Names.{ℕ, true, List, [], map, nat_eq, nat_cmp, is_eq, Bor, refl, sym, arith, nat_tests, same_from_slice_cmp, slice_cmp}
+use Rattle.description.proofs.Names.{pointwise, list_any, same_key}
+use Rattle.std.proofs.Common.{◌≡◌, ◌∷◌, ◌∙◌}
 
 same_text : (a b : List ℕ) → pointwise nat_eq a b ≡ same_key b a
 same_text a b = sym (same_from_slice_cmp nat_cmp is_eq (λ y x. pointwise nat_eq x y) refl (λ _ _. refl) (λ _ _. refl) (λ x y xs ys o h. grind (arith, nat_tests)) b a (slice_cmp nat_cmp b a) refl)

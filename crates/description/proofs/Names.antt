@@ -10,8 +10,8 @@ pub use Rattle.model.specs.declared.object.State.{State}
 pub use Rattle.model.specs.declared.object.State.TheVariants.{Available, Running, Waiting}
 pub use Rattle.script.proofs.CapabilityTexts.{text_once}
 pub use Rattle.std.proofs.Common.{Bor, Err, Global, IfNone, IfSome, IsErrAnd, IsSomeAnd, List, MatchOption, None, Ok, Option, Result, Some, Vec, [], ap, arith}
-pub use Rattle.std.proofs.Common.{codes, false, get_or, if◌then◌else◌, inl, inr, is_eq, is_some, length, map, nat_cmp, nat_eq, negsuc, pos, refl, subst, suc}
-pub use Rattle.std.proofs.Common.{sym, take, true, zero, ℕ, ℤ, ◌++◌, ◌+◌, ◌<◌, ◌^◌, ◌∙◌, ◌∷◌, ◌≡◌, ◌≢◌, ◌≤◌}
+pub use Rattle.std.proofs.Common.{codes, false, get_or, inl, inr, is_eq, is_some, length, map, nat_cmp, nat_eq, negsuc, pos, refl, subst, suc, sym, take, true}
+pub use Rattle.std.proofs.Common.{zero, ℕ, ℤ}
 pub use Rattle.std.proofs.lemmas.Bool.{false≢true}
 pub use Rattle.std.proofs.lemmas.Bool.Decides.{nat_tests}
 pub use Rattle.std.proofs.lemmas.Cmp.{same_from_slice_cmp}

@@ -1,5 +1,6 @@
 -- A whole is not there where a part isn't.
-use Rattle.description.proofs.Names.{◌≡◌, List, Result, Ok, Err, IsErrAnd, Vec, Global, Fails, Reads, ReadsList, DescriptionFault, Shape, NoMemory}
+use Rattle.description.proofs.Names.{List, Result, Ok, Err, IsErrAnd, Vec, Global, Fails, Reads, ReadsList, DescriptionFault, Shape, NoMemory}
+use Rattle.std.proofs.Common.{◌≡◌}
 
 pub passed_on : {A B : Type 0} (P : A → Type 0) (Q : B → Type 0) (e : DescriptionFault) → Fails P e → ((y : B) → Q y → (x : A) × P x) → Fails Q e
 passed_on P Q Shape none part = λ y is. none (part y is).0 (part y is).1

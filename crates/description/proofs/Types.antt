@@ -1,8 +1,9 @@
 -- Values of their types, and of others.
-use Rattle.description.proofs.Names.{◌≡◌, ◌≢◌, inl, inr, ℕ, ◌^◌, ◌<◌, ◌≤◌, ℤ, pos, negsuc, true, false, Option, Some, None, is_some, List, Result, Ok, Err}
-use Rattle.description.proofs.Names.{IfSome, IfNone, sym, ap, ◌∙◌, arith, none-some, same_Some, unsigned_abs, is_negative, false≢true, IsWellFormed, named}
-use Rattle.description.proofs.Names.{capability_text, state_text, Capability, Number, State, Data, string, integer, float, boolean, datetime, array, table}
-use Rattle.description.proofs.Names.{as_integer, as_str, IsCapability, IsNumber, IsState, IsWideNumber, Fails, Reads, DescriptionFault, NoMemory, Shape}
+use Rattle.description.proofs.Names.{inl, inr, ℕ, ℤ, pos, negsuc, true, false, Option, Some, None, is_some, List, Result, Ok, Err, IfSome, IfNone, sym, ap}
+use Rattle.description.proofs.Names.{arith, none-some, same_Some, unsigned_abs, is_negative, false≢true, IsWellFormed, named, capability_text, state_text}
+use Rattle.description.proofs.Names.{Capability, Number, State, Data, string, integer, float, boolean, datetime, array, table, as_integer, as_str, IsCapability}
+use Rattle.description.proofs.Names.{IsNumber, IsState, IsWideNumber, Fails, Reads, DescriptionFault, NoMemory, Shape}
+use Rattle.std.proofs.Common.{◌≡◌, ◌≢◌, ◌^◌, ◌<◌, ◌≤◌, ◌∙◌}
 use Rattle.description.proofs.Once.{capability_once}
 
 pub integer_is : (d : Data) (z : ℤ) → Some z ≡ as_integer d → d ≡ integer z

@@ -26,8 +26,7 @@ pub use Rattle.layout.specs.declared.version.Version.{Version}
 unfoldable pub use Rattle.model.specs.Frame.{frames_in}
 pub use Rattle.model.specs.Sound.{object_count}
 pub use Rattle.model.specs.declared.frame.Frame.{Frame}
-pub use Rattle.std.proofs.Common.{Global, List, None, Option, Some, String, ap, arith, codes, decimal, string_bytes, subst, sym, ℕ, ◌++◌, ◌<◌, ◌^◌, ◌∙◌, ◌≡◌}
-pub use Rattle.std.proofs.Common.{◌≤◌}
+pub use Rattle.std.proofs.Common.{Global, List, None, Option, Some, String, ap, arith, codes, decimal, string_bytes, subst, sym, ℕ}
 pub use Rattle.std.proofs.lemmas.Result.{IfOk-weaker}
 pub use Rattle.std.specs.Prelude.{IfNone, IfSome, MatchOption, vec_len}
 pub use Rattle.toml.specs.Data.{Members}

@@ -1,6 +1,7 @@
 -- A size that no image has isn't that of a description within the limits.
-use Rattle.description_explainer.proofs.Names.{◌≡◌, ◌<◌, ◌≤◌, ◌^◌, List, Option, None, Some, subst, arith, MatchOption, version_number, Version, MayBeLaid}
-use Rattle.description_explainer.proofs.Names.{NumberRange, IsWithinLimits, Description, Limit, BreaksGeometry, BreaksLimit, BreaksRanges, ranges_refuted}
+use Rattle.description_explainer.proofs.Names.{List, Option, None, Some, subst, arith, MatchOption, version_number, Version, MayBeLaid, NumberRange}
+use Rattle.description_explainer.proofs.Names.{IsWithinLimits, Description, Limit, BreaksGeometry, BreaksLimit, BreaksRanges, ranges_refuted}
+use Rattle.std.proofs.Common.{◌≡◌, ◌<◌, ◌≤◌, ◌^◌}
 use Rattle.description_faults.specs.declared.place.Limit.TheVariants as limit
 
 pub limit_refuted : (d : Description) (l : Limit) → BreaksLimit d l → IsWithinLimits d → ⊥

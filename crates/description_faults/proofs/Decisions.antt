@@ -1,9 +1,10 @@
 -- What was read, and what wasn't.
-use Rattle.description_faults.proofs.Names.{◌≡◌, ℕ, zero, suc, ◌+◌, ◌<◌, ◌^◌, Bool, true, false, List, [], ◌∷◌, ◌++◌, length, get_or, take, Option, None, Some}
-use Rattle.description_faults.proofs.Names.{Result, Ok, Err, Vec, Global, refl, sym, ap, ◌∙◌, subst, arith, AllocError, ◌↔◌, IfOk, IsTrue, MatchOption}
-use Rattle.description_faults.proofs.Names.{false≢true, none-some, same_Some, Data, Items, Members, no_items, item, array, as_array, get_item, get_member, view}
-use Rattle.description_faults.proofs.Names.{items_view, Value, Reads, ReadsList, AreItems, AtOr, IsList, DescriptionFault, Shape, NoMemory, HasBadItem, IsBadAt}
-use Rattle.description_faults.proofs.Names.{decided, HasList}
+use Rattle.description_faults.proofs.Names.{ℕ, zero, suc, Bool, true, false, List, [], length, get_or, take, Option, None, Some, Result, Ok, Err, Vec, Global}
+use Rattle.description_faults.proofs.Names.{refl, sym, ap, subst, arith, AllocError, IfOk, IsTrue, MatchOption, false≢true, none-some, same_Some, Data, Items}
+use Rattle.description_faults.proofs.Names.{Members, no_items, item, array, as_array, get_item, get_member, view, items_view, Value, Reads, ReadsList, AreItems}
+use Rattle.description_faults.proofs.Names.{AtOr, IsList, DescriptionFault, Shape, NoMemory, HasBadItem, IsBadAt, decided, HasList}
+use Rattle.std.proofs.Common.{◌≡◌, ◌+◌, ◌<◌, ◌^◌, ◌∷◌, ◌++◌, ◌∙◌}
+use Rattle.std.specs.Prelude.{◌↔◌}
 use denote.RawPtr.{null_ptr}
 
 pub reads_decided : {A : Type 0} (P : A → Type 0) (r : Result A DescriptionFault) (out : Result Bool AllocError) → out ≡ decided r → Reads P r →

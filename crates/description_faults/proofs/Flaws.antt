@@ -1,13 +1,13 @@
 -- Where a table isn't that of a description.
-use Rattle.description_faults.proofs.Names.{◌≡◌, ◌≢◌, ℕ, ◌<◌, List, [], ◌∷◌, length, map, codes, Option, None, Some, Result, Ok, Err, IsSomeAnd, Vec, refl, sym}
-use Rattle.description_faults.proofs.Names.{ap, ◌∙◌, subst, arith, AllocError, Bor, IfOk, IsTrue, MatchOption, All, Contains, All-cons, All-contains, none-some}
-use Rattle.description_faults.proofs.Names.{same_Some, Data, Items, Members, array, table, get_item, get_member, view, Value, IsBank, IsDescription, IsList}
-use Rattle.description_faults.proofs.Names.{IsNode, IsPage, IsProcess, IsRange, has_only, whole_ranges, Key, Nodes, Pages, Log, Layout, Age, Ranges, Banks}
-use Rattle.description_faults.proofs.Names.{Processes, NodeList, PageList, BankNumber, BankOwner, BankLimit, ProcessRoot, ProcessAnnex, ProcessOwner}
-use Rattle.description_faults.proofs.Names.{ProcessState, ProcessKey, ProcessWords, ProcessSpace, ProcessRegisters, NodeNumber, NodeOwner, NodeSlots}
-use Rattle.description_faults.proofs.Names.{PageNumber, PageOwner, PageWords, Flaw, Unknown, Misfit, Item, ShapePlace, TableName, HasBadItem, HasItemAs}
-use Rattle.description_faults.proofs.Names.{IsBadAt, IsFlawAt, IsTableOf, IsWholeItem, BreaksShape, Fits, HasItem, IsFlaw, IsItem, IsTableAt, IsUnlisted}
-use Rattle.description_faults.proofs.Names.{key_name, keys_of, object_at}
+use Rattle.description_faults.proofs.Names.{ℕ, List, [], length, map, codes, Option, None, Some, Result, Ok, Err, IsSomeAnd, Vec, refl, sym, ap, subst, arith}
+use Rattle.description_faults.proofs.Names.{AllocError, Bor, IfOk, IsTrue, MatchOption, All, Contains, All-cons, All-contains, none-some, same_Some, Data}
+use Rattle.description_faults.proofs.Names.{Items, Members, array, table, get_item, get_member, view, Value, IsBank, IsDescription, IsList, IsNode, IsPage}
+use Rattle.description_faults.proofs.Names.{IsProcess, IsRange, has_only, whole_ranges, Key, Nodes, Pages, Log, Layout, Age, Ranges, Banks, Processes, NodeList}
+use Rattle.description_faults.proofs.Names.{PageList, BankNumber, BankOwner, BankLimit, ProcessRoot, ProcessAnnex, ProcessOwner, ProcessState, ProcessKey}
+use Rattle.description_faults.proofs.Names.{ProcessWords, ProcessSpace, ProcessRegisters, NodeNumber, NodeOwner, NodeSlots, PageNumber, PageOwner, PageWords}
+use Rattle.description_faults.proofs.Names.{Flaw, Unknown, Misfit, Item, ShapePlace, TableName, HasBadItem, HasItemAs, IsBadAt, IsFlawAt, IsTableOf}
+use Rattle.description_faults.proofs.Names.{IsWholeItem, BreaksShape, Fits, HasItem, IsFlaw, IsItem, IsTableAt, IsUnlisted, key_name, keys_of, object_at}
+use Rattle.std.proofs.Common.{◌≡◌, ◌≢◌, ◌<◌, ◌∷◌, ◌∙◌}
 use Rattle.description_faults.specs.declared.place.TableName.TheVariants as name
 use Rattle.description_faults.proofs.Decisions.{at_some, bad_at, unlisted_at, with_default}
 

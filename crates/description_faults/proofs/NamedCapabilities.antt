@@ -1,12 +1,13 @@
 -- The capabilities that a description names, and those that its frames hold.
-use Rattle.description_faults.proofs.Names.{◌≡◌, ℕ, ◌<◌, ◌≤◌, inl, inr, List, [], ◌∷◌, length, Option, None, Some, slice_get, unwrap_or, IsSomeAnd, refl, sym}
-use Rattle.description_faults.proofs.Names.{ap, ◌∙◌, subst, arith, All, Contains, cases_eq, All-cons, All-contains, All-head, All-tail, get_or_from_slice_get}
-use Rattle.description_faults.proofs.Names.{Cap, Capability, Void, Frame, Geometry, frame_at, caps_in, fresh_cap, AreNamed, IsNamed, NamesItsRole, Description}
-use Rattle.description_faults.proofs.Names.{NodeEntry, ProcessEntry, SlotEntry, AreSlots, HasFields, HasNumbers, HoldsNamed, IsDescribed, IsProcessEntry}
-use Rattle.description_faults.proofs.Names.{named_at, AreTargets, Entry, HasProcessTargets, HasTargets, IsTarget, OfAnnex, OfBank, OfNode, OfPage, OfRoot}
-use Rattle.description_faults.proofs.Names.{number_of, described_once, IsFrameOf, IsOf, described_cases, described_of, all_from, all_got, first_beyond}
-use Rattle.description_faults.proofs.Names.{first_of, first_there, named_targets, never_raised, role_target, Held, BreaksTarget, HoldsAt, AllHave, AllIn}
-use Rattle.description_faults.proofs.Names.{AllOfProcess, IfNamed, OneLacks}
+use Rattle.description_faults.proofs.Names.{ℕ, inl, inr, List, [], length, Option, None, Some, slice_get, unwrap_or, IsSomeAnd, refl, sym, ap, subst, arith}
+use Rattle.description_faults.proofs.Names.{All, Contains, cases_eq, All-cons, All-contains, All-head, All-tail, get_or_from_slice_get, Cap, Capability, Void}
+use Rattle.description_faults.proofs.Names.{Frame, Geometry, frame_at, caps_in, fresh_cap, AreNamed, IsNamed, NamesItsRole, Description, NodeEntry}
+use Rattle.description_faults.proofs.Names.{ProcessEntry, SlotEntry, AreSlots, HasFields, HasNumbers, HoldsNamed, IsDescribed, IsProcessEntry, named_at}
+use Rattle.description_faults.proofs.Names.{AreTargets, Entry, HasProcessTargets, HasTargets, IsTarget, OfAnnex, OfBank, OfNode, OfPage, OfRoot, number_of}
+use Rattle.description_faults.proofs.Names.{described_once, IsFrameOf, IsOf, described_cases, described_of, all_from, all_got, first_beyond, first_of}
+use Rattle.description_faults.proofs.Names.{first_there, named_targets, never_raised, role_target, Held, BreaksTarget, HoldsAt, AllHave, AllIn, AllOfProcess}
+use Rattle.description_faults.proofs.Names.{IfNamed, OneLacks}
+use Rattle.std.proofs.Common.{◌≡◌, ◌<◌, ◌≤◌, ◌∷◌, ◌∙◌}
 use Rattle.description_faults.specs.declared.place.Held.TheVariants as held
 use Rattle.description_faults.proofs.Refuted.{all_refuted}
 

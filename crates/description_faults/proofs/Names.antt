@@ -33,8 +33,7 @@ pub use Rattle.model.specs.declared.capability.Capability.TheVariants.{Void}
 pub use Rattle.model.specs.declared.frame.Frame.{Frame}
 pub use Rattle.model.specs.declared.geometry.Geometry.{Geometry}
 pub use Rattle.std.proofs.Common.{Bool, Err, Global, IsSomeAnd, List, None, Ok, Option, Result, Some, Vec, [], ap, arith, codes, drop, false, get_or, inl, inr}
-pub use Rattle.std.proofs.Common.{length, map, option_map, refl, slice_get, slice_index, slice_index_or, subst, suc, sym, take, true, unwrap_or, zero, ℕ, ◌++◌}
-pub use Rattle.std.proofs.Common.{◌+◌, ◌-◌, ◌<◌, ◌^◌, ◌∙◌, ◌∷◌, ◌≡◌, ◌≢◌, ◌≤◌}
+pub use Rattle.std.proofs.Common.{length, map, option_map, refl, slice_get, slice_index, slice_index_or, subst, suc, sym, take, true, unwrap_or, zero, ℕ}
 pub use Rattle.std.proofs.lemmas.Bool.{cases_eq, false≢true}
 pub use Rattle.std.proofs.lemmas.Grind.{common_steps}
 pub use Rattle.std.proofs.lemmas.List.{drop_all, drop_more, get_or_default, length-append, length-map, take_all, take_more}
@@ -42,7 +41,7 @@ pub use Rattle.std.proofs.lemmas.List.Elements.{All-cons, All-contains, All-head
 pub use Rattle.std.proofs.lemmas.Option.{get_or_from_slice_get, none-some, same_Some, slice_get-get_or, slice_get-map, slice_get_read, slice_get_within}
 pub use Rattle.std.specs.Borrow.{Bor}
 pub use Rattle.std.specs.List.{All, Contains}
-pub use Rattle.std.specs.Prelude.{IfOk, IsTrue, MatchOption, ◌↔◌}
+pub use Rattle.std.specs.Prelude.{IfOk, IsTrue, MatchOption}
 pub use Rattle.std.specs.declared.alloc.AllocError.{AllocError}
 pub use Rattle.toml.specs.Data.{Data, Items, Members, array, as_array, get_item, get_member, item, no_items, table}
 pub use Rattle.toml.specs.View.{items_view, table_view, view}

@@ -1,8 +1,9 @@
 -- The numbers of a description, by their places among all.
-use Rattle.description_faults.proofs.Names.{◌≡◌, ◌≢◌, ℕ, zero, suc, ◌+◌, ◌-◌, ◌<◌, ◌≤◌, List, [], ◌∷◌, ◌++◌, length, map, Option, None, Some, option_map}
-use Rattle.description_faults.proofs.Names.{slice_get, IsSomeAnd, refl, sym, ap, ◌∙◌, subst, arith, All, Contains, length-append, length-map, All-contains}
-use Rattle.description_faults.proofs.Names.{slice_get-map, Geometry, object_count, Description, AreDistinct, HasNumbers, node_numbers, page_numbers, all_got}
-use Rattle.description_faults.proofs.Names.{Named, BreaksNumber, IsOfItsKind, IsOutside, IsTwice, number_at, BreaksIt, place_of}
+use Rattle.description_faults.proofs.Names.{ℕ, zero, suc, List, [], length, map, Option, None, Some, option_map, slice_get, IsSomeAnd, refl, sym, ap, subst}
+use Rattle.description_faults.proofs.Names.{arith, All, Contains, length-append, length-map, All-contains, slice_get-map, Geometry, object_count, Description}
+use Rattle.description_faults.proofs.Names.{AreDistinct, HasNumbers, node_numbers, page_numbers, all_got, Named, BreaksNumber, IsOfItsKind, IsOutside, IsTwice}
+use Rattle.description_faults.proofs.Names.{number_at, BreaksIt, place_of}
+use Rattle.std.proofs.Common.{◌≡◌, ◌≢◌, ◌+◌, ◌-◌, ◌<◌, ◌≤◌, ◌∷◌, ◌++◌, ◌∙◌}
 use Rattle.description_faults.specs.declared.place.Misnumbered.TheVariants as misnumbered
 use Rattle.description_faults.specs.declared.place.Named.TheVariants as named
 use Rattle.description_faults.proofs.Refuted.{all_refuted, twice_refuted}

@@ -1,8 +1,9 @@
 -- The part of an object that breaks a rule.
-use Rattle.description_faults.proofs.Names.{◌≡◌, ℕ, ◌<◌, ◌≤◌, List, map, length, get_or, Option, None, Some, slice_get, IsSomeAnd, refl, sym, subst, arith}
-use Rattle.description_faults.proofs.Names.{MatchOption, All, All-map, Capability, Description, NodeEntry, PageEntry, ProcessEntry, SlotEntry, HasFields, Held}
-use Rattle.description_faults.proofs.Names.{Part, BreaksField, HoldsAt, AllHave, BreaksNodes, BreaksPages, BreaksProcess, BreaksProcesses, LacksIt, OneLacks}
-use Rattle.description_faults.proofs.Names.{OneOf, OneOfNodes, OneOfProcess, OneOfProcesses}
+use Rattle.description_faults.proofs.Names.{ℕ, List, map, length, get_or, Option, None, Some, slice_get, IsSomeAnd, refl, sym, subst, arith, MatchOption, All}
+use Rattle.description_faults.proofs.Names.{All-map, Capability, Description, NodeEntry, PageEntry, ProcessEntry, SlotEntry, HasFields, Held, Part, BreaksField}
+use Rattle.description_faults.proofs.Names.{HoldsAt, AllHave, BreaksNodes, BreaksPages, BreaksProcess, BreaksProcesses, LacksIt, OneLacks, OneOf, OneOfNodes}
+use Rattle.description_faults.proofs.Names.{OneOfProcess, OneOfProcesses}
+use Rattle.std.proofs.Common.{◌≡◌, ◌<◌, ◌≤◌}
 use Rattle.description_faults.specs.declared.place.Held.TheVariants as held
 use Rattle.description_faults.specs.declared.place.Part.TheVariants as part
 use Rattle.description_faults.proofs.Elements.{element_at}

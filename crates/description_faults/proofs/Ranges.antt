@@ -1,7 +1,7 @@
 -- Ranges that go on from number to number.
-use Rattle.description_faults.proofs.Names.{◌≡◌, ℕ, zero, suc, ◌+◌, ◌<◌, ◌≤◌, List, [], ◌∷◌, ◌++◌, length, map, get_or, take, drop, refl, sym, ap, ◌∙◌, subst}
-use Rattle.description_faults.proofs.Names.{arith, drop_all, drop_more, get_or_default, take_all, take_more, Geometry, object_count, Cover, IsNext, placed}
-use Rattle.description_faults.proofs.Names.{NumberRange, GoesOn, count_in}
+use Rattle.description_faults.proofs.Names.{ℕ, zero, suc, List, [], length, map, get_or, take, drop, refl, sym, ap, subst, arith, drop_all, drop_more}
+use Rattle.description_faults.proofs.Names.{get_or_default, take_all, take_more, Geometry, object_count, Cover, IsNext, placed, NumberRange, GoesOn, count_in}
+use Rattle.std.proofs.Common.{◌≡◌, ◌+◌, ◌<◌, ◌≤◌, ◌∷◌, ◌++◌, ◌∙◌}
 
 count_more : (rs : List NumberRange) (r : NumberRange) → count_in (rs ++ r ∷ []) ≡ count_in rs + r.count
 count_more [] r = omega arith

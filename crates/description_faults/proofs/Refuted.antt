@@ -1,9 +1,10 @@
 -- What stands at a place that breaks a rule isn't there where the rule is kept.
-use Rattle.description_faults.proofs.Names.{◌≡◌, ◌≢◌, ℕ, zero, suc, ◌+◌, ◌<◌, ◌≤◌, ◌^◌, List, [], ◌∷◌, length, map, get_or, take, Option, None, Some, slice_get}
-use Rattle.description_faults.proofs.Names.{slice_index_or, IsSomeAnd, refl, sym, ap, ◌∙◌, subst, arith, All, Contains, All-map, none-some, same_Some}
-use Rattle.description_faults.proofs.Names.{slice_get_within, Geometry, object_count, Cover, IsNext, placed, NumberRange, Description, NodeEntry, PageEntry}
-use Rattle.description_faults.proofs.Names.{SlotEntry, AreDistinct, AreSlots, AreWords, HasFields, IsProcessEntry, IsSomeCapability, all_got, Indexed, Limit}
-use Rattle.description_faults.proofs.Names.{Part, SlotFlaw, BreaksField, BreaksIndexed, BreaksRanges, BreaksSlots, GoesOn, IsOutside, IsTwice, count_in}
+use Rattle.description_faults.proofs.Names.{ℕ, zero, suc, List, [], length, map, get_or, take, Option, None, Some, slice_get, slice_index_or, IsSomeAnd, refl}
+use Rattle.description_faults.proofs.Names.{sym, ap, subst, arith, All, Contains, All-map, none-some, same_Some, slice_get_within, Geometry, object_count}
+use Rattle.description_faults.proofs.Names.{Cover, IsNext, placed, NumberRange, Description, NodeEntry, PageEntry, SlotEntry, AreDistinct, AreSlots, AreWords}
+use Rattle.description_faults.proofs.Names.{HasFields, IsProcessEntry, IsSomeCapability, all_got, Indexed, Limit, Part, SlotFlaw, BreaksField, BreaksIndexed}
+use Rattle.description_faults.proofs.Names.{BreaksRanges, BreaksSlots, GoesOn, IsOutside, IsTwice, count_in}
+use Rattle.std.proofs.Common.{◌≡◌, ◌≢◌, ◌+◌, ◌<◌, ◌≤◌, ◌^◌, ◌∷◌, ◌∙◌}
 use Rattle.description_faults.specs.declared.place.Indexed.TheVariants as indexed
 use Rattle.description_faults.specs.declared.place.Limit.TheVariants as limit
 use Rattle.description_faults.specs.declared.place.Part.TheVariants as part

@@ -1,7 +1,7 @@
 -- Lists of slots and words whose indexes are as they must be.
-use Rattle.description_faults.proofs.Names.{◌≡◌, ℕ, ◌<◌, ◌≤◌, List, map, Option, None, Some, slice_get, IsSomeAnd, refl, sym, subst, MatchOption, All}
-use Rattle.description_faults.proofs.Names.{SlotEntry, WordEntry, AreDistinct, AreSlots, AreWords, IsSomeCapability, Indexed, SlotFlaw, BreaksIndexed}
-use Rattle.description_faults.proofs.Names.{BreaksSlots}
+use Rattle.description_faults.proofs.Names.{ℕ, List, map, Option, None, Some, slice_get, IsSomeAnd, refl, sym, subst, MatchOption, All, SlotEntry, WordEntry}
+use Rattle.description_faults.proofs.Names.{AreDistinct, AreSlots, AreWords, IsSomeCapability, Indexed, SlotFlaw, BreaksIndexed, BreaksSlots}
+use Rattle.std.proofs.Common.{◌≡◌, ◌<◌, ◌≤◌}
 use Rattle.description_faults.specs.declared.place.SlotFlaw.TheVariants as slot
 use Rattle.description_faults.proofs.Elements.{all_unmapped}
 

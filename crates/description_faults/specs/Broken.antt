@@ -1,9 +1,9 @@
 -- Where a description breaks the rules beyond its shape.
-use Rattle.description_faults.specs.Names.{◌≡◌, ◌≢◌, ℕ, ◌+◌, ◌^◌, ◌<◌, ◌≤◌, List, [], ◌∷◌, Option, None, Some, length}
-use Rattle.description_faults.specs.Names.{map, option_map, slice_get, take, IsSomeAnd, Capability, Frame, Geometry}
-use Rattle.description_faults.specs.Names.{object_count, IsNext, version_number, Version, placed, NumberRange}
-use Rattle.description_faults.specs.Names.{IsUnbanked, NamesItsRole, Unbanked, Description, SlotEntry, IsDescribed}
-use Rattle.description_faults.specs.Names.{IsSomeCapability, IsSpaceEntry}
+use Rattle.description_faults.specs.Names.{ℕ, List, [], Option, None, Some, length, map, option_map, slice_get, take}
+use Rattle.description_faults.specs.Names.{IsSomeAnd, Capability, Frame, Geometry, object_count, IsNext, version_number}
+use Rattle.description_faults.specs.Names.{Version, placed, NumberRange, IsUnbanked, NamesItsRole, Unbanked}
+use Rattle.description_faults.specs.Names.{Description, SlotEntry, IsDescribed, IsSomeCapability, IsSpaceEntry}
+use Rattle.std.specs.Prelude.{◌≡◌, ◌≢◌, ◌+◌, ◌^◌, ◌<◌, ◌≤◌, ◌∷◌}
 use Rattle.description_faults.specs.declared.place.Held.{Held}
 use Rattle.description_faults.specs.declared.place.Held.TheVariants as held
 use Rattle.description_faults.specs.declared.place.Indexed.{Indexed}

@@ -27,8 +27,7 @@ pub use Rattle.model.specs.declared.geometry.Geometry.{Geometry}
 pub use Rattle.model.specs.declared.object.State.{State}
 pub use Rattle.std.specs.List.{All, Contains, list_any}
 pub use Rattle.std.specs.Prelude.{Bool, Err, IsSomeAnd, IsTrue, List, None, Ok, Option, Result, Some, Vec, []}
-pub use Rattle.std.specs.Prelude.{alloc_error, codes, false, length, map, option_map, slice_get, take, true, ℕ, ◌+◌}
-pub use Rattle.std.specs.Prelude.{◌<◌, ◌^◌, ◌∷◌, ◌≡◌, ◌≢◌, ◌≤◌}
+pub use Rattle.std.specs.Prelude.{alloc_error, codes, false, length, map, option_map, slice_get, take, true, ℕ}
 pub use Rattle.std.specs.declared.alloc.AllocError.{AllocError}
 pub use Rattle.std.specs.declared.alloc.Global.{Global}
 pub use Rattle.toml.specs.Data.{Data, Items, Members, array, get_item, get_member, same_key, table}

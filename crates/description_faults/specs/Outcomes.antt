@@ -1,10 +1,11 @@
 -- What the functions that search for a place answer.
-use Rattle.description_faults.specs.Names.{◌≡◌, ℕ, ◌+◌, ◌^◌, ◌≤◌, Bool, true, false, List, length, map, slice_get}
-use Rattle.description_faults.specs.Names.{Option, None, Some, Result, Ok, Err, IsSomeAnd, alloc_error, AllocError, All}
-use Rattle.description_faults.specs.Names.{Capability, IsSpaceEntry, node_numbers, Data, Items, Members, array}
-use Rattle.description_faults.specs.Names.{get_item, get_member, BankEntry, Description, NodeEntry, PageEntry}
-use Rattle.description_faults.specs.Names.{ProcessEntry, SlotEntry, DescriptionFault, Shape, NoMemory, IsBank}
-use Rattle.description_faults.specs.Names.{IsDescription, IsNode, IsPage, IsProcess, IsTable}
+use Rattle.description_faults.specs.Names.{ℕ, Bool, true, false, List, length, map, slice_get, Option, None, Some}
+use Rattle.description_faults.specs.Names.{Result, Ok, Err, IsSomeAnd, alloc_error, AllocError, All, Capability}
+use Rattle.description_faults.specs.Names.{IsSpaceEntry, node_numbers, Data, Items, Members, array, get_item}
+use Rattle.description_faults.specs.Names.{get_member, BankEntry, Description, NodeEntry, PageEntry, ProcessEntry}
+use Rattle.description_faults.specs.Names.{SlotEntry, DescriptionFault, Shape, NoMemory, IsBank, IsDescription, IsNode}
+use Rattle.description_faults.specs.Names.{IsPage, IsProcess, IsTable}
+use Rattle.std.specs.Prelude.{◌≡◌, ◌+◌, ◌^◌, ◌≤◌}
 use Rattle.description_faults.specs.declared.key.Key.{Key}
 use Rattle.description_faults.specs.declared.key.Key.TheVariants.{Banks, Processes, NodeList, PageList}
 use Rattle.description_faults.specs.declared.place.TableName.{TableName}

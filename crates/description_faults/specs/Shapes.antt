@@ -1,11 +1,11 @@
 -- Where a table hasn't the shape of a description.
-use Rattle.description_faults.specs.Names.{◌≡◌, ℕ, Bool, true, false, List, [], ◌∷◌, Option, None, Some, map, codes}
-use Rattle.description_faults.specs.Names.{Vec, IsSomeAnd, IsTrue, Contains, list_any, Global, NumberRange, Capability}
-use Rattle.description_faults.specs.Names.{Void, State, Data, Items, Members, array, table, get_item, get_member}
-use Rattle.description_faults.specs.Names.{same_key, BankEntry, NodeEntry, PageEntry, ProcessEntry, SlotEntry}
-use Rattle.description_faults.specs.Names.{WordEntry, AreFour, At, AtOr, IsBank, IsCapability, IsList, IsNode, IsNumber}
-use Rattle.description_faults.specs.Names.{IsPage, IsProcess, IsRange, IsSlot, IsState, IsTable, IsWideNumber, IsWord}
-use Rattle.description_faults.specs.Names.{has_key}
+use Rattle.description_faults.specs.Names.{ℕ, Bool, true, false, List, [], Option, None, Some, map, codes, Vec}
+use Rattle.description_faults.specs.Names.{IsSomeAnd, IsTrue, Contains, list_any, Global, NumberRange, Capability, Void}
+use Rattle.description_faults.specs.Names.{State, Data, Items, Members, array, table, get_item, get_member, same_key}
+use Rattle.description_faults.specs.Names.{BankEntry, NodeEntry, PageEntry, ProcessEntry, SlotEntry, WordEntry, AreFour}
+use Rattle.description_faults.specs.Names.{At, AtOr, IsBank, IsCapability, IsList, IsNode, IsNumber, IsPage, IsProcess}
+use Rattle.description_faults.specs.Names.{IsRange, IsSlot, IsState, IsTable, IsWideNumber, IsWord, has_key}
+use Rattle.std.specs.Prelude.{◌≡◌, ◌∷◌}
 use Rattle.description_faults.specs.declared.key.Key.{Key}
 use Rattle.description_faults.specs.declared.key.Key.TheVariants.{Nodes, Pages, Log, Layout, Age, Ranges, Banks}
 use Rattle.description_faults.specs.declared.key.Key.TheVariants.{Processes, NodeList, PageList, BankNumber, BankOwner}

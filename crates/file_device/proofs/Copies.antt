@@ -1,8 +1,8 @@
 -- Each call keeps the copy and the file in accord.
-use Rattle.file_device.proofs.Names.{◌≡◌, ◌<◌, ◌≤◌, ℕ, ◌+◌, ◌-◌, ◌*◌, List, [], ◌∷◌, ◌++◌, length, All, Result, Ok, Err, OnOk, OnErr, refl, sym, ◌∙◌, ap, subst}
-use Rattle.file_device.proofs.Names.{arith, inl, ⊎_elim, cases_lt, Keep, IsWhole, Elsewhere, AreSectors, sectors_of, image_of, Narrows, Tears, Only, Elapses}
-use Rattle.file_device.proofs.Names.{Event, cut, State, at_first, after, MayLeave, disk_of, writes_of, image_whole, replay-append, replay-one, written-durable}
-use Rattle.file_device.proofs.Names.{IsCopy, now_of, present_whole, unwritten_same}
+use Rattle.file_device.proofs.Names.{ℕ, List, [], length, All, Result, Ok, Err, OnOk, OnErr, refl, sym, ap, subst, arith, inl, ⊎_elim, cases_lt, Keep, IsWhole}
+use Rattle.file_device.proofs.Names.{Elsewhere, AreSectors, sectors_of, image_of, Narrows, Tears, Only, Elapses, Event, cut, State, at_first, after, MayLeave}
+use Rattle.file_device.proofs.Names.{disk_of, writes_of, image_whole, replay-append, replay-one, written-durable, IsCopy, now_of, present_whole, unwritten_same}
+use Rattle.std.proofs.Common.{◌≡◌, ◌<◌, ◌≤◌, ◌+◌, ◌-◌, ◌*◌, ◌∷◌, ◌++◌, ◌∙◌}
 use Rattle.memory_device.specs.Past.{synced}
 use Rattle.memory_device.proofs.Disks as Disks
 

@@ -1,8 +1,8 @@
 -- The calls of a file, one deed after another.
-use Rattle.file_device.proofs.Names.{◌≡◌, ℕ, ◌+◌, ◌-◌, ◌*◌, ◌≤◌, List, [], ◌∷◌, ◌++◌, Option, None, Some, Result, Ok, Err, OnOk, is_ok, true, length, take}
-use Rattle.file_device.proofs.Names.{drop, refl, sym, ap, ◌∙◌, subst, append_assoc, append-nil, arith, length-append, length-take, ∥∥₁_map, take-add, take_rest}
-use Rattle.file_device.proofs.Names.{flat_map-append, concat-append, concat, sectors_of, Event, writes_of, Adds, Call, took, Deed, writes, calls_of, events_by}
-use Rattle.file_device.proofs.Names.{taken, Takes, Tells}
+use Rattle.file_device.proofs.Names.{ℕ, List, [], Option, None, Some, Result, Ok, Err, OnOk, is_ok, true, length, take, drop, refl, sym, ap, subst}
+use Rattle.file_device.proofs.Names.{append_assoc, append-nil, arith, length-append, length-take, ∥∥₁_map, take-add, take_rest, flat_map-append, concat-append}
+use Rattle.file_device.proofs.Names.{concat, sectors_of, Event, writes_of, Adds, Call, took, Deed, writes, calls_of, events_by, taken, Takes, Tells}
+use Rattle.std.proofs.Common.{◌≡◌, ◌+◌, ◌-◌, ◌*◌, ◌≤◌, ◌∷◌, ◌++◌, ◌∙◌}
 
 -- calls, and then more
 pub adds_more : {X : Type 0} (a b c : Option (List X)) (xs ys : List X) → Adds a b xs → Adds b c ys → Adds a c (xs ++ ys)

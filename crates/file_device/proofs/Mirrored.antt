@@ -1,7 +1,8 @@
 -- A device has the sectors of its file.
-use Rattle.file_device.proofs.Names.{◌≡◌, ◌<◌, ◌≤◌, ℕ, ◌+◌, ◌*◌, ◌/◌, List, [], ◌∷◌, ◌++◌, Option, None, Some, IfSome, length, take, drop, replicate, refl, sym}
-use Rattle.file_device.proofs.Names.{ap, ◌∙◌, subst, arith, length-append, take-add, drop-drop, length-replicate, take-replicate, concat, Disk, image_of}
-use Rattle.file_device.proofs.Names.{sectors_of, got_inside, zeros_are, Access, Lock, OpeningCall, reads, IsOpened, IsMade, Answers, Mirrors}
+use Rattle.file_device.proofs.Names.{ℕ, List, [], Option, None, Some, IfSome, length, take, drop, replicate, refl, sym, ap, subst, arith, length-append}
+use Rattle.file_device.proofs.Names.{take-add, drop-drop, length-replicate, take-replicate, concat, Disk, image_of, sectors_of, got_inside, zeros_are, Access}
+use Rattle.file_device.proofs.Names.{Lock, OpeningCall, reads, IsOpened, IsMade, Answers, Mirrors}
+use Rattle.std.proofs.Common.{◌≡◌, ◌<◌, ◌≤◌, ◌+◌, ◌*◌, ◌/◌, ◌∷◌, ◌++◌, ◌∙◌}
 
 -- what reads got of a file, where they are true of it
 reads_true : (first now : List ℕ) (byte : ℕ) (pieces : List (List ℕ)) → Answers first (reads byte pieces) now

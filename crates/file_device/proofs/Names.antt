@@ -9,7 +9,7 @@ pub use Rattle.memory_device.specs.PastLaws.{image_whole}
 pub use Rattle.memory_device.specs.declared.record.Outcome.TheVariants.{Keep}
 pub use Rattle.std.proofs.Common.{All, Err, IfSome, List, None, Ok, OnErr, OnOk, Option, Result, Some, [], ap, append-nil, append_assoc, arith, drop, inl}
 pub use Rattle.std.proofs.Common.{is_ok, length, length-append, length-take, length-take-le, option_map, refl, replicate, rules, subst, sym, take, true, ℕ}
-pub use Rattle.std.proofs.Common.{⊎_elim, ◌*◌, ◌++◌, ◌+◌, ◌-◌, ◌/◌, ◌<◌, ◌^◌, ◌∙◌, ◌∷◌, ◌≡◌, ◌≤◌}
+pub use Rattle.std.proofs.Common.{⊎_elim}
 pub use Rattle.std.proofs.Math.Logic.{∥∥₁_map}
 pub use Rattle.std.proofs.Math.Seq.{take-add}
 pub use Rattle.std.proofs.lemmas.Bool.{cases_lt}

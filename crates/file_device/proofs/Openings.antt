@@ -1,8 +1,9 @@
 -- The calls that open or make a device, one after another.
-use Rattle.file_device.proofs.Names.{◌≡◌, ℕ, ◌+◌, ◌*◌, ◌≤◌, List, [], ◌∷◌, ◌++◌, Option, option_map, None, Some, IfSome, length, take, refl, sym, ap, ◌∙◌}
-use Rattle.file_device.proofs.Names.{subst, append-nil, append_assoc, arith, drop, length-append, length-take-le, take-add, take-append-le, concat-append}
-use Rattle.file_device.proofs.Names.{concat, Disk, Agrees, image_of, sectors_of, Access, Create, Lock, Exclusive, OpeningCall, opened, locked, synced, measured}
-use Rattle.file_device.proofs.Names.{got, resized, listed, resizes, KeepsLength, reads, Gets, LoadsLocked, MakesZeros, IsOpened, IsMade, Adds}
+use Rattle.file_device.proofs.Names.{ℕ, List, [], Option, option_map, None, Some, IfSome, length, take, refl, sym, ap, subst, append-nil, append_assoc, arith}
+use Rattle.file_device.proofs.Names.{drop, length-append, length-take-le, take-add, take-append-le, concat-append, concat, Disk, Agrees, image_of, sectors_of}
+use Rattle.file_device.proofs.Names.{Access, Create, Lock, Exclusive, OpeningCall, opened, locked, synced, measured, got, resized, listed, resizes, KeepsLength}
+use Rattle.file_device.proofs.Names.{reads, Gets, LoadsLocked, MakesZeros, IsOpened, IsMade, Adds}
+use Rattle.std.proofs.Common.{◌≡◌, ◌+◌, ◌*◌, ◌≤◌, ◌∷◌, ◌++◌, ◌∙◌}
 use Rattle.file_device.proofs.Deeds.{adds_none, adds_more}
 
 abbrev Calls : Type 0

@@ -1,7 +1,7 @@
 -- How the logic stores an event of a device.
-use Rattle.file_device.specs.Names.{◌≡◌, ℕ, zero, suc, List, [], Coded, code_by, coded×, coded_ℕ, coded_list, Keep}
-use Rattle.file_device.specs.Names.{Drop, Fill, Event, wrote, synced, cut}
-use Rattle.std.specs.Prelude.{refl}
+use Rattle.file_device.specs.Names.{ℕ, zero, suc, List, [], Coded, code_by, coded×, coded_ℕ, coded_list, Keep, Drop}
+use Rattle.file_device.specs.Names.{Fill, Event, wrote, synced, cut}
+use Rattle.std.specs.Prelude.{◌≡◌, refl}
 
 -- which event, a number and bytes
 abbrev Parts : Type 0

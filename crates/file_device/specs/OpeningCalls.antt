@@ -1,6 +1,7 @@
 -- The calls that open or make a device in a file.
-use Rattle.file_device.specs.Names.{◌≡◌, ◌≢◌, ℕ, ◌+◌, ◌*◌, ◌/◌, ◌<◌, List, [], ◌∷◌, ◌++◌, length, take, drop, replicate}
-use Rattle.file_device.specs.Names.{Option, option_map, ⊤, concat, Disk, Agrees, image_of}
+use Rattle.file_device.specs.Names.{ℕ, List, [], length, take, drop, replicate, Option, option_map, ⊤, concat, Disk}
+use Rattle.file_device.specs.Names.{Agrees, image_of}
+use Rattle.std.specs.Prelude.{◌≡◌, ◌≢◌, ◌+◌, ◌*◌, ◌/◌, ◌<◌, ◌∷◌, ◌++◌}
 use Rattle.file_device.specs.declared.openable.Access.{Access}
 use Rattle.file_device.specs.declared.openable.Access.TheVariants.{Create}
 use Rattle.file_device.specs.declared.openable.Lock.{Lock}

@@ -1,6 +1,7 @@
 -- The calls of a file of the operating system, and what they do to its sectors.
-use Rattle.file_device.specs.Names.{◌≡◌, ℕ, ◌+◌, ◌*◌, List, [], ◌∷◌, ◌++◌, length, Option, None, Some, ⊤, concat}
-use Rattle.file_device.specs.Names.{flat_map, Keep, sectors_of, Event, synced, cut, writes_of}
+use Rattle.file_device.specs.Names.{ℕ, List, [], length, Option, None, Some, ⊤, concat, flat_map, Keep, sectors_of}
+use Rattle.file_device.specs.Names.{Event, synced, cut, writes_of}
+use Rattle.std.specs.Prelude.{◌≡◌, ◌+◌, ◌*◌, ◌∷◌, ◌++◌}
 
 -- a call that went well: bytes taken from a byte on, or what was written made durable
 pub data Call : Type 0 where

@@ -1,6 +1,6 @@
 -- What holds of a file and its copy, whatever was done to it.
-use Rattle.file_device.specs.Names.{◌≡◌, ◌<◌, ◌≤◌, ℕ, ◌*◌, List, length, All, IsWhole, Agrees, image_of, Event, State}
-use Rattle.file_device.specs.Names.{at_first, replay}
+use Rattle.file_device.specs.Names.{ℕ, List, length, All, IsWhole, Agrees, image_of, Event, State, at_first, replay}
+use Rattle.std.specs.Prelude.{◌≡◌, ◌<◌, ◌≤◌, ◌*◌}
 
 -- the sectors after all that was done to the file
 abbrev pub now_of : List ℕ → List Event → State

@@ -1,7 +1,8 @@
 -- What follows for the sectors of a file from what holds of its copy.
-use Rattle.file_device.specs.Names.{◌≡◌, ℕ, Bool, true, false, ◌||◌, ◌==◌, if◌then◌else◌, List, [], ◌∷◌, refl, ap, ◌∙◌}
-use Rattle.file_device.specs.Names.{subst, fun_ext, Image, IsWhole, image_of, Event, wrote, synced, cut, State}
-use Rattle.file_device.specs.Names.{at_first, after, replay, MayLeave, image_whole}
+use Rattle.file_device.specs.Names.{ℕ, Bool, true, false, List, [], refl, ap, subst, fun_ext, Image, IsWhole, image_of}
+use Rattle.file_device.specs.Names.{Event, wrote, synced, cut, State, at_first, after, replay, MayLeave, image_whole}
+use Rattle.std.specs.Prelude.{◌≡◌, ◌||◌, ◌==◌, if◌then◌else◌, ◌∷◌}
+use Rattle.std.proofs.Common.{◌∙◌}
 use Rattle.file_device.specs.Sound.{IsCopy, now_of}
 
 -- what wasn't written since the last sync or power cut is durable

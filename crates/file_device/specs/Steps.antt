@@ -1,5 +1,6 @@
 -- What a step of a file adds to its history.
-use Rattle.file_device.specs.Names.{ℕ, ◌+◌, List, [], ◌∷◌, ◌++◌, Keep, sectors_of, Event, synced, cut, writes_of}
+use Rattle.file_device.specs.Names.{ℕ, List, [], Keep, sectors_of, Event, synced, cut, writes_of}
+use Rattle.std.specs.Prelude.{◌+◌, ◌∷◌, ◌++◌}
 use Rattle.file_device.specs.declared.history.History.{History}
 use Rattle.file_device.specs.declared.history.Step.{Step}
 use Rattle.file_device.specs.declared.history.Step.TheVariants.{Wrote, Synced, Cut, Failed}

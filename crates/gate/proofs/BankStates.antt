@@ -1,11 +1,11 @@
 -- What is counted, as a process that returns becomes available, after the reply, and after an invocation with no bank's order.
-use Rattle.gate.proofs.Names.{◌≡◌, ℕ, ◌+◌, ◌++◌, ◌≤◌, ◌&&◌, Bool, true, false, List, Result, Ok, Err, drop, length, refl, sym, ap, subst, ◌∙◌, arith}
-use Rattle.gate.proofs.Names.{if◌then◌else◌, IsTrue, OnOk, OnErr, slice_index, All, Bank, Invocation, Frame, Operation, Call, Return, Send, Geometry, Object}
-use Rattle.gate.proofs.Names.{Arguments, objects_of, deliver, AreCurrent, AreKeepable, IsSoundFrames, is_running, IsNoBankOrder, IsSound, NamesItsKind, Fits}
-use Rattle.gate.proofs.Names.{World, annex_at, is_process, is_running_process, register_at, root_at, deliver_frame, invocation_frame, state_sound, AreArguments}
-use Rattle.gate.proofs.Names.{IsNow, held_to, SameFrame, frame_refl, tests_at, usage_same, Caller, OrderPlan, Reply, message_of, AreSound, IsUnchanged, Parts}
-use Rattle.gate.proofs.Names.{frames_of, objects_in, AreCounted, BanksState, MayAsk, writer_count, writers, IsPlanned, answered, arguments_of, state_before}
-use Rattle.gate.proofs.Names.{MayChange, Invokes, IsRequested}
+use Rattle.gate.proofs.Names.{ℕ, Bool, true, false, List, Result, Ok, Err, drop, length, refl, sym, ap, subst, arith, IsTrue, OnOk, OnErr, slice_index, All}
+use Rattle.gate.proofs.Names.{Bank, Invocation, Frame, Operation, Call, Return, Send, Geometry, Object, Arguments, objects_of, deliver, AreCurrent, AreKeepable}
+use Rattle.gate.proofs.Names.{IsSoundFrames, is_running, IsNoBankOrder, IsSound, NamesItsKind, Fits, World, annex_at, is_process, is_running_process}
+use Rattle.gate.proofs.Names.{register_at, root_at, deliver_frame, invocation_frame, state_sound, AreArguments, IsNow, held_to, SameFrame, frame_refl, tests_at}
+use Rattle.gate.proofs.Names.{usage_same, Caller, OrderPlan, Reply, message_of, AreSound, IsUnchanged, Parts, frames_of, objects_in, AreCounted, BanksState}
+use Rattle.gate.proofs.Names.{MayAsk, writer_count, writers, IsPlanned, answered, arguments_of, state_before, MayChange, Invokes, IsRequested}
+use Rattle.std.proofs.Common.{◌≡◌, ◌+◌, ◌++◌, ◌≤◌, ◌&&◌, ◌∙◌, if◌then◌else◌}
 use Rattle.model.specs.declared.command.Command.TheVariants as command
 use Rattle.gate.proofs.Effects.{frame_before}
 use Rattle.gate.proofs.Known.{running_process, same_frames}

@@ -1,12 +1,13 @@
 -- The effect of an invocation, from what each part of it reported.
-use Rattle.gate.proofs.Names.{◌≡◌, ℕ, zero, suc, ◌+◌, ◌++◌, ◌^◌, ◌<◌, ◌≤◌, Bool, List, Option, None, Some, drop, length, refl, sym, ap, ◌∙◌, subst, arith}
-use Rattle.gate.proofs.Names.{if◌then◌else◌, IsTrue, slice_index, All, Capability, Void, Number, Page, Node, Space, Process, Start, Resume, Bank, Discrim}
-use Rattle.gate.proofs.Names.{Invocation, Operation, Call, Return, Send, Frame, Geometry, Object, Available, Arguments, ResultCode, objects_of, Effect}
-use Rattle.gate.proofs.Names.{can_start, invoke, on_kernel_object, ordered, through_gate, AreCurrent, AreKeepable, IsSoundFrames, world_at, touching}
-use Rattle.gate.proofs.Names.{touched_count, order, OrderOutcome, consume, IsSound, object_count, Fits, World, annex_at, is_process, is_running_process}
-use Rattle.gate.proofs.Names.{register_at, with_state, state_frame, invocation_keeps, ordered_keeps, order_keeps, IsNow, held_to, SameFrame, frame_refl, Caller}
-use Rattle.gate.proofs.Names.{OrderPlan, Reply, changed, writer_count, writers, Invokes, IsRequested, IsKernelObject, Overfills, result_code, IsPlanned}
-use Rattle.gate.proofs.Names.{answered, arguments_of, finished, ordered_by, state_before, FitsCap, fetched_of}
+use Rattle.gate.proofs.Names.{ℕ, zero, suc, Bool, List, Option, None, Some, drop, length, refl, sym, ap, subst, arith, IsTrue, slice_index, All, Capability}
+use Rattle.gate.proofs.Names.{Void, Number, Page, Node, Space, Process, Start, Resume, Bank, Discrim, Invocation, Operation, Call, Return, Send, Frame}
+use Rattle.gate.proofs.Names.{Geometry, Object, Available, Arguments, ResultCode, objects_of, Effect, can_start, invoke, on_kernel_object, ordered}
+use Rattle.gate.proofs.Names.{through_gate, AreCurrent, AreKeepable, IsSoundFrames, world_at, touching, touched_count, order, OrderOutcome, consume, IsSound}
+use Rattle.gate.proofs.Names.{object_count, Fits, World, annex_at, is_process, is_running_process, register_at, with_state, state_frame, invocation_keeps}
+use Rattle.gate.proofs.Names.{ordered_keeps, order_keeps, IsNow, held_to, SameFrame, frame_refl, Caller, OrderPlan, Reply, changed, writer_count, writers}
+use Rattle.gate.proofs.Names.{Invokes, IsRequested, IsKernelObject, Overfills, result_code, IsPlanned, answered, arguments_of, finished, ordered_by}
+use Rattle.gate.proofs.Names.{state_before, FitsCap, fetched_of}
+use Rattle.std.proofs.Common.{◌≡◌, ◌+◌, ◌++◌, ◌^◌, ◌<◌, ◌≤◌, ◌∙◌, if◌then◌else◌}
 use Rattle.model.specs.declared.command.Command.TheVariants as command
 use Rattle.gate.proofs.Fits.{held_fits}
 use Rattle.gate.proofs.Plans.{arguments_held, change_fetched, invoked_held}

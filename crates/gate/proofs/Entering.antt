@@ -1,8 +1,9 @@
 -- The effect of an invocation through a gate.
-use Rattle.gate.proofs.Names.{◌≡◌, ℕ, ◌^◌, ◌<◌, Bool, true, false, ◌||◌, List, None, Some, refl, sym, ap, ◌∙◌, subst, if◌then◌else◌, IsTrue, slice_set, All}
-use Rattle.gate.proofs.Names.{All-map, All-set, Capability, Resume, Invocation, Operation, Call, Return, Send, Geometry, Object, Effect, can_start, invoke}
-use Rattle.gate.proofs.Names.{sent_by, through_gate, NamesItsKind, object_count, annex_at, is_process, register_at, IsNow, held_to, AreSound, Parts, objects_in}
-use Rattle.gate.proofs.Names.{Gate, Caller, IsRequested, entered, gate_capability, received, result_code, written_through, FitsCap}
+use Rattle.gate.proofs.Names.{ℕ, Bool, true, false, List, None, Some, refl, sym, ap, subst, IsTrue, slice_set, All, All-map, All-set, Capability, Resume}
+use Rattle.gate.proofs.Names.{Invocation, Operation, Call, Return, Send, Geometry, Object, Effect, can_start, invoke, sent_by, through_gate, NamesItsKind}
+use Rattle.gate.proofs.Names.{object_count, annex_at, is_process, register_at, IsNow, held_to, AreSound, Parts, objects_in, Gate, Caller, IsRequested, entered}
+use Rattle.gate.proofs.Names.{gate_capability, received, result_code, written_through, FitsCap}
+use Rattle.std.proofs.Common.{◌≡◌, ◌^◌, ◌<◌, ◌||◌, ◌∙◌, if◌then◌else◌}
 use Rattle.gate.proofs.Effects.{code_by, invoke_is, invoked_by}
 use Rattle.gate.proofs.Fits.{held_fits, resume_fits}
 use Rattle.gate.proofs.Standing.{register_kind}

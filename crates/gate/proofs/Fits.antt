@@ -1,9 +1,10 @@
 -- Capabilities that may be kept.
-use Rattle.gate.proofs.Names.{◌≡◌, ℕ, true, ◌^◌, ◌<◌, ◌≤◌, List, length, refl, sym, subst, arith, IsTrue, get_or-map, Cap, Capability, Void, Number, Page, Node}
-use Rattle.gate.proofs.Names.{Space, Process, Start, Resume, Bank, Discrim, Frame, ObjectHeader, Geometry, Content, Object, blank_frame, conveyed}
-use Rattle.gate.proofs.Names.{current_count, frame_at, header_at, headers, held_at, AreKeepable, IsCount, IsKeptCap, IsNodeNumber, is_annex, is_node, is_root}
-use Rattle.gate.proofs.Names.{map_content, IsOfKind, MayBeHeld, object_count, content_at, Parts, frames_of, objects_in, content_there, headers_in, known_used}
-use Rattle.gate.proofs.Names.{node_used, keepable_count, bank_number, node_number, page_number, root_number, FitsCap}
+use Rattle.gate.proofs.Names.{ℕ, true, List, length, refl, sym, subst, arith, IsTrue, get_or-map, Cap, Capability, Void, Number, Page, Node, Space, Process}
+use Rattle.gate.proofs.Names.{Start, Resume, Bank, Discrim, Frame, ObjectHeader, Geometry, Content, Object, blank_frame, conveyed, current_count, frame_at}
+use Rattle.gate.proofs.Names.{header_at, headers, held_at, AreKeepable, IsCount, IsKeptCap, IsNodeNumber, is_annex, is_node, is_root, map_content, IsOfKind}
+use Rattle.gate.proofs.Names.{MayBeHeld, object_count, content_at, Parts, frames_of, objects_in, content_there, headers_in, known_used, node_used}
+use Rattle.gate.proofs.Names.{keepable_count, bank_number, node_number, page_number, root_number, FitsCap}
+use Rattle.std.proofs.Common.{◌≡◌, ◌^◌, ◌<◌, ◌≤◌}
 use Rattle.model.specs.declared.object.Content.TheVariants as content
 
 header_there : (fs : List Frame) (n : ℕ) → header_at (headers fs) n ≡ (frame_at fs n).header

@@ -1,8 +1,9 @@
 -- The outcome of an invocation, from what its read-only calls, its announcing and its change reported.
-use Rattle.gate.proofs.Names.{◌≡◌, ℕ, ◌+◌, ◌^◌, ◌<◌, ◌≤◌, Bool, true, false, List, Option, None, Some, Result, Ok, Err, refl, sym, ap, ◌∙◌, subst, ⊎_elim}
-use Rattle.gate.proofs.Names.{arith, cases_lt, IfOk, IsErrOf, IsTrue, OnErr, Invocation, Geometry, Object, ResultCode, Effect, invoke, AreCurrent, AreKeepable}
-use Rattle.gate.proofs.Names.{touching, touched_count, Fits, is_running_process, PrepareFault, IsUnchanged, OnlyReads, Parts, Prepares, Renews, frames_of}
-use Rattle.gate.proofs.Names.{objects_in, InvokeFault, Invoked, Invokes, Overfills, TellsState, fault_of, result_code}
+use Rattle.gate.proofs.Names.{ℕ, Bool, true, false, List, Option, None, Some, Result, Ok, Err, refl, sym, ap, subst, ⊎_elim, arith, cases_lt, IfOk, IsErrOf}
+use Rattle.gate.proofs.Names.{IsTrue, OnErr, Invocation, Geometry, Object, ResultCode, Effect, invoke, AreCurrent, AreKeepable, touching, touched_count, Fits}
+use Rattle.gate.proofs.Names.{is_running_process, PrepareFault, IsUnchanged, OnlyReads, Parts, Prepares, Renews, frames_of, objects_in, InvokeFault, Invoked}
+use Rattle.gate.proofs.Names.{Invokes, Overfills, TellsState, fault_of, result_code}
+use Rattle.std.proofs.Common.{◌≡◌, ◌+◌, ◌^◌, ◌<◌, ◌≤◌, ◌∙◌}
 use Rattle.model.specs.declared.command.Command.TheVariants as command
 use Rattle.capability.specs.declared.present.PrepareFault.TheVariants as prepare
 use Rattle.gate.specs.declared.fault.InvokeFault.TheVariants as fault

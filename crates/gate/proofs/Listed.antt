@@ -1,6 +1,7 @@
 -- What follows of the numbers that were listed.
-use Rattle.gate.proofs.Names.{rules, ◌≡◌, ◌<◌, length, ℕ, zero, suc, List, [], ◌∷◌, Result, Ok, Err, refl, arith, IsErrOf, OnOk, slice_index, PrepareFault, All}
-use Rattle.gate.proofs.Names.{Contains, Operation, Call, Return, Send, fault_of, written_through}
+use Rattle.gate.proofs.Names.{rules, length, ℕ, zero, suc, List, [], Result, Ok, Err, refl, arith, IsErrOf, OnOk, slice_index, PrepareFault, All, Contains}
+use Rattle.gate.proofs.Names.{Operation, Call, Return, Send, fault_of, written_through}
+use Rattle.std.proofs.Common.{◌≡◌, ◌<◌, ◌∷◌}
 use Rattle.capability.specs.declared.present.PrepareFault.TheVariants as prepare
 use Rattle.gate.specs.declared.fault.InvokeFault.TheVariants as invoke_fault
 

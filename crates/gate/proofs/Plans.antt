@@ -1,13 +1,13 @@
 -- The effect of an order that is carried out as planned.
-use Rattle.gate.proofs.Names.{◌≡◌, ⊎_elim, ℕ, zero, suc, ◌^◌, ◌<◌, true, List, [], ◌++◌, Option, None, Some, drop, length, refl, sym, ap, ◌∙◌, subst, arith}
-use Rattle.gate.proofs.Names.{IsTrue, slice_index, All, option_to_list, Capability, Void, Number, Page, Node, Space, Process, Start, Resume, Bank, Discrim}
-use Rattle.gate.proofs.Names.{Invocation, Operation, Call, Return, Send, Geometry, Object, Arguments, BankOrder, on_bank, is_annex, is_bank, is_node}
-use Rattle.gate.proofs.Names.{OrderOutcome, refused, bank_order, order, NamesItsKind, object_count, Fits, annex_at, content_at, is_process, register_at}
-use Rattle.gate.proofs.Names.{used_within, annex_kept, written_within, all_words, held_sent, AreArguments, IsNow, IsHeld, Waits, held_to, SameFrame, frame_refl}
-use Rattle.gate.proofs.Names.{tests_at, BankChange, Caller, Change, OrderPlan, changed, outcome_by, target_of, written_of, numbers_of, IsForBank, MayMake}
-use Rattle.gate.proofs.Names.{PlansAs, writer_count, writers, IsRequested, IsPlanned, Plans, arguments_of, ChangesAs, FitsCap, HaveAnnexesOf, IsFor}
-use Rattle.gate.proofs.Names.{IsOfProcess, IsWithinObject, MayChange, MayEdit, MayHold, fetched_of, node_named, outcome_of, process_named, annex_used}
-use Rattle.gate.proofs.Names.{node_used, root_used}
+use Rattle.gate.proofs.Names.{⊎_elim, ℕ, zero, suc, true, List, [], Option, None, Some, drop, length, refl, sym, ap, subst, arith, IsTrue, slice_index, All}
+use Rattle.gate.proofs.Names.{option_to_list, Capability, Void, Number, Page, Node, Space, Process, Start, Resume, Bank, Discrim, Invocation, Operation, Call}
+use Rattle.gate.proofs.Names.{Return, Send, Geometry, Object, Arguments, BankOrder, on_bank, is_annex, is_bank, is_node, OrderOutcome, refused, bank_order}
+use Rattle.gate.proofs.Names.{order, NamesItsKind, object_count, Fits, annex_at, content_at, is_process, register_at, used_within, annex_kept, written_within}
+use Rattle.gate.proofs.Names.{all_words, held_sent, AreArguments, IsNow, IsHeld, Waits, held_to, SameFrame, frame_refl, tests_at, BankChange, Caller, Change}
+use Rattle.gate.proofs.Names.{OrderPlan, changed, outcome_by, target_of, written_of, numbers_of, IsForBank, MayMake, PlansAs, writer_count, writers}
+use Rattle.gate.proofs.Names.{IsRequested, IsPlanned, Plans, arguments_of, ChangesAs, FitsCap, HaveAnnexesOf, IsFor, IsOfProcess, IsWithinObject, MayChange}
+use Rattle.gate.proofs.Names.{MayEdit, MayHold, fetched_of, node_named, outcome_of, process_named, annex_used, node_used, root_used}
+use Rattle.std.proofs.Common.{◌≡◌, ◌^◌, ◌<◌, ◌++◌, ◌∙◌}
 use Rattle.model.specs.declared.command.Command.TheVariants as command
 use Rattle.model.specs.declared.order.ResultCode.TheVariants as code
 use Rattle.capability.specs.declared.order.BankChange.TheVariants as bank

@@ -1,7 +1,8 @@
 -- Counts of allocations through an invocation.
-use Rattle.gate.proofs.Names.{◌≡◌, ℕ, Bool, true, false, List, Some, ap, ◌∙◌, IsTrue, slice_index, Resume, Start, Invocation, ObjectHeader, Object, header_at}
-use Rattle.gate.proofs.Names.{Effect, invoke, is_free, IsNoBankOrder, Fits, content_at, is_running_process, register_at, invocation_frame, SameFrame, tests_at}
+use Rattle.gate.proofs.Names.{ℕ, Bool, true, false, List, Some, ap, IsTrue, slice_index, Resume, Start, Invocation, ObjectHeader, Object, header_at, Effect}
+use Rattle.gate.proofs.Names.{invoke, is_free, IsNoBankOrder, Fits, content_at, is_running_process, register_at, invocation_frame, SameFrame, tests_at}
 use Rattle.gate.proofs.Names.{AreSound, Parts, Renews, objects_in, SameAllocations, SameFree, renews_after, renews_none, Gate, gate_capability}
+use Rattle.std.proofs.Common.{◌≡◌, ◌∙◌}
 use Rattle.std.specs.Prelude.{if◌then◌else◌}
 use Rattle.model.specs.declared.command.Command.TheVariants as command
 use Rattle.gate.proofs.Standing.{ReadsAs, looked_objects, now_sound}

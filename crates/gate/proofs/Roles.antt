@@ -1,9 +1,10 @@
 -- What stays of processes while one of them changes.
-use Rattle.gate.proofs.Names.{◌≡◌, ℕ, true, List, [], refl, sym, ap, ◌∙◌, IsTrue, slice_index_or, get_or-map, map-set_same, Capability, Invocation, Operation}
-use Rattle.gate.proofs.Names.{Call, Return, Send, Content, Object, Root, State, Available, Waiting, after_gate, free, is_node, is_root, map_content, root_in}
+use Rattle.gate.proofs.Names.{ℕ, true, List, [], refl, sym, ap, IsTrue, slice_index_or, get_or-map, map-set_same, Capability, Invocation, Operation, Call}
+use Rattle.gate.proofs.Names.{Return, Send, Content, Object, Root, State, Available, Waiting, after_gate, free, is_node, is_root, map_content, root_in}
 use Rattle.gate.proofs.Names.{with_slot_in, with_word_in, with_root_word, with_space, consume, resumes, void_where, without, annex_at, content_at, is_process}
 use Rattle.gate.proofs.Names.{root_at, with_content, with_root, with_slot, with_state, with_word, root_frame, set_frame, slot_frame, word_frame, SameFrame}
 use Rattle.gate.proofs.Names.{frame_refl, Change, changed, IsOfProcess, IsWithinObject}
+use Rattle.std.proofs.Common.{◌≡◌, ◌∙◌}
 use Rattle.model.specs.declared.object.Content.TheVariants as content
 use Rattle.capability.specs.declared.order.Change.TheVariants as change
 

@@ -1,8 +1,9 @@
 -- What sound frames stand for.
-use Rattle.gate.proofs.Names.{◌≡◌, ℕ, ◌+◌, ◌-◌, ◌^◌, ◌<◌, List, length, Result, sym, subst, ap, ◌∙◌, arith, IsTrue, Capability, Frame, ObjectHeader, Geometry}
-use Rattle.gate.proofs.Names.{header_at, objects_of, AreKeepable, IsSoundFrames, world_at, is_annex, NamesItsKind, object_count, annex_at, content_at}
-use Rattle.gate.proofs.Names.{is_process, register_at, IsNow, nearly_from, PrepareFault, AreSound, OnlyFetches, Parts, Prepares, frames_of, objects_in}
-use Rattle.gate.proofs.Names.{length_objects, keepable_count, keepable_later, KeepsSoundFrames}
+use Rattle.gate.proofs.Names.{ℕ, List, length, Result, sym, subst, ap, arith, IsTrue, Capability, Frame, ObjectHeader, Geometry, header_at, objects_of}
+use Rattle.gate.proofs.Names.{AreKeepable, IsSoundFrames, world_at, is_annex, NamesItsKind, object_count, annex_at, content_at, is_process, register_at, IsNow}
+use Rattle.gate.proofs.Names.{nearly_from, PrepareFault, AreSound, OnlyFetches, Parts, Prepares, frames_of, objects_in, length_objects, keepable_count}
+use Rattle.gate.proofs.Names.{keepable_later, KeepsSoundFrames}
+use Rattle.std.proofs.Common.{◌≡◌, ◌+◌, ◌-◌, ◌^◌, ◌<◌, ◌∙◌}
 use Rattle.gate.proofs.Fits.{calls_kept}
 use Rattle.gate.proofs.Known.{annex_known, same_frames}
 

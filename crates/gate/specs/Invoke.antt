@@ -1,10 +1,10 @@
 -- What an invocation does to a store of present frames.
-use Rattle.gate.specs.Names.{◌≡◌, ◌↔◌, ℕ, ◌+◌, ◌^◌, ◌<◌, ◌≤◌, Bool, true, false, List, [], ◌∷◌, Option, None, Some}
-use Rattle.gate.specs.Names.{if◌then◌else◌, slice_set, Result, Ok, Err, IfOk, OnOk, OnErr, IsErrOf, Capability, Start}
-use Rattle.gate.specs.Names.{Resume, Invocation, Operation, Call, Send, Geometry, Object, ResultCode, Effect, invoke}
-use Rattle.gate.specs.Names.{after_gate, deliver, ordered, IsSoundFrames, touching, touched_count, consume, annex_at}
-use Rattle.gate.specs.Names.{is_running_process, register_at, Caller, PrepareFault, IsUnchanged, Parts, Renews}
-use Rattle.gate.specs.Names.{frames_of, objects_in}
+use Rattle.gate.specs.Names.{ℕ, Bool, true, false, List, [], Option, None, Some, slice_set, Result, Ok, Err, IfOk, OnOk}
+use Rattle.gate.specs.Names.{OnErr, IsErrOf, Capability, Start, Resume, Invocation, Operation, Call, Send, Geometry}
+use Rattle.gate.specs.Names.{Object, ResultCode, Effect, invoke, after_gate, deliver, ordered, IsSoundFrames, touching}
+use Rattle.gate.specs.Names.{touched_count, consume, annex_at, is_running_process, register_at, Caller, PrepareFault}
+use Rattle.gate.specs.Names.{IsUnchanged, Parts, Renews, frames_of, objects_in}
+use Rattle.std.specs.Prelude.{◌≡◌, ◌↔◌, ◌+◌, ◌^◌, ◌<◌, ◌≤◌, ◌∷◌, if◌then◌else◌}
 use Rattle.capability.specs.declared.present.PrepareFault.TheVariants as prepare
 use Rattle.gate.specs.declared.fault.InvokeFault.{InvokeFault}
 use Rattle.gate.specs.declared.fault.InvokeFault.TheVariants as fault

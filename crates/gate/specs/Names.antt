@@ -37,5 +37,4 @@ pub use Rattle.space_bank.specs.Carrying.{MayMake}
 pub use Rattle.space_bank.specs.Planning.{writer_count, writers}
 pub use Rattle.std.specs.List.{All}
 pub use Rattle.std.specs.Prelude.{Bool, Err, IfOk, IsErrOf, IsTrue, List, None, Ok, OnErr, OnOk, Option, Result, Some}
-pub use Rattle.std.specs.Prelude.{[], drop, false, if◌then◌else◌, length, slice_index, slice_index_or, slice_set, true}
-pub use Rattle.std.specs.Prelude.{ℕ, ◌++◌, ◌+◌, ◌<◌, ◌^◌, ◌↔◌, ◌∷◌, ◌≡◌, ◌≤◌, ◌⊎◌}
+pub use Rattle.std.specs.Prelude.{[], drop, false, length, slice_index, slice_index_or, slice_set, true, ℕ}

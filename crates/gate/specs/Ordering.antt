@@ -1,9 +1,10 @@
 -- An invocation of a kernel object over a store of present frames: its plan, its change, its reply.
-use Rattle.gate.specs.Names.{◌≡◌, ℕ, ◌<◌, ◌++◌, true, List, drop, length, if◌then◌else◌, slice_index, slice_index_or}
-use Rattle.gate.specs.Names.{All, Capability, Void, Invocation, Operation, Call, Return, Geometry, Object, Available}
-use Rattle.gate.specs.Names.{Arguments, deliver, sent_by, order, annex_at, is_process, is_running_process, with_state}
-use Rattle.gate.specs.Names.{IsNow, SameFrame, Caller, OrderPlan, Reply, changed, message_of, outcome_by, Parts, Renews}
-use Rattle.gate.specs.Names.{writer_count, writers}
+use Rattle.gate.specs.Names.{ℕ, true, List, drop, length, slice_index, slice_index_or, All, Capability, Void}
+use Rattle.gate.specs.Names.{Invocation, Operation, Call, Return, Geometry, Object, Available, Arguments, deliver}
+use Rattle.gate.specs.Names.{sent_by, order, annex_at, is_process, is_running_process, with_state, IsNow, SameFrame}
+use Rattle.gate.specs.Names.{Caller, OrderPlan, Reply, changed, message_of, outcome_by, Parts, Renews, writer_count}
+use Rattle.gate.specs.Names.{writers}
+use Rattle.std.specs.Prelude.{◌≡◌, ◌<◌, ◌++◌, if◌then◌else◌}
 use Rattle.gate.specs.Plan.{MayChange}
 
 -- the arguments that an invocation gives its order

@@ -1,8 +1,9 @@
 -- The plan of an order on a kernel object, before anything changes.
-use Rattle.gate.specs.Names.{◌≡◌, ◌⊎◌, ℕ, ◌<◌, ◌≤◌, Option, None, Some, List, IsTrue, Capability, Number, Page, Node}
-use Rattle.gate.specs.Names.{Space, Process, Geometry, Object, Arguments, named, OrderOutcome, IsNoBankOrder, IsKeptCap}
-use Rattle.gate.specs.Names.{is_node, IsSpace, annex_at, content_at, is_process, Change, OrderPlan, changed, outcome_by}
+use Rattle.gate.specs.Names.{ℕ, Option, None, Some, List, IsTrue, Capability, Number, Page, Node, Space, Process}
+use Rattle.gate.specs.Names.{Geometry, Object, Arguments, named, OrderOutcome, IsNoBankOrder, IsKeptCap, is_node}
+use Rattle.gate.specs.Names.{IsSpace, annex_at, content_at, is_process, Change, OrderPlan, changed, outcome_by}
 use Rattle.gate.specs.Names.{written_of, numbers_of, MayMake}
+use Rattle.std.specs.Prelude.{◌≡◌, ◌⊎◌, ◌<◌, ◌≤◌}
 use Rattle.capability.specs.declared.order.Change.TheVariants as change
 
 -- the outcome of an order on one object, as planned

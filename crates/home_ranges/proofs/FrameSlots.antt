@@ -1,6 +1,8 @@
 -- The slots whose sectors have the frames of objects, and their entries.
-use Rattle.home_ranges.proofs.Names.{◌≡◌, ℕ, suc, ◌<◌, Bool, Option, Some, None, List, [], ◌∷◌, length, refl, sym, ap, ◌∙◌, inl, inr, arith, if◌then◌else◌}
-use Rattle.home_ranges.proofs.Names.{cases_eq, eq-eqb, ne_eqb, Entry, entry_at, home_place, slot_in, slot_beside, or_beside, frame_slot_in, Plan, found_slot}
+use Rattle.home_ranges.proofs.Names.{ℕ, suc, Bool, Option, Some, None, List, [], length, refl, sym, ap, inl, inr, arith, cases_eq, eq-eqb, ne_eqb, Entry}
+use Rattle.home_ranges.proofs.Names.{entry_at, home_place, slot_in, slot_beside, or_beside, frame_slot_in, Plan, found_slot}
+use Rattle.std.proofs.Common.{◌≡◌, ◌<◌, ◌∷◌, ◌∙◌}
+use Rattle.std.specs.Prelude.{if◌then◌else◌}
 
 -- ---- the first entry whose home is that of an object
 

@@ -23,10 +23,10 @@ pub use Rattle.layout.specs.declared.version.Version.{Version}
 pub use Rattle.layout.specs.declared.version.Version.TheVariants.{One, Two}
 pub use Rattle.model.specs.declared.geometry.Geometry.{Geometry}
 pub use Rattle.std.proofs.Common.{Bool, Err, List, None, Ok, Option, Result, Some, [], ap, arith, false, get_or, inl, inr, length, map, min, nat_le, nat_lt}
-pub use Rattle.std.proofs.Common.{refl, subst, suc, sym, true, zero, ℕ, ⊎_elim, ◌%◌, ◌&&◌, ◌*◌, ◌+◌, ◌-◌, ◌/◌, ◌<◌, ◌∙◌, ◌∷◌, ◌≡◌, ◌≤◌, ◌⊎◌}
+pub use Rattle.std.proofs.Common.{refl, subst, suc, sym, true, zero, ℕ, ⊎_elim}
 pub use Rattle.std.proofs.lemmas.Bool.{cases_eq, cases_lt, eq-eqb, ne_eqb}
 pub use Rattle.std.proofs.lemmas.Bool.Decides.{nat_tests}
 pub use Rattle.std.proofs.lemmas.List.{get_or-map, get_or_append_left, length-map}
-pub use Rattle.std.specs.Prelude.{OnOk, if◌then◌else◌, ⊤}
+pub use Rattle.std.specs.Prelude.{OnOk, ⊤}
 pub use Rattle.home_ranges.specs.Home.{EndsInZeros, HaveHome, HoldsHome}
 pub use Rattle.home_ranges.specs.Laws.{FramesAreHome, FramesStay, NumbersAreApart, PlacesAreApart, PlacesAreWithin, PlacesSpareLog, home_extent}

@@ -1,12 +1,13 @@
 -- Places of numbers in ranges that cover them.
-use Rattle.home_ranges.proofs.Names.{◌≡◌, ◌⊎◌, ℕ, zero, suc, refl, ◌+◌, ◌-◌, ◌*◌, ◌/◌, ◌%◌, ◌<◌, ◌≤◌, Option, Some, None, List, [], ◌∷◌, length, get_or, map}
-use Rattle.home_ranges.proofs.Names.{sym, ap, subst, ◌∙◌, inl, inr, arith, Result, Ok, Err, Bool, true, false, nat_lt, nat_le, min, ◌&&◌, if◌then◌else◌, OnOk}
-use Rattle.home_ranges.proofs.Names.{⊤, cases_lt, length-map, get_or_append_left, get_or-map, nat_tests, Geometry, Image, Extent, HomeRange, Half, First}
-use Rattle.home_ranges.proofs.Names.{Second, Shape, Node, Packed, Page, Version, One, Two, half_of, range_with, node_offset, place_in, place_by, home_place}
-use Rattle.home_ranges.proofs.Names.{rank_in, shape_of, place_length, sectors_from, node_shape, shape_bytes, shape_length, Plan, IsPlan, Cover, IsOfOneKind}
-use Rattle.home_ranges.proofs.Names.{IsWithin, IsApart, IsInside, extent_at, extents, nodes_length, range_extent, half_extent, half_start, itself, apart_inside}
-use Rattle.home_ranges.proofs.Names.{apart_turned, many, half_at, IsObject, EndsInZeros, HaveHome, HoldsHome, home_extent, PlacesAreWithin, PlacesAreApart}
-use Rattle.home_ranges.proofs.Names.{NumbersAreApart, PlacesSpareLog}
+use Rattle.home_ranges.proofs.Names.{ℕ, zero, suc, refl, Option, Some, None, List, [], length, get_or, map, sym, ap, subst, inl, inr, arith, Result, Ok, Err}
+use Rattle.home_ranges.proofs.Names.{Bool, true, false, nat_lt, nat_le, min, OnOk, ⊤, cases_lt, length-map, get_or_append_left, get_or-map, nat_tests, Geometry}
+use Rattle.home_ranges.proofs.Names.{Image, Extent, HomeRange, Half, First, Second, Shape, Node, Packed, Page, Version, One, Two, half_of, range_with}
+use Rattle.home_ranges.proofs.Names.{node_offset, place_in, place_by, home_place, rank_in, shape_of, place_length, sectors_from, node_shape, shape_bytes}
+use Rattle.home_ranges.proofs.Names.{shape_length, Plan, IsPlan, Cover, IsOfOneKind, IsWithin, IsApart, IsInside, extent_at, extents, nodes_length}
+use Rattle.home_ranges.proofs.Names.{range_extent, half_extent, half_start, itself, apart_inside, apart_turned, many, half_at, IsObject, EndsInZeros, HaveHome}
+use Rattle.home_ranges.proofs.Names.{HoldsHome, home_extent, PlacesAreWithin, PlacesAreApart, NumbersAreApart, PlacesSpareLog}
+use Rattle.std.proofs.Common.{◌≡◌, ◌⊎◌, ◌+◌, ◌-◌, ◌*◌, ◌/◌, ◌%◌, ◌<◌, ◌≤◌, ◌∷◌, ◌∙◌, ◌&&◌}
+use Rattle.std.specs.Prelude.{if◌then◌else◌}
 
 abbrev pub range_at : List HomeRange → ℕ → HomeRange
 range_at rs i = get_or rs i (record { first = 0; count = 0; sector = 0 })

@@ -1,5 +1,6 @@
 -- Writes apart from a home, and frames that no slot of the log has.
-use Rattle.home_ranges.proofs.Names.{◌+◌, arith, ⊎_elim, same_shaped, home_place, shape_of, FramesStay, FramesAreHome}
+use Rattle.home_ranges.proofs.Names.{arith, ⊎_elim, same_shaped, home_place, shape_of, FramesStay, FramesAreHome}
+use Rattle.std.proofs.Common.{◌+◌}
 
 pub frames_stay : FramesStay
 frames_stay old new p a at n apart elsewhere = same_shaped (home_place p a) (shape_of p a) old new (λ i lt.

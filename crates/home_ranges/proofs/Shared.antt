@@ -1,7 +1,8 @@
 -- Homes that several numbers share.
-use Rattle.home_ranges.proofs.Names.{◌≡◌, ℕ, ◌+◌, ◌-◌, ◌%◌, ◌<◌, ◌≤◌, Bool, true, false, nat_lt, refl, sym, ap, ◌∙◌, inl, inr, arith, if◌then◌else◌, Geometry}
-use Rattle.home_ranges.proofs.Names.{HomeRange, Shape, Node, Packed, Page, Version, One, Two, range_with, node_offset, place_in, home_place, rank_in, shape_of}
-use Rattle.home_ranges.proofs.Names.{node_shape, Plan, IsPlan, IsObject}
+use Rattle.home_ranges.proofs.Names.{ℕ, Bool, true, false, nat_lt, refl, sym, ap, inl, inr, arith, Geometry, HomeRange, Shape, Node, Packed, Page, Version, One}
+use Rattle.home_ranges.proofs.Names.{Two, range_with, node_offset, place_in, home_place, rank_in, shape_of, node_shape, Plan, IsPlan, IsObject}
+use Rattle.std.proofs.Common.{◌≡◌, ◌+◌, ◌-◌, ◌%◌, ◌<◌, ◌≤◌, ◌∙◌}
+use Rattle.std.specs.Prelude.{if◌then◌else◌}
 use Rattle.home_ranges.proofs.Places.{range_at, Has, found, found_too, place_is, shape_is, lt_true, lt_false, one_range, IsOwn, ranked_in, one_cluster, beside}
 
 -- ---- what lies between two numbers that share a home has it too

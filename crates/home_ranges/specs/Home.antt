@@ -1,6 +1,7 @@
 -- What the sectors of a home hold, and who has it.
-use Rattle.home_ranges.specs.Names.{◌≡◌, ℕ, ◌+◌, ◌<◌, ◌≤◌, List, Image, home_place, shape_of, bytes_at, shape_bytes}
-use Rattle.home_ranges.specs.Names.{Plan, IsBlankBehind, IsObject}
+use Rattle.home_ranges.specs.Names.{ℕ, List, Image, home_place, shape_of, bytes_at, shape_bytes, Plan, IsBlankBehind}
+use Rattle.home_ranges.specs.Names.{IsObject}
+use Rattle.std.specs.Prelude.{◌≡◌, ◌+◌, ◌<◌, ◌≤◌}
 
 -- the bytes of a home are the frames of all that have it
 abbrev pub HoldsHome : Plan → ℕ → List ℕ → Image → Type 0

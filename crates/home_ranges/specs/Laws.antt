@@ -1,7 +1,8 @@
 -- Home places lie apart from one another and from the log.
-use Rattle.home_ranges.specs.Names.{◌≡◌, ℕ, List, None, Image, Elsewhere, Entry, Extent, One, home_place, place_length}
-use Rattle.home_ranges.specs.Names.{Plan, IsPlan, IsWithin, IsApart, half_extent, frame_slot_in, bytes_at, frame_in}
+use Rattle.home_ranges.specs.Names.{ℕ, List, None, Image, Elsewhere, Entry, Extent, One, home_place, place_length, Plan}
+use Rattle.home_ranges.specs.Names.{IsPlan, IsWithin, IsApart, half_extent, frame_slot_in, bytes_at, frame_in}
 use Rattle.home_ranges.specs.Names.{half_sector, IsObject}
+use Rattle.std.specs.Prelude.{◌≡◌}
 
 -- the sectors of the home of a number
 abbrev pub home_extent : Plan → ℕ → Extent

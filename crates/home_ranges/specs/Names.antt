@@ -10,4 +10,4 @@ pub use Rattle.layout.specs.Superblock.{IsApart, IsPlan, IsWithin, Plan, half_ex
 pub use Rattle.layout.specs.declared.directory.Entry.{Entry}
 pub use Rattle.layout.specs.declared.extent.Extent.{Extent}
 pub use Rattle.layout.specs.declared.version.Version.TheVariants.{One}
-pub use Rattle.std.specs.Prelude.{List, None, ℕ, ◌+◌, ◌<◌, ◌≡◌, ◌≤◌}
+pub use Rattle.std.specs.Prelude.{List, None, ℕ}

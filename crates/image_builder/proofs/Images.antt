@@ -1,9 +1,9 @@
 -- What is written is an image of a description.
-use Rattle.image_builder.proofs.Names.{◌≡◌, ◌≤◌, ℕ, List, ap, inl, inr, subst, sym, ◌∙◌, ⊎_elim, Members, Cap, Frame, ObjectHeader, Content, frames_in}
-use Rattle.image_builder.proofs.Names.{AreKeepable, IsSoundFrames, Disk, Image, Elsewhere, LeavesOnly, OnlyNow, leaves_weaker, started, Encodes, Plan}
-use Rattle.image_builder.proofs.Names.{one_state, Holds, SavedFrames, kept_of, IsLeftWriting, first_saved, first_state, kept_holds_the_same, none_is_held}
-use Rattle.image_builder.proofs.Names.{IsDescription, Description, Builds, IsLeftOf, IsWithinLimits, plan_for, AreLaid, IsLeftBuilding, IsSoundDescription}
-use Rattle.image_builder.proofs.Names.{described_once}
+use Rattle.image_builder.proofs.Names.{ℕ, List, ap, inl, inr, subst, sym, ⊎_elim, Members, Cap, Frame, ObjectHeader, Content, frames_in, AreKeepable}
+use Rattle.image_builder.proofs.Names.{IsSoundFrames, Disk, Image, Elsewhere, LeavesOnly, OnlyNow, leaves_weaker, started, Encodes, Plan, one_state, Holds}
+use Rattle.image_builder.proofs.Names.{SavedFrames, kept_of, IsLeftWriting, first_saved, first_state, kept_holds_the_same, none_is_held, IsDescription}
+use Rattle.image_builder.proofs.Names.{Description, Builds, IsLeftOf, IsWithinLimits, plan_for, AreLaid, IsLeftBuilding, IsSoundDescription, described_once}
+use Rattle.std.proofs.Common.{◌≡◌, ◌≤◌, ◌∙◌}
 use Rattle.image_builder.proofs.Refusals.{accepted}
 
 -- an image holds one state

@@ -39,12 +39,11 @@ pub use Rattle.model.specs.declared.object.Content.{Content}
 pub use Rattle.object_cache.specs.StoreState.{StoreState, saved_by}
 pub use Rattle.recovery.specs.Denotes.{IsSoundSaved}
 pub use Rattle.recovery.specs.Recovered.{RefusesToOpen}
-pub use Rattle.std.proofs.Common.{IfOk, List, [], ap, append_assoc, arith, drop, get_or, inl, inr, length, refl, rules, subst, suc, sym, zero, ℕ, ⊎_elim, ◌++◌}
-pub use Rattle.std.proofs.Common.{◌+◌, ◌<◌, ◌∙◌, ◌∷◌, ◌≡◌, ◌≢◌, ◌≤◌}
+pub use Rattle.std.proofs.Common.{IfOk, List, [], ap, append_assoc, arith, drop, get_or, inl, inr, length, refl, rules, subst, suc, sym, zero, ℕ, ⊎_elim}
 pub use Rattle.std.proofs.lemmas.Bool.{cases_lt}
 pub use Rattle.std.proofs.lemmas.List.{append-nil, drop_all, drop_more}
 pub use Rattle.std.proofs.lemmas.Result.{err_from_is_err_and}
-pub use Rattle.std.specs.Prelude.{Err, IfErr, IsErrOf, Ok, OnOk, Result, if◌then◌else◌, slice_index_or, vec_len, ◌==◌}
+pub use Rattle.std.specs.Prelude.{Err, IfErr, IsErrOf, Ok, OnOk, Result, slice_index_or, vec_len}
 pub use Rattle.toml.specs.Data.{Members}
 pub use Rattle.toml.specs.View.{table_view}
 pub use Rattle.image_builder.specs.Built.{Builds, BuildsFrom, IsAccepted, IsFirstBroken, IsLeftOf, IsRefused, IsWithinLimits, Refuses, Rule, TellsNoSize}

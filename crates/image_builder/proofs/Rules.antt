@@ -1,7 +1,8 @@
 -- The rule that is the first to be broken.
-use Rattle.image_builder.proofs.Names.{◌≡◌, ℕ, ◌+◌, ◌<◌, ◌≤◌, inl, inr, refl, sym, ap, ◌∙◌, subst, arith, ◌==◌, if◌then◌else◌, cases_lt, Description}
-use Rattle.image_builder.proofs.Names.{BuildFault, Shape, Limits, Number, Field, Target, Owner, Small, Failed, NoMemory, IsAccepted, IsFirstBroken, Rule}
-use Rattle.image_builder.proofs.Names.{fault_number, NoFault, OneFault}
+use Rattle.image_builder.proofs.Names.{ℕ, inl, inr, refl, sym, ap, subst, arith, cases_lt, Description, BuildFault, Shape, Limits, Number, Field, Target, Owner}
+use Rattle.image_builder.proofs.Names.{Small, Failed, NoMemory, IsAccepted, IsFirstBroken, Rule, fault_number, NoFault, OneFault}
+use Rattle.std.proofs.Common.{◌≡◌, ◌+◌, ◌<◌, ◌≤◌, ◌∙◌}
+use Rattle.std.specs.Prelude.{◌==◌, if◌then◌else◌}
 
 -- the fault of a number
 abbrev fault_at : ℕ → BuildFault

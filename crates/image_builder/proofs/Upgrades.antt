@@ -1,9 +1,9 @@
 -- What a device saves, written to another.
-use Rattle.image_builder.proofs.Names.{◌≡◌, ℕ, ◌<◌, ◌≤◌, List, length, ap, inl, inr, refl, subst, sym, ◌∙◌, arith, Result, Ok, Err, IfErr, IsErrOf, OnOk, Frame}
-use Rattle.image_builder.proofs.Names.{Disk, Image, Agrees, Elsewhere, LeavesOnly, agrees_is, OnlyNow, leaves_weaker, started, Entry, Two, IsDirectory}
-use Rattle.image_builder.proofs.Names.{IsHeader, Encodes, SavedState, Plan, OpenFault, OnlyReads, kept_of, laid_again, IsLeftWriting, state_of}
-use Rattle.image_builder.proofs.Names.{kept_holds_the_same, none_is_held, IsSoundSaved, RefusesToOpen, UpgradeFault, IsLeftUpgrading, IsNotUpgraded, IsOnlyRead}
-use Rattle.image_builder.proofs.Names.{Upgrades, numbered, upgraded}
+use Rattle.image_builder.proofs.Names.{ℕ, List, length, ap, inl, inr, refl, subst, sym, arith, Result, Ok, Err, IfErr, IsErrOf, OnOk, Frame, Disk, Image}
+use Rattle.image_builder.proofs.Names.{Agrees, Elsewhere, LeavesOnly, agrees_is, OnlyNow, leaves_weaker, started, Entry, Two, IsDirectory, IsHeader, Encodes}
+use Rattle.image_builder.proofs.Names.{SavedState, Plan, OpenFault, OnlyReads, kept_of, laid_again, IsLeftWriting, state_of, kept_holds_the_same, none_is_held}
+use Rattle.image_builder.proofs.Names.{IsSoundSaved, RefusesToOpen, UpgradeFault, IsLeftUpgrading, IsNotUpgraded, IsOnlyRead, Upgrades, numbered, upgraded}
+use Rattle.std.proofs.Common.{◌≡◌, ◌<◌, ◌≤◌, ◌∙◌}
 use Rattle.std.specs.Prelude.{◌≢◌, IfOk}
 use Rattle.checkpoint.specs.declared.open_fault.OpenFault.TheVariants as opening
 use Rattle.image_builder.specs.declared.upgrade_fault.UpgradeFault.TheVariants as fault

@@ -1,9 +1,9 @@
 -- What `build` answers, and what the device then holds.
-use Rattle.image_builder.specs.Names.{◌≡◌, ◌⊎◌, ℕ, ◌^◌, ◌<◌, ◌≤◌, ◌==◌, if◌then◌else◌, List, Members, Frame}
-use Rattle.image_builder.specs.Names.{IsSoundFrames, Disk, Image, Elsewhere, Encodes, Plan, version_number, Version}
-use Rattle.image_builder.specs.Names.{One, Two, Holds, SavedFrames, MayBeLaid, plan_from, first_saved, first_state}
-use Rattle.image_builder.specs.Names.{AreBanked, AreNamed, Description, IsDescription, HasFields, HasNumbers}
-use Rattle.image_builder.specs.Names.{IsDescribed}
+use Rattle.image_builder.specs.Names.{ℕ, List, Members, Frame, IsSoundFrames, Disk, Image, Elsewhere, Encodes, Plan}
+use Rattle.image_builder.specs.Names.{version_number, Version, One, Two, Holds, SavedFrames, MayBeLaid, plan_from}
+use Rattle.image_builder.specs.Names.{first_saved, first_state, AreBanked, AreNamed, Description, IsDescription}
+use Rattle.image_builder.specs.Names.{HasFields, HasNumbers, IsDescribed}
+use Rattle.std.specs.Prelude.{◌≡◌, ◌⊎◌, ◌^◌, ◌<◌, ◌≤◌, ◌==◌, if◌then◌else◌}
 use Rattle.image_builder.specs.declared.fault.BuildFault.{BuildFault}
 use Rattle.image_builder.specs.declared.fault.BuildFault.TheVariants.{Shape, Limits, Number, Field, Target, Owner}
 use Rattle.image_builder.specs.declared.fault.BuildFault.TheVariants.{Small, Failed, NoMemory}

@@ -26,5 +26,5 @@ pub use Rattle.model.specs.declared.object.Content.{Content}
 pub use Rattle.object_cache.specs.StoreState.{StoreState, parts_of, saved_by}
 pub use Rattle.recovery.specs.Denotes.{IsSoundSaved}
 pub use Rattle.recovery.specs.Recovered.{RefusesToOpen}
-pub use Rattle.std.specs.Prelude.{List, [], if◌then◌else◌, length, ℕ, ◌+◌, ◌<◌, ◌==◌, ◌^◌, ◌↔◌, ◌∷◌, ◌≡◌, ◌≢◌, ◌≤◌, ◌⊎◌}
+pub use Rattle.std.specs.Prelude.{List, [], length, ℕ}
 pub use Rattle.toml.specs.Data.{Members}

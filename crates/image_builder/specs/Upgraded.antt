@@ -1,8 +1,8 @@
 -- What `upgrade` writes, and why it doesn't.
-use Rattle.image_builder.specs.Names.{◌≡◌, ◌⊎◌, ◌↔◌, ℕ, ◌+◌, ◌<◌, ◌≤◌, List, [], ◌∷◌, Disk, Image, Elsewhere, Entry}
-use Rattle.image_builder.specs.Names.{Two, Encodes, SavedState, OpenFault, OnlyReads, Holds, SavedFrames, kept_of}
-use Rattle.image_builder.specs.Names.{frames_of, StoreState, parts_of, saved_by, laid_again, IsSoundSaved}
-use Rattle.image_builder.specs.Names.{RefusesToOpen}
+use Rattle.image_builder.specs.Names.{ℕ, List, [], Disk, Image, Elsewhere, Entry, Two, Encodes, SavedState, OpenFault}
+use Rattle.image_builder.specs.Names.{OnlyReads, Holds, SavedFrames, kept_of, frames_of, StoreState, parts_of, saved_by}
+use Rattle.image_builder.specs.Names.{laid_again, IsSoundSaved, RefusesToOpen}
+use Rattle.std.specs.Prelude.{◌≡◌, ◌⊎◌, ◌↔◌, ◌+◌, ◌<◌, ◌≤◌, ◌∷◌}
 use Rattle.checkpoint.specs.declared.open_fault.OpenFault.TheVariants as opening
 use Rattle.image_builder.specs.declared.upgrade_fault.UpgradeFault.{UpgradeFault}
 use Rattle.image_builder.specs.declared.upgrade_fault.UpgradeFault.TheVariants as fault

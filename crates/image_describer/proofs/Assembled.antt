@@ -1,14 +1,15 @@
 -- Entries that describe all objects of a sound world are a description of it.
-use Rattle.image_describer.proofs.Names.{◌≡◌, ◌≢◌, ◌⊎◌, ℕ, ◌<◌, ◌≤◌, inl, inr, List, ◌++◌, map, length, Option, None, Some, slice_index_or, unwrap_or, refl}
-use Rattle.image_describer.proofs.Names.{sym, ap, ◌∙◌, subst, arith, IsTrue, All, Contains, get_or-map, cases_lt, length-map, All-append, All-contains, All-map}
-use Rattle.image_describer.proofs.Names.{All-weaker, Contains-append_left, Contains-append_right, slice_get-get_or, slice_get-map, Cap, Capability, Void}
-use Rattle.image_describer.proofs.Names.{Geometry, Content, Object, Role, IsWellFormed, blank_frame, frame_at, free, is_annex, is_free, is_root, role_of}
-use Rattle.image_describer.proofs.Names.{root_in, slots_in, HasShape, IsOfKind, IsSound, IsSpace, MayBeHeld, object_count, World, annex_at, content_at}
-use Rattle.image_describer.proofs.Names.{is_process, object_at, fresh_cap, BankEntry, Description, NodeEntry, PageEntry, ProcessEntry, SlotEntry, WordEntry}
-use Rattle.image_describer.proofs.Names.{AreDistinct, AreSlots, AreWords, HasFields, HasNamedWords, HasNumbers, HoldsNamed, IsDescribed, IsDescribedAnnex}
-use Rattle.image_describer.proofs.Names.{IsDescribedNode, IsDescribedPage, IsDescribedRoot, IsProcessEntry, IsSomeCapability, IsSpaceEntry, first_frame}
-use Rattle.image_describer.proofs.Names.{node_numbers, page_numbers, all_from, contains_map, map_contains, AreBriefSlots, AreBriefWords, Describes, IsBrief}
-use Rattle.image_describer.proofs.Names.{NamesSlots, NamesWords, plain_frame, plain_frames, TellAll, TellsBank, TellsNode, TellsPage, TellsProcess}
+use Rattle.image_describer.proofs.Names.{ℕ, inl, inr, List, map, length, Option, None, Some, slice_index_or, unwrap_or, refl, sym, ap, subst, arith, IsTrue}
+use Rattle.image_describer.proofs.Names.{All, Contains, get_or-map, cases_lt, length-map, All-append, All-contains, All-map, All-weaker, Contains-append_left}
+use Rattle.image_describer.proofs.Names.{Contains-append_right, slice_get-get_or, slice_get-map, Cap, Capability, Void, Geometry, Content, Object, Role}
+use Rattle.image_describer.proofs.Names.{IsWellFormed, blank_frame, frame_at, free, is_annex, is_free, is_root, role_of, root_in, slots_in, HasShape, IsOfKind}
+use Rattle.image_describer.proofs.Names.{IsSound, IsSpace, MayBeHeld, object_count, World, annex_at, content_at, is_process, object_at, fresh_cap, BankEntry}
+use Rattle.image_describer.proofs.Names.{Description, NodeEntry, PageEntry, ProcessEntry, SlotEntry, WordEntry, AreDistinct, AreSlots, AreWords, HasFields}
+use Rattle.image_describer.proofs.Names.{HasNamedWords, HasNumbers, HoldsNamed, IsDescribed, IsDescribedAnnex, IsDescribedNode, IsDescribedPage}
+use Rattle.image_describer.proofs.Names.{IsDescribedRoot, IsProcessEntry, IsSomeCapability, IsSpaceEntry, first_frame, node_numbers, page_numbers, all_from}
+use Rattle.image_describer.proofs.Names.{contains_map, map_contains, AreBriefSlots, AreBriefWords, Describes, IsBrief, NamesSlots, NamesWords, plain_frame}
+use Rattle.image_describer.proofs.Names.{plain_frames, TellAll, TellsBank, TellsNode, TellsPage, TellsProcess}
+use Rattle.std.proofs.Common.{◌≡◌, ◌≢◌, ◌⊎◌, ◌<◌, ◌≤◌, ◌++◌, ◌∙◌}
 use Rattle.std.specs.Option.{option_map}
 use Rattle.model.specs.declared.object.Content.TheVariants as content
 use Rattle.model.specs.declared.object.Role.TheVariants as role

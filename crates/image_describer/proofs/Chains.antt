@@ -1,6 +1,7 @@
 -- Tables that come of an empty one by several values put at keys.
-use Rattle.image_describer.proofs.Names.{◌≡◌, ℕ, zero, suc, ◌<◌, Bool, true, false, not, ◌&&◌, List, [], ◌∷◌, ◌++◌, length, Option, None, slice_index_or, refl}
-use Rattle.image_describer.proofs.Names.{sym, ap, ◌∙◌, subst, arith, IsTrue, list_any, Data, Members, get_member, same_key, has_only}
+use Rattle.image_describer.proofs.Names.{ℕ, zero, suc, Bool, true, false, not, List, [], length, Option, None, slice_index_or, refl, sym, ap, subst, arith}
+use Rattle.image_describer.proofs.Names.{IsTrue, list_any, Data, Members, get_member, same_key, has_only}
+use Rattle.std.proofs.Common.{◌≡◌, ◌<◌, ◌&&◌, ◌∷◌, ◌++◌, ◌∙◌}
 use Rattle.image_describer.proofs.Puts.{Puts}
 
 -- a key, and what is put there

@@ -1,11 +1,11 @@
 -- What the lines of a description leave in the nodes of TOML's reader.
-use Rattle.image_describer.proofs.Names.{◌≡◌, ℕ, Bool, true, false, not, ◌&&◌, List, [], ◌∷◌, ◌++◌, Option, Some, None, option_and_then, IfSome, MatchOption}
-use Rattle.image_describer.proofs.Names.{append-nil, append_assoc, refl, sym, ap, ◌∙◌, subst, inr, IsTrue, none-some, same_Some, Key, Data, string, integer}
-use Rattle.image_describer.proofs.Names.{float, boolean, datetime, array, table, Items, no_items, item, push_item, Members, no_members, member, get_member}
-use Rattle.image_describer.proofs.Names.{same_key, Nodes, no_nodes, value, open_array, close, insert, Edit, Document, Expression, array_table, along_dots}
-use Rattle.image_describer.proofs.Names.{along_header, at_key, put, are_tables, elements, is_section, section, sections, Exists, fill, fill_elements}
-use Rattle.image_describer.proofs.Names.{fill_pairs, fill_sections, roots, run-append, run_elements, along_found, get_node-insert, replace-insert, run}
-use Rattle.image_describer.proofs.Names.{AreItems, IsList, IsTable}
+use Rattle.image_describer.proofs.Names.{ℕ, Bool, true, false, not, List, [], Option, Some, None, option_and_then, IfSome, MatchOption, append-nil}
+use Rattle.image_describer.proofs.Names.{append_assoc, refl, sym, ap, subst, inr, IsTrue, none-some, same_Some, Key, Data, string, integer, float, boolean}
+use Rattle.image_describer.proofs.Names.{datetime, array, table, Items, no_items, item, push_item, Members, no_members, member, get_member, same_key, Nodes}
+use Rattle.image_describer.proofs.Names.{no_nodes, value, open_array, close, insert, Edit, Document, Expression, array_table, along_dots, along_header, at_key}
+use Rattle.image_describer.proofs.Names.{put, are_tables, elements, is_section, section, sections, Exists, fill, fill_elements, fill_pairs, fill_sections}
+use Rattle.image_describer.proofs.Names.{roots, run-append, run_elements, along_found, get_node-insert, replace-insert, run, AreItems, IsList, IsTable}
+use Rattle.std.proofs.Common.{◌≡◌, ◌&&◌, ◌∷◌, ◌++◌, ◌∙◌}
 use Rattle.image_describer.proofs.Chains.{Chain, Pair, are_apart, is_apart}
 use Rattle.image_describer.proofs.Puts.{Puts, no_node, puts_inserted, puts_none}
 

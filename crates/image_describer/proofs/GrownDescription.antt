@@ -1,13 +1,14 @@
 -- A description that was renumbered is that of the world in an image of other sizes.
-use Rattle.image_describer.proofs.Names.{◌≡◌, inl, inr, ℕ, ◌<◌, ◌≤◌, ◌^◌, List, [], ◌∷◌, ◌++◌, map, length, Option, sym, ap, ◌∙◌, subst, arith, Vec, Global}
-use Rattle.image_describer.proofs.Names.{All, Contains, cases_lt, length-map, All-append, All-contains, All-map, Contains-append_cases, Contains-append_left}
-use Rattle.image_describer.proofs.Names.{Contains-append_right, Capability, Frame, Geometry, Object, State, blank_frame, frame_at, object_count, fresh_cap}
-use Rattle.image_describer.proofs.Names.{BankEntry, Description, NodeEntry, PageEntry, ProcessEntry, SlotEntry, WordEntry, AreDistinct, AreSlots, AreWords}
-use Rattle.image_describer.proofs.Names.{HasFields, HasNamedWords, HasNumbers, HoldsNamed, IsDescribed, IsDescribedAnnex, IsDescribedNode, IsDescribedPage}
-use Rattle.image_describer.proofs.Names.{IsDescribedRoot, IsProcessEntry, IsSpaceEntry, first_frame, node_numbers, page_numbers, OfAnnex, OfBank, OfNode}
-use Rattle.image_describer.proofs.Names.{OfPage, OfRoot, described_of, in_range, all_from, contains_here, contains_map, contains_there, map_contains}
-use Rattle.image_describer.proofs.Names.{AreBriefSlots, AreBriefWords, AreRising, IsBrief, plain_frame, plain_frames, IsMovedNode, IsMovedPage, IsMovedProcess}
-use Rattle.image_describer.proofs.Names.{IsRenumbered, NamesNodes, NamesPages, moved, moved_capability, moved_held}
+use Rattle.image_describer.proofs.Names.{inl, inr, ℕ, List, [], map, length, Option, sym, ap, subst, arith, Vec, Global, All, Contains, cases_lt, length-map}
+use Rattle.image_describer.proofs.Names.{All-append, All-contains, All-map, Contains-append_cases, Contains-append_left, Contains-append_right, Capability}
+use Rattle.image_describer.proofs.Names.{Frame, Geometry, Object, State, blank_frame, frame_at, object_count, fresh_cap, BankEntry, Description, NodeEntry}
+use Rattle.image_describer.proofs.Names.{PageEntry, ProcessEntry, SlotEntry, WordEntry, AreDistinct, AreSlots, AreWords, HasFields, HasNamedWords, HasNumbers}
+use Rattle.image_describer.proofs.Names.{HoldsNamed, IsDescribed, IsDescribedAnnex, IsDescribedNode, IsDescribedPage, IsDescribedRoot, IsProcessEntry}
+use Rattle.image_describer.proofs.Names.{IsSpaceEntry, first_frame, node_numbers, page_numbers, OfAnnex, OfBank, OfNode, OfPage, OfRoot, described_of, in_range}
+use Rattle.image_describer.proofs.Names.{all_from, contains_here, contains_map, contains_there, map_contains, AreBriefSlots, AreBriefWords, AreRising, IsBrief}
+use Rattle.image_describer.proofs.Names.{plain_frame, plain_frames, IsMovedNode, IsMovedPage, IsMovedProcess, IsRenumbered, NamesNodes, NamesPages, moved}
+use Rattle.image_describer.proofs.Names.{moved_capability, moved_held}
+use Rattle.std.proofs.Common.{◌≡◌, ◌<◌, ◌≤◌, ◌^◌, ◌∷◌, ◌++◌, ◌∙◌}
 use Rattle.model.specs.declared.object.Content.TheVariants as content
 use Rattle.image_describer.proofs.GrownWorld.{comes_from, frame_arrived, frame_inside, frame_past, grown_length, grown_objects, node_arrives, origin}
 use Rattle.image_describer.proofs.GrownWorld.{page_arrives}

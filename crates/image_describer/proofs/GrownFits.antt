@@ -1,9 +1,10 @@
 -- The objects of a world have numbers in an image of other sizes exactly where those that its description names do.
-use Rattle.image_describer.proofs.Names.{◌≡◌, ◌≢◌, inl, inr, ℕ, ◌<◌, ◌≤◌, true, false, refl, sym, ap, ◌∙◌, subst, arith, true≢false, All-contains, Cap, Frame}
-use Rattle.image_describer.proofs.Names.{Geometry, Content, frame_at, is_free, role_of, object_count, World, content_at, fresh_cap, mapped, BankEntry}
-use Rattle.image_describer.proofs.Names.{Description, NodeEntry, PageEntry, ProcessEntry, first_frame, Entry, OfAnnex, OfBank, OfNode, OfPage, OfRoot}
-use Rattle.image_describer.proofs.Names.{number_of, IsFrameOf, IsOf, described_cases, described_of, in_range, all_from, GrowthFault, Describes, plain_frames}
-use Rattle.image_describer.proofs.Names.{IsNotRenumbered, IsUnsuited, NamesNodes, NamesPages, NodesFit, PagesFit, moved}
+use Rattle.image_describer.proofs.Names.{inl, inr, ℕ, true, false, refl, sym, ap, subst, arith, true≢false, All-contains, Cap, Frame, Geometry, Content}
+use Rattle.image_describer.proofs.Names.{frame_at, is_free, role_of, object_count, World, content_at, fresh_cap, mapped, BankEntry, Description, NodeEntry}
+use Rattle.image_describer.proofs.Names.{PageEntry, ProcessEntry, first_frame, Entry, OfAnnex, OfBank, OfNode, OfPage, OfRoot, number_of, IsFrameOf, IsOf}
+use Rattle.image_describer.proofs.Names.{described_cases, described_of, in_range, all_from, GrowthFault, Describes, plain_frames, IsNotRenumbered, IsUnsuited}
+use Rattle.image_describer.proofs.Names.{NamesNodes, NamesPages, NodesFit, PagesFit, moved}
+use Rattle.std.proofs.Common.{◌≡◌, ◌≢◌, ◌<◌, ◌≤◌, ◌∙◌}
 use Rattle.model.specs.declared.object.Content.TheVariants as content
 use Rattle.model.specs.declared.object.Role.TheVariants as role
 use Rattle.image_describer.specs.declared.sizes.GrowthFault.TheVariants as fault

@@ -1,8 +1,8 @@
 -- The laws of descriptions that were renumbered.
-use Rattle.image_describer.proofs.Names.{◌≡◌, ℕ, Bool, true, false, List, [], ◌∷◌, map, refl, sym, ap, ◌∙◌, true≢false, ext_get_or, Capability, Void, Number}
-use Rattle.image_describer.proofs.Names.{Page, Node, Space, Process, Start, Resume, Bank, Discrim, Geometry, Content, Object, free, is_free, map_content}
-use Rattle.image_describer.proofs.Names.{IsSound, World, content_at, object_at, owner_at, IsGrown, moved, moved_capability, moved_object, GrownIsDescribed}
-use Rattle.image_describer.proofs.Names.{GrownToItself}
+use Rattle.image_describer.proofs.Names.{ℕ, Bool, true, false, List, [], map, refl, sym, ap, true≢false, ext_get_or, Capability, Void, Number, Page, Node}
+use Rattle.image_describer.proofs.Names.{Space, Process, Start, Resume, Bank, Discrim, Geometry, Content, Object, free, is_free, map_content, IsSound, World}
+use Rattle.image_describer.proofs.Names.{content_at, object_at, owner_at, IsGrown, moved, moved_capability, moved_object, GrownIsDescribed, GrownToItself}
+use Rattle.std.proofs.Common.{◌≡◌, ◌∷◌, ◌∙◌}
 use Rattle.model.specs.declared.object.Content.TheVariants as content
 use Rattle.image_describer.proofs.GrownDescription.{fields_grown, frames_grown, numbers_grown}
 use Rattle.image_describer.proofs.GrownFits.{nodes_fit, pages_fit}

@@ -1,6 +1,7 @@
 -- The home ranges of an image of other sizes.
-use Rattle.image_describer.proofs.Names.{◌≡◌, inl, inr, ℕ, ◌+◌, Bool, true, false, if◌then◌else◌, List, [], ◌∷◌, map, refl, arith, nat_tests, HomeRange, Cover}
-use Rattle.image_describer.proofs.Names.{IsGeometry, IsOfOneKind, NumberRange, MayBeLaid, placed, Geometry, whole_ranges, grown_ranges}
+use Rattle.image_describer.proofs.Names.{inl, inr, ℕ, Bool, true, false, List, [], map, refl, arith, nat_tests, HomeRange, Cover, IsGeometry, IsOfOneKind}
+use Rattle.image_describer.proofs.Names.{NumberRange, MayBeLaid, placed, Geometry, whole_ranges, grown_ranges}
+use Rattle.std.proofs.Common.{◌≡◌, ◌+◌, if◌then◌else◌, ◌∷◌}
 use Rattle.std.specs.Prelude.{◌==◌, ◌&&◌}
 
 module _ (g h : Geometry) (nodes : g.nodes ≡ h.nodes) (pages : g.pages ≡ h.pages) where

@@ -1,9 +1,9 @@
 -- A description that was renumbered has a text.
-use Rattle.image_describer.proofs.Names.{◌≡◌, ℕ, ◌<◌, ◌≤◌, Bool, true, false, if◌then◌else◌, List, [], ◌∷◌, length, sym, subst, arith, Vec, Global, All}
-use Rattle.image_describer.proofs.Names.{All-cons, All-contains, All-nil, IsGeometry, NumberRange, object_count, BankEntry, Description, NodeEntry, PageEntry}
-use Rattle.image_describer.proofs.Names.{ProcessEntry, WordEntry, whole_ranges, all_from, IsMovedNode, IsMovedPage, IsMovedProcess, IsRenumbered, NamesPages}
-use Rattle.image_describer.proofs.Names.{moved, CanBeSpelled, IsShort, IsWide, NamesWide, SpellsBank, SpellsNode, SpellsPage, SpellsProcess, SpellsRange}
-use Rattle.image_describer.proofs.Names.{SpellsSlot, SpellsWord}
+use Rattle.image_describer.proofs.Names.{ℕ, Bool, true, false, List, [], length, sym, subst, arith, Vec, Global, All, All-cons, All-contains, All-nil}
+use Rattle.image_describer.proofs.Names.{IsGeometry, NumberRange, object_count, BankEntry, Description, NodeEntry, PageEntry, ProcessEntry, WordEntry}
+use Rattle.image_describer.proofs.Names.{whole_ranges, all_from, IsMovedNode, IsMovedPage, IsMovedProcess, IsRenumbered, NamesPages, moved, CanBeSpelled}
+use Rattle.image_describer.proofs.Names.{IsShort, IsWide, NamesWide, SpellsBank, SpellsNode, SpellsPage, SpellsProcess, SpellsRange, SpellsSlot, SpellsWord}
+use Rattle.std.proofs.Common.{◌≡◌, ◌<◌, ◌≤◌, if◌then◌else◌, ◌∷◌}
 use Rattle.std.specs.Prelude.{◌==◌, ◌&&◌}
 use Rattle.image_describer.proofs.Moved.{moved_wide, spelled_moved, wide_moved}
 use Rattle.image_describer.proofs.Pairs.{zip_all}

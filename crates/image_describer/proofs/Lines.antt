@@ -1,10 +1,10 @@
 -- The lines of a description are those that TOML has for its values.
-use Rattle.image_describer.proofs.Names.{◌≡◌, ℕ, suc, ◌<◌, ◌≤◌, ◌^◌, pos, Bool, true, false, ◌&&◌, List, [], ◌∷◌, ◌++◌, codes, decimal, Option, Some, None}
-use Rattle.image_describer.proofs.Names.{IfSome, append-nil, append_assoc, refl, sym, ap, ◌∙◌, subst, arith, flat_map, join_by, dotted_text, key_text}
-use Rattle.image_describer.proofs.Names.{string_text, Data, string, integer, float, boolean, datetime, array, table, Items, no_items, item, Members, depth}
-use Rattle.image_describer.proofs.Names.{has_valid_dates, items_depth, items_have_valid_dates, Expression, IsItemsText, IsLinesText, IsValueText, are_tables}
-use Rattle.image_describer.proofs.Names.{breaks_lines, elements, is_section, pairs, AllPrinted, Field, begin_line, field_line, field_lines, list_text}
-use Rattle.image_describer.proofs.Names.{pair_text, quoted}
+use Rattle.image_describer.proofs.Names.{ℕ, suc, pos, Bool, true, false, List, [], codes, decimal, Option, Some, None, IfSome, append-nil, append_assoc, refl}
+use Rattle.image_describer.proofs.Names.{sym, ap, subst, arith, flat_map, join_by, dotted_text, key_text, string_text, Data, string, integer, float, boolean}
+use Rattle.image_describer.proofs.Names.{datetime, array, table, Items, no_items, item, Members, depth, has_valid_dates, items_depth, items_have_valid_dates}
+use Rattle.image_describer.proofs.Names.{Expression, IsItemsText, IsLinesText, IsValueText, are_tables, breaks_lines, elements, is_section, pairs, AllPrinted}
+use Rattle.image_describer.proofs.Names.{Field, begin_line, field_line, field_lines, list_text, pair_text, quoted}
+use Rattle.std.proofs.Common.{◌≡◌, ◌<◌, ◌≤◌, ◌^◌, ◌&&◌, ◌∷◌, ◌++◌, ◌∙◌}
 use Rattle.image_describer.proofs.Chains.{Pair}
 use Rattle.image_describer.proofs.Filled.{ArePairs, keyed, member_or, no_sections, tables}
 

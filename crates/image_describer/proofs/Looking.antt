@@ -1,8 +1,8 @@
 -- Frames that were only read.
-use Rattle.image_describer.proofs.Names.{◌≡◌, inl, inr, ℕ, ◌^◌, ◌-◌, List, [], ◌∷◌, ap, ◌∙◌, subst, sym, arith, Err, IsErrOf, Ok, Result, All, cases_lt}
-use Rattle.image_describer.proofs.Names.{All-cons, All-nil, Frame, ObjectHeader, Geometry, frames_in, objects_of, AreKeepable, IsSoundFrames, AreSound}
-use Rattle.image_describer.proofs.Names.{HaveTheirRoles, OnlyReads, OnlyFetches, Parts, frames_of, objects_in, PrepareFault, only_reads_twice, keepable_later}
-use Rattle.image_describer.proofs.Names.{keepable_roles}
+use Rattle.image_describer.proofs.Names.{inl, inr, ℕ, List, [], ap, subst, sym, arith, Err, IsErrOf, Ok, Result, All, cases_lt, All-cons, All-nil, Frame}
+use Rattle.image_describer.proofs.Names.{ObjectHeader, Geometry, frames_in, objects_of, AreKeepable, IsSoundFrames, AreSound, HaveTheirRoles, OnlyReads}
+use Rattle.image_describer.proofs.Names.{OnlyFetches, Parts, frames_of, objects_in, PrepareFault, only_reads_twice, keepable_later, keepable_roles}
+use Rattle.std.proofs.Common.{◌≡◌, ◌^◌, ◌-◌, ◌∷◌, ◌∙◌}
 use Rattle.capability.specs.declared.present.PrepareFault.TheVariants as prepare
 
 module _ {S : Type 0} (parts : S → Parts) (Continues : S → S → Type 0) where

@@ -57,9 +57,9 @@ pub use Rattle.model.specs.declared.object.Role.{Role}
 pub use Rattle.model.specs.declared.object.State.{State}
 pub use Rattle.model.specs.declared.object.State.TheVariants.{Available, Running, Waiting}
 pub use Rattle.std.proofs.Common.{Bool, Equal, Greater, IfSome, IsSomeAnd, Less, List, MatchOption, None, Option, Ordering, Some, String, [], ap, append-nil}
-pub use Rattle.std.proofs.Common.{append_assoc, arith, codes, decimal, false, get_or, if◌then◌else◌, inl, inr, is_eq, length, map, nat_cmp, nat_lt, not}
-pub use Rattle.std.proofs.Common.{option_and_then, option_map, option_to_list, pos, refl, rules, slice_index_or, slice_set, string_bytes, subst, suc, sym, take}
-pub use Rattle.std.proofs.Common.{true, unwrap_or, zero, ℕ, ◌&&◌, ◌++◌, ◌+◌, ◌-◌, ◌<◌, ◌==◌, ◌^◌, ◌∙◌, ◌∷◌, ◌≡◌, ◌≢◌, ◌≤◌, ◌⊎◌}
+pub use Rattle.std.proofs.Common.{append_assoc, arith, codes, decimal, false, get_or, inl, inr, is_eq, length, map, nat_cmp, nat_lt, not, option_and_then}
+pub use Rattle.std.proofs.Common.{option_map, option_to_list, pos, refl, rules, slice_index_or, slice_set, string_bytes, subst, suc, sym, take, true, unwrap_or}
+pub use Rattle.std.proofs.Common.{zero, ℕ}
 pub use Rattle.std.proofs.Math.ListN.{get_or-map}
 pub use Rattle.std.proofs.lemmas.Bool.{cases_Bool, cases_eq, cases_lt, true≢false}
 pub use Rattle.std.proofs.lemmas.Bool.Decides.{nat_tests}

@@ -1,8 +1,8 @@
 -- What a list holds beside its default, one item after another.
-use Rattle.image_describer.proofs.Names.{◌≡◌, ◌≢◌, ℕ, ◌+◌, ◌<◌, ◌≤◌, inl, inr, List, [], ◌∷◌, ◌++◌, map, length, slice_index_or, Option, None, Some}
-use Rattle.image_describer.proofs.Names.{option_to_list, sym, ap, ◌∙◌, subst, arith, All, Contains, cases_eq, cases_lt, get_or_past, All-contains, All-head}
-use Rattle.image_describer.proofs.Names.{All-map, All-push, All-tail, All-weaker, first_named, first_beyond, first_none, first_of, first_there, map_both}
-use Rattle.image_describer.proofs.Names.{AreRising, Names, MayName}
+use Rattle.image_describer.proofs.Names.{ℕ, inl, inr, List, [], map, length, slice_index_or, Option, None, Some, option_to_list, sym, ap, subst, arith, All}
+use Rattle.image_describer.proofs.Names.{Contains, cases_eq, cases_lt, get_or_past, All-contains, All-head, All-map, All-push, All-tail, All-weaker}
+use Rattle.image_describer.proofs.Names.{first_named, first_beyond, first_none, first_of, first_there, map_both, AreRising, Names, MayName}
+use Rattle.std.proofs.Common.{◌≡◌, ◌≢◌, ◌+◌, ◌<◌, ◌≤◌, ◌∷◌, ◌++◌, ◌∙◌}
 use Rattle.std.proofs.lemmas.List.{append-nil}
 use Rattle.image_describer.proofs.Rising.{rising_distinct, rising_more}
 

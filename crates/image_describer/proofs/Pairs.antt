@@ -1,6 +1,7 @@
 -- Lists that are rewritten one item after the other.
-use Rattle.image_describer.proofs.Names.{◌≡◌, ℕ, zero, suc, ◌+◌, ◌<◌, ◌≤◌, List, [], ◌∷◌, map, length, slice_index_or, slice_set, refl, sym, ap, ◌∙◌, subst}
-use Rattle.image_describer.proofs.Names.{arith, All, AllZip, AllZip-get_or, length_all_zip}
+use Rattle.image_describer.proofs.Names.{ℕ, zero, suc, List, [], map, length, slice_index_or, slice_set, refl, sym, ap, subst, arith, All, AllZip}
+use Rattle.image_describer.proofs.Names.{AllZip-get_or, length_all_zip}
+use Rattle.std.proofs.Common.{◌≡◌, ◌+◌, ◌<◌, ◌≤◌, ◌∷◌, ◌∙◌}
 
 -- the pairs below an index stand so to one another, and the rest is the same
 abbrev pub ZipBelow : {A : Type 0} → (A → A → Type 0) → ℕ → List A → List A → Type 0

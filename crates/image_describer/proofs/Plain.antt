@@ -1,11 +1,11 @@
 -- Plain frames stand for the objects that they were made of, and are sound where those are.
-use Rattle.image_describer.proofs.Names.{◌≡◌, ℕ, nat_lt, if◌then◌else◌, Bool, true, false, List, [], ◌∷◌, map, length, slice_index_or, refl, sym, ap, ◌∙◌}
-use Rattle.image_describer.proofs.Names.{subst, arith, All, get_or-map, length-map, All-map, All-weaker, Cap, Capability, Void, Number, Page, Node, Space}
-use Rattle.image_describer.proofs.Names.{Process, Start, Resume, Bank, Discrim, Frame, ObjectHeader, Geometry, Content, Object, blank_frame, conveyed}
-use Rattle.image_describer.proofs.Names.{current_count, frame_at, header_at, headers, object_of, objects_of, void_held, AreCurrent, AreKeepable, AreKeptSlots}
-use Rattle.image_describer.proofs.Names.{Follows, IsCurrent, IsKeepable, IsKeptCap, IsSoundFrames, MayBeKept, caps_in, world_at, free, map_content, role_of}
-use Rattle.image_describer.proofs.Names.{IsSound, IsSpace, object_at, fresh_cap, kind_map, mapped, sound_named, described_once, plain_frame, plain_frames}
-use Rattle.image_describer.proofs.Names.{DescribedIsLaid, DescribedIsSame}
+use Rattle.image_describer.proofs.Names.{ℕ, nat_lt, Bool, true, false, List, [], map, length, slice_index_or, refl, sym, ap, subst, arith, All, get_or-map}
+use Rattle.image_describer.proofs.Names.{length-map, All-map, All-weaker, Cap, Capability, Void, Number, Page, Node, Space, Process, Start, Resume, Bank}
+use Rattle.image_describer.proofs.Names.{Discrim, Frame, ObjectHeader, Geometry, Content, Object, blank_frame, conveyed, current_count, frame_at, header_at}
+use Rattle.image_describer.proofs.Names.{headers, object_of, objects_of, void_held, AreCurrent, AreKeepable, AreKeptSlots, Follows, IsCurrent, IsKeepable}
+use Rattle.image_describer.proofs.Names.{IsKeptCap, IsSoundFrames, MayBeKept, caps_in, world_at, free, map_content, role_of, IsSound, IsSpace, object_at}
+use Rattle.image_describer.proofs.Names.{fresh_cap, kind_map, mapped, sound_named, described_once, plain_frame, plain_frames, DescribedIsLaid, DescribedIsSame}
+use Rattle.std.proofs.Common.{◌≡◌, if◌then◌else◌, ◌∷◌, ◌∙◌}
 use Rattle.model.specs.declared.object.Content.TheVariants as content
 use Rattle.described_world.specs.declared.fault.WorldFault.TheVariants as fault
 

@@ -1,8 +1,8 @@
 -- What a table has once a value is put at a key.
-use Rattle.image_describer.proofs.Names.{◌≡◌, ℕ, Bool, true, false, ◌&&◌, List, Option, Some, None, option_map, if◌then◌else◌, Ordering, Less, Equal, Greater}
-use Rattle.image_describer.proofs.Names.{nat_cmp, is_eq, refl, sym, ap, ◌∙◌, IsTrue, slice_cmp, list_any, match_ordering, alike_right, nat_list_cmp_total, Data}
-use Rattle.image_describer.proofs.Names.{get_member, member, Members, no_members, same_key, Nodes, close, close_node, get_node, insert, no_nodes, node}
-use Rattle.image_describer.proofs.Names.{get_node-insert, has_only}
+use Rattle.image_describer.proofs.Names.{ℕ, Bool, true, false, List, Option, Some, None, option_map, Ordering, Less, Equal, Greater, nat_cmp, is_eq, refl, sym}
+use Rattle.image_describer.proofs.Names.{ap, IsTrue, slice_cmp, list_any, match_ordering, alike_right, nat_list_cmp_total, Data, get_member, member, Members}
+use Rattle.image_describer.proofs.Names.{no_members, same_key, Nodes, close, close_node, get_node, insert, no_nodes, node, get_node-insert, has_only}
+use Rattle.std.proofs.Common.{◌≡◌, ◌&&◌, if◌then◌else◌, ◌∙◌}
 use Rattle.toml.specs.Tables.{Node}
 
 -- a value is put at a key, where there is one

@@ -1,9 +1,10 @@
 -- The texts of capabilities and states stand between quotes as they are.
-use Rattle.image_describer.proofs.Names.{◌≡◌, ℕ, ◌<◌, ◌≤◌, ◌^◌, Bool, true, false, not, ◌&&◌, ◌==◌, nat_lt, List, [], ◌∷◌, ◌++◌, codes, decimal, IfSome, inl}
-use Rattle.image_describer.proofs.Names.{inr, refl, arith, list_all, list_any, AllDigits, cases_Bool, nat_tests, decimal_is_IsNumeral, digit_from_value}
-use Rattle.image_describer.proofs.Names.{is_non_eol, encoding_of, escaped, is_control, needs_escape, quotes_after, string_text, IsWellFormed, named}
-use Rattle.image_describer.proofs.Names.{access_text, capability_text, state_text, Access, Capability, Void, Number, Page, Node, Space, Process, Start, Resume}
-use Rattle.image_describer.proofs.Names.{Bank, Discrim, State, Available, Running, Waiting, quoted}
+use Rattle.image_describer.proofs.Names.{ℕ, Bool, true, false, not, nat_lt, List, [], codes, decimal, IfSome, inl, inr, refl, arith, list_all, list_any}
+use Rattle.image_describer.proofs.Names.{AllDigits, cases_Bool, nat_tests, decimal_is_IsNumeral, digit_from_value, is_non_eol, encoding_of, escaped, is_control}
+use Rattle.image_describer.proofs.Names.{needs_escape, quotes_after, string_text, IsWellFormed, named, access_text, capability_text, state_text, Access}
+use Rattle.image_describer.proofs.Names.{Capability, Void, Number, Page, Node, Space, Process, Start, Resume, Bank, Discrim, State, Available, Running, Waiting}
+use Rattle.image_describer.proofs.Names.{quoted}
+use Rattle.std.proofs.Common.{◌≡◌, ◌<◌, ◌≤◌, ◌^◌, ◌&&◌, ◌==◌, ◌∷◌, ◌++◌}
 
 -- a byte that no string escapes
 abbrev is_safe : ℕ → Bool

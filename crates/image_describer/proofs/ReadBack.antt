@@ -1,11 +1,12 @@
 -- The text of a description is read again as that description.
-use Rattle.image_describer.proofs.Names.{◌≡◌, ℕ, suc, ◌==◌, Bool, true, false, List, [], ◌∷◌, ◌++◌, codes, length, Option, Some, refl, sym, ap, ◌∙◌, append-nil}
-use Rattle.image_describer.proofs.Names.{append_assoc, option_map, option_and_then, arith, flat_map, recursion_from_All, first, key_text, Members, no_members}
-use Rattle.image_describer.proofs.Names.{parse_document, skip_bom, Document, Expression, Nodes, along_header, close, no_nodes, IsLinesText, elements, pairs}
-use Rattle.image_describer.proofs.Names.{run-append, run_pairs, AllPrinted, line_turn, read_lines, run, document_some, BankEntry, Description, NodeEntry}
-use Rattle.image_describer.proofs.Names.{PageEntry, ProcessEntry, IsBank, IsDescription, IsNode, IsPage, IsProcess, AreSlots, HasFields, IsProcessEntry}
-use Rattle.image_describer.proofs.Names.{TextIsRead, CanBeSpelled, SpellsBank, SpellsNode, SpellsPage, SpellsProcess, bank_fields, bank_text, description_text}
-use Rattle.image_describer.proofs.Names.{field_lines, image_fields, node_fields, node_text, page_fields, page_text, process_fields, process_text}
+use Rattle.image_describer.proofs.Names.{ℕ, suc, Bool, true, false, List, [], codes, length, Option, Some, refl, sym, ap, append-nil, append_assoc, option_map}
+use Rattle.image_describer.proofs.Names.{option_and_then, arith, flat_map, recursion_from_All, first, key_text, Members, no_members, parse_document, skip_bom}
+use Rattle.image_describer.proofs.Names.{Document, Expression, Nodes, along_header, close, no_nodes, IsLinesText, elements, pairs, run-append, run_pairs}
+use Rattle.image_describer.proofs.Names.{AllPrinted, line_turn, read_lines, run, document_some, BankEntry, Description, NodeEntry, PageEntry, ProcessEntry}
+use Rattle.image_describer.proofs.Names.{IsBank, IsDescription, IsNode, IsPage, IsProcess, AreSlots, HasFields, IsProcessEntry, TextIsRead, CanBeSpelled}
+use Rattle.image_describer.proofs.Names.{SpellsBank, SpellsNode, SpellsPage, SpellsProcess, bank_fields, bank_text, description_text, field_lines, image_fields}
+use Rattle.image_describer.proofs.Names.{node_fields, node_text, page_fields, page_text, process_fields, process_text}
+use Rattle.std.proofs.Common.{◌≡◌, ◌==◌, ◌∷◌, ◌++◌, ◌∙◌}
 use Rattle.std.specs.List.{AllByRecursion as ByRecursion}
 use Rattle.image_describer.proofs.Chains.{Pair, chain_append, chain_other}
 use Rattle.image_describer.proofs.Filled.{AreRead, IsRead, all_new, all_tables, filled, keyed, list_read, run_list, tables}

@@ -1,6 +1,7 @@
 -- Numbers that rise, and lists with no number twice.
-use Rattle.image_describer.proofs.Names.{◌≡◌, ℕ, ◌<◌, inl, inr, List, [], ◌∷◌, ◌++◌, map, subst, arith, All, Contains, All-contains, All-head, All-push}
-use Rattle.image_describer.proofs.Names.{All-tail, Contains-append_cases, AreDistinct, contains_here, contains_map, contains_there, map_contains, AreRising}
+use Rattle.image_describer.proofs.Names.{ℕ, inl, inr, List, [], map, subst, arith, All, Contains, All-contains, All-head, All-push, All-tail}
+use Rattle.image_describer.proofs.Names.{Contains-append_cases, AreDistinct, contains_here, contains_map, contains_there, map_contains, AreRising}
+use Rattle.std.proofs.Common.{◌≡◌, ◌<◌, ◌∷◌, ◌++◌}
 
 -- one more, above all
 pub rising_more : (ns : List ℕ) (n : ℕ) → AreRising ns → All (λ m. m < n) ns → AreRising (ns ++ n ∷ [])

@@ -1,10 +1,11 @@
 -- What the lines of objects, and of a whole description, are read as.
-use Rattle.image_describer.proofs.Names.{◌≡◌, ℕ, ◌<◌, ◌==◌, nat_lt, ◌&&◌, true, List, [], ◌∷◌, ◌++◌, codes, decimal, length, slice_index_or, Option, None, Some}
-use Rattle.image_describer.proofs.Names.{IsSomeAnd, MatchOption, refl, sym, subst, arith, IsTrue, list_all, Void, is_bare, key_text, Data, Members, get_member}
-use Rattle.image_describer.proofs.Names.{no_members, BankEntry, Description, NodeEntry, PageEntry, ProcessEntry, AreFour, IsBank, IsCapability, IsDescription}
-use Rattle.image_describer.proofs.Names.{IsList, IsNode, IsNumber, IsPage, IsProcess, IsRange, IsSlot, IsState, IsTable, IsWideNumber, IsWord, whole_ranges}
-use Rattle.image_describer.proofs.Names.{AreSlots, IsProcessEntry, CanBeSpelled, SpellsBank, SpellsNode, SpellsPage, SpellsProcess, bank_fields, image_fields}
+use Rattle.image_describer.proofs.Names.{ℕ, nat_lt, true, List, [], codes, decimal, length, slice_index_or, Option, None, Some, IsSomeAnd, MatchOption, refl}
+use Rattle.image_describer.proofs.Names.{sym, subst, arith, IsTrue, list_all, Void, is_bare, key_text, Data, Members, get_member, no_members, BankEntry}
+use Rattle.image_describer.proofs.Names.{Description, NodeEntry, PageEntry, ProcessEntry, AreFour, IsBank, IsCapability, IsDescription, IsList, IsNode}
+use Rattle.image_describer.proofs.Names.{IsNumber, IsPage, IsProcess, IsRange, IsSlot, IsState, IsTable, IsWideNumber, IsWord, whole_ranges, AreSlots}
+use Rattle.image_describer.proofs.Names.{IsProcessEntry, CanBeSpelled, SpellsBank, SpellsNode, SpellsPage, SpellsProcess, bank_fields, image_fields}
 use Rattle.image_describer.proofs.Names.{node_fields, page_fields, process_fields, state_value, wide_text}
+use Rattle.std.proofs.Common.{◌≡◌, ◌<◌, ◌==◌, ◌&&◌, ◌∷◌, ◌++◌}
 use Rattle.image_describer.proofs.Chains.{Chain, Pair, are_apart, chain_at, chain_only}
 use Rattle.image_describer.proofs.Filled.{IsRead}
 use Rattle.image_describer.proofs.Lines.{SpellFields, are_pairs, deeper, spells_number}

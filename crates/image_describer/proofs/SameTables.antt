@@ -1,8 +1,9 @@
 -- Descriptions that one table says have the same frames.
-use Rattle.image_describer.proofs.Names.{◌≡◌, ℕ, suc, List, [], ◌∷◌, ◌++◌, map, refl, sym, ap, ◌∙◌, subst, arith, All, Contains, All-cons, All-nil, Frame}
-use Rattle.image_describer.proofs.Names.{Geometry, frame_at, object_count, fresh_cap, BankEntry, Description, NodeEntry, PageEntry, ProcessEntry, SlotEntry}
-use Rattle.image_describer.proofs.Names.{WordEntry, Each, IsSame, IsSameNode, IsSamePage, IsSameProcess, HasNamedWords, HoldsNamed, IsDescribed}
-use Rattle.image_describer.proofs.Names.{IsDescribedAnnex, IsDescribedNode, IsDescribedPage, IsDescribedRoot, first_frame, node_numbers, page_numbers}
+use Rattle.image_describer.proofs.Names.{ℕ, suc, List, [], map, refl, sym, ap, subst, arith, All, Contains, All-cons, All-nil, Frame, Geometry, frame_at}
+use Rattle.image_describer.proofs.Names.{object_count, fresh_cap, BankEntry, Description, NodeEntry, PageEntry, ProcessEntry, SlotEntry, WordEntry, Each}
+use Rattle.image_describer.proofs.Names.{IsSame, IsSameNode, IsSamePage, IsSameProcess, HasNamedWords, HoldsNamed, IsDescribed, IsDescribedAnnex}
+use Rattle.image_describer.proofs.Names.{IsDescribedNode, IsDescribedPage, IsDescribedRoot, first_frame, node_numbers, page_numbers}
+use Rattle.std.proofs.Common.{◌≡◌, ◌∷◌, ◌++◌, ◌∙◌}
 use Rattle.model.specs.declared.object.Content.TheVariants as content
 
 -- what holds of all of one list holds of all of the other

@@ -1,15 +1,16 @@
 -- The description of a sound world has a text: its numbers are short enough.
-use Rattle.image_describer.proofs.Names.{◌≡◌, ◌≢◌, ℕ, ◌+◌, ◌<◌, ◌≤◌, ◌^◌, true, List, [], ◌∷◌, ◌++◌, map, Option, Some, None, unwrap_or, IfSome, refl, sym, ap}
-use Rattle.image_describer.proofs.Names.{◌∙◌, subst, arith, IsTrue, All, Contains, All-contains, All-from_recursion, All-map, All-weaker, Contains-append_left}
-use Rattle.image_describer.proofs.Names.{Contains-append_right, Cap, Capability, Void, Number, Page, Node, Space, Process, Start, Resume, Bank, Discrim, Frame}
-use Rattle.image_describer.proofs.Names.{Geometry, Content, Object, named, frame_at, objects_of, AreKeptSlots, AreKeptWords, Follows, IsKeepable, IsKeptCap}
-use Rattle.image_describer.proofs.Names.{IsSoundFrames, MayBeKept, world_at, is_bank, is_free, map_content, role_of, IsOfKind, object_count, content_at}
-use Rattle.image_describer.proofs.Names.{object_at, owner_at, HomeRange, Version, One, Two, Cover, IsPlan, Plan, version_number, numbers_of, fresh_cap, mapped}
-use Rattle.image_describer.proofs.Names.{BankEntry, Description, NodeEntry, PageEntry, ProcessEntry, SlotEntry, WordEntry, AreSlots, AreWords, HasNamedWords}
-use Rattle.image_describer.proofs.Names.{HoldsNamed, IsDescribedNode, IsDescribedPage, IsDescribedAnnex, IsDescribedRoot, IsProcessEntry, first_frame, named_at}
-use Rattle.image_describer.proofs.Names.{node_numbers, page_numbers, word_named_at, all_from, all_got, contains_map, first_of, Describes, plain_frame}
-use Rattle.image_describer.proofs.Names.{plain_frames, DescribedHasText, IsShort, IsWide, NamesWide, SpellsBank, SpellsGeometry, SpellsNode, SpellsPage}
-use Rattle.image_describer.proofs.Names.{SpellsProcess, SpellsRange, SpellsSlot, SpellsWord}
+use Rattle.image_describer.proofs.Names.{ℕ, true, List, [], map, Option, Some, None, unwrap_or, IfSome, refl, sym, ap, subst, arith, IsTrue, All, Contains}
+use Rattle.image_describer.proofs.Names.{All-contains, All-from_recursion, All-map, All-weaker, Contains-append_left, Contains-append_right, Cap, Capability}
+use Rattle.image_describer.proofs.Names.{Void, Number, Page, Node, Space, Process, Start, Resume, Bank, Discrim, Frame, Geometry, Content, Object, named}
+use Rattle.image_describer.proofs.Names.{frame_at, objects_of, AreKeptSlots, AreKeptWords, Follows, IsKeepable, IsKeptCap, IsSoundFrames, MayBeKept, world_at}
+use Rattle.image_describer.proofs.Names.{is_bank, is_free, map_content, role_of, IsOfKind, object_count, content_at, object_at, owner_at, HomeRange, Version}
+use Rattle.image_describer.proofs.Names.{One, Two, Cover, IsPlan, Plan, version_number, numbers_of, fresh_cap, mapped, BankEntry, Description, NodeEntry}
+use Rattle.image_describer.proofs.Names.{PageEntry, ProcessEntry, SlotEntry, WordEntry, AreSlots, AreWords, HasNamedWords, HoldsNamed, IsDescribedNode}
+use Rattle.image_describer.proofs.Names.{IsDescribedPage, IsDescribedAnnex, IsDescribedRoot, IsProcessEntry, first_frame, named_at, node_numbers, page_numbers}
+use Rattle.image_describer.proofs.Names.{word_named_at, all_from, all_got, contains_map, first_of, Describes, plain_frame, plain_frames, DescribedHasText}
+use Rattle.image_describer.proofs.Names.{IsShort, IsWide, NamesWide, SpellsBank, SpellsGeometry, SpellsNode, SpellsPage, SpellsProcess, SpellsRange, SpellsSlot}
+use Rattle.image_describer.proofs.Names.{SpellsWord}
+use Rattle.std.proofs.Common.{◌≡◌, ◌≢◌, ◌+◌, ◌<◌, ◌≤◌, ◌^◌, ◌∷◌, ◌++◌, ◌∙◌}
 use Rattle.std.specs.List.{AllByRecursion as ByRecursion}
 use Rattle.model.specs.declared.object.Content.TheVariants as content
 use Rattle.model.specs.declared.object.Role.TheVariants as role

@@ -1,8 +1,8 @@
 -- Objects of a kind, described one number after another.
-use Rattle.image_describer.proofs.Names.{◌≡◌, ◌≢◌, ℕ, ◌+◌, ◌<◌, ◌≤◌, inl, inr, List, [], ◌∷◌, ◌++◌, map, length, Option, None, Some, option_to_list, sym, ap}
-use Rattle.image_describer.proofs.Names.{◌∙◌, subst, arith, All, Contains, cases_lt, All-map, All-push, All-weaker, Contains-append_left, Contains-append_right}
-use Rattle.image_describer.proofs.Names.{ObjectHeader, Object, Role, role_of, content_at, Parts, objects_in, object_past, contains_here, map_both, AreRising}
-use Rattle.image_describer.proofs.Names.{MayTell, TellAll}
+use Rattle.image_describer.proofs.Names.{ℕ, inl, inr, List, [], map, length, Option, None, Some, option_to_list, sym, ap, subst, arith, All, Contains, cases_lt}
+use Rattle.image_describer.proofs.Names.{All-map, All-push, All-weaker, Contains-append_left, Contains-append_right, ObjectHeader, Object, Role, role_of}
+use Rattle.image_describer.proofs.Names.{content_at, Parts, objects_in, object_past, contains_here, map_both, AreRising, MayTell, TellAll}
+use Rattle.std.proofs.Common.{◌≡◌, ◌≢◌, ◌+◌, ◌<◌, ◌≤◌, ◌∷◌, ◌++◌, ◌∙◌}
 use Rattle.std.proofs.lemmas.List.{append-nil}
 use Rattle.model.specs.declared.object.Role.TheVariants as role
 use Rattle.image_describer.proofs.Rising.{rising_more}

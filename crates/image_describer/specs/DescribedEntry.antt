@@ -1,7 +1,8 @@
 -- The entries of objects, one by one.
-use Rattle.image_describer.specs.Names.{◌≡◌, ◌≢◌, ℕ, List, [], map, Option, None, Some, All, Contains, Capability}
-use Rattle.image_describer.specs.Names.{Object, Role, State, role_of, content_at, object_at, BankEntry, Description}
-use Rattle.image_describer.specs.Names.{NodeEntry, PageEntry, ProcessEntry}
+use Rattle.image_describer.specs.Names.{ℕ, List, [], map, Option, None, Some, All, Contains, Capability, Object, Role}
+use Rattle.image_describer.specs.Names.{State, role_of, content_at, object_at, BankEntry, Description, NodeEntry}
+use Rattle.image_describer.specs.Names.{PageEntry, ProcessEntry}
+use Rattle.std.specs.Prelude.{◌≡◌, ◌≢◌}
 use Rattle.model.specs.declared.object.Content.TheVariants as content
 use Rattle.model.specs.declared.object.Role.TheVariants as role
 use Rattle.image_describer.specs.Describes.{AreRising, NamesSlots, NamesWords}

@@ -1,8 +1,9 @@
 -- What the description of a world is.
-use Rattle.image_describer.specs.Names.{◌≡◌, ◌≢◌, ℕ, ◌<◌, List, [], ◌∷◌, map, length, slice_index_or, unwrap_or, Some}
-use Rattle.image_describer.specs.Names.{All, Capability, Void, Frame, Geometry, Object, map_content, World, fresh_cap}
-use Rattle.image_describer.specs.Names.{Description, SlotEntry, WordEntry, HasFields, HasNumbers, IsDescribed}
-use Rattle.image_describer.specs.Names.{first_frame, first_named}
+use Rattle.image_describer.specs.Names.{ℕ, List, [], map, length, slice_index_or, unwrap_or, Some, All, Capability}
+use Rattle.image_describer.specs.Names.{Void, Frame, Geometry, Object, map_content, World, fresh_cap, Description}
+use Rattle.image_describer.specs.Names.{SlotEntry, WordEntry, HasFields, HasNumbers, IsDescribed, first_frame}
+use Rattle.image_describer.specs.Names.{first_named}
+use Rattle.std.specs.Prelude.{◌≡◌, ◌≢◌, ◌<◌, ◌∷◌}
 
 -- the frame of an object that was never given up, and none of whose capabilities is stale
 abbrev pub plain_frame : Object → Frame

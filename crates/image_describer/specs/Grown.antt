@@ -1,10 +1,10 @@
 -- An image of other sizes: nodes keep their numbers, and pages follow the nodes.
-use Rattle.image_describer.specs.Names.{◌≡◌, ◌≢◌, ℕ, ◌+◌, ◌-◌, ◌<◌, ◌≤◌, ◌==◌, ◌&&◌, nat_lt, if◌then◌else◌, false}
-use Rattle.image_describer.specs.Names.{Option, None, Some, List, map, length, unwrap_or, All, AllZip, NumberRange}
-use Rattle.image_describer.specs.Names.{IsGeometry, Capability, Void, Number, Page, Node, Space, Process, Start, Resume}
-use Rattle.image_describer.specs.Names.{Bank, Discrim, Geometry, Object, free, is_free, map_content, object_count}
-use Rattle.image_describer.specs.Names.{World, content_at, object_at, Description, NodeEntry, PageEntry, ProcessEntry}
-use Rattle.image_describer.specs.Names.{SlotEntry, whole_ranges}
+use Rattle.image_describer.specs.Names.{ℕ, nat_lt, false, Option, None, Some, List, map, length, unwrap_or, All, AllZip}
+use Rattle.image_describer.specs.Names.{NumberRange, IsGeometry, Capability, Void, Number, Page, Node, Space, Process}
+use Rattle.image_describer.specs.Names.{Start, Resume, Bank, Discrim, Geometry, Object, free, is_free, map_content}
+use Rattle.image_describer.specs.Names.{object_count, World, content_at, object_at, Description, NodeEntry, PageEntry}
+use Rattle.image_describer.specs.Names.{ProcessEntry, SlotEntry, whole_ranges}
+use Rattle.std.specs.Prelude.{◌≡◌, ◌≢◌, ◌+◌, ◌-◌, ◌<◌, ◌≤◌, ◌==◌, ◌&&◌, if◌then◌else◌}
 use Rattle.image_describer.specs.declared.sizes.GrowthFault.{GrowthFault}
 use Rattle.image_describer.specs.declared.sizes.GrowthFault.TheVariants as fault
 use Rattle.image_describer.specs.declared.sizes.Sizes.{Sizes}

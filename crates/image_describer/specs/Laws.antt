@@ -1,8 +1,9 @@
 -- What a description of a world is laid as, and that it has a text.
-use Rattle.image_describer.specs.Names.{◌≡◌, ℕ, List, map, Some, Frame, Geometry, IsSoundFrames, world_at, IsSound}
-use Rattle.image_describer.specs.Names.{World, Members, parse_document, IsPlan, Plan, version_number, numbers_of}
+use Rattle.image_describer.specs.Names.{ℕ, List, map, Some, Frame, Geometry, IsSoundFrames, world_at, IsSound, World}
+use Rattle.image_describer.specs.Names.{Members, parse_document, IsPlan, Plan, version_number, numbers_of}
 use Rattle.image_describer.specs.Names.{IsDescription, Description, HasFields, IsDescribed, IsWorldFault, WorldFault}
 use Rattle.image_describer.specs.Names.{NoMemory}
+use Rattle.std.specs.Prelude.{◌≡◌}
 use Rattle.image_describer.specs.Describes.{Describes}
 use Rattle.image_describer.specs.Grown.{IsGrown, IsRenumbered, NamesNodes, NamesPages}
 use Rattle.image_describer.specs.Spelled.{CanBeSpelled}

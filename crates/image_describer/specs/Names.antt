@@ -31,8 +31,7 @@ pub use Rattle.model.specs.declared.object.Object.{Object}
 pub use Rattle.model.specs.declared.object.Role.{Role}
 pub use Rattle.model.specs.declared.object.State.{State}
 pub use Rattle.std.specs.List.{All, AllZip, Contains, flat_map, join_by, list_all}
-pub use Rattle.std.specs.Prelude.{Bool, IfSome, List, None, Option, Some, [], codes, decimal, false, if◌then◌else◌}
-pub use Rattle.std.specs.Prelude.{length, map, nat_lt, slice_index_or, unwrap_or, ℕ, ◌&&◌, ◌++◌, ◌+◌, ◌-◌, ◌<◌, ◌==◌}
-pub use Rattle.std.specs.Prelude.{◌^◌, ◌∷◌, ◌≡◌, ◌≢◌, ◌≤◌}
+pub use Rattle.std.specs.Prelude.{Bool, IfSome, List, None, Option, Some, [], codes, decimal, false, length, map}
+pub use Rattle.std.specs.Prelude.{nat_lt, slice_index_or, unwrap_or, ℕ}
 pub use Rattle.toml.specs.Data.{Members}
 unfoldable pub use Rattle.toml.specs.Parse.{parse_document}

@@ -1,7 +1,8 @@
 -- Which descriptions have a text.
-use Rattle.image_describer.specs.Names.{◌≡◌, ℕ, ◌^◌, ◌<◌, Option, length, IfSome, All, NumberRange, Capability}
-use Rattle.image_describer.specs.Names.{Geometry, named, BankEntry, Description, NodeEntry, PageEntry, ProcessEntry}
-use Rattle.image_describer.specs.Names.{SlotEntry, WordEntry}
+use Rattle.image_describer.specs.Names.{ℕ, Option, length, IfSome, All, NumberRange, Capability, Geometry, named}
+use Rattle.image_describer.specs.Names.{BankEntry, Description, NodeEntry, PageEntry, ProcessEntry, SlotEntry}
+use Rattle.image_describer.specs.Names.{WordEntry}
+use Rattle.std.specs.Prelude.{◌≡◌, ◌^◌, ◌<◌}
 
 -- a number that TOML has, and one of 64 bits
 abbrev pub IsShort : ℕ → Type 0

@@ -1,9 +1,9 @@
 -- The text of a description, in TOML.
-use Rattle.image_describer.specs.Names.{ℕ, ◌^◌, ◌==◌, ◌&&◌, nat_lt, Bool, false, if◌then◌else◌, Option, None, Some}
-use Rattle.image_describer.specs.Names.{List, [], ◌∷◌, ◌++◌, codes, decimal, unwrap_or, flat_map, join_by, list_all}
-use Rattle.image_describer.specs.Names.{NumberRange, Capability, Void, Number, Geometry, State, capability_text}
-use Rattle.image_describer.specs.Names.{line_of, state_text, BankEntry, Description, NodeEntry, PageEntry, ProcessEntry}
-use Rattle.image_describer.specs.Names.{SlotEntry, WordEntry}
+use Rattle.image_describer.specs.Names.{ℕ, nat_lt, Bool, false, Option, None, Some, List, [], codes, decimal, unwrap_or}
+use Rattle.image_describer.specs.Names.{flat_map, join_by, list_all, NumberRange, Capability, Void, Number, Geometry}
+use Rattle.image_describer.specs.Names.{State, capability_text, line_of, state_text, BankEntry, Description, NodeEntry}
+use Rattle.image_describer.specs.Names.{PageEntry, ProcessEntry, SlotEntry, WordEntry}
+use Rattle.std.specs.Prelude.{◌^◌, ◌==◌, ◌&&◌, if◌then◌else◌, ◌∷◌, ◌++◌}
 
 -- Values
 

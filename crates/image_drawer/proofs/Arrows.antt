@@ -1,12 +1,12 @@
 -- Arrows are those of the world.
-use Rattle.image_drawer.proofs.Names.{◌≡◌, ℕ, Bool, true, false, inl, inr, List, [], ◌++◌, map, Option, None, Some, slice_index_or, refl, sym, ap, ◌∙◌, subst}
-use Rattle.image_drawer.proofs.Names.{IsTrue, Contains, flat_map, All-contains, Contains-append_cases, Contains-append_left, Contains-append_right, Capability}
-use Rattle.image_drawer.proofs.Names.{Void, Geometry, Object, named, is_node, is_root, root_in, slots_in, World, annex_at, content_at, is_process, register_at}
-use Rattle.image_drawer.proofs.Names.{root_at, slot_at, Description, NodeEntry, ProcessEntry, SlotEntry, AreDistinct, AreSlots, IsProcessEntry, node_numbers}
+use Rattle.image_drawer.proofs.Names.{ℕ, Bool, true, false, inl, inr, List, [], map, Option, None, Some, slice_index_or, refl, sym, ap, subst, IsTrue, Contains}
+use Rattle.image_drawer.proofs.Names.{flat_map, All-contains, Contains-append_cases, Contains-append_left, Contains-append_right, Capability, Void, Geometry}
+use Rattle.image_drawer.proofs.Names.{Object, named, is_node, is_root, root_in, slots_in, World, annex_at, content_at, is_process, register_at, root_at}
+use Rattle.image_drawer.proofs.Names.{slot_at, Description, NodeEntry, ProcessEntry, SlotEntry, AreDistinct, AreSlots, IsProcessEntry, node_numbers}
 use Rattle.image_drawer.proofs.Names.{page_numbers, Entry, OfAnnex, OfBank, OfNode, OfPage, OfRoot, number_of, IsOf, described_cases, contains_cases}
 use Rattle.image_drawer.proofs.Names.{contains_here, contains_none, Describes, plain_frames, arrow_of, arrow_to, arrows, arrows_at, node_arrows, process_arrows}
 use Rattle.image_drawer.proofs.Names.{ArrowsAreHeld, Holds, IsArrow, IsOnce, Arrow, Place}
-use Rattle.std.proofs.Common.{unwrap_or}
+use Rattle.std.proofs.Common.{◌≡◌, ◌++◌, ◌∙◌, unwrap_or}
 use Rattle.image_drawer.specs.declared.arrow.Place.TheVariants as place
 use Rattle.image_drawer.proofs.Once.{contains_flat, distinct_left, distinct_right, flat_contains, once_append, once_distinct, once_flat}
 use Rattle.image_drawer.proofs.Reported.{annex_reported, bank_reported, free_reported, node_reported, page_reported, root_reported, said_slot, slot_said}

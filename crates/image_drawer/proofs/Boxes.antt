@@ -1,11 +1,11 @@
 -- Boxes and owners are those of the world.
-use Rattle.image_drawer.proofs.Names.{◌≡◌, ◌≢◌, ℕ, true, false, inl, inr, List, [], ◌∷◌, ◌++◌, map, refl, sym, ap, ◌∙◌, subst, arith, Contains, flat_map}
-use Rattle.image_drawer.proofs.Names.{cases_eq, nat_tests, Contains-append_cases, Contains-append_left, Contains-append_right, flat_map-map, Capability}
-use Rattle.image_drawer.proofs.Names.{Geometry, Content, Object, free, is_annex, is_free, World, object_at, owner_at, Description, AreDistinct, node_numbers}
-use Rattle.image_drawer.proofs.Names.{page_numbers, Entry, OfAnnex, OfBank, OfNode, OfPage, OfRoot, number_of, IsOf, described_cases, contains_cases}
-use Rattle.image_drawer.proofs.Names.{contains_here, contains_map, contains_none, map_again, map_both, map_contains, Describes, plain_frames, boxes, joined}
-use Rattle.image_drawer.proofs.Names.{owners, BoxesAreObjects, HasBox, IsOnce, IsOwner, OwnersAreOwners}
-use Rattle.std.proofs.Common.{◌==◌}
+use Rattle.image_drawer.proofs.Names.{ℕ, true, false, inl, inr, List, [], map, refl, sym, ap, subst, arith, Contains, flat_map, cases_eq, nat_tests}
+use Rattle.image_drawer.proofs.Names.{Contains-append_cases, Contains-append_left, Contains-append_right, flat_map-map, Capability, Geometry, Content, Object}
+use Rattle.image_drawer.proofs.Names.{free, is_annex, is_free, World, object_at, owner_at, Description, AreDistinct, node_numbers, page_numbers, Entry, OfAnnex}
+use Rattle.image_drawer.proofs.Names.{OfBank, OfNode, OfPage, OfRoot, number_of, IsOf, described_cases, contains_cases, contains_here, contains_map}
+use Rattle.image_drawer.proofs.Names.{contains_none, map_again, map_both, map_contains, Describes, plain_frames, boxes, joined, owners, BoxesAreObjects, HasBox}
+use Rattle.image_drawer.proofs.Names.{IsOnce, IsOwner, OwnersAreOwners}
+use Rattle.std.proofs.Common.{◌≡◌, ◌≢◌, ◌∷◌, ◌++◌, ◌∙◌, ◌==◌}
 use Rattle.model.specs.declared.object.Content.TheVariants as content
 use Rattle.image_drawer.proofs.Once.{contains_flat, distinct_apart, distinct_left, distinct_right, flat_contains, once_append, once_distinct, once_flat}
 use Rattle.image_drawer.proofs.Texts.{flat_map-four}

@@ -1,8 +1,10 @@
 -- The numbers of those who hold an object, and of the boxes.
-use Rattle.image_drawer.proofs.Names.{◌≡◌, inl, inr, ℕ, ◌<◌, Bool, true, false, List, [], ◌∷◌, ◌++◌, map, refl, sym, ap, ◌∙◌, subst, arith, ◌==◌, ◌||◌, All}
-use Rattle.image_drawer.proofs.Names.{Contains, filter, list_any, cases_eq, nat_tests, All-append, All-cons, All-contains, All-filter, All-map, object_count}
-use Rattle.image_drawer.proofs.Names.{BankEntry, Description, NodeEntry, PageEntry, ProcessEntry, HasNumbers, OfBank, OfNode, OfPage, OfRoot, in_range}
-use Rattle.image_drawer.proofs.Names.{all_from, contains_here, contains_there, boxes, holders, holds_in, is_listed, names}
+use Rattle.image_drawer.proofs.Names.{inl, inr, ℕ, Bool, true, false, List, [], map, refl, sym, ap, subst, arith, All, Contains, filter, list_any, cases_eq}
+use Rattle.image_drawer.proofs.Names.{nat_tests, All-append, All-cons, All-contains, All-filter, All-map, object_count, BankEntry, Description, NodeEntry}
+use Rattle.image_drawer.proofs.Names.{PageEntry, ProcessEntry, HasNumbers, OfBank, OfNode, OfPage, OfRoot, in_range, all_from, contains_here, contains_there}
+use Rattle.image_drawer.proofs.Names.{boxes, holders, holds_in, is_listed, names}
+use Rattle.std.proofs.Common.{◌≡◌, ◌<◌, ◌∷◌, ◌++◌, ◌∙◌}
+use Rattle.std.specs.Prelude.{◌==◌, ◌||◌}
 
 either_or : (a r b c : Bool) → r ≡ (b || c) → (a || r) ≡ ((a || b) || c)
 either_or true r b c is = refl

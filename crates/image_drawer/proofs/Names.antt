@@ -34,8 +34,7 @@ pub use Rattle.script.proofs.Fronts.{text_fails, writes_after, writes_fail, writ
 pub use Rattle.script.specs.Writing.{Writes}
 pub use Rattle.script.specs.declared.fault.RunFault.{RunFault}
 pub use Rattle.std.proofs.Common.{Bool, Err, List, None, Option, Result, Some, [], add-one, ap, append-nil, append_assoc, arith, codes, decimal, drop, false}
-pub use Rattle.std.proofs.Common.{get_or, if◌then◌else◌, inl, inr, length, map, refl, rules, slice_index_or, subst, sym, take, true, ℕ, ◌++◌, ◌+◌, ◌<◌, ◌∙◌}
-pub use Rattle.std.proofs.Common.{◌∷◌, ◌≡◌, ◌≢◌, ◌≤◌}
+pub use Rattle.std.proofs.Common.{get_or, inl, inr, length, map, refl, rules, slice_index_or, subst, sym, take, true, ℕ}
 pub use Rattle.std.proofs.KnownBytes.{Appends-trans}
 pub use Rattle.std.proofs.Math.ListN.{get_or-map}
 pub use Rattle.std.proofs.Math.Seq.{take-suc}
@@ -51,7 +50,7 @@ pub use Rattle.std.proofs.lemmas.Option.{get_or_from_slice_get}
 pub use Rattle.std.proofs.lemmas.Result.{err_from_is_err_and}
 pub use Rattle.std.specs.Io.KnownBytes.{Appends}
 pub use Rattle.std.specs.List.{All, AllZip, Contains, filter, flat_map, list_any}
-pub use Rattle.std.specs.Prelude.{IsTrue, unwrap_or, ◌&&◌, ◌==◌, ◌||◌}
+pub use Rattle.std.specs.Prelude.{IsTrue, unwrap_or}
 pub use Rattle.image_drawer.specs.Graph.{arrow_lines, arrow_of, arrow_to, arrows, arrows_at, box_line, box_lines, boxes, head_lines, joined, kind_text}
 pub use Rattle.image_drawer.specs.Graph.{next_line, node_arrows, owner_lines, owners, place_text, plain_line, plain_lines, process_arrows, style_text}
 pub use Rattle.image_drawer.specs.Graph.{word_of_state}

@@ -1,7 +1,7 @@
 -- Lists in which nothing comes twice, and what lists of lists hold.
-use Rattle.image_drawer.proofs.Names.{◌≡◌, ℕ, inl, inr, List, [], ◌∷◌, ◌++◌, map, sym, ◌∙◌, subst, Contains, flat_map, Contains-append_cases}
-use Rattle.image_drawer.proofs.Names.{Contains-append_left, Contains-append_right, AreDistinct, contains_cases, contains_here, contains_map, contains_none}
-use Rattle.image_drawer.proofs.Names.{contains_there, IsOnce}
+use Rattle.image_drawer.proofs.Names.{ℕ, inl, inr, List, [], map, sym, subst, Contains, flat_map, Contains-append_cases, Contains-append_left}
+use Rattle.image_drawer.proofs.Names.{Contains-append_right, AreDistinct, contains_cases, contains_here, contains_map, contains_none, contains_there, IsOnce}
+use Rattle.std.proofs.Common.{◌≡◌, ◌∷◌, ◌++◌, ◌∙◌}
 
 -- what is in one of the lists
 pub contains_flat : {X Y : Type 0} (f : X → List Y) (y : Y) (xs : List X) → Contains (flat_map f xs) y → (x : X) × Contains xs x × Contains (f x) y

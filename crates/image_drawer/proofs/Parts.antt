@@ -1,9 +1,10 @@
 -- What the graph of a part of a description shows.
-use Rattle.image_drawer.proofs.Names.{◌≡◌, ℕ, Bool, true, false, if◌then◌else◌, Option, Some, None, List, [], ◌∷◌, ◌++◌, map, refl, sym, ap, ◌∙◌, ◌==◌, ◌&&◌}
-use Rattle.image_drawer.proofs.Names.{AllZip, filter, flat_map, filter-append, Capability, Void, named, BankEntry, Description, NodeEntry, PageEntry}
-use Rattle.image_drawer.proofs.Names.{ProcessEntry, SlotEntry, zip_map, Arrow, Place, arrow_of, arrow_to, arrows_at, joined, node_arrows, process_arrows}
-use Rattle.image_drawer.proofs.Names.{IsPart, IsPartOfNode, IsPartOfProcess, PartIsShown, is_inside, leads_inside, space_inside}
-use Rattle.std.proofs.Common.{unwrap_or}
+use Rattle.image_drawer.proofs.Names.{ℕ, Bool, true, false, Option, Some, None, List, [], map, refl, sym, ap, AllZip, filter, flat_map, filter-append}
+use Rattle.image_drawer.proofs.Names.{Capability, Void, named, BankEntry, Description, NodeEntry, PageEntry, ProcessEntry, SlotEntry, zip_map, Arrow, Place}
+use Rattle.image_drawer.proofs.Names.{arrow_of, arrow_to, arrows_at, joined, node_arrows, process_arrows, IsPart, IsPartOfNode, IsPartOfProcess, PartIsShown}
+use Rattle.image_drawer.proofs.Names.{is_inside, leads_inside, space_inside}
+use Rattle.std.proofs.Common.{◌≡◌, if◌then◌else◌, ◌∷◌, ◌++◌, ◌∙◌, unwrap_or}
+use Rattle.std.specs.Prelude.{◌==◌, ◌&&◌}
 use Rattle.image_drawer.specs.declared.arrow.Place.TheVariants as place
 
 -- Lists

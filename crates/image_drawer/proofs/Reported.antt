@@ -1,11 +1,11 @@
 -- The objects of a world, by the entries of its description.
-use Rattle.image_drawer.proofs.Names.{◌≡◌, ◌≢◌, ℕ, ◌<◌, ◌≤◌, inl, inr, List, [], ◌∷◌, map, length, Some, slice_index_or, refl, sym, ap, ◌∙◌, arith, Contains}
-use Rattle.image_drawer.proofs.Names.{get_or-map, cases_eq, cases_lt, get_or_past, length-map, All-contains, get_or_from_slice_get, Cap, Capability, Void}
-use Rattle.image_drawer.proofs.Names.{Frame, Geometry, Content, Object, State, named, blank_frame, frame_at, free, map_content, World, object_at, fresh_cap}
-use Rattle.image_drawer.proofs.Names.{BankEntry, Description, NodeEntry, PageEntry, ProcessEntry, SlotEntry, AreSlots, HoldsNamed, IsDescribedAnnex}
-use Rattle.image_drawer.proofs.Names.{IsDescribedNode, IsDescribedPage, IsDescribedRoot, first_frame, named_at, contains_here, contains_there, first_beyond}
-use Rattle.image_drawer.proofs.Names.{first_of, first_there, Describes, plain_frame, plain_frames}
-use Rattle.std.proofs.Common.{unwrap_or}
+use Rattle.image_drawer.proofs.Names.{ℕ, inl, inr, List, [], map, length, Some, slice_index_or, refl, sym, ap, arith, Contains, get_or-map, cases_eq, cases_lt}
+use Rattle.image_drawer.proofs.Names.{get_or_past, length-map, All-contains, get_or_from_slice_get, Cap, Capability, Void, Frame, Geometry, Content, Object}
+use Rattle.image_drawer.proofs.Names.{State, named, blank_frame, frame_at, free, map_content, World, object_at, fresh_cap, BankEntry, Description, NodeEntry}
+use Rattle.image_drawer.proofs.Names.{PageEntry, ProcessEntry, SlotEntry, AreSlots, HoldsNamed, IsDescribedAnnex, IsDescribedNode, IsDescribedPage}
+use Rattle.image_drawer.proofs.Names.{IsDescribedRoot, first_frame, named_at, contains_here, contains_there, first_beyond, first_of, first_there, Describes}
+use Rattle.image_drawer.proofs.Names.{plain_frame, plain_frames}
+use Rattle.std.proofs.Common.{◌≡◌, ◌≢◌, ◌<◌, ◌≤◌, ◌∷◌, ◌∙◌, unwrap_or}
 use Rattle.model.specs.declared.object.Content.TheVariants as content
 
 -- a capability behind its count

@@ -1,7 +1,8 @@
 -- Texts of items, written one after the other.
-use Rattle.image_drawer.proofs.Names.{◌≡◌, ℕ, ◌+◌, ◌<◌, ◌≤◌, List, [], ◌∷◌, ◌++◌, Option, Result, Err, codes, decimal, length, get_or, take, drop, refl, sym}
-use Rattle.image_drawer.proofs.Names.{ap, ◌∙◌, subst, append_assoc, append-nil, add-one, flat_map, Appends, Appends-trans, flat_map-append, take-append-drop}
-use Rattle.image_drawer.proofs.Names.{take_all, take-suc, spaced, RunFault, Writes, text_fails, writes_after, writes_fail, writes_same, box_line, next_line}
+use Rattle.image_drawer.proofs.Names.{ℕ, List, [], Option, Result, Err, codes, decimal, length, get_or, take, drop, refl, sym, ap, subst, append_assoc}
+use Rattle.image_drawer.proofs.Names.{append-nil, add-one, flat_map, Appends, Appends-trans, flat_map-append, take-append-drop, take_all, take-suc, spaced}
+use Rattle.image_drawer.proofs.Names.{RunFault, Writes, text_fails, writes_after, writes_fail, writes_same, box_line, next_line}
+use Rattle.std.proofs.Common.{◌≡◌, ◌+◌, ◌<◌, ◌≤◌, ◌∷◌, ◌++◌, ◌∙◌}
 
 -- the texts of lists of items
 pub flat_map-flat_map : {A B C : Type 0} (f : B → List C) (h : A → List B) (xs : List A) → flat_map f (flat_map h xs) ≡ flat_map (λ x. flat_map f (h x)) xs

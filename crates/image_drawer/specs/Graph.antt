@@ -1,8 +1,9 @@
 -- A description as a graph in DOT: boxes, owners and arrows.
-use Rattle.image_drawer.specs.Names.{ℕ, ◌==◌, if◌then◌else◌, Option, None, Some, List, [], ◌∷◌, ◌++◌, map, codes}
-use Rattle.image_drawer.specs.Names.{decimal, unwrap_or, flat_map, Capability, Void, Number, Space, Start, Resume}
-use Rattle.image_drawer.specs.Names.{Discrim, State, access_bits, named, capability_text, line_of, spaced, state_text}
-use Rattle.image_drawer.specs.Names.{BankEntry, Description, NodeEntry, PageEntry, ProcessEntry, SlotEntry}
+use Rattle.image_drawer.specs.Names.{ℕ, Option, None, Some, List, [], map, codes, decimal, unwrap_or, flat_map}
+use Rattle.image_drawer.specs.Names.{Capability, Void, Number, Space, Start, Resume, Discrim, State, access_bits, named}
+use Rattle.image_drawer.specs.Names.{capability_text, line_of, spaced, state_text, BankEntry, Description, NodeEntry}
+use Rattle.image_drawer.specs.Names.{PageEntry, ProcessEntry, SlotEntry}
+use Rattle.std.specs.Prelude.{◌==◌, if◌then◌else◌, ◌∷◌, ◌++◌}
 use Rattle.image_drawer.specs.declared.arrow.Arrow.{Arrow}
 use Rattle.image_drawer.specs.declared.arrow.Place.{Place}
 use Rattle.image_drawer.specs.declared.arrow.Place.TheVariants as place

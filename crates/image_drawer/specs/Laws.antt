@@ -1,7 +1,8 @@
 -- What the graph of the description of a world shows.
-use Rattle.image_drawer.specs.Names.{◌≡◌, ◌≢◌, ◌↔◌, ℕ, false, List, [], ◌∷◌, Some, IsTrue, Contains, Capability}
-use Rattle.image_drawer.specs.Names.{Geometry, Object, named, is_annex, is_free, is_node, World, content_at, is_process}
-use Rattle.image_drawer.specs.Names.{owner_at, register_at, root_at, slot_at, Description, Describes}
+use Rattle.image_drawer.specs.Names.{ℕ, false, List, [], Some, IsTrue, Contains, Capability, Geometry, Object, named}
+use Rattle.image_drawer.specs.Names.{is_annex, is_free, is_node, World, content_at, is_process, owner_at, register_at}
+use Rattle.image_drawer.specs.Names.{root_at, slot_at, Description, Describes}
+use Rattle.std.specs.Prelude.{◌≡◌, ◌≢◌, ◌↔◌, ◌∷◌}
 use Rattle.image_drawer.specs.Graph.{arrows, boxes, owners}
 use Rattle.image_drawer.specs.declared.arrow.Arrow.{Arrow}
 use Rattle.image_drawer.specs.declared.arrow.Place.{Place}

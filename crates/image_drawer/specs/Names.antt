@@ -17,5 +17,5 @@ pub use Rattle.model.specs.declared.geometry.Geometry.{Geometry}
 pub use Rattle.model.specs.declared.object.Object.{Object}
 pub use Rattle.model.specs.declared.object.State.{State}
 pub use Rattle.std.specs.List.{AllZip, Contains, filter, flat_map, list_any}
-pub use Rattle.std.specs.Prelude.{Bool, IsTrue, List, None, Option, Some, [], codes, decimal, false, if◌then◌else◌, map}
-pub use Rattle.std.specs.Prelude.{true, unwrap_or, ℕ, ◌&&◌, ◌++◌, ◌==◌, ◌||◌, ◌↔◌, ◌∷◌, ◌≡◌, ◌≢◌}
+pub use Rattle.std.specs.Prelude.{Bool, IsTrue, List, None, Option, Some, [], codes, decimal, false, map, true}
+pub use Rattle.std.specs.Prelude.{unwrap_or, ℕ}

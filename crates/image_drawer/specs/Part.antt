@@ -1,7 +1,7 @@
 -- The part of a description that is drawn.
-use Rattle.image_drawer.specs.Names.{◌≡◌, ℕ, ◌==◌, ◌&&◌, ◌||◌, Bool, true, false, if◌then◌else◌, Option, None, Some}
-use Rattle.image_drawer.specs.Names.{List, ◌∷◌, ◌++◌, map, unwrap_or, AllZip, filter, list_any, Capability, Void, named}
-use Rattle.image_drawer.specs.Names.{Description, NodeEntry, ProcessEntry, SlotEntry}
+use Rattle.image_drawer.specs.Names.{ℕ, Bool, true, false, Option, None, Some, List, map, unwrap_or, AllZip, filter}
+use Rattle.image_drawer.specs.Names.{list_any, Capability, Void, named, Description, NodeEntry, ProcessEntry, SlotEntry}
+use Rattle.std.specs.Prelude.{◌≡◌, ◌==◌, ◌&&◌, ◌||◌, if◌then◌else◌, ◌∷◌, ◌++◌}
 use Rattle.image_drawer.specs.Graph.{arrows, boxes, owners}
 
 -- a capability names nothing, or an object of a set

@@ -1,5 +1,6 @@
 -- A copy of a device that was read.
-use Rattle.image_explainer.proofs.Names.{ℕ, ◌+◌, List, ◌∙◌, Image, Agrees, AreSectors}
+use Rattle.image_explainer.proofs.Names.{ℕ, List, Image, Agrees, AreSectors}
+use Rattle.std.proofs.Common.{◌+◌, ◌∙◌}
 
 -- is one of what the device held before
 pub copied_before : (new old : Image) (bytes : List ℕ) → AreSectors new 0 bytes → Agrees new old → AreSectors old 0 bytes

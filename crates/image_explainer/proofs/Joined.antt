@@ -1,6 +1,6 @@
 -- Texts that are put together piece by piece.
-use Rattle.image_explainer.proofs.Names.{◌≡◌, ℕ, List, ◌∷◌, ◌++◌, ap, ◌∙◌, append_assoc, codes, decimal, BadImage, ImageFault, reason_of, fault_text}
-use Rattle.image_explainer.proofs.Names.{reason_number, place_text}
+use Rattle.image_explainer.proofs.Names.{ℕ, List, ap, append_assoc, codes, decimal, BadImage, ImageFault, reason_of, fault_text, reason_number, place_text}
+use Rattle.std.proofs.Common.{◌≡◌, ◌∷◌, ◌++◌, ◌∙◌}
 
 module _ (l a b m n : List ℕ) (first : m ≡ l ++ a) (second : n ≡ m ++ b) where
   pub joined_2 : n ≡ l ++ (a ++ b)

@@ -1,7 +1,7 @@
 -- Roots and annexes that don't belong together.
-use Rattle.image_explainer.proofs.Names.{◌≡◌, ℕ, ◌+◌, ◌<◌, ◌≤◌, List, Option, None, Some, length, inl, inr, subst, arith, cases_lt, Frame, Noted}
-use Rattle.image_explainer.proofs.Names.{AreWholeProcesses, AreNoted, none_noted, HasRoot, IsMatched, MatchesOr, Unmatched, IsUnmatched, IfNone, IfSome}
-use Rattle.image_explainer.proofs.Names.{get_or_past}
+use Rattle.image_explainer.proofs.Names.{ℕ, List, Option, None, Some, length, inl, inr, subst, arith, cases_lt, Frame, Noted, AreWholeProcesses, AreNoted}
+use Rattle.image_explainer.proofs.Names.{none_noted, HasRoot, IsMatched, MatchesOr, Unmatched, IsUnmatched, IfNone, IfSome, get_or_past}
+use Rattle.std.proofs.Common.{◌≡◌, ◌+◌, ◌<◌, ◌≤◌}
 
 -- past the notes there is no root
 pub all_matched : (fs : List Frame) (notes : List (Option Noted)) (n : ℕ) → AreNoted fs notes → length notes ≤ n → ((p : ℕ) → p < n → IsMatched fs p) → (p : ℕ) → IsMatched fs p

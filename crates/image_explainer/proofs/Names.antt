@@ -44,7 +44,7 @@ pub use Rattle.sector_faults.specs.declared.fault.HeaderPart.{HeaderPart}
 pub use Rattle.sector_faults.specs.declared.fault.NotCounted.{NotCounted}
 pub use Rattle.sector_faults.specs.declared.fault.SectorFault.{SectorFault}
 pub use Rattle.std.proofs.Common.{Err, List, None, Ok, Option, Result, Some, [], ap, append_assoc, arith, inl, inr, length, refl, slice_index_or, subst, sym, ℕ}
-pub use Rattle.std.proofs.Common.{⊎_elim, ◌++◌, ◌+◌, ◌<◌, ◌^◌, ◌∙◌, ◌∷◌, ◌≡◌, ◌≤◌}
+pub use Rattle.std.proofs.Common.{⊎_elim}
 pub use Rattle.std.proofs.lemmas.Bool.{cases_lt}
 pub use Rattle.std.proofs.lemmas.List.{get_or_default, get_or_past}
 pub use Rattle.std.specs.List.{All}

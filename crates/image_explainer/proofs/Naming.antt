@@ -1,7 +1,8 @@
 -- Capabilities that name what they can't.
-use Rattle.image_explainer.proofs.Names.{◌≡◌, ℕ, ◌<◌, List, [], Option, length, slice_index_or, sym, ap, ◌∙◌, subst, arith, IfNone, All, get_or_default, Cap}
-use Rattle.image_explainer.proofs.Names.{Frame, ObjectHeader, Content, current_count, frame_at, header_at, void_held, caps_in, Parts, frames_of, IsNamed}
-use Rattle.image_explainer.proofs.Names.{header_read, table_read, Misnamed, IsMisnamed}
+use Rattle.image_explainer.proofs.Names.{ℕ, List, [], Option, length, slice_index_or, sym, ap, subst, arith, IfNone, All, get_or_default, Cap, Frame}
+use Rattle.image_explainer.proofs.Names.{ObjectHeader, Content, current_count, frame_at, header_at, void_held, caps_in, Parts, frames_of, IsNamed, header_read}
+use Rattle.image_explainer.proofs.Names.{table_read, Misnamed, IsMisnamed}
+use Rattle.std.proofs.Common.{◌≡◌, ◌<◌, ◌∙◌}
 
 -- the capability of an index, which was read with the table
 pub misnamed_here : (p : Parts) (n i : ℕ) (held : List Cap) (d : Cap) (hs ks : List ObjectHeader) (h : ObjectHeader) (current : ℕ) → held ≡ caps_in (frame_at (frames_of p) n).content → i < length held

@@ -1,10 +1,10 @@
 -- Faults as reasons to refuse an image.
-use Rattle.image_explainer.proofs.Names.{◌≡◌, ℕ, ◌≤◌, ◌^◌, List, Option, None, Some, Ok, inl, inr, ⊎_elim, refl, sym, ap, ◌∙◌, subst, Frame, Cap, void_held}
-use Rattle.image_explainer.proofs.Names.{AreKeepable, Disk, Image, BadImage, OpenFault, OnlyReads, Holds, SavedFrames, Inconsistency, BadBank, BadCapability}
-use Rattle.image_explainer.proofs.Names.{BadProcess, AreNamed, AreWholeProcesses, IsInconsistent, IsNamed, frames_of, unbanked_refuted, consistent_is_sound}
-use Rattle.image_explainer.proofs.Names.{OpensStore, StoreState, parts_of, view_of, saved_of, IsUnfit, holds_one, frames_not_bad, SectorFault, IsFault}
-use Rattle.image_explainer.proofs.Names.{ImageFault, Misnamed, Unmatched, BreaksFrames, IsMisnamed, IsUnmatched, reason_of, AreBadForOneReason, Explains}
-use Rattle.image_explainer.proofs.Names.{IsExplainedBy, IsConsistentOr}
+use Rattle.image_explainer.proofs.Names.{ℕ, List, Option, None, Some, Ok, inl, inr, ⊎_elim, refl, sym, ap, subst, Frame, Cap, void_held, AreKeepable, Disk}
+use Rattle.image_explainer.proofs.Names.{Image, BadImage, OpenFault, OnlyReads, Holds, SavedFrames, Inconsistency, BadBank, BadCapability, BadProcess, AreNamed}
+use Rattle.image_explainer.proofs.Names.{AreWholeProcesses, IsInconsistent, IsNamed, frames_of, unbanked_refuted, consistent_is_sound, OpensStore, StoreState}
+use Rattle.image_explainer.proofs.Names.{parts_of, view_of, saved_of, IsUnfit, holds_one, frames_not_bad, SectorFault, IsFault, ImageFault, Misnamed, Unmatched}
+use Rattle.image_explainer.proofs.Names.{BreaksFrames, IsMisnamed, IsUnmatched, reason_of, AreBadForOneReason, Explains, IsExplainedBy, IsConsistentOr}
+use Rattle.std.proofs.Common.{◌≡◌, ◌≤◌, ◌^◌, ◌∙◌}
 use Rattle.std.specs.Prelude.{Result}
 use Rattle.checkpoint.specs.declared.open_fault.OpenFault.TheVariants as open_fault
 use Rattle.recovery.specs.Recovered.{reason_of as inconsistent_reason}

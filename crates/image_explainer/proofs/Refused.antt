@@ -1,7 +1,8 @@
 -- Devices that were refused for what is wrong in their sectors.
-use Rattle.image_explainer.proofs.Names.{ℕ, Some, Result, Ok, Err, ⊎_elim, refl, sym, subst, ◌∙◌, arith, cases_lt, Disk, Image, CountsNow, peeks_on, agrees_is}
+use Rattle.image_explainer.proofs.Names.{ℕ, Some, Result, Ok, Err, ⊎_elim, refl, sym, subst, arith, cases_lt, Disk, Image, CountsNow, peeks_on, agrees_is}
 use Rattle.image_explainer.proofs.Names.{BadImage, IsBadBy, OpenFault, CountsOpen, OnlyReads, Refuses, ReadsOnly, IsNoReason, SectorFault, IsFault, ImageFault}
 use Rattle.image_explainer.proofs.Names.{Explains}
+use Rattle.std.proofs.Common.{◌∙◌}
 use Rattle.std.specs.Prelude.{Option}
 use Rattle.checkpoint.specs.declared.open_fault.OpenFault.TheVariants as open_fault
 use Rattle.image_explainer.specs.declared.fault.ImageFault.TheVariants as fault

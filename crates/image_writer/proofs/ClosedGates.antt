@@ -1,7 +1,8 @@
 -- Under closed gates no header is committed, whatever is written elsewhere.
-use Rattle.image_writer.proofs.Names.{◌≡◌, ◌⊎◌, ℕ, ◌+◌, ◌≤◌, inl, inr, ⊎_elim, sym, subst, ap, ◌∙◌, arith, is_open, Disk, Image, Elsewhere, IsTorn, Only}
-use Rattle.image_writer.proofs.Names.{LeavesOnly, agrees_is, OnlyNow, leaves_on, leaves_weaker, started, WritesAt, AreClosed, SparesRest, WasKeptOrHasNone}
-use Rattle.image_writer.proofs.Names.{none_committed, IsBeforeOrNone, LeavesClosed}
+use Rattle.image_writer.proofs.Names.{ℕ, inl, inr, ⊎_elim, sym, subst, ap, arith, is_open, Disk, Image, Elsewhere, IsTorn, Only, LeavesOnly, agrees_is, OnlyNow}
+use Rattle.image_writer.proofs.Names.{leaves_on, leaves_weaker, started, WritesAt, AreClosed, SparesRest, WasKeptOrHasNone, none_committed, IsBeforeOrNone}
+use Rattle.image_writer.proofs.Names.{LeavesClosed}
+use Rattle.std.proofs.Common.{◌≡◌, ◌⊎◌, ◌+◌, ◌≤◌, ◌∙◌}
 
 -- sectors before the gates, or behind the headers
 abbrev pub AreBeside : ℕ → ℕ → Type 0

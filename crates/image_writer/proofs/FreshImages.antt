@@ -1,12 +1,13 @@
 -- An image denotes its state once the gate is open.
-use Rattle.image_writer.proofs.Names.{◌≡◌, ◌⊎◌, inl, inr, ⊎_elim, ℕ, ◌^◌, ◌<◌, ◌≤◌, ◌+◌, ◌-◌, ◌*◌, ◌%◌, Bool, true, false, List, [], length, take, Some, Result}
-use Rattle.image_writer.proofs.Names.{Ok, Err, refl, sym, ap, subst, ◌∙◌, arith, ◌==◌, ◌&&◌, OnOk, Frame, Geometry, frame_at, AreKeepable, object_count, Disk}
-use Rattle.image_writer.proofs.Names.{Image, LeavesOnly, leaves_on, leaves_weaker, Agrees, Elsewhere, agrees_is, Entry, CheckpointHeader, IsDirectory}
-use Rattle.image_writer.proofs.Names.{directory_bytes, frame_bytes, is_open, IsHeader, header_bytes, place_length, shape_of, Encodes, HasNoHeader, committed_of}
-use Rattle.image_writer.proofs.Names.{committed_bytes, directory_in, directory_length, directory_sector, does_count, frame_in, frame_sector, option_at}
-use Rattle.image_writer.proofs.Names.{sectors_from, sequence_in, shape_bytes, Plan, IsPlan, half_within, same_sectors, places_within, AreClosed, none_committed}
-use Rattle.image_writer.proofs.Names.{Holds, SavedFrames, kept_of, half_behind, sequences_reported, frames_behind, HasOpeningSectors, IsBeforeOrNone}
-use Rattle.image_writer.proofs.Names.{IsLeftWriting, IsWritten, first_header, state_of}
+use Rattle.image_writer.proofs.Names.{inl, inr, ⊎_elim, ℕ, Bool, true, false, List, [], length, take, Some, Result, Ok, Err, refl, sym, ap, subst, arith, OnOk}
+use Rattle.image_writer.proofs.Names.{Frame, Geometry, frame_at, AreKeepable, object_count, Disk, Image, LeavesOnly, leaves_on, leaves_weaker, Agrees}
+use Rattle.image_writer.proofs.Names.{Elsewhere, agrees_is, Entry, CheckpointHeader, IsDirectory, directory_bytes, frame_bytes, is_open, IsHeader, header_bytes}
+use Rattle.image_writer.proofs.Names.{place_length, shape_of, Encodes, HasNoHeader, committed_of, committed_bytes, directory_in, directory_length}
+use Rattle.image_writer.proofs.Names.{directory_sector, does_count, frame_in, frame_sector, option_at, sectors_from, sequence_in, shape_bytes, Plan, IsPlan}
+use Rattle.image_writer.proofs.Names.{half_within, same_sectors, places_within, AreClosed, none_committed, Holds, SavedFrames, kept_of, half_behind}
+use Rattle.image_writer.proofs.Names.{sequences_reported, frames_behind, HasOpeningSectors, IsBeforeOrNone, IsLeftWriting, IsWritten, first_header, state_of}
+use Rattle.std.proofs.Common.{◌≡◌, ◌⊎◌, ◌^◌, ◌<◌, ◌≤◌, ◌+◌, ◌-◌, ◌*◌, ◌%◌, ◌∙◌}
+use Rattle.std.specs.Prelude.{◌==◌, ◌&&◌}
 
 -- of two headers the first is committed, where it counts and the other doesn't
 first_alone : (first second : Bool) (m n : ℕ) → first ≡ true → second ≡ false → committed_of first m second n ≡ Some 0

@@ -1,7 +1,8 @@
 -- What is laid out may be laid out again.
-use Rattle.image_writer.proofs.Names.{◌≡◌, ℕ, ◌+◌, ◌<◌, ◌≤◌, List, [], ◌∷◌, ◌++◌, length, get_or, set, take, drop, map, refl, sym, ap, ◌∙◌, append_assoc, arith}
-use Rattle.image_writer.proofs.Names.{append-nil, drop_all, drop_more, length-map, length-set, take_all, take_more_set, Geometry, HomeRange, Plan, IsPlan}
-use Rattle.image_writer.proofs.Names.{Cover, NumberRange, MayBeLaid, numbers_of, placed}
+use Rattle.image_writer.proofs.Names.{ℕ, List, [], length, get_or, set, take, drop, map, refl, sym, ap, append_assoc, arith, append-nil, drop_all, drop_more}
+use Rattle.image_writer.proofs.Names.{length-map, length-set, take_all, take_more_set, Geometry, HomeRange, Plan, IsPlan, Cover, NumberRange, MayBeLaid}
+use Rattle.image_writer.proofs.Names.{numbers_of, placed}
+use Rattle.std.proofs.Common.{◌≡◌, ◌+◌, ◌<◌, ◌≤◌, ◌∷◌, ◌++◌, ◌∙◌}
 
 cover_numbers : (g : Geometry) (n : ℕ) (rs : List HomeRange) → Cover g n rs → Cover g n (map (placed 0) (map numbers_of rs))
 cover_numbers g n [] end = end

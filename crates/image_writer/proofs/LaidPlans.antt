@@ -1,8 +1,9 @@
 -- What is laid out one behind the other is a plan.
-use Rattle.image_writer.proofs.Names.{◌≡◌, ◌⊎◌, ℕ, zero, suc, ◌+◌, ◌-◌, ◌*◌, ◌<◌, ◌≤◌, Bool, true, false, nat_lt, List, [], ◌∷◌, ◌++◌, length, map, refl, sym}
-use Rattle.image_writer.proofs.Names.{ap, subst, inl, ⊎_elim, arith, if◌then◌else◌, lt-ltb, le-ltb, All, Geometry, Extent, HomeRange, Version, One, Two, Cover}
-use Rattle.image_writer.proofs.Names.{IsPlan, IsWithin, AreApart, extent_at, extents, half_extent, nodes_length, range_extent, NumberRange, MayBeLaid, behind}
-use Rattle.image_writer.proofs.Names.{half_length, laid, placed, plan_from, sectors_of}
+use Rattle.image_writer.proofs.Names.{ℕ, zero, suc, Bool, true, false, nat_lt, List, [], length, map, refl, sym, ap, subst, inl, ⊎_elim, arith, lt-ltb, le-ltb}
+use Rattle.image_writer.proofs.Names.{All, Geometry, Extent, HomeRange, Version, One, Two, Cover, IsPlan, IsWithin, AreApart, extent_at, extents, half_extent}
+use Rattle.image_writer.proofs.Names.{nodes_length, range_extent, NumberRange, MayBeLaid, behind, half_length, laid, placed, plan_from, sectors_of}
+use Rattle.std.proofs.Common.{◌≡◌, ◌⊎◌, ◌+◌, ◌-◌, ◌*◌, ◌<◌, ◌≤◌, ◌∷◌, ◌++◌}
+use Rattle.std.specs.Prelude.{if◌then◌else◌}
 use Rattle.image_writer.proofs.Laying.{cons_behind, cons_laid, length_laid, none_behind, none_laid}
 
 -- ---- extents that follow one another

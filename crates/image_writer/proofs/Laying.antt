@@ -1,7 +1,9 @@
 -- Ranges are laid one behind the other.
-use Rattle.image_writer.proofs.Names.{◌≡◌, ℕ, suc, ◌+◌, ◌*◌, ◌<◌, ◌≤◌, nat_lt, Bool, true, false, List, [], ◌∷◌, ◌++◌, length, get_or, set, take, drop, refl}
-use Rattle.image_writer.proofs.Names.{sym, ap, ◌∙◌, append_assoc, arith, if◌then◌else◌, append-nil, drop_all, drop_more, length-set, take_all, take_more_set}
-use Rattle.image_writer.proofs.Names.{Geometry, HomeRange, Version, One, Two, nodes_length, NumberRange, behind, laid, placed, sectors_of}
+use Rattle.image_writer.proofs.Names.{ℕ, suc, nat_lt, Bool, true, false, List, [], length, get_or, set, take, drop, refl, sym, ap, append_assoc, arith}
+use Rattle.image_writer.proofs.Names.{append-nil, drop_all, drop_more, length-set, take_all, take_more_set, Geometry, HomeRange, Version, One, Two}
+use Rattle.image_writer.proofs.Names.{nodes_length, NumberRange, behind, laid, placed, sectors_of}
+use Rattle.std.proofs.Common.{◌≡◌, ◌+◌, ◌*◌, ◌<◌, ◌≤◌, ◌∷◌, ◌++◌, ◌∙◌}
+use Rattle.std.specs.Prelude.{if◌then◌else◌}
 
 pub cons_laid : (v : Version) (g : Geometry) (at : ℕ) (r : NumberRange) (rs : List NumberRange) → laid v g at (r ∷ rs) ≡ placed at r ∷ laid v g (at + sectors_of v g r) rs
 unfolding laid

@@ -1,8 +1,9 @@
 -- What is left of an image whose gates are closed.
-use Rattle.image_writer.proofs.Names.{◌≡◌, ℕ, ◌+◌, ◌*◌, ◌<◌, ◌≤◌, Option, Some, None, List, take, sym, ap, subst, ◌∙◌, arith, frame_at, Image, Entry, IsFrameOf}
-use Rattle.image_writer.proofs.Names.{header_bytes, place_length, shape_of, Encodes, SavedState, committed_bytes, directory_in, directory_length}
-use Rattle.image_writer.proofs.Names.{directory_sector, frame_in, frame_sector, option_at, sectors_from, shape_bytes, Plan, IsPlan, same_sectors, places_within}
-use Rattle.image_writer.proofs.Names.{KeepsImage, half_behind, frames_behind, Holds, SavedFrames, KeptHoldsTheSame, NoneIsHeld}
+use Rattle.image_writer.proofs.Names.{ℕ, Option, Some, None, List, take, sym, ap, subst, arith, frame_at, Image, Entry, IsFrameOf, header_bytes, place_length}
+use Rattle.image_writer.proofs.Names.{shape_of, Encodes, SavedState, committed_bytes, directory_in, directory_length, directory_sector, frame_in, frame_sector}
+use Rattle.image_writer.proofs.Names.{option_at, sectors_from, shape_bytes, Plan, IsPlan, same_sectors, places_within, KeepsImage, half_behind, frames_behind}
+use Rattle.image_writer.proofs.Names.{Holds, SavedFrames, KeptHoldsTheSame, NoneIsHeld}
+use Rattle.std.proofs.Common.{◌≡◌, ◌+◌, ◌*◌, ◌<◌, ◌≤◌, ◌∙◌}
 
 module _ (old new : Image) (kept : KeepsImage old new) where
   -- behind the headers nothing changes

@@ -1,6 +1,7 @@
 -- Clusters are filled node by node.
-use Rattle.image_writer.proofs.Names.{◌≡◌, ℕ, ◌+◌, ◌-◌, ◌<◌, List, inl, inr, subst, ap, ◌∙◌, arith, cases_lt, Frame, Geometry, frame_at, Packed, frame_bytes}
-use Rattle.image_writer.proofs.Names.{home_place, shape_of, shape_bytes, Plan, IsPlan, IsObject, HaveHome, ranked, AreFramesOf}
+use Rattle.image_writer.proofs.Names.{ℕ, List, inl, inr, subst, ap, arith, cases_lt, Frame, Geometry, frame_at, Packed, frame_bytes, home_place, shape_of}
+use Rattle.image_writer.proofs.Names.{shape_bytes, Plan, IsPlan, IsObject, HaveHome, ranked, AreFramesOf}
+use Rattle.std.proofs.Common.{◌≡◌, ◌+◌, ◌-◌, ◌<◌, ◌∙◌}
 
 -- the frames of the first n from a number on are in a cluster
 abbrev pub AreIn : Geometry → List Frame → ℕ → ℕ → List ℕ → Type 0

@@ -1,6 +1,6 @@
 -- One sector.
-use Rattle.image_writer.proofs.Names.{◌≡◌, ℕ, ◌++◌, [], refl, ◌∙◌, Image, sectors_from}
-use Rattle.std.proofs.Common.{append-nil}
+use Rattle.image_writer.proofs.Names.{ℕ, [], refl, Image, sectors_from}
+use Rattle.std.proofs.Common.{◌≡◌, ◌++◌, ◌∙◌, append-nil}
 
 one_from : (image : Image) (at : ℕ) → sectors_from image at 1 ≡ image at ++ []
 unfolding sectors_from

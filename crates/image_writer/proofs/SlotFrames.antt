@@ -1,10 +1,11 @@
 -- Slots of the log are written one after the other, behind the homes.
-use Rattle.image_writer.proofs.Names.{◌≡◌, ℕ, Result, Ok, Err, ◌+◌, ◌-◌, ◌*◌, ◌/◌, ◌<◌, ◌≤◌, Option, Some, None, List, length, inl, inr, ⊎_elim, refl, sym}
-use Rattle.image_writer.proofs.Names.{subst, ap, ◌∙◌, arith, OnOk, cases_lt, Cap, Frame, ObjectHeader, Content, frame_at, frames_in, header_at, object_count}
-use Rattle.image_writer.proofs.Names.{Image, Elsewhere, Entry, Packed, IsDirectory, directory_bytes, entry_at, frame_bytes, home_place, place_length, shape_of}
-use Rattle.image_writer.proofs.Names.{bytes_at, directory_in, directory_length, directory_sector, frame_in, half_sector, frame_slot_in, sectors_from}
-use Rattle.image_writer.proofs.Names.{slot_sector, shape_bytes, shape_length, Plan, IsPlan, half_extent, half_within, few_sectors, same_shaped, IsObject, IsOwn}
-use Rattle.image_writer.proofs.Names.{one_length, places_spare_log, frame_slot_entry, begins, AreFramesOf, LieAt, AreHome, AreInSlots}
+use Rattle.image_writer.proofs.Names.{ℕ, Result, Ok, Err, Option, Some, None, List, length, inl, inr, ⊎_elim, refl, sym, subst, ap, arith, OnOk, cases_lt, Cap}
+use Rattle.image_writer.proofs.Names.{Frame, ObjectHeader, Content, frame_at, frames_in, header_at, object_count, Image, Elsewhere, Entry, Packed, IsDirectory}
+use Rattle.image_writer.proofs.Names.{directory_bytes, entry_at, frame_bytes, home_place, place_length, shape_of, bytes_at, directory_in, directory_length}
+use Rattle.image_writer.proofs.Names.{directory_sector, frame_in, half_sector, frame_slot_in, sectors_from, slot_sector, shape_bytes, shape_length, Plan}
+use Rattle.image_writer.proofs.Names.{IsPlan, half_extent, half_within, few_sectors, same_shaped, IsObject, IsOwn, one_length, places_spare_log}
+use Rattle.image_writer.proofs.Names.{frame_slot_entry, begins, AreFramesOf, LieAt, AreHome, AreInSlots}
+use Rattle.std.proofs.Common.{◌≡◌, ◌+◌, ◌-◌, ◌*◌, ◌/◌, ◌<◌, ◌≤◌, ◌∙◌}
 use Rattle.std.specs.Prelude.{slice_index_or}
 use Rattle.image_writer.proofs.HomeFrames.{own_at}
 

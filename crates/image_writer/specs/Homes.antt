@@ -1,6 +1,7 @@
 -- What is written of a home.
-use Rattle.image_writer.specs.Names.{◌≡◌, ℕ, List, Frame, frame_at, Image, Shape, Node, Packed, Page, frame_bytes}
+use Rattle.image_writer.specs.Names.{ℕ, List, Frame, frame_at, Image, Shape, Node, Packed, Page, frame_bytes}
 use Rattle.image_writer.specs.Names.{home_place, shape_of, bytes_at, shape_bytes, Plan, IsObject}
+use Rattle.std.specs.Prelude.{◌≡◌}
 
 -- how many frames lie before one in its home
 abbrev pub frames_before : Shape → ℕ

@@ -1,6 +1,7 @@
 -- Where the parts of an image lie whose ranges follow one another.
-use Rattle.image_writer.specs.Names.{ℕ, ◌+◌, ◌≤◌, List, [], ◌∷◌, length, map, Geometry, HomeRange, Version, Plan}
-use Rattle.image_writer.specs.Names.{plan_of, IsGeometry, Cover, half_extent, range_extent}
+use Rattle.image_writer.specs.Names.{ℕ, List, [], length, map, Geometry, HomeRange, Version, Plan, plan_of, IsGeometry}
+use Rattle.image_writer.specs.Names.{Cover, half_extent, range_extent}
+use Rattle.std.specs.Prelude.{◌+◌, ◌≤◌, ◌∷◌}
 use Rattle.image_writer.specs.declared.number_range.NumberRange.{NumberRange}
 
 -- a range with its frames from a sector on

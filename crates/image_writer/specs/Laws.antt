@@ -1,7 +1,8 @@
 -- How many sectors an image takes by version 2; and what is left of one whose gates are closed: it is as before until the
 -- last one is, and then it holds nothing.
-use Rattle.image_writer.specs.Names.{◌↔◌, ℕ, ◌+◌, ◌*◌, ◌≤◌, List, length, Geometry, Image, HasNoHeader, One, Two}
-use Rattle.image_writer.specs.Names.{KeepsImage, Holds, SavedFrames}
+use Rattle.image_writer.specs.Names.{ℕ, List, length, Geometry, Image, HasNoHeader, One, Two, KeepsImage, Holds}
+use Rattle.image_writer.specs.Names.{SavedFrames}
+use Rattle.std.specs.Prelude.{◌↔◌, ◌+◌, ◌*◌, ◌≤◌}
 use Rattle.image_writer.specs.declared.number_range.NumberRange.{NumberRange}
 use Rattle.image_writer.specs.Laid.{plan_from}
 

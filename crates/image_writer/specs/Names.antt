@@ -23,4 +23,4 @@ pub use Rattle.model.specs.Frame.{frame_at}
 pub use Rattle.model.specs.Sound.{object_count}
 pub use Rattle.model.specs.declared.frame.Frame.{Frame}
 pub use Rattle.model.specs.declared.geometry.Geometry.{Geometry}
-pub use Rattle.std.specs.Prelude.{List, [], length, map, ℕ, ◌*◌, ◌+◌, ◌<◌, ◌↔◌, ◌∷◌, ◌≡◌, ◌≤◌, ◌⊎◌}
+pub use Rattle.std.specs.Prelude.{List, [], length, map, ℕ}

@@ -1,5 +1,6 @@
 -- The description of a world is built.
-use Rattle.jobs.proofs.Names.{ℕ, ◌^◌, ◌≤◌, sym, subst, objects_of, sound_banked, sound_named, sound_plain, plain_frames, DescribedIsAccepted}
+use Rattle.jobs.proofs.Names.{ℕ, sym, subst, objects_of, sound_banked, sound_named, sound_plain, plain_frames, DescribedIsAccepted}
+use Rattle.std.proofs.Common.{◌^◌, ◌≤◌}
 use Rattle.image_builder.specs.declared.fault.BuildFault.TheVariants as build
 
 pub described_is_accepted : DescribedIsAccepted

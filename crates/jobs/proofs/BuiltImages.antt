@@ -1,7 +1,8 @@
 -- The outcome of the command that builds.
-use Rattle.jobs.proofs.Names.{◌≡◌, ℕ, List, Option, Ok, Err, ap, subst, ◌↔◌, IsErrOf, Appends, Members, line_of, Disk, Description, IsDescription, BuildFault}
-use Rattle.jobs.proofs.Names.{Failed, BuildsFrom, IsWithinLimits, plan_for, AppendsFront, BuildsImage, built_text}
-use Rattle.std.specs.Prelude.{Result}
+use Rattle.jobs.proofs.Names.{ℕ, List, Option, Ok, Err, ap, subst, IsErrOf, Appends, Members, line_of, Disk, Description, IsDescription, BuildFault, Failed}
+use Rattle.jobs.proofs.Names.{BuildsFrom, IsWithinLimits, plan_for, AppendsFront, BuildsImage, built_text}
+use Rattle.std.proofs.Common.{◌≡◌}
+use Rattle.std.specs.Prelude.{◌↔◌, Result}
 use Rattle.jobs.specs.declared.fault.Fault.TheVariants as fault
 
 module _ {D : Type 0} (disk : D → Disk) (ms : Members) (old : D) (output : Option (List ℕ)) where

@@ -1,9 +1,10 @@
 -- The outcome of the command that describes, and of a build from its text.
-use Rattle.jobs.proofs.Names.{◌≡◌, ℕ, List, Result, Ok, refl, sym, ap, ◌∙◌, subst, same_Some, Members, Frame, Geometry, Object, objects_of, IsSoundFrames}
-use Rattle.jobs.proofs.Names.{world_at, World, Saved, Disk, Image, agrees_is, Encodes, SavedState, OpenFault, OnlyReads, Holds, SavedFrames, saved_state}
-use Rattle.jobs.proofs.Names.{seen_of, AreSound, frames_of, objects_in, first_saved, Live, Recovers, Description, IsDescription, IsSame, description_once}
+use Rattle.jobs.proofs.Names.{ℕ, List, Result, Ok, refl, sym, ap, subst, same_Some, Members, Frame, Geometry, Object, objects_of, IsSoundFrames, world_at}
+use Rattle.jobs.proofs.Names.{World, Saved, Disk, Image, agrees_is, Encodes, SavedState, OpenFault, OnlyReads, Holds, SavedFrames, saved_state, seen_of}
+use Rattle.jobs.proofs.Names.{AreSound, frames_of, objects_in, first_saved, Live, Recovers, Description, IsDescription, IsSame, description_once}
 use Rattle.jobs.proofs.Names.{described_is_same, described_has_text, same_described, CanBeSpelled, StoreState, parts_of, view_of, DescribesSaved}
 use Rattle.jobs.proofs.Names.{IsDescriptionOf, OpensAndDescribes, DescribedIsDenoted, HoldsOfSaved}
+use Rattle.std.proofs.Common.{◌≡◌, ◌∙◌}
 
 -- A store that was made of a device.
 module _ {D : Type 0} (disk : D → Disk) (seen_left : (d : D) → (disk d).may_leave (disk d).seen) (device : D) (l : Live (StoreState D)) (wakes : Recovers disk (view_of disk) (parts_of disk) device l) where

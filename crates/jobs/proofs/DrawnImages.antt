@@ -1,7 +1,8 @@
 -- The outcome of the command that draws.
-use Rattle.jobs.proofs.Names.{◌≡◌, ℕ, ◌<◌, ◌^◌, List, Option, Result, Ok, Err, sym, subst, arith, Geometry, Object, object_count, Disk, OpenFault, Description}
-use Rattle.jobs.proofs.Names.{HasNumbers, AreSoundObjects, Focus, Fault, Whole, DrawsImage, DrawsPart, IsHeldTo, KeepsPart, KeepsReached, OfWhole, OpensWhole}
+use Rattle.jobs.proofs.Names.{ℕ, List, Option, Result, Ok, Err, sym, subst, arith, Geometry, Object, object_count, Disk, OpenFault, Description, HasNumbers}
+use Rattle.jobs.proofs.Names.{AreSoundObjects, Focus, Fault, Whole, DrawsImage, DrawsPart, IsHeldTo, KeepsPart, KeepsReached, OfWhole, OpensWhole}
 use Rattle.jobs.proofs.Names.{DescribesSaved, HoldsOfSaved}
+use Rattle.std.proofs.Common.{◌≡◌, ◌<◌, ◌^◌}
 use Rattle.checkpoint.specs.declared.open_fault.OpenFault.TheVariants as opening
 use Rattle.jobs.specs.declared.fault.Fault.TheVariants as fault
 use Rattle.jobs.proofs.ReachedImages.{objects_sound}

@@ -1,11 +1,12 @@
 -- What a description for other sizes is built as.
-use Rattle.jobs.proofs.Names.{◌≡◌, ℕ, List, Option, Result, Ok, Err, map, sym, ap, ◌∙◌, subst, arith, Appends, nat_tests, same_Some, Members, Frame, Geometry}
-use Rattle.jobs.proofs.Names.{Object, IsSoundFrames, world_at, Saved, IsSound, World, Disk, Holds, SavedFrames, NumberRange, MayBeLaid, numbers_of, first_saved}
+use Rattle.jobs.proofs.Names.{ℕ, List, Option, Result, Ok, Err, map, sym, ap, subst, arith, Appends, nat_tests, same_Some, Members, Frame, Geometry, Object}
+use Rattle.jobs.proofs.Names.{IsSoundFrames, world_at, Saved, IsSound, World, Disk, Holds, SavedFrames, NumberRange, MayBeLaid, numbers_of, first_saved}
 use Rattle.jobs.proofs.Names.{may_be_laid, Description, IsDescription, IsSame, description_once, HasFields, described_once, GrowthFault, Sizes, Describes}
 use Rattle.jobs.proofs.Names.{plain_frames, IsGrown, IsNotRenumbered, grown_geometry, grown_ranges, CanBeSpelled, brief_grown, fields_grown, not_suited}
 use Rattle.jobs.proofs.Names.{grown_is_described, grown_to_itself, grown_spelled, objects_plain, same_described, AppendsFront, Fault, IsGrownFrom}
 use Rattle.jobs.proofs.Names.{TellsDescription, TellsGrown, TellsText, DescribesImage, DescribesSaved, IsDescribedIn, ReadsSaved, RefusesSizes, TellsWhole}
 use Rattle.jobs.proofs.Names.{GrownIsDenoted, UnsizedIsWhole}
+use Rattle.std.proofs.Common.{◌≡◌, ◌∙◌}
 use Rattle.checkpoint.specs.declared.open_fault.OpenFault.TheVariants as opening
 use Rattle.jobs.specs.declared.fault.Fault.TheVariants as fault
 

@@ -1,8 +1,9 @@
 -- The lines about what a store has, and those about what its device saves.
-use Rattle.jobs.proofs.Names.{◌≡◌, Bool, ℕ, ◌+◌, List, [], ◌∷◌, length, map, cond, refl, sym, ap, ◌∙◌, subst, arith, Vec, count_by, fold, Global, Disk}
-use Rattle.jobs.proofs.Names.{SavedState, kept_of, Live, saved_of, Recovers, AllObjects, StoreState, AreObjectsOf, parts_of, saved_by, view_of, InfoLine, Cap}
-use Rattle.jobs.proofs.Names.{Frame, ObjectHeader, Content, Object, Role, conveyed, frames_in, headers, object_of, objects_of, world_at, map_content, Plan}
-use Rattle.jobs.proofs.Names.{Checkpoint, InfoOf, has_role, info_lines, lines_over, lines_with, objects_with}
+use Rattle.jobs.proofs.Names.{Bool, ℕ, List, [], length, map, cond, refl, sym, ap, subst, arith, Vec, count_by, fold, Global, Disk, SavedState, kept_of, Live}
+use Rattle.jobs.proofs.Names.{saved_of, Recovers, AllObjects, StoreState, AreObjectsOf, parts_of, saved_by, view_of, InfoLine, Cap, Frame, ObjectHeader}
+use Rattle.jobs.proofs.Names.{Content, Object, Role, conveyed, frames_in, headers, object_of, objects_of, world_at, map_content, Plan, Checkpoint, InfoOf}
+use Rattle.jobs.proofs.Names.{has_role, info_lines, lines_over, lines_with, objects_with}
+use Rattle.std.proofs.Common.{◌≡◌, ◌+◌, ◌∷◌, ◌∙◌}
 use Rattle.std.specs.Prelude.{IfOk, Ok, Result}
 use Rattle.model.specs.declared.object.Content.TheVariants as content
 use Rattle.model.specs.declared.object.Role.TheVariants as role

@@ -11,6 +11,7 @@ pub use Rattle.description.proofs.Once.{description_once}
 pub use Rattle.description.specs.Laws.{IsSame}
 pub use Rattle.description.specs.Reading.{IsDescription}
 pub use Rattle.description.specs.declared.entry.Description.{Description}
+pub use Rattle.description_explainer.specs.Places.{Explains}
 pub use Rattle.device.proofs.Images.{agrees_is}
 pub use Rattle.device.specs.Disk.{Disk, Image}
 pub use Rattle.image_builder.specs.Built.{BuildsFrom, IsWithinLimits, plan_for}
@@ -77,18 +78,19 @@ pub use Rattle.runs.specs.declared.cause.Stop.{Stop}
 pub use Rattle.runs.specs.declared.tracer.Tracer.{Tracer}
 pub use Rattle.script.specs.Writing.{AppendsFront}
 pub use Rattle.script.specs.declared.fault.RunFault.{RunFault}
-pub use Rattle.std.proofs.Common.{Bool, Err, IfOk, List, None, Ok, Option, Result, Some, [], ap, arith, codes, cond, drop, false, length, map, refl, subst, sym}
-pub use Rattle.std.proofs.Common.{take, true, ℕ, ⊎_elim, ◌++◌, ◌+◌, ◌<◌, ◌^◌, ◌∙◌, ◌∷◌, ◌≡◌, ◌≤◌}
+pub use Rattle.std.proofs.Common.{Bool, Err, IfOk, List, None, Ok, Option, Result, Some, String, [], ap, arith, codes, cond, drop, false, length, map, refl}
+pub use Rattle.std.proofs.Common.{string_bytes, subst, sym, take, true, ℕ, ⊎_elim}
 pub use Rattle.std.proofs.lemmas.Bool.Decides.{nat_tests}
-pub use Rattle.std.proofs.lemmas.Option.{same_Some}
-pub use Rattle.std.proofs.lemmas.Result.{err_from_is_err_and}
+pub use Rattle.std.proofs.lemmas.Option.{none-some, same_Some}
+pub use Rattle.std.proofs.lemmas.Result.{IfOk-weaker, err_from_is_err_and}
 pub use Rattle.std.specs.Io.KnownBytes.{Appends}
 pub use Rattle.std.specs.List.{count_by, fold}
-pub use Rattle.std.specs.Prelude.{IfErr, IsErrOf, OnErr, OnOk, Vec, ◌↔◌}
+pub use Rattle.std.specs.Prelude.{IfErr, IsErrOf, OnErr, OnOk, Vec}
 pub use Rattle.std.specs.declared.alloc.Global.{Global}
 pub use Rattle.toml.specs.Data.{Members}
+pub use Rattle.toml.specs.View.{table_view}
 pub use Rattle.jobs.specs.Drawing.{DrawsImage, DrawsPart, IsFocus, IsHeldTo, KeepsPart, KeepsReached, OfWhole, OpensWhole}
-pub use Rattle.jobs.specs.Explained.{position_from}
+pub use Rattle.jobs.specs.Explained.{IsSyntaxLine, position_from, position_text}
 pub use Rattle.jobs.specs.Faults.{HasStop, IsRunEnd}
 pub use Rattle.jobs.specs.Growing.{IsGrownFrom, TellsDescription, TellsGrown, TellsText}
 pub use Rattle.jobs.specs.Images.{BuildsImage, ChecksImage, DescribesImage, DescribesSaved, IsDescribedIn, IsDescriptionOf, OpensAndDescribes, OpensAndRuns}

@@ -1,7 +1,7 @@
 -- What the command says of the objects that processes can ever change.
-use Rattle.jobs.proofs.Names.{◌≡◌, ℕ, List, Option, Result, Ok, Err, sym, subst, Global, Object, Disk, OpenFault, AreSoundObjects, Fault, HoldsOfSaved}
+use Rattle.jobs.proofs.Names.{ℕ, List, Option, Result, Ok, Err, sym, subst, Global, Object, Disk, OpenFault, AreSoundObjects, Fault, HoldsOfSaved}
 use Rattle.jobs.proofs.Names.{OpensAndReads, ReachesImage, TellsReach}
-use Rattle.std.proofs.Common.{Vec}
+use Rattle.std.proofs.Common.{◌≡◌, Vec}
 use Rattle.checkpoint.specs.declared.open_fault.OpenFault.TheVariants as opening
 use Rattle.jobs.specs.declared.fault.Fault.TheVariants as fault
 

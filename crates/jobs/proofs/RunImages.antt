@@ -1,6 +1,7 @@
 -- The outcomes of the commands that open an image.
-use Rattle.jobs.proofs.Names.{◌≡◌, ℕ, List, Option, Ok, Err, sym, ap, ◌∙◌, subst, Appends, Running, Saved, line_of, Disk, Parts, Checkpoint, OnlyReads, View}
-use Rattle.jobs.proofs.Names.{Power, Opens, IsDeviceOf, IsReported, AppendsFront, ChecksImage, checked_text}
+use Rattle.jobs.proofs.Names.{ℕ, List, Option, Ok, Err, sym, ap, subst, Appends, Running, Saved, line_of, Disk, Parts, Checkpoint, OnlyReads, View, Power}
+use Rattle.jobs.proofs.Names.{Opens, IsDeviceOf, IsReported, AppendsFront, ChecksImage, checked_text}
+use Rattle.std.proofs.Common.{◌≡◌, ◌∙◌}
 use Rattle.std.specs.Prelude.{None, Some}
 use Rattle.kernel.specs.Power as power
 use Rattle.jobs.specs.declared.fault.Fault.TheVariants as fault

@@ -1,7 +1,8 @@
 -- The outcome of the command that upgrades.
-use Rattle.jobs.proofs.Names.{◌≡◌, ℕ, List, Option, Ok, Err, refl, ap, arith, subst, sym, ◌∙◌, ◌↔◌, IfErr, IsErrOf, OnErr, OnOk, Appends, line_of, Disk, Two}
-use Rattle.jobs.proofs.Names.{laid_again, UpgradeFault, IsRefusedAsOld, ReadsAndCloses, Upgrades, AppendsFront, Fault, UpgradesImage, old_failed, upgraded_text}
-use Rattle.std.specs.Prelude.{Result}
+use Rattle.jobs.proofs.Names.{ℕ, List, Option, Ok, Err, refl, ap, arith, subst, sym, IfErr, IsErrOf, OnErr, OnOk, Appends, line_of, Disk, Two, laid_again}
+use Rattle.jobs.proofs.Names.{UpgradeFault, IsRefusedAsOld, ReadsAndCloses, Upgrades, AppendsFront, Fault, UpgradesImage, old_failed, upgraded_text}
+use Rattle.std.proofs.Common.{◌≡◌, ◌∙◌}
+use Rattle.std.specs.Prelude.{◌↔◌, Result}
 use Rattle.checkpoint.specs.declared.open_fault.OpenFault.TheVariants as opening
 use Rattle.image_builder.specs.declared.upgrade_fault.UpgradeFault.TheVariants as upgrade
 use Rattle.jobs.specs.declared.fault.Fault.TheVariants as fault

@@ -1,6 +1,7 @@
 -- What is printed of why an image is refused.
-use Rattle.jobs.specs.Names.{◌≡◌, ℕ, List, codes, Option, None, Some, Result, Ok, Err, Appends, line_of, Disk}
-use Rattle.jobs.specs.Names.{OpenFault, ImageFault, fault_text, AppendsFront}
+use Rattle.jobs.specs.Names.{ℕ, List, codes, Option, None, Some, Result, Ok, Err, Appends, line_of, Disk, OpenFault}
+use Rattle.jobs.specs.Names.{ImageFault, fault_text, AppendsFront}
+use Rattle.std.specs.Prelude.{◌≡◌}
 use Rattle.image_explainer.specs.Explained.{Explains}
 use Rattle.jobs.specs.declared.fault.Fault.{Fault}
 use Rattle.jobs.specs.declared.fault.Fault.TheVariants as fault

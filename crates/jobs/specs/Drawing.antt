@@ -1,7 +1,8 @@
 -- What the command that draws says of an image.
-use Rattle.jobs.specs.Names.{◌≡◌, ℕ, Bool, true, false, Option, None, Some, List, [], ◌∷◌, Result, Ok, Err, Appends}
-use Rattle.jobs.specs.Names.{Object, is_process, Disk, OpenFault, RefusesToOpen, AppendsFront, Description, boxes}
-use Rattle.jobs.specs.Names.{graph_text, IsPart, holders, is_listed, IsReach}
+use Rattle.jobs.specs.Names.{ℕ, Bool, true, false, Option, None, Some, List, [], Result, Ok, Err, Appends, Object}
+use Rattle.jobs.specs.Names.{is_process, Disk, OpenFault, RefusesToOpen, AppendsFront, Description, boxes, graph_text}
+use Rattle.jobs.specs.Names.{IsPart, holders, is_listed, IsReach}
+use Rattle.std.specs.Prelude.{◌≡◌, ◌∷◌}
 use Rattle.checkpoint.specs.declared.open_fault.OpenFault.TheVariants as opening
 use Rattle.jobs.specs.declared.drawing.Focus.{Focus}
 use Rattle.jobs.specs.declared.fault.Fault.{Fault}

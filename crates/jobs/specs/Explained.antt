@@ -1,7 +1,8 @@
 -- The explanation of the description in a text.
-use Rattle.jobs.specs.Names.{◌+◌, if◌then◌else◌, nat_lt, take, ◌≡◌, ℕ, ◌==◌, ◌||◌, ◌≤◌, ◌++◌, Bool, true, false, not}
-use Rattle.jobs.specs.Names.{List, [], ◌∷◌, length, codes, decimal, Option, None, Some, Result, Ok, Err, Appends}
-use Rattle.jobs.specs.Names.{Members, parse_document, line_of, Place, Explains, IsExplanation, AppendsFront}
+use Rattle.jobs.specs.Names.{nat_lt, take, ℕ, Bool, true, false, not, List, [], length, codes, decimal, Option, None}
+use Rattle.jobs.specs.Names.{Some, Result, Ok, Err, Appends, Members, parse_document, line_of, Place, Explains}
+use Rattle.jobs.specs.Names.{IsExplanation, AppendsFront}
+use Rattle.std.specs.Prelude.{◌+◌, if◌then◌else◌, ◌≡◌, ◌==◌, ◌||◌, ◌≤◌, ◌++◌, ◌∷◌}
 use Rattle.jobs.specs.declared.fault.Fault.{Fault}
 use Rattle.jobs.specs.declared.fault.Fault.TheVariants as fault
 

@@ -1,7 +1,8 @@
 -- The message of a fault, and the exit status of a command.
-use Rattle.jobs.specs.Names.{◌≡◌, ℕ, List, [], ◌∷◌, ◌++◌, codes, decimal, Option, None, Some, Result, Ok, Err}
-use Rattle.jobs.specs.Names.{OpenFault, line_of, spaced, BuildFault, UpgradeFault, fault_number, GrowthFault, Stop}
-use Rattle.jobs.specs.Names.{cause_text, RunFault, Writes, reason_number}
+use Rattle.jobs.specs.Names.{ℕ, List, [], codes, decimal, Option, None, Some, Result, Ok, Err, OpenFault, line_of}
+use Rattle.jobs.specs.Names.{spaced, BuildFault, UpgradeFault, fault_number, GrowthFault, Stop, cause_text, RunFault}
+use Rattle.jobs.specs.Names.{Writes, reason_number}
+use Rattle.std.specs.Prelude.{◌≡◌, ◌∷◌, ◌++◌}
 use Rattle.checkpoint.specs.declared.open_fault.OpenFault.TheVariants as opening
 use Rattle.image_builder.specs.declared.fault.BuildFault.TheVariants as build
 use Rattle.image_builder.specs.declared.upgrade_fault.UpgradeFault.TheVariants as upgrade

@@ -1,7 +1,8 @@
 -- A description of an image, renumbered for other sizes.
-use Rattle.jobs.specs.Names.{◌≡◌, ℕ, List, Some, Option, Result, Ok, Err, Appends, Members, parse_document, IsGeometry}
+use Rattle.jobs.specs.Names.{ℕ, List, Some, Option, Result, Ok, Err, Appends, Members, parse_document, IsGeometry}
 use Rattle.jobs.specs.Names.{AppendsFront, Description, IsDescription, Sizes, IsNotRenumbered, IsRenumbered, NamesNodes}
 use Rattle.jobs.specs.Names.{NamesPages, grown_geometry, description_text}
+use Rattle.std.specs.Prelude.{◌≡◌}
 use Rattle.checkpoint.specs.declared.open_fault.OpenFault.TheVariants as opening
 use Rattle.jobs.specs.declared.fault.Fault.{Fault}
 use Rattle.jobs.specs.declared.fault.Fault.TheVariants as fault

@@ -1,12 +1,12 @@
 -- What the commands do with images.
-use Rattle.jobs.specs.Names.{◌≡◌, ◌≢◌, ◌↔◌, ◌<◌, ℕ, List, [], ◌∷◌, codes, decimal, Bool, map, Option, Some, Result, Ok}
-use Rattle.jobs.specs.Names.{Err, Appends, Members, parse_document, Frame, Geometry, IsSoundFrames, world_at, Saved}
-use Rattle.jobs.specs.Names.{World, Turn, line_of, spaced, Disk, Encodes, SavedState, Plan, version_number, Two}
-use Rattle.jobs.specs.Names.{OnlyReads, OpenFault, laid_again, numbers_of, Parts, View, Power, RefusesToOpen, Opens}
-use Rattle.jobs.specs.Names.{Denotes, IsDeviceOf, Description, IsDescription, BuildsFrom, Refuses, plan_for}
-use Rattle.jobs.specs.Names.{GrowthFault, Sizes, Describes, IsBrief, IsGrown, IsUnsuited, grown_geometry, grown_ranges}
-use Rattle.jobs.specs.Names.{description_text, IsNotUpgraded, Upgrades, Stop, RunsOver, RunsSeen, RunFault}
-use Rattle.jobs.specs.Names.{AppendsFront}
+use Rattle.jobs.specs.Names.{ℕ, List, [], codes, decimal, Bool, map, Option, Some, Result, Ok, Err, Appends, Members}
+use Rattle.jobs.specs.Names.{parse_document, Frame, Geometry, IsSoundFrames, world_at, Saved, World, Turn, line_of}
+use Rattle.jobs.specs.Names.{spaced, Disk, Encodes, SavedState, Plan, version_number, Two, OnlyReads, OpenFault}
+use Rattle.jobs.specs.Names.{laid_again, numbers_of, Parts, View, Power, RefusesToOpen, Opens, Denotes, IsDeviceOf}
+use Rattle.jobs.specs.Names.{Description, IsDescription, BuildsFrom, Refuses, plan_for, GrowthFault, Sizes, Describes}
+use Rattle.jobs.specs.Names.{IsBrief, IsGrown, IsUnsuited, grown_geometry, grown_ranges, description_text}
+use Rattle.jobs.specs.Names.{IsNotUpgraded, Upgrades, Stop, RunsOver, RunsSeen, RunFault, AppendsFront}
+use Rattle.std.specs.Prelude.{◌≡◌, ◌≢◌, ◌↔◌, ◌<◌, ◌∷◌}
 use Rattle.checkpoint.specs.declared.open_fault.OpenFault.TheVariants as opening
 use Rattle.image_builder.specs.declared.fault.BuildFault.TheVariants as build
 use Rattle.image_builder.specs.declared.upgrade_fault.UpgradeFault.TheVariants as upgrade

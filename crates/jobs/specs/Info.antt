@@ -1,9 +1,9 @@
 -- What is printed about an image.
-use Rattle.jobs.specs.Names.{◌≡◌, ℕ, ◌==◌, Bool, List, [], ◌∷◌, ◌++◌, codes, decimal, map, Option, Result, Ok, Err, Vec}
-use Rattle.jobs.specs.Names.{Global, Appends, count_by, flat_map, Cap, Content, Role, IsSoundFrames, Saved, role_number}
-use Rattle.jobs.specs.Names.{role_of, line_of, spaced, World, Disk, HomeRange, Encodes, SavedState, Plan}
-use Rattle.jobs.specs.Names.{version_number, Checkpoint, OpenFault, OnlyReads, kept_of, saved_of, RefusesToOpen}
-use Rattle.jobs.specs.Names.{AppendsFront}
+use Rattle.jobs.specs.Names.{ℕ, Bool, List, [], codes, decimal, map, Option, Result, Ok, Err, Vec, Global, Appends}
+use Rattle.jobs.specs.Names.{count_by, flat_map, Cap, Content, Role, IsSoundFrames, Saved, role_number, role_of}
+use Rattle.jobs.specs.Names.{line_of, spaced, World, Disk, HomeRange, Encodes, SavedState, Plan, version_number}
+use Rattle.jobs.specs.Names.{Checkpoint, OpenFault, OnlyReads, kept_of, saved_of, RefusesToOpen, AppendsFront}
+use Rattle.std.specs.Prelude.{◌≡◌, ◌==◌, ◌∷◌, ◌++◌}
 use Rattle.model.specs.declared.object.Role.TheVariants as role
 use Rattle.jobs.specs.declared.fault.Fault.{Fault}
 use Rattle.jobs.specs.declared.fault.Fault.TheVariants as fault

@@ -1,8 +1,8 @@
 -- What is built can be run.
-use Rattle.jobs.specs.Names.{◌≡◌, ℕ, ◌≤◌, List, Some, Members, parse_document, Frame, Geometry, IsSoundFrames, world_at}
-use Rattle.jobs.specs.Names.{Saved, World, Image, Version, Plan, version_number, Holds, SavedFrames, MayBeLaid}
-use Rattle.jobs.specs.Names.{first_saved, Denotes, Description, IsDescription, IsAccepted, IsSavedOf, plan_for}
-use Rattle.jobs.specs.Names.{Describes, IsGrown}
+use Rattle.jobs.specs.Names.{ℕ, List, Some, Members, parse_document, Frame, Geometry, IsSoundFrames, world_at, Saved}
+use Rattle.jobs.specs.Names.{World, Image, Version, Plan, version_number, Holds, SavedFrames, MayBeLaid, first_saved}
+use Rattle.jobs.specs.Names.{Denotes, Description, IsDescription, IsAccepted, IsSavedOf, plan_for, Describes, IsGrown}
+use Rattle.std.specs.Prelude.{◌≡◌, ◌≤◌}
 use Rattle.jobs.specs.Images.{IsTextIn, IsTextOf}
 
 -- what holds the frames of a built image denotes the world that they stand for, of generation 0 and with nothing in the

@@ -68,8 +68,7 @@ pub use Rattle.script.specs.declared.fault.RunFault.{RunFault}
 pub use Rattle.std.specs.Io.KnownBytes.{Appends}
 pub use Rattle.std.specs.List.{All, count_by, find, flat_map}
 pub use Rattle.std.specs.Prelude.{Bool, Err, IsTrue, List, None, Ok, Option, Result, Some, Vec, [], codes, decimal}
-pub use Rattle.std.specs.Prelude.{false, if◌then◌else◌, is_some, length, map, nat_lt, not, take, true, ℕ, ◌++◌, ◌+◌}
-pub use Rattle.std.specs.Prelude.{◌<◌, ◌==◌, ◌||◌, ◌↔◌, ◌∷◌, ◌≡◌, ◌≢◌, ◌≤◌}
+pub use Rattle.std.specs.Prelude.{false, is_some, length, map, nat_lt, not, take, true, ℕ}
 pub use Rattle.std.specs.declared.alloc.Global.{Global}
 pub use Rattle.toml.specs.Data.{Members}
 unfoldable pub use Rattle.toml.specs.Parse.{parse_document}

@@ -1,8 +1,9 @@
 -- What the command says of the objects that some processes can ever change.
-use Rattle.jobs.specs.Names.{◌≡◌, ℕ, Bool, not, Option, None, Some, List, Vec, Result, Ok, Err, IsTrue, is_some}
-use Rattle.jobs.specs.Names.{Appends, All, find, Global, is_marked, Object, objects_of, IsSoundFrames, is_process, Disk}
-use Rattle.jobs.specs.Names.{Encodes, SavedState, OnlyReads, OpenFault, RefusesToOpen, AppendsFront, Step}
-use Rattle.jobs.specs.Names.{IsShortestIfAny, chain_text, reach_text, BoundsRuns, IsReach}
+use Rattle.jobs.specs.Names.{ℕ, Bool, not, Option, None, Some, List, Vec, Result, Ok, Err, IsTrue, is_some, Appends}
+use Rattle.jobs.specs.Names.{All, find, Global, is_marked, Object, objects_of, IsSoundFrames, is_process, Disk, Encodes}
+use Rattle.jobs.specs.Names.{SavedState, OnlyReads, OpenFault, RefusesToOpen, AppendsFront, Step, IsShortestIfAny}
+use Rattle.jobs.specs.Names.{chain_text, reach_text, BoundsRuns, IsReach}
+use Rattle.std.specs.Prelude.{◌≡◌}
 use Rattle.checkpoint.specs.declared.open_fault.OpenFault.TheVariants as opening
 use Rattle.jobs.specs.declared.fault.Fault.{Fault}
 use Rattle.jobs.specs.declared.fault.Fault.TheVariants as fault

@@ -1,7 +1,8 @@
 -- Result codes beside answers.
-use Rattle.kernel.proofs.Names.{◌≡◌, None, Result, Ok, Err, refl, sym, ap, ◌∙◌, IfOk, Answer, Command, Invocation, Geometry, Down, Machine, Running, Up, Failed}
-use Rattle.kernel.proofs.Names.{Disk, Parts, objects_in, View, Served, code_with, Live, HasCode, Stands, reported_code, Refusal, ResultCode, Power, done_with}
+use Rattle.kernel.proofs.Names.{None, Result, Ok, Err, refl, sym, ap, IfOk, Answer, Command, Invocation, Geometry, Down, Machine, Running, Up, Failed, Disk}
+use Rattle.kernel.proofs.Names.{Parts, objects_in, View, Served, code_with, Live, HasCode, Stands, reported_code, Refusal, ResultCode, Power, done_with}
 use Rattle.kernel.proofs.Names.{Unserved, Option}
+use Rattle.std.proofs.Common.{◌≡◌, ◌∙◌}
 use Rattle.model.specs.declared.command.Command.TheVariants as command
 use Rattle.model.specs.declared.answer.Answer.TheVariants as answer
 use Rattle.kernel.specs.Power as power

@@ -1,6 +1,7 @@
 -- What is counted of banks, after a store into a page.
-use Rattle.kernel.proofs.Names.{◌≡◌, ℕ, List, Result, Ok, Err, sym, subst, MemoryFault, Geometry, Object, with_word, word_frame, Parts, objects_in, AreCounted}
+use Rattle.kernel.proofs.Names.{ℕ, List, Result, Ok, Err, sym, subst, MemoryFault, Geometry, Object, with_word, word_frame, Parts, objects_in, AreCounted}
 use Rattle.kernel.proofs.Names.{BanksState, IsStored, counted_looked, counted_on, ReadsAs}
+use Rattle.std.proofs.Common.{◌≡◌}
 
 abbrev IsCountedAt : Parts → BanksState → Type 0
 IsCountedAt p s = AreCounted p.geometry (objects_in p) s

@@ -1,8 +1,9 @@
 -- What a crash leaves, in terms of saved parts.
-use Rattle.kernel.proofs.Names.{◌≡◌, ◌⊎◌, ℕ, ◌-◌, Bool, true, false, List, [], ◌∷◌, ◌++◌, refl, sym, ap, subst, ⊎_elim, inl, inr, arith, ◌==◌, if◌then◌else◌}
-use Rattle.kernel.proofs.Names.{nat_tests, Geometry, Saved, at_home, Image, Disk, CountsNow, OnlyNow, ends, leaves_weaker, started, SavedFrames, Holds}
-use Rattle.kernel.proofs.Names.{Snapshots, moved_saved, FrozenFrames, LeavesSaved, LeavesEither, home_saved, denoted_by, saved_of, IsSoundSaved, DenotesOne}
-use Rattle.kernel.proofs.Names.{Leaves, LeavesOne}
+use Rattle.kernel.proofs.Names.{ℕ, Bool, true, false, List, [], refl, sym, ap, subst, ⊎_elim, inl, inr, arith, nat_tests, Geometry, Saved, at_home, Image, Disk}
+use Rattle.kernel.proofs.Names.{CountsNow, OnlyNow, ends, leaves_weaker, started, SavedFrames, Holds, Snapshots, moved_saved, FrozenFrames, LeavesSaved}
+use Rattle.kernel.proofs.Names.{LeavesEither, home_saved, denoted_by, saved_of, IsSoundSaved, DenotesOne, Leaves, LeavesOne}
+use Rattle.std.proofs.Common.{◌≡◌, ◌⊎◌, ◌-◌, ◌∷◌, ◌++◌}
+use Rattle.std.specs.Prelude.{◌==◌, if◌then◌else◌}
 
 -- one of the first is one of all
 pub among : (g : Geometry) (size : ℕ) (c : Image) (ss ts : List Saved) → DenotesOne g size ss c → DenotesOne g size (ss ++ ts) c

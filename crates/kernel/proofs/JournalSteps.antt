@@ -1,15 +1,16 @@
 -- A page is journaled: the machine after it, and what a crash leaves.
-use Rattle.kernel.proofs.Names.{◌≡◌, inl, inr, ℕ, ◌+◌, ◌^◌, ◌<◌, ◌≤◌, Bool, true, false, not, ◌&&◌, Option, None, Some, List, [], ◌∷◌, map, length, set}
-use Rattle.kernel.proofs.Names.{length-set, refl, sym, ap, ◌∙◌, subst, arith, if◌then◌else◌, nat_lt, slice_index_or, All, range_with_len, get_or-map}
-use Rattle.kernel.proofs.Names.{map-set_same, cases_lt, nat_tests, get_or_past, map-set, All-nil, Refusal, NotPage, Renewed, Cap, Capability, Frame}
-use Rattle.kernel.proofs.Names.{ObjectHeader, Geometry, Content, Object, Role, blank_frame, conveyed, frame_at, header_at, headers, held_at, object_of}
-use Rattle.kernel.proofs.Names.{objects_of, AreCurrent, AreKeepable, AreKeptWords, IsCurrent, IsKeepable, IsSoundFrames, MayBeKept, caps_in, Frozen, Running}
-use Rattle.kernel.proofs.Names.{Saved, Up, is_page, map_content, role_of, words_in, IsOfKind, IsSound, object_count, Step, carried_out, refusal_of, second}
-use Rattle.kernel.proofs.Names.{unjournaled, unless, World, content_at, owner_at, with_content, journal_keeps_sound, journaled_saved, with_words, SavedFrames}
-use Rattle.kernel.proofs.Names.{maps_same, Parts, frames_of, objects_in, at_set, frame_in, keepable_count, is_page_now, is_page_role, is_still_saved, Snapshots}
-use Rattle.kernel.proofs.Names.{journaled, FrozenFrames, next_journaled, words_now, BanksState, saved_of, IsSoundSaved, AreSoundTogether, base_of}
-use Rattle.kernel.proofs.Names.{renewed_since, running_of, allocations_at, base_saved, renewed_at}
-use Rattle.std.proofs.Common.{◌==◌}
+use Rattle.kernel.proofs.Names.{inl, inr, ℕ, Bool, true, false, not, Option, None, Some, List, [], map, length, set, length-set, refl, sym, ap, subst, arith}
+use Rattle.kernel.proofs.Names.{nat_lt, slice_index_or, All, range_with_len, get_or-map, map-set_same, cases_lt, nat_tests, get_or_past, map-set, All-nil}
+use Rattle.kernel.proofs.Names.{Refusal, NotPage, Renewed, Cap, Capability, Frame, ObjectHeader, Geometry, Content, Object, Role, blank_frame, conveyed}
+use Rattle.kernel.proofs.Names.{frame_at, header_at, headers, held_at, object_of, objects_of, AreCurrent, AreKeepable, AreKeptWords, IsCurrent, IsKeepable}
+use Rattle.kernel.proofs.Names.{IsSoundFrames, MayBeKept, caps_in, Frozen, Running, Saved, Up, is_page, map_content, role_of, words_in, IsOfKind, IsSound}
+use Rattle.kernel.proofs.Names.{object_count, Step, carried_out, refusal_of, second, unjournaled, unless, World, content_at, owner_at, with_content}
+use Rattle.kernel.proofs.Names.{journal_keeps_sound, journaled_saved, with_words, SavedFrames, maps_same, Parts, frames_of, objects_in, at_set, frame_in}
+use Rattle.kernel.proofs.Names.{keepable_count, is_page_now, is_page_role, is_still_saved, Snapshots, journaled, FrozenFrames, next_journaled, words_now}
+use Rattle.kernel.proofs.Names.{BanksState, saved_of, IsSoundSaved, AreSoundTogether, base_of, renewed_since, running_of, allocations_at, base_saved}
+use Rattle.kernel.proofs.Names.{renewed_at}
+use Rattle.std.proofs.Common.{◌≡◌, ◌+◌, ◌^◌, ◌<◌, ◌≤◌, ◌&&◌, ◌∷◌, ◌∙◌, ◌==◌}
+use Rattle.std.specs.Prelude.{if◌then◌else◌}
 use Rattle.model.specs.declared.answer.Answer.TheVariants as answer
 use Rattle.model.specs.declared.answer.Refusal.TheVariants as refusal
 use Rattle.model.specs.declared.command.Command.TheVariants as command

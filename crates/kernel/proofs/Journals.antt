@@ -1,9 +1,11 @@
 -- How the journaling of a page ends: refused, done, or in a failure of the device.
-use Rattle.kernel.proofs.Names.{◌≡◌, ◌⊎◌, inl, inr, ℕ, ◌+◌, ◌^◌, ◌<◌, ◌≤◌, Bool, true, false, Option, None, Some, Ok, Err, List, [], ◌∷◌, length, refl, sym, ap}
-use Rattle.kernel.proofs.Names.{◌∙◌, subst, arith, if◌then◌else◌, nat_lt, IsErrOf, nat_tests, Refusal, NotPage, Renewed, Geometry, Running, Saved, Up, Step}
-use Rattle.kernel.proofs.Names.{second, World, Image, Disk, journaled_saved, SavedFrames, Holds, LeavesOneOf, Parts, keepable_count, Snapshots, journaled}
-use Rattle.kernel.proofs.Names.{left_in, FrozenFrames, whole, IsJournalAnswer, IsTurnedAway, is_page_now, is_still_saved, next_journaled, words_now, View}
-use Rattle.kernel.proofs.Names.{IsUnlooked, Live, saved_of, LeavesOne, IsUp, disk_at, running, IsCaused, ServesUp}
+use Rattle.kernel.proofs.Names.{inl, inr, ℕ, Bool, true, false, Option, None, Some, Ok, Err, List, [], length, refl, sym, ap, subst, arith, nat_lt, IsErrOf}
+use Rattle.kernel.proofs.Names.{nat_tests, Refusal, NotPage, Renewed, Geometry, Running, Saved, Up, Step, second, World, Image, Disk, journaled_saved}
+use Rattle.kernel.proofs.Names.{SavedFrames, Holds, LeavesOneOf, Parts, keepable_count, Snapshots, journaled, left_in, FrozenFrames, whole, IsJournalAnswer}
+use Rattle.kernel.proofs.Names.{IsTurnedAway, is_page_now, is_still_saved, next_journaled, words_now, View, IsUnlooked, Live, saved_of, LeavesOne, IsUp}
+use Rattle.kernel.proofs.Names.{disk_at, running, IsCaused, ServesUp}
+use Rattle.std.proofs.Common.{◌≡◌, ◌⊎◌, ◌+◌, ◌^◌, ◌<◌, ◌≤◌, ◌∷◌, ◌∙◌}
+use Rattle.std.specs.Prelude.{if◌then◌else◌}
 use Rattle.model.specs.declared.answer.Answer.TheVariants as answer
 use Rattle.model.specs.declared.answer.Refusal.TheVariants as refusal
 use Rattle.model.specs.declared.command.Command.TheVariants as command

@@ -1,10 +1,11 @@
 -- From a store that serves to a machine that is up or down.
-use Rattle.kernel.proofs.Names.{append-nil, ◌≡◌, ◌↔◌, ◌⊎◌, ℕ, zero, suc, ◌<◌, ◌≤◌, Option, Some, List, [], ◌∷◌, ◌++◌, length, refl, sym, ap, ◌∙◌, subst, inl}
-use Rattle.kernel.proofs.Names.{inr, arith, slice_index_or, Contains, Answer, Command, Geometry, Machine, Running, Saved, Up, Down, candidates, opened, Reopens}
-use Rattle.kernel.proofs.Names.{Step, carried_out, refusal_of, second, Only, Disk, Elapses, LeavesOnly, agrees_is, CountsNow, OnlyNow, goes_on_cut, leaves_on}
-use Rattle.kernel.proofs.Names.{leaves_weaker, started, OpenFault, Parts, View, Live, Power, power_of, saved_of, DenotesOne, Leaves, LeavesOne, RefusesToOpen}
-use Rattle.kernel.proofs.Names.{Recovers, IsNoReason, IsSomeDown, Opens, ReopensAs, Reopened, IsSomeUp, IsUp, running, IsCaused, IsDeviceOf, IsSomeMachine}
-use Rattle.kernel.proofs.Names.{Serves, ServesFrom, ServesUp, Stands, disk_of, one_denoted, one_not_bad}
+use Rattle.kernel.proofs.Names.{append-nil, ℕ, zero, suc, Option, Some, List, [], length, refl, sym, ap, subst, inl, inr, arith, slice_index_or, Contains}
+use Rattle.kernel.proofs.Names.{Answer, Command, Geometry, Machine, Running, Saved, Up, Down, candidates, opened, Reopens, Step, carried_out, refusal_of}
+use Rattle.kernel.proofs.Names.{second, Only, Disk, Elapses, LeavesOnly, agrees_is, CountsNow, OnlyNow, goes_on_cut, leaves_on, leaves_weaker, started}
+use Rattle.kernel.proofs.Names.{OpenFault, Parts, View, Live, Power, power_of, saved_of, DenotesOne, Leaves, LeavesOne, RefusesToOpen, Recovers, IsNoReason}
+use Rattle.kernel.proofs.Names.{IsSomeDown, Opens, ReopensAs, Reopened, IsSomeUp, IsUp, running, IsCaused, IsDeviceOf, IsSomeMachine, Serves, ServesFrom}
+use Rattle.kernel.proofs.Names.{ServesUp, Stands, disk_of, one_denoted, one_not_bad}
+use Rattle.std.proofs.Common.{◌≡◌, ◌↔◌, ◌⊎◌, ◌<◌, ◌≤◌, ◌∷◌, ◌++◌, ◌∙◌}
 use Rattle.kernel.specs.Opening.{refused_by}
 use Rattle.model.specs.declared.answer.Answer.TheVariants as answer
 use Rattle.model.specs.declared.answer.Refusal.TheVariants as refusal

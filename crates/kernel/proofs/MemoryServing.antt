@@ -1,9 +1,10 @@
 -- The outcome of loads and stores over present frames, from what each part of them reported.
-use Rattle.kernel.proofs.Names.{◌≡◌, ◌↔◌, ℕ, ◌%◌, ◌<◌, ◌≤◌, Bool, true, List, [], ◌∷◌, Option, None, Some, Result, Ok, Err, refl, sym, ap, ◌∙◌, subst, arith}
-use Rattle.kernel.proofs.Names.{IsErrOf, Answer, MemoryFault, Refusal, Command, Frame, ObjectHeader, Geometry, Object, header_at, objects_of, IsSoundFrames}
-use Rattle.kernel.proofs.Names.{Frozen, Saved, Machine, touching, touched_count, Step, is_process, is_running_process, with_word, none_in_frame, renewing_none}
-use Rattle.kernel.proofs.Names.{word_frame, SameFrame, frame_refl, tests_at, PrepareFault, IsUnchanged, OnlyReads, OnlyFetches, Parts, frames_of, objects_in}
-use Rattle.kernel.proofs.Names.{IsLoaded, IsStored, KeepsSound, OverfillsStore, renews_none, IsEarly, Performs, machine_at, renewed_by, refused_by}
+use Rattle.kernel.proofs.Names.{ℕ, Bool, true, List, [], Option, None, Some, Result, Ok, Err, refl, sym, ap, subst, arith, IsErrOf, Answer, MemoryFault}
+use Rattle.kernel.proofs.Names.{Refusal, Command, Frame, ObjectHeader, Geometry, Object, header_at, objects_of, IsSoundFrames, Frozen, Saved, Machine, touching}
+use Rattle.kernel.proofs.Names.{touched_count, Step, is_process, is_running_process, with_word, none_in_frame, renewing_none, word_frame, SameFrame, frame_refl}
+use Rattle.kernel.proofs.Names.{tests_at, PrepareFault, IsUnchanged, OnlyReads, OnlyFetches, Parts, frames_of, objects_in, IsLoaded, IsStored, KeepsSound}
+use Rattle.kernel.proofs.Names.{OverfillsStore, renews_none, IsEarly, Performs, machine_at, renewed_by, refused_by}
+use Rattle.std.proofs.Common.{◌≡◌, ◌↔◌, ◌%◌, ◌<◌, ◌≤◌, ◌∷◌, ◌∙◌}
 use Rattle.model.specs.declared.answer.Answer.TheVariants as answer
 use Rattle.model.specs.declared.answer.Refusal.TheVariants as refusal
 use Rattle.model.specs.declared.command.Command.TheVariants as command

@@ -1,9 +1,10 @@
 -- Loads and stores as steps of the machine.
-use Rattle.kernel.proofs.Names.{◌≡◌, ℕ, ◌%◌, ◌<◌, ◌≤◌, Bool, true, false, not, [], ◌∷◌, Option, None, Some, Result, Ok, Err, refl, sym, ap, ◌∙◌, inr, inl}
-use Rattle.kernel.proofs.Names.{arith, if◌then◌else◌, nat_tests, Access, Answer, MemoryFault, Refusal, Command, Geometry, Running, Up, Down, candidates}
-use Rattle.kernel.proofs.Names.{touching, touched_count, Step, Outcome, refusal_of, carried_out, of_running, opens, outcome, overfills, gives_way, reached}
-use Rattle.kernel.proofs.Names.{takes_memory, unless, writable, writing, is_process, is_running_process, with_word, word_at, IsLoaded, IsEarly}
-use Rattle.std.specs.Prelude.{◌&&◌}
+use Rattle.kernel.proofs.Names.{ℕ, Bool, true, false, not, [], Option, None, Some, Result, Ok, Err, refl, sym, ap, inr, inl, arith, nat_tests, Access, Answer}
+use Rattle.kernel.proofs.Names.{MemoryFault, Refusal, Command, Geometry, Running, Up, Down, candidates, touching, touched_count, Step, Outcome, refusal_of}
+use Rattle.kernel.proofs.Names.{carried_out, of_running, opens, outcome, overfills, gives_way, reached, takes_memory, unless, writable, writing, is_process}
+use Rattle.kernel.proofs.Names.{is_running_process, with_word, word_at, IsLoaded, IsEarly}
+use Rattle.std.proofs.Common.{◌≡◌, ◌%◌, ◌<◌, ◌≤◌, ◌∷◌, ◌∙◌}
+use Rattle.std.specs.Prelude.{if◌then◌else◌, ◌&&◌}
 use Rattle.model.specs.declared.answer.Answer.TheVariants as answer
 use Rattle.model.specs.declared.answer.Refusal.TheVariants as refusal
 use Rattle.model.specs.declared.command.Command.TheVariants as command

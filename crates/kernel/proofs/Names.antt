@@ -67,7 +67,7 @@ pub use Rattle.recovery.specs.declared.live.Live.{Live}
 pub use Rattle.space_bank.proofs.Renewing.{renews_after, renews_none}
 pub use Rattle.space_bank.specs.Banks.{AreCounted, BanksState}
 pub use Rattle.std.proofs.Common.{Bool, Err, List, None, Ok, Option, Result, Some, [], ap, append-nil, arith, false, inl, inr, length, length-set, map, not}
-pub use Rattle.std.proofs.Common.{refl, set, subst, suc, sym, true, zero, ℕ, ⊎_elim, ◌%◌, ◌&&◌, ◌++◌, ◌+◌, ◌-◌, ◌<◌, ◌^◌, ◌||◌, ◌↔◌, ◌∙◌, ◌∷◌, ◌≡◌, ◌≤◌, ◌⊎◌}
+pub use Rattle.std.proofs.Common.{refl, set, subst, suc, sym, true, zero, ℕ, ⊎_elim}
 pub use Rattle.std.proofs.Math.ListN.{get_or-map}
 pub use Rattle.std.proofs.Math.Seq.{map-set_same}
 pub use Rattle.std.proofs.lemmas.Bool.{cases_lt, ne_eqb}
@@ -76,7 +76,7 @@ pub use Rattle.std.proofs.lemmas.List.{ext_get_or, get_or_past, map-set}
 pub use Rattle.std.proofs.lemmas.List.Elements.{All-nil}
 pub use Rattle.std.proofs.lemmas.List.FromFn.{get_or-map-range_with_len, length-map-range_with_len}
 pub use Rattle.std.specs.List.{All, Contains, range_with_len}
-pub use Rattle.std.specs.Prelude.{IfOk, IsErr, IsErrAnd, IsErrOf, if◌then◌else◌, nat_lt, option_map, slice_index_or, ◌==◌}
+pub use Rattle.std.specs.Prelude.{IfOk, IsErr, IsErrAnd, IsErrOf, nat_lt, option_map, slice_index_or}
 pub use Rattle.kernel.specs.Machine.{IsEarly, IsOfEarly, IsUnlooked, Performs, answer_of, answer_with, code_with, machine_at, renewed_by}
 pub use Rattle.kernel.specs.Opening.{IsNoReason, IsSomeDown, Opens, Reopened, ReopensAs}
 pub use Rattle.kernel.specs.Power.{Power, power_of}

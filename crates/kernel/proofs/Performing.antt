@@ -1,10 +1,11 @@
 -- The outcome of a command over present frames, from what each part of it reported.
-use Rattle.kernel.proofs.Names.{◌≡◌, ◌↔◌, ℕ, ◌+◌, ◌^◌, ◌<◌, ◌≤◌, Bool, true, false, List, length, Option, Result, Ok, Err, refl, sym, ap, ◌∙◌, subst, ⊎_elim}
-use Rattle.kernel.proofs.Names.{arith, cases_lt, Answer, Refusal, Command, Invocation, Frame, Geometry, Object, ResultCode, ObjectHeader, frames_in, header_at}
-use Rattle.kernel.proofs.Names.{objects_of, IsSoundFrames, world_at, Frozen, Running, Saved, Machine, Up, renewing, touching, touched_count, is_free, Step}
-use Rattle.kernel.proofs.Names.{shown, content_at, is_process, is_running_process, none_given_up, renewing_none, Parts, Renews, frames_of, objects_in}
-use Rattle.kernel.proofs.Names.{keepable_count, IsErr, IsErrOf, PrepareFault, InvokeFault, Invoked, Invokes, KeepsSoundFrames, TellsState, Failed, renews_after}
-use Rattle.kernel.proofs.Names.{renews_none, Performs, machine_at, renewed_by, refusal_by, refused_by}
+use Rattle.kernel.proofs.Names.{ℕ, Bool, true, false, List, length, Option, Result, Ok, Err, refl, sym, ap, subst, ⊎_elim, arith, cases_lt, Answer, Refusal}
+use Rattle.kernel.proofs.Names.{Command, Invocation, Frame, Geometry, Object, ResultCode, ObjectHeader, frames_in, header_at, objects_of, IsSoundFrames}
+use Rattle.kernel.proofs.Names.{world_at, Frozen, Running, Saved, Machine, Up, renewing, touching, touched_count, is_free, Step, shown, content_at, is_process}
+use Rattle.kernel.proofs.Names.{is_running_process, none_given_up, renewing_none, Parts, Renews, frames_of, objects_in, keepable_count, IsErr, IsErrOf}
+use Rattle.kernel.proofs.Names.{PrepareFault, InvokeFault, Invoked, Invokes, KeepsSoundFrames, TellsState, Failed, renews_after, renews_none, Performs}
+use Rattle.kernel.proofs.Names.{machine_at, renewed_by, refusal_by, refused_by}
+use Rattle.std.proofs.Common.{◌≡◌, ◌↔◌, ◌+◌, ◌^◌, ◌<◌, ◌≤◌, ◌∙◌}
 use Rattle.model.specs.declared.answer.Answer.TheVariants as answer
 use Rattle.model.specs.declared.answer.Refusal.TheVariants as refusal
 use Rattle.model.specs.declared.command.Command.TheVariants as command

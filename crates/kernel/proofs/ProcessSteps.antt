@@ -1,8 +1,9 @@
 -- Steps of the machine: which refusal applies, and what is carried out.
-use Rattle.kernel.proofs.Names.{◌≡◌, ℕ, ◌+◌, ◌^◌, ◌<◌, ◌≤◌, Bool, true, false, not, List, Option, None, Some, refl, sym, ap, ◌∙◌, subst, inl, inr, arith}
-use Rattle.kernel.proofs.Names.{nat_lt, nat_tests, Answer, Refusal, Command, Invocation, Geometry, Object, Effect, invoke, Running, Machine, Up, renewing}
-use Rattle.kernel.proofs.Names.{touching, touched_count, object_count, Step, Outcome, refusal_of, carried_out, unless, overfills, writing, gives_way, shown}
-use Rattle.kernel.proofs.Names.{is_process, is_running_process, IsEarly, IsOfEarly}
+use Rattle.kernel.proofs.Names.{ℕ, Bool, true, false, not, List, Option, None, Some, refl, sym, ap, subst, inl, inr, arith, nat_lt, nat_tests, Answer, Refusal}
+use Rattle.kernel.proofs.Names.{Command, Invocation, Geometry, Object, Effect, invoke, Running, Machine, Up, renewing, touching, touched_count, object_count}
+use Rattle.kernel.proofs.Names.{Step, Outcome, refusal_of, carried_out, unless, overfills, writing, gives_way, shown, is_process, is_running_process, IsEarly}
+use Rattle.kernel.proofs.Names.{IsOfEarly}
+use Rattle.std.proofs.Common.{◌≡◌, ◌+◌, ◌^◌, ◌<◌, ◌≤◌, ◌∙◌}
 use Rattle.model.specs.declared.answer.Answer.TheVariants as answer
 use Rattle.model.specs.declared.answer.Refusal.TheVariants as refusal
 use Rattle.model.specs.declared.command.Command.TheVariants as command

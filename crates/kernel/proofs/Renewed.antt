@@ -1,11 +1,11 @@
 -- Which numbers were renewed since the last checkpoint or restart, by their counts.
-use Rattle.kernel.proofs.Names.{◌≡◌, ℕ, ◌+◌, ◌-◌, ◌<◌, ◌≤◌, ◌||◌, Bool, true, false, not, List, length, map, refl, sym, ap, ◌∙◌, arith, if◌then◌else◌}
-use Rattle.kernel.proofs.Names.{range_with_len, get_or-map, ne_eqb, ext_get_or, get_or-map-range_with_len, length-map-range_with_len, Cap, Frame, ObjectHeader}
-use Rattle.kernel.proofs.Names.{Content, blank_frame, frame_at, frames_in, header_at, renewing, is_given_up, Parts, Renews, frames_of, objects_in, headers_in}
-use Rattle.kernel.proofs.Names.{Snapshots, moved_saved, FrozenFrames, SavedFrames, home_saved, base_of, renewed_since, allocations_at, base_by, renewed_at}
-use Rattle.kernel.proofs.Names.{renewed_length}
+use Rattle.kernel.proofs.Names.{ℕ, Bool, true, false, not, List, length, map, refl, sym, ap, arith, range_with_len, get_or-map, ne_eqb, ext_get_or}
+use Rattle.kernel.proofs.Names.{get_or-map-range_with_len, length-map-range_with_len, Cap, Frame, ObjectHeader, Content, blank_frame, frame_at, frames_in}
+use Rattle.kernel.proofs.Names.{header_at, renewing, is_given_up, Parts, Renews, frames_of, objects_in, headers_in, Snapshots, moved_saved, FrozenFrames}
+use Rattle.kernel.proofs.Names.{SavedFrames, home_saved, base_of, renewed_since, allocations_at, base_by, renewed_at, renewed_length}
+use Rattle.std.proofs.Common.{◌≡◌, ◌+◌, ◌-◌, ◌<◌, ◌≤◌, ◌||◌, ◌∙◌, ◌==◌, slice_index_or}
+use Rattle.std.specs.Prelude.{if◌then◌else◌}
 use Rattle.checkpoint.specs.Snapshots.{moved}
-use Rattle.std.proofs.Common.{◌==◌, slice_index_or}
 
 pub header_in : (hs : List ObjectHeader) (cs : List (Content Cap)) (n : ℕ) → (frame_at (frames_in hs cs) n).header ≡ header_at hs n
 header_in hs cs n = sym (get_or-map (λ (f : Frame). f.header) (frames_in hs cs) n blank_frame) ∙ ap (λ (ks : List ObjectHeader). header_at ks n) (headers_in hs cs)

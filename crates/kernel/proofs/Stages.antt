@@ -1,9 +1,11 @@
 -- What is sound stays sound through each stage of a checkpoint.
-use Rattle.kernel.proofs.Names.{◌≡◌, ℕ, ◌+◌, ◌-◌, ◌^◌, ◌<◌, ◌≤◌, Bool, true, false, Option, None, Some, List, refl, sym, ap, ◌∙◌, subst, arith, ◌==◌}
-use Rattle.kernel.proofs.Names.{if◌then◌else◌, option_map, Frame, Geometry, frames_in, objects_of, AreKeepable, IsSoundFrames, world_at, Running, IsSound}
-use Rattle.kernel.proofs.Names.{Snapshots, freezing, moved_saved, next_saved, all_frozen, whole, at_home, moved, Parts, Renews, frames_of, objects_in}
-use Rattle.kernel.proofs.Names.{keepable_later, most, SavedFrames, home_saved, FrozenFrames, stabilized, AreCounted, BanksState, saved_of, IsSoundSaved}
-use Rattle.kernel.proofs.Names.{AreSoundTogether, IsSoundFrozen, base_of, frozen_of, renewed_since, running_of, allocations_at, base_frozen}
+use Rattle.kernel.proofs.Names.{ℕ, Bool, true, false, Option, None, Some, List, refl, sym, ap, subst, arith, option_map, Frame, Geometry, frames_in, objects_of}
+use Rattle.kernel.proofs.Names.{AreKeepable, IsSoundFrames, world_at, Running, IsSound, Snapshots, freezing, moved_saved, next_saved, all_frozen, whole}
+use Rattle.kernel.proofs.Names.{at_home, moved, Parts, Renews, frames_of, objects_in, keepable_later, most, SavedFrames, home_saved, FrozenFrames, stabilized}
+use Rattle.kernel.proofs.Names.{AreCounted, BanksState, saved_of, IsSoundSaved, AreSoundTogether, IsSoundFrozen, base_of, frozen_of, renewed_since, running_of}
+use Rattle.kernel.proofs.Names.{allocations_at, base_frozen}
+use Rattle.std.proofs.Common.{◌≡◌, ◌+◌, ◌-◌, ◌^◌, ◌<◌, ◌≤◌, ◌∙◌}
+use Rattle.std.specs.Prelude.{◌==◌, if◌then◌else◌}
 use Rattle.checkpoint.specs.Snapshots as stage
 use Rattle.kernel.proofs.Performing.{AreSame, same_frames}
 use Rattle.kernel.proofs.Renewed.{base_moved, risen_on}

@@ -1,7 +1,9 @@
 -- Steps of the machine: evictions, the stages of a checkpoint, and what opens it.
-use Rattle.kernel.proofs.Names.{◌≡◌, ℕ, ◌+◌, ◌-◌, ◌^◌, ◌<◌, ◌≤◌, Bool, true, false, Option, None, Some, List, [], ◌∷◌, refl, sym, ap, ◌∙◌, subst, arith, nat_lt}
-use Rattle.kernel.proofs.Names.{◌==◌, if◌then◌else◌, nat_tests, Refusal, Geometry, Frozen, Saved, Running, Up, touched_count, untouched, object_count, Step}
-use Rattle.kernel.proofs.Names.{carried_out, committed, moved, refusal_of, second, unless, World}
+use Rattle.kernel.proofs.Names.{ℕ, Bool, true, false, Option, None, Some, List, [], refl, sym, ap, subst, arith, nat_lt, nat_tests, Refusal, Geometry, Frozen}
+use Rattle.kernel.proofs.Names.{Saved, Running, Up, touched_count, untouched, object_count, Step, carried_out, committed, moved, refusal_of, second, unless}
+use Rattle.kernel.proofs.Names.{World}
+use Rattle.std.proofs.Common.{◌≡◌, ◌+◌, ◌-◌, ◌^◌, ◌<◌, ◌≤◌, ◌∷◌, ◌∙◌}
+use Rattle.std.specs.Prelude.{◌==◌, if◌then◌else◌}
 use Rattle.model.specs.declared.answer.Answer.TheVariants as answer
 use Rattle.model.specs.declared.answer.Refusal.TheVariants as refusal
 use Rattle.model.specs.declared.command.Command.TheVariants as command

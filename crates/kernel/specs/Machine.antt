@@ -1,8 +1,9 @@
 -- The machine of present frames, and the steps over them.
-use Rattle.kernel.specs.Names.{◌≡◌, ◌≢◌, ◌↔◌, ℕ, ◌<◌, ◌≤◌, Bool, Option, None, Some, List, true, false, Result, Ok, Err}
-use Rattle.kernel.specs.Names.{Failed, Answer, Refusal, Command, Invocation, Geometry, Object, ResultCode}
-use Rattle.kernel.specs.Names.{IsSoundFrames, world_at, Frozen, Saved, Machine, Up, renewing, Step, is_process}
-use Rattle.kernel.specs.Names.{is_running_process, Parts, Renews, frames_of, objects_in, result_code}
+use Rattle.kernel.specs.Names.{ℕ, Bool, Option, None, Some, List, true, false, Result, Ok, Err, Failed, Answer, Refusal}
+use Rattle.kernel.specs.Names.{Command, Invocation, Geometry, Object, ResultCode, IsSoundFrames, world_at, Frozen}
+use Rattle.kernel.specs.Names.{Saved, Machine, Up, renewing, Step, is_process, is_running_process, Parts, Renews}
+use Rattle.kernel.specs.Names.{frames_of, objects_in, result_code}
+use Rattle.std.specs.Prelude.{◌≡◌, ◌≢◌, ◌↔◌, ◌<◌, ◌≤◌}
 use Rattle.model.specs.declared.answer.Answer.TheVariants as answer
 use Rattle.model.specs.declared.answer.Refusal.TheVariants as refusal
 use Rattle.kernel.specs.declared.processes.unserved.Unserved.{Unserved}

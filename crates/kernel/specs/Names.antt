@@ -25,5 +25,4 @@ pub use Rattle.object_store.specs.Store.{View}
 pub use Rattle.recovery.specs.Denotes.{Denotes, Leaves, LeavesOne}
 pub use Rattle.recovery.specs.Live.{IsUp, disk_at, running}
 pub use Rattle.recovery.specs.declared.live.Live.{Live}
-pub use Rattle.std.specs.Prelude.{Bool, Err, List, None, Ok, Option, Result, Some, [], false, true, ℕ, ◌++◌, ◌<◌, ◌↔◌}
-pub use Rattle.std.specs.Prelude.{◌≡◌, ◌≢◌, ◌≤◌, ◌⊎◌}
+pub use Rattle.std.specs.Prelude.{Bool, Err, List, None, Ok, Option, Result, Some, [], false, true, ℕ}

@@ -1,6 +1,7 @@
 -- The outcomes of opening a device, for a kernel.
-use Rattle.kernel.specs.Names.{◌≡◌, ◌⊎◌, List, Geometry, Answer, Refusal, Machine, Saved, Up, Down, opened, Reopens}
-use Rattle.kernel.specs.Names.{Only, Disk, OpenFault, OnlyReads, Parts, View, Denotes, Leaves, LeavesOne}
+use Rattle.kernel.specs.Names.{List, Geometry, Answer, Refusal, Machine, Saved, Up, Down, opened, Reopens, Only, Disk}
+use Rattle.kernel.specs.Names.{OpenFault, OnlyReads, Parts, View, Denotes, Leaves, LeavesOne}
+use Rattle.std.specs.Prelude.{◌≡◌, ◌⊎◌}
 use Rattle.model.specs.declared.answer.Answer.TheVariants as answer
 use Rattle.model.specs.declared.answer.Refusal.TheVariants as refusal
 use Rattle.checkpoint.specs.declared.open_fault.OpenFault.TheVariants as fault

@@ -1,7 +1,8 @@
 -- The machine that a kernel stands for, and how it serves a command.
-use Rattle.kernel.specs.Names.{◌≡◌, ◌↔◌, ◌<◌, ◌≤◌, Option, None, Some, [], ◌++◌, Answer, Command, Geometry, ResultCode}
-use Rattle.kernel.specs.Names.{Machine, Up, Down, candidates, Step, second, Disk, Parts, Checkpoint, View, Live, Leaves}
-use Rattle.kernel.specs.Names.{LeavesOne, IsUp, disk_at, running}
+use Rattle.kernel.specs.Names.{Option, None, Some, [], Answer, Command, Geometry, ResultCode, Machine, Up, Down}
+use Rattle.kernel.specs.Names.{candidates, Step, second, Disk, Parts, Checkpoint, View, Live, Leaves, LeavesOne, IsUp}
+use Rattle.kernel.specs.Names.{disk_at, running}
+use Rattle.std.specs.Prelude.{◌≡◌, ◌↔◌, ◌<◌, ◌≤◌, ◌++◌}
 use Rattle.model.specs.declared.answer.Answer.TheVariants as answer
 use Rattle.model.specs.declared.answer.Refusal.TheVariants as refusal
 use Rattle.model.specs.declared.command.Command.TheVariants as command

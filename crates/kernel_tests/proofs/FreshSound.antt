@@ -1,11 +1,12 @@
 -- A sound world, as frames whose counts never rose: these are sound.
-use Rattle.kernel_tests.proofs.Names.{◌≡◌, ℕ, ◌^◌, ◌<◌, Bool, true, false, List, [], ◌∷◌, length, map, slice_index, slice_index_or, refl, sym, ap, ◌∙◌, subst}
-use Rattle.kernel_tests.proofs.Names.{arith, All, get_or-map, length-map, All-from_get_or, All-map, Cap, Capability, Void, Number, Page, Node, Space, Process}
-use Rattle.kernel_tests.proofs.Names.{Start, Resume, Bank, Discrim, Frame, ObjectHeader, Geometry, Content, Object, frames_in, headers, AreKeptSlots, Follows}
-use Rattle.kernel_tests.proofs.Names.{IsCurrent, IsKeepable, IsKeptCap, IsSoundFrames, MayBeKept, caps_in, free, is_annex, is_free, is_root, map_content}
-use Rattle.kernel_tests.proofs.Names.{role_of, root_in, slots_in, words_in, HasShape, IsOfKind, IsSound, IsSpace, MayBeHeld, object_count, World, annex_at}
-use Rattle.kernel_tests.proofs.Names.{content_at, object_at, owner_at, Parts, frames_of, fresh_cap, fresh_frame, fresh_header, fresh_held, annex_number}
-use Rattle.kernel_tests.proofs.Names.{bank_number, node_number, page_number, root_number, kind_map, mapped, role_free}
+use Rattle.kernel_tests.proofs.Names.{ℕ, Bool, true, false, List, [], length, map, slice_index, slice_index_or, refl, sym, ap, subst, arith, All, get_or-map}
+use Rattle.kernel_tests.proofs.Names.{length-map, All-from_get_or, All-map, Cap, Capability, Void, Number, Page, Node, Space, Process, Start, Resume, Bank}
+use Rattle.kernel_tests.proofs.Names.{Discrim, Frame, ObjectHeader, Geometry, Content, Object, frames_in, headers, AreKeptSlots, Follows, IsCurrent, IsKeepable}
+use Rattle.kernel_tests.proofs.Names.{IsKeptCap, IsSoundFrames, MayBeKept, caps_in, free, is_annex, is_free, is_root, map_content, role_of, root_in, slots_in}
+use Rattle.kernel_tests.proofs.Names.{words_in, HasShape, IsOfKind, IsSound, IsSpace, MayBeHeld, object_count, World, annex_at, content_at, object_at, owner_at}
+use Rattle.kernel_tests.proofs.Names.{Parts, frames_of, fresh_cap, fresh_frame, fresh_header, fresh_held, annex_number, bank_number, node_number, page_number}
+use Rattle.kernel_tests.proofs.Names.{root_number, kind_map, mapped, role_free}
+use Rattle.std.proofs.Common.{◌≡◌, ◌^◌, ◌<◌, ◌∷◌, ◌∙◌}
 use Rattle.model.specs.declared.object.Content.TheVariants as content
 use Rattle.kernel_tests.proofs.FreshWorlds.{frames_fresh, objects_of_fresh}
 

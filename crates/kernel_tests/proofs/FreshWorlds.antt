@@ -1,8 +1,9 @@
 -- Where nothing was ever given up, frames with counts stand for the objects that they were made of.
-use Rattle.kernel_tests.proofs.Names.{◌≡◌, ℕ, List, [], ◌∷◌, length, map, get_or, refl, sym, ap, ◌∙◌, Cap, get_or-map, Capability, Void, Number, Page, Node}
-use Rattle.kernel_tests.proofs.Names.{Space, Process, Start, Resume, Bank, Discrim, Frame, ObjectHeader, Content, Object, headers, header_at, current_count}
-use Rattle.kernel_tests.proofs.Names.{conveyed, object_of, objects_of, blank_frame, frames_in, world_at, map_content, free, f0, i0, World, fresh_cap}
-use Rattle.kernel_tests.proofs.Names.{fresh_frame, fresh_header, fresh_held, prime_header}
+use Rattle.kernel_tests.proofs.Names.{ℕ, List, [], length, map, get_or, refl, sym, ap, Cap, get_or-map, Capability, Void, Number, Page, Node, Space, Process}
+use Rattle.kernel_tests.proofs.Names.{Start, Resume, Bank, Discrim, Frame, ObjectHeader, Content, Object, headers, header_at, current_count, conveyed}
+use Rattle.kernel_tests.proofs.Names.{object_of, objects_of, blank_frame, frames_in, world_at, map_content, free, f0, i0, World, fresh_cap, fresh_frame}
+use Rattle.kernel_tests.proofs.Names.{fresh_header, fresh_held, prime_header}
+use Rattle.std.proofs.Common.{◌≡◌, ◌∷◌, ◌∙◌}
 use Rattle.model.specs.declared.object.Content.TheVariants as content
 
 -- what is undone for each element is undone for all

@@ -1,6 +1,7 @@
 -- The worlds that tests begin with are sound, and can be kept.
-use Rattle.kernel_tests.proofs.Names.{◌≡◌, Result, Ok, Err, map, sym, subst, arith, IfOk, Geometry, AreKeepable, IsSoundFrames, world_at, IsSound, World, small}
+use Rattle.kernel_tests.proofs.Names.{Result, Ok, Err, map, sym, subst, arith, IfOk, Geometry, AreKeepable, IsSoundFrames, world_at, IsSound, World, small}
 use Rattle.kernel_tests.proofs.Names.{frames_of, PlainState, parts_of, fresh_header, fresh_held}
+use Rattle.std.proofs.Common.{◌≡◌}
 use Rattle.kernel_tests.proofs.FreshSound.{fresh_parts_sound}
 
 module _ {E : Type 0} (w : World) (sound : IsSound small w) where

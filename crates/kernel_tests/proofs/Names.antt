@@ -24,7 +24,7 @@ pub use Rattle.model.specs.declared.object.Content.{Content}
 pub use Rattle.model.specs.declared.object.Object.{Object}
 pub use Rattle.model_laws.proofs.SoundWorlds.{f0_sound, i0_sound}
 pub use Rattle.std.proofs.Common.{Bool, Err, List, Ok, Result, [], ap, arith, false, get_or, length, map, refl, replicate, slice_index, slice_index_or, subst}
-pub use Rattle.std.proofs.Common.{sym, take, true, ℕ, ◌<◌, ◌^◌, ◌∙◌, ◌∷◌, ◌≡◌}
+pub use Rattle.std.proofs.Common.{sym, take, true, ℕ}
 pub use Rattle.std.proofs.Math.ListN.{get_or-map}
 pub use Rattle.std.proofs.lemmas.List.{length-map}
 pub use Rattle.std.proofs.lemmas.List.Elements.{All-from_get_or, All-map}

@@ -1,8 +1,9 @@
 -- Capabilities read back from their bytes.
-use Rattle.layout.proofs.Names.{◌≡◌, ℕ, zero, suc, ◌+◌, ◌*◌, ◌/◌, ◌%◌, ◌^◌, ◌<◌, List, [], ◌∷◌, ◌++◌, length, get_or, take, drop, refl, sym, ap, subst, ◌∙◌}
-use Rattle.layout.proofs.Names.{inl, inr, append_assoc, arith, le_bytes_8, take_all, drop_all, append-nil, Access, Cap, Capability, Void, Number, Space}
-use Rattle.layout.proofs.Names.{Process, Start, Resume, Bank, Discrim, Geometry, tag_of, access_bits, IsAccess, Follows, IsKeptCap, number, short_number}
-use Rattle.layout.proofs.Names.{key_of, height_of, number_of, head_bytes, capability_bytes, head_number, HeadFits, assembled}
+use Rattle.layout.proofs.Names.{ℕ, zero, suc, List, [], length, get_or, take, drop, refl, sym, ap, subst, inl, inr, append_assoc, arith, le_bytes_8, take_all}
+use Rattle.layout.proofs.Names.{drop_all, append-nil, Access, Cap, Capability, Void, Number, Space, Process, Start, Resume, Bank, Discrim, Geometry, tag_of}
+use Rattle.layout.proofs.Names.{access_bits, IsAccess, Follows, IsKeptCap, number, short_number, key_of, height_of, number_of, head_bytes, capability_bytes}
+use Rattle.layout.proofs.Names.{head_number, HeadFits, assembled}
+use Rattle.std.proofs.Common.{◌≡◌, ◌+◌, ◌*◌, ◌/◌, ◌%◌, ◌^◌, ◌<◌, ◌∷◌, ◌++◌, ◌∙◌}
 use Rattle.model.specs.declared.capability.Capability.TheVariants.{Page, Node}
 use Rattle.layout.proofs.Numbers.{number_splits}
 

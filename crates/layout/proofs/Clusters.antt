@@ -1,8 +1,10 @@
 -- The frames of nodes in the bytes of a cluster.
-use Rattle.layout.proofs.Names.{◌≡◌, ℕ, ◌+◌, ◌-◌, ◌*◌, ◌<◌, List, ◌++◌, length, take, drop, sym, ap, ◌∙◌, inl, inr, arith, true, nat_lt, if◌then◌else◌}
-use Rattle.layout.proofs.Names.{cases_lt, nat_tests, drop_at, take_at, length-append, length-replicate, length-take-le, length-drop, take-append-drop}
-use Rattle.layout.proofs.Names.{between_is, between-put_mid, drop-put_mid, take-put_mid_below, Frame, Geometry, Packed, zeros, front_bytes, slots_bytes}
-use Rattle.layout.proofs.Names.{slots_of, node_frame_bytes, page_frame_bytes, frame_bytes, shape_bytes}
+use Rattle.layout.proofs.Names.{ℕ, List, length, take, drop, sym, ap, inl, inr, arith, true, nat_lt, cases_lt, nat_tests, drop_at, take_at, length-append}
+use Rattle.layout.proofs.Names.{length-replicate, length-take-le, length-drop, take-append-drop, between_is, between-put_mid, drop-put_mid, take-put_mid_below}
+use Rattle.layout.proofs.Names.{Frame, Geometry, Packed, zeros, front_bytes, slots_bytes, slots_of, node_frame_bytes, page_frame_bytes, frame_bytes}
+use Rattle.layout.proofs.Names.{shape_bytes}
+use Rattle.std.proofs.Common.{◌≡◌, ◌+◌, ◌-◌, ◌*◌, ◌<◌, ◌++◌, ◌∙◌}
+use Rattle.std.specs.Prelude.{if◌then◌else◌}
 use borrow.Rule.Slice.PartMut.{put_mid}
 
 pub length-zeros : (n : ℕ) → length (zeros n) ≡ n

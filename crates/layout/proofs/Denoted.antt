@@ -1,7 +1,8 @@
 -- An image that denotes a saved state has none of the first seven reasons to be refused.
-use Rattle.layout.proofs.Names.{◌≡◌, ℕ, None, Some, List, [], ◌∷◌, ◌++◌, drop, refl, sym, ap, subst, ◌∙◌, ⊎_elim, arith, drop_at, drop-drop, Frame, frame_at}
-use Rattle.layout.proofs.Names.{Image, BadImage, Entry, CheckpointHeader, number, zeros, header_bytes, SavedState, Encodes, IsBadBy, HasHeader, HasDirectory}
-use Rattle.layout.proofs.Names.{HasNoHeader, IsTooSmall, option_at, total_in, Plan, IsPlan, HasMark, superblock_bytes, ranges_bytes}
+use Rattle.layout.proofs.Names.{ℕ, None, Some, List, [], drop, refl, sym, ap, subst, ⊎_elim, arith, drop_at, drop-drop, Frame, frame_at, Image, BadImage, Entry}
+use Rattle.layout.proofs.Names.{CheckpointHeader, number, zeros, header_bytes, SavedState, Encodes, IsBadBy, HasHeader, HasDirectory, HasNoHeader, IsTooSmall}
+use Rattle.layout.proofs.Names.{option_at, total_in, Plan, IsPlan, HasMark, superblock_bytes, ranges_bytes}
+use Rattle.std.proofs.Common.{◌≡◌, ◌∷◌, ◌++◌, ◌∙◌}
 use Rattle.layout.specs.declared.bad_image.BadImage.TheVariants as bad
 use Rattle.layout.proofs.Numbers.{stream}
 use Rattle.layout.proofs.FrameReaders.{passed, passed_on}

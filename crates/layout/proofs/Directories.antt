@@ -1,9 +1,10 @@
 -- Directories read back from their bytes.
-use Rattle.layout.proofs.Names.{◌≡◌, ℕ, ◌+◌, ◌-◌, ◌*◌, ◌^◌, ◌<◌, ◌≤◌, Bool, true, false, List, [], ◌∷◌, ◌++◌, length, get_or, set, take, drop, refl, sym, ap}
-use Rattle.layout.proofs.Names.{subst, ◌∙◌, append_assoc, inl, inr, arith, replicate, cases_lt, cases_eq, false≢true, take_more, take_more_set, take_all}
-use Rattle.layout.proofs.Names.{take_at, append-nil, length-append, length-set, get_or-set_same, get_or-set_other, get_or-replicate, length-replicate}
-use Rattle.layout.proofs.Names.{get_or_past, take-add, flat_map-append, All-same, All-push, All-nil, All-tail, All-head, Geometry, Entry, number, entry_bytes}
-use Rattle.layout.proofs.Names.{directory_bytes, entry_at, AreRising, HaveOwnSlots, IsDirectory, AllFitting}
+use Rattle.layout.proofs.Names.{ℕ, Bool, true, false, List, [], length, get_or, set, take, drop, refl, sym, ap, subst, append_assoc, inl, inr, arith, replicate}
+use Rattle.layout.proofs.Names.{cases_lt, cases_eq, false≢true, take_more, take_more_set, take_all, take_at, append-nil, length-append, length-set}
+use Rattle.layout.proofs.Names.{get_or-set_same, get_or-set_other, get_or-replicate, length-replicate, get_or_past, take-add, flat_map-append, All-same}
+use Rattle.layout.proofs.Names.{All-push, All-nil, All-tail, All-head, Geometry, Entry, number, entry_bytes, directory_bytes, entry_at, AreRising, HaveOwnSlots}
+use Rattle.layout.proofs.Names.{IsDirectory, AllFitting}
+use Rattle.std.proofs.Common.{◌≡◌, ◌+◌, ◌-◌, ◌*◌, ◌^◌, ◌<◌, ◌≤◌, ◌∷◌, ◌++◌, ◌∙◌}
 use Rattle.layout.proofs.Numbers.{length-number, number_splits}
 
 -- ---- bytes

@@ -1,7 +1,8 @@
 -- Sectors that are apart, and ranges that cover all numbers.
-use Rattle.layout.proofs.Names.{◌≡◌, ℕ, zero, suc, ◌+◌, ◌-◌, ◌<◌, ◌≤◌, List, [], ◌∷◌, ◌++◌, length, get_or, set, take, drop, sym, ap, subst, ◌∙◌, inl, inr}
-use Rattle.layout.proofs.Names.{arith, All, between, cases_lt, get_or-drop, get_or_default, length-drop, length-set, take_rest, take_all, take_more_set}
-use Rattle.layout.proofs.Names.{drop_more, drop_all, Geometry, Extent, HomeRange, extent_at, IsApart, AreApart, Cover, IsNext}
+use Rattle.layout.proofs.Names.{ℕ, zero, suc, List, [], length, get_or, set, take, drop, sym, ap, subst, inl, inr, arith, All, between, cases_lt, get_or-drop}
+use Rattle.layout.proofs.Names.{get_or_default, length-drop, length-set, take_rest, take_all, take_more_set, drop_more, drop_all, Geometry, Extent, HomeRange}
+use Rattle.layout.proofs.Names.{extent_at, IsApart, AreApart, Cover, IsNext}
+use Rattle.std.proofs.Common.{◌≡◌, ◌+◌, ◌-◌, ◌<◌, ◌≤◌, ◌∷◌, ◌++◌, ◌∙◌}
 use Rattle.std.proofs.lemmas.List.{append_assoc}
 
 -- the first i extents are apart from all behind them

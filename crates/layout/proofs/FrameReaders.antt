@@ -1,12 +1,12 @@
 -- Bytes that spell a frame are read as that frame.
-use Rattle.layout.proofs.Names.{◌≡◌, ℕ, ◌+◌, ◌/◌, ◌%◌, ◌^◌, ◌<◌, ◌≤◌, Bool, true, false, List, [], ◌∷◌, ◌++◌, length, take, drop, refl, sym, ap, subst, ◌∙◌}
-use Rattle.layout.proofs.Names.{append_assoc, inl, inr, arith, cases_lt, lt-ltb, le-ltb, drop_at, drop-drop, take-append-le, drop-append-le, length-drop}
-use Rattle.layout.proofs.Names.{All-head, All-tail, All, if◌then◌else◌, little_number, little_from-take, Image, Cap, Frame, ObjectHeader, Geometry, Content}
-use Rattle.layout.proofs.Names.{Role, IsKeptCap, role_of, role_number, number, number_from, zeros, capability_bytes, head_number, number_of, front_numbers}
-use Rattle.layout.proofs.Names.{slots_of, slots_bytes, words_bytes, page_words, role_in, body_in, page_body_in, content_of, IsNodeFrame, IsPageFrame}
-use Rattle.layout.proofs.Names.{node_frame_bytes, page_frame_bytes, IsFront, IsFrameOf, frame_length, cap_with, cap_from, slots_from, words_from, header_from}
-use Rattle.layout.proofs.Names.{node_from, page_from, frame_from, sectors_from}
-use Rattle.std.specs.Prelude.{nat_lt}
+use Rattle.layout.proofs.Names.{ℕ, Bool, true, false, List, [], length, take, drop, refl, sym, ap, subst, append_assoc, inl, inr, arith, cases_lt, lt-ltb}
+use Rattle.layout.proofs.Names.{le-ltb, drop_at, drop-drop, take-append-le, drop-append-le, length-drop, All-head, All-tail, All, little_number}
+use Rattle.layout.proofs.Names.{little_from-take, Image, Cap, Frame, ObjectHeader, Geometry, Content, Role, IsKeptCap, role_of, role_number, number}
+use Rattle.layout.proofs.Names.{number_from, zeros, capability_bytes, head_number, number_of, front_numbers, slots_of, slots_bytes, words_bytes, page_words}
+use Rattle.layout.proofs.Names.{role_in, body_in, page_body_in, content_of, IsNodeFrame, IsPageFrame, node_frame_bytes, page_frame_bytes, IsFront, IsFrameOf}
+use Rattle.layout.proofs.Names.{frame_length, cap_with, cap_from, slots_from, words_from, header_from, node_from, page_from, frame_from, sectors_from}
+use Rattle.std.proofs.Common.{◌≡◌, ◌+◌, ◌/◌, ◌%◌, ◌^◌, ◌<◌, ◌≤◌, ◌∷◌, ◌++◌, ◌∙◌}
+use Rattle.std.specs.Prelude.{if◌then◌else◌, nat_lt}
 use Rattle.layout.proofs.Capabilities.{as_numbers, follows_fits, head_below, made_again, same_cap}
 use Rattle.layout.proofs.Numbers.{AllFit, stream, number_reported, length-number}
 use Rattle.layout.proofs.Frames.{front_stream, content_again, role_again, role_fits, node_parts, front_list, length-front}

@@ -1,11 +1,11 @@
 -- Frames read back from their bytes.
-use Rattle.layout.proofs.Names.{◌≡◌, ℕ, zero, suc, ◌+◌, ◌-◌, ◌*◌, ◌%◌, ◌^◌, ◌<◌, ◌≤◌, List, [], ◌∷◌, ◌++◌, length, take, drop, refl, sym, ap, subst, ◌∙◌}
-use Rattle.layout.proofs.Names.{append_assoc, arith, replicate, map, between, replicate-append-replicate, drop-replicate, drop-drop, take_at, drop_at}
-use Rattle.layout.proofs.Names.{take-append-drop, length-append, length-take-le, length-map, Cap, Frame, ObjectHeader, Geometry, Content, Role, Root, State}
-use Rattle.layout.proofs.Names.{Available, Running, Waiting, void_held, IsCount, AreKeptSlots, role_of, role_number, state_number, number, short_number, zeros}
-use Rattle.layout.proofs.Names.{Body, capability_bytes, head_bytes, front_numbers, front_bytes, number_cap, slots_of, slots_bytes, node_frame_bytes, root_slots}
-use Rattle.layout.proofs.Names.{root_from, role_in, state_in, body_in, content_of, FollowsRole, IsFront, IsBody, IsNodeFrame, All-replicate, IsTrue, IsKeptCap}
-use Rattle.layout.proofs.Names.{is_free, take-replicate}
+use Rattle.layout.proofs.Names.{ℕ, zero, suc, List, [], length, take, drop, refl, sym, ap, subst, append_assoc, arith, replicate, map, between}
+use Rattle.layout.proofs.Names.{replicate-append-replicate, drop-replicate, drop-drop, take_at, drop_at, take-append-drop, length-append, length-take-le}
+use Rattle.layout.proofs.Names.{length-map, Cap, Frame, ObjectHeader, Geometry, Content, Role, Root, State, Available, Running, Waiting, void_held, IsCount}
+use Rattle.layout.proofs.Names.{AreKeptSlots, role_of, role_number, state_number, number, short_number, zeros, Body, capability_bytes, head_bytes}
+use Rattle.layout.proofs.Names.{front_numbers, front_bytes, number_cap, slots_of, slots_bytes, node_frame_bytes, root_slots, root_from, role_in, state_in}
+use Rattle.layout.proofs.Names.{body_in, content_of, FollowsRole, IsFront, IsBody, IsNodeFrame, All-replicate, IsTrue, IsKeptCap, is_free, take-replicate}
+use Rattle.std.proofs.Common.{◌≡◌, ◌+◌, ◌-◌, ◌*◌, ◌%◌, ◌^◌, ◌<◌, ◌≤◌, ◌∷◌, ◌++◌, ◌∙◌}
 use borrow.Rule.Slice.PartMut.{put_mid}
 use Rattle.model.specs.declared.object.Content.TheVariants as content
 use Rattle.model.specs.declared.object.Role.TheVariants as role

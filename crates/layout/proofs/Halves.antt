@@ -1,8 +1,9 @@
 -- The halves of the log among the extents of a plan.
-use Rattle.layout.proofs.Names.{◌≡◌, ℕ, ◌+◌, ◌-◌, ◌%◌, ◌<◌, [], ◌∷◌, length, Bool, true, false, refl, subst, ap, ◌∙◌, inl, inr, arith, ⊎_elim, ◌==◌}
-use Rattle.layout.proofs.Names.{if◌then◌else◌, nat_tests, length-map, get_or-append_right, Extent, Half, First, Second, half_of, Plan, IsPlan, IsWithin}
-use Rattle.layout.proofs.Names.{IsApart, IsInside, extent_at, extents, range_extent, half_extent, half_start, half_sector}
-use Rattle.std.proofs.Common.{map, length-append}
+use Rattle.layout.proofs.Names.{ℕ, [], length, Bool, true, false, refl, subst, ap, inl, inr, arith, ⊎_elim, nat_tests, length-map, get_or-append_right, Extent}
+use Rattle.layout.proofs.Names.{Half, First, Second, half_of, Plan, IsPlan, IsWithin, IsApart, IsInside, extent_at, extents, range_extent, half_extent}
+use Rattle.layout.proofs.Names.{half_start, half_sector}
+use Rattle.std.proofs.Common.{◌≡◌, ◌+◌, ◌-◌, ◌%◌, ◌<◌, ◌∷◌, ◌∙◌, map, length-append}
+use Rattle.std.specs.Prelude.{◌==◌, if◌then◌else◌}
 
 pub itself : (e : Extent) → IsInside e e
 itself e = record { starts = omega arith; ends = omega arith }

@@ -1,6 +1,8 @@
 -- Headers of checkpoints read back from their bytes.
-use Rattle.layout.proofs.Names.{◌≡◌, ℕ, ◌^◌, ◌<◌, ◌≤◌, Bool, true, false, cond, List, [], ◌∷◌, ◌++◌, drop, refl, sym, ap, ◌∙◌, append_assoc, arith, codes, ◌==◌}
-use Rattle.layout.proofs.Names.{CheckpointHeader, number, zeros, header_bytes, IsHeader}
+use Rattle.layout.proofs.Names.{ℕ, Bool, true, false, cond, List, [], drop, refl, sym, ap, append_assoc, arith, codes, CheckpointHeader, number, zeros}
+use Rattle.layout.proofs.Names.{header_bytes, IsHeader}
+use Rattle.std.proofs.Common.{◌≡◌, ◌^◌, ◌<◌, ◌≤◌, ◌∷◌, ◌++◌, ◌∙◌}
+use Rattle.std.specs.Prelude.{◌==◌}
 use Rattle.layout.proofs.Numbers.{stream, AllFit, stream_splits, IsWritten, written_all, drop_filled}
 
 abbrev pub fields : CheckpointHeader → List ℕ

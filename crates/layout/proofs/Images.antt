@@ -1,7 +1,8 @@
 -- An image denotes at most one saved state.
-use Rattle.layout.proofs.Names.{◌≡◌, ℕ, ◌+◌, ◌<◌, Some, List, length, sym, ap, subst, ◌∙◌, inl, inr, arith, cases_lt, same_lists, get_or_default, Frame}
-use Rattle.layout.proofs.Names.{Geometry, frame_at, blank_frame, Entry, CheckpointHeader, header_bytes, Plan, Image, IsFrameOf, HasPlan, HasHeader}
-use Rattle.layout.proofs.Names.{HasDirectory, frame_in, SavedState, Encodes}
+use Rattle.layout.proofs.Names.{ℕ, Some, List, length, sym, ap, subst, inl, inr, arith, cases_lt, same_lists, get_or_default, Frame, Geometry, frame_at}
+use Rattle.layout.proofs.Names.{blank_frame, Entry, CheckpointHeader, header_bytes, Plan, Image, IsFrameOf, HasPlan, HasHeader, HasDirectory, frame_in}
+use Rattle.layout.proofs.Names.{SavedState, Encodes}
+use Rattle.std.proofs.Common.{◌≡◌, ◌+◌, ◌<◌, ◌∙◌}
 use Rattle.layout.proofs.Headers.{one_header}
 use Rattle.layout.proofs.Directories.{one_directory, directory_fits}
 use Rattle.layout.proofs.Frames.{one_node_frame}

@@ -1,9 +1,11 @@
 -- A frame that the reader of its kind accepts is one that can be kept.
-use Rattle.layout.proofs.Names.{◌≡◌, ℕ, ◌+◌, ◌^◌, ◌<◌, ◌≤◌, Bool, List, [], ◌∷◌, ◌++◌, length, refl, sym, ap, ◌∙◌, arith, map, replicate, if◌then◌else◌, IsTrue}
-use Rattle.layout.proofs.Names.{All, lt-ltb, le-ltb, false≢true, length-append, length-map, length-replicate, All-from_recursion, All-cons, All-append, All-map}
-use Rattle.layout.proofs.Names.{All-replicate, All-weaker, Cap, Frame, Geometry, Content, Root, State, Available, Running, Waiting, void_held, IsKeptCap}
-use Rattle.layout.proofs.Names.{AreKeptSlots, AreKeptWords, MayBeKept, IsKept, IsKeepable, role_of, is_free, state_number, IsOfKind, number_cap, root_slots}
-use Rattle.layout.proofs.Names.{slots_of, node_frame_bytes, page_frame_bytes, frame_bytes, FollowsRole, HoldsPage, IsFront, IsNodeFrame, IsPageFrame, IsFrameOf}
+use Rattle.layout.proofs.Names.{ℕ, Bool, List, [], length, refl, sym, ap, arith, map, replicate, IsTrue, All, lt-ltb, le-ltb, false≢true, length-append}
+use Rattle.layout.proofs.Names.{length-map, length-replicate, All-from_recursion, All-cons, All-append, All-map, All-replicate, All-weaker, Cap, Frame}
+use Rattle.layout.proofs.Names.{Geometry, Content, Root, State, Available, Running, Waiting, void_held, IsKeptCap, AreKeptSlots, AreKeptWords, MayBeKept}
+use Rattle.layout.proofs.Names.{IsKept, IsKeepable, role_of, is_free, state_number, IsOfKind, number_cap, root_slots, slots_of, node_frame_bytes}
+use Rattle.layout.proofs.Names.{page_frame_bytes, frame_bytes, FollowsRole, HoldsPage, IsFront, IsNodeFrame, IsPageFrame, IsFrameOf}
+use Rattle.std.proofs.Common.{◌≡◌, ◌+◌, ◌^◌, ◌<◌, ◌≤◌, ◌∷◌, ◌++◌, ◌∙◌}
+use Rattle.std.specs.Prelude.{if◌then◌else◌}
 use Rattle.model.specs.declared.object.Content.TheVariants as content
 use Rattle.model.specs.declared.object.Role.TheVariants as role
 

@@ -21,8 +21,7 @@ pub use Rattle.model.specs.declared.object.Root.{Root}
 pub use Rattle.model.specs.declared.object.State.{State}
 pub use Rattle.model.specs.declared.object.State.TheVariants.{Available, Running, Waiting}
 pub use Rattle.std.proofs.Common.{Bool, List, None, Option, Some, [], ap, append_assoc, arith, below_more, cond, drop, false, get_or, inl, inr, length, nat_le}
-pub use Rattle.std.proofs.Common.{nat_lt, refl, rules, set, subst, suc, sym, take, true, zero, ℕ, ⊎_elim, ◌%◌, ◌&&◌, ◌*◌, ◌++◌, ◌+◌, ◌-◌, ◌/◌, ◌<◌, ◌^◌, ◌∙◌}
-pub use Rattle.std.proofs.Common.{◌∷◌, ◌≡◌, ◌≤◌}
+pub use Rattle.std.proofs.Common.{nat_lt, refl, rules, set, subst, suc, sym, take, true, zero, ℕ, ⊎_elim}
 pub use Rattle.std.proofs.Math.Seq.{take-add}
 pub use Rattle.std.proofs.lemmas.Bool.{cases_eq, cases_lt, eq-eqb, false≢true, le-ltb, lt-ltb, ne_eqb}
 pub use Rattle.std.proofs.lemmas.Bool.Decides.{nat_tests}
@@ -41,7 +40,7 @@ pub use Rattle.std.proofs.lemmas.Slice.{between-put_mid, between_is, drop-put_mi
 pub use Rattle.std.proofs.lemmas.Slice.Eq.{slice_eq-Decides}
 pub use Rattle.std.specs.Int.{from_le_bytes, w32, w64}
 pub use Rattle.std.specs.List.{All, between, flat_map, range_with_len}
-pub use Rattle.std.specs.Prelude.{IfNone, IfSome, IsTrue, bit_or, codes, if◌then◌else◌, map, nat_eq, replicate, ◌==◌, ◌↔◌, ◌⊎◌}
+pub use Rattle.std.specs.Prelude.{IfNone, IfSome, IsTrue, bit_or, codes, map, nat_eq, replicate}
 unfoldable pub use Rattle.layout.specs.Bytes.{half_number, number, number_from, short_number, zeros}
 pub use Rattle.layout.specs.Capability.{HeadFits, assembled, head_number, height_of, key_of, number_of}
 unfoldable pub use Rattle.layout.specs.Capability.{capability_bytes, head_bytes}

@@ -1,9 +1,11 @@
 -- Numbers read back from bytes.
-use Rattle.layout.proofs.Names.{below_more, ◌≡◌, ℕ, ◌+◌, ◌-◌, ◌^◌, ◌<◌, ◌≤◌, Bool, List, [], ◌∷◌, ◌++◌, length, get_or, take, drop, refl, sym, ap, subst, ◌∙◌}
-use Rattle.layout.proofs.Names.{inl, inr, rules, arith, replicate, bit_or, IsTrue, nat_eq, ◌↔◌, w64, from_le_bytes, le_bytes_8, from_le_bytes-to_le_bytes_8}
-use Rattle.layout.proofs.Names.{le_or_l, le_or_r, take_at, drop_at, take-append-drop, length-take, length-drop, drop-drop, get_or-take, get_or-drop}
-use Rattle.layout.proofs.Names.{get_or_past, same_lists, get_or-replicate, length-replicate, get_or_default, take_rest, drop_all, append-nil, length-append}
-use Rattle.layout.proofs.Names.{drop-replicate, cases_lt, between, little_number, little_from-take, little_number-reads_back, number, number_from, zeros}
+use Rattle.layout.proofs.Names.{below_more, ℕ, Bool, List, [], length, get_or, take, drop, refl, sym, ap, subst, inl, inr, rules, arith, replicate, bit_or}
+use Rattle.layout.proofs.Names.{IsTrue, nat_eq, w64, from_le_bytes, le_bytes_8, from_le_bytes-to_le_bytes_8, le_or_l, le_or_r, take_at, drop_at}
+use Rattle.layout.proofs.Names.{take-append-drop, length-take, length-drop, drop-drop, get_or-take, get_or-drop, get_or_past, same_lists, get_or-replicate}
+use Rattle.layout.proofs.Names.{length-replicate, get_or_default, take_rest, drop_all, append-nil, length-append, drop-replicate, cases_lt, between}
+use Rattle.layout.proofs.Names.{little_number, little_from-take, little_number-reads_back, number, number_from, zeros}
+use Rattle.std.proofs.Common.{◌≡◌, ◌+◌, ◌-◌, ◌^◌, ◌<◌, ◌≤◌, ◌∷◌, ◌++◌, ◌∙◌}
+use Rattle.std.specs.Prelude.{◌↔◌}
 use Rattle.std.proofs.lemmas.List.{append_assoc}
 use borrow.Rule.Slice.PartMut.{put_mid}
 

@@ -1,10 +1,12 @@
 -- Frames of pages read back from their bytes.
-use Rattle.layout.proofs.Names.{◌≡◌, ℕ, suc, ◌+◌, ◌-◌, ◌*◌, ◌^◌, ◌<◌, ◌≤◌, List, [], ◌∷◌, ◌++◌, length, take, drop, refl, sym, ap, subst, ◌∙◌, append_assoc}
-use Rattle.layout.proofs.Names.{inl, inr, arith, IsTrue, false≢true, All, flat_map, length-replicate, drop-drop, take_at, drop_at, take_all, take-append-drop}
-use Rattle.layout.proofs.Names.{append-nil, length-drop, length-take-le, drop-take, drop_all, take-add, flat_map-append, All-replicate, Cap, Frame}
-use Rattle.layout.proofs.Names.{ObjectHeader, Content, IsCount, AreKeptWords, role_of, role_number, is_free, zero_words, number, zeros, Body, front_numbers}
-use Rattle.layout.proofs.Names.{front_bytes, page_words, words_bytes, page_frame_bytes, role_in, page_body_in, content_of, HoldsPage, IsPageFrame, IsPageBody}
-use Rattle.layout.proofs.Names.{zero, get_or, get_or-drop, get_or_default, take_more, little_number, ◌⊎◌, IsRead, little_from-lt}
+use Rattle.layout.proofs.Names.{ℕ, suc, List, [], length, take, drop, refl, sym, ap, subst, append_assoc, inl, inr, arith, IsTrue, false≢true, All, flat_map}
+use Rattle.layout.proofs.Names.{length-replicate, drop-drop, take_at, drop_at, take_all, take-append-drop, append-nil, length-drop, length-take-le, drop-take}
+use Rattle.layout.proofs.Names.{drop_all, take-add, flat_map-append, All-replicate, Cap, Frame, ObjectHeader, Content, IsCount, AreKeptWords, role_of}
+use Rattle.layout.proofs.Names.{role_number, is_free, zero_words, number, zeros, Body, front_numbers, front_bytes, page_words, words_bytes, page_frame_bytes}
+use Rattle.layout.proofs.Names.{role_in, page_body_in, content_of, HoldsPage, IsPageFrame, IsPageBody, zero, get_or, get_or-drop, get_or_default, take_more}
+use Rattle.layout.proofs.Names.{little_number, IsRead, little_from-lt}
+use Rattle.std.proofs.Common.{◌≡◌, ◌+◌, ◌-◌, ◌*◌, ◌^◌, ◌<◌, ◌≤◌, ◌∷◌, ◌++◌, ◌∙◌}
+use Rattle.std.specs.Prelude.{◌⊎◌}
 use borrow.Rule.Slice.PartMut.{put_mid}
 use Rattle.model.specs.declared.object.Content.TheVariants as content
 use Rattle.layout.proofs.Numbers.{length-number, stream, AllFit, stream_splits, IsBytes, number_read}

@@ -1,6 +1,8 @@
 -- The search for the range that has a number.
-use Rattle.layout.proofs.Names.{◌≡◌, ℕ, ◌+◌, ◌-◌, ◌<◌, ◌≤◌, Option, Some, None, Bool, true, false, nat_lt, nat_le, ◌&&◌, List, ◌∷◌, length, get_or, drop, sym}
-use Rattle.layout.proofs.Names.{ap, ◌∙◌, inl, inr, arith, if◌then◌else◌, cases_lt, nat_tests, drop_more, drop_all, HomeRange, range_with}
+use Rattle.layout.proofs.Names.{ℕ, Option, Some, None, Bool, true, false, nat_lt, nat_le, List, length, get_or, drop, sym, ap, inl, inr, arith, cases_lt}
+use Rattle.layout.proofs.Names.{nat_tests, drop_more, drop_all, HomeRange, range_with}
+use Rattle.std.proofs.Common.{◌≡◌, ◌+◌, ◌-◌, ◌<◌, ◌≤◌, ◌&&◌, ◌∷◌, ◌∙◌}
+use Rattle.std.specs.Prelude.{if◌then◌else◌}
 
 abbrev range_at : List HomeRange → ℕ → HomeRange
 range_at rs i = get_or rs i (record { first = 0; count = 0; sector = 0 })

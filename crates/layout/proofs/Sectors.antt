@@ -1,7 +1,6 @@
 -- Bytes that are sectors of an image.
-use Rattle.layout.proofs.Names.{◌≡◌, ℕ, zero, suc, ◌+◌, ◌*◌, ◌/◌, ◌%◌, ◌<◌, List, [], ◌∷◌, ◌++◌, length, take, drop, refl, sym, ap, subst, ◌∙◌, arith}
-use Rattle.layout.proofs.Names.{take-append-drop, drop-drop, Image, sectors_from}
-use Rattle.std.proofs.Common.{length-drop}
+use Rattle.layout.proofs.Names.{ℕ, zero, suc, List, [], length, take, drop, refl, sym, ap, subst, arith, take-append-drop, drop-drop, Image, sectors_from}
+use Rattle.std.proofs.Common.{◌≡◌, ◌+◌, ◌*◌, ◌/◌, ◌%◌, ◌<◌, ◌∷◌, ◌++◌, ◌∙◌, length-drop}
 
 no_bytes : (bytes : List ℕ) → length bytes ≡ 0 → [] ≡ bytes
 no_bytes [] e = refl

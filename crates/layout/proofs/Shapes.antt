@@ -1,7 +1,8 @@
 -- How many sectors frames take, and their bytes in these.
-use Rattle.layout.proofs.Names.{◌≡◌, ℕ, ◌+◌, ◌<◌, ◌≤◌, Bool, true, false, nat_lt, refl, ap, ◌∙◌, arith, if◌then◌else◌, nat_tests, Image, Shape, Node, Packed}
-use Rattle.layout.proofs.Names.{Page, Version, One, frame_length, range_with, rank_in, shape_of, place_length, sectors_from, shaped_at, bytes_at, node_shape}
-use Rattle.layout.proofs.Names.{shape_length, shape_bytes, Plan}
+use Rattle.layout.proofs.Names.{ℕ, Bool, true, false, nat_lt, refl, ap, arith, nat_tests, Image, Shape, Node, Packed, Page, Version, One, frame_length}
+use Rattle.layout.proofs.Names.{range_with, rank_in, shape_of, place_length, sectors_from, shaped_at, bytes_at, node_shape, shape_length, shape_bytes, Plan}
+use Rattle.std.proofs.Common.{◌≡◌, ◌+◌, ◌<◌, ◌≤◌, ◌∙◌}
+use Rattle.std.specs.Prelude.{if◌then◌else◌}
 use Rattle.layout.proofs.Sectors.{same_sectors}
 
 -- no frame takes more than a slot of the log

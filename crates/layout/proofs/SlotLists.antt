@@ -1,9 +1,10 @@
 -- Capabilities one after the other.
-use Rattle.layout.proofs.Names.{◌≡◌, ℕ, ◌+◌, ◌-◌, ◌*◌, ◌<◌, ◌≤◌, List, [], ◌∷◌, ◌++◌, length, get_or, set, take, drop, refl, sym, ap, ◌∙◌, append_assoc, arith}
-use Rattle.layout.proofs.Names.{replicate, All, between, same_lists, take_rest, length-replicate, get_or-replicate, drop_more, take_more, take_more_set}
-use Rattle.layout.proofs.Names.{take_all, take_at, drop_at, append-nil, length-append, length-set, length-take, length-drop, take-append-drop, take-add}
-use Rattle.layout.proofs.Names.{flat_map-append, All-push, All-replicate, All-nil, All-head, All-tail, All-same, take-put_mid, Cap, Geometry, void_held}
-use Rattle.layout.proofs.Names.{IsKeptCap, AreKeptSlots, number, short_number, capability_bytes, head_bytes, slots_bytes}
+use Rattle.layout.proofs.Names.{ℕ, List, [], length, get_or, set, take, drop, refl, sym, ap, append_assoc, arith, replicate, All, between, same_lists}
+use Rattle.layout.proofs.Names.{take_rest, length-replicate, get_or-replicate, drop_more, take_more, take_more_set, take_all, take_at, drop_at, append-nil}
+use Rattle.layout.proofs.Names.{length-append, length-set, length-take, length-drop, take-append-drop, take-add, flat_map-append, All-push, All-replicate}
+use Rattle.layout.proofs.Names.{All-nil, All-head, All-tail, All-same, take-put_mid, Cap, Geometry, void_held, IsKeptCap, AreKeptSlots, number, short_number}
+use Rattle.layout.proofs.Names.{capability_bytes, head_bytes, slots_bytes}
+use Rattle.std.proofs.Common.{◌≡◌, ◌+◌, ◌-◌, ◌*◌, ◌<◌, ◌≤◌, ◌∷◌, ◌++◌, ◌∙◌}
 use borrow.Rule.Slice.PartMut.{put_mid}
 use Rattle.layout.proofs.Capabilities.{one_capability}
 

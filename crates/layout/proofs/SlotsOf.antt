@@ -1,6 +1,8 @@
 -- The slots that a directory gives.
-use Rattle.layout.proofs.Names.{◌≡◌, ℕ, zero, suc, ◌+◌, ◌<◌, Bool, Some, None, List, [], ◌∷◌, length, refl, sym, ap, subst, ◌∙◌, inl, inr, arith, if◌then◌else◌}
-use Rattle.layout.proofs.Names.{cases_eq, eq-eqb, ne_eqb, Entry, entry_at, AreRising, slot_in}
+use Rattle.layout.proofs.Names.{ℕ, zero, suc, Bool, Some, None, List, [], length, refl, sym, ap, subst, inl, inr, arith, cases_eq, eq-eqb, ne_eqb, Entry}
+use Rattle.layout.proofs.Names.{entry_at, AreRising, slot_in}
+use Rattle.std.proofs.Common.{◌≡◌, ◌+◌, ◌<◌, ◌∷◌, ◌∙◌}
+use Rattle.std.specs.Prelude.{if◌then◌else◌}
 
 -- the entry that gives an object its slot
 pub record HasSlot (es : List Entry) (object slot : ℕ) : Type 0 where

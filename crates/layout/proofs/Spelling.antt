@@ -1,8 +1,8 @@
 -- What bytes spell is what is read of them.
-use Rattle.layout.proofs.Names.{◌≡◌, ℕ, ◌<◌, List, length, sym, ap, subst, ◌∙◌, arith, map, range_with_len, same_lists, length-map-range_with_len}
-use Rattle.layout.proofs.Names.{get_or-map-range_with_len, Frame, Geometry, frame_at, blank_frame, IsKeepable, Image, Entry, CheckpointHeader, IsFrameOf}
-use Rattle.layout.proofs.Names.{frame_bytes, frame_from, frame_in, HasPlan, HasHeader, HasDirectory, Encodes, count_of, frame_read, frames_read, IsSpelt}
-use Rattle.layout.proofs.Names.{AreSpelt, Plan}
+use Rattle.layout.proofs.Names.{ℕ, List, length, sym, ap, subst, arith, map, range_with_len, same_lists, length-map-range_with_len, get_or-map-range_with_len}
+use Rattle.layout.proofs.Names.{Frame, Geometry, frame_at, blank_frame, IsKeepable, Image, Entry, CheckpointHeader, IsFrameOf, frame_bytes, frame_from}
+use Rattle.layout.proofs.Names.{frame_in, HasPlan, HasHeader, HasDirectory, Encodes, count_of, frame_read, frames_read, IsSpelt, AreSpelt, Plan}
+use Rattle.std.proofs.Common.{◌≡◌, ◌<◌, ◌∙◌}
 use Rattle.layout.specs.Spelt.{state_in}
 use Rattle.layout.proofs.FrameReaders.{frame_again}
 

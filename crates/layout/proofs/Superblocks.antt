@@ -1,12 +1,12 @@
 -- Superblocks read back from their bytes.
-use Rattle.layout.proofs.Names.{◌≡◌, ℕ, zero, suc, ◌+◌, ◌-◌, ◌*◌, ◌/◌, ◌%◌, ◌^◌, ◌<◌, ◌≤◌, List, [], ◌∷◌, ◌++◌, length, get_or, set, take, drop, refl, sym, ap}
-use Rattle.layout.proofs.Names.{subst, ◌∙◌, append_assoc, arith, All, between, replicate, codes, map, IfSome, IfNone, w32, from_le_bytes, le_bytes_8}
-use Rattle.layout.proofs.Names.{from_le_bytes-to_le_bytes_4, same_lists, take_more, take_more_set, take_all, take_at, drop_at, drop-drop, append-nil}
-use Rattle.layout.proofs.Names.{length-append, length-replicate, get_or-replicate, length-take-le, length-drop, take-append-drop, length-map}
-use Rattle.layout.proofs.Names.{get_or_append_left, get_or-append-add, get_or-map, take-add, flat_map-append, All-same, All-push, All-nil, All-tail, All-head}
-use Rattle.layout.proofs.Names.{All-append, All-replicate, Geometry, Extent, HomeRange, Version, One, Two, number, half_number, zeros, Plan, version_number}
-use Rattle.layout.proofs.Names.{plan_of, extents, range_extent, half_extent, IsWithin, range_bytes, ranges_bytes, unused, superblock_bytes, HasMark, IsPlan}
-use Rattle.layout.proofs.Names.{RangeFits}
+use Rattle.layout.proofs.Names.{ℕ, zero, suc, List, [], length, get_or, set, take, drop, refl, sym, ap, subst, append_assoc, arith, All, between, replicate}
+use Rattle.layout.proofs.Names.{codes, map, IfSome, IfNone, w32, from_le_bytes, le_bytes_8, from_le_bytes-to_le_bytes_4, same_lists, take_more, take_more_set}
+use Rattle.layout.proofs.Names.{take_all, take_at, drop_at, drop-drop, append-nil, length-append, length-replicate, get_or-replicate, length-take-le}
+use Rattle.layout.proofs.Names.{length-drop, take-append-drop, length-map, get_or_append_left, get_or-append-add, get_or-map, take-add, flat_map-append}
+use Rattle.layout.proofs.Names.{All-same, All-push, All-nil, All-tail, All-head, All-append, All-replicate, Geometry, Extent, HomeRange, Version, One, Two}
+use Rattle.layout.proofs.Names.{number, half_number, zeros, Plan, version_number, plan_of, extents, range_extent, half_extent, IsWithin, range_bytes}
+use Rattle.layout.proofs.Names.{ranges_bytes, unused, superblock_bytes, HasMark, IsPlan, RangeFits}
+use Rattle.std.proofs.Common.{◌≡◌, ◌+◌, ◌-◌, ◌*◌, ◌/◌, ◌%◌, ◌^◌, ◌<◌, ◌≤◌, ◌∷◌, ◌++◌, ◌∙◌}
 use Rattle.std.specs.Prelude.{Option, Some, None}
 use borrow.Rule.Slice.PartMut.{put_mid}
 use Rattle.layout.proofs.Numbers.{length-number, number_splits, stream, AllFit, stream_splits, IsWritten}

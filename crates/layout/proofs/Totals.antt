@@ -1,5 +1,6 @@
 -- The total of sectors in the bytes of a superblock.
-use Rattle.layout.proofs.Names.{◌≡◌, ℕ, List, [], ◌∷◌, ◌++◌, drop, arith, zeros, Plan, IsPlan, superblock_bytes, ranges_bytes, total_in}
+use Rattle.layout.proofs.Names.{ℕ, List, [], drop, arith, zeros, Plan, IsPlan, superblock_bytes, ranges_bytes, total_in}
+use Rattle.std.proofs.Common.{◌≡◌, ◌∷◌, ◌++◌}
 use Rattle.layout.proofs.Numbers.{stream}
 use Rattle.layout.proofs.FrameReaders.{reported, passed, passed_on}
 use Rattle.layout.proofs.Superblocks.{magic, numbers_of, second_of, eight_ranges, plan_stream}

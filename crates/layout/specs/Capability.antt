@@ -1,7 +1,7 @@
 -- Capabilities as bytes.
-use Rattle.layout.specs.Names.{ℕ, ◌+◌, ◌*◌, ◌<◌, ◌==◌, if◌then◌else◌, List, [], ◌∷◌, ◌++◌, Access, Cap, Capability}
-use Rattle.layout.specs.Names.{Void, Number, Page, Node, Space, Process, Start, Resume, Bank, Discrim, tag_of}
-use Rattle.layout.specs.Names.{access_bits}
+use Rattle.layout.specs.Names.{ℕ, List, [], Access, Cap, Capability, Void, Number, Page, Node, Space, Process, Start}
+use Rattle.layout.specs.Names.{Resume, Bank, Discrim, tag_of, access_bits}
+use Rattle.std.specs.Prelude.{◌+◌, ◌*◌, ◌<◌, ◌==◌, if◌then◌else◌, ◌∷◌, ◌++◌}
 use Rattle.layout.specs.Bytes.{number, short_number}
 
 -- the fields of a capability, and 0 for those that it hasn't

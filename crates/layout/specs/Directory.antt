@@ -1,5 +1,6 @@
 -- The directory of a checkpoint.
-use Rattle.layout.specs.Names.{◌≡◌, ℕ, ◌+◌, ◌^◌, ◌<◌, List, ◌++◌, length, slice_index_or, All, flat_map, Geometry}
+use Rattle.layout.specs.Names.{ℕ, List, length, slice_index_or, All, flat_map, Geometry}
+use Rattle.std.specs.Prelude.{◌≡◌, ◌+◌, ◌^◌, ◌<◌, ◌++◌}
 use Rattle.layout.specs.declared.directory.Entry.{Entry}
 use Rattle.layout.specs.Bytes.{number}
 

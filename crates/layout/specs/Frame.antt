@@ -1,9 +1,9 @@
 -- Frames as bytes.
-use Rattle.layout.specs.Names.{◌≡◌, ◌⊎◌, ℕ, ◌^◌, ◌<◌, ◌==◌, ◌%◌, nat_lt, if◌then◌else◌, IsTrue, List, [], ◌∷◌, ◌++◌}
-use Rattle.layout.specs.Names.{length, map, replicate, slice_index_or, flat_map, Cap, Capability, Number, Frame}
-use Rattle.layout.specs.Names.{ObjectHeader, Geometry, Content, Role, Root, State, Available, Running, Waiting}
-use Rattle.layout.specs.Names.{void_held, IsCount, AreKeptSlots, AreKeptWords, IsKeepable, role_of, role_number}
-use Rattle.layout.specs.Names.{is_free, state_number, zero_words, IsSpace}
+use Rattle.layout.specs.Names.{ℕ, nat_lt, IsTrue, List, [], length, map, replicate, slice_index_or, flat_map, Cap}
+use Rattle.layout.specs.Names.{Capability, Number, Frame, ObjectHeader, Geometry, Content, Role, Root, State, Available}
+use Rattle.layout.specs.Names.{Running, Waiting, void_held, IsCount, AreKeptSlots, AreKeptWords, IsKeepable, role_of}
+use Rattle.layout.specs.Names.{role_number, is_free, state_number, zero_words, IsSpace}
+use Rattle.std.specs.Prelude.{◌≡◌, ◌⊎◌, ◌^◌, ◌<◌, ◌==◌, ◌%◌, if◌then◌else◌, ◌∷◌, ◌++◌}
 use Rattle.model.specs.declared.object.Content.TheVariants as content
 use Rattle.model.specs.declared.object.Role.TheVariants as role
 use Rattle.layout.specs.declared.body.Body.{Body}

@@ -1,6 +1,6 @@
 -- The frame that bytes would be, whatever they are; where they spell one, it is that one.
-use Rattle.layout.specs.Names.{ℕ, zero, suc, ◌/◌, ◌%◌, nat_lt, if◌then◌else◌, List, [], ◌∷◌, drop, Cap, Frame}
-use Rattle.layout.specs.Names.{ObjectHeader, Geometry}
+use Rattle.layout.specs.Names.{ℕ, zero, suc, nat_lt, List, [], drop, Cap, Frame, ObjectHeader, Geometry}
+use Rattle.std.specs.Prelude.{◌/◌, ◌%◌, if◌then◌else◌, ◌∷◌}
 use Rattle.layout.specs.Bytes.{number_from}
 use Rattle.layout.specs.Capability.{assembled}
 use Rattle.layout.specs.Frame.{role_in, body_in, page_body_in, content_of}

@@ -1,6 +1,6 @@
 -- Where the frames of objects lie at home, and how.
-use Rattle.layout.specs.Names.{ℕ, ◌+◌, ◌-◌, ◌*◌, ◌/◌, ◌%◌, nat_lt, nat_le, ◌&&◌, if◌then◌else◌, Option, Some, None}
-use Rattle.layout.specs.Names.{List, [], ◌∷◌, Geometry}
+use Rattle.layout.specs.Names.{ℕ, nat_lt, nat_le, Option, Some, None, List, [], Geometry}
+use Rattle.std.specs.Prelude.{◌+◌, ◌-◌, ◌*◌, ◌/◌, ◌%◌, ◌&&◌, if◌then◌else◌, ◌∷◌}
 use Rattle.layout.specs.declared.extent.HomeRange.{HomeRange}
 use Rattle.layout.specs.declared.shape.Shape.{Shape}
 use Rattle.layout.specs.declared.shape.Shape.TheVariants.{Page}

@@ -1,5 +1,6 @@
 -- Given bytes spell at most one value, a frame is read of the bytes that spell it, and an image denotes at most one saved state.
-use Rattle.layout.specs.Names.{◌≡◌, ℕ, List, Cap, Frame, Geometry, IsKeptCap, Image}
+use Rattle.layout.specs.Names.{ℕ, List, Cap, Frame, Geometry, IsKeptCap, Image}
+use Rattle.std.specs.Prelude.{◌≡◌}
 use Rattle.layout.specs.declared.directory.Entry.{Entry}
 use Rattle.layout.specs.declared.gate.Gate.{Gate}
 use Rattle.layout.specs.declared.header.CheckpointHeader.{CheckpointHeader}

@@ -1,5 +1,6 @@
 -- How the frame of an object lies in the sectors from where it begins.
-use Rattle.layout.specs.Names.{ℕ, ◌*◌, ◌<◌, ◌≤◌, List, ◌++◌, take, drop, Geometry}
+use Rattle.layout.specs.Names.{ℕ, List, take, drop, Geometry}
+use Rattle.std.specs.Prelude.{◌*◌, ◌<◌, ◌≤◌, ◌++◌}
 use Rattle.layout.specs.declared.shape.Shape.{Shape}
 use Rattle.layout.specs.declared.shape.Shape.TheVariants.{Node, Packed, Page}
 use Rattle.layout.specs.declared.version.Version.{Version}

@@ -1,5 +1,6 @@
 -- The frames that the sectors of an image would be, and where they spell them.
-use Rattle.layout.specs.Names.{ℕ, ◌+◌, ◌<◌, List, map, range_with_len, Frame, Image}
+use Rattle.layout.specs.Names.{ℕ, List, map, range_with_len, Frame, Image}
+use Rattle.std.specs.Prelude.{◌+◌, ◌<◌}
 use Rattle.layout.specs.declared.directory.Entry.{Entry}
 use Rattle.layout.specs.declared.header.CheckpointHeader.{CheckpointHeader}
 use Rattle.layout.specs.Frame.{IsFrameOf}

@@ -1,6 +1,7 @@
 -- The superblock: how much a device holds, and where.
-use Rattle.layout.specs.Names.{◌≡◌, ◌⊎◌, ℕ, ◌+◌, ◌-◌, ◌*◌, ◌/◌, ◌<◌, ◌≤◌, ◌^◌, nat_lt, if◌then◌else◌, List, [], ◌∷◌}
-use Rattle.layout.specs.Names.{◌++◌, length, map, take, drop, replicate, slice_index_or, codes, All, flat_map, Geometry}
+use Rattle.layout.specs.Names.{ℕ, nat_lt, List, [], length, map, take, drop, replicate, slice_index_or, codes, All}
+use Rattle.layout.specs.Names.{flat_map, Geometry}
+use Rattle.std.specs.Prelude.{◌≡◌, ◌⊎◌, ◌+◌, ◌-◌, ◌*◌, ◌/◌, ◌<◌, ◌≤◌, ◌^◌, if◌then◌else◌, ◌∷◌, ◌++◌}
 use Rattle.layout.specs.declared.bad_image.BadImage.{BadImage}
 use Rattle.layout.specs.declared.bad_image.BadImage.TheVariants.{NotASuperblock, BadGeometry}
 use Rattle.layout.specs.declared.extent.Extent.{Extent}

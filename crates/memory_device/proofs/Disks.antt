@@ -1,9 +1,9 @@
 -- What the calls of a device with a record do to it, as its users see it.
-use Rattle.memory_device.proofs.Names.{◌≡◌, ◌<◌, ◌≤◌, ◌⊎◌, ℕ, ◌+◌, zero, suc, Bool, false, ◌||◌, if◌then◌else◌, nat_lt, List, [], ◌∷◌, ◌++◌, length, replicate}
-use Rattle.memory_device.proofs.Names.{All, refl, sym, ◌∙◌, ap, subst, arith, inl, inr, ⊎_elim, append_assoc, cases_lt, cases_Bool, lt-ltb, le-ltb, append-nil}
-use Rattle.memory_device.proofs.Names.{Outcome, Keep, Drop, Fill, Image, Disk, IsWhole, Agrees, Elsewhere, AreSectors, sectors_of, image_of, Narrows, Tears}
-use Rattle.memory_device.proofs.Names.{Only, Elapses, Event, wrote, synced, cut, State, at_first, after, replay, left_by, MayLeave, disk_of, writes_of, IsQuiet}
-use Rattle.memory_device.proofs.Names.{EndsCut, names, entries_of}
+use Rattle.memory_device.proofs.Names.{ℕ, zero, suc, Bool, false, nat_lt, List, [], length, replicate, All, refl, sym, ap, subst, arith, inl, inr, ⊎_elim}
+use Rattle.memory_device.proofs.Names.{append_assoc, cases_lt, cases_Bool, lt-ltb, le-ltb, append-nil, Outcome, Keep, Drop, Fill, Image, Disk, IsWhole, Agrees}
+use Rattle.memory_device.proofs.Names.{Elsewhere, AreSectors, sectors_of, image_of, Narrows, Tears, Only, Elapses, Event, wrote, synced, cut, State, at_first}
+use Rattle.memory_device.proofs.Names.{after, replay, left_by, MayLeave, disk_of, writes_of, IsQuiet, EndsCut, names, entries_of}
+use Rattle.std.proofs.Common.{◌≡◌, ◌<◌, ◌≤◌, ◌⊎◌, ◌+◌, ◌||◌, if◌then◌else◌, ◌∷◌, ◌++◌, ◌∙◌}
 use Rattle.memory_device.proofs.Past.{replay-append, replay-one, elapses_still, elapses_one, written-durable, written-present_before, written-present_after}
 use Rattle.memory_device.proofs.Past.{written-present_inside, quiet-unsynced}
 use Rattle.memory_device.proofs.Patches.{or_false}

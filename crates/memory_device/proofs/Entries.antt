@@ -1,8 +1,8 @@
 -- The record of what was done, and the events that it stands for.
-use Rattle.memory_device.proofs.Names.{◌≡◌, ◌⊎◌, ℕ, ◌+◌, zero, suc, List, [], ◌∷◌, ◌++◌, length, get_or, take, drop, Option, Some, None, unwrap_or, refl, sym}
-use Rattle.memory_device.proofs.Names.{◌∙◌, ap, subst, arith, inl, inr, ⊎_elim, add-one, length-append, append_assoc, ◌*◌, set, Outcome, Wrote, Synced}
-use Rattle.memory_device.proofs.Names.{RecordEntry, image_of, Event, wrote, synced, cut, writes_of, IsQuiet, EndsCut, event_of, mark_of, entry_events}
-use Rattle.memory_device.proofs.Names.{events_of, entries_of, mark_after, marked}
+use Rattle.memory_device.proofs.Names.{ℕ, zero, suc, List, [], length, get_or, take, drop, Option, Some, None, unwrap_or, refl, sym, ap, subst, arith, inl, inr}
+use Rattle.memory_device.proofs.Names.{⊎_elim, add-one, length-append, append_assoc, set, Outcome, Wrote, Synced, RecordEntry, image_of, Event, wrote, synced}
+use Rattle.memory_device.proofs.Names.{cut, writes_of, IsQuiet, EndsCut, event_of, mark_of, entry_events, events_of, entries_of, mark_after, marked}
+use Rattle.std.proofs.Common.{◌≡◌, ◌⊎◌, ◌+◌, ◌∷◌, ◌++◌, ◌∙◌, ◌*◌}
 
 -- a write over the last entry
 pub marked_set : (outcome : Outcome) (es : List RecordEntry) (k : ℕ) (e : RecordEntry) → suc k ≡ length es → e ≡ get_or es k e → set es k (mark_after outcome e) ≡ marked outcome es

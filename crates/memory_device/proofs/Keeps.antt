@@ -1,9 +1,10 @@
 -- Each call keeps the bytes and the record in accord.
-use Rattle.memory_device.proofs.Names.{◌≡◌, ◌<◌, ◌≤◌, ◌⊎◌, ℕ, ◌+◌, ◌-◌, zero, suc, Bool, true, false, ◌||◌, nat_eq, if◌then◌else◌, List, [], ◌∷◌, ◌++◌, length}
-use Rattle.memory_device.proofs.Names.{drop, replicate, All, refl, sym, ◌∙◌, ap, arith, inl, inr, ⊎_elim, cases_lt, cases_Bool, or_cases, eqb-true, eqb-false}
-use Rattle.memory_device.proofs.Names.{cases_order, drop-append-le, drop_all, or_assoc, Outcome, Keep, Drop, Fill, Synced, RecordEntry, None, Image, Agrees}
-use Rattle.memory_device.proofs.Names.{Elsewhere, Patches, AreSectors, sectors_of, image_of, Event, wrote, synced, cut, State, at_first, after, replay, left_by}
-use Rattle.memory_device.proofs.Names.{writes_of, names, events_of, entries_of, marked, IsSoundMirror, now_of, state_with}
+use Rattle.memory_device.proofs.Names.{ℕ, zero, suc, Bool, true, false, nat_eq, List, [], length, drop, replicate, All, refl, sym, ap, arith, inl, inr, ⊎_elim}
+use Rattle.memory_device.proofs.Names.{cases_lt, cases_Bool, or_cases, eqb-true, eqb-false, cases_order, drop-append-le, drop_all, or_assoc, Outcome, Keep}
+use Rattle.memory_device.proofs.Names.{Drop, Fill, Synced, RecordEntry, None, Image, Agrees, Elsewhere, Patches, AreSectors, sectors_of, image_of, Event, wrote}
+use Rattle.memory_device.proofs.Names.{synced, cut, State, at_first, after, replay, left_by, writes_of, names, events_of, entries_of, marked, IsSoundMirror}
+use Rattle.memory_device.proofs.Names.{now_of, state_with}
+use Rattle.std.proofs.Common.{◌≡◌, ◌<◌, ◌≤◌, ◌⊎◌, ◌+◌, ◌-◌, ◌||◌, if◌then◌else◌, ◌∷◌, ◌++◌, ◌∙◌}
 use Rattle.memory_device.proofs.Past.{replay-append, replay-one, written-durable, written-present_before, written-present_after, written-present_inside}
 use Rattle.memory_device.proofs.Past.{quiet-unsynced}
 use Rattle.memory_device.proofs.Patches.{or_false, or_right, names-append}

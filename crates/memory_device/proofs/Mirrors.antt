@@ -1,7 +1,8 @@
 -- What the calls of a device in memory do to it, as its users see it.
-use Rattle.memory_device.proofs.Names.{◌≡◌, ℕ, List, [], ◌∷◌, ◌++◌, subst, Outcome, Mirror, IsWhole, Agrees, Elsewhere, AreSectors, sectors_of, image_of}
-use Rattle.memory_device.proofs.Names.{Narrows, Tears, Only, Elapses, synced, left_by, writes_of, EndsCut, past_of, state_of, disk_of_mirror, present_whole}
-use Rattle.memory_device.proofs.Names.{durable_whole, synced_same}
+use Rattle.memory_device.proofs.Names.{ℕ, List, [], subst, Outcome, Mirror, IsWhole, Agrees, Elsewhere, AreSectors, sectors_of, image_of, Narrows, Tears, Only}
+use Rattle.memory_device.proofs.Names.{Elapses, synced, left_by, writes_of, EndsCut, past_of, state_of, disk_of_mirror, present_whole, durable_whole}
+use Rattle.memory_device.proofs.Names.{synced_same}
+use Rattle.std.proofs.Common.{◌≡◌, ◌∷◌, ◌++◌}
 use Rattle.memory_device.proofs.Disks as Disks
 
 module _ (old new : Mirror) (first_is : new.first ≡ old.first) (sectors_is : new.sectors ≡ old.sectors) (failures risen : ℕ) where

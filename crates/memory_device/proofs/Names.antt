@@ -3,9 +3,9 @@ pub use Rattle.device.proofs.Flat.{got_inside, put_elsewhere, put_written, rewri
 pub use Rattle.device.specs.Calls.{Agrees, AreSectors, Elsewhere, Narrows, Only, Patches, Tears, image_of, sectors_of}
 pub use Rattle.device.specs.Disk.{Disk, Image, IsWhole}
 pub use Rattle.device.specs.Moments.{Elapses}
-pub use Rattle.std.proofs.Common.{All, Bool, List, None, Option, Some, [], add-one, ap, append_assoc, arith, drop, false, get_or, if◌then◌else◌, inl, inr}
-pub use Rattle.std.proofs.Common.{length, length-append, length-drop, nat_eq, nat_lt, refl, replicate, rules, subst, suc, sym, take, true, unwrap_or}
-pub use Rattle.std.proofs.Common.{vec_capacity, zero, ℕ, ⊎_elim, ◌*◌, ◌++◌, ◌+◌, ◌-◌, ◌<◌, ◌==◌, ◌||◌, ◌∙◌, ◌∷◌, ◌≡◌, ◌≤◌, ◌⊎◌}
+pub use Rattle.std.proofs.Common.{All, Bool, List, None, Option, Some, [], add-one, ap, append_assoc, arith, drop, false, get_or, inl, inr, length}
+pub use Rattle.std.proofs.Common.{length-append, length-drop, nat_eq, nat_lt, refl, replicate, rules, subst, suc, sym, take, true, unwrap_or, vec_capacity}
+pub use Rattle.std.proofs.Common.{zero, ℕ, ⊎_elim}
 pub use Rattle.std.proofs.Math.Bool.{or_assoc}
 pub use Rattle.std.proofs.Math.ListN.{set}
 pub use Rattle.std.proofs.lemmas.Bool.{cases_Bool, cases_lt, cases_order, eq-eqb, eqb-false, eqb-true, le-ltb, lt-ltb, ne_eqb, or_cases}

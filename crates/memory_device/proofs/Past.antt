@@ -1,7 +1,8 @@
 -- How a device with a record goes on.
-use Rattle.memory_device.proofs.Names.{◌≡◌, ◌<◌, ◌≤◌, ℕ, ◌+◌, zero, suc, Bool, false, if◌then◌else◌, List, [], ◌∷◌, ◌++◌, length, take, refl, sym, ◌∙◌, ap}
-use Rattle.memory_device.proofs.Names.{subst, arith, inl, inr, ⊎_elim, length-append, take-append-le, take_all, cases_lt, eq-eqb, ne_eqb, Image, image_of}
-use Rattle.memory_device.proofs.Names.{Elapses, Event, wrote, cut, State, at_first, after, replay, MayLeave, disk_of, writes_of, IsQuiet}
+use Rattle.memory_device.proofs.Names.{ℕ, zero, suc, Bool, false, List, [], length, take, refl, sym, ap, subst, arith, inl, inr, ⊎_elim, length-append}
+use Rattle.memory_device.proofs.Names.{take-append-le, take_all, cases_lt, eq-eqb, ne_eqb, Image, image_of, Elapses, Event, wrote, cut, State, at_first, after}
+use Rattle.memory_device.proofs.Names.{replay, MayLeave, disk_of, writes_of, IsQuiet}
+use Rattle.std.proofs.Common.{◌≡◌, ◌<◌, ◌≤◌, ◌+◌, if◌then◌else◌, ◌∷◌, ◌++◌, ◌∙◌}
 
 -- events after events
 pub replay-append : (s : State) (xs ys : List Event) → replay s (xs ++ ys) ≡ replay (replay s xs) ys

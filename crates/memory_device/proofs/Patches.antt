@@ -1,8 +1,9 @@
 -- Sectors that take the place of others, one after another.
-use Rattle.memory_device.proofs.Names.{◌≡◌, ◌<◌, ◌≤◌, ℕ, ◌+◌, ◌*◌, Bool, true, false, ◌||◌, ◌==◌, if◌then◌else◌, zero, suc, List, [], ◌∷◌, ◌++◌, length, get_or}
-use Rattle.memory_device.proofs.Names.{take, drop, replicate, refl, sym, ◌∙◌, ap, arith, ⊎_elim, length-drop, eq-eqb, eqb-true, eqb-false, or_cases, cases_Bool}
-use Rattle.memory_device.proofs.Names.{cases_order, take_more, take-take, take-replicate, length-take-le, or_assoc, Image, Agrees, image_of, sectors_of}
-use Rattle.memory_device.proofs.Names.{AreSectors, Elsewhere, Patches, State, left_by, Outcome, Fill, writes, names, Action, Wrote, RecordEntry}
+use Rattle.memory_device.proofs.Names.{ℕ, Bool, true, false, zero, suc, List, [], length, get_or, take, drop, replicate, refl, sym, ap, arith, ⊎_elim}
+use Rattle.memory_device.proofs.Names.{length-drop, eq-eqb, eqb-true, eqb-false, or_cases, cases_Bool, cases_order, take_more, take-take, take-replicate}
+use Rattle.memory_device.proofs.Names.{length-take-le, or_assoc, Image, Agrees, image_of, sectors_of, AreSectors, Elsewhere, Patches, State, left_by, Outcome}
+use Rattle.memory_device.proofs.Names.{Fill, writes, names, Action, Wrote, RecordEntry}
+use Rattle.std.proofs.Common.{◌≡◌, ◌<◌, ◌≤◌, ◌+◌, ◌*◌, ◌||◌, ◌==◌, if◌then◌else◌, ◌∷◌, ◌++◌, ◌∙◌}
 
 pub or_false : (a b : Bool) → (a || b) ≡ false → (a ≡ false) × (b ≡ false)
 or_false false b none = (refl, none)

@@ -1,5 +1,6 @@
 -- A device that stops after some calls.
-use Rattle.memory_device.specs.Names.{◌≡◌, ◌<◌, ℕ, ◌+◌, ◌-◌, Option, Some, option_map, Result, IsErr, Disk}
+use Rattle.memory_device.specs.Names.{ℕ, Option, Some, option_map, Result, IsErr, Disk}
+use Rattle.std.specs.Prelude.{◌≡◌, ◌<◌, ◌+◌, ◌-◌}
 use Rattle.memory_device.specs.declared.fuse.Fuse.{Fuse}
 
 -- the device that the calls are passed to

@@ -1,5 +1,6 @@
 -- A device in memory.
-use Rattle.memory_device.specs.Names.{◌≡◌, ℕ, ◌-◌, List, vec_len, Disk}
+use Rattle.memory_device.specs.Names.{ℕ, List, vec_len, Disk}
+use Rattle.std.specs.Prelude.{◌≡◌, ◌-◌}
 use Rattle.memory_device.specs.declared.memory.Memory.{Memory}
 use Rattle.memory_device.specs.declared.record.Outcome.{Outcome}
 use Rattle.memory_device.specs.Past.{Event, State}

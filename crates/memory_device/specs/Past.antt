@@ -1,6 +1,7 @@
 -- What a device with a record has gone through, and what a crash may leave at each moment of that.
-use Rattle.memory_device.specs.Names.{◌≡◌, ◌≤◌, ◌⊎◌, ℕ, ◌+◌, Bool, false, ◌||◌, ◌==◌, if◌then◌else◌, List, [], ◌∷◌}
-use Rattle.memory_device.specs.Names.{◌++◌, length, take, replicate, zero, suc, Image, IsWhole, Disk, image_of}
+use Rattle.memory_device.specs.Names.{ℕ, Bool, false, List, [], length, take, replicate, zero, suc, Image, IsWhole}
+use Rattle.memory_device.specs.Names.{Disk, image_of}
+use Rattle.std.specs.Prelude.{◌≡◌, ◌≤◌, ◌⊎◌, ◌+◌, ◌||◌, ◌==◌, if◌then◌else◌, ◌∷◌, ◌++◌}
 use Rattle.memory_device.specs.declared.record.Outcome.{Outcome}
 use Rattle.memory_device.specs.declared.record.Outcome.TheVariants.{Keep, Drop, Fill}
 

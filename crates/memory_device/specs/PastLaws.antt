@@ -1,7 +1,7 @@
 -- What holds of each device with a record: the laws that a device has to meet.
-use Rattle.memory_device.specs.Names.{◌≡◌, ◌≤◌, ◌<◌, ℕ, ◌*◌, List, length, take, drop, All, arith, sym, subst, ap}
-use Rattle.memory_device.specs.Names.{length-drop, take_all, drop_all, length-take-le, All-take, All-drop, Image}
-use Rattle.memory_device.specs.Names.{IsWhole, image_of}
+use Rattle.memory_device.specs.Names.{ℕ, List, length, take, drop, All, arith, sym, subst, ap, length-drop, take_all}
+use Rattle.memory_device.specs.Names.{drop_all, length-take-le, All-take, All-drop, Image, IsWhole, image_of}
+use Rattle.std.specs.Prelude.{◌≡◌, ◌≤◌, ◌<◌, ◌*◌}
 use Rattle.memory_device.specs.Past.{Event, at_first, replay, MayLeave}
 
 module _ (sectors : ℕ) (first : Image) (past : List Event) where

@@ -1,6 +1,6 @@
 -- The record that a device in memory keeps of what was done to it.
-use Rattle.memory_device.specs.Names.{ℕ, zero, suc, ◌+◌, Bool, false, ◌||◌, ◌==◌, List, [], ◌∷◌, ◌++◌, Option, Some}
-use Rattle.memory_device.specs.Names.{None, unwrap_or, image_of}
+use Rattle.memory_device.specs.Names.{ℕ, zero, suc, Bool, false, List, [], Option, Some, None, unwrap_or, image_of}
+use Rattle.std.specs.Prelude.{◌+◌, ◌||◌, ◌==◌, ◌∷◌, ◌++◌}
 use Rattle.memory_device.specs.declared.record.Outcome.{Outcome}
 use Rattle.memory_device.specs.declared.record.Action.{Action}
 use Rattle.memory_device.specs.declared.record.Action.TheVariants.{Wrote, Synced}

@@ -1,5 +1,6 @@
 -- What holds of the bytes and the record of a device in memory, whatever was done to it.
-use Rattle.memory_device.specs.Names.{◌≡◌, ◌<◌, ◌≤◌, ℕ, ◌*◌, true, false, List, length, drop, All, Agrees, image_of}
+use Rattle.memory_device.specs.Names.{ℕ, true, false, List, length, drop, All, Agrees, image_of}
+use Rattle.std.specs.Prelude.{◌≡◌, ◌<◌, ◌≤◌, ◌*◌}
 use Rattle.memory_device.specs.declared.record.RecordEntry.{RecordEntry}
 use Rattle.memory_device.specs.Past.{State, at_first, replay}
 use Rattle.memory_device.specs.Record.{events_of, names}

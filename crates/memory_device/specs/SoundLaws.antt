@@ -1,5 +1,7 @@
 -- What follows for the sectors of a device in memory from what holds of its bytes and its record.
-use Rattle.memory_device.specs.Names.{◌≡◌, ℕ, false, List, sym, ◌∙◌, subst, fun_ext, IsWhole}
+use Rattle.memory_device.specs.Names.{ℕ, false, List, sym, subst, fun_ext, IsWhole}
+use Rattle.std.specs.Prelude.{◌≡◌}
+use Rattle.std.proofs.Common.{◌∙◌}
 use Rattle.memory_device.specs.declared.record.RecordEntry.{RecordEntry}
 use Rattle.memory_device.specs.Past.{MayLeave}
 use Rattle.memory_device.specs.PastLaws.{image_whole}

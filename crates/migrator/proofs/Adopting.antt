@@ -1,8 +1,9 @@
 -- A header is adopted with its directory.
-use Rattle.migrator.proofs.Names.{◌≡◌, ◌⊎◌, ℕ, zero, suc, Option, None, List, [], ◌∷◌, length, refl, sym, ap, subst, ◌∙◌, inl, inr, ⊎_elim, replicate, Disk}
-use Rattle.migrator.proofs.Names.{LeavesOnly, leaves_weaker, Entry, CheckpointHeader, Encodes, SavedState, state_in, Holds, LeavesEither, directory_extent}
-use Rattle.migrator.proofs.Names.{Books, Place, Nowhere, IsDurable, IsKept, IsRunning, IsSoundOn, LeavesState, Stored, saved_state, stored_in, stored_on}
-use Rattle.migrator.proofs.Names.{Unwritten, mended, MayAdopt, MaySave, SavesOnly, SparesKept, adopted, place_at}
+use Rattle.migrator.proofs.Names.{ℕ, zero, suc, Option, None, List, [], length, refl, sym, ap, subst, inl, inr, ⊎_elim, replicate, Disk, LeavesOnly}
+use Rattle.migrator.proofs.Names.{leaves_weaker, Entry, CheckpointHeader, Encodes, SavedState, state_in, Holds, LeavesEither, directory_extent, Books, Place}
+use Rattle.migrator.proofs.Names.{Nowhere, IsDurable, IsKept, IsRunning, IsSoundOn, LeavesState, Stored, saved_state, stored_in, stored_on, Unwritten, mended}
+use Rattle.migrator.proofs.Names.{MayAdopt, MaySave, SavesOnly, SparesKept, adopted, place_at}
+use Rattle.std.proofs.Common.{◌≡◌, ◌⊎◌, ◌∷◌, ◌∙◌}
 use Rattle.migrator.proofs.Buffered.{none_idle, without}
 use Rattle.migrator.proofs.Committing.{kept_saves, state_saves, stored_saves}
 use Rattle.migrator.proofs.GoingOn.{holds}

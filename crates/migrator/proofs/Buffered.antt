@@ -1,11 +1,11 @@
 -- What a cluster in memory leaves of what is kept of a store.
-use Rattle.migrator.proofs.Names.{◌≡◌, ◌⊎◌, ℕ, ◌+◌, ◌-◌, ◌%◌, ◌<◌, Option, Some, None, List, length, set, refl, sym, ap, subst, ◌∙◌, inl, inr, arith, cases_eq}
-use Rattle.migrator.proofs.Names.{Image, Disk, Extent, home_place, shape_of, bytes_at, frame_in, half_sector, slot_sector, shape_bytes, Shape, Packed}
-use Rattle.migrator.proofs.Names.{frame_from, count_of, IsSpelt, frame_read, IsFrameOf, Plan, IsPlan, IsInside, half_extent, apart_inside, spelt_same}
-use Rattle.migrator.proofs.Names.{found_slot, ReadsOnly, Place, Whole, place_at, slot_of, slot_for, entries_of, ranked, begins, most, Unwritten, mended}
-use Rattle.migrator.proofs.Names.{IsSpeltIn, IsUnwritten, IfUnwritten, Frame, slot_bytes, slot_frame, Books, GoesOnDisk, IsDurable, frozen_generation}
-use Rattle.migrator.proofs.Names.{working_generation, generation_after, stored_on, IsKept, HasUnwritten, MayHaveUnwritten, place_extent, slot_extent}
-use Rattle.migrator.proofs.Names.{frames_in_slots, slots_apart}
+use Rattle.migrator.proofs.Names.{ℕ, Option, Some, None, List, length, set, refl, sym, ap, subst, inl, inr, arith, cases_eq, Image, Disk, Extent, home_place}
+use Rattle.migrator.proofs.Names.{shape_of, bytes_at, frame_in, half_sector, slot_sector, shape_bytes, Shape, Packed, frame_from, count_of, IsSpelt, frame_read}
+use Rattle.migrator.proofs.Names.{IsFrameOf, Plan, IsPlan, IsInside, half_extent, apart_inside, spelt_same, found_slot, ReadsOnly, Place, Whole, place_at}
+use Rattle.migrator.proofs.Names.{slot_of, slot_for, entries_of, ranked, begins, most, Unwritten, mended, IsSpeltIn, IsUnwritten, IfUnwritten, Frame}
+use Rattle.migrator.proofs.Names.{slot_bytes, slot_frame, Books, GoesOnDisk, IsDurable, frozen_generation, working_generation, generation_after, stored_on}
+use Rattle.migrator.proofs.Names.{IsKept, HasUnwritten, MayHaveUnwritten, place_extent, slot_extent, frames_in_slots, slots_apart}
+use Rattle.std.proofs.Common.{◌≡◌, ◌⊎◌, ◌+◌, ◌-◌, ◌%◌, ◌<◌, ◌∙◌}
 use Rattle.migrator.proofs.Committing.{frozen_fits}
 use Rattle.migrator.proofs.Completing.{packed_read}
 use Rattle.migrator.proofs.Fetching.{fetched_goes_on, fetched_kept, fetched_stored}

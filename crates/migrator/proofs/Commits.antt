@@ -1,7 +1,8 @@
 -- The slots of a checkpoint were completed, and its header is adopted.
-use Rattle.migrator.proofs.Names.{◌≡◌, ℕ, ◌<◌, ◌≤◌, ◌^◌, Option, Some, None, refl, ap, subst, ◌∙◌, AreKeepable, Disk, LeavesEither, AreComplete, Keeps, Books}
-use Rattle.migrator.proofs.Names.{committed, next_saved, FrozenPuts, GoesOnDisk, IsDurable, IsKept, IsSoundOn, Stored, frozen_generation, frozen_of}
-use Rattle.migrator.proofs.Names.{next_header, seen_by, puts, on_snapshots, stored_in, stored_on, Unwritten, mended, MayAdopt, adopted, entries_of, whole_count}
+use Rattle.migrator.proofs.Names.{ℕ, Option, Some, None, refl, ap, subst, AreKeepable, Disk, LeavesEither, AreComplete, Keeps, Books, committed, next_saved}
+use Rattle.migrator.proofs.Names.{FrozenPuts, GoesOnDisk, IsDurable, IsKept, IsSoundOn, Stored, frozen_generation, frozen_of, next_header, seen_by, puts}
+use Rattle.migrator.proofs.Names.{on_snapshots, stored_in, stored_on, Unwritten, mended, MayAdopt, adopted, entries_of, whole_count}
+use Rattle.std.proofs.Common.{◌≡◌, ◌<◌, ◌≤◌, ◌^◌, ◌∙◌}
 use Rattle.migrator.proofs.Adopting.{kept_raw, sound_raw, stored_raw}
 use Rattle.migrator.proofs.Committing.{committed_stored, may_commit}
 use Rattle.migrator.proofs.Completed.{IsReady, goes_after, has_after, keepable_at, kept_with, mid_kept, ready, stored_after}

@@ -1,14 +1,16 @@
 -- The frozen frames become the saved ones.
-use Rattle.migrator.proofs.Names.{◌≡◌, ℕ, ◌+◌, ◌-◌, ◌%◌, ◌^◌, ◌<◌, ◌≤◌, Bool, true, false, cond, Option, Some, None, List, length, refl, sym, ap, subst, ◌∙◌}
-use Rattle.migrator.proofs.Names.{inr, arith, ◌==◌, map, replicate, range_with_len, length-replicate, Frame, frame_at, IsKeepable, AreKeepable, Image, Disk}
-use Rattle.migrator.proofs.Names.{Entry, Extent, CheckpointHeader, IsDirectory, entry_at, IsFrameOf, frame_from, IsHeader, frame_in, frame_slot_in, slot_in}
-use Rattle.migrator.proofs.Names.{slot_beside, half_sector, count_of, frame_read, frames_read, IsSpelt, AreSpelt, Plan, IsApart, IsInside, half_extent, itself}
-use Rattle.migrator.proofs.Names.{apart_inside, half_within, length_read, read_at, spelt_same, spelt_at, beside_frame_slot, places_within, header_sector}
-use Rattle.migrator.proofs.Names.{slot_extent, place_extent, directory_extent, frames_behind, frames_in_slots, directories_inside, slots_spare_directories}
-use Rattle.migrator.proofs.Names.{Place, Nowhere, Torn, Whole, place_at, slot_of, taken_count, whole_count, has_slot, entries_of, Put, Absent, put_at, put_or}
-use Rattle.migrator.proofs.Names.{overlaid, slot_bytes, put_of, puts_in, ArePut, most, Books, IsDurable, frozen_generation, working_generation, committed}
-use Rattle.migrator.proofs.Names.{generation_after, Stored, saved_state, frozen_of, stored_in, IsRunning, IsKept, LeavesState, next_header, puts, on_snapshots}
-use Rattle.migrator.proofs.Names.{AreComplete, MayAdopt, MaySave, SavesOnly, SparesKept, adopted, SparesFrames, Spares, maps_same}
+use Rattle.migrator.proofs.Names.{ℕ, Bool, true, false, cond, Option, Some, None, List, length, refl, sym, ap, subst, inr, arith, map, replicate}
+use Rattle.migrator.proofs.Names.{range_with_len, length-replicate, Frame, frame_at, IsKeepable, AreKeepable, Image, Disk, Entry, Extent, CheckpointHeader}
+use Rattle.migrator.proofs.Names.{IsDirectory, entry_at, IsFrameOf, frame_from, IsHeader, frame_in, frame_slot_in, slot_in, slot_beside, half_sector, count_of}
+use Rattle.migrator.proofs.Names.{frame_read, frames_read, IsSpelt, AreSpelt, Plan, IsApart, IsInside, half_extent, itself, apart_inside, half_within}
+use Rattle.migrator.proofs.Names.{length_read, read_at, spelt_same, spelt_at, beside_frame_slot, places_within, header_sector, slot_extent, place_extent}
+use Rattle.migrator.proofs.Names.{directory_extent, frames_behind, frames_in_slots, directories_inside, slots_spare_directories, Place, Nowhere, Torn, Whole}
+use Rattle.migrator.proofs.Names.{place_at, slot_of, taken_count, whole_count, has_slot, entries_of, Put, Absent, put_at, put_or, overlaid, slot_bytes, put_of}
+use Rattle.migrator.proofs.Names.{puts_in, ArePut, most, Books, IsDurable, frozen_generation, working_generation, committed, generation_after, Stored}
+use Rattle.migrator.proofs.Names.{saved_state, frozen_of, stored_in, IsRunning, IsKept, LeavesState, next_header, puts, on_snapshots, AreComplete, MayAdopt}
+use Rattle.migrator.proofs.Names.{MaySave, SavesOnly, SparesKept, adopted, SparesFrames, Spares, maps_same}
+use Rattle.std.proofs.Common.{◌≡◌, ◌+◌, ◌-◌, ◌%◌, ◌^◌, ◌<◌, ◌≤◌, ◌∙◌}
+use Rattle.std.specs.Prelude.{◌==◌}
 use Rattle.migrator.proofs.Tables.{all_whole, whole_taken, entries_directory, length_entries, slot_entries, blank_at, blank_table, tally-blank}
 use Rattle.migrator.proofs.Spared.{state_stays}
 use Rattle.migrator.proofs.Kept.{stored_stays, kept_on}

@@ -1,10 +1,10 @@
 -- What is kept of a store is kept while its slots are completed.
-use Rattle.migrator.proofs.Names.{◌≡◌, ℕ, ◌+◌, ◌*◌, ◌%◌, ◌<◌, Option, Some, None, List, refl, sym, ap, subst, ◌∙◌, arith, Image, Disk, IsTorn, AreKeepable}
-use Rattle.migrator.proofs.Names.{Entry, Extent, CheckpointHeader, entry_at, half_sector, count_of, Plan, IsInside, half_extent, shape_of, found_slot, own_slot}
-use Rattle.migrator.proofs.Names.{spelt_same, Place, Whole, place_at, slot_of, entries_of, AreComplete, Keeps, Unwritten, mended, IfUnwritten, Put, slot_bytes}
-use Rattle.migrator.proofs.Names.{puts_in, Books, frozen_generation, working_generation, generation_after, FrozenPuts, Stored, stored_in, frozen_of, next_saved}
-use Rattle.migrator.proofs.Names.{next_header, saved_state, IsKept, IsRunning, LeavesState, MayHaveUnwritten, Holds, LeavesSaved, kept_of, Spares, puts}
-use Rattle.migrator.proofs.Names.{Touches, SparesPuts}
+use Rattle.migrator.proofs.Names.{ℕ, Option, Some, None, List, refl, sym, ap, subst, arith, Image, Disk, IsTorn, AreKeepable, Entry, Extent, CheckpointHeader}
+use Rattle.migrator.proofs.Names.{entry_at, half_sector, count_of, Plan, IsInside, half_extent, shape_of, found_slot, own_slot, spelt_same, Place, Whole}
+use Rattle.migrator.proofs.Names.{place_at, slot_of, entries_of, AreComplete, Keeps, Unwritten, mended, IfUnwritten, Put, slot_bytes, puts_in, Books}
+use Rattle.migrator.proofs.Names.{frozen_generation, working_generation, generation_after, FrozenPuts, Stored, stored_in, frozen_of, next_saved, next_header}
+use Rattle.migrator.proofs.Names.{saved_state, IsKept, IsRunning, LeavesState, MayHaveUnwritten, Holds, LeavesSaved, kept_of, Spares, puts, Touches, SparesPuts}
+use Rattle.std.proofs.Common.{◌≡◌, ◌+◌, ◌*◌, ◌%◌, ◌<◌, ◌∙◌}
 use Rattle.migrator.proofs.Committing.{frozen_fits}
 use Rattle.migrator.proofs.GoingOn.{GoesOnSeen, goes_spared}
 use Rattle.migrator.proofs.Kept.{puts_same, are_put_same, puts_stay, are_put_on, stored_same, home_stays}

@@ -1,11 +1,12 @@
 -- The slots of a checkpoint get the frames of whole clusters.
-use Rattle.migrator.proofs.Names.{◌≡◌, ◌⊎◌, ℕ, ◌+◌, ◌-◌, ◌*◌, ◌<◌, ◌≤◌, Option, Some, None, Result, Ok, Err, List, [], length, refl, sym, ap, subst, ◌∙◌, inl}
-use Rattle.migrator.proofs.Names.{inr, arith, cases_eq, cases_lt, OnOk, OnErr, Image, Disk, Elsewhere, IsTorn, image_of, sectors_of, elsewhere_on, OnlyNow}
-use Rattle.migrator.proofs.Names.{started, Entry, Extent, Shape, Packed, IsDirectory, entry_at, home_place, place_length, shape_of, bytes_at, sectors_from}
-use Rattle.migrator.proofs.Names.{shaped_at, slot_in, slot_sector, half_sector, shape_bytes, Plan, IsPlan, IsApart, IsInside, half_extent, apart_inside}
-use Rattle.migrator.proofs.Names.{whole_sectors, own_slot, IsObject, IsOwn, alone, ranked, begins, place_extent, slot_extent, frames_in_slots, halves_within}
-use Rattle.migrator.proofs.Names.{slots_apart, IsFilled, IsComplete, AreComplete, Keeps, KeepsOne, EndsInZeros, HasZerosAt, IsGathered, Unwritten, mended}
-use Rattle.migrator.proofs.Names.{IsUnwritten, IfUnwritten, slot_bytes, Touches}
+use Rattle.migrator.proofs.Names.{ℕ, Option, Some, None, Result, Ok, Err, List, [], length, refl, sym, ap, subst, inl, inr, arith, cases_eq, cases_lt, OnOk}
+use Rattle.migrator.proofs.Names.{OnErr, Image, Disk, Elsewhere, IsTorn, image_of, sectors_of, elsewhere_on, OnlyNow, started, Entry, Extent, Shape, Packed}
+use Rattle.migrator.proofs.Names.{IsDirectory, entry_at, home_place, place_length, shape_of, bytes_at, sectors_from, shaped_at, slot_in, slot_sector}
+use Rattle.migrator.proofs.Names.{half_sector, shape_bytes, Plan, IsPlan, IsApart, IsInside, half_extent, apart_inside, whole_sectors, own_slot, IsObject}
+use Rattle.migrator.proofs.Names.{IsOwn, alone, ranked, begins, place_extent, slot_extent, frames_in_slots, halves_within, slots_apart, IsFilled, IsComplete}
+use Rattle.migrator.proofs.Names.{AreComplete, Keeps, KeepsOne, EndsInZeros, HasZerosAt, IsGathered, Unwritten, mended, IsUnwritten, IfUnwritten, slot_bytes}
+use Rattle.migrator.proofs.Names.{Touches}
+use Rattle.std.proofs.Common.{◌≡◌, ◌⊎◌, ◌+◌, ◌-◌, ◌*◌, ◌<◌, ◌≤◌, ◌∙◌}
 use Rattle.migrator.proofs.Mended.{mended_here, mended_elsewhere, elsewhere_within, touches_within, touches_on}
 use Rattle.migrator.proofs.PlacesApart.{home_apart}
 use Rattle.migrator.proofs.FrameSlots.{found_first}

@@ -1,9 +1,10 @@
 -- Frames that are spelt are read, and never refused.
-use Rattle.migrator.proofs.Names.{◌≡◌, ℕ, ◌<◌, Option, Some, None, Result, Ok, Err, List, refl, sym, ap, subst, ◌∙◌, arith, option_map, IfOk, frame_at}
-use Rattle.migrator.proofs.Names.{count_of, Plan, Place, Whole, place_at, slot_of, Put, put_or, put_of, ArePut, Frame, Geometry, Image, Disk, Failed, Agrees}
-use Rattle.migrator.proofs.Names.{Counts, agrees_is, leaves_weaker, IsFrameOf, Encodes, one_frame, ReadsOnly, CountsFailed, IsRefused, ReadFault, Holds, Books}
-use Rattle.migrator.proofs.Names.{DurableState, frozen_generation, working_generation, below_at, frozen_put, frozen_of, newest, IsRunning, stored_in}
-use Rattle.migrator.proofs.Names.{saved_state, LeavesState, IsKept, ReadsStore, Unwritten}
+use Rattle.migrator.proofs.Names.{ℕ, Option, Some, None, Result, Ok, Err, List, refl, sym, ap, subst, arith, option_map, IfOk, frame_at, count_of, Plan, Place}
+use Rattle.migrator.proofs.Names.{Whole, place_at, slot_of, Put, put_or, put_of, ArePut, Frame, Geometry, Image, Disk, Failed, Agrees, Counts, agrees_is}
+use Rattle.migrator.proofs.Names.{leaves_weaker, IsFrameOf, Encodes, one_frame, ReadsOnly, CountsFailed, IsRefused, ReadFault, Holds, Books, DurableState}
+use Rattle.migrator.proofs.Names.{frozen_generation, working_generation, below_at, frozen_put, frozen_of, newest, IsRunning, stored_in, saved_state}
+use Rattle.migrator.proofs.Names.{LeavesState, IsKept, ReadsStore, Unwritten}
+use Rattle.std.proofs.Common.{◌≡◌, ◌<◌, ◌∙◌}
 use Rattle.migrator.proofs.Putting.{put_is}
 use Rattle.frame_io.specs.declared.fault.ReadFault.TheVariants as fault
 use Rattle.migrator.proofs.GoingOn.{GoesOnSeen, goes_seen, holds}

@@ -1,11 +1,12 @@
 -- All that is saved is home, and a header says so.
-use Rattle.migrator.proofs.Names.{◌≡◌, ℕ, ◌+◌, ◌-◌, ◌*◌, ◌%◌, ◌<◌, ◌≤◌, Bool, false, cond, Option, Some, None, List, [], refl, sym, ap, subst, ◌∙◌, inr, arith}
-use Rattle.migrator.proofs.Names.{◌==◌, ne_eqb, Frame, Disk, Extent, CheckpointHeader, IsDirectory, IsHeader, frame_in, frame_slot_in, half_sector, count_of}
-use Rattle.migrator.proofs.Names.{AreSpelt, frames_read, Plan, IsApart, IsInside, half_extent, half_within, within_inside, read_same, spelt_same}
-use Rattle.migrator.proofs.Names.{frame_slot_entry, home_extent, directory_extent, Nowhere, place_at, Books, IsDurable, IsSoundOn, seen_by, stored_on}
-use Rattle.migrator.proofs.Names.{frozen_generation, working_generation, generation_after, Stored, saved_state, stored_in, IsRunning, IsKept, LeavesState}
-use Rattle.migrator.proofs.Names.{all_moved, home_header, MayAdopt, MaySave, SparesKept, SparesPuts, adopted, SparesFrames, Spares, Unwritten, mended}
-use Rattle.migrator.proofs.Names.{on_snapshots}
+use Rattle.migrator.proofs.Names.{ℕ, Bool, false, cond, Option, Some, None, List, [], refl, sym, ap, subst, inr, arith, ne_eqb, Frame, Disk, Extent}
+use Rattle.migrator.proofs.Names.{CheckpointHeader, IsDirectory, IsHeader, frame_in, frame_slot_in, half_sector, count_of, AreSpelt, frames_read, Plan, IsApart}
+use Rattle.migrator.proofs.Names.{IsInside, half_extent, half_within, within_inside, read_same, spelt_same, frame_slot_entry, home_extent, directory_extent}
+use Rattle.migrator.proofs.Names.{Nowhere, place_at, Books, IsDurable, IsSoundOn, seen_by, stored_on, frozen_generation, working_generation, generation_after}
+use Rattle.migrator.proofs.Names.{Stored, saved_state, stored_in, IsRunning, IsKept, LeavesState, all_moved, home_header, MayAdopt, MaySave, SparesKept}
+use Rattle.migrator.proofs.Names.{SparesPuts, adopted, SparesFrames, Spares, Unwritten, mended, on_snapshots}
+use Rattle.std.proofs.Common.{◌≡◌, ◌+◌, ◌-◌, ◌*◌, ◌%◌, ◌<◌, ◌≤◌, ◌∙◌}
+use Rattle.std.specs.Prelude.{◌==◌}
 use Rattle.migrator.proofs.PlacesApart.{at_home, frame_apart, home_apart}
 use Rattle.migrator.proofs.FrameSlots.{frame_slot_fits}
 use Rattle.migrator.proofs.Putting.{none_spares, half_spares, homes_spare, other_parity}

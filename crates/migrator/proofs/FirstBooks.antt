@@ -1,8 +1,9 @@
 -- A device that was read whole holds a store.
-use Rattle.migrator.proofs.Names.{◌≡◌, ℕ, ◌+◌, ◌-◌, None, List, length, take, refl, sym, ap, subst, ◌∙◌, arith, replicate, length-replicate, Image, Disk, Only}
-use Rattle.migrator.proofs.Names.{agrees_is, Entry, CheckpointHeader, HasPlan, Encodes, count_of, frames_read, state_in, Plan, denotes, length_read, Place}
-use Rattle.migrator.proofs.Names.{Nowhere, Whole, place_at, taken_count, has_slot, IsTable, Absent, ArePut, Holds, Books, IsDurable, stored_in, saved_state}
-use Rattle.migrator.proofs.Names.{IsKept, IsSoundOn, IsRead, OpensDurable, OnlyReads}
+use Rattle.migrator.proofs.Names.{ℕ, None, List, length, take, refl, sym, ap, subst, arith, replicate, length-replicate, Image, Disk, Only, agrees_is, Entry}
+use Rattle.migrator.proofs.Names.{CheckpointHeader, HasPlan, Encodes, count_of, frames_read, state_in, Plan, denotes, length_read, Place, Nowhere, Whole}
+use Rattle.migrator.proofs.Names.{place_at, taken_count, has_slot, IsTable, Absent, ArePut, Holds, Books, IsDurable, stored_in, saved_state, IsKept, IsSoundOn}
+use Rattle.migrator.proofs.Names.{IsRead, OpensDurable, OnlyReads}
+use Rattle.std.proofs.Common.{◌≡◌, ◌+◌, ◌-◌, ◌∙◌}
 use Rattle.migrator.proofs.Tables.{blank_at, blank_table, tally-blank}
 use Rattle.migrator.proofs.Freezing.{puts_blank}
 use Rattle.migrator.proofs.GoingOn.{holds}

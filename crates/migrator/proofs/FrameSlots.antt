@@ -1,9 +1,11 @@
 -- Which slot has the frame of an object, or of another in its cluster.
-use Rattle.migrator.proofs.Names.{◌≡◌, ℕ, zero, suc, ◌-◌, ◌<◌, ◌≤◌, Bool, true, false, not, nat_eq, Option, Some, None, List, [], ◌∷◌, length, refl, sym, ap}
-use Rattle.migrator.proofs.Names.{subst, ◌∙◌, inl, inr, arith, if◌then◌else◌, cases_eq, cases_lt, eq-eqb, Entry, Packed, Page, IsDirectory, AreRising, entry_at}
-use Rattle.migrator.proofs.Names.{home_place, range_with, rank_in, shape_of, slot_in, slot_beside, frame_slot_in, count_of, node_shape, Plan, IsPlan}
-use Rattle.migrator.proofs.Names.{found_slot, own_slot, rising_to, IsOwn, alone, lt_false, beside_behind, beside_here, beside_frame_slot, own_frame_slot}
-use Rattle.migrator.proofs.Names.{same_some, frame_slot_entry, begins, home_between, IsFirst}
+use Rattle.migrator.proofs.Names.{ℕ, zero, suc, Bool, true, false, not, nat_eq, Option, Some, None, List, [], length, refl, sym, ap, subst, inl, inr, arith}
+use Rattle.migrator.proofs.Names.{cases_eq, cases_lt, eq-eqb, Entry, Packed, Page, IsDirectory, AreRising, entry_at, home_place, range_with, rank_in, shape_of}
+use Rattle.migrator.proofs.Names.{slot_in, slot_beside, frame_slot_in, count_of, node_shape, Plan, IsPlan, found_slot, own_slot, rising_to, IsOwn, alone}
+use Rattle.migrator.proofs.Names.{lt_false, beside_behind, beside_here, beside_frame_slot, own_frame_slot, same_some, frame_slot_entry, begins, home_between}
+use Rattle.migrator.proofs.Names.{IsFirst}
+use Rattle.std.proofs.Common.{◌≡◌, ◌-◌, ◌<◌, ◌≤◌, ◌∷◌, ◌∙◌}
+use Rattle.std.specs.Prelude.{if◌then◌else◌}
 
 -- ---- the first entry whose home is that of an object
 

@@ -1,8 +1,9 @@
 -- What was put is frozen.
-use Rattle.migrator.proofs.Names.{◌≡◌, ℕ, ◌+◌, ◌<◌, ◌≤◌, Some, None, List, length, sym, ap, subst, ◌∙◌, arith, map, replicate, range_with_len, same_lists}
-use Rattle.migrator.proofs.Names.{length-replicate, get_or-replicate, length-map-range_with_len, get_or-map-range_with_len, Image, count_of, Plan, Place}
-use Rattle.migrator.proofs.Names.{Nowhere, Whole, place_at, Put, Absent, held_slot, sum_of, put_of, puts_in, ArePut, Books, frozen_generation}
-use Rattle.migrator.proofs.Names.{working_generation, generation_after, Stored, stored_in, IsRunning, IsKept, freezing_puts}
+use Rattle.migrator.proofs.Names.{ℕ, Some, None, List, length, sym, ap, subst, arith, map, replicate, range_with_len, same_lists, length-replicate}
+use Rattle.migrator.proofs.Names.{get_or-replicate, length-map-range_with_len, get_or-map-range_with_len, Image, count_of, Plan, Place, Nowhere, Whole}
+use Rattle.migrator.proofs.Names.{place_at, Put, Absent, held_slot, sum_of, put_of, puts_in, ArePut, Books, frozen_generation, working_generation}
+use Rattle.migrator.proofs.Names.{generation_after, Stored, stored_in, IsRunning, IsKept, freezing_puts}
+use Rattle.std.proofs.Common.{◌≡◌, ◌+◌, ◌<◌, ◌≤◌, ◌∙◌}
 use Rattle.migrator.proofs.Putting.{held_taken}
 
 pub length_puts : (image : Image) (p : Plan) (generation : ℕ) (ps : List Place) → length (puts_in image p generation ps) ≡ count_of p

@@ -1,9 +1,10 @@
 -- A frozen frame is put into its slot.
-use Rattle.migrator.proofs.Names.{◌≡◌, ℕ, ◌+◌, ◌%◌, ◌<◌, ◌≤◌, Option, Some, None, Result, Ok, Err, List, length, set, refl, sym, ap, subst, ◌∙◌, arith}
-use Rattle.migrator.proofs.Names.{option_map, OnOk, OnErr, Frame, IsKeepable, Image, Disk, Failed, IsFrameOf, frame_bytes, half_sector, slot_sector, count_of}
-use Rattle.migrator.proofs.Names.{IsInside, half_extent, bytes_spelt, place_length, WritesAt, place_extent, Place, Torn, Whole, taken_count, slot_for, Put}
-use Rattle.migrator.proofs.Names.{Broken, Kept, slot_bytes, slot_frame, puts_in, ArePut, most, Books, frozen_generation, working_generation, generation_after}
-use Rattle.migrator.proofs.Names.{FrozenPuts, Stored, stored_in, frozen_of, with_put, IsRunning, IsKept, with_frozen, Spares, SparesKept}
+use Rattle.migrator.proofs.Names.{ℕ, Option, Some, None, Result, Ok, Err, List, length, set, refl, sym, ap, subst, arith, option_map, OnOk, OnErr, Frame}
+use Rattle.migrator.proofs.Names.{IsKeepable, Image, Disk, Failed, IsFrameOf, frame_bytes, half_sector, slot_sector, count_of, IsInside, half_extent}
+use Rattle.migrator.proofs.Names.{bytes_spelt, place_length, WritesAt, place_extent, Place, Torn, Whole, taken_count, slot_for, Put, Broken, Kept, slot_bytes}
+use Rattle.migrator.proofs.Names.{slot_frame, puts_in, ArePut, most, Books, frozen_generation, working_generation, generation_after, FrozenPuts, Stored}
+use Rattle.migrator.proofs.Names.{stored_in, frozen_of, with_put, IsRunning, IsKept, with_frozen, Spares, SparesKept}
+use Rattle.std.proofs.Common.{◌≡◌, ◌+◌, ◌%◌, ◌<◌, ◌≤◌, ◌∙◌}
 use Rattle.migrator.proofs.Kept.{stored_stays, kept_on}
 use Rattle.migrator.proofs.PlacesApart.{place_inside, spares_other}
 use Rattle.migrator.proofs.GoingOn.{GoesOnSeen, goes_spared}

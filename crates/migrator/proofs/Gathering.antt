@@ -1,9 +1,11 @@
 -- The saved frames of a cluster's nodes are put together.
-use Rattle.migrator.proofs.Names.{◌≡◌, ℕ, ◌+◌, ◌-◌, ◌*◌, ◌<◌, ◌≤◌, Option, Some, Result, Ok, Err, List, ◌++◌, length, take, drop, sym, ap, subst, ◌∙◌, inl, inr}
-use Rattle.migrator.proofs.Names.{arith, ◌↔◌, OnOk, IsErr, cases_lt, drop_at, Image, Disk, Counts, Entry, Shape, Packed, zeros, home_place, place_length}
-use Rattle.migrator.proofs.Names.{shape_of, frame_in, frame_sector, frame_slot_in, sector_or, sectors_from, shaped_at, slot_in, slot_sector, bytes_at}
-use Rattle.migrator.proofs.Names.{shape_bytes, shape_length, Plan, IsPlan, length-zeros, ReadsOnly, WritesAt, IsObject, EndsInZeros, HaveHome, HoldsHome, IsOwn}
-use Rattle.migrator.proofs.Names.{alone, ranked, HasZerosAt, IsGathered, IsCopied, Touches}
+use Rattle.migrator.proofs.Names.{ℕ, Option, Some, Result, Ok, Err, List, length, take, drop, sym, ap, subst, inl, inr, arith, OnOk, IsErr, cases_lt, drop_at}
+use Rattle.migrator.proofs.Names.{Image, Disk, Counts, Entry, Shape, Packed, zeros, home_place, place_length, shape_of, frame_in, frame_sector, frame_slot_in}
+use Rattle.migrator.proofs.Names.{sector_or, sectors_from, shaped_at, slot_in, slot_sector, bytes_at, shape_bytes, shape_length, Plan, IsPlan, length-zeros}
+use Rattle.migrator.proofs.Names.{ReadsOnly, WritesAt, IsObject, EndsInZeros, HaveHome, HoldsHome, IsOwn, alone, ranked, HasZerosAt, IsGathered, IsCopied}
+use Rattle.migrator.proofs.Names.{Touches}
+use Rattle.std.proofs.Common.{◌≡◌, ◌+◌, ◌-◌, ◌*◌, ◌<◌, ◌≤◌, ◌++◌, ◌∙◌}
+use Rattle.std.specs.Prelude.{◌↔◌}
 use Rattle.std.proofs.lemmas.List.{length-append}
 use Rattle.migrator.proofs.Spared.{reads_then}
 use Rattle.migrator.proofs.PlacesApart.{in_slot}

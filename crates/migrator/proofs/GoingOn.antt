@@ -1,6 +1,7 @@
 -- A write apart from what is saved goes on from it.
-use Rattle.migrator.proofs.Names.{◌≡◌, ◌∙◌, ℕ, refl, subst, Image, Disk, leaves_weaker, Extent, Encodes, SavedState, Books, saved_state, seen_by, LeavesState}
-use Rattle.migrator.proofs.Names.{GoesOnDisk, kept_of, Holds, LeavesSaved, Spares, Touches}
+use Rattle.migrator.proofs.Names.{ℕ, refl, subst, Image, Disk, leaves_weaker, Extent, Encodes, SavedState, Books, saved_state, seen_by, LeavesState, GoesOnDisk}
+use Rattle.migrator.proofs.Names.{kept_of, Holds, LeavesSaved, Spares, Touches}
+use Rattle.std.proofs.Common.{◌≡◌, ◌∙◌}
 use Rattle.migrator.proofs.Mended.{mended_disk, leaves_raw}
 use Rattle.migrator.proofs.Spared.{sound_spared, moments_spared}
 

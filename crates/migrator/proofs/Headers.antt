@@ -1,7 +1,8 @@
 -- The headers of frames.
-use Rattle.migrator.proofs.Names.{◌≡◌, ℕ, Bool, true, false, List, refl, sym, ap, ◌∙◌, nat_lt, if◌then◌else◌, ObjectHeader, Geometry, Image, Shape, Node}
-use Rattle.migrator.proofs.Names.{Packed, Page, frame_length, frame_from, header_from, sectors_from, shaped_at, header_is, IsHeaderAt, lt_true, lt_false}
-use Rattle.migrator.proofs.Names.{IsHeaderOf}
+use Rattle.migrator.proofs.Names.{ℕ, Bool, true, false, List, refl, sym, ap, nat_lt, ObjectHeader, Geometry, Image, Shape, Node, Packed, Page, frame_length}
+use Rattle.migrator.proofs.Names.{frame_from, header_from, sectors_from, shaped_at, header_is, IsHeaderAt, lt_true, lt_false, IsHeaderOf}
+use Rattle.std.proofs.Common.{◌≡◌, ◌∙◌}
+use Rattle.std.specs.Prelude.{if◌then◌else◌}
 
 length_by : (g : Geometry) (n : ℕ) (test : Bool) → nat_lt n g.nodes ≡ test → frame_length g n ≡ (if test then 2 else 9)
 length_by g n test is = ap (λ (t : Bool). if t then 2 else 9) is

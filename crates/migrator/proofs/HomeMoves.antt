@@ -1,6 +1,7 @@
 -- A saved frame goes home, by a device and the books over it.
-use Rattle.migrator.proofs.Names.{◌≡◌, ℕ, ◌+◌, ◌-◌, ◌<◌, Option, None, refl, sym, ap, subst, arith, Disk, entry_at, home_place, place_length, Books, IsDurable}
-use Rattle.migrator.proofs.Names.{MovedBy, seen_by, IsCopied, IsFirst, Unwritten, mended, Touches}
+use Rattle.migrator.proofs.Names.{ℕ, Option, None, refl, sym, ap, subst, arith, Disk, entry_at, home_place, place_length, Books, IsDurable, MovedBy, seen_by}
+use Rattle.migrator.proofs.Names.{IsCopied, IsFirst, Unwritten, mended, Touches}
+use Rattle.std.proofs.Common.{◌≡◌, ◌+◌, ◌-◌, ◌<◌}
 use Rattle.migrator.proofs.Buffered.{none_idle, without}
 use Rattle.migrator.proofs.GoingOn.{goes_seen}
 use Rattle.migrator.proofs.Mended.{mended_disk, touches_mended}

@@ -1,17 +1,18 @@
 -- One object is saved anew: its frame lies in the half of the log that the saved generation used, and it is the one entry of the generation after the next.
-use Rattle.migrator.proofs.Names.{◌≡◌, ◌⊎◌, ℕ, zero, suc, ◌+◌, ◌*◌, ◌%◌, ◌^◌, ◌<◌, ◌≤◌, Bool, Option, Some, None, List, [], ◌∷◌, length, get_or, set, refl, sym}
-use Rattle.migrator.proofs.Names.{ap, subst, ◌∙◌, inl, inr, arith, ◌==◌, if◌then◌else◌, option_map, cases_lt, cases_eq, le-ltb, get_or_past, get_or_default}
-use Rattle.migrator.proofs.Names.{Cap, Frame, ObjectHeader, Geometry, Content, frame_at, blank_frame, IsKeepable, AreKeptWords, role_of, IsOfKind, Image, Disk}
-use Rattle.migrator.proofs.Names.{LeavesOnly, leaves_weaker, leaves_on, Entry, Extent, Half, First, Second, IsDirectory, IsEntry, entry_at, IsFrameOf}
-use Rattle.migrator.proofs.Names.{page_frame_bytes, node_frame_bytes, frame_from, half_of, IsHeader, frame_in, frame_slot_in, slot_sector, half_sector}
-use Rattle.migrator.proofs.Names.{sectors_from, shaped_at, bytes_at, count_of, frame_read, frames_read, IsSpelt, AreSpelt, Plan, IsPlan, IsInside, half_extent}
-use Rattle.migrator.proofs.Names.{half_start, slot_here, slot_behind, length_read, read_at, spelt_same, spelt_at, bytes_spelt, Shape, home_place, shape_of}
-use Rattle.migrator.proofs.Names.{IsShapeFor, page_bytes, WritesAt, slot_extent, directory_extent, slots_inside, Place, Nowhere, Torn, Whole, place_at, Put}
-use Rattle.migrator.proofs.Names.{Kept, slot_bytes, put_of, puts_in, ArePut, most, SavedFrames, Holds, LeavesSaved, LeavesEither, replaced_saved, with_words}
-use Rattle.migrator.proofs.Names.{journaled_saved, Books, IsDurable, IsSoundOn, frozen_generation, working_generation, generation_after, FrozenPuts, Stored}
-use Rattle.migrator.proofs.Names.{journaled, replaced, saved_state, frozen_of, stored_in, stored_on, IsRunning, IsKept, LeavesState, replaced_header}
-use Rattle.migrator.proofs.Names.{on_snapshots, first_bytes, first_frame, beside_frame_slot, alone, IsHeaderOf, MayAdopt, MaySave, SparesKept, adopted}
-use Rattle.migrator.proofs.Names.{SparesFrames, maps_same, Unwritten, mended}
+use Rattle.migrator.proofs.Names.{ℕ, zero, suc, Bool, Option, Some, None, List, [], length, get_or, set, refl, sym, ap, subst, inl, inr, arith, option_map}
+use Rattle.migrator.proofs.Names.{cases_lt, cases_eq, le-ltb, get_or_past, get_or_default, Cap, Frame, ObjectHeader, Geometry, Content, frame_at, blank_frame}
+use Rattle.migrator.proofs.Names.{IsKeepable, AreKeptWords, role_of, IsOfKind, Image, Disk, LeavesOnly, leaves_weaker, leaves_on, Entry, Extent, Half, First}
+use Rattle.migrator.proofs.Names.{Second, IsDirectory, IsEntry, entry_at, IsFrameOf, page_frame_bytes, node_frame_bytes, frame_from, half_of, IsHeader}
+use Rattle.migrator.proofs.Names.{frame_in, frame_slot_in, slot_sector, half_sector, sectors_from, shaped_at, bytes_at, count_of, frame_read, frames_read}
+use Rattle.migrator.proofs.Names.{IsSpelt, AreSpelt, Plan, IsPlan, IsInside, half_extent, half_start, slot_here, slot_behind, length_read, read_at, spelt_same}
+use Rattle.migrator.proofs.Names.{spelt_at, bytes_spelt, Shape, home_place, shape_of, IsShapeFor, page_bytes, WritesAt, slot_extent, directory_extent}
+use Rattle.migrator.proofs.Names.{slots_inside, Place, Nowhere, Torn, Whole, place_at, Put, Kept, slot_bytes, put_of, puts_in, ArePut, most, SavedFrames, Holds}
+use Rattle.migrator.proofs.Names.{LeavesSaved, LeavesEither, replaced_saved, with_words, journaled_saved, Books, IsDurable, IsSoundOn, frozen_generation}
+use Rattle.migrator.proofs.Names.{working_generation, generation_after, FrozenPuts, Stored, journaled, replaced, saved_state, frozen_of, stored_in, stored_on}
+use Rattle.migrator.proofs.Names.{IsRunning, IsKept, LeavesState, replaced_header, on_snapshots, first_bytes, first_frame, beside_frame_slot, alone, IsHeaderOf}
+use Rattle.migrator.proofs.Names.{MayAdopt, MaySave, SparesKept, adopted, SparesFrames, maps_same, Unwritten, mended}
+use Rattle.std.proofs.Common.{◌≡◌, ◌⊎◌, ◌+◌, ◌*◌, ◌%◌, ◌^◌, ◌<◌, ◌≤◌, ◌∷◌, ◌∙◌}
+use Rattle.std.specs.Prelude.{◌==◌, if◌then◌else◌}
 use Rattle.model.specs.declared.object.Content.TheVariants as content
 use Rattle.model.specs.declared.object.Role.TheVariants as role
 use Rattle.migrator.proofs.Spared.{touches}

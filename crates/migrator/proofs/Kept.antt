@@ -1,11 +1,11 @@
 -- What is kept of a store is kept through a write apart from it.
-use Rattle.migrator.proofs.Names.{◌≡◌, ℕ, ◌-◌, ◌<◌, Option, Some, None, List, length, get_or, set, refl, sym, ap, subst, ◌∙◌, inl, inr, arith, map, option_map}
-use Rattle.migrator.proofs.Names.{range_with_len, cases_eq, same_lists, length-set, get_or-set_same, get_or-set_other, length-map-range_with_len}
-use Rattle.migrator.proofs.Names.{get_or-map-range_with_len, Image, Elsewhere, Extent, entry_at, IsFrameOf, frame_from, SavedState, slot_sector, count_of, Plan}
-use Rattle.migrator.proofs.Names.{IsPlan, IsApart, spelt_same, home_place, place_length, home_extent, one_length, Place, Nowhere, Torn, Whole, place_at, Put}
-use Rattle.migrator.proofs.Names.{Kept, slot_bytes, put_of, puts_in, ArePut, maps_same, most, SavedFrames, kept_of, Books, frozen_generation}
-use Rattle.migrator.proofs.Names.{working_generation, FrozenPuts, Stored, saved_state, frozen_of, stored_in, IsHome, IsKept, SparesFrames, SparesKept}
-use Rattle.migrator.proofs.Names.{SparesPuts}
+use Rattle.migrator.proofs.Names.{ℕ, Option, Some, None, List, length, get_or, set, refl, sym, ap, subst, inl, inr, arith, map, option_map, range_with_len}
+use Rattle.migrator.proofs.Names.{cases_eq, same_lists, length-set, get_or-set_same, get_or-set_other, length-map-range_with_len, get_or-map-range_with_len}
+use Rattle.migrator.proofs.Names.{Image, Elsewhere, Extent, entry_at, IsFrameOf, frame_from, SavedState, slot_sector, count_of, Plan, IsPlan, IsApart}
+use Rattle.migrator.proofs.Names.{spelt_same, home_place, place_length, home_extent, one_length, Place, Nowhere, Torn, Whole, place_at, Put, Kept, slot_bytes}
+use Rattle.migrator.proofs.Names.{put_of, puts_in, ArePut, maps_same, most, SavedFrames, kept_of, Books, frozen_generation, working_generation, FrozenPuts}
+use Rattle.migrator.proofs.Names.{Stored, saved_state, frozen_of, stored_in, IsHome, IsKept, SparesFrames, SparesKept, SparesPuts}
+use Rattle.std.proofs.Common.{◌≡◌, ◌-◌, ◌<◌, ◌∙◌}
 use Rattle.migrator.proofs.Spared.{frame_stays, state_stays, bytes_stay}
 
 -- ---- lists by number

@@ -1,9 +1,11 @@
 -- What a device gives, but for a slot that it failed to write.
-use Rattle.migrator.proofs.Names.{◌≡◌, ℕ, ◌+◌, ◌-◌, ◌<◌, ◌≤◌, Bool, true, false, Option, Some, None, List, sym, ap, subst, ◌∙◌, arith, nat_le, nat_lt, ◌&&◌}
-use Rattle.migrator.proofs.Names.{if◌then◌else◌, and_from, and_left, and_right, nat_tests, Image, Disk, Elsewhere, IsTorn, image_of, Elapses, LeavesOnly}
-use Rattle.migrator.proofs.Names.{agrees_is, elsewhere_on, leaves_weaker, leaves_on, Frame, Geometry, Entry, Shape, Packed, IsFrameOf, frame_from, shape_bytes}
-use Rattle.migrator.proofs.Names.{one_frame, most, Extent, place_length, bytes_at, frame_in, count_of, Plan, IsApart, IsInside, ReadsOnly, WritesAt, Unwritten}
-use Rattle.migrator.proofs.Names.{mended, unwritten_of, IsSpeltIn, SparesFrames, Touches}
+use Rattle.migrator.proofs.Names.{ℕ, Bool, true, false, Option, Some, None, List, sym, ap, subst, arith, nat_le, nat_lt, and_from, and_left, and_right}
+use Rattle.migrator.proofs.Names.{nat_tests, Image, Disk, Elsewhere, IsTorn, image_of, Elapses, LeavesOnly, agrees_is, elsewhere_on, leaves_weaker, leaves_on}
+use Rattle.migrator.proofs.Names.{Frame, Geometry, Entry, Shape, Packed, IsFrameOf, frame_from, shape_bytes, one_frame, most, Extent, place_length, bytes_at}
+use Rattle.migrator.proofs.Names.{frame_in, count_of, Plan, IsApart, IsInside, ReadsOnly, WritesAt, Unwritten, mended, unwritten_of, IsSpeltIn, SparesFrames}
+use Rattle.migrator.proofs.Names.{Touches}
+use Rattle.std.proofs.Common.{◌≡◌, ◌+◌, ◌-◌, ◌<◌, ◌≤◌, ◌∙◌}
+use Rattle.std.specs.Prelude.{◌&&◌, if◌then◌else◌}
 use Rattle.migrator.proofs.Spared.{bytes_stay, frame_stays}
 
 -- ---- its sectors and the others

@@ -1,7 +1,9 @@
 -- Saved frames go home one after the other.
-use Rattle.migrator.proofs.Names.{◌≡◌, ◌⊎◌, ℕ, ◌+◌, ◌-◌, ◌<◌, ◌≤◌, Bool, true, false, refl, sym, ap, subst, ◌∙◌, inl, ⊎_elim, arith, ◌==◌, if◌then◌else◌}
-use Rattle.migrator.proofs.Names.{eq-eqb, ne_eqb, Image, Disk, LeavesOnly, leaves_weaker, leaves_on, SavedFrames, home_saved, Holds, LeavesEither, Books}
-use Rattle.migrator.proofs.Names.{all_moved, moved_saved, moved, IsSoundOn, Stored, stored_on, MovedBy, IsLesser, on_snapshots, snapshots_in}
+use Rattle.migrator.proofs.Names.{ℕ, Bool, true, false, refl, sym, ap, subst, inl, ⊎_elim, arith, eq-eqb, ne_eqb, Image, Disk, LeavesOnly, leaves_weaker}
+use Rattle.migrator.proofs.Names.{leaves_on, SavedFrames, home_saved, Holds, LeavesEither, Books, all_moved, moved_saved, moved, IsSoundOn, Stored, stored_on}
+use Rattle.migrator.proofs.Names.{MovedBy, IsLesser, on_snapshots, snapshots_in}
+use Rattle.std.proofs.Common.{◌≡◌, ◌⊎◌, ◌+◌, ◌-◌, ◌<◌, ◌≤◌, ◌∙◌}
+use Rattle.std.specs.Prelude.{◌==◌, if◌then◌else◌}
 use Rattle.migrator.proofs.Moving.{moved_books, goes_trans, goes_none}
 
 module _ (disk : Disk) (b : Books) (only_now : (c : Image) → disk.left_since disk.moment c → disk.may_leave c) where

@@ -1,9 +1,10 @@
 -- A saved frame goes home.
-use Rattle.migrator.proofs.Names.{◌≡◌, ℕ, ◌+◌, ◌-◌, ◌<◌, ◌≤◌, Option, Some, None, List, length, refl, sym, ap, subst, ◌∙◌, inl, inr, arith, cases_lt, Image}
-use Rattle.migrator.proofs.Names.{Disk, LeavesOnly, leaves_on, started, entry_at, slot_in, count_of, Plan, IsPlan, apart_turned, own_slot, home_place}
-use Rattle.migrator.proofs.Names.{place_length, places_apart, home_extent, place_extent, Place, Nowhere, place_at, slot_of, IsTable, taken_count, IsCopied}
-use Rattle.migrator.proofs.Names.{IsFirst, SavedFrames, Holds, Books, frozen_generation, working_generation, seen_by, Stored, GoesOnDisk, saved_state}
-use Rattle.migrator.proofs.Names.{stored_in, IsHome, IsRunning, IsKept, Spares, Touches, SparesPuts, SparesKept}
+use Rattle.migrator.proofs.Names.{ℕ, Option, Some, None, List, length, refl, sym, ap, subst, inl, inr, arith, cases_lt, Image, Disk, LeavesOnly, leaves_on}
+use Rattle.migrator.proofs.Names.{started, entry_at, slot_in, count_of, Plan, IsPlan, apart_turned, own_slot, home_place, place_length, places_apart}
+use Rattle.migrator.proofs.Names.{home_extent, place_extent, Place, Nowhere, place_at, slot_of, IsTable, taken_count, IsCopied, IsFirst, SavedFrames, Holds}
+use Rattle.migrator.proofs.Names.{Books, frozen_generation, working_generation, seen_by, Stored, GoesOnDisk, saved_state, stored_in, IsHome, IsRunning, IsKept}
+use Rattle.migrator.proofs.Names.{Spares, Touches, SparesPuts, SparesKept}
+use Rattle.std.proofs.Common.{◌≡◌, ◌+◌, ◌-◌, ◌<◌, ◌≤◌, ◌∙◌}
 use Rattle.migrator.proofs.Spared.{frame_stays}
 use Rattle.migrator.proofs.Kept.{stored_stays, kept_on}
 use Rattle.migrator.proofs.GoingOn.{GoesOnSeen, holds, goes_spared}

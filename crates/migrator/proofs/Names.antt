@@ -75,8 +75,7 @@ pub use Rattle.model.specs.declared.geometry.Geometry.{Geometry}
 pub use Rattle.model.specs.declared.object.Content.{Content}
 pub use Rattle.number_set.specs.Marks.{HasNoneMarked, IsNextMarked, is_marked}
 pub use Rattle.std.proofs.Common.{Bool, Err, List, None, Ok, Option, Result, Some, [], ap, append-nil, arith, cond, drop, false, get_or, inl, inr, length}
-pub use Rattle.std.proofs.Common.{length-append, nat_eq, nat_le, nat_lt, not, refl, rules, set, subst, suc, sym, take, true, zero, ℕ, ⊎_elim, ◌%◌, ◌*◌, ◌++◌}
-pub use Rattle.std.proofs.Common.{◌+◌, ◌-◌, ◌<◌, ◌^◌, ◌∙◌, ◌∷◌, ◌≡◌, ◌≤◌, ◌⊎◌}
+pub use Rattle.std.proofs.Common.{length-append, nat_eq, nat_le, nat_lt, not, refl, rules, set, subst, suc, sym, take, true, zero, ℕ, ⊎_elim}
 pub use Rattle.std.proofs.Math.ListN.{get_or-map}
 pub use Rattle.std.proofs.lemmas.Bool.{and_from, and_left, and_right, cases_eq, cases_lt, eq-eqb, le-ltb, ne_eqb}
 pub use Rattle.std.proofs.lemmas.Bool.Decides.{nat_tests}
@@ -87,7 +86,7 @@ pub use Rattle.std.proofs.lemmas.List.FromFn.{get_or-map-range_with_len, length-
 pub use Rattle.std.proofs.lemmas.Option.{same_Some}
 pub use Rattle.std.proofs.lemmas.Result.{err_from_is_err_and}
 pub use Rattle.std.specs.List.{range_with_len}
-pub use Rattle.std.specs.Prelude.{IfErr, IfOk, IsErr, OnErr, OnOk, if◌then◌else◌, map, option_map, replicate, slice_set, ◌&&◌, ◌==◌, ◌↔◌}
+pub use Rattle.std.specs.Prelude.{IfErr, IfOk, IsErr, OnErr, OnOk, map, option_map, replicate, slice_set}
 pub use Rattle.std.specs.Vec.{vec_capacity}
 pub use Rattle.migrator.specs.Completed.{AreComplete, IsComplete, IsFilled, Keeps, KeepsOne}
 pub use Rattle.migrator.specs.Durable.{DurableState, FrozenPuts, GoesOn, GoesOnDisk, HasUnwritten, IsDurable, IsHome, IsKept, IsLesser, IsRunning, IsSoundOn}

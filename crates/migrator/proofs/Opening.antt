@@ -1,8 +1,8 @@
 -- What opening reads of a device.
-use Rattle.migrator.proofs.Names.{◌≡◌, Result, Ok, Err, ℕ, ◌+◌, ◌<◌, ◌≤◌, Some, None, List, length, sym, ap, subst, ◌∙◌, append-nil, inl, inr, ⊎_elim, arith}
-use Rattle.migrator.proofs.Names.{IfErr, cases_lt, Image, Agrees, BadImage, Entry, entry_at, AreRising, HasPlan, IsBadBy, IsTooSmall, total_in, sectors_from}
-use Rattle.migrator.proofs.Names.{slot_in, Plan, IsPlan, superblock_bytes, own_slot, rising_to, no_slot, total_reported, OpenFault, IsBadFor, HasNoPlan}
-use Rattle.migrator.proofs.Names.{IsUnplanned}
+use Rattle.migrator.proofs.Names.{Result, Ok, Err, ℕ, Some, None, List, length, sym, ap, subst, append-nil, inl, inr, ⊎_elim, arith, IfErr, cases_lt, Image}
+use Rattle.migrator.proofs.Names.{Agrees, BadImage, Entry, entry_at, AreRising, HasPlan, IsBadBy, IsTooSmall, total_in, sectors_from, slot_in, Plan, IsPlan}
+use Rattle.migrator.proofs.Names.{superblock_bytes, own_slot, rising_to, no_slot, total_reported, OpenFault, IsBadFor, HasNoPlan, IsUnplanned}
+use Rattle.std.proofs.Common.{◌≡◌, ◌+◌, ◌<◌, ◌≤◌, ◌∙◌}
 use Rattle.layout.specs.Superblock.{IsRefused}
 use Rattle.layout.specs.declared.bad_image.BadImage.TheVariants as bad
 use Rattle.checkpoint.specs.declared.open_fault.OpenFault.TheVariants as refusal

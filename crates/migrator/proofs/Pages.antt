@@ -1,6 +1,7 @@
 -- A page is written into the first slot of the half that the saved generation used.
-use Rattle.migrator.proofs.Names.{◌≡◌, ℕ, ◌≤◌, None, List, sym, subst, frame_at, AreKeptWords, ObjectHeader, Disk, Image, IsFrameOf, page_frame_bytes}
-use Rattle.migrator.proofs.Names.{sectors_from, slot_sector, WritesAt, with_words, Books, GoesOnDisk, IsDurable, first_bytes, stored_on}
+use Rattle.migrator.proofs.Names.{ℕ, None, List, sym, subst, frame_at, AreKeptWords, ObjectHeader, Disk, Image, IsFrameOf, page_frame_bytes, sectors_from}
+use Rattle.migrator.proofs.Names.{slot_sector, WritesAt, with_words, Books, GoesOnDisk, IsDurable, first_bytes, stored_on}
+use Rattle.std.proofs.Common.{◌≡◌, ◌≤◌}
 use Rattle.model.specs.declared.object.Content.TheVariants as content
 use Rattle.model.specs.declared.object.Role.TheVariants as role
 use Rattle.migrator.proofs.Buffered.{none_idle}

@@ -1,9 +1,10 @@
 -- Places of frames that lie apart.
-use Rattle.migrator.proofs.Names.{◌≡◌, ℕ, ◌%◌, ◌<◌, ◌≤◌, Option, Some, None, List, length, refl, sym, ap, subst, ◌∙◌, inl, inr, arith, Image, Entry, Extent}
-use Rattle.migrator.proofs.Names.{CheckpointHeader, IsDirectory, home_place, place_length, bytes_at, frame_in, frame_slot_in, slot_in, slot_sector, half_sector}
-use Rattle.migrator.proofs.Names.{sector_or, count_of, Plan, IsPlan, IsApart, IsInside, half_extent, itself, apart_inside, apart_turned, within_inside}
-use Rattle.migrator.proofs.Names.{own_frame_slot, home_extent, places_within, places_apart, places_spare_log, place_extent, directory_extent, slots_inside}
-use Rattle.migrator.proofs.Names.{frames_in_slots, directories_inside, halves_within, halves_apart, HomesAreBehind, slot_bytes, frame_extent, Spares}
+use Rattle.migrator.proofs.Names.{ℕ, Option, Some, None, List, length, refl, sym, ap, subst, inl, inr, arith, Image, Entry, Extent, CheckpointHeader}
+use Rattle.migrator.proofs.Names.{IsDirectory, home_place, place_length, bytes_at, frame_in, frame_slot_in, slot_in, slot_sector, half_sector, sector_or}
+use Rattle.migrator.proofs.Names.{count_of, Plan, IsPlan, IsApart, IsInside, half_extent, itself, apart_inside, apart_turned, within_inside, own_frame_slot}
+use Rattle.migrator.proofs.Names.{home_extent, places_within, places_apart, places_spare_log, place_extent, directory_extent, slots_inside, frames_in_slots}
+use Rattle.migrator.proofs.Names.{directories_inside, halves_within, halves_apart, HomesAreBehind, slot_bytes, frame_extent, Spares}
+use Rattle.std.proofs.Common.{◌≡◌, ◌%◌, ◌<◌, ◌≤◌, ◌∙◌}
 use Rattle.migrator.proofs.FrameSlots.{no_entries, frame_slots_differ, frame_slot_fits}
 
 -- ---- where the frame of an object is read

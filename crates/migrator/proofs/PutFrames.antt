@@ -1,8 +1,9 @@
 -- A frame is put: what then holds of a device and its books.
-use Rattle.migrator.proofs.Names.{◌≡◌, ◌⊎◌, ◌∙◌, ℕ, ◌+◌, ◌<◌, ◌≤◌, Option, Some, None, Result, List, set, refl, ap, subst, arith, OnOk, OnErr, Frame}
-use Rattle.migrator.proofs.Names.{IsKeepable, Image, Disk, Failed, frame_bytes, place_length, slot_sector, count_of, WritesAt, most, Keeps, Books, Place, Torn}
-use Rattle.migrator.proofs.Names.{Whole, GoesOnDisk, IsDurable, IsRunning, frozen_generation, seen_by, stored_on, with_frozen, with_working, working_generation}
-use Rattle.migrator.proofs.Names.{Unwritten, mended, Broken, HasFreeSlot, Kept, puts_in, slot_bytes, Touches, entries_of, slot_for}
+use Rattle.migrator.proofs.Names.{ℕ, Option, Some, None, Result, List, set, refl, ap, subst, arith, OnOk, OnErr, Frame, IsKeepable, Image, Disk, Failed}
+use Rattle.migrator.proofs.Names.{frame_bytes, place_length, slot_sector, count_of, WritesAt, most, Keeps, Books, Place, Torn, Whole, GoesOnDisk, IsDurable}
+use Rattle.migrator.proofs.Names.{IsRunning, frozen_generation, seen_by, stored_on, with_frozen, with_working, working_generation, Unwritten, mended, Broken}
+use Rattle.migrator.proofs.Names.{HasFreeSlot, Kept, puts_in, slot_bytes, Touches, entries_of, slot_for}
+use Rattle.std.proofs.Common.{◌≡◌, ◌⊎◌, ◌∙◌, ◌+◌, ◌<◌, ◌≤◌}
 use Rattle.migrator.proofs.Buffered.{entry_of, held_after, held_working, without, working_again}
 use Rattle.migrator.proofs.Committing.{frozen_fits}
 use Rattle.migrator.proofs.Completed.{goes_after, kept_with, mid_kept, stored_after}

@@ -1,11 +1,12 @@
 -- A frame is put into a slot.
-use Rattle.migrator.proofs.Names.{◌≡◌, ◌⊎◌, ℕ, zero, suc, ◌+◌, ◌%◌, ◌<◌, ◌≤◌, Option, Some, None, List, [], ◌∷◌, length, get_or, set, refl, sym, ap, subst, ◌∙◌}
-use Rattle.migrator.proofs.Names.{inl, inr, ⊎_elim, arith, map, range_with_len, cases_eq, same_lists, length-set, length-map-range_with_len}
-use Rattle.migrator.proofs.Names.{get_or-map-range_with_len, Frame, Image, Extent, IsFrameOf, half_sector, count_of, entry_at, Plan, IsPlan, IsApart, IsInside}
-use Rattle.migrator.proofs.Names.{half_extent, apart_inside, home_extent, slot_extent, place_extent, frames_in_slots, slots_apart, Place, Nowhere, Torn, Whole}
-use Rattle.migrator.proofs.Names.{place_at, slot_of, has_slot, has_frame, tally, taken_count, whole_count, slot_or, slot_for, IsTable, Put, Absent, Kept}
-use Rattle.migrator.proofs.Names.{put_at, kept_frame, held_slot, sum_of, kept_count, HasFreeSlot, slot_bytes, slot_frame, put_of, puts_in, ArePut, most, Books}
-use Rattle.migrator.proofs.Names.{frozen_generation, generation_after, IsRunning, IsKept, Spares, SparesPuts}
+use Rattle.migrator.proofs.Names.{ℕ, zero, suc, Option, Some, None, List, [], length, get_or, set, refl, sym, ap, subst, inl, inr, ⊎_elim, arith, map}
+use Rattle.migrator.proofs.Names.{range_with_len, cases_eq, same_lists, length-set, length-map-range_with_len, get_or-map-range_with_len, Frame, Image, Extent}
+use Rattle.migrator.proofs.Names.{IsFrameOf, half_sector, count_of, entry_at, Plan, IsPlan, IsApart, IsInside, half_extent, apart_inside, home_extent}
+use Rattle.migrator.proofs.Names.{slot_extent, place_extent, frames_in_slots, slots_apart, Place, Nowhere, Torn, Whole, place_at, slot_of, has_slot, has_frame}
+use Rattle.migrator.proofs.Names.{tally, taken_count, whole_count, slot_or, slot_for, IsTable, Put, Absent, Kept, put_at, kept_frame, held_slot, sum_of}
+use Rattle.migrator.proofs.Names.{kept_count, HasFreeSlot, slot_bytes, slot_frame, put_of, puts_in, ArePut, most, Books, frozen_generation, generation_after}
+use Rattle.migrator.proofs.Names.{IsRunning, IsKept, Spares, SparesPuts}
+use Rattle.std.proofs.Common.{◌≡◌, ◌⊎◌, ◌+◌, ◌%◌, ◌<◌, ◌≤◌, ◌∷◌, ◌∙◌}
 use Rattle.migrator.proofs.Tables.{tally-set, table_set, set_here, set_there}
 use Rattle.migrator.proofs.Kept.{map_set}
 use Rattle.migrator.proofs.PlacesApart.{other_half, home_apart, spares_other, spares_log}

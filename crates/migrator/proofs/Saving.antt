@@ -1,9 +1,10 @@
 -- A directory is written, and a header is published over it.
-use Rattle.migrator.proofs.Names.{◌≡◌, ◌⊎◌, ℕ, ◌+◌, Result, Ok, Err, List, refl, sym, subst, ◌∙◌, inl, inr, ⊎_elim, OnOk, OnErr, Image, Disk, Elsewhere, Only}
-use Rattle.migrator.proofs.Names.{LeavesOnly, agrees_is, leaves_weaker, leaves_on, Entry, CheckpointHeader, directory_bytes, IsFrameOf, IsHeader, Encodes}
-use Rattle.migrator.proofs.Names.{SavedState, frame_in, directory_in, directory_sector, directory_length, AreSpelt, state_in, Plan, length_read, read_at}
-use Rattle.migrator.proofs.Names.{spelt_same, WritesAt, header_sector, CommitsOne, Precedes, HasNew, IsOld, IsReady, directory_extent, next_follows}
-use Rattle.migrator.proofs.Names.{old_denoted, new_denoted, LeavesState, MaySave, SavesOnly}
+use Rattle.migrator.proofs.Names.{ℕ, Result, Ok, Err, List, refl, sym, subst, inl, inr, ⊎_elim, OnOk, OnErr, Image, Disk, Elsewhere, Only, LeavesOnly}
+use Rattle.migrator.proofs.Names.{agrees_is, leaves_weaker, leaves_on, Entry, CheckpointHeader, directory_bytes, IsFrameOf, IsHeader, Encodes, SavedState}
+use Rattle.migrator.proofs.Names.{frame_in, directory_in, directory_sector, directory_length, AreSpelt, state_in, Plan, length_read, read_at, spelt_same}
+use Rattle.migrator.proofs.Names.{WritesAt, header_sector, CommitsOne, Precedes, HasNew, IsOld, IsReady, directory_extent, next_follows, old_denoted}
+use Rattle.migrator.proofs.Names.{new_denoted, LeavesState, MaySave, SavesOnly}
+use Rattle.std.proofs.Common.{◌≡◌, ◌⊎◌, ◌+◌, ◌∙◌}
 use Rattle.migrator.proofs.Spared.{touches, frame_stays, state_stays, state_spared, sound_spared, moments_spared}
 use Rattle.migrator.proofs.PlacesApart.{homes_behind}
 

@@ -1,9 +1,9 @@
 -- Writes apart from what a saved state is read from.
-use Rattle.migrator.proofs.Names.{◌≡◌, ℕ, ◌+◌, ◌<◌, List, refl, sym, ap, subst, ◌∙◌, ⊎_elim, arith, Frame, Image, Disk, Elsewhere, IsTorn, LeavesOnly}
-use Rattle.migrator.proofs.Names.{elsewhere_same, elsewhere_on, leaves_weaker, leaves_on, Entry, Extent, CheckpointHeader, place_length, shape_of, bytes_at}
-use Rattle.migrator.proofs.Names.{frame_in, frame_sector, Encodes, directory_length, count_of, frames_read, state_in, Plan, IsApart, same_shaped, read_same}
-use Rattle.migrator.proofs.Names.{ReadsOnly, WritesAt, directory_extent, SameFrom, SameWhereRead, same_saved, LeavesState, frame_extent, SparesFrames, Spares}
-use Rattle.migrator.proofs.Names.{Touches}
+use Rattle.migrator.proofs.Names.{ℕ, List, refl, sym, ap, subst, ⊎_elim, arith, Frame, Image, Disk, Elsewhere, IsTorn, LeavesOnly, elsewhere_same, elsewhere_on}
+use Rattle.migrator.proofs.Names.{leaves_weaker, leaves_on, Entry, Extent, CheckpointHeader, place_length, shape_of, bytes_at, frame_in, frame_sector, Encodes}
+use Rattle.migrator.proofs.Names.{directory_length, count_of, frames_read, state_in, Plan, IsApart, same_shaped, read_same, ReadsOnly, WritesAt}
+use Rattle.migrator.proofs.Names.{directory_extent, SameFrom, SameWhereRead, same_saved, LeavesState, frame_extent, SparesFrames, Spares, Touches}
+use Rattle.std.proofs.Common.{◌≡◌, ◌+◌, ◌<◌, ◌∙◌}
 
 -- a change of other sectors leaves these
 pub stays : (d e : Extent) (old new : Image) → IsApart d e → Elsewhere e.sector e.length old new → SameFrom d.sector d.length old new

@@ -1,12 +1,12 @@
 -- What is known of a table of places.
 use native.Mathlib.Numerals.{unary_clauses}
-use Rattle.migrator.proofs.Names.{◌≡◌, ℕ, zero, suc, ◌+◌, ◌-◌, ◌<◌, ◌≤◌, Bool, true, false, Option, Some, None, List, [], ◌∷◌, ◌++◌, length, set, take, drop}
-use Rattle.migrator.proofs.Names.{refl, sym, ap, subst, ◌∙◌, inl, inr, arith, length-append, replicate, cases_eq, get_or-map, get_or-set_same, get_or-set_other}
-use Rattle.migrator.proofs.Names.{get_or_default, take_all, drop_all, append_assoc, nil_from_length, length-map, map-set, is_marked, IsNextMarked}
-use Rattle.migrator.proofs.Names.{HasNoneMarked, Geometry, Entry, entry_at, AreRising, IsEntry, IsDirectory, slot_in, slot_here, slot_behind, own_slot}
-use Rattle.migrator.proofs.Names.{two_objects, Place, Nowhere, Torn, Whole, place_at, slot_of, is_held, has_slot, has_frame, tally, taken_count, whole_count}
-use Rattle.migrator.proofs.Names.{slot_or, slot_for, IsTable, entry_before, entries_from, entries_of}
-use Rattle.std.proofs.Common.{map}
+use Rattle.migrator.proofs.Names.{ℕ, zero, suc, Bool, true, false, Option, Some, None, List, [], length, set, take, drop, refl, sym, ap, subst, inl, inr, arith}
+use Rattle.migrator.proofs.Names.{length-append, replicate, cases_eq, get_or-map, get_or-set_same, get_or-set_other, get_or_default, take_all, drop_all}
+use Rattle.migrator.proofs.Names.{append_assoc, nil_from_length, length-map, map-set, is_marked, IsNextMarked, HasNoneMarked, Geometry, Entry, entry_at}
+use Rattle.migrator.proofs.Names.{AreRising, IsEntry, IsDirectory, slot_in, slot_here, slot_behind, own_slot, two_objects, Place, Nowhere, Torn, Whole}
+use Rattle.migrator.proofs.Names.{place_at, slot_of, is_held, has_slot, has_frame, tally, taken_count, whole_count, slot_or, slot_for, IsTable, entry_before}
+use Rattle.migrator.proofs.Names.{entries_from, entries_of}
+use Rattle.std.proofs.Common.{◌≡◌, ◌+◌, ◌-◌, ◌<◌, ◌≤◌, ◌∷◌, ◌++◌, ◌∙◌, map}
 use Rattle.std.proofs.lemmas.List.{append-nil}
 
 -- ---- counts

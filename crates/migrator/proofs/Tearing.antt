@@ -1,8 +1,7 @@
 -- What was put of an object is given up: its slot stays.
-use Rattle.migrator.proofs.Names.{◌≡◌, ◌∙◌, inl, ℕ, ◌<◌, Option, Some, length, sym, ap, arith, get_or-set_same, same_Some, Disk, count_of, Absent, Broken}
-use Rattle.migrator.proofs.Names.{put_at, puts_in, HasFreeSlot, Books, FrozenPuts, Stored, frozen_generation, frozen_of, seen_by, stored_on, with_frozen}
-use Rattle.migrator.proofs.Names.{with_put}
-use Rattle.std.proofs.Common.{option_map}
+use Rattle.migrator.proofs.Names.{inl, ℕ, Option, Some, length, sym, ap, arith, get_or-set_same, same_Some, Disk, count_of, Absent, Broken, put_at, puts_in}
+use Rattle.migrator.proofs.Names.{HasFreeSlot, Books, FrozenPuts, Stored, frozen_generation, frozen_of, seen_by, stored_on, with_frozen, with_put}
+use Rattle.std.proofs.Common.{◌≡◌, ◌∙◌, ◌<◌, option_map}
 use Rattle.migrator.proofs.Freezing.{length_puts}
 
 pub torn_room : (old mid : Disk) (b c : Books) (size n : ℕ) → b.size ≡ Some size → c.size ≡ Some size → stored_on mid c ≡ with_frozen n Broken (stored_on old b) → n < count_of b.plan

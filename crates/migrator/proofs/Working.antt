@@ -1,8 +1,9 @@
 -- A working frame is put into its slot.
-use Rattle.migrator.proofs.Names.{◌≡◌, ℕ, ◌<◌, Option, Some, None, Result, Ok, Err, List, length, set, refl, sym, ap, subst, ◌∙◌, arith, OnOk, OnErr, Frame}
-use Rattle.migrator.proofs.Names.{IsKeepable, Image, Disk, Failed, IsFrameOf, frame_bytes, half_sector, slot_sector, count_of, IsInside, half_extent}
-use Rattle.migrator.proofs.Names.{bytes_spelt, place_length, WritesAt, place_extent, Place, Torn, Whole, slot_for, Put, Broken, Kept, slot_bytes, slot_frame}
-use Rattle.migrator.proofs.Names.{puts_in, ArePut, most, Books, working_generation, Stored, stored_in, IsRunning, IsKept, with_working, Spares, SparesKept}
+use Rattle.migrator.proofs.Names.{ℕ, Option, Some, None, Result, Ok, Err, List, length, set, refl, sym, ap, subst, arith, OnOk, OnErr, Frame, IsKeepable, Image}
+use Rattle.migrator.proofs.Names.{Disk, Failed, IsFrameOf, frame_bytes, half_sector, slot_sector, count_of, IsInside, half_extent, bytes_spelt, place_length}
+use Rattle.migrator.proofs.Names.{WritesAt, place_extent, Place, Torn, Whole, slot_for, Put, Broken, Kept, slot_bytes, slot_frame, puts_in, ArePut, most, Books}
+use Rattle.migrator.proofs.Names.{working_generation, Stored, stored_in, IsRunning, IsKept, with_working, Spares, SparesKept}
+use Rattle.std.proofs.Common.{◌≡◌, ◌<◌, ◌∙◌}
 use Rattle.migrator.proofs.Kept.{stored_stays, kept_on}
 use Rattle.migrator.proofs.PlacesApart.{place_inside}
 use Rattle.migrator.proofs.GoingOn.{GoesOnSeen, goes_spared}

@@ -1,7 +1,8 @@
 -- Slots that have the frames of a whole cluster.
-use Rattle.migrator.specs.Names.{◌≡◌, ℕ, ◌*◌, ◌<◌, Option, Some, None, List, length, Image, Disk, Elsewhere, Entry}
-use Rattle.migrator.specs.Names.{entry_at, home_place, shape_of, bytes_at, slot_beside, slot_in, slot_sector}
-use Rattle.migrator.specs.Names.{half_sector, shape_bytes, Plan, IsObject}
+use Rattle.migrator.specs.Names.{ℕ, Option, Some, None, List, length, Image, Disk, Elsewhere, Entry, entry_at}
+use Rattle.migrator.specs.Names.{home_place, shape_of, bytes_at, slot_beside, slot_in, slot_sector, half_sector}
+use Rattle.migrator.specs.Names.{shape_bytes, Plan, IsObject}
+use Rattle.std.specs.Prelude.{◌≡◌, ◌*◌, ◌<◌}
 use Rattle.migrator.specs.Gathered.{IsFirst}
 use Rattle.migrator.specs.Mended.{Unwritten, mended, IfUnwritten}
 use Rattle.migrator.specs.Put.{slot_bytes}

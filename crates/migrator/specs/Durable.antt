@@ -1,9 +1,10 @@
 -- A durable store: what it keeps in memory, and what that and the device make.
-use Rattle.migrator.specs.Names.{⊤, ◌≡◌, ◌⊎◌, ℕ, ◌+◌, ◌-◌, ◌^◌, ◌<◌, ◌≤◌, Option, Some, None, List, length, option_map}
-use Rattle.migrator.specs.Names.{slice_set, replicate, Frame, frame_at, Image, Disk, Agrees, Narrows, Peeks, Entry}
-use Rattle.migrator.specs.Names.{CheckpointHeader, IsDirectory, entry_at, IsHeader, Packed, shape_of, SavedState}
-use Rattle.migrator.specs.Names.{Encodes, slot_sector, AreSpelt, state_in, Plan, IsPlan, SavedFrames, kept_of}
-use Rattle.migrator.specs.Names.{LeavesSaved, FrozenView, Snapshots, freezing}
+use Rattle.migrator.specs.Names.{⊤, ℕ, Option, Some, None, List, length, option_map, slice_set, replicate, Frame}
+use Rattle.migrator.specs.Names.{frame_at, Image, Disk, Agrees, Narrows, Peeks, Entry, CheckpointHeader, IsDirectory}
+use Rattle.migrator.specs.Names.{entry_at, IsHeader, Packed, shape_of, SavedState, Encodes, slot_sector, AreSpelt}
+use Rattle.migrator.specs.Names.{state_in, Plan, IsPlan, SavedFrames, kept_of, LeavesSaved, FrozenView, Snapshots}
+use Rattle.migrator.specs.Names.{freezing}
+use Rattle.std.specs.Prelude.{◌≡◌, ◌⊎◌, ◌+◌, ◌-◌, ◌^◌, ◌<◌, ◌≤◌}
 use Rattle.model.specs.declared.object.Role.TheVariants as role
 use Rattle.migrator.specs.Gathered.{IsCopied}
 use Rattle.migrator.specs.Mended.{Unwritten, mended}

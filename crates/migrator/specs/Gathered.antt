@@ -1,6 +1,7 @@
 -- What goes home with a saved frame.
-use Rattle.migrator.specs.Names.{◌≡◌, ℕ, ◌-◌, ◌<◌, List, Image, Entry, Packed, entry_at, home_place, shape_of, bytes_at}
-use Rattle.migrator.specs.Names.{frame_in, shape_bytes, Plan, IsObject, EndsInZeros}
+use Rattle.migrator.specs.Names.{ℕ, List, Image, Entry, Packed, entry_at, home_place, shape_of, bytes_at, frame_in}
+use Rattle.migrator.specs.Names.{shape_bytes, Plan, IsObject, EndsInZeros}
+use Rattle.std.specs.Prelude.{◌≡◌, ◌-◌, ◌<◌}
 
 -- the bytes of a home are the saved frames of all that have it
 abbrev pub IsGathered : Image → Plan → ℕ → List Entry → ℕ → List ℕ → Type 0

@@ -1,7 +1,8 @@
 -- A cluster that a device failed to write.
-use Rattle.migrator.specs.Names.{⊤, ◌≡◌, ℕ, ◌+◌, ◌-◌, ◌<◌, nat_le, nat_lt, ◌&&◌, if◌then◌else◌, Option, Some, None}
-use Rattle.migrator.specs.Names.{List, length, Geometry, Image, image_of, Entry, Shape, Packed, entry_at, shape_of}
-use Rattle.migrator.specs.Names.{IsFrameOf, frame_from, slot_sector, shape_bytes, most, Plan}
+use Rattle.migrator.specs.Names.{⊤, ℕ, nat_le, nat_lt, Option, Some, None, List, length, Geometry, Image, image_of}
+use Rattle.migrator.specs.Names.{Entry, Shape, Packed, entry_at, shape_of, IsFrameOf, frame_from, slot_sector}
+use Rattle.migrator.specs.Names.{shape_bytes, most, Plan}
+use Rattle.std.specs.Prelude.{◌≡◌, ◌+◌, ◌-◌, ◌<◌, ◌&&◌, if◌then◌else◌}
 
 -- the first sector of the slot that is to have it, and its bytes
 pub record Unwritten : Type 0 where

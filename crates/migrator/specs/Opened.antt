@@ -1,7 +1,8 @@
 -- The results of opening a device.
-use Rattle.migrator.specs.Names.{◌≡◌, ℕ, None, List, length, take, replicate, ⊤, Frame, Entry, CheckpointHeader}
-use Rattle.migrator.specs.Names.{BadImage, BadFrame, IsFrameOf, AreSpelt, Plan, OpenFault, Image, Disk, Only, IsBadBy}
-use Rattle.migrator.specs.Names.{HasHeader, HasDirectory, frame_in, ReadFault, Holds, OnlyReads}
+use Rattle.migrator.specs.Names.{ℕ, None, List, length, take, replicate, ⊤, Frame, Entry, CheckpointHeader, BadImage}
+use Rattle.migrator.specs.Names.{BadFrame, IsFrameOf, AreSpelt, Plan, OpenFault, Image, Disk, Only, IsBadBy, HasHeader}
+use Rattle.migrator.specs.Names.{HasDirectory, frame_in, ReadFault, Holds, OnlyReads}
+use Rattle.std.specs.Prelude.{◌≡◌}
 use Rattle.layout.specs.declared.bad_image.BadImage.TheVariants as bad
 use Rattle.checkpoint.specs.declared.open_fault.OpenFault.TheVariants as refusal
 use Rattle.frame_io.specs.declared.fault.ReadFault.TheVariants as fault

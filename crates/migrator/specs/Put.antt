@@ -1,7 +1,7 @@
 -- The frames that were put into a half of the log.
-use Rattle.migrator.specs.Names.{◌≡◌, ◌≢◌, ◌⊎◌, ℕ, ◌+◌, ◌<◌, ◌≤◌, List, [], ◌∷◌, length, map, slice_index_or}
-use Rattle.migrator.specs.Names.{range_with_len, Frame, frame_at, Image, IsFrameOf, frame_from, bytes_at, slot_sector}
-use Rattle.migrator.specs.Names.{count_of, Plan, most}
+use Rattle.migrator.specs.Names.{ℕ, List, [], length, map, slice_index_or, range_with_len, Frame, frame_at, Image}
+use Rattle.migrator.specs.Names.{IsFrameOf, frame_from, bytes_at, slot_sector, count_of, Plan, most}
+use Rattle.std.specs.Prelude.{◌≡◌, ◌≢◌, ◌⊎◌, ◌+◌, ◌<◌, ◌≤◌, ◌∷◌}
 use Rattle.migrator.specs.declared.table.Place.{Place}
 use Rattle.migrator.specs.declared.table.Place.TheVariants.{Nowhere, Torn, Whole}
 use Rattle.migrator.specs.Table.{place_at, IsTable, taken_count}

@@ -1,5 +1,6 @@
 -- The memory of a store.
-use Rattle.migrator.specs.Names.{◌≡◌, ◌≤◌, None, length, replicate, vec_capacity, count_of, Plan}
+use Rattle.migrator.specs.Names.{None, length, replicate, vec_capacity, count_of, Plan}
+use Rattle.std.specs.Prelude.{◌≡◌, ◌≤◌}
 use Rattle.migrator.specs.declared.durable.open.Reserve.{Reserve}
 use Rattle.migrator.specs.declared.table.Place.TheVariants.{Nowhere}
 

@@ -1,8 +1,9 @@
 -- What is required before a directory is written and a header published over it.
-use Rattle.migrator.specs.Names.{◌≡◌, ℕ, ◌+◌, ◌<◌, ◌≤◌, None, List, length, replicate, Image, Disk, Elsewhere, Entry}
-use Rattle.migrator.specs.Names.{Extent, CheckpointHeader, IsDirectory, entry_at, IsHeader, directory_sector}
-use Rattle.migrator.specs.Names.{directory_length, AreSpelt, count_of, state_in, Plan, IsPlan, IsApart, header_sector}
-use Rattle.migrator.specs.Names.{directory_extent, place_extent, home_extent}
+use Rattle.migrator.specs.Names.{ℕ, None, List, length, replicate, Image, Disk, Elsewhere, Entry, Extent}
+use Rattle.migrator.specs.Names.{CheckpointHeader, IsDirectory, entry_at, IsHeader, directory_sector, directory_length}
+use Rattle.migrator.specs.Names.{AreSpelt, count_of, state_in, Plan, IsPlan, IsApart, header_sector, directory_extent}
+use Rattle.migrator.specs.Names.{place_extent, home_extent}
+use Rattle.std.specs.Prelude.{◌≡◌, ◌+◌, ◌<◌, ◌≤◌}
 use Rattle.migrator.specs.declared.books.Books.{Books}
 use Rattle.migrator.specs.declared.table.Place.{Place}
 use Rattle.migrator.specs.declared.table.Place.TheVariants.{Nowhere, Whole}

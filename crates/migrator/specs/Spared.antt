@@ -1,7 +1,7 @@
 -- Sectors that nothing saved is read from.
-use Rattle.migrator.specs.Names.{◌≡◌, ◌⊎◌, ℕ, ◌<◌, ◌≤◌, List, Disk, Elsewhere, Tears, IsTorn, LeavesOnly, Entry, Extent}
-use Rattle.migrator.specs.Names.{CheckpointHeader, place_length, frame_sector, count_of, Plan, IsApart}
-use Rattle.migrator.specs.Names.{directory_extent}
+use Rattle.migrator.specs.Names.{ℕ, List, Disk, Elsewhere, Tears, IsTorn, LeavesOnly, Entry, Extent, CheckpointHeader}
+use Rattle.migrator.specs.Names.{place_length, frame_sector, count_of, Plan, IsApart, directory_extent}
+use Rattle.std.specs.Prelude.{◌≡◌, ◌⊎◌, ◌<◌, ◌≤◌}
 
 -- the sectors of the frame of an object
 abbrev pub frame_extent : Plan → ℕ → List Entry → ℕ → Extent

@@ -1,6 +1,6 @@
 -- Which slots of a half of the log objects have.
-use Rattle.migrator.specs.Names.{◌≡◌, ℕ, ◌+◌, ◌<◌, Bool, true, false, Option, Some, None, List, [], ◌∷◌, slice_index_or}
-use Rattle.migrator.specs.Names.{Entry}
+use Rattle.migrator.specs.Names.{ℕ, Bool, true, false, Option, Some, None, List, [], slice_index_or, Entry}
+use Rattle.std.specs.Prelude.{◌≡◌, ◌+◌, ◌<◌, ◌∷◌}
 use Rattle.migrator.specs.declared.table.Place.{Place}
 use Rattle.migrator.specs.declared.table.Place.TheVariants.{Nowhere, Torn, Whole}
 

@@ -1,5 +1,5 @@
-use Rattle.model.specs.Names.{ℕ, zero, suc, ◌==◌, Bool, not, ◌&&◌, if◌then◌else◌, List, [], ◌∷◌, nat_eq, list_any}
-use Rattle.model.specs.Names.{count_by, enumerate_from}
+use Rattle.model.specs.Names.{ℕ, zero, suc, Bool, not, List, [], nat_eq, list_any, count_by, enumerate_from}
+use Rattle.std.specs.Prelude.{◌==◌, ◌&&◌, if◌then◌else◌, ◌∷◌}
 use Rattle.model.specs.declared.object.Object.{Object}
 use Rattle.model.specs.Object.{is_free}
 use Rattle.model.specs.World.{owner_at}

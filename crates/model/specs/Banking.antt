@@ -1,6 +1,7 @@
 -- The orders of a bank: new objects, their end, and what is left (EROS, KeyKOS: space bank).
-use Rattle.model.specs.Names.{ℕ, ◌+◌, ◌-◌, ◌==◌, nat_le, nat_lt, min, Bool, not, ◌&&◌, ◌||◌, if◌then◌else◌, List, []}
-use Rattle.model.specs.Names.{◌∷◌, length, map, replicate, slice_set, filter, list_all, range_with_len}
+use Rattle.model.specs.Names.{ℕ, nat_le, nat_lt, min, Bool, not, List, [], length, map, replicate, slice_set, filter}
+use Rattle.model.specs.Names.{list_all, range_with_len}
+use Rattle.std.specs.Prelude.{◌+◌, ◌-◌, ◌==◌, ◌&&◌, ◌||◌, if◌then◌else◌, ◌∷◌}
 use Rattle.model.specs.declared.capability.Capability.{Capability}
 use Rattle.model.specs.declared.capability.Capability.TheVariants.{Void, Page, Node, Process, Bank}
 use Rattle.model.specs.declared.geometry.Geometry.{Geometry}

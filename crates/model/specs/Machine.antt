@@ -1,5 +1,6 @@
-use Rattle.model.specs.Names.{ℕ, ◌+◌, Bool, true, false, ◌||◌, Option, None, List, [], ◌∷◌, length, map, replicate}
-use Rattle.model.specs.Names.{slice_index_or, slice_set, count_by, range_with_len}
+use Rattle.model.specs.Names.{ℕ, Bool, true, false, Option, None, List, [], length, map, replicate, slice_index_or}
+use Rattle.model.specs.Names.{slice_set, count_by, range_with_len}
+use Rattle.std.specs.Prelude.{◌+◌, ◌||◌, ◌∷◌}
 use Rattle.model.specs.declared.geometry.Geometry.{Geometry}
 use Rattle.model.specs.declared.object.Object.{Object}
 use Rattle.model.specs.Revoke.{is_given_up}

@@ -1,5 +1,5 @@
-use Rattle.model.specs.Names.{ℕ, ◌==◌, Bool, false, not, ◌&&◌, if◌then◌else◌, None, Some, List, map, nat_eq, list_any}
-use Rattle.model.specs.Names.{enumerate_from}
+use Rattle.model.specs.Names.{ℕ, Bool, false, not, None, Some, List, map, nat_eq, list_any, enumerate_from}
+use Rattle.std.specs.Prelude.{◌==◌, ◌&&◌, if◌then◌else◌}
 use Rattle.model.specs.declared.capability.Capability.{Capability}
 use Rattle.model.specs.declared.capability.Capability.TheVariants.{Void, Resume}
 use Rattle.model.specs.declared.object.Object.{Object}

@@ -1,4 +1,5 @@
-use Rattle.model.specs.Names.{◌≡◌, ◌≢◌, ℕ, ◌+◌, ◌^◌, ◌<◌, ◌≤◌, true, List, length, slice_index, IsTrue, Contains}
+use Rattle.model.specs.Names.{ℕ, true, List, length, slice_index, IsTrue, Contains}
+use Rattle.std.specs.Prelude.{◌≡◌, ◌≢◌, ◌+◌, ◌^◌, ◌<◌, ◌≤◌}
 use Rattle.model.specs.declared.capability.Capability.{Capability}
 use Rattle.model.specs.declared.capability.Capability.TheVariants.{Void, Number, Page, Node, Space, Process, Start}
 use Rattle.model.specs.declared.capability.Capability.TheVariants.{Resume, Bank, Discrim}

@@ -1,6 +1,6 @@
-use Rattle.model.specs.Names.{◌≡◌, ◌⊎◌, ℕ, ◌+◌, ◌-◌, ◌/◌, ◌%◌, ◌^◌, ◌==◌, nat_lt, Bool, true, false, not, ◌&&◌}
-use Rattle.model.specs.Names.{if◌then◌else◌, Option, None, Some, Result, Ok, Err, List, [], ◌∷◌, ◌++◌, slice_index_or}
-use Rattle.model.specs.Names.{IsTrue, Contains}
+use Rattle.model.specs.Names.{ℕ, nat_lt, Bool, true, false, not, Option, None, Some, Result, Ok, Err, List, []}
+use Rattle.model.specs.Names.{slice_index_or, IsTrue, Contains}
+use Rattle.std.specs.Prelude.{◌≡◌, ◌⊎◌, ◌+◌, ◌-◌, ◌/◌, ◌%◌, ◌^◌, ◌==◌, ◌&&◌, if◌then◌else◌, ◌∷◌, ◌++◌}
 use Rattle.model.specs.declared.access.Access.{Access}
 use Rattle.model.specs.declared.answer.Answer.{Answer}
 use Rattle.model.specs.declared.answer.Answer.TheVariants as answer

@@ -1,5 +1,6 @@
-use Rattle.model.specs.Names.{◌≡◌, ◌≢◌, ◌⊎◌, ℕ, ◌^◌, ◌<◌, ◌≤◌, ◌==◌, if◌then◌else◌, Option, None, Some, List, [], ◌∷◌}
-use Rattle.model.specs.Names.{◌++◌, map, length, codes, decimal, All, join_with_byte, flat_map, enumerate_from}
+use Rattle.model.specs.Names.{ℕ, Option, None, Some, List, [], map, length, codes, decimal, All, join_with_byte}
+use Rattle.model.specs.Names.{flat_map, enumerate_from}
+use Rattle.std.specs.Prelude.{◌≡◌, ◌≢◌, ◌⊎◌, ◌^◌, ◌<◌, ◌≤◌, ◌==◌, if◌then◌else◌, ◌∷◌, ◌++◌}
 use Rattle.model.specs.declared.access.Access.{Access}
 use Rattle.model.specs.declared.answer.Answer.{Answer}
 use Rattle.model.specs.declared.answer.Answer.TheVariants as answer

@@ -1,10 +1,11 @@
 -- What a bank frees or destroys, and what that leaves of the usage of each bank.
-use Rattle.model_laws.proofs.Names.{◌≡◌, ◌≢◌, inl, inr, ℕ, zero, suc, ◌+◌, ◌-◌, ◌==◌, ◌<◌, ◌≤◌, nat_eq, Bool, true, false, not, ◌&&◌, ◌||◌, List, [], ◌∷◌}
-use Rattle.model_laws.proofs.Names.{length, get_or, All, refl, sym, ap, subst, arith, ◌∙◌, if◌then◌else◌, IsTrue, IsStrictlyIncreasing, false≢true, cases_Bool}
-use Rattle.model_laws.proofs.Names.{cases_eq, cases_lt, and_parts, false_from_ne_true, eq-eqb, eqb-true, not-true, or_cases, or_left, or_right, get_or_past}
-use Rattle.model_laws.proofs.Names.{Capability, Page, Node, Process, Geometry, Content, Object, free, is_free, is_page, is_node, is_root, is_annex, is_bank}
-use Rattle.model_laws.proofs.Names.{object_at, content_at, owner_at, annex_at, is_process, chain, is_under, usage, freed_by, under, owned_by, is_member}
-use Rattle.model_laws.proofs.Names.{rescind, NamesItsKind}
+use Rattle.model_laws.proofs.Names.{inl, inr, ℕ, zero, suc, nat_eq, Bool, true, false, not, List, [], length, get_or, All, refl, sym, ap, subst, arith, IsTrue}
+use Rattle.model_laws.proofs.Names.{IsStrictlyIncreasing, false≢true, cases_Bool, cases_eq, cases_lt, and_parts, false_from_ne_true, eq-eqb, eqb-true, not-true}
+use Rattle.model_laws.proofs.Names.{or_cases, or_left, or_right, get_or_past, Capability, Page, Node, Process, Geometry, Content, Object, free, is_free}
+use Rattle.model_laws.proofs.Names.{is_page, is_node, is_root, is_annex, is_bank, object_at, content_at, owner_at, annex_at, is_process, chain, is_under, usage}
+use Rattle.model_laws.proofs.Names.{freed_by, under, owned_by, is_member, rescind, NamesItsKind}
+use Rattle.std.proofs.Common.{◌≡◌, ◌≢◌, ◌+◌, ◌-◌, ◌==◌, ◌<◌, ◌≤◌, ◌&&◌, ◌||◌, ◌∷◌, ◌∙◌}
+use Rattle.std.specs.Prelude.{if◌then◌else◌}
 use Rattle.model.specs.declared.object.Content.TheVariants as content
 use Rattle.model_laws.proofs.SoundParts.{IsFramed}
 use Rattle.model_laws.proofs.SoundOrders.{IsNow}

@@ -1,10 +1,12 @@
 -- What banks give up: sets of objects that can go together, and the usage that goes with them.
-use Rattle.model_laws.proofs.Names.{◌≡◌, ◌≢◌, ◌⊎◌, inl, inr, ℕ, zero, suc, ◌+◌, ◌==◌, ◌<◌, ◌≤◌, nat_eq, Bool, true, false, not, ◌&&◌, cond, Option, None, Some}
-use Rattle.model_laws.proofs.Names.{List, [], ◌∷◌, length, refl, sym, ap, subst, arith, zero-add, add-zero, ◌∙◌, if◌then◌else◌, IsTrue, count_by}
-use Rattle.model_laws.proofs.Names.{enumerate_from, false≢true, cases_Bool, cases_eq, false_from_ne_true, eq-eqb, ne_eqb, not_from_false, or_left, or_right}
-use Rattle.model_laws.proofs.Names.{length-map, length-enumerate_from, Capability, Void, Geometry, Content, Object, free, is_free, is_root, is_annex, is_bank}
-use Rattle.model_laws.proofs.Names.{is_waiting, role_of, root_in, map_content, named, object_at, content_at, owner_at, annex_at, is_process, chain}
-use Rattle.model_laws.proofs.Names.{chain_within, is_under, usage, void_where, without, is_member, names_member, rescind, IsOfKind, IsSpace}
+use Rattle.model_laws.proofs.Names.{inl, inr, ℕ, zero, suc, nat_eq, Bool, true, false, not, cond, Option, None, Some, List, [], length, refl, sym, ap, subst}
+use Rattle.model_laws.proofs.Names.{arith, zero-add, add-zero, IsTrue, count_by, enumerate_from, false≢true, cases_Bool, cases_eq, false_from_ne_true, eq-eqb}
+use Rattle.model_laws.proofs.Names.{ne_eqb, not_from_false, or_left, or_right, length-map, length-enumerate_from, Capability, Void, Geometry, Content, Object}
+use Rattle.model_laws.proofs.Names.{free, is_free, is_root, is_annex, is_bank, is_waiting, role_of, root_in, map_content, named, object_at, content_at}
+use Rattle.model_laws.proofs.Names.{owner_at, annex_at, is_process, chain, chain_within, is_under, usage, void_where, without, is_member, names_member, rescind}
+use Rattle.model_laws.proofs.Names.{IsOfKind, IsSpace}
+use Rattle.std.proofs.Common.{◌≡◌, ◌≢◌, ◌⊎◌, ◌+◌, ◌==◌, ◌<◌, ◌≤◌, ◌&&◌, ◌∷◌, ◌∙◌}
+use Rattle.std.specs.Prelude.{if◌then◌else◌}
 use Rattle.model.specs.declared.object.Content.TheVariants as content
 use Rattle.model_laws.proofs.Cases.{chosen, one_of}
 use Rattle.model_laws.proofs.Counts.{count_alike, count_both, count_none, one_within}

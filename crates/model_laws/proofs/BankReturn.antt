@@ -1,10 +1,11 @@
 -- A bank that is returned to its parent, and that what banks give up leaves objects sound.
-use Rattle.model_laws.proofs.Names.{◌≡◌, ◌≢◌, inl, inr, ℕ, zero, suc, ◌+◌, ◌-◌, ◌==◌, ◌≤◌, nat_eq, Bool, true, false, not, ◌&&◌, ◌||◌, List, [], ◌∷◌, length}
-use Rattle.model_laws.proofs.Names.{refl, sym, ap, subst, arith, ◌∙◌, if◌then◌else◌, IsTrue, false≢true, cases_Bool, cases_eq, and_right, or_right}
-use Rattle.model_laws.proofs.Names.{false_from_ne_true, eq-eqb, ne_eqb, eqb-true, eqb-false, length-map, Contains-from_any, Capability, Void, Geometry, Content}
-use Rattle.model_laws.proofs.Names.{Object, Arguments, free, is_free, is_root, is_annex, is_bank, role_of, root_in, limit_in, made, object_at, content_at}
-use Rattle.model_laws.proofs.Names.{owner_at, slot_at, root_at, annex_at, chain, chain_within, is_under, usage, freed_by, under, owned_by, transferred}
-use Rattle.model_laws.proofs.Names.{inherited, freed, on_bank, is_member, rescind, IsOfKind}
+use Rattle.model_laws.proofs.Names.{inl, inr, ℕ, zero, suc, nat_eq, Bool, true, false, not, List, [], length, refl, sym, ap, subst, arith, IsTrue, false≢true}
+use Rattle.model_laws.proofs.Names.{cases_Bool, cases_eq, and_right, or_right, false_from_ne_true, eq-eqb, ne_eqb, eqb-true, eqb-false, length-map}
+use Rattle.model_laws.proofs.Names.{Contains-from_any, Capability, Void, Geometry, Content, Object, Arguments, free, is_free, is_root, is_annex, is_bank}
+use Rattle.model_laws.proofs.Names.{role_of, root_in, limit_in, made, object_at, content_at, owner_at, slot_at, root_at, annex_at, chain, chain_within}
+use Rattle.model_laws.proofs.Names.{is_under, usage, freed_by, under, owned_by, transferred, inherited, freed, on_bank, is_member, rescind, IsOfKind}
+use Rattle.std.proofs.Common.{◌≡◌, ◌≢◌, ◌+◌, ◌-◌, ◌==◌, ◌≤◌, ◌&&◌, ◌||◌, ◌∷◌, ◌∙◌}
+use Rattle.std.specs.Prelude.{if◌then◌else◌}
 use Rattle.model.specs.declared.object.Content.TheVariants as content
 use Rattle.model.specs.declared.order.BankOrder.TheVariants as bank
 use Rattle.model_laws.proofs.SoundParts.{IsHeld, IsFilled, IsFramed, Waits, held_to, held_void}

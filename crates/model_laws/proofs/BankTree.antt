@@ -1,8 +1,8 @@
 -- The tree of banks: chains and what is in them.
-use Rattle.model_laws.proofs.Names.{◌≡◌, ◌≢◌, inl, inr, ℕ, zero, suc, ◌<◌, ◌≤◌, true, false, ◌||◌, List, [], ◌∷◌, length, refl, sym, ap, subst, arith, ◌∙◌}
-use Rattle.model_laws.proofs.Names.{IsTrue, slice_index_or, Contains, cases_eq, eq-eqb, ne_eqb, false_from_ne_true, get_or-set_same, get_or-set_other}
-use Rattle.model_laws.proofs.Names.{length-set, Capability, Geometry, Content, Object, free, is_bank, is_free, object_at, content_at, owner_at, chain}
-use Rattle.model_laws.proofs.Names.{chain_within, with_new, is_member}
+use Rattle.model_laws.proofs.Names.{inl, inr, ℕ, zero, suc, true, false, List, [], length, refl, sym, ap, subst, arith, IsTrue, slice_index_or, Contains}
+use Rattle.model_laws.proofs.Names.{cases_eq, eq-eqb, ne_eqb, false_from_ne_true, get_or-set_same, get_or-set_other, length-set, Capability, Geometry, Content}
+use Rattle.model_laws.proofs.Names.{Object, free, is_bank, is_free, object_at, content_at, owner_at, chain, chain_within, with_new, is_member}
+use Rattle.std.proofs.Common.{◌≡◌, ◌≢◌, ◌<◌, ◌≤◌, ◌||◌, ◌∷◌, ◌∙◌}
 use Rattle.model.specs.declared.object.Content.TheVariants as content
 use Rattle.model_laws.proofs.SoundParts.{IsFramed}
 

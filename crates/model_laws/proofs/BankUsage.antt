@@ -1,11 +1,12 @@
 -- Usage after a new object, and the order of a bank where the frame is the same.
-use Rattle.model_laws.proofs.Names.{◌≡◌, ◌≢◌, inl, inr, ℕ, ◌+◌, ◌==◌, ◌<◌, Bool, true, false, not, ◌&&◌, ◌||◌, add-zero, zero-add, List, [], ◌∷◌, length, map}
-use Rattle.model_laws.proofs.Names.{refl, sym, ap, subst, arith, ◌∙◌, IsTrue, if◌then◌else◌, nat_le, nat_lt, filter, list_any, list_all, range_with_len}
-use Rattle.model_laws.proofs.Names.{cases_eq, eq-eqb, ne_eqb, and_right, false_from_ne_true, Capability, Void, Page, Node, Process, Bank, Geometry, Content}
-use Rattle.model_laws.proofs.Names.{Object, Arguments, BankOrder, ResultCode, full, free, is_bank, is_free, object_at, content_at, owner_at, chain, is_under}
-use Rattle.model_laws.proofs.Names.{usage, OrderOutcome, refused, made, are_free, free_nodes, free_pages, has_quota, with_new, new_page, new_node, allocated}
-use Rattle.model_laws.proofs.Names.{process_allocated, bank_allocated, freed_by, freed, under, owned_by, left_of, least, remaining, on_bank, is_member, rescind}
-use Rattle.std.specs.Prelude.{nat_eq}
+use Rattle.model_laws.proofs.Names.{inl, inr, ℕ, Bool, true, false, not, add-zero, zero-add, List, [], length, map, refl, sym, ap, subst, arith, IsTrue, nat_le}
+use Rattle.model_laws.proofs.Names.{nat_lt, filter, list_any, list_all, range_with_len, cases_eq, eq-eqb, ne_eqb, and_right, false_from_ne_true, Capability}
+use Rattle.model_laws.proofs.Names.{Void, Page, Node, Process, Bank, Geometry, Content, Object, Arguments, BankOrder, ResultCode, full, free, is_bank, is_free}
+use Rattle.model_laws.proofs.Names.{object_at, content_at, owner_at, chain, is_under, usage, OrderOutcome, refused, made, are_free, free_nodes, free_pages}
+use Rattle.model_laws.proofs.Names.{has_quota, with_new, new_page, new_node, allocated, process_allocated, bank_allocated, freed_by, freed, under, owned_by}
+use Rattle.model_laws.proofs.Names.{left_of, least, remaining, on_bank, is_member, rescind}
+use Rattle.std.proofs.Common.{◌≡◌, ◌≢◌, ◌+◌, ◌==◌, ◌<◌, ◌&&◌, ◌||◌, ◌∷◌, ◌∙◌}
+use Rattle.std.specs.Prelude.{if◌then◌else◌, nat_eq}
 use Rattle.model.specs.declared.object.Content.TheVariants as content
 use Rattle.model.specs.declared.order.BankOrder.TheVariants as bank
 use Rattle.model.specs.declared.order.ResultCode.TheVariants as code

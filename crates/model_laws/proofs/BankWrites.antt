@@ -1,11 +1,11 @@
 -- What an order of a bank writes, and the annex of a process that outlives it.
-use Rattle.model_laws.proofs.Names.{◌≡◌, ◌≢◌, ℕ, ◌+◌, ◌<◌, ◌≤◌, ◌==◌, Bool, true, false, List, [], ◌∷◌, refl, sym, ap, subst, arith, ◌∙◌, IsTrue, nat_lt}
-use Rattle.model_laws.proofs.Names.{range_with_len, All-cons, All-filter, All-nil, filter_passes, get_or-range_with_len, length-range_with_len, Capability}
-use Rattle.model_laws.proofs.Names.{Geometry, Content, Object, Arguments, BankOrder, chain, allocated, are_free, bank_allocated, freed, freed_by, free_nodes}
-use Rattle.model_laws.proofs.Names.{free_pages, transferred, has_quota, inherited, new_annex, new_root, on_bank, owned_by, process_allocated, under, with_new}
-use Rattle.model_laws.proofs.Names.{free, is_bank, is_free, is_root, root_in, OrderOutcome, is_member, names_member, rescind, without, NamesItsKind, annex_at}
-use Rattle.model_laws.proofs.Names.{content_at, is_process, object_at, owner_at}
-use Rattle.std.proofs.Common.{if◌then◌else◌}
+use Rattle.model_laws.proofs.Names.{ℕ, Bool, true, false, List, [], refl, sym, ap, subst, arith, IsTrue, nat_lt, range_with_len, All-cons, All-filter, All-nil}
+use Rattle.model_laws.proofs.Names.{filter_passes, get_or-range_with_len, length-range_with_len, Capability, Geometry, Content, Object, Arguments, BankOrder}
+use Rattle.model_laws.proofs.Names.{chain, allocated, are_free, bank_allocated, freed, freed_by, free_nodes, free_pages, transferred, has_quota, inherited}
+use Rattle.model_laws.proofs.Names.{new_annex, new_root, on_bank, owned_by, process_allocated, under, with_new, free, is_bank, is_free, is_root, root_in}
+use Rattle.model_laws.proofs.Names.{OrderOutcome, is_member, names_member, rescind, without, NamesItsKind, annex_at, content_at, is_process, object_at}
+use Rattle.model_laws.proofs.Names.{owner_at}
+use Rattle.std.proofs.Common.{◌≡◌, ◌≢◌, ◌+◌, ◌<◌, ◌≤◌, ◌==◌, ◌∷◌, ◌∙◌, if◌then◌else◌}
 use Rattle.std.specs.Prelude.{length}
 use Rattle.std.specs.List.{All}
 use Rattle.model.specs.declared.object.Content.TheVariants as content

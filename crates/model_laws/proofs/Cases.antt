@@ -1,8 +1,9 @@
 -- What holds in each case: of what is chosen, and of the objects after an invocation.
-use Rattle.model_laws.proofs.Names.{◌≡◌, Bool, true, false, Option, None, Some, List, ℕ, refl, subst, if◌then◌else◌, IsTrue, Capability, Resume, Start}
-use Rattle.model_laws.proofs.Names.{Invocation, Operation, Call, Return, Send, Geometry, Object, State, Available, Waiting, Effect, after_gate, after_order}
-use Rattle.model_laws.proofs.Names.{can_start, deliver, invoke, on_kernel_object, replied, reply_of, through_gate, OrderOutcome, consume, is_running_process}
-use Rattle.model_laws.proofs.Names.{register_at, with_state}
+use Rattle.model_laws.proofs.Names.{Bool, true, false, Option, None, Some, List, ℕ, refl, subst, IsTrue, Capability, Resume, Start, Invocation, Operation, Call}
+use Rattle.model_laws.proofs.Names.{Return, Send, Geometry, Object, State, Available, Waiting, Effect, after_gate, after_order, can_start, deliver, invoke}
+use Rattle.model_laws.proofs.Names.{on_kernel_object, replied, reply_of, through_gate, OrderOutcome, consume, is_running_process, register_at, with_state}
+use Rattle.std.proofs.Common.{◌≡◌}
+use Rattle.std.specs.Prelude.{if◌then◌else◌}
 
 module _ {X : Type 0} (P : X → Type 0) where
   -- of both, or of the one that a test chooses

@@ -1,7 +1,8 @@
 -- Counts over numbered lists.
-use Rattle.model_laws.proofs.Names.{◌≡◌, ℕ, suc, ◌+◌, ◌==◌, ◌<◌, ◌≤◌, Bool, true, false, ◌&&◌, cond, List, [], ◌∷◌, length, get_or, inl, inr, refl, arith}
-use Rattle.model_laws.proofs.Names.{zero-add, add-zero, ◌∙◌, if◌then◌else◌, count_by, enumerate_from, cases_eq, eq-eqb, ne_eqb, sum_by-cons, and-false}
-use Rattle.model_laws.proofs.Names.{and-true}
+use Rattle.model_laws.proofs.Names.{ℕ, suc, Bool, true, false, cond, List, [], length, get_or, inl, inr, refl, arith, zero-add, add-zero, count_by}
+use Rattle.model_laws.proofs.Names.{enumerate_from, cases_eq, eq-eqb, ne_eqb, sum_by-cons, and-false, and-true}
+use Rattle.std.proofs.Common.{◌≡◌, ◌+◌, ◌==◌, ◌<◌, ◌≤◌, ◌&&◌, ◌∷◌, ◌∙◌}
+use Rattle.std.specs.Prelude.{if◌then◌else◌}
 
 -- two counts add up to a third where they do at each number
 pub count_both : {X : Type 0} (p q r : ℕ × X → Bool) (k : ℕ) (xs ys : List X) (d : X) → length ys ≡ length xs

@@ -1,12 +1,13 @@
 -- What is given up: exactly what is rescinded.
-use Rattle.model_laws.proofs.Names.{◌≡◌, ◌≢◌, ℕ, ◌==◌, ◌<◌, ◌&&◌, ◌||◌, Bool, true, false, not, List, [], ◌∷◌, inl, inr, refl, sym, ap, subst, arith, ◌∙◌}
-use Rattle.model_laws.proofs.Names.{IsTrue, if◌then◌else◌, nat_lt, slice_index_or, slice_set, range_with_len, cases_Bool, cases_eq, eqb-false, ext_get_or}
-use Rattle.model_laws.proofs.Names.{get_or-set_other, get_or-set_same, get_or-map-range_with_len, length-map-range_with_len, Capability, Bank, Process, Void}
-use Rattle.model_laws.proofs.Names.{Geometry, Content, Object, Arguments, BankOrder, ResultCode, chain, allocated, bank_allocated, freed, freed_by, free_nodes}
-use Rattle.model_laws.proofs.Names.{free_pages, has_quota, inherited, new_annex, new_node, new_page, new_root, on_bank, owned_by, process_allocated, under}
-use Rattle.model_laws.proofs.Names.{with_new, renewing, free, is_bank, is_free, OrderOutcome, made, refused, is_given_up, is_member, rescind, NamesItsKind}
-use Rattle.model_laws.proofs.Names.{content_at, object_at, owner_at, GivesUpNothing, GivesUpRescinded, rescinded_by, or-false}
-use Rattle.std.specs.Prelude.{length, map}
+use Rattle.model_laws.proofs.Names.{ℕ, Bool, true, false, not, List, [], inl, inr, refl, sym, ap, subst, arith, IsTrue, nat_lt, slice_index_or, slice_set}
+use Rattle.model_laws.proofs.Names.{range_with_len, cases_Bool, cases_eq, eqb-false, ext_get_or, get_or-set_other, get_or-set_same, get_or-map-range_with_len}
+use Rattle.model_laws.proofs.Names.{length-map-range_with_len, Capability, Bank, Process, Void, Geometry, Content, Object, Arguments, BankOrder, ResultCode}
+use Rattle.model_laws.proofs.Names.{chain, allocated, bank_allocated, freed, freed_by, free_nodes, free_pages, has_quota, inherited, new_annex, new_node}
+use Rattle.model_laws.proofs.Names.{new_page, new_root, on_bank, owned_by, process_allocated, under, with_new, renewing, free, is_bank, is_free, OrderOutcome}
+use Rattle.model_laws.proofs.Names.{made, refused, is_given_up, is_member, rescind, NamesItsKind, content_at, object_at, owner_at, GivesUpNothing}
+use Rattle.model_laws.proofs.Names.{GivesUpRescinded, rescinded_by, or-false}
+use Rattle.std.proofs.Common.{◌≡◌, ◌≢◌, ◌==◌, ◌<◌, ◌&&◌, ◌||◌, ◌∷◌, ◌∙◌}
+use Rattle.std.specs.Prelude.{if◌then◌else◌, length, map}
 use Rattle.model.specs.declared.object.Content.TheVariants as content
 use Rattle.model.specs.declared.order.BankOrder.TheVariants as bank
 use Rattle.model.specs.declared.order.ResultCode.TheVariants as code

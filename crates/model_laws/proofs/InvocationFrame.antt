@@ -1,12 +1,12 @@
 -- What invocations don't change: owners, roles, annexes, limits, and with them chains and usages.
-use Rattle.model_laws.proofs.Names.{◌≡◌, ℕ, ◌+◌, ◌==◌, not, ◌||◌, Option, None, Some, List, [], ◌∷◌, refl, sym, ap, subst, ◌∙◌, IsTrue, nat_lt, slice_index}
-use Rattle.model_laws.proofs.Names.{slice_index_or, and_parts, Access, Capability, Void, Number, Page, Node, Space, Process, Bank, Discrim, Invocation, Message}
-use Rattle.model_laws.proofs.Names.{Geometry, Object, Root, State, Available, Running, Arguments, BankOrder, NodeOrder, PageOrder, ProcessOrder, is_running}
-use Rattle.model_laws.proofs.Names.{with_slot_in, with_word_in, content_at, owner_at, root_at, annex_at, register_at, is_process, is_running_process, with_word}
-use Rattle.model_laws.proofs.Names.{with_slot, with_root, with_state, with_slots_from, consume, on_bank, OrderOutcome, refused, IsNoBankOrder, bank_order}
-use Rattle.model_laws.proofs.Names.{page_order, node_order, process_order, reduces, is_space, stored, on_page, on_node, on_process, order, Effect, deliver}
-use Rattle.model_laws.proofs.Names.{sent_by, sent_to_gate, after_gate, after_order, through_gate, reply_of, replied, ordered, on_kernel_object, invoke, IsSound}
-use Rattle.model_laws.proofs.Names.{Fits}
+use Rattle.model_laws.proofs.Names.{ℕ, not, Option, None, Some, List, [], refl, sym, ap, subst, IsTrue, nat_lt, slice_index, slice_index_or, and_parts, Access}
+use Rattle.model_laws.proofs.Names.{Capability, Void, Number, Page, Node, Space, Process, Bank, Discrim, Invocation, Message, Geometry, Object, Root, State}
+use Rattle.model_laws.proofs.Names.{Available, Running, Arguments, BankOrder, NodeOrder, PageOrder, ProcessOrder, is_running, with_slot_in, with_word_in}
+use Rattle.model_laws.proofs.Names.{content_at, owner_at, root_at, annex_at, register_at, is_process, is_running_process, with_word, with_slot, with_root}
+use Rattle.model_laws.proofs.Names.{with_state, with_slots_from, consume, on_bank, OrderOutcome, refused, IsNoBankOrder, bank_order, page_order, node_order}
+use Rattle.model_laws.proofs.Names.{process_order, reduces, is_space, stored, on_page, on_node, on_process, order, Effect, deliver, sent_by, sent_to_gate}
+use Rattle.model_laws.proofs.Names.{after_gate, after_order, through_gate, reply_of, replied, ordered, on_kernel_object, invoke, IsSound, Fits}
+use Rattle.std.proofs.Common.{◌≡◌, ◌+◌, ◌==◌, ◌||◌, ◌∷◌, ◌∙◌}
 use Rattle.model.specs.declared.command.Command.TheVariants as command
 use Rattle.model.specs.declared.order.NodeOrder.TheVariants as node
 use Rattle.model.specs.declared.order.PageOrder.TheVariants as page

@@ -1,7 +1,8 @@
 -- A saved world stays sound where a page of it has other words.
-use Rattle.model_laws.proofs.Names.{◌≡◌, ℕ, ◌+◌, ◌^◌, ◌<◌, ◌≤◌, Bool, true, false, Option, None, List, length, refl, sym, ap, ◌∙◌, subst, arith, and_parts}
-use Rattle.model_laws.proofs.Names.{not-true, slice_index, slice_index_or, Refusal, Capability, Geometry, Content, Object, Available, is_page, is_waiting}
-use Rattle.model_laws.proofs.Names.{root_in, words_in, HasShape, IsSound, unjournaled, unless, World, content_at, owner_at, with_content, JournalKeepsSound}
+use Rattle.model_laws.proofs.Names.{ℕ, Bool, true, false, Option, None, List, length, refl, sym, ap, subst, arith, and_parts, not-true, slice_index}
+use Rattle.model_laws.proofs.Names.{slice_index_or, Refusal, Capability, Geometry, Content, Object, Available, is_page, is_waiting, root_in, words_in, HasShape}
+use Rattle.model_laws.proofs.Names.{IsSound, unjournaled, unless, World, content_at, owner_at, with_content, JournalKeepsSound}
+use Rattle.std.proofs.Common.{◌≡◌, ◌+◌, ◌^◌, ◌<◌, ◌≤◌, ◌∙◌}
 use Rattle.model.specs.Machine.{Running}
 use Rattle.model.specs.declared.object.Content.TheVariants as content
 use Rattle.model_laws.proofs.SoundEdits.{IsEdited, at_content, frame_content, nearly_content}

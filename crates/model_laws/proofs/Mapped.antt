@@ -1,6 +1,7 @@
 -- A content with each capability in it changed is as it was in all else.
-use Rattle.model_laws.proofs.Names.{◌≡◌, ℕ, zero, suc, Bool, List, [], ◌∷◌, map, get_or, refl, sym, Capability, Void, Content, Object, is_bank, is_free}
-use Rattle.model_laws.proofs.Names.{is_root, limit_in, map_content, role_of, root_in, slots_in, void_where, without}
+use Rattle.model_laws.proofs.Names.{ℕ, zero, suc, Bool, List, [], map, get_or, refl, sym, Capability, Void, Content, Object, is_bank, is_free, is_root}
+use Rattle.model_laws.proofs.Names.{limit_in, map_content, role_of, root_in, slots_in, void_where, without}
+use Rattle.std.proofs.Common.{◌≡◌, ◌∷◌}
 use Rattle.model.specs.declared.object.Content.TheVariants as content
 use Rattle.model_laws.proofs.Cases.{one_of}
 use Rattle.model_laws.proofs.Usage.{AreAlike}

@@ -54,8 +54,7 @@ pub use Rattle.model.specs.declared.order.ProcessOrder.{ProcessOrder}
 pub use Rattle.model.specs.declared.order.ResultCode.{ResultCode}
 pub use Rattle.std.proofs.Common.{All, Bool, Err, List, None, Ok, Option, Result, Some, [], add-zero, ap, ap₂, arith, bytes_eq, codes, cond, decimal, drop}
 pub use Rattle.std.proofs.Common.{false, get_or, inl, inr, leb-true, length, length-append, lt-ltb, map, min, nat_eq, not, refl, replicate, set, slice_get}
-pub use Rattle.std.proofs.Common.{subst, suc, sym, take, true, zero, zero-add, zero-lt-suc, ℕ, ◌%◌, ◌&&◌, ◌*◌, ◌++◌, ◌+◌, ◌-◌, ◌<◌, ◌==◌, ◌^◌, ◌||◌, ◌↔◌, ◌∙◌}
-pub use Rattle.std.proofs.Common.{◌∷◌, ◌≡◌, ◌≢◌, ◌≤◌, ◌⊎◌}
+pub use Rattle.std.proofs.Common.{subst, suc, sym, take, true, zero, zero-add, zero-lt-suc, ℕ}
 pub use Rattle.std.proofs.Math.Bool.{and-false, and-true, or-false}
 pub use Rattle.std.proofs.Math.Seq.{drop-append_seam, take-append_seam}
 pub use Rattle.std.proofs.lemmas.Bool.{and_parts, and_right, cases_Bool, cases_eq, cases_lt, eq-eqb, eqb-false, eqb-true, false_from_ne_true, false≢true}
@@ -75,7 +74,7 @@ pub use Rattle.std.proofs.lemmas.Slice.Eq.{bytes_eq-Decides}
 unfoldable pub use Rattle.std.specs.Fmt.{digits}
 pub use Rattle.std.specs.List.{AllPairs, Contains, count_by, enumerate_from, filter, list_all, list_any, range_with_len, slice_split}
 pub use Rattle.std.specs.List.Sorted.{IsStrictlyIncreasing}
-pub use Rattle.std.specs.Prelude.{IsTrue, bit_or, if◌then◌else◌, nat_le, nat_lt, slice_index, slice_index_or, slice_set}
+pub use Rattle.std.specs.Prelude.{IsTrue, bit_or, nat_le, nat_lt, slice_index, slice_index_or, slice_set}
 pub use Rattle.std.specs.Str.Parse.{digits_value}
 pub use Rattle.model_laws.specs.Laws.{ConsumesAll, GivesUpNothing, GivesUpRescinded, InvocationKeepsSound, JournalKeepsSound, LogFullIsExact, RescindsAll}
 pub use Rattle.model_laws.specs.Laws.{SaysOne, SpellsOne, StoreLogFullIsExact, TouchesWritten, rescinded_by}

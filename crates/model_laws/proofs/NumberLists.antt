@@ -1,8 +1,8 @@
 -- Lists of numbers: their members, and the numbers of a range that pass a test.
-use Rattle.model_laws.proofs.Names.{◌≡◌, ◌≢◌, ◌⊎◌, inl, inr, ℕ, zero, suc, ◌+◌, ◌<◌, ◌≤◌, nat_eq, Bool, true, false, cond, List, [], ◌∷◌, get_or, All, refl}
-use Rattle.model_laws.proofs.Names.{sym, ap, arith, ◌∙◌, filter, range_with_len, IsStrictlyIncreasing, false≢true, cases_eq, false_from_ne_true, eq-eqb, ne_eqb}
-use Rattle.model_laws.proofs.Names.{eqb-true, or_cases, or_from, or_right, list_any_at, length-range_with_len, get_or-range_with_len}
-use Rattle.model_laws.proofs.Names.{IsStrictlyIncreasing-filter, is_member}
+use Rattle.model_laws.proofs.Names.{inl, inr, ℕ, zero, suc, nat_eq, Bool, true, false, cond, List, [], get_or, All, refl, sym, ap, arith, filter}
+use Rattle.model_laws.proofs.Names.{range_with_len, IsStrictlyIncreasing, false≢true, cases_eq, false_from_ne_true, eq-eqb, ne_eqb, eqb-true, or_cases, or_from}
+use Rattle.model_laws.proofs.Names.{or_right, list_any_at, length-range_with_len, get_or-range_with_len, IsStrictlyIncreasing-filter, is_member}
+use Rattle.std.proofs.Common.{◌≡◌, ◌≢◌, ◌⊎◌, ◌+◌, ◌<◌, ◌≤◌, ◌∷◌, ◌∙◌}
 use Rattle.model_laws.proofs.BankTree.{member_head}
 
 -- no number is twice in a list

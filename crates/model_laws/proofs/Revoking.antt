@@ -1,8 +1,8 @@
 -- What is rescinded or consumed is named nowhere any more.
-use Rattle.model_laws.proofs.Names.{◌≡◌, ℕ, zero, suc, ◌+◌, Bool, true, false, List, [], ◌∷◌, map, refl, sym, ap, ◌∙◌, subst, arith, add-zero, zero-add}
-use Rattle.model_laws.proofs.Names.{enumerate_from, Capability, Void, Object, free, is_free, slots_in, root_in, object_at, void_where, without, is_member}
-use Rattle.model_laws.proofs.Names.{names_member, resumes, rescind, RescindsAll, ConsumesAll}
-use Rattle.std.proofs.Common.{if◌then◌else◌, slice_index_or}
+use Rattle.model_laws.proofs.Names.{ℕ, zero, suc, Bool, true, false, List, [], map, refl, sym, ap, subst, arith, add-zero, zero-add, enumerate_from, Capability}
+use Rattle.model_laws.proofs.Names.{Void, Object, free, is_free, slots_in, root_in, object_at, void_where, without, is_member, names_member, resumes, rescind}
+use Rattle.model_laws.proofs.Names.{RescindsAll, ConsumesAll}
+use Rattle.std.proofs.Common.{◌≡◌, ◌+◌, ◌∷◌, ◌∙◌, if◌then◌else◌, slice_index_or}
 use Rattle.model_laws.proofs.Mapped.{void_void, without_mapped}
 use Rattle.model_laws.proofs.Cases.{chosen, one_of}
 use Rattle.model_laws.proofs.SoundEdits.{object_consume}

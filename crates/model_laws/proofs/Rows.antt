@@ -1,12 +1,11 @@
 -- A worked row is proved by computing it: where it is wrong, the error shows the line.
-use Rattle.model_laws.proofs.Names.{◌≡◌, ℕ, ◌<◌, ◌^◌, Bool, true, false, ◌&&◌, List, [], ◌∷◌, nat_eq, length, codes, All, bytes_eq, refl, ap₂, arith, digits}
-use Rattle.model_laws.proofs.Names.{list_all, and_parts, eqb-true, ltb-true, All-nil, All-cons, All-weaker, AllPass-from_list_all, bytes_eq-Decides, all_slots}
-use Rattle.model_laws.proofs.Names.{zero_words, with_content, with_word, with_slot, with_root, with_state, chain, usage, on_bank, has_quota, free_nodes}
-use Rattle.model_laws.proofs.Names.{free_pages, with_new, owned_by, inherited, under, rescind, consume, walk, on_page, on_node, on_process, order, deliver}
-use Rattle.model_laws.proofs.Names.{through_gate, on_kernel_object, invoke, renewing, untouched, refusal_of, carried_out, f0, i0, Command, Fits, command_words}
-use Rattle.model_laws.proofs.Names.{spelling, capability_text, word_lines, capability_lines, object_text, printed, bad_line, line_of, Row, IsRow, answered, row}
-use Rattle.model_laws.proofs.Names.{s0, b0}
-use Rattle.std.proofs.Common.{nat_lt}
+use Rattle.model_laws.proofs.Names.{ℕ, Bool, true, false, List, [], nat_eq, length, codes, All, bytes_eq, refl, ap₂, arith, digits, list_all, and_parts}
+use Rattle.model_laws.proofs.Names.{eqb-true, ltb-true, All-nil, All-cons, All-weaker, AllPass-from_list_all, bytes_eq-Decides, all_slots, zero_words}
+use Rattle.model_laws.proofs.Names.{with_content, with_word, with_slot, with_root, with_state, chain, usage, on_bank, has_quota, free_nodes, free_pages}
+use Rattle.model_laws.proofs.Names.{with_new, owned_by, inherited, under, rescind, consume, walk, on_page, on_node, on_process, order, deliver, through_gate}
+use Rattle.model_laws.proofs.Names.{on_kernel_object, invoke, renewing, untouched, refusal_of, carried_out, f0, i0, Command, Fits, command_words, spelling}
+use Rattle.model_laws.proofs.Names.{capability_text, word_lines, capability_lines, object_text, printed, bad_line, line_of, Row, IsRow, answered, row, s0, b0}
+use Rattle.std.proofs.Common.{◌≡◌, ◌<◌, ◌^◌, ◌&&◌, ◌∷◌, nat_lt}
 use Rattle.model.specs.Machine.{Running as Machine}
 use Rattle.model.specs.declared.command.Command.TheVariants as command
 use Rattle.model_laws.proofs.Spelling.{split, command_of}

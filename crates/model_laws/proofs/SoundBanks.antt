@@ -1,12 +1,14 @@
 -- An order of a bank keeps sound objects sound.
-use Rattle.model_laws.proofs.Names.{◌≡◌, ◌≢◌, inl, inr, ℕ, ◌+◌, ◌^◌, ◌<◌, ◌≤◌, Bool, true, false, Some, List, [], ◌∷◌, length, map, min, refl, sym, ap, subst}
-use Rattle.model_laws.proofs.Names.{arith, ◌∙◌, IsTrue, if◌then◌else◌, nat_le, nat_lt, slice_index, slice_index_or, AllPairs, list_all, range_with_len}
-use Rattle.model_laws.proofs.Names.{cases_eq, cases_Bool, and_parts, ltb-true, All-filter, All-head, All-get_or, All-from_get_or, filter_passes}
-use Rattle.model_laws.proofs.Names.{length-range_with_len, get_or-range_with_len, AllPairs-filter, Capability, Void, Page, Node, Space, Process, Start, Resume}
-use Rattle.model_laws.proofs.Names.{Bank, Geometry, Content, Object, Arguments, BankOrder, full, named, is_free, is_page, is_node, is_root, is_annex, is_bank}
-use Rattle.model_laws.proofs.Names.{role_of, words_in, slots_in, limit_in, root_in, object_at, content_at, owner_at, annex_at, root_at, is_process, chain}
-use Rattle.model_laws.proofs.Names.{usage, made, are_free, free_nodes, free_pages, has_quota, with_new, new_page, new_node, new_root, new_annex, allocated}
-use Rattle.model_laws.proofs.Names.{process_allocated, bank_allocated, left_of, least, remaining, on_bank, is_member, IsOfKind, HasShape}
+use Rattle.model_laws.proofs.Names.{inl, inr, ℕ, Bool, true, false, Some, List, [], length, map, min, refl, sym, ap, subst, arith, IsTrue, nat_le, nat_lt}
+use Rattle.model_laws.proofs.Names.{slice_index, slice_index_or, AllPairs, list_all, range_with_len, cases_eq, cases_Bool, and_parts, ltb-true, All-filter}
+use Rattle.model_laws.proofs.Names.{All-head, All-get_or, All-from_get_or, filter_passes, length-range_with_len, get_or-range_with_len, AllPairs-filter}
+use Rattle.model_laws.proofs.Names.{Capability, Void, Page, Node, Space, Process, Start, Resume, Bank, Geometry, Content, Object, Arguments, BankOrder, full}
+use Rattle.model_laws.proofs.Names.{named, is_free, is_page, is_node, is_root, is_annex, is_bank, role_of, words_in, slots_in, limit_in, root_in, object_at}
+use Rattle.model_laws.proofs.Names.{content_at, owner_at, annex_at, root_at, is_process, chain, usage, made, are_free, free_nodes, free_pages, has_quota}
+use Rattle.model_laws.proofs.Names.{with_new, new_page, new_node, new_root, new_annex, allocated, process_allocated, bank_allocated, left_of, least, remaining}
+use Rattle.model_laws.proofs.Names.{on_bank, is_member, IsOfKind, HasShape}
+use Rattle.std.proofs.Common.{◌≡◌, ◌≢◌, ◌+◌, ◌^◌, ◌<◌, ◌≤◌, ◌∷◌, ◌∙◌}
+use Rattle.std.specs.Prelude.{if◌then◌else◌}
 use Rattle.std.specs.List.{All}
 use Rattle.std.proofs.lemmas.Bool.{leb-true}
 use Rattle.model.specs.declared.object.Content.TheVariants as content

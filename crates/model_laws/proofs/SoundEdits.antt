@@ -1,8 +1,9 @@
-use Rattle.model_laws.proofs.Names.{◌≡◌, ◌≢◌, inl, inr, ℕ, ◌^◌, ◌==◌, ◌<◌, true, false, List, map, length, get_or, set, refl, sym, ap, subst, arith, ◌∙◌}
-use Rattle.model_laws.proofs.Names.{IsTrue, slice_index, cases_eq, cases_lt, eqb-false, get_or-set_same, get_or-set_other, set_past, length-set, length-map}
-use Rattle.model_laws.proofs.Names.{get_or_past, Capability, Void, Resume, Geometry, Content, Object, Root, State, free, is_root, is_annex, root_in}
-use Rattle.model_laws.proofs.Names.{with_word_in, with_slot_in, map_content, object_at, content_at, owner_at, root_at, annex_at, is_process, with_content}
-use Rattle.model_laws.proofs.Names.{with_word, with_slot, with_root, with_state, void_where, without, resumes, consume, IsSpace}
+use Rattle.model_laws.proofs.Names.{inl, inr, ℕ, true, false, List, map, length, get_or, set, refl, sym, ap, subst, arith, IsTrue, slice_index, cases_eq}
+use Rattle.model_laws.proofs.Names.{cases_lt, eqb-false, get_or-set_same, get_or-set_other, set_past, length-set, length-map, get_or_past, Capability, Void}
+use Rattle.model_laws.proofs.Names.{Resume, Geometry, Content, Object, Root, State, free, is_root, is_annex, root_in, with_word_in, with_slot_in, map_content}
+use Rattle.model_laws.proofs.Names.{object_at, content_at, owner_at, root_at, annex_at, is_process, with_content, with_word, with_slot, with_root, with_state}
+use Rattle.model_laws.proofs.Names.{void_where, without, resumes, consume, IsSpace}
+use Rattle.std.proofs.Common.{◌≡◌, ◌≢◌, ◌^◌, ◌==◌, ◌<◌, ◌∙◌}
 use Rattle.model.specs.declared.object.Content.TheVariants as content
 use Rattle.model_laws.proofs.Cases.{chosen}
 use Rattle.model_laws.proofs.Usage.{AreAlike, SameFrame, alike_refl, frame_trans}

@@ -1,10 +1,11 @@
-use Rattle.model_laws.proofs.Names.{◌≡◌, ◌≢◌, inl, inr, ℕ, zero, suc, ◌+◌, ◌^◌, ◌==◌, ◌<◌, ◌≤◌, true, false, ◌&&◌, ◌||◌, Some, List, [], ◌∷◌, map, length}
-use Rattle.model_laws.proofs.Names.{get_or, refl, sym, ap, subst, arith, ◌∙◌, IsTrue, slice_index, slice_index_or, slice_set, cases_eq, cases_lt, eqb-true}
-use Rattle.model_laws.proofs.Names.{and_parts, or_cases, get_or_past, Capability, Void, Resume, Invocation, Operation, Call, Return, Send, Geometry, Object}
-use Rattle.model_laws.proofs.Names.{Root, State, Available, Running, Waiting, ResultCode, is_available, is_running, is_waiting, root_at, annex_at, register_at}
-use Rattle.model_laws.proofs.Names.{is_process, is_running_process, with_slot, with_root, with_state, with_slots_from, consume, OrderOutcome, code_number}
-use Rattle.model_laws.proofs.Names.{Message, Effect, deliver, sent_by, is_return, sent_to_gate, after_gate, after_order, through_gate, reply_of, replied}
-use Rattle.model_laws.proofs.Names.{ordered, on_kernel_object, can_start, invoke, Fits, InvocationKeepsSound}
+use Rattle.model_laws.proofs.Names.{inl, inr, ℕ, zero, suc, true, false, Some, List, [], map, length, get_or, refl, sym, ap, subst, arith, IsTrue, slice_index}
+use Rattle.model_laws.proofs.Names.{slice_index_or, slice_set, cases_eq, cases_lt, eqb-true, and_parts, or_cases, get_or_past, Capability, Void, Resume}
+use Rattle.model_laws.proofs.Names.{Invocation, Operation, Call, Return, Send, Geometry, Object, Root, State, Available, Running, Waiting, ResultCode}
+use Rattle.model_laws.proofs.Names.{is_available, is_running, is_waiting, root_at, annex_at, register_at, is_process, is_running_process, with_slot, with_root}
+use Rattle.model_laws.proofs.Names.{with_state, with_slots_from, consume, OrderOutcome, code_number, Message, Effect, deliver, sent_by, is_return, sent_to_gate}
+use Rattle.model_laws.proofs.Names.{after_gate, after_order, through_gate, reply_of, replied, ordered, on_kernel_object, can_start, invoke, Fits}
+use Rattle.model_laws.proofs.Names.{InvocationKeepsSound}
+use Rattle.std.proofs.Common.{◌≡◌, ◌≢◌, ◌+◌, ◌^◌, ◌==◌, ◌<◌, ◌≤◌, ◌&&◌, ◌||◌, ◌∷◌, ◌∙◌}
 use Rattle.std.specs.List.{All}
 use Rattle.model.specs.declared.command.Command.TheVariants as command
 use Rattle.model.specs.declared.order.ResultCode.TheVariants as code

@@ -1,7 +1,8 @@
 -- Orders on any kernel object keep sound objects sound.
-use Rattle.model_laws.proofs.Names.{ℕ, ◌^◌, ◌==◌, ◌<◌, List, arith, Capability, Void, Number, Page, Node, Space, Process, Bank, Discrim, Geometry, Object}
-use Rattle.model_laws.proofs.Names.{Arguments, on_bank, IsWellFormed, union, access_bits, tag_of, bank_order, page_order, node_order, process_order, reduces}
-use Rattle.model_laws.proofs.Names.{on_page, on_node, on_process, order}
+use Rattle.model_laws.proofs.Names.{ℕ, List, arith, Capability, Void, Number, Page, Node, Space, Process, Bank, Discrim, Geometry, Object, Arguments, on_bank}
+use Rattle.model_laws.proofs.Names.{IsWellFormed, union, access_bits, tag_of, bank_order, page_order, node_order, process_order, reduces, on_page, on_node}
+use Rattle.model_laws.proofs.Names.{on_process, order}
+use Rattle.std.proofs.Common.{◌^◌, ◌==◌, ◌<◌}
 use Rattle.model_laws.proofs.Cases.{chosen, found_or}
 use Rattle.model_laws.proofs.SoundBanks.{on_bank_keeps}
 use Rattle.model_laws.proofs.SoundOrders.{IsNow, IsOutcome, AreArguments, access_fits, access_union, given_keeps, on_node_keeps, on_page_keeps}

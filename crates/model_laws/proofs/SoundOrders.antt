@@ -1,10 +1,10 @@
-use Rattle.model_laws.proofs.Names.{◌≡◌, ◌≢◌, ◌⊎◌, inl, inr, ℕ, zero, suc, ◌^◌, ◌==◌, ◌<◌, ◌≤◌, true, false, not, ◌||◌, List, [], ◌∷◌, length, refl, ap, arith}
-use Rattle.model_laws.proofs.Names.{◌∙◌, IsTrue, nat_lt, slice_index, bit_or, eqb-true, eqb-false, ltb-true, or_parts, or_cases, not-false, length-set, Access}
-use Rattle.model_laws.proofs.Names.{Capability, Void, Number, Page, Node, Space, Start, Geometry, Content, Object, Root, State, Available, Running, ResultCode}
-use Rattle.model_laws.proofs.Names.{PageOrder, NodeOrder, ProcessOrder, IsAccess, union, diminished, weak, is_root, is_node, is_annex, is_waiting, root_in}
-use Rattle.model_laws.proofs.Names.{state_number, content_at, word_at, slot_at, root_at, annex_at, register_at, is_process, with_state, consume, HasShape}
-use Rattle.model_laws.proofs.Names.{IsSpace, Arguments, OrderOutcome, refused, replying, given, wrote, reduces, fetched, stored, is_space, with_root_word}
-use Rattle.model_laws.proofs.Names.{with_space, on_page, on_node, on_process}
+use Rattle.model_laws.proofs.Names.{inl, inr, ℕ, zero, suc, true, false, not, List, [], length, refl, ap, arith, IsTrue, nat_lt, slice_index, bit_or, eqb-true}
+use Rattle.model_laws.proofs.Names.{eqb-false, ltb-true, or_parts, or_cases, not-false, length-set, Access, Capability, Void, Number, Page, Node, Space, Start}
+use Rattle.model_laws.proofs.Names.{Geometry, Content, Object, Root, State, Available, Running, ResultCode, PageOrder, NodeOrder, ProcessOrder, IsAccess, union}
+use Rattle.model_laws.proofs.Names.{diminished, weak, is_root, is_node, is_annex, is_waiting, root_in, state_number, content_at, word_at, slot_at, root_at}
+use Rattle.model_laws.proofs.Names.{annex_at, register_at, is_process, with_state, consume, HasShape, IsSpace, Arguments, OrderOutcome, refused, replying}
+use Rattle.model_laws.proofs.Names.{given, wrote, reduces, fetched, stored, is_space, with_root_word, with_space, on_page, on_node, on_process}
+use Rattle.std.proofs.Common.{◌≡◌, ◌≢◌, ◌⊎◌, ◌^◌, ◌==◌, ◌<◌, ◌≤◌, ◌||◌, ◌∷◌, ◌∙◌}
 use Rattle.model.specs.declared.object.Content.TheVariants as content
 use Rattle.model.specs.declared.order.PageOrder.TheVariants as page
 use Rattle.model.specs.declared.order.NodeOrder.TheVariants as node

@@ -1,7 +1,8 @@
-use Rattle.model_laws.proofs.Names.{◌≡◌, ◌≢◌, ℕ, ◌^◌, ◌<◌, ◌≤◌, true, Some, List, length, refl, sym, ◌∙◌, IsTrue, slice_index, slice_index_or, Contains}
-use Rattle.model_laws.proofs.Names.{Capability, Void, Page, Node, Space, Process, Start, Resume, Bank, Geometry, Content, Object, State, IsWellFormed, named}
-use Rattle.model_laws.proofs.Names.{is_free, is_annex, is_bank, is_waiting, role_of, words_in, slots_in, limit_in, root_in, World, content_at, owner_at}
-use Rattle.model_laws.proofs.Names.{root_at, annex_at, is_process, chain, usage, IsOfKind, HasShape, IsSpace, NamesItsKind, MayBeHeld, IsSound, object_count}
+use Rattle.model_laws.proofs.Names.{ℕ, true, Some, List, length, refl, sym, IsTrue, slice_index, slice_index_or, Contains, Capability, Void, Page, Node, Space}
+use Rattle.model_laws.proofs.Names.{Process, Start, Resume, Bank, Geometry, Content, Object, State, IsWellFormed, named, is_free, is_annex, is_bank, is_waiting}
+use Rattle.model_laws.proofs.Names.{role_of, words_in, slots_in, limit_in, root_in, World, content_at, owner_at, root_at, annex_at, is_process, chain, usage}
+use Rattle.model_laws.proofs.Names.{IsOfKind, HasShape, IsSpace, NamesItsKind, MayBeHeld, IsSound, object_count}
+use Rattle.std.proofs.Common.{◌≡◌, ◌≢◌, ◌^◌, ◌<◌, ◌≤◌, ◌∙◌}
 use Rattle.model_laws.proofs.Usage.{SameFrame, same_tests, tests_at, frame_refl, chain_same, usage_same}
 
 -- what a process does

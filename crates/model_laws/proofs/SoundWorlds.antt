@@ -1,10 +1,10 @@
 -- The worlds that scripts begin with are sound: each object is in its place.
-use Rattle.model_laws.proofs.Names.{◌≡◌, ◌≢◌, ◌⊎◌, ℕ, false, zero, suc, ◌+◌, ◌^◌, ◌<◌, ◌≤◌, true, List, [], ◌∷◌, ◌++◌, length, replicate, refl, sym, ◌∙◌, subst}
-use Rattle.model_laws.proofs.Names.{inl, inr, arith, false≢true, IsTrue, slice_index, slice_index_or, slice_set, Contains, Capability, Void, Page, Node}
-use Rattle.model_laws.proofs.Names.{Process, Start, Bank, Geometry, Content, Object, State, Available, Running, full, free, all_slots, zero_words, is_free}
-use Rattle.model_laws.proofs.Names.{is_root, is_annex, is_bank, words_in, slots_in, limit_in, root_in, World, object_at, content_at, owner_at, slot_at}
-use Rattle.model_laws.proofs.Names.{annex_at, is_process, chain, usage, IsOfKind, HasShape, IsSpace, MayBeHeld, IsSound, object_count, small, of_prime_bank}
-use Rattle.model_laws.proofs.Names.{fresh_root, prime_bank, f0, i0}
+use Rattle.model_laws.proofs.Names.{ℕ, false, zero, suc, true, List, [], length, replicate, refl, sym, subst, inl, inr, arith, false≢true, IsTrue, slice_index}
+use Rattle.model_laws.proofs.Names.{slice_index_or, slice_set, Contains, Capability, Void, Page, Node, Process, Start, Bank, Geometry, Content, Object, State}
+use Rattle.model_laws.proofs.Names.{Available, Running, full, free, all_slots, zero_words, is_free, is_root, is_annex, is_bank, words_in, slots_in, limit_in}
+use Rattle.model_laws.proofs.Names.{root_in, World, object_at, content_at, owner_at, slot_at, annex_at, is_process, chain, usage, IsOfKind, HasShape, IsSpace}
+use Rattle.model_laws.proofs.Names.{MayBeHeld, IsSound, object_count, small, of_prime_bank, fresh_root, prime_bank, f0, i0}
+use Rattle.std.proofs.Common.{◌≡◌, ◌≢◌, ◌⊎◌, ◌+◌, ◌^◌, ◌<◌, ◌≤◌, ◌∷◌, ◌++◌, ◌∙◌}
 use Rattle.model.specs.declared.object.Content.TheVariants as content
 use Rattle.model_laws.proofs.SoundEdits.{at_set}
 

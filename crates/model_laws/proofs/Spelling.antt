@@ -1,11 +1,10 @@
 -- The words of a line decide its command.
-use Rattle.model_laws.proofs.Names.{◌≡◌, ◌↔◌, ℕ, ◌+◌, ◌*◌, ◌<◌, ◌≤◌, ◌^◌, ◌==◌, Bool, true, false, ◌||◌, List, [], ◌∷◌, ◌++◌, map, length, take, drop, All}
-use Rattle.model_laws.proofs.Names.{codes, decimal, bytes_eq, inl, inr, refl, sym, ap, ap₂, ◌∙◌, subst, arith, leb-true, length-append, ◌%◌, slice_split}
-use Rattle.model_laws.proofs.Names.{list_any, digits_value, length-map, All-nil, All-cons, All-head, All-tail, All-append, All-push, All-map, All-weaker}
-use Rattle.model_laws.proofs.Names.{slice_split_none, slice_split_at, join_with_byte-slice_split, decimal_by_steps, decimal_is_IsNumeral, length-decimal-le}
-use Rattle.model_laws.proofs.Names.{take-append_seam, drop-append_seam, Command, Operation, Call, Return, Send, spaced, operation_name, command_words, spelling}
-use Rattle.model_laws.proofs.Names.{Fits, IsSkipped, Says, SpellsOne, SaysOne}
-use Rattle.std.proofs.Common.{nat_le, if◌then◌else◌, slice_index_or, ne_eqb}
+use Rattle.model_laws.proofs.Names.{ℕ, Bool, true, false, List, [], map, length, take, drop, All, codes, decimal, bytes_eq, inl, inr, refl, sym, ap, ap₂, subst}
+use Rattle.model_laws.proofs.Names.{arith, leb-true, length-append, slice_split, list_any, digits_value, length-map, All-nil, All-cons, All-head, All-tail}
+use Rattle.model_laws.proofs.Names.{All-append, All-push, All-map, All-weaker, slice_split_none, slice_split_at, join_with_byte-slice_split, decimal_by_steps}
+use Rattle.model_laws.proofs.Names.{decimal_is_IsNumeral, length-decimal-le, take-append_seam, drop-append_seam, Command, Operation, Call, Return, Send, spaced}
+use Rattle.model_laws.proofs.Names.{operation_name, command_words, spelling, Fits, IsSkipped, Says, SpellsOne, SaysOne}
+use Rattle.std.proofs.Common.{◌≡◌, ◌↔◌, ◌+◌, ◌*◌, ◌<◌, ◌≤◌, ◌^◌, ◌==◌, ◌||◌, ◌∷◌, ◌++◌, ◌∙◌, ◌%◌, nat_le, if◌then◌else◌, slice_index_or, ne_eqb}
 use Rattle.model.specs.declared.command.Command.TheVariants as command
 use Rattle.model.specs.declared.line.Line.TheVariants as line
 

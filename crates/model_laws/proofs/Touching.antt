@@ -1,9 +1,9 @@
 -- The numbers touched, and when an invocation or a store is refused since the log is full.
-use Rattle.model_laws.proofs.Names.{◌≡◌, ◌⊎◌, ◌↔◌, ℕ, zero, suc, ◌<◌, ◌^◌, Bool, true, false, not, ◌&&◌, List, [], ◌∷◌, length, slice_get, Some, None, Ok, Err}
-use Rattle.model_laws.proofs.Names.{Option, Result, inl, inr, refl, sym, ap, ◌∙◌, subst, arith, lt-ltb, zero-lt-suc, Contains, Contains-append_right}
-use Rattle.model_laws.proofs.Names.{MemoryFault, Refusal, Invocation, Geometry, is_running_process, Effect, invoke, touching, overfills, reached, refusal_of}
-use Rattle.model_laws.proofs.Names.{unless, writable, TouchesWritten, LogFullIsExact, StoreLogFullIsExact}
-use Rattle.std.proofs.Common.{slice_set, slice_index_or, IsTrue, length-set, ltb-true}
+use Rattle.model_laws.proofs.Names.{ℕ, zero, suc, Bool, true, false, not, List, [], length, slice_get, Some, None, Ok, Err, Option, Result, inl, inr, refl, sym}
+use Rattle.model_laws.proofs.Names.{ap, subst, arith, lt-ltb, zero-lt-suc, Contains, Contains-append_right, MemoryFault, Refusal, Invocation, Geometry}
+use Rattle.model_laws.proofs.Names.{is_running_process, Effect, invoke, touching, overfills, reached, refusal_of, unless, writable, TouchesWritten}
+use Rattle.model_laws.proofs.Names.{LogFullIsExact, StoreLogFullIsExact}
+use Rattle.std.proofs.Common.{◌≡◌, ◌⊎◌, ◌↔◌, ◌<◌, ◌^◌, ◌&&◌, ◌∷◌, ◌∙◌, slice_set, slice_index_or, IsTrue, length-set, ltb-true}
 use Rattle.model.specs.Machine.{Running}
 use Rattle.model.specs.declared.answer.Refusal.TheVariants as refusal
 use Rattle.model.specs.declared.command.Command.TheVariants as command

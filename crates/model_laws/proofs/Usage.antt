@@ -1,6 +1,7 @@
-use Rattle.model_laws.proofs.Names.{◌≡◌, ℕ, zero, suc, ◌==◌, Bool, not, ◌&&◌, List, length, refl, ap, Capability, Geometry, Content, Object, free, is_free}
-use Rattle.model_laws.proofs.Names.{is_page, is_node, is_root, is_annex, is_bank, role_of, limit_in, root_in, object_at, content_at, owner_at, chain_within}
-use Rattle.model_laws.proofs.Names.{chain, is_under, usage, IsOfKind}
+use Rattle.model_laws.proofs.Names.{ℕ, zero, suc, Bool, not, List, length, refl, ap, Capability, Geometry, Content, Object, free, is_free, is_page, is_node}
+use Rattle.model_laws.proofs.Names.{is_root, is_annex, is_bank, role_of, limit_in, root_in, object_at, content_at, owner_at, chain_within, chain, is_under}
+use Rattle.model_laws.proofs.Names.{usage, IsOfKind}
+use Rattle.std.proofs.Common.{◌≡◌, ◌==◌, ◌&&◌}
 use Rattle.model.specs.declared.object.Content.TheVariants as content
 use Rattle.model_laws.proofs.Counts.{count_alike}
 

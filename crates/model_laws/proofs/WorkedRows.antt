@@ -1,9 +1,10 @@
 -- Proofs of the worked rows: the definitions are computed.
-use Rattle.model_laws.proofs.Names.{◌≡◌, ◌≢◌, ℕ, true, false, Option, None, Some, List, [], ◌∷◌, ◌++◌, codes, All, bytes_eq, inl, inr, refl, sym, ap, ◌∙◌}
-use Rattle.model_laws.proofs.Names.{subst, arith, All-from_recursion, bytes_eq-Decides, Up, Answer, Outcome, outcome, refusal_of, carried_out, shown, small, i0}
-use Rattle.model_laws.proofs.Names.{Refusal, Command, Return, Fits, spelling, IsRow, references, objects, processes, refusals, saving, invokes, AnswersBySteps}
+use Rattle.model_laws.proofs.Names.{ℕ, true, false, Option, None, Some, List, [], codes, All, bytes_eq, inl, inr, refl, sym, ap, subst, arith}
+use Rattle.model_laws.proofs.Names.{All-from_recursion, bytes_eq-Decides, Up, Answer, Outcome, outcome, refusal_of, carried_out, shown, small, i0, Refusal}
+use Rattle.model_laws.proofs.Names.{Command, Return, Fits, spelling, IsRow, references, objects, processes, refusals, saving, invokes, AnswersBySteps}
 use Rattle.model_laws.proofs.Names.{FailsBetween, OpensAgain, WantsMemory, RescindsProcess, ChainsBanks, RevokesOnly, SaysCommands, SaysNothing, SaysBad}
 use Rattle.model_laws.proofs.Names.{CutsLines, RunsScript, PrintsRefusals}
+use Rattle.std.proofs.Common.{◌≡◌, ◌≢◌, ◌∷◌, ◌++◌, ◌∙◌}
 use Rattle.model.specs.Machine.{Running as Machine, Machine as UpOrDown}
 use Rattle.model.specs.declared.answer.Answer.TheVariants as answer
 use Rattle.model.specs.declared.command.Command.TheVariants as command

@@ -1,11 +1,12 @@
-use Rattle.model_laws.specs.Names.{◌≡◌, ◌⊎◌, ◌↔◌, ℕ, ◌+◌, ◌^◌, ◌<◌, Bool, true, false, None, Some, Ok, Err, List, []}
-use Rattle.model_laws.specs.Names.{◌∷◌, length, slice_get, slice_index, IsTrue, Contains, Access, MemoryFault}
-use Rattle.model_laws.specs.Names.{Capability, Command, Invocation, Geometry, Line, Object, Arguments, BankOrder}
-use Rattle.model_laws.specs.Names.{freed_by, on_bank, under, IsWeak, diminished, is_bank, is_free, World, content_at}
-use Rattle.model_laws.specs.Names.{object_at, register_at, slot_at, root_at, is_running_process, IsSound, MayBeHeld}
-use Rattle.model_laws.specs.Names.{rescind, consume, is_given_up, is_member, names_member, resumes, without}
-use Rattle.model_laws.specs.Names.{IsNoBankOrder, fetched, Effect, invoke, touching, touched_count, journaled, reached}
-use Rattle.model_laws.specs.Names.{refusal_of, unjournaled, writable, Fits, spelling, Says, small, f0, i0}
+use Rattle.model_laws.specs.Names.{ℕ, Bool, true, false, None, Some, Ok, Err, List, [], length, slice_get, slice_index}
+use Rattle.model_laws.specs.Names.{IsTrue, Contains, Access, MemoryFault, Capability, Command, Invocation, Geometry}
+use Rattle.model_laws.specs.Names.{Line, Object, Arguments, BankOrder, freed_by, on_bank, under, IsWeak, diminished}
+use Rattle.model_laws.specs.Names.{is_bank, is_free, World, content_at, object_at, register_at, slot_at, root_at}
+use Rattle.model_laws.specs.Names.{is_running_process, IsSound, MayBeHeld, rescind, consume, is_given_up, is_member}
+use Rattle.model_laws.specs.Names.{names_member, resumes, without, IsNoBankOrder, fetched, Effect, invoke, touching}
+use Rattle.model_laws.specs.Names.{touched_count, journaled, reached, refusal_of, unjournaled, writable, Fits, spelling}
+use Rattle.model_laws.specs.Names.{Says, small, f0, i0}
+use Rattle.std.specs.Prelude.{◌≡◌, ◌⊎◌, ◌↔◌, ◌+◌, ◌^◌, ◌<◌, ◌∷◌}
 use Rattle.model.specs.Machine.{Running}
 use Rattle.model.specs.declared.answer.Refusal.TheVariants as refusal
 use Rattle.model.specs.declared.command.Command.TheVariants as command

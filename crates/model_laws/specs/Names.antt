@@ -41,5 +41,4 @@ pub use Rattle.model.specs.declared.order.Arguments.{Arguments}
 pub use Rattle.model.specs.declared.order.BankOrder.{BankOrder}
 pub use Rattle.std.specs.List.{All, Contains, flat_map}
 pub use Rattle.std.specs.Prelude.{Bool, Err, IsTrue, List, None, Ok, Some, [], codes, false, length, map, replicate}
-pub use Rattle.std.specs.Prelude.{slice_get, slice_index, slice_set, true, ℕ, ◌++◌, ◌+◌, ◌-◌, ◌<◌, ◌^◌, ◌↔◌, ◌∷◌, ◌≡◌}
-pub use Rattle.std.specs.Prelude.{◌⊎◌}
+pub use Rattle.std.specs.Prelude.{slice_get, slice_index, slice_set, true, ℕ}

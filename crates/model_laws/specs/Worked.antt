@@ -1,8 +1,9 @@
 -- Worked scripts: what the machine of the definitions answers to lines.
-use Rattle.model_laws.specs.Names.{◌≡◌, ℕ, true, false, None, Some, List, [], ◌∷◌, ◌++◌, map, replicate, slice_set}
-use Rattle.model_laws.specs.Names.{codes, All, Void, Page, Node, Process, Start, Discrim, Command, Running, full, free}
-use Rattle.model_laws.specs.Names.{all_slots, zero_words, World, opened, Outcome, outcome, refusal_of, carried_out}
-use Rattle.model_laws.specs.Names.{Fits, spelling, printed, line_of, small, of_prime_bank, fresh_root, prime_bank, i0}
+use Rattle.model_laws.specs.Names.{ℕ, true, false, None, Some, List, [], map, replicate, slice_set, codes, All, Void}
+use Rattle.model_laws.specs.Names.{Page, Node, Process, Start, Discrim, Command, Running, full, free, all_slots}
+use Rattle.model_laws.specs.Names.{zero_words, World, opened, Outcome, outcome, refusal_of, carried_out, Fits, spelling}
+use Rattle.model_laws.specs.Names.{printed, line_of, small, of_prime_bank, fresh_root, prime_bank, i0}
+use Rattle.std.specs.Prelude.{◌≡◌, ◌∷◌, ◌++◌}
 use Rattle.model.specs.declared.answer.Answer.TheVariants as answer
 use Rattle.model.specs.declared.object.Content.TheVariants as content
 use Rattle.model.specs.Machine.{Running as Machine}

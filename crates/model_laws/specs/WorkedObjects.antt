@@ -1,5 +1,6 @@
 -- Worked rows: pages and nodes, what is fetched through weak ones, and banks.
-use Rattle.model_laws.specs.Names.{List, [], ◌∷◌, f0}
+use Rattle.model_laws.specs.Names.{List, [], f0}
+use Rattle.std.specs.Prelude.{◌∷◌}
 use Rattle.model_laws.specs.Shown.{f0_registers, s0_registers, s0_with_weak, process_1}
 use Rattle.model_laws.specs.Worked.{Row, at_world, b0, row, s0}
 use Prim.Native.String.{◌++◌}

@@ -1,5 +1,6 @@
 -- Worked rows: processes that start, answer and wait, and the orders on them.
-use Rattle.model_laws.specs.Names.{List, [], ◌∷◌, i0}
+use Rattle.model_laws.specs.Names.{List, [], i0}
+use Rattle.std.specs.Prelude.{◌∷◌}
 use Rattle.model_laws.specs.Shown.{i0_registers, process_1, process_3}
 use Rattle.model_laws.specs.Worked.{Row, at_world, row}
 use Prim.Native.String.{◌++◌}

@@ -1,5 +1,6 @@
 -- Worked rows: refusals, the end of the age, and a full log.
-use Rattle.model_laws.specs.Names.{◌^◌, ◌-◌, List, [], ◌∷◌, f0, i0}
+use Rattle.model_laws.specs.Names.{List, [], f0, i0}
+use Rattle.std.specs.Prelude.{◌^◌, ◌-◌, ◌∷◌}
 use Rattle.model_laws.specs.Worked.{Row, aged, at_world, row, s0, with_all_nodes_written}
 
 -- references without a space or by what is no running process

@@ -1,5 +1,6 @@
 -- Worked rows: checkpoints and journals.
-use Rattle.model_laws.specs.Names.{List, [], ◌∷◌, f0, i0}
+use Rattle.model_laws.specs.Names.{List, [], f0, i0}
+use Rattle.std.specs.Prelude.{◌∷◌}
 use Rattle.model_laws.specs.Worked.{Row, at_world, row, s0}
 use Prim.Native.String.{String}
 

@@ -1,8 +1,9 @@
-use Rattle.model_laws.specs.Names.{Object, ◌≡◌, ℕ, List, [], ◌∷◌, ◌++◌, map, replicate, slice_set, Answer, Capability}
-use Rattle.model_laws.specs.Names.{Void, Number, Page, Node, Space, Process, Start, Resume, Bank, Discrim, Command}
-use Rattle.model_laws.specs.Names.{Operation, Call, Send, Running, full, weak, free, all_slots, owner_at, chain, Saved}
-use Rattle.model_laws.specs.Names.{Up, Down, candidates, opened, rescind, consume, Proceeds, Step, second, small}
-use Rattle.model_laws.specs.Names.{of_prime_bank, fresh_root, prime_bank, f0, i0}
+use Rattle.model_laws.specs.Names.{Object, ℕ, List, [], map, replicate, slice_set, Answer, Capability, Void, Number}
+use Rattle.model_laws.specs.Names.{Page, Node, Space, Process, Start, Resume, Bank, Discrim, Command, Operation, Call}
+use Rattle.model_laws.specs.Names.{Send, Running, full, weak, free, all_slots, owner_at, chain, Saved, Up, Down}
+use Rattle.model_laws.specs.Names.{candidates, opened, rescind, consume, Proceeds, Step, second, small, of_prime_bank}
+use Rattle.model_laws.specs.Names.{fresh_root, prime_bank, f0, i0}
+use Rattle.std.specs.Prelude.{◌≡◌, ◌∷◌, ◌++◌}
 use Rattle.model.specs.declared.answer.Answer.TheVariants as answer
 use Rattle.model.specs.declared.command.Command.TheVariants as command
 use Rattle.model.specs.declared.answer.Refusal.TheVariants as refusal

@@ -1,6 +1,7 @@
-use Rattle.model_laws.specs.Names.{◌≡◌, ℕ, ◌^◌, ◌-◌, List, [], ◌∷◌, ◌++◌, map, replicate, codes, flat_map, Return}
-use Rattle.model_laws.specs.Names.{NotPage, Renewed, Up, Turn, Reply, BadLine, Reported, IsRun, output_of, lines_of}
-use Rattle.model_laws.specs.Names.{shown, Says, printed, line_of, small, i0}
+use Rattle.model_laws.specs.Names.{ℕ, List, [], map, replicate, codes, flat_map, Return, NotPage, Renewed, Up, Turn}
+use Rattle.model_laws.specs.Names.{Reply, BadLine, Reported, IsRun, output_of, lines_of, shown, Says, printed, line_of}
+use Rattle.model_laws.specs.Names.{small, i0}
+use Rattle.std.specs.Prelude.{◌≡◌, ◌^◌, ◌-◌, ◌∷◌, ◌++◌}
 use Rattle.model.specs.declared.answer.Answer.TheVariants as answer
 use Rattle.model.specs.declared.command.Command.TheVariants as command
 use Rattle.model.specs.declared.answer.Refusal.TheVariants as refusal

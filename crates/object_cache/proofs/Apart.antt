@@ -1,9 +1,10 @@
 -- What an object was frozen as is kept apart from what it holds.
-use Rattle.object_cache.proofs.Names.{◌≡◌, inr, ℕ, ◌<◌, Bool, true, false, List, length, map, set, Option, Some, None, option_map, refl, sym, ap, ◌∙◌, arith}
-use Rattle.object_cache.proofs.Names.{length-set, get_or-map, get_or-set_same, get_or-set_other, map-set, set-get_or, none-some, same_Some, Cap, Content}
-use Rattle.object_cache.proofs.Names.{header_at, Disk, DurableState, Stored, below_at, stored_of, Entry, entry_at, with_entry, keeping, present_of, buffer_of}
-use Rattle.object_cache.proofs.Names.{Memory, Shared, Apart, mark_at, present_body, newest_body, below_body, apart_body, frozen_body, frozen_frame, owed_of}
-use Rattle.object_cache.proofs.Names.{owed_body, owed_in_memory, owed_in, StoreState, IsCache, IsFetchedIn, cache_of, owed_at, cached_in, some_of}
+use Rattle.object_cache.proofs.Names.{inr, ℕ, Bool, true, false, List, length, map, set, Option, Some, None, option_map, refl, sym, ap, arith, length-set}
+use Rattle.object_cache.proofs.Names.{get_or-map, get_or-set_same, get_or-set_other, map-set, set-get_or, none-some, same_Some, Cap, Content, header_at, Disk}
+use Rattle.object_cache.proofs.Names.{DurableState, Stored, below_at, stored_of, Entry, entry_at, with_entry, keeping, present_of, buffer_of, Memory, Shared}
+use Rattle.object_cache.proofs.Names.{Apart, mark_at, present_body, newest_body, below_body, apart_body, frozen_body, frozen_frame, owed_of, owed_body}
+use Rattle.object_cache.proofs.Names.{owed_in_memory, owed_in, StoreState, IsCache, IsFetchedIn, cache_of, owed_at, cached_in, some_of}
+use Rattle.std.proofs.Common.{◌≡◌, ◌<◌, ◌∙◌}
 use Rattle.object_cache.proofs.Changing.{with_objects}
 use Rattle.object_cache.proofs.Objects.{has_entry, fetched_known}
 use Rattle.object_cache.proofs.Caching.{Recaches, cached_cache, owed_changed, seen_cached, owed_entry}

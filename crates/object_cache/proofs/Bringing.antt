@@ -1,10 +1,11 @@
 -- Objects are brought into memory: those used last stay there.
-use Rattle.object_cache.proofs.Names.{◌≡◌, ◌↔◌, inl, inr, ℕ, zero, suc, ◌+◌, ◌<◌, ◌≤◌, nat_eq, Bool, true, false, ◌||◌, true≢false, List, [], ◌∷◌, length, set}
-use Rattle.object_cache.proofs.Names.{take, Option, Some, None, IsSome, is_some, Result, Ok, Err, refl, sym, ap, subst, ◌∙◌, arith, IsErrOf, OnOk, OnErr}
-use Rattle.object_cache.proofs.Names.{slice_index_or, Contains, cases_eq, cases_lt, eq-eqb, get_or_past, get_or_default, get_or-set_same, get_or-set_other}
-use Rattle.object_cache.proofs.Names.{length-map, Cap, Geometry, Content, AreKeepable, is_member, Image, Disk, most, DurableState, stored_of, frames_of}
-use Rattle.object_cache.proofs.Names.{Snapshots, FrozenFrames, Entry, buffer_of, Memory, without, StoreState, IsCache, IsFetchedIn, GoesOnIn, cache_of}
-use Rattle.object_cache.proofs.Names.{parts_of, cached_at, cached_in, with_cached, IsRecentIn, on_device_with, goes_on_same, front_without}
+use Rattle.object_cache.proofs.Names.{inl, inr, ℕ, zero, suc, nat_eq, Bool, true, false, true≢false, List, [], length, set, take, Option, Some, None, IsSome}
+use Rattle.object_cache.proofs.Names.{is_some, Result, Ok, Err, refl, sym, ap, subst, arith, IsErrOf, OnOk, OnErr, slice_index_or, Contains, cases_eq, cases_lt}
+use Rattle.object_cache.proofs.Names.{eq-eqb, get_or_past, get_or_default, get_or-set_same, get_or-set_other, length-map, Cap, Geometry, Content, AreKeepable}
+use Rattle.object_cache.proofs.Names.{is_member, Image, Disk, most, DurableState, stored_of, frames_of, Snapshots, FrozenFrames, Entry, buffer_of, Memory}
+use Rattle.object_cache.proofs.Names.{without, StoreState, IsCache, IsFetchedIn, GoesOnIn, cache_of, parts_of, cached_at, cached_in, with_cached, IsRecentIn}
+use Rattle.object_cache.proofs.Names.{on_device_with, goes_on_same, front_without}
+use Rattle.std.proofs.Common.{◌≡◌, ◌↔◌, ◌+◌, ◌<◌, ◌≤◌, ◌||◌, ◌∷◌, ◌∙◌}
 use Rattle.std.specs.Prelude.{option_map}
 use Rattle.model.specs.declared.object.Content.TheVariants as content
 use Rattle.capability.specs.declared.present.PrepareFault.TheVariants as fault

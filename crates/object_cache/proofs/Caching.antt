@@ -1,12 +1,12 @@
 -- A number gets an entry, or has one no more: no object and no frozen frame is another.
-use Rattle.object_cache.proofs.Names.{◌≡◌, ◌≢◌, ◌⊎◌, inl, inr, ℕ, ◌<◌, Bool, true, false, true≢false, cond, List, ◌∷◌, length, set, Option, Some, None}
-use Rattle.object_cache.proofs.Names.{option_map, refl, sym, ap, subst, ◌∙◌, arith, length-set, cases_eq, ne_eqb, get_or-set_same, get_or-set_other, map-set}
-use Rattle.object_cache.proofs.Names.{get_or-map-range_with_len, none-some, same_Some, Cap, Frame, Content, Role, header_at, held_at, AreKeepable, Disk, Put}
-use Rattle.object_cache.proofs.Names.{Kept, put_at, most, DurableState, FrozenPuts, Stored, below_at, stored_of, maps_same, map_set, Entry, Held, entry_at}
-use Rattle.object_cache.proofs.Names.{buffer_of, Memory, Owed, Nothing, mark_at, masked, in_staging, put_body, present_body, content_at, present_at}
-use Rattle.object_cache.proofs.Names.{newest_body, below_body, apart_body, frozen_body, frozen_frame, frozen_at, owed_of, owed_body, owed_in_memory}
-use Rattle.object_cache.proofs.Names.{contents_in, frozen_in, owed_in, StoreState, IsCache, IsFetchedIn, cache_of, is_kept, newly_owed, owed_at, cached_at}
-use Rattle.object_cache.proofs.Names.{cached_in, with_cached, without}
+use Rattle.object_cache.proofs.Names.{inl, inr, ℕ, Bool, true, false, true≢false, cond, List, length, set, Option, Some, None, option_map, refl, sym, ap, subst}
+use Rattle.object_cache.proofs.Names.{arith, length-set, cases_eq, ne_eqb, get_or-set_same, get_or-set_other, map-set, get_or-map-range_with_len, none-some}
+use Rattle.object_cache.proofs.Names.{same_Some, Cap, Frame, Content, Role, header_at, held_at, AreKeepable, Disk, Put, Kept, put_at, most, DurableState}
+use Rattle.object_cache.proofs.Names.{FrozenPuts, Stored, below_at, stored_of, maps_same, map_set, Entry, Held, entry_at, buffer_of, Memory, Owed, Nothing}
+use Rattle.object_cache.proofs.Names.{mark_at, masked, in_staging, put_body, present_body, content_at, present_at, newest_body, below_body, apart_body}
+use Rattle.object_cache.proofs.Names.{frozen_body, frozen_frame, frozen_at, owed_of, owed_body, owed_in_memory, contents_in, frozen_in, owed_in, StoreState}
+use Rattle.object_cache.proofs.Names.{IsCache, IsFetchedIn, cache_of, is_kept, newly_owed, owed_at, cached_at, cached_in, with_cached, without}
+use Rattle.std.proofs.Common.{◌≡◌, ◌≢◌, ◌⊎◌, ◌<◌, ◌∷◌, ◌∙◌}
 use Rattle.model.specs.declared.object.Content.TheVariants as content
 use Rattle.model.specs.declared.object.Role.TheVariants as role
 use Rattle.object_cache.proofs.Changing.{with_objects}

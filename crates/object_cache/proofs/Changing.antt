@@ -1,9 +1,10 @@
 -- One object is changed that is to be put: no frozen frame is another, and what always holds still does.
-use Rattle.object_cache.proofs.Names.{◌≡◌, ◌≢◌, ◌⊎◌, inl, inr, ℕ, ◌<◌, Bool, true, false, true≢false, List, length, map, set, Option, Some, None, option_map}
-use Rattle.object_cache.proofs.Names.{refl, sym, ap, subst, ◌∙◌, arith, range_with_len, cases_eq, none-some, same_Some, Cap, ObjectHeader, Content, header_at}
-use Rattle.object_cache.proofs.Names.{AreKeepable, Kept, most, Stored, below_at, maps_same, map_set, Entry, entry_at, Memory, mark_at, present_body, content_at}
-use Rattle.object_cache.proofs.Names.{present_at, newest_body, below_body, apart_body, frozen_body, frozen_frame, frozen_at, owed_of, owed_body, owed_in_memory}
-use Rattle.object_cache.proofs.Names.{contents_in, frozen_in, owed_in, IsCache}
+use Rattle.object_cache.proofs.Names.{inl, inr, ℕ, Bool, true, false, true≢false, List, length, map, set, Option, Some, None, option_map, refl, sym, ap, subst}
+use Rattle.object_cache.proofs.Names.{arith, range_with_len, cases_eq, none-some, same_Some, Cap, ObjectHeader, Content, header_at, AreKeepable, Kept, most}
+use Rattle.object_cache.proofs.Names.{Stored, below_at, maps_same, map_set, Entry, entry_at, Memory, mark_at, present_body, content_at, present_at, newest_body}
+use Rattle.object_cache.proofs.Names.{below_body, apart_body, frozen_body, frozen_frame, frozen_at, owed_of, owed_body, owed_in_memory, contents_in, frozen_in}
+use Rattle.object_cache.proofs.Names.{owed_in, IsCache}
+use Rattle.std.proofs.Common.{◌≡◌, ◌≢◌, ◌⊎◌, ◌<◌, ◌∙◌}
 use Rattle.model.specs.declared.object.Role.TheVariants as role
 
 abbrev pub kept_of : Entry → Option (Content Cap)

@@ -1,9 +1,10 @@
 -- A free number becomes an object, in the spare body of its entry.
-use Rattle.object_cache.proofs.Names.{◌≡◌, ◌≢◌, ℕ, ◌<◌, Bool, true≢false, cond, List, length, set, Option, Some, None, IsSome, is_some, option_map, refl, sym}
-use Rattle.object_cache.proofs.Names.{ap, ◌∙◌, arith, length-set, lt-ltb, le-ltb, get_or-set_same, get_or-set_other, none-some, same_Some, Cap, ObjectHeader}
-use Rattle.object_cache.proofs.Names.{Geometry, Content, Role, blank_header, header_at, void_held, all_slots, zero_words, Disk, DurableState, stored_of, Fresh}
-use Rattle.object_cache.proofs.Names.{IsFreshAt, spare_body_at, spare_body_for, Entry, entry_at, with_entry, holding, reserving, buffer_of, Memory}
-use Rattle.object_cache.proofs.Names.{present_body, newest_body, contents_in, StoreState, IsCache, IsFetchedIn, IsAnnouncedIn, cache_of, cached_at, cached_in}
+use Rattle.object_cache.proofs.Names.{ℕ, Bool, true≢false, cond, List, length, set, Option, Some, None, IsSome, is_some, option_map, refl, sym, ap, arith}
+use Rattle.object_cache.proofs.Names.{length-set, lt-ltb, le-ltb, get_or-set_same, get_or-set_other, none-some, same_Some, Cap, ObjectHeader, Geometry, Content}
+use Rattle.object_cache.proofs.Names.{Role, blank_header, header_at, void_held, all_slots, zero_words, Disk, DurableState, stored_of, Fresh, IsFreshAt}
+use Rattle.object_cache.proofs.Names.{spare_body_at, spare_body_for, Entry, entry_at, with_entry, holding, reserving, buffer_of, Memory, present_body}
+use Rattle.object_cache.proofs.Names.{newest_body, contents_in, StoreState, IsCache, IsFetchedIn, IsAnnouncedIn, cache_of, cached_at, cached_in}
+use Rattle.std.proofs.Common.{◌≡◌, ◌≢◌, ◌<◌, ◌∙◌}
 use Rattle.model.specs.declared.object.Content.TheVariants as content
 use Rattle.model.specs.declared.object.Role.TheVariants as role
 use Rattle.capability.specs.declared.present.Fresh.TheVariants as fresh

@@ -1,6 +1,7 @@
 -- Headers of marked numbers are copied, one after the other.
-use Rattle.object_cache.proofs.Names.{◌≡◌, inl, inr, ℕ, ◌+◌, ◌<◌, Bool, true, true≢false, List, length, set, sym, ap, ◌∙◌, arith, cases_eq, cases_lt}
-use Rattle.object_cache.proofs.Names.{get_or-set_same, get_or-set_other, ObjectHeader, blank_header, header_at, IsNextMarked, HasNoneMarked, mark_at}
+use Rattle.object_cache.proofs.Names.{inl, inr, ℕ, Bool, true, true≢false, List, length, set, sym, ap, arith, cases_eq, cases_lt, get_or-set_same}
+use Rattle.object_cache.proofs.Names.{get_or-set_other, ObjectHeader, blank_header, header_at, IsNextMarked, HasNoneMarked, mark_at}
+use Rattle.std.proofs.Common.{◌≡◌, ◌+◌, ◌<◌, ◌∙◌}
 
 module _ (hs ts : List ObjectHeader) (marks : List Bool) (from : ℕ) (before : (k : ℕ) → k < from → mark_at marks k ≡ true → header_at hs k ≡ header_at ts k) where
   pub one_more : (n : ℕ) → IsNextMarked marks from n → n < length hs → (h : ObjectHeader) → h ≡ header_at ts n →

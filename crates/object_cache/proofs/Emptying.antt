@@ -1,7 +1,8 @@
 -- Bodies are taken out of their entries, by number.
-use Rattle.object_cache.proofs.Names.{◌≡◌, inl, inr, ℕ, ◌+◌, ◌<◌, ◌≤◌, List, [], ◌∷◌, ◌++◌, length, set, Option, Some, None, option_map, sym, ap, subst, ◌∙◌}
-use Rattle.object_cache.proofs.Names.{arith, length-set, cases_lt, ext_get_or, get_or-set_other, get_or_append_left, get_or_at, length-append, Cap, Content}
-use Rattle.object_cache.proofs.Names.{held_at, Disk, DurableState, stored_of, Entry, entry_at, present_of, Memory, StoreState, IsWhole, cache_of}
+use Rattle.object_cache.proofs.Names.{inl, inr, ℕ, List, [], length, set, Option, Some, None, option_map, sym, ap, subst, arith, length-set, cases_lt}
+use Rattle.object_cache.proofs.Names.{ext_get_or, get_or-set_other, get_or_append_left, get_or_at, length-append, Cap, Content, held_at, Disk, DurableState}
+use Rattle.object_cache.proofs.Names.{stored_of, Entry, entry_at, present_of, Memory, StoreState, IsWhole, cache_of}
+use Rattle.std.proofs.Common.{◌≡◌, ◌+◌, ◌<◌, ◌≤◌, ◌∷◌, ◌++◌, ◌∙◌}
 use Rattle.model.specs.declared.object.Content.TheVariants as content
 use Rattle.object_cache.proofs.Objects.{contents_count, entry_holds}
 

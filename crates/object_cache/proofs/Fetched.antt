@@ -1,7 +1,8 @@
 -- What an object without an entry holds is read: nothing that is seen is another.
-use Rattle.object_cache.proofs.Names.{◌≡◌, ℕ, ◌<◌, ◌≤◌, List, length, Option, None, refl, sym, ap, subst, ◌∙◌, arith, header_at, held_at, object_count, Disk}
-use Rattle.object_cache.proofs.Names.{put_at, DurableState, Stored, ReadsStore, below_at, newest, stored_of, Entry, Held, Memory, masked, in_staging, put_body}
-use Rattle.object_cache.proofs.Names.{present_body, newest_body, contents_in, StoreState, IsCache, GoesOnIn, cache_of, frozen_seen, cached_at}
+use Rattle.object_cache.proofs.Names.{ℕ, List, length, Option, None, refl, sym, ap, subst, arith, header_at, held_at, object_count, Disk, put_at, DurableState}
+use Rattle.object_cache.proofs.Names.{Stored, ReadsStore, below_at, newest, stored_of, Entry, Held, Memory, masked, in_staging, put_body, present_body}
+use Rattle.object_cache.proofs.Names.{newest_body, contents_in, StoreState, IsCache, GoesOnIn, cache_of, frozen_seen, cached_at}
+use Rattle.std.proofs.Common.{◌≡◌, ◌<◌, ◌≤◌, ◌∙◌}
 use Rattle.object_cache.proofs.Freezing.{put_or_body}
 use Rattle.object_cache.proofs.Objects.{content_in}
 use Rattle.object_cache.proofs.Caching.{no_entry}

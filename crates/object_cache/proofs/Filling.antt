@@ -1,6 +1,7 @@
 -- The bodies of all objects are put in the cache, by number.
-use Rattle.object_cache.proofs.Names.{◌≡◌, inl, inr, ℕ, ◌+◌, ◌<◌, ◌≤◌, List, ◌∷◌, length, set, Some, None, refl, sym, ap, subst, ◌∙◌, arith, length-set}
-use Rattle.object_cache.proofs.Names.{cases_lt, get_or-set_other, Cap, Content, held_at, StoreState, IsFetchedIn, cached_at, with_cached}
+use Rattle.object_cache.proofs.Names.{inl, inr, ℕ, List, length, set, Some, None, refl, sym, ap, subst, arith, length-set, cases_lt, get_or-set_other, Cap}
+use Rattle.object_cache.proofs.Names.{Content, held_at, StoreState, IsFetchedIn, cached_at, with_cached}
+use Rattle.std.proofs.Common.{◌≡◌, ◌+◌, ◌<◌, ◌≤◌, ◌∷◌, ◌∙◌}
 use Rattle.model.specs.declared.object.Content.TheVariants as content
 use Rattle.object_cache.proofs.Bringing.{still_cached}
 

@@ -1,13 +1,14 @@
 -- A checkpoint begins: all objects are frozen as they are.
-use Rattle.object_cache.proofs.Names.{◌≡◌, inl, inr, ℕ, zero, suc, ◌<◌, ◌≤◌, Bool, true, false, true≢false, cond, ◌||◌, List, [], ◌∷◌, length, map, replicate}
-use Rattle.object_cache.proofs.Names.{Option, Some, None, option_map, refl, sym, ap, subst, ◌∙◌, arith, count_by, slice_index_or, range_with_len, cases_lt}
-use Rattle.object_cache.proofs.Names.{length-replicate, get_or-replicate, get_or_past, same_lists, ext_get_or, length-map-range_with_len}
-use Rattle.object_cache.proofs.Names.{get_or-map-range_with_len, sum_by-cons, none-some, same_Some, Cap, Frame, ObjectHeader, Content, Role, blank_frame}
-use Rattle.object_cache.proofs.Names.{frame_at, frames_in, header_at, AreKeepable, touched_count, untouched, object_count, Disk, role_of, Put, Absent, Broken}
-use Rattle.object_cache.proofs.Names.{freezing, all_frozen, freezing_puts, Kept, put_at, put_or, held_slot, sum_of, most, DurableState, FrozenPuts, Stored}
-use Rattle.object_cache.proofs.Names.{below_at, frozen_put, stored_of, maps_same, frame_in, length_in, Entry, entry_at, Memory, mark_at, masked, in_staging}
-use Rattle.object_cache.proofs.Names.{put_body, present_body, content_at, present_at, newest_body, below_body, apart_body, frozen_body, frozen_frame, frozen_at}
-use Rattle.object_cache.proofs.Names.{contents_in, frozen_in, StoreState, IsCache, AreFrozen, snapshots_of, cache_of, frozen_seen, is_kept}
+use Rattle.object_cache.proofs.Names.{inl, inr, ℕ, zero, suc, Bool, true, false, true≢false, cond, List, [], length, map, replicate, Option, Some, None}
+use Rattle.object_cache.proofs.Names.{option_map, refl, sym, ap, subst, arith, count_by, slice_index_or, range_with_len, cases_lt, length-replicate}
+use Rattle.object_cache.proofs.Names.{get_or-replicate, get_or_past, same_lists, ext_get_or, length-map-range_with_len, get_or-map-range_with_len, sum_by-cons}
+use Rattle.object_cache.proofs.Names.{none-some, same_Some, Cap, Frame, ObjectHeader, Content, Role, blank_frame, frame_at, frames_in, header_at, AreKeepable}
+use Rattle.object_cache.proofs.Names.{touched_count, untouched, object_count, Disk, role_of, Put, Absent, Broken, freezing, all_frozen, freezing_puts, Kept}
+use Rattle.object_cache.proofs.Names.{put_at, put_or, held_slot, sum_of, most, DurableState, FrozenPuts, Stored, below_at, frozen_put, stored_of, maps_same}
+use Rattle.object_cache.proofs.Names.{frame_in, length_in, Entry, entry_at, Memory, mark_at, masked, in_staging, put_body, present_body, content_at, present_at}
+use Rattle.object_cache.proofs.Names.{newest_body, below_body, apart_body, frozen_body, frozen_frame, frozen_at, contents_in, frozen_in, StoreState, IsCache}
+use Rattle.object_cache.proofs.Names.{AreFrozen, snapshots_of, cache_of, frozen_seen, is_kept}
+use Rattle.std.proofs.Common.{◌≡◌, ◌<◌, ◌≤◌, ◌||◌, ◌∷◌, ◌∙◌}
 use Rattle.model.specs.declared.object.Content.TheVariants as content
 use Rattle.object_cache.proofs.Objects.{content_in}
 use Rattle.object_cache.proofs.Puts.{held_touched}

@@ -1,11 +1,12 @@
 -- The frozen frame of an object is put, or was to be.
-use Rattle.object_cache.proofs.Names.{◌≡◌, ◌≢◌, inl, inr, ℕ, zero, suc, ◌<◌, ◌≤◌, Bool, true, false, true≢false, cond, ◌||◌, List, [], ◌∷◌, length, map, set}
-use Rattle.object_cache.proofs.Names.{Option, Some, None, option_map, refl, sym, ap, subst, ◌∙◌, arith, length-set, count_by, range_with_len, cases_eq}
-use Rattle.object_cache.proofs.Names.{get_or-set_same, get_or-set_other, sum_by-cons, none-some, same_Some, Cap, Frame, Content, frame_at, header_at}
-use Rattle.object_cache.proofs.Names.{AreKeepable, Put, Absent, Broken, Kept, put_at, put_or, most, FrozenPuts, Stored, below_at, frozen_put, with_frozen}
-use Rattle.object_cache.proofs.Names.{with_put, maps_same, map_set, Entry, Held, entry_at, Memory, Nothing, owed_of, owed_in_memory, owed_in, mark_at}
-use Rattle.object_cache.proofs.Names.{in_staging, put_body, present_body, content_at, present_at, newest_body, below_body, frozen_body, frozen_frame, frozen_at}
-use Rattle.object_cache.proofs.Names.{contents_in, frozen_in, IsCache, AreFrozen, is_kept, frozen_seen}
+use Rattle.object_cache.proofs.Names.{inl, inr, ℕ, zero, suc, Bool, true, false, true≢false, cond, List, [], length, map, set, Option, Some, None, option_map}
+use Rattle.object_cache.proofs.Names.{refl, sym, ap, subst, arith, length-set, count_by, range_with_len, cases_eq, get_or-set_same, get_or-set_other}
+use Rattle.object_cache.proofs.Names.{sum_by-cons, none-some, same_Some, Cap, Frame, Content, frame_at, header_at, AreKeepable, Put, Absent, Broken, Kept}
+use Rattle.object_cache.proofs.Names.{put_at, put_or, most, FrozenPuts, Stored, below_at, frozen_put, with_frozen, with_put, maps_same, map_set, Entry, Held}
+use Rattle.object_cache.proofs.Names.{entry_at, Memory, Nothing, owed_of, owed_in_memory, owed_in, mark_at, in_staging, put_body, present_body, content_at}
+use Rattle.object_cache.proofs.Names.{present_at, newest_body, below_body, frozen_body, frozen_frame, frozen_at, contents_in, frozen_in, IsCache, AreFrozen}
+use Rattle.object_cache.proofs.Names.{is_kept, frozen_seen}
+use Rattle.std.proofs.Common.{◌≡◌, ◌≢◌, ◌<◌, ◌≤◌, ◌||◌, ◌∷◌, ◌∙◌}
 
 -- one mark less
 fewer_marked : (ts : List Bool) (n : ℕ) → count_by (λ b. b) (set ts n false) ≤ count_by (λ b. b) ts

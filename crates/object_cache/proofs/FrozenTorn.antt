@@ -1,9 +1,10 @@
 -- The slot of a frozen frame is torn, and its body is in memory.
-use Rattle.object_cache.proofs.Names.{◌≡◌, ◌≢◌, inl, inr, ℕ, ◌<◌, Bool, true, ◌||◌, List, length, set, Option, Some, option_map, sym, ap, subst, ◌∙◌, arith}
-use Rattle.object_cache.proofs.Names.{length-set, count_by, cases_eq, get_or-set_other, none-some, same_Some, Cap, Frame, Content, frame_at, header_at}
-use Rattle.object_cache.proofs.Names.{AreKeepable, Put, Absent, Broken, Kept, put_at, put_or, most, FrozenPuts, Stored, below_at, frozen_put, with_frozen}
-use Rattle.object_cache.proofs.Names.{with_put, maps_same, entry_at, Memory, mark_at, in_staging, put_body, present_body, content_at, present_at, frozen_body}
-use Rattle.object_cache.proofs.Names.{frozen_frame, frozen_at, contents_in, frozen_in, IsCache, AreFrozen, is_kept, frozen_seen}
+use Rattle.object_cache.proofs.Names.{inl, inr, ℕ, Bool, true, List, length, set, Option, Some, option_map, sym, ap, subst, arith, length-set, count_by}
+use Rattle.object_cache.proofs.Names.{cases_eq, get_or-set_other, none-some, same_Some, Cap, Frame, Content, frame_at, header_at, AreKeepable, Put, Absent}
+use Rattle.object_cache.proofs.Names.{Broken, Kept, put_at, put_or, most, FrozenPuts, Stored, below_at, frozen_put, with_frozen, with_put, maps_same, entry_at}
+use Rattle.object_cache.proofs.Names.{Memory, mark_at, in_staging, put_body, present_body, content_at, present_at, frozen_body, frozen_frame, frozen_at}
+use Rattle.object_cache.proofs.Names.{contents_in, frozen_in, IsCache, AreFrozen, is_kept, frozen_seen}
+use Rattle.std.proofs.Common.{◌≡◌, ◌≢◌, ◌<◌, ◌||◌, ◌∙◌}
 
 module _ (s : Stored) (m : Memory) (left count : ℕ) (is : IsCache s m left count) (n : ℕ) (within : n < length m.headers)
     (f : FrozenPuts) (f_is : s.frozen ≡ Some f) (pending : mark_at m.pending n ≡ true)

@@ -1,14 +1,14 @@
 -- What is saved goes home, or what is frozen is saved: no object changes.
-use Rattle.object_cache.proofs.Names.{◌≡◌, inl, inr, ℕ, zero, suc, ◌+◌, ◌-◌, ◌≤◌, ◌<◌, Bool, true, false, cond, ◌||◌, List, [], ◌∷◌, length, map, Option, Some}
-use Rattle.object_cache.proofs.Names.{None, option_map, Result, Ok, Err, refl, sym, ap, subst, ◌∙◌, arith, ◌==◌, count_by, slice_index_or, range_with_len}
-use Rattle.object_cache.proofs.Names.{cases_lt, length-map, same_lists, get_or_past, length-map-range_with_len, get_or-map-range_with_len, sum_by-cons}
-use Rattle.object_cache.proofs.Names.{none-some, same_Some, Cap, Frame, Content, blank_frame, frame_at, header_at, AreKeepable, Disk, Put, Absent, Broken, Kept}
-use Rattle.object_cache.proofs.Names.{put_at, put_or, overlaid, kept_count, sum_of, SavedFrames, LeavesEither, LeavesOneOf, home_saved, DurableState, MayCommit}
-use Rattle.object_cache.proofs.Names.{committed, moved, next_saved, whole, on_snapshots, puts, FrozenPuts, Stored, below_at, frozen_put, left_of, stored_of}
-use Rattle.object_cache.proofs.Names.{maps_same, FrozenFrames, entry_at, Memory, mark_at, in_staging, put_body, present_body, content_at, present_at}
-use Rattle.object_cache.proofs.Names.{frozen_body, frozen_frame, frozen_at, contents_in, frozen_in, StoreState, IsCache, snapshots_of, cache_of, frozen_seen}
-use Rattle.object_cache.proofs.Names.{is_kept}
-use Rattle.std.proofs.Common.{OnOk, OnErr}
+use Rattle.object_cache.proofs.Names.{inl, inr, ℕ, zero, suc, Bool, true, false, cond, List, [], length, map, Option, Some, None, option_map, Result, Ok, Err}
+use Rattle.object_cache.proofs.Names.{refl, sym, ap, subst, arith, count_by, slice_index_or, range_with_len, cases_lt, length-map, same_lists, get_or_past}
+use Rattle.object_cache.proofs.Names.{length-map-range_with_len, get_or-map-range_with_len, sum_by-cons, none-some, same_Some, Cap, Frame, Content, blank_frame}
+use Rattle.object_cache.proofs.Names.{frame_at, header_at, AreKeepable, Disk, Put, Absent, Broken, Kept, put_at, put_or, overlaid, kept_count, sum_of}
+use Rattle.object_cache.proofs.Names.{SavedFrames, LeavesEither, LeavesOneOf, home_saved, DurableState, MayCommit, committed, moved, next_saved, whole}
+use Rattle.object_cache.proofs.Names.{on_snapshots, puts, FrozenPuts, Stored, below_at, frozen_put, left_of, stored_of, maps_same, FrozenFrames, entry_at}
+use Rattle.object_cache.proofs.Names.{Memory, mark_at, in_staging, put_body, present_body, content_at, present_at, frozen_body, frozen_frame, frozen_at}
+use Rattle.object_cache.proofs.Names.{contents_in, frozen_in, StoreState, IsCache, snapshots_of, cache_of, frozen_seen, is_kept}
+use Rattle.std.proofs.Common.{◌≡◌, ◌+◌, ◌-◌, ◌≤◌, ◌<◌, ◌||◌, ◌∷◌, ◌∙◌, OnOk, OnErr}
+use Rattle.std.specs.Prelude.{◌==◌}
 use Rattle.object_cache.proofs.Puts.{some_touched}
 
 -- ---- what is saved goes home

@@ -1,6 +1,7 @@
 -- Why one value of a cache continues as another.
-use Rattle.object_cache.proofs.Names.{Snapshots, FrozenFrames, ◌≡◌, ℕ, Bool, List, Option, sym, ap, ◌∙◌, Cap, Content, Disk, stored_of, Held, Owed, StoreState}
-use Rattle.object_cache.proofs.Names.{GoesOnIn, on_device}
+use Rattle.object_cache.proofs.Names.{Snapshots, FrozenFrames, ℕ, Bool, List, Option, sym, ap, Cap, Content, Disk, stored_of, Held, Owed, StoreState, GoesOnIn}
+use Rattle.object_cache.proofs.Names.{on_device}
+use Rattle.std.proofs.Common.{◌≡◌, ◌∙◌}
 
 module _ {D : Type 0} where
   -- what was put is on the device

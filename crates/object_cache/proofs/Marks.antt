@@ -1,10 +1,11 @@
 -- Numbers are marked that are to be written: no object and no frozen frame is another.
-use Rattle.object_cache.proofs.Names.{◌≡◌, ◌≢◌, ◌⊎◌, inl, inr, ℕ, zero, suc, ◌<◌, ◌≤◌, Bool, true, false, true≢false, List, [], ◌∷◌, length, set, Option, Some}
-use Rattle.object_cache.proofs.Names.{None, option_map, refl, sym, ap, subst, ◌∙◌, arith, length-set, slice_index_or, Contains, cases_eq, get_or-set_other}
-use Rattle.object_cache.proofs.Names.{get_or_past, Cap, Frame, ObjectHeader, Content, header_at, AreKeepable, touched_count, touching, Disk, most, DurableState}
-use Rattle.object_cache.proofs.Names.{FrozenPuts, Stored, below_at, stored_of, maps_same, length-touching, set-marked, Entry, entry_at, Memory, Owed, Shared}
-use Rattle.object_cache.proofs.Names.{mark_at, apart_body, below_body, frozen_body, frozen_frame, frozen_at, owed_of, owed_body, owed_in_memory, contents_in}
-use Rattle.object_cache.proofs.Names.{frozen_in, owed_in, StoreState, IsCache, cache_of, owed_at}
+use Rattle.object_cache.proofs.Names.{inl, inr, ℕ, zero, suc, Bool, true, false, true≢false, List, [], length, set, Option, Some, None, option_map, refl, sym}
+use Rattle.object_cache.proofs.Names.{ap, subst, arith, length-set, slice_index_or, Contains, cases_eq, get_or-set_other, get_or_past, Cap, Frame, ObjectHeader}
+use Rattle.object_cache.proofs.Names.{Content, header_at, AreKeepable, touched_count, touching, Disk, most, DurableState, FrozenPuts, Stored, below_at}
+use Rattle.object_cache.proofs.Names.{stored_of, maps_same, length-touching, set-marked, Entry, entry_at, Memory, Owed, Shared, mark_at, apart_body, below_body}
+use Rattle.object_cache.proofs.Names.{frozen_body, frozen_frame, frozen_at, owed_of, owed_body, owed_in_memory, contents_in, frozen_in, owed_in, StoreState}
+use Rattle.object_cache.proofs.Names.{IsCache, cache_of, owed_at}
+use Rattle.std.proofs.Common.{◌≡◌, ◌≢◌, ◌⊎◌, ◌<◌, ◌≤◌, ◌∷◌, ◌∙◌}
 use Rattle.object_cache.proofs.Caching.{owed_entry}
 
 -- a mark is as it was, or is of a number that was listed

@@ -52,8 +52,7 @@ pub use Rattle.object_store.proofs.Journaling.{content_is_page, journal_there, k
 pub use Rattle.object_store.specs.Journal.{is_page_role, next_journaled}
 pub use Rattle.object_store.specs.Store.{FrozenFrames, OpensStore, all_frozen, stabilized, whole}
 pub use Rattle.std.proofs.Common.{Bool, Err, IsSome, List, None, Ok, Option, Result, Some, [], ap, arith, cond, false, inl, inr, is_some, length, length-set}
-pub use Rattle.std.proofs.Common.{map, nat_eq, nat_lt, option_map, refl, replicate, rules, set, subst, suc, sym, take, true, true≢false, zero, ℕ, ◌++◌, ◌+◌}
-pub use Rattle.std.proofs.Common.{◌-◌, ◌<◌, ◌||◌, ◌↔◌, ◌∙◌, ◌∷◌, ◌≡◌, ◌≢◌, ◌≤◌, ◌⊎◌}
+pub use Rattle.std.proofs.Common.{map, nat_eq, nat_lt, option_map, refl, replicate, rules, set, subst, suc, sym, take, true, true≢false, zero, ℕ}
 pub use Rattle.std.proofs.Math.ListN.{get_or-map}
 pub use Rattle.std.proofs.lemmas.Bool.{cases_eq, cases_lt, eq-eqb, le-ltb, lt-ltb, ne_eqb}
 pub use Rattle.std.proofs.lemmas.List.{ext_get_or, get_or-replicate, get_or-set_other, get_or-set_same, get_or_append_left, get_or_at, get_or_default}
@@ -63,7 +62,7 @@ pub use Rattle.std.proofs.lemmas.List.FromFn.{get_or-map-range_with_len, length-
 pub use Rattle.std.proofs.lemmas.List.Sums.{sum_by-cons}
 pub use Rattle.std.proofs.lemmas.Option.{none-some, same_Some}
 pub use Rattle.std.specs.List.{All, Contains, range_with_len, slice_get}
-pub use Rattle.std.specs.Prelude.{IsErrOf, OnErr, OnOk, count_by, option_copied, slice_index_or, ◌==◌}
+pub use Rattle.std.specs.Prelude.{IsErrOf, OnErr, OnOk, count_by, option_copied, slice_index_or}
 pub use Rattle.object_cache.specs.Journaled.{entry_body, held_now}
 pub use Rattle.object_cache.specs.Memory.{Apart, Memory, Nothing, Owed, Shared, apart_body, below_body, content_at, frozen_at, frozen_body, frozen_frame}
 pub use Rattle.object_cache.specs.Memory.{in_staging, is_owing, is_shared, let_go, mark_at, masked, memory_of, newest_body, owed_body, owed_in_memory, owed_of}

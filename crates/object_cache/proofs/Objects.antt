@@ -1,10 +1,11 @@
 -- What is seen of a cache after one object was changed.
-use Rattle.object_cache.proofs.Names.{◌≡◌, inl, inr, ℕ, ◌<◌, true, List, length, set, map, Option, Some, None, IsSome, is_some, option_map, true≢false, refl}
-use Rattle.object_cache.proofs.Names.{sym, ap, subst, ◌∙◌, arith, length-set, none-some, same_Some, get_or-map-range_with_len, length-map-range_with_len}
-use Rattle.object_cache.proofs.Names.{get_or-map, get_or-set_same, get_or-set_other, map-set, set-get_or, Cap, Frame, ObjectHeader, Content, Role, blank_header}
-use Rattle.object_cache.proofs.Names.{header_at, held_at, Disk, DurableState, FrozenPuts, Stored, stored_of, Entry, entry_at, with_entry, holding, present_of}
-use Rattle.object_cache.proofs.Names.{buffer_of, AreOrdered, Memory, Owed, mark_at, present_body, content_at, newest_body, contents_in, owed_in, StoreState}
-use Rattle.object_cache.proofs.Names.{IsBounded, IsCache, IsAnnouncedIn, IsFetchedIn, cache_of, cached_in, cached_at, with_content_in}
+use Rattle.object_cache.proofs.Names.{inl, inr, ℕ, true, List, length, set, map, Option, Some, None, IsSome, is_some, option_map, true≢false, refl, sym, ap}
+use Rattle.object_cache.proofs.Names.{subst, arith, length-set, none-some, same_Some, get_or-map-range_with_len, length-map-range_with_len, get_or-map}
+use Rattle.object_cache.proofs.Names.{get_or-set_same, get_or-set_other, map-set, set-get_or, Cap, Frame, ObjectHeader, Content, Role, blank_header, header_at}
+use Rattle.object_cache.proofs.Names.{held_at, Disk, DurableState, FrozenPuts, Stored, stored_of, Entry, entry_at, with_entry, holding, present_of, buffer_of}
+use Rattle.object_cache.proofs.Names.{AreOrdered, Memory, Owed, mark_at, present_body, content_at, newest_body, contents_in, owed_in, StoreState, IsBounded}
+use Rattle.object_cache.proofs.Names.{IsCache, IsAnnouncedIn, IsFetchedIn, cache_of, cached_in, cached_at, with_content_in}
+use Rattle.std.proofs.Common.{◌≡◌, ◌<◌, ◌∙◌}
 use Rattle.model.specs.declared.object.Content.TheVariants as content
 use Rattle.model.specs.declared.object.Role.TheVariants as role
 use Rattle.object_cache.proofs.Changing.{Changes, kept_of, with_objects, still_cache, contents_changed, contents_same, frozen_same, owed_same}

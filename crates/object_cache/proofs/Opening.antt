@@ -1,12 +1,13 @@
 -- A store is made over a device that was opened: all objects are as they are saved.
-use Rattle.object_cache.proofs.Names.{◌≡◌, inl, inr, ℕ, ◌<◌, Bool, false, true≢false, List, [], ◌∷◌, length, replicate, Option, None, option_map, refl, sym, ap}
-use Rattle.object_cache.proofs.Names.{subst, ◌∙◌, arith, get_or-map, cases_lt, ext_get_or, get_or-replicate, get_or_past, length-map, length-replicate}
-use Rattle.object_cache.proofs.Names.{none-some, Cap, Frame, ObjectHeader, Content, blank_frame, frame_at, frames_in, header_at, headers, untouched, role_of}
-use Rattle.object_cache.proofs.Names.{object_count, Image, Disk, Only, OnlyReads, Put, Absent, put_at, put_or, SavedFrames, Holds, OpensDurable, DurableState}
-use Rattle.object_cache.proofs.Names.{FrozenPuts, Stored, below_at, frozen_put, is_sound, stored_of, HaveTheirRoles, frame_in, length_in, OpensStore, Entry}
-use Rattle.object_cache.proofs.Names.{entry_at, buffer_of, Memory, memory_of, mark_at, masked, put_body, newest_body, below_body, present_body, content_at}
-use Rattle.object_cache.proofs.Names.{present_at, frozen_body, frozen_frame, frozen_at, contents_in, frozen_in, StoreState, IsCache, IsFetchedIn, IsJustOpened}
-use Rattle.object_cache.proofs.Names.{IsMadeOver, IsOpenOver, IsWhole, bodies_of, cache_of, frozen_seen, parts_of, cached_at, cached_in, view_of}
+use Rattle.object_cache.proofs.Names.{inl, inr, ℕ, Bool, false, true≢false, List, [], length, replicate, Option, None, option_map, refl, sym, ap, subst, arith}
+use Rattle.object_cache.proofs.Names.{get_or-map, cases_lt, ext_get_or, get_or-replicate, get_or_past, length-map, length-replicate, none-some, Cap, Frame}
+use Rattle.object_cache.proofs.Names.{ObjectHeader, Content, blank_frame, frame_at, frames_in, header_at, headers, untouched, role_of, object_count, Image}
+use Rattle.object_cache.proofs.Names.{Disk, Only, OnlyReads, Put, Absent, put_at, put_or, SavedFrames, Holds, OpensDurable, DurableState, FrozenPuts, Stored}
+use Rattle.object_cache.proofs.Names.{below_at, frozen_put, is_sound, stored_of, HaveTheirRoles, frame_in, length_in, OpensStore, Entry, entry_at, buffer_of}
+use Rattle.object_cache.proofs.Names.{Memory, memory_of, mark_at, masked, put_body, newest_body, below_body, present_body, content_at, present_at, frozen_body}
+use Rattle.object_cache.proofs.Names.{frozen_frame, frozen_at, contents_in, frozen_in, StoreState, IsCache, IsFetchedIn, IsJustOpened, IsMadeOver, IsOpenOver}
+use Rattle.object_cache.proofs.Names.{IsWhole, bodies_of, cache_of, frozen_seen, parts_of, cached_at, cached_in, view_of}
+use Rattle.std.proofs.Common.{◌≡◌, ◌<◌, ◌∷◌, ◌∙◌}
 use Rattle.model.specs.declared.object.Content.TheVariants as content
 use Rattle.object_cache.proofs.Freezing.{masked_same, none_counted, none_marked, none_put}
 use Rattle.object_cache.proofs.Objects.{content_in, contents_count}

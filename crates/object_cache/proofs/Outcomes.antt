@@ -1,5 +1,6 @@
 -- What a call that may fail leaves, by its outcome.
-use Rattle.object_cache.proofs.Names.{◌≡◌, Bool, true, false, Result, Ok, Err, refl, sym, subst, OnOk, OnErr}
+use Rattle.object_cache.proofs.Names.{Bool, true, false, Result, Ok, Err, refl, sym, subst, OnOk, OnErr}
+use Rattle.std.proofs.Common.{◌≡◌}
 
 -- what holds of both
 pub either_way : {T E X : Type 0} (r : Result T E) (P : X → Type 0) (x a b : X) → OnOk r (x ≡ a) → OnErr r (x ≡ b) → P a → P b → P x

@@ -1,10 +1,11 @@
 -- What entries owe, and which numbers have one, by what is seen.
-use Rattle.object_cache.proofs.Names.{◌≡◌, ◌≢◌, inl, inr, ℕ, zero, suc, ◌-◌, ◌<◌, ◌≤◌, Bool, true, false, true≢false, List, [], ◌∷◌, length, set, take, Option}
-use Rattle.object_cache.proofs.Names.{Some, None, IsSome, is_some, option_map, refl, sym, ap, subst, ◌∙◌, arith, length-set, slice_get, get_or_past}
-use Rattle.object_cache.proofs.Names.{get_or-set_same, get_or-set_other, length-map-range_with_len, cases_eq, cases_lt, none-some, Cap, Content, is_member}
-use Rattle.object_cache.proofs.Names.{Disk, DurableState, stored_of, Entry, entry_at, buffer_of, Memory, Owed, Nothing, Shared, Apart, mark_at, is_owing}
-use Rattle.object_cache.proofs.Names.{is_shared, owed_of, content_at, contents_in, AreOrdered, used_longest_ago, without, StoreState, IsCache, IsFetchedIn}
-use Rattle.object_cache.proofs.Names.{cache_of, owed_at, cached_at, some_within, length_without, listed_member, front_stays, front_apart}
+use Rattle.object_cache.proofs.Names.{inl, inr, ℕ, zero, suc, Bool, true, false, true≢false, List, [], length, set, take, Option, Some, None, IsSome, is_some}
+use Rattle.object_cache.proofs.Names.{option_map, refl, sym, ap, subst, arith, length-set, slice_get, get_or_past, get_or-set_same, get_or-set_other}
+use Rattle.object_cache.proofs.Names.{length-map-range_with_len, cases_eq, cases_lt, none-some, Cap, Content, is_member, Disk, DurableState, stored_of, Entry}
+use Rattle.object_cache.proofs.Names.{entry_at, buffer_of, Memory, Owed, Nothing, Shared, Apart, mark_at, is_owing, is_shared, owed_of, content_at, contents_in}
+use Rattle.object_cache.proofs.Names.{AreOrdered, used_longest_ago, without, StoreState, IsCache, IsFetchedIn, cache_of, owed_at, cached_at, some_within}
+use Rattle.object_cache.proofs.Names.{length_without, listed_member, front_stays, front_apart}
+use Rattle.std.proofs.Common.{◌≡◌, ◌≢◌, ◌-◌, ◌<◌, ◌≤◌, ◌∷◌, ◌∙◌}
 use Rattle.object_cache.proofs.Objects.{frame_slot_in}
 use Rattle.object_cache.proofs.Caching.{owed_entry}
 

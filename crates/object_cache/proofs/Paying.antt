@@ -1,8 +1,9 @@
 -- What an entry owes is paid, its body is put, and it is dropped: the outcome, call by call.
-use Rattle.object_cache.proofs.Names.{◌≡◌, ◌∙◌, inl, inr, ℕ, Bool, false, cond, List, Result, Ok, Err, Some, None, length, set, refl, sym, ap, subst, arith}
-use Rattle.object_cache.proofs.Names.{length-set, OnOk, OnErr, cases_lt, eq-eqb, get_or_past, get_or-set_same, header_at, held_at, IsKeepable, Disk, Counts}
-use Rattle.object_cache.proofs.Names.{most, stored_of, without, Held, Owed, Nothing, let_go, mark_at, masked, StoreState, GoesOnIn, IsFetchedIn, on_device}
-use Rattle.object_cache.proofs.Names.{owed_at, without_cached}
+use Rattle.object_cache.proofs.Names.{inl, inr, ℕ, Bool, false, cond, List, Result, Ok, Err, Some, None, length, set, refl, sym, ap, subst, arith, length-set}
+use Rattle.object_cache.proofs.Names.{OnOk, OnErr, cases_lt, eq-eqb, get_or_past, get_or-set_same, header_at, held_at, IsKeepable, Disk, Counts, most}
+use Rattle.object_cache.proofs.Names.{stored_of, without, Held, Owed, Nothing, let_go, mark_at, masked, StoreState, GoesOnIn, IsFetchedIn, on_device, owed_at}
+use Rattle.object_cache.proofs.Names.{without_cached}
+use Rattle.std.proofs.Common.{◌≡◌, ◌∙◌}
 use Rattle.object_cache.proofs.Freezing.{masked_same}
 use Rattle.object_cache.proofs.Leading.{same_put, geometry_stays}
 

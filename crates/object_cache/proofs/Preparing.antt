@@ -1,6 +1,7 @@
 -- The parts of preparing, one after the other.
-use Rattle.object_cache.proofs.Names.{◌≡◌, ◌∙◌, inl, inr, ℕ, ◌+◌, ◌<◌, ◌≤◌, Bool, List, Result, Ok, Err, sym, ap, subst, arith, OnOk, OnErr, slice_index_or}
-use Rattle.object_cache.proofs.Names.{cases_lt, touched_count, Disk, Image, stored_of, StoreState, GoesOnIn, on_device_with, readied, goes_on_same}
+use Rattle.object_cache.proofs.Names.{inl, inr, ℕ, Bool, List, Result, Ok, Err, sym, ap, subst, arith, OnOk, OnErr, slice_index_or, cases_lt, touched_count}
+use Rattle.object_cache.proofs.Names.{Disk, Image, stored_of, StoreState, GoesOnIn, on_device_with, readied, goes_on_same}
+use Rattle.std.proofs.Common.{◌≡◌, ◌∙◌, ◌+◌, ◌<◌, ◌≤◌}
 use Rattle.object_cache.proofs.Leading.{geometry_stays, continues_cached}
 
 -- what holds of the items before one holds of those before the next

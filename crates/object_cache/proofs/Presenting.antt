@@ -1,7 +1,8 @@
 -- What is fetched and announced stays so while present objects change.
-use Rattle.object_cache.proofs.Names.{◌≡◌, ◌≢◌, inl, inr, ℕ, ◌<◌, List, length, set, Option, Some, None, is_some, refl, sym, ap, ◌∙◌, arith, length-set}
-use Rattle.object_cache.proofs.Names.{cases_eq, get_or-set_same, get_or-set_other, Cap, ObjectHeader, Content, blank_header, header_at, void_held, role_of}
-use Rattle.object_cache.proofs.Names.{Image, Disk, peeks_started, goes_none, Fresh, fresh_content, StoreState, IsFetchedIn, IsAnnouncedIn, GoesOnIn}
+use Rattle.object_cache.proofs.Names.{inl, inr, ℕ, List, length, set, Option, Some, None, is_some, refl, sym, ap, arith, length-set, cases_eq, get_or-set_same}
+use Rattle.object_cache.proofs.Names.{get_or-set_other, Cap, ObjectHeader, Content, blank_header, header_at, void_held, role_of, Image, Disk, peeks_started}
+use Rattle.object_cache.proofs.Names.{goes_none, Fresh, fresh_content, StoreState, IsFetchedIn, IsAnnouncedIn, GoesOnIn}
+use Rattle.std.proofs.Common.{◌≡◌, ◌≢◌, ◌<◌, ◌∙◌}
 use Rattle.model.specs.declared.object.Role.TheVariants as role
 use Rattle.capability.specs.declared.present.Fresh.TheVariants as fresh
 use Rattle.object_cache.proofs.Bringing.{still_cached}

@@ -1,11 +1,11 @@
 -- The present body of an object in an entry is put, or was to be.
-use Rattle.object_cache.proofs.Names.{◌≡◌, ◌≢◌, ◌⊎◌, inl, inr, ℕ, zero, suc, ◌<◌, ◌≤◌, Bool, true, false, true≢false, cond, List, [], ◌∷◌, length, set, Option}
-use Rattle.object_cache.proofs.Names.{Some, option_map, refl, sym, ap, subst, ◌∙◌, arith, length-set, cases_eq, get_or-set_same, get_or-set_other, get_or_past}
-use Rattle.object_cache.proofs.Names.{sum_by-cons, none-some, Cap, Frame, ObjectHeader, Content, header_at, held_at, IsKeepable, touched_count, Disk, Put}
-use Rattle.object_cache.proofs.Names.{Absent, Broken, Kept, put_at, held_slot, sum_of, HasFreeSlot, most, DurableState, Stored, GoesOn, stored_of, with_working}
-use Rattle.object_cache.proofs.Names.{maps_same, Entry, entry_at, present_of, Memory, mark_at, put_body, present_body, content_at, present_at, newest_body}
-use Rattle.object_cache.proofs.Names.{below_body, contents_in, frozen_in, owed_in, StoreState, IsCache, IsFetchedIn, GoesOnIn, cache_of, is_kept, frozen_seen}
-use Rattle.object_cache.proofs.Names.{some_of}
+use Rattle.object_cache.proofs.Names.{inl, inr, ℕ, zero, suc, Bool, true, false, true≢false, cond, List, [], length, set, Option, Some, option_map, refl, sym}
+use Rattle.object_cache.proofs.Names.{ap, subst, arith, length-set, cases_eq, get_or-set_same, get_or-set_other, get_or_past, sum_by-cons, none-some, Cap}
+use Rattle.object_cache.proofs.Names.{Frame, ObjectHeader, Content, header_at, held_at, IsKeepable, touched_count, Disk, Put, Absent, Broken, Kept, put_at}
+use Rattle.object_cache.proofs.Names.{held_slot, sum_of, HasFreeSlot, most, DurableState, Stored, GoesOn, stored_of, with_working, maps_same, Entry, entry_at}
+use Rattle.object_cache.proofs.Names.{present_of, Memory, mark_at, put_body, present_body, content_at, present_at, newest_body, below_body, contents_in}
+use Rattle.object_cache.proofs.Names.{frozen_in, owed_in, StoreState, IsCache, IsFetchedIn, GoesOnIn, cache_of, is_kept, frozen_seen, some_of}
+use Rattle.std.proofs.Common.{◌≡◌, ◌≢◌, ◌⊎◌, ◌<◌, ◌≤◌, ◌∷◌, ◌∙◌}
 use Rattle.object_cache.proofs.Objects.{has_entry, fetched_known, content_in, present_is}
 
 -- ---- slots

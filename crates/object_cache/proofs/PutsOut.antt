@@ -1,13 +1,13 @@
 -- The frozen frame of an object is put, or was to be, from the frozen body in its entry.
-use Rattle.object_cache.proofs.Names.{◌≡◌, ◌≢◌, inl, inr, ℕ, ◌<◌, ◌≤◌, Bool, true, false, true≢false, cond, ◌||◌, List, length, map, set, Option, Some, None}
-use Rattle.object_cache.proofs.Names.{option_map, refl, sym, ap, subst, ◌∙◌, arith, length-set, count_by, range_with_len, cases_eq, cases_lt, eq-eqb, ne_eqb}
-use Rattle.object_cache.proofs.Names.{get_or-set_same, get_or-set_other, get_or_past, length-map-range_with_len, get_or-map-range_with_len, none-some}
-use Rattle.object_cache.proofs.Names.{same_Some, Cap, Frame, ObjectHeader, Content, blank_frame, header_at, IsKeepable, Disk, Put, Absent, Broken, Kept, put_at}
-use Rattle.object_cache.proofs.Names.{HasFreeSlot, most, DurableState, FrozenPuts, Stored, GoesOn, below_at, stored_of, with_frozen, FrozenFrames, Entry, Held}
-use Rattle.object_cache.proofs.Names.{entry_at, with_entry, keeping, Memory, Owed, Nothing, mark_at, in_staging, let_go, own_body, own_frame, present_body}
-use Rattle.object_cache.proofs.Names.{content_at, newest_body, below_body, apart_body, frozen_body, frozen_frame, frozen_at, owed_of, owed_body, owed_in_memory}
-use Rattle.object_cache.proofs.Names.{contents_in, frozen_in, owed_in, StoreState, IsCache, IsFetchedIn, GoesOnIn, cache_of, frozen_seen, is_kept, owed_at}
-use Rattle.object_cache.proofs.Names.{cached_in}
+use Rattle.object_cache.proofs.Names.{inl, inr, ℕ, Bool, true, false, true≢false, cond, List, length, map, set, Option, Some, None, option_map, refl, sym, ap}
+use Rattle.object_cache.proofs.Names.{subst, arith, length-set, count_by, range_with_len, cases_eq, cases_lt, eq-eqb, ne_eqb, get_or-set_same, get_or-set_other}
+use Rattle.object_cache.proofs.Names.{get_or_past, length-map-range_with_len, get_or-map-range_with_len, none-some, same_Some, Cap, Frame, ObjectHeader}
+use Rattle.object_cache.proofs.Names.{Content, blank_frame, header_at, IsKeepable, Disk, Put, Absent, Broken, Kept, put_at, HasFreeSlot, most, DurableState}
+use Rattle.object_cache.proofs.Names.{FrozenPuts, Stored, GoesOn, below_at, stored_of, with_frozen, FrozenFrames, Entry, Held, entry_at, with_entry, keeping}
+use Rattle.object_cache.proofs.Names.{Memory, Owed, Nothing, mark_at, in_staging, let_go, own_body, own_frame, present_body, content_at, newest_body}
+use Rattle.object_cache.proofs.Names.{below_body, apart_body, frozen_body, frozen_frame, frozen_at, owed_of, owed_body, owed_in_memory, contents_in, frozen_in}
+use Rattle.object_cache.proofs.Names.{owed_in, StoreState, IsCache, IsFetchedIn, GoesOnIn, cache_of, frozen_seen, is_kept, owed_at, cached_in}
+use Rattle.std.proofs.Common.{◌≡◌, ◌≢◌, ◌<◌, ◌≤◌, ◌||◌, ◌∙◌}
 use Rattle.object_cache.proofs.Apart.{cached_keep}
 use Rattle.object_cache.proofs.FrozenPuts.{Releases, one_fewer, with_frame, without_pending, frozen_put_cache, contents_same, frozen_seen_same, owed_now}
 use Rattle.object_cache.proofs.FrozenTorn.{torn_cache, torn_contents_same, torn_seen_same}

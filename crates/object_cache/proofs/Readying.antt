@@ -1,9 +1,10 @@
 -- Numbers are made ready to be written: first spare bodies and copies of frozen bodies, and marks last.
-use Rattle.object_cache.proofs.Names.{◌≡◌, ◌≢◌, inl, inr, ℕ, ◌<◌, ◌≤◌, Bool, List, length, set, Option, Some, None, IsSome, is_some, true, true≢false, refl}
-use Rattle.object_cache.proofs.Names.{sym, ap, subst, ◌∙◌, arith, Contains, cases_eq, get_or-set_same, get_or-set_other, length-map-range_with_len, Cap}
-use Rattle.object_cache.proofs.Names.{Content, header_at, touched_count, touching, Image, Disk, peeks_started, DurableState, stored_of, goes_none}
-use Rattle.object_cache.proofs.Names.{spare_body_at, Memory, content_at, contents_in, mark_at, StoreState, IsCache, IsFetchedIn, IsAnnouncedIn, GoesOnIn}
-use Rattle.object_cache.proofs.Names.{cache_of, on_device, cached_at, HasSpareBodyIn, on_device_with, goes_on_same}
+use Rattle.object_cache.proofs.Names.{inl, inr, ℕ, Bool, List, length, set, Option, Some, None, IsSome, is_some, true, true≢false, refl, sym, ap, subst, arith}
+use Rattle.object_cache.proofs.Names.{Contains, cases_eq, get_or-set_same, get_or-set_other, length-map-range_with_len, Cap, Content, header_at, touched_count}
+use Rattle.object_cache.proofs.Names.{touching, Image, Disk, peeks_started, DurableState, stored_of, goes_none, spare_body_at, Memory, content_at, contents_in}
+use Rattle.object_cache.proofs.Names.{mark_at, StoreState, IsCache, IsFetchedIn, IsAnnouncedIn, GoesOnIn, cache_of, on_device, cached_at, HasSpareBodyIn}
+use Rattle.object_cache.proofs.Names.{on_device_with, goes_on_same}
+use Rattle.std.proofs.Common.{◌≡◌, ◌≢◌, ◌<◌, ◌≤◌, ◌∙◌}
 use Rattle.model.specs.declared.object.Role.TheVariants as role
 use Rattle.object_cache.proofs.Bringing.{cached_within, still_cached}
 use Rattle.object_cache.proofs.Leading.{continues_cached}

@@ -1,9 +1,10 @@
 -- A number that has an entry gets another buffer.
-use Rattle.object_cache.proofs.Names.{◌≡◌, inl, inr, ℕ, ◌<◌, Bool, true, false, List, length, set, Option, Some, None, option_map, refl, sym, ap, ◌∙◌, arith}
-use Rattle.object_cache.proofs.Names.{length-set, get_or-set_same, get_or-set_other, none-some, same_Some, Cap, Content, header_at, Disk, DurableState, Stored}
-use Rattle.object_cache.proofs.Names.{below_at, stored_of, Entry, entry_at, with_entry, reserving, buffer_of, Memory, mark_at, present_body, newest_body}
-use Rattle.object_cache.proofs.Names.{below_body, frozen_body, frozen_frame, owed_of, owed_in_memory, owed_in, StoreState, IsCache, IsFetchedIn, cache_of}
-use Rattle.object_cache.proofs.Names.{cached_in, some_of}
+use Rattle.object_cache.proofs.Names.{inl, inr, ℕ, Bool, true, false, List, length, set, Option, Some, None, option_map, refl, sym, ap, arith, length-set}
+use Rattle.object_cache.proofs.Names.{get_or-set_same, get_or-set_other, none-some, same_Some, Cap, Content, header_at, Disk, DurableState, Stored, below_at}
+use Rattle.object_cache.proofs.Names.{stored_of, Entry, entry_at, with_entry, reserving, buffer_of, Memory, mark_at, present_body, newest_body, below_body}
+use Rattle.object_cache.proofs.Names.{frozen_body, frozen_frame, owed_of, owed_in_memory, owed_in, StoreState, IsCache, IsFetchedIn, cache_of, cached_in}
+use Rattle.object_cache.proofs.Names.{some_of}
+use Rattle.std.proofs.Common.{◌≡◌, ◌<◌, ◌∙◌}
 use Rattle.object_cache.proofs.Changing.{with_objects}
 use Rattle.object_cache.proofs.Objects.{has_entry, fetched_known}
 use Rattle.object_cache.proofs.Caching.{Recaches, cached_cache, owed_stay, seen_cached, cached_set}

@@ -1,11 +1,12 @@
 -- The frozen frame of the body in the staging buffer is put, or was to be.
-use Rattle.object_cache.proofs.Names.{◌≡◌, ◌⊎◌, inl, inr, ℕ, ◌<◌, ◌≤◌, Bool, true, false, true≢false, cond, List, length, set, Option, Some, None, option_map}
-use Rattle.object_cache.proofs.Names.{refl, sym, ap, subst, ◌∙◌, arith, count_by, cases_lt, eq-eqb, ne_eqb, get_or-set_same, get_or_past, none-some, same_Some}
-use Rattle.object_cache.proofs.Names.{Cap, Frame, ObjectHeader, Content, Role, frame_at, header_at, IsKeepable, Disk, Put, Absent, Broken, Kept, put_at, put_or}
-use Rattle.object_cache.proofs.Names.{HasFreeSlot, most, DurableState, FrozenPuts, Stored, GoesOn, below_at, frozen_put, stored_of, with_frozen, with_put}
-use Rattle.object_cache.proofs.Names.{FrozenFrames, Entry, Held, entry_at, Memory, Owed, Nothing, mark_at, masked, in_staging, put_body, present_body}
-use Rattle.object_cache.proofs.Names.{content_at, newest_body, below_body, apart_body, frozen_body, frozen_frame, frozen_at, owed_of, owed_in_memory}
-use Rattle.object_cache.proofs.Names.{contents_in, owed_in, StoreState, IsCache, GoesOnIn, cache_of, frozen_seen, is_kept, on_device, owed_at}
+use Rattle.object_cache.proofs.Names.{inl, inr, ℕ, Bool, true, false, true≢false, cond, List, length, set, Option, Some, None, option_map, refl, sym, ap, subst}
+use Rattle.object_cache.proofs.Names.{arith, count_by, cases_lt, eq-eqb, ne_eqb, get_or-set_same, get_or_past, none-some, same_Some, Cap, Frame, ObjectHeader}
+use Rattle.object_cache.proofs.Names.{Content, Role, frame_at, header_at, IsKeepable, Disk, Put, Absent, Broken, Kept, put_at, put_or, HasFreeSlot, most}
+use Rattle.object_cache.proofs.Names.{DurableState, FrozenPuts, Stored, GoesOn, below_at, frozen_put, stored_of, with_frozen, with_put, FrozenFrames, Entry}
+use Rattle.object_cache.proofs.Names.{Held, entry_at, Memory, Owed, Nothing, mark_at, masked, in_staging, put_body, present_body, content_at, newest_body}
+use Rattle.object_cache.proofs.Names.{below_body, apart_body, frozen_body, frozen_frame, frozen_at, owed_of, owed_in_memory, contents_in, owed_in, StoreState}
+use Rattle.object_cache.proofs.Names.{IsCache, GoesOnIn, cache_of, frozen_seen, is_kept, on_device, owed_at}
+use Rattle.std.proofs.Common.{◌≡◌, ◌⊎◌, ◌<◌, ◌≤◌, ◌∙◌}
 use Rattle.model.specs.declared.object.Content.TheVariants as content
 use Rattle.model.specs.declared.object.Role.TheVariants as role
 use Rattle.object_cache.proofs.FrozenPuts.{Releases, one_fewer, with_frame, without_pending, frozen_put_cache, contents_same, frozen_seen_same, owed_now}

@@ -1,9 +1,10 @@
 -- The frozen body of an object is taken up from below the entries: nothing that is seen changes but the staging buffer.
-use Rattle.object_cache.proofs.Names.{◌≡◌, inl, inr, ℕ, ◌<◌, ◌≤◌, Bool, true, cond, List, length, Option, Some, None, option_map, refl, sym, ap, subst, ◌∙◌}
-use Rattle.object_cache.proofs.Names.{arith, cases_eq, eq-eqb, ne_eqb, same_Some, Cap, Frame, Content, header_at, AreKeepable, object_count, Disk, Kept, put_at}
-use Rattle.object_cache.proofs.Names.{most, DurableState, FrozenPuts, Stored, ReadsStore, below_at, stored_of, maps_same, Held, entry_at, Memory, Owed, mark_at}
+use Rattle.object_cache.proofs.Names.{inl, inr, ℕ, Bool, true, cond, List, length, Option, Some, None, option_map, refl, sym, ap, subst, arith, cases_eq}
+use Rattle.object_cache.proofs.Names.{eq-eqb, ne_eqb, same_Some, Cap, Frame, Content, header_at, AreKeepable, object_count, Disk, Kept, put_at, most}
+use Rattle.object_cache.proofs.Names.{DurableState, FrozenPuts, Stored, ReadsStore, below_at, stored_of, maps_same, Held, entry_at, Memory, Owed, mark_at}
 use Rattle.object_cache.proofs.Names.{in_staging, put_body, below_body, present_body, content_at, present_at, frozen_body, frozen_frame, frozen_at, contents_in}
 use Rattle.object_cache.proofs.Names.{frozen_in, owed_in, StoreState, IsCache, GoesOnIn, cache_of, frozen_seen}
+use Rattle.std.proofs.Common.{◌≡◌, ◌<◌, ◌≤◌, ◌∙◌}
 use Rattle.object_cache.proofs.Fetched.{read_seen, read_continues}
 use Rattle.object_cache.proofs.Leading.{continues_staging}
 use Rattle.object_cache.proofs.Settling.{marked_within}

@@ -1,8 +1,9 @@
 -- Frozen frames are put in turn, and as many fewer are said to be left.
-use Rattle.object_cache.proofs.Names.{◌≡◌, ℕ, ◌+◌, ◌-◌, ◌<◌, ◌≤◌, Bool, false, true≢false, List, [], Option, Some, None, option_map, is_some, refl, sym, ap}
-use Rattle.object_cache.proofs.Names.{subst, ◌∙◌, arith, count_by, none-some, same_Some, HasNoneMarked, Frame, Image, Disk, DurableState, FrozenPuts, stored_of}
-use Rattle.object_cache.proofs.Names.{Snapshots, goes_trans, FrozenFrames, stabilized, Held, Memory, frozen_in, StoreState, IsCache, AreFrozen, GoesOnIn}
-use Rattle.object_cache.proofs.Names.{PutsBy, snapshots_of, cache_of, on_device, on_device_frozen, pending_count, goes_on_same}
+use Rattle.object_cache.proofs.Names.{ℕ, Bool, false, true≢false, List, [], Option, Some, None, option_map, is_some, refl, sym, ap, subst, arith, count_by}
+use Rattle.object_cache.proofs.Names.{none-some, same_Some, HasNoneMarked, Frame, Image, Disk, DurableState, FrozenPuts, stored_of, Snapshots, goes_trans}
+use Rattle.object_cache.proofs.Names.{FrozenFrames, stabilized, Held, Memory, frozen_in, StoreState, IsCache, AreFrozen, GoesOnIn, PutsBy, snapshots_of}
+use Rattle.object_cache.proofs.Names.{cache_of, on_device, on_device_frozen, pending_count, goes_on_same}
+use Rattle.std.proofs.Common.{◌≡◌, ◌+◌, ◌-◌, ◌<◌, ◌≤◌, ◌∙◌}
 use Rattle.object_cache.proofs.Freezing.{fewer_of}
 
 pub none_marked : (ts : List Bool) → HasNoneMarked ts 0 → count_by (λ b. b) ts ≤ 0

@@ -1,7 +1,8 @@
 -- Where the bodies of objects are: in an entry, in the staging buffer, or on the device.
-use Rattle.object_cache.specs.Names.{◌==◌, if◌then◌else◌, ℕ, Bool, true, false, Option, Some, None, List, length, map}
-use Rattle.object_cache.specs.Names.{slice_index_or, range_with_len, Cap, Frame, ObjectHeader, Content, Role, header_at}
-use Rattle.object_cache.specs.Names.{Put, Absent, Broken, Kept, put_at, Stored, below_at, Entry, entry_at}
+use Rattle.object_cache.specs.Names.{ℕ, Bool, true, false, Option, Some, None, List, length, map, slice_index_or}
+use Rattle.object_cache.specs.Names.{range_with_len, Cap, Frame, ObjectHeader, Content, Role, header_at, Put, Absent}
+use Rattle.object_cache.specs.Names.{Broken, Kept, put_at, Stored, below_at, Entry, entry_at}
+use Rattle.std.specs.Prelude.{◌==◌, if◌then◌else◌}
 use Rattle.model.specs.declared.object.Content.TheVariants as content
 use Rattle.model.specs.declared.object.Role.TheVariants as role
 use Rattle.object_cache.specs.declared.held.Held.{Held}

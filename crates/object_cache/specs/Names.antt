@@ -26,8 +26,7 @@ pub use Rattle.model.specs.declared.frame.ObjectHeader.{ObjectHeader}
 pub use Rattle.model.specs.declared.object.Content.{Content}
 pub use Rattle.model.specs.declared.object.Role.{Role}
 pub use Rattle.object_store.specs.Store.{Continues, FrozenFrames, View, stabilized}
-pub use Rattle.std.proofs.Common.{ap, arith, length-set, refl, ◌∙◌, ◌≤◌}
+pub use Rattle.std.proofs.Common.{ap, arith, length-set, refl}
 pub use Rattle.std.specs.List.{range_with_len}
-pub use Rattle.std.specs.Prelude.{Bool, IsSome, List, None, Option, Some, [], count_by, false, if◌then◌else◌, is_some}
-pub use Rattle.std.specs.Prelude.{length, map, option_map, replicate, slice_index_or, slice_set, take, true, ℕ, ◌<◌}
-pub use Rattle.std.specs.Prelude.{◌==◌, ◌||◌, ◌∷◌, ◌≡◌, ◌⊎◌}
+pub use Rattle.std.specs.Prelude.{Bool, IsSome, List, None, Option, Some, [], count_by, false, is_some, length, map}
+pub use Rattle.std.specs.Prelude.{option_map, replicate, slice_index_or, slice_set, take, true, ℕ}

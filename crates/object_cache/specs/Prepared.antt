@@ -1,6 +1,6 @@
 -- What numbers have once they are prepared.
-use Rattle.object_cache.specs.Names.{◌≡◌, ℕ, true, Some, IsSome, take, header_at, is_member, Disk, stored_of}
-use Rattle.object_cache.specs.Names.{spare_body_at}
+use Rattle.object_cache.specs.Names.{ℕ, true, Some, IsSome, take, header_at, is_member, Disk, stored_of, spare_body_at}
+use Rattle.std.specs.Prelude.{◌≡◌}
 use Rattle.model.specs.declared.object.Role.TheVariants as role
 use Rattle.object_cache.specs.StoreState.{StoreState, IsFetchedIn, on_device, cached_at}
 

@@ -1,7 +1,7 @@
 -- What is seen of a store goes on while its objects change.
-use Rattle.object_cache.specs.Names.{◌≤◌, refl, ap, ◌∙◌, arith, length-set, Cap, Content, Image, Disk, ends, leaves_on}
+use Rattle.object_cache.specs.Names.{refl, ap, arith, length-set, Cap, Content, Image, Disk, ends, leaves_on}
 use Rattle.object_cache.specs.Names.{leaves_weaker, peeks_started, Snapshots, FrozenFrames, goes_trans, goes_none}
-use Rattle.std.proofs.Common.{ℕ, Bool}
+use Rattle.std.proofs.Common.{◌≤◌, ◌∙◌, ℕ, Bool}
 use Rattle.object_cache.specs.StoreState.{StoreState, GoesOnIn, ContinuesIn, IsFetchedIn, IsAnnouncedIn}
 use Rattle.object_cache.specs.StoreState.{with_content_in}
 

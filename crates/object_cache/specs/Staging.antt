@@ -1,5 +1,6 @@
 -- The staging buffer: the body in it, and the words and slots that are spare beside it.
-use Rattle.object_cache.specs.Names.{◌≡◌, ℕ, Bool, true, false, Option, Some, None, List, is_some, Cap, Content}
+use Rattle.object_cache.specs.Names.{ℕ, Bool, true, false, Option, Some, None, List, is_some, Cap, Content}
+use Rattle.std.specs.Prelude.{◌≡◌}
 use Rattle.model.specs.declared.object.Content.TheVariants as content
 use Rattle.object_cache.specs.declared.held.Held.{Held}
 

@@ -1,13 +1,12 @@
 -- The store of objects: what is seen of it, and what always holds.
-use Rattle.object_cache.specs.Names.{◌≡◌, ◌⊎◌, ℕ, ◌<◌, Bool, true, false, Option, Some, None, IsSome, is_some}
-use Rattle.object_cache.specs.Names.{option_map, count_by, List, [], ◌∷◌, length, map, replicate, slice_index_or}
-use Rattle.object_cache.specs.Names.{slice_set, ◌||◌, range_with_len, Cap, ObjectHeader, Content, Frame, header_at}
-use Rattle.object_cache.specs.Names.{headers, AreKeepable, touched_count, untouched, is_member, object_count, Disk}
-use Rattle.object_cache.specs.Names.{Peeks, Put, Absent, Broken, Kept, put_at, most, DurableState, FrozenPuts, Stored}
-use Rattle.object_cache.specs.Names.{GoesOn, saved_state, seen_of, stored_of, is_sound, SavedState, Parts}
-use Rattle.object_cache.specs.Names.{HaveTheirRoles, Snapshots, spare_body_at, FrozenFrames, View, stabilized, Entry}
-use Rattle.object_cache.specs.Names.{entry_at, buffer_of, AllDiffer, without}
-use Rattle.std.specs.Prelude.{◌≤◌}
+use Rattle.object_cache.specs.Names.{ℕ, Bool, true, false, Option, Some, None, IsSome, is_some, option_map, count_by}
+use Rattle.object_cache.specs.Names.{List, [], length, map, replicate, slice_index_or, slice_set, range_with_len, Cap}
+use Rattle.object_cache.specs.Names.{ObjectHeader, Content, Frame, header_at, headers, AreKeepable, touched_count}
+use Rattle.object_cache.specs.Names.{untouched, is_member, object_count, Disk, Peeks, Put, Absent, Broken, Kept, put_at}
+use Rattle.object_cache.specs.Names.{most, DurableState, FrozenPuts, Stored, GoesOn, saved_state, seen_of, stored_of}
+use Rattle.object_cache.specs.Names.{is_sound, SavedState, Parts, HaveTheirRoles, Snapshots, spare_body_at}
+use Rattle.object_cache.specs.Names.{FrozenFrames, View, stabilized, Entry, entry_at, buffer_of, AllDiffer, without}
+use Rattle.std.specs.Prelude.{◌≡◌, ◌⊎◌, ◌<◌, ◌∷◌, ◌||◌, ◌≤◌}
 use Rattle.model.specs.declared.object.Content.TheVariants as content
 use Rattle.model.specs.declared.object.Role.TheVariants as role
 use Rattle.object_cache.specs.declared.held.Held.{Held}

@@ -1,10 +1,10 @@
 -- Chains lead to what was found, and nowhere else; closed sets are those that no step leaves.
-use Rattle.reach.proofs.Names.{◌≡◌, ℕ, ◌+◌, ◌<◌, ◌≤◌, Bool, true, false, is_some, Option, None, Some, List, [], ◌∷◌, ◌++◌, length, reverse, option_and_then}
-use Rattle.reach.proofs.Names.{inl, inr, ⊎_elim, refl, sym, ap, ◌∙◌, subst, arith, IsTrue, All, cases_eq, length-reverse, length_push, reverse-append}
-use Rattle.reach.proofs.Names.{same_Some, Capability, Void, Number, Page, Node, Space, Process, Start, Resume, Bank, Discrim, Content, Object, IsClosed}
-use Rattle.reach.proofs.Names.{StaysInside, is_root, root_in, slots_in, annex_at, content_at, root_at, Found, Levels, Step, Way, Conveys, IsChain, IsPath}
-use Rattle.reach.proofs.Names.{IsShortest, IsStep, IsWay, held_by, StepsAreAuthority, IsAfter, IsFoundIn, IsFrom, IsSearched, found_at, IsReach}
-use Rattle.std.proofs.Common.{slice_index_or}
+use Rattle.reach.proofs.Names.{ℕ, Bool, true, false, is_some, Option, None, Some, List, [], length, reverse, option_and_then, inl, inr, ⊎_elim, refl, sym, ap}
+use Rattle.reach.proofs.Names.{subst, arith, IsTrue, All, cases_eq, length-reverse, length_push, reverse-append, same_Some, Capability, Void, Number, Page}
+use Rattle.reach.proofs.Names.{Node, Space, Process, Start, Resume, Bank, Discrim, Content, Object, IsClosed, StaysInside, is_root, root_in, slots_in, annex_at}
+use Rattle.reach.proofs.Names.{content_at, root_at, Found, Levels, Step, Way, Conveys, IsChain, IsPath, IsShortest, IsStep, IsWay, held_by, StepsAreAuthority}
+use Rattle.reach.proofs.Names.{IsAfter, IsFoundIn, IsFrom, IsSearched, found_at, IsReach}
+use Rattle.std.proofs.Common.{◌≡◌, ◌+◌, ◌<◌, ◌≤◌, ◌∷◌, ◌++◌, ◌∙◌, slice_index_or}
 use Rattle.model.specs.declared.object.Content.TheVariants as content
 use Rattle.reach.specs.declared.step.Way.TheVariants as way
 use Rattle.reach.proofs.Finding.{some_of}

@@ -1,7 +1,8 @@
 -- A set that was followed whole is closed, and the least.
-use Rattle.reach.proofs.Names.{◌≡◌, ℕ, ◌<◌, ◌≤◌, ◌+◌, zero, suc, nat_eq, Bool, true, false, List, length, replicate, refl, sym, ap, ◌∙◌, subst, arith, IsTrue}
-use Rattle.reach.proofs.Names.{slice_index_or, All, nat_tests, is_marked, Object, IsClosed, object_at, root_at, slot_at, AreBy, IsKept, with_free, run_confined}
-use Rattle.reach.proofs.Names.{Frontier, Grows, HasNoneLeft, IsDone, IsWithin, Takes, BoundsRuns, IsClosedAt, IsReach}
+use Rattle.reach.proofs.Names.{ℕ, zero, suc, nat_eq, Bool, true, false, List, length, replicate, refl, sym, ap, subst, arith, IsTrue, slice_index_or, All}
+use Rattle.reach.proofs.Names.{nat_tests, is_marked, Object, IsClosed, object_at, root_at, slot_at, AreBy, IsKept, with_free, run_confined, Frontier, Grows}
+use Rattle.reach.proofs.Names.{HasNoneLeft, IsDone, IsWithin, Takes, BoundsRuns, IsClosedAt, IsReach}
+use Rattle.std.proofs.Common.{◌≡◌, ◌<◌, ◌≤◌, ◌+◌, ◌∙◌}
 use Rattle.reach.proofs.Growing.{stays_more}
 
 -- a closed set is so at each member

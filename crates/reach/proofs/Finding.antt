@@ -1,9 +1,9 @@
 -- What holds as numbers are found by steps.
-use Rattle.reach.proofs.Names.{◌≡◌, ◌≢◌, ◌⊎◌, ℕ, ◌+◌, ◌<◌, ◌≤◌, max, zero, suc, true, false, is_some, Option, None, Some, List, [], ◌∷◌, length, length-set}
-use Rattle.reach.proofs.Names.{slice_set, inl, inr, ⊎_elim, refl, sym, ap, ◌∙◌, subst, arith, cases_eq, cases_lt, get_or-set_same, get_or-set_other, same_Some}
-use Rattle.reach.proofs.Names.{Capability, Void, Object, IsWeak, named, is_free, content_at, owner_at, Found, Levels, Step, Way, Conveys, Begins, FindsBy, IsBy}
-use Rattle.reach.proofs.Names.{IsFirst, IsFoundBy, IsHeldIn, IsOwnedBelow, IsTheStep, found_at, missing}
-use Rattle.std.proofs.Common.{slice_index_or}
+use Rattle.reach.proofs.Names.{ℕ, max, zero, suc, true, false, is_some, Option, None, Some, List, [], length, length-set, slice_set, inl, inr, ⊎_elim, refl}
+use Rattle.reach.proofs.Names.{sym, ap, subst, arith, cases_eq, cases_lt, get_or-set_same, get_or-set_other, same_Some, Capability, Void, Object, IsWeak, named}
+use Rattle.reach.proofs.Names.{is_free, content_at, owner_at, Found, Levels, Step, Way, Conveys, Begins, FindsBy, IsBy, IsFirst, IsFoundBy, IsHeldIn}
+use Rattle.reach.proofs.Names.{IsOwnedBelow, IsTheStep, found_at, missing}
+use Rattle.std.proofs.Common.{◌≡◌, ◌≢◌, ◌⊎◌, ◌+◌, ◌<◌, ◌≤◌, ◌∷◌, ◌∙◌, slice_index_or}
 use Rattle.reach.specs.declared.step.Way.TheVariants as way
 
 -- no number is missing more often than there are numbers

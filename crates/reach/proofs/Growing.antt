@@ -1,6 +1,7 @@
 -- What holds as more numbers are found.
-use Rattle.reach.proofs.Names.{◌≡◌, ℕ, ◌<◌, ◌+◌, Bool, true, false, Option, None, Some, List, nat_lt, refl, sym, ◌∙◌, subst, ⊎_elim, inl, inr, arith, IsTrue}
-use Rattle.reach.proofs.Names.{slice_index_or, nat_tests, Capability, IsWeak, named, StaysInside, Object, is_free, content_at, owner_at, Frontier, Grows}
+use Rattle.reach.proofs.Names.{ℕ, Bool, true, false, Option, None, Some, List, nat_lt, refl, sym, subst, ⊎_elim, inl, inr, arith, IsTrue, slice_index_or}
+use Rattle.reach.proofs.Names.{nat_tests, Capability, IsWeak, named, StaysInside, Object, is_free, content_at, owner_at, Frontier, Grows}
+use Rattle.std.proofs.Common.{◌≡◌, ◌<◌, ◌+◌, ◌∙◌}
 
 -- a number that is named is in a set
 abbrev pub IsIn : (ℕ → Bool) → Option ℕ → Type 0

@@ -1,7 +1,8 @@
 -- Frames that were only read.
-use Rattle.reach.proofs.Names.{◌≡◌, inl, inr, ℕ, ◌^◌, ◌-◌, List, [], ◌∷◌, ap, ◌∙◌, subst, sym, arith, IsErrOf, Ok, Result, All, cases_lt, All-cons, All-nil}
-use Rattle.reach.proofs.Names.{Frame, ObjectHeader, Geometry, frames_in, objects_of, AreKeepable, IsSoundFrames, AreSound, HaveTheirRoles, OnlyReads}
-use Rattle.reach.proofs.Names.{OnlyFetches, Parts, frames_of, objects_in, PrepareFault, only_reads_twice, keepable_later, keepable_roles}
+use Rattle.reach.proofs.Names.{inl, inr, ℕ, List, [], ap, subst, sym, arith, IsErrOf, Ok, Result, All, cases_lt, All-cons, All-nil, Frame, ObjectHeader}
+use Rattle.reach.proofs.Names.{Geometry, frames_in, objects_of, AreKeepable, IsSoundFrames, AreSound, HaveTheirRoles, OnlyReads, OnlyFetches, Parts, frames_of}
+use Rattle.reach.proofs.Names.{objects_in, PrepareFault, only_reads_twice, keepable_later, keepable_roles}
+use Rattle.std.proofs.Common.{◌≡◌, ◌^◌, ◌-◌, ◌∷◌, ◌∙◌}
 use Rattle.std.specs.Prelude.{Err}
 use Rattle.capability.specs.declared.present.PrepareFault.TheVariants as prepare
 

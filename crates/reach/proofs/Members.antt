@@ -1,8 +1,9 @@
 -- What a member of a closed set holds, in a sound world.
-use Rattle.reach.proofs.Names.{◌≡◌, ℕ, ◌<◌, zero, suc, Bool, false, List, [], ◌∷◌, length, refl, sym, ap, ◌∙◌, subst, arith, IsTrue, slice_index_or, All}
-use Rattle.reach.proofs.Names.{get_or_default, Capability, Void, Number, Page, Node, Space, Process, Start, Resume, Bank, Discrim, Content, Object, Root}
-use Rattle.reach.proofs.Names.{StaysInside, free, is_bank, is_node, is_page, is_root, root_in, slots_in, NamesItsKind, content_at, slot_at, NamesWithin}
-use Rattle.reach.proofs.Names.{AreSoundObjects, IsClosedAt}
+use Rattle.reach.proofs.Names.{ℕ, zero, suc, Bool, false, List, [], length, refl, sym, ap, subst, arith, IsTrue, slice_index_or, All, get_or_default}
+use Rattle.reach.proofs.Names.{Capability, Void, Number, Page, Node, Space, Process, Start, Resume, Bank, Discrim, Content, Object, Root, StaysInside, free}
+use Rattle.reach.proofs.Names.{is_bank, is_node, is_page, is_root, root_in, slots_in, NamesItsKind, content_at, slot_at, NamesWithin, AreSoundObjects}
+use Rattle.reach.proofs.Names.{IsClosedAt}
+use Rattle.std.proofs.Common.{◌≡◌, ◌<◌, ◌∷◌, ◌∙◌}
 use Rattle.model.specs.declared.object.Content.TheVariants as content
 
 -- what isn't free is there

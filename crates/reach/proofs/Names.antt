@@ -27,8 +27,7 @@ pub use Rattle.script.proofs.Fronts.{text_fails, writes_after, writes_fail}
 pub use Rattle.script.specs.Writing.{Writes}
 pub use Rattle.std.proofs.Common.{Bool, Err, List, None, Option, Some, Vec, [], add-one, ap, append-nil, append_assoc, arith, codes, decimal, drop, false}
 pub use Rattle.std.proofs.Common.{get_or, inl, inr, is_some, length, length-set, length-take-le, max, nat_eq, nat_lt, not, option_and_then, refl, replicate}
-pub use Rattle.std.proofs.Common.{reverse, rules, slice_set, subst, suc, sym, take, true, zero, ℕ, ⊎_elim, ◌++◌, ◌+◌, ◌-◌, ◌<◌, ◌==◌, ◌^◌, ◌∙◌, ◌∷◌, ◌≡◌, ◌≢◌}
-pub use Rattle.std.proofs.Common.{◌≤◌, ◌⊎◌}
+pub use Rattle.std.proofs.Common.{reverse, rules, slice_set, subst, suc, sym, take, true, zero, ℕ, ⊎_elim}
 pub use Rattle.std.proofs.KnownBytes.{Appends-trans}
 pub use Rattle.std.proofs.Math.Seq.{take-suc}
 pub use Rattle.std.proofs.lemmas.Bool.{cases_eq, cases_lt}

@@ -1,8 +1,8 @@
 -- What holds as levels are followed.
-use Rattle.reach.proofs.Names.{◌≡◌, ◌==◌, ℕ, ◌+◌, ◌<◌, ◌≤◌, zero, suc, true, false, Option, None, Some, List, [], ◌∷◌, length, replicate, inl, inr, ⊎_elim}
-use Rattle.reach.proofs.Names.{refl, sym, ap, ◌∙◌, subst, arith, Contains, cases_lt, nat_tests, get_or_default, length-replicate, Object, Found, Levels, Step}
-use Rattle.reach.proofs.Names.{Begins, FindsBy, IsAfter, IsAt, IsFirst, IsFoundBy, IsFoundIn, IsFrom, IsFromLevel, IsSearched, found_at, has_level, missing}
-use Rattle.std.proofs.Common.{slice_index_or}
+use Rattle.reach.proofs.Names.{ℕ, zero, suc, true, false, Option, None, Some, List, [], length, replicate, inl, inr, ⊎_elim, refl, sym, ap, subst, arith}
+use Rattle.reach.proofs.Names.{Contains, cases_lt, nat_tests, get_or_default, length-replicate, Object, Found, Levels, Step, Begins, FindsBy, IsAfter, IsAt}
+use Rattle.reach.proofs.Names.{IsFirst, IsFoundBy, IsFoundIn, IsFrom, IsFromLevel, IsSearched, found_at, has_level, missing}
+use Rattle.std.proofs.Common.{◌≡◌, ◌==◌, ◌+◌, ◌<◌, ◌≤◌, ◌∷◌, ◌∙◌, slice_index_or}
 use Rattle.reach.proofs.Finding.{finds_both, finds_same, missing_most}
 
 -- the level of what was found

@@ -1,6 +1,7 @@
 -- Lines, one for each of the items of a list.
-use Rattle.reach.proofs.Names.{◌≡◌, ℕ, suc, add-one, length-take-le, ◌+◌, ◌<◌, ◌≤◌, List, [], ◌∷◌, ◌++◌, length, get_or, take, drop, refl, sym, ap, ◌∙◌}
-use Rattle.reach.proofs.Names.{append-nil, arith, flat_map, enumerate_from, flat_map-append, take-append-drop, take_all, take-suc}
+use Rattle.reach.proofs.Names.{ℕ, suc, add-one, length-take-le, List, [], length, get_or, take, drop, refl, sym, ap, append-nil, arith, flat_map}
+use Rattle.reach.proofs.Names.{enumerate_from, flat_map-append, take-append-drop, take_all, take-suc}
+use Rattle.std.proofs.Common.{◌≡◌, ◌+◌, ◌<◌, ◌≤◌, ◌∷◌, ◌++◌, ◌∙◌}
 
 enumerate_append : {A : Type 0} (n : ℕ) (xs ys : List A) → enumerate_from n (xs ++ ys) ≡ enumerate_from n xs ++ enumerate_from (n + length xs) ys
 enumerate_append n [] ys = let same : n + 0 ≡ n = omega arith in rw same refl

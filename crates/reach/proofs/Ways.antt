@@ -1,8 +1,8 @@
 -- The ways from an object, by what it holds.
-use Rattle.reach.proofs.Names.{◌≡◌, ◌⊎◌, ℕ, ◌<◌, zero, suc, false, not, List, [], ◌∷◌, length, inl, inr, refl, sym, ap, ◌∙◌, subst, arith, Capability, Void}
-use Rattle.reach.proofs.Names.{Content, Object, Root, IsWeak, is_free, slots_in, content_at, owner_at, Levels, Step, Way, Conveys, IsWay, FindsBy, IsBy, IsFrom}
-use Rattle.reach.proofs.Names.{IsHeldIn, IsOwnedBelow, IsTheStep}
-use Rattle.std.proofs.Common.{slice_index_or}
+use Rattle.reach.proofs.Names.{ℕ, zero, suc, false, not, List, [], length, inl, inr, refl, sym, ap, subst, arith, Capability, Void, Content, Object, Root}
+use Rattle.reach.proofs.Names.{IsWeak, is_free, slots_in, content_at, owner_at, Levels, Step, Way, Conveys, IsWay, FindsBy, IsBy, IsFrom, IsHeldIn}
+use Rattle.reach.proofs.Names.{IsOwnedBelow, IsTheStep}
+use Rattle.std.proofs.Common.{◌≡◌, ◌⊎◌, ◌<◌, ◌∷◌, ◌∙◌, slice_index_or}
 use Rattle.model.specs.declared.object.Content.TheVariants as content
 use Rattle.reach.specs.declared.step.Way.TheVariants as way
 use Rattle.reach.proofs.Finding.{finds_both, finds_none, finds_same}

@@ -1,6 +1,7 @@
 -- The lines that print a chain.
-use Rattle.reach.specs.Names.{ℕ, Option, None, Some, List, [], ◌∷◌, ◌++◌, Vec, codes, decimal, flat_map, Global}
-use Rattle.reach.specs.Names.{Capability, Content, Object, capability_text, line_of, spaced, content_at, object_at}
+use Rattle.reach.specs.Names.{ℕ, Option, None, Some, List, [], Vec, codes, decimal, flat_map, Global, Capability}
+use Rattle.reach.specs.Names.{Content, Object, capability_text, line_of, spaced, content_at, object_at}
+use Rattle.std.specs.Prelude.{◌∷◌, ◌++◌}
 use Rattle.model.specs.declared.object.Content.TheVariants as content
 use Rattle.reach.specs.declared.step.Step.{Step}
 use Rattle.reach.specs.declared.step.Way.{Way}

@@ -1,6 +1,7 @@
 -- Numbers that were found, and those that are still to be followed. No public clause cites this.
-use Rattle.reach.specs.Names.{◌≡◌, ℕ, ◌+◌, ◌-◌, ◌<◌, ◌≤◌, Bool, true, false, None, Some, length, IsTrue, is_marked}
-use Rattle.reach.specs.Names.{Capability, named, touched_count}
+use Rattle.reach.specs.Names.{ℕ, Bool, true, false, None, Some, length, IsTrue, is_marked, Capability, named}
+use Rattle.reach.specs.Names.{touched_count}
+use Rattle.std.specs.Prelude.{◌≡◌, ◌+◌, ◌-◌, ◌<◌, ◌≤◌}
 use Rattle.reach.specs.declared.frontier.Frontier.{Frontier}
 
 -- a number was followed

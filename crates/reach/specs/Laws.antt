@@ -1,5 +1,6 @@
 -- What the definitions of chains say.
-use Rattle.reach.specs.Names.{ℕ, ◌↔◌, Bool, List, IsTrue, Object, IsClosed}
+use Rattle.reach.specs.Names.{ℕ, Bool, List, IsTrue, Object, IsClosed}
+use Rattle.std.specs.Prelude.{◌↔◌}
 use Rattle.reach.specs.declared.step.Step.{Step}
 use Rattle.reach.specs.Chain.{IsStep}
 

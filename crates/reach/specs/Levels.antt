@@ -1,6 +1,7 @@
 -- Numbers that were found, level by level. No public clause cites this.
-use Rattle.reach.specs.Names.{◌≡◌, ◌⊎◌, ℕ, ◌==◌, ◌+◌, ◌<◌, ◌≤◌, Bool, false, Option, None, Some, List, length}
-use Rattle.reach.specs.Names.{slice_index_or, All, Contains, Capability, Void, Object, is_free, content_at, owner_at}
+use Rattle.reach.specs.Names.{ℕ, Bool, false, Option, None, Some, List, length, slice_index_or, All, Contains}
+use Rattle.reach.specs.Names.{Capability, Void, Object, is_free, content_at, owner_at}
+use Rattle.std.specs.Prelude.{◌≡◌, ◌⊎◌, ◌==◌, ◌+◌, ◌<◌, ◌≤◌}
 use Rattle.reach.specs.declared.levels.Found.{Found}
 use Rattle.reach.specs.declared.levels.Levels.{Levels}
 use Rattle.reach.specs.declared.step.Step.{Step}

@@ -1,7 +1,8 @@
 -- The lines that print a closed set, with a reason for each member.
-use Rattle.reach.specs.Names.{ℕ, ◌==◌, Bool, false, not, if◌then◌else◌, List, [], ◌∷◌, ◌++◌, codes, decimal, count_by}
-use Rattle.reach.specs.Names.{enumerate_from, flat_map, is_marked, Capability, Process, Start, Resume, Bank, Object}
-use Rattle.reach.specs.Names.{slots_in, capability_text, line_of, spaced, content_at}
+use Rattle.reach.specs.Names.{ℕ, Bool, false, not, List, [], codes, decimal, count_by, enumerate_from, flat_map}
+use Rattle.reach.specs.Names.{is_marked, Capability, Process, Start, Resume, Bank, Object, slots_in, capability_text}
+use Rattle.reach.specs.Names.{line_of, spaced, content_at}
+use Rattle.std.specs.Prelude.{◌==◌, if◌then◌else◌, ◌∷◌, ◌++◌}
 use Rattle.model.specs.declared.object.Content.TheVariants as content
 
 -- the words with which `show` begins an object

@@ -16,7 +16,6 @@ pub use Rattle.model.specs.declared.object.Content.{Content}
 pub use Rattle.model.specs.declared.object.Object.{Object}
 pub use Rattle.number_set.specs.Marks.{is_marked}
 pub use Rattle.std.specs.List.{All, Contains, count_by, enumerate_from, flat_map}
-pub use Rattle.std.specs.Prelude.{Bool, IsTrue, List, None, Option, Some, Vec, [], codes, decimal, false, if◌then◌else◌}
-pub use Rattle.std.specs.Prelude.{length, not, slice_index_or, true, ℕ, ◌++◌, ◌+◌, ◌-◌, ◌<◌, ◌==◌, ◌↔◌, ◌∷◌, ◌≡◌, ◌≤◌}
-pub use Rattle.std.specs.Prelude.{◌⊎◌}
+pub use Rattle.std.specs.Prelude.{Bool, IsTrue, List, None, Option, Some, Vec, [], codes, decimal, false, length, not}
+pub use Rattle.std.specs.Prelude.{slice_index_or, true, ℕ}
 pub use Rattle.std.specs.declared.alloc.Global.{Global}

@@ -1,7 +1,8 @@
 -- What is in reach of processes.
-use Rattle.reach.specs.Names.{◌≡◌, ℕ, Bool, false, List, IsTrue, All, Geometry, Object, IsClosed, StaysInside, Running}
-use Rattle.reach.specs.Names.{Up, is_bank, is_free, IsRun, Turn, IsSound, annex_at, content_at, is_process, object_at}
+use Rattle.reach.specs.Names.{ℕ, Bool, false, List, IsTrue, All, Geometry, Object, IsClosed, StaysInside, Running, Up}
+use Rattle.reach.specs.Names.{is_bank, is_free, IsRun, Turn, IsSound, annex_at, content_at, is_process, object_at}
 use Rattle.reach.specs.Names.{owner_at, root_at, slot_at, AreBy, IsKept, with_free}
+use Rattle.std.specs.Prelude.{◌≡◌}
 
 -- objects of a sound world
 abbrev pub AreSoundObjects : List Object → Type 0

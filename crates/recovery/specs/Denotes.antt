@@ -1,6 +1,7 @@
 -- What an image denotes, whole: none of the ten reasons to refuse it holds.
-use Rattle.recovery.specs.Names.{◌≡◌, ◌⊎◌, ℕ, List, [], ◌∷◌, Geometry, IsSoundFrames, world_at, Saved, Image, Disk}
-use Rattle.recovery.specs.Names.{LeavesOnly, SavedFrames, Holds}
+use Rattle.recovery.specs.Names.{ℕ, List, [], Geometry, IsSoundFrames, world_at, Saved, Image, Disk, LeavesOnly}
+use Rattle.recovery.specs.Names.{SavedFrames, Holds}
+use Rattle.std.specs.Prelude.{◌≡◌, ◌⊎◌, ◌∷◌}
 
 -- the saved part that saved frames stand for
 abbrev pub saved_of : SavedFrames → Saved

@@ -1,5 +1,6 @@
 -- An image denotes at most one saved part, whose world is sound, and is then refused for no reason.
-use Rattle.recovery.specs.Names.{◌≡◌, ℕ, List, Contains, Geometry, Saved, IsSound, Image, BadImage}
+use Rattle.recovery.specs.Names.{ℕ, List, Contains, Geometry, Saved, IsSound, Image, BadImage}
+use Rattle.std.specs.Prelude.{◌≡◌}
 use Rattle.recovery.specs.Denotes.{Denotes, DenotesOne}
 use Rattle.recovery.specs.Recovered.{IsBad}
 

@@ -1,8 +1,8 @@
 -- The machine that an open store stands for.
-use Rattle.recovery.specs.Names.{◌≡◌, ℕ, ◌<◌, ◌≤◌, ◌==◌, Bool, not, Option, None, Some, List, [], ◌∷◌, length, map}
-use Rattle.recovery.specs.Names.{range_with_len, Frame, Geometry, frame_at, Snapshots, IsSoundFrames, world_at, Frozen}
-use Rattle.recovery.specs.Names.{Running, Disk, Parts, frames_of, objects_in, FrozenFrames, View, AreCounted}
-use Rattle.recovery.specs.Names.{BanksState}
+use Rattle.recovery.specs.Names.{ℕ, Bool, not, Option, None, Some, List, [], length, map, range_with_len, Frame}
+use Rattle.recovery.specs.Names.{Geometry, frame_at, Snapshots, IsSoundFrames, world_at, Frozen, Running, Disk, Parts}
+use Rattle.recovery.specs.Names.{frames_of, objects_in, FrozenFrames, View, AreCounted, BanksState}
+use Rattle.std.specs.Prelude.{◌≡◌, ◌<◌, ◌≤◌, ◌==◌, ◌∷◌}
 use Rattle.recovery.specs.declared.live.Live.{Live}
 use Rattle.recovery.specs.Denotes.{saved_of, IsSoundSaved, Leaves}
 

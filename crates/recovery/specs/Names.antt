@@ -22,5 +22,4 @@ pub use Rattle.model.specs.declared.geometry.Geometry.{Geometry}
 pub use Rattle.object_store.specs.Store.{FrozenFrames, View}
 pub use Rattle.space_bank.specs.Banks.{AreCounted, BanksState}
 pub use Rattle.std.specs.List.{Contains, range_with_len}
-pub use Rattle.std.specs.Prelude.{Bool, List, None, Option, Some, [], length, map, not, ℕ, ◌<◌, ◌==◌, ◌∷◌, ◌≡◌, ◌≤◌}
-pub use Rattle.std.specs.Prelude.{◌⊎◌}
+pub use Rattle.std.specs.Prelude.{Bool, List, None, Option, Some, [], length, map, not, ℕ}

@@ -1,7 +1,8 @@
 -- The outcomes of opening a device.
-use Rattle.recovery.specs.Names.{◌≡◌, ◌⊎◌, ℕ, ◌<◌, List, Frame, opened, Only, Image, Disk, BadImage, IsBadBy, OpenFault}
-use Rattle.recovery.specs.Names.{OnlyReads, SavedFrames, Holds, Parts, frames_of, View, CheckFault, Inconsistency}
-use Rattle.recovery.specs.Names.{BadCapability, BadProcess, BadBank, IsInconsistent}
+use Rattle.recovery.specs.Names.{ℕ, List, Frame, opened, Only, Image, Disk, BadImage, IsBadBy, OpenFault, OnlyReads}
+use Rattle.recovery.specs.Names.{SavedFrames, Holds, Parts, frames_of, View, CheckFault, Inconsistency, BadCapability}
+use Rattle.recovery.specs.Names.{BadProcess, BadBank, IsInconsistent}
+use Rattle.std.specs.Prelude.{◌≡◌, ◌⊎◌, ◌<◌}
 use Rattle.layout.specs.declared.bad_image.BadImage.TheVariants as bad
 use Rattle.checkpoint.specs.declared.open_fault.OpenFault.TheVariants as fault
 use Rattle.consistency.specs.declared.reason.CheckFault.TheVariants as check

@@ -1,8 +1,8 @@
 -- What a run over a kernel changes, where its lines are by processes of a closed set.
-use Rattle.runs.proofs.Names.{◌≡◌, ℕ, Bool, List, [], ◌∷◌, ◌++◌, Option, Ok, Err, ap, sym, subst, ◌∙◌, ⊎_elim, append-nil, Result, Consumes, All-cons, All-head}
-use Rattle.runs.proofs.Names.{All-nil, All-tail, Geometry, Line, Machine, Running, Up, Down, IsRun, Turn, lines_of, IsSound, Says, Disk, AreBy, IsLineBy}
-use Rattle.runs.proofs.Names.{with_free, run_confined, Parts, View, Power, Stands, RunFault, AreAll, AreFirst, AreLines, AreLinesBy, BeginsWith, Does}
-use Rattle.runs.proofs.Names.{IsConfined, RunsOver, lines_in}
+use Rattle.runs.proofs.Names.{ℕ, Bool, List, [], Option, Ok, Err, ap, sym, subst, ⊎_elim, append-nil, Result, Consumes, All-cons, All-head, All-nil, All-tail}
+use Rattle.runs.proofs.Names.{Geometry, Line, Machine, Running, Up, Down, IsRun, Turn, lines_of, IsSound, Says, Disk, AreBy, IsLineBy, with_free, run_confined}
+use Rattle.runs.proofs.Names.{Parts, View, Power, Stands, RunFault, AreAll, AreFirst, AreLines, AreLinesBy, BeginsWith, Does, IsConfined, RunsOver, lines_in}
+use Rattle.std.proofs.Common.{◌≡◌, ◌∷◌, ◌++◌, ◌∙◌}
 use Rattle.kernel.specs.Power as power
 use Rattle.script.specs.declared.fault.RunFault.TheVariants as fault
 use Rattle.runs.proofs.ScriptLines.{lines_before}

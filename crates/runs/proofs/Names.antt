@@ -30,8 +30,7 @@ pub use Rattle.script.specs.declared.fault.RunFault.{RunFault}
 pub use Rattle.script.specs.declared.line_fault.LineFault.{LineFault}
 pub use Rattle.script.specs.declared.lines.LineBuffer.{LineBuffer}
 pub use Rattle.std.proofs.Common.{Bool, Err, List, None, Ok, Option, Some, [], ap, append-nil, append_assoc, arith, codes, drop, false, get_or, inl, inr}
-pub use Rattle.std.proofs.Common.{length, min, not, option_map, refl, rules, subst, suc, sym, take, true, zero, ℕ, ⊎_elim, ◌++◌, ◌+◌, ◌-◌, ◌<◌, ◌==◌, ◌^◌, ◌∙◌}
-pub use Rattle.std.proofs.Common.{◌∷◌, ◌≡◌, ◌≢◌, ◌⊎◌}
+pub use Rattle.std.proofs.Common.{length, min, not, option_map, refl, rules, subst, suc, sym, take, true, zero, ℕ, ⊎_elim}
 pub use Rattle.std.proofs.KnownBytes.{Consumes-trans}
 pub use Rattle.std.proofs.lemmas.Bool.Decides.{nat_tests}
 pub use Rattle.std.proofs.lemmas.List.{get_or-take, get_or_default, length-drop, length-take, take_all}
@@ -40,7 +39,7 @@ pub use Rattle.std.proofs.lemmas.List.Elements.{All-append, All-cons, All-head, 
 pub use Rattle.std.proofs.lemmas.Result.{err_from_is_err_and}
 pub use Rattle.std.specs.Io.KnownBytes.{Appends, Consumes, IsAtEnd, Keeps}
 pub use Rattle.std.specs.List.{All, flat_map}
-pub use Rattle.std.specs.Prelude.{IfErr, IfNone, IfSome, IsTrue, Result, slice_index_or, ◌↔◌}
+pub use Rattle.std.specs.Prelude.{IfErr, IfNone, IfSome, IsTrue, Result, slice_index_or}
 pub use Rattle.runs.specs.KernelRuns.{AreAll, AreFirst, AreLines, AreLinesBy, AreSeen, AreTurnsOf, BeginsWith, Does, EndsBy, IsConfined, IsCutShort, IsLeftIn}
 pub use Rattle.runs.specs.KernelRuns.{IsReportedBy, IsRunOf, IsTurnOf, RunsOver, RunsSeen, lines_in, tells_fault}
 pub use Rattle.runs.specs.Taking.{Ended, IsWritten, ReadsPiece, SoFar, Stopped, StopsBy, TakesLine, TakesTurn}

@@ -1,6 +1,7 @@
 -- The first newline.
-use Rattle.runs.proofs.Names.{◌≡◌, ℕ, ◌<◌, List, None, Some, Option, length, take, get_or, ◌∙◌, sym, subst, arith, slice_index_or, IfNone, IfSome, nat_tests}
-use Rattle.runs.proofs.Names.{get_or-take, get_or_default, length-take, take_all, IsFirstByte, Nowhere, Passes, is_byte, IsOneLine}
+use Rattle.runs.proofs.Names.{ℕ, List, None, Some, Option, length, take, get_or, sym, subst, arith, slice_index_or, IfNone, IfSome, nat_tests, get_or-take}
+use Rattle.runs.proofs.Names.{get_or_default, length-take, take_all, IsFirstByte, Nowhere, Passes, is_byte, IsOneLine}
+use Rattle.std.proofs.Common.{◌≡◌, ◌<◌, ◌∙◌}
 
 -- where it is not found there is none before
 one_line : (bytes : List ℕ) (end : ℕ) → Nowhere (Passes (is_byte 10) bytes) 0 end → IsOneLine (take end bytes)

@@ -1,7 +1,8 @@
 -- The lines of a text that is read piece by piece.
-use Rattle.runs.proofs.Names.{◌≡◌, ◌≢◌, ◌<◌, ◌+◌, ◌-◌, zero, suc, ◌==◌, false, ℕ, List, [], ◌∷◌, ◌++◌, length, take, drop, refl, sym, ap, ◌∙◌, append_assoc}
-use Rattle.runs.proofs.Names.{append-nil, arith, slice_index_or, nat_tests, length-drop, take_all, flat_map-append, All-append, All-cons, All-head, All-nil}
-use Rattle.runs.proofs.Names.{All-tail, All, flat_map, lines_of, line_of, IsOneLine, AreLines, BeginsWith}
+use Rattle.runs.proofs.Names.{zero, suc, false, ℕ, List, [], length, take, drop, refl, sym, ap, append_assoc, append-nil, arith, slice_index_or, nat_tests}
+use Rattle.runs.proofs.Names.{length-drop, take_all, flat_map-append, All-append, All-cons, All-head, All-nil, All-tail, All, flat_map, lines_of, line_of}
+use Rattle.runs.proofs.Names.{IsOneLine, AreLines, BeginsWith}
+use Rattle.std.proofs.Common.{◌≡◌, ◌≢◌, ◌<◌, ◌+◌, ◌-◌, ◌==◌, ◌∷◌, ◌++◌, ◌∙◌}
 
 -- a line that ends at its newline is the first, and what follows it the others
 first_line : (text rest : List ℕ) → IsOneLine text → lines_of (line_of text ++ rest) ≡ text ∷ lines_of rest

@@ -1,8 +1,9 @@
 -- What a tracer makes of a turn.
-use Rattle.runs.proofs.Names.{◌≡◌, ℕ, ◌+◌, ◌-◌, ◌^◌, min, Bool, true, false, not, Option, None, Some, List, [], ◌∷◌, ◌++◌, codes, refl, sym, ap, ◌∙◌, subst}
-use Rattle.runs.proofs.Names.{IfNone, IfSome, Answer, Command, Geometry, ResultCode, Reply, Nothing, BadLine, Reported, Turn, Says, line_of, spaced, says_one}
-use Rattle.runs.proofs.Names.{LineFault, command_name, IsFaultOf, Cause, Stop, Tracer, reported_code, Ends, EndsIf, IsCauseIn, IsCauseOf, IsOutcome, IsTrace}
-use Rattle.runs.proofs.Names.{IsTraced, Notes, Sees, cause_text, place_text}
+use Rattle.runs.proofs.Names.{ℕ, min, Bool, true, false, not, Option, None, Some, List, [], codes, refl, sym, ap, subst, IfNone, IfSome, Answer, Command}
+use Rattle.runs.proofs.Names.{Geometry, ResultCode, Reply, Nothing, BadLine, Reported, Turn, Says, line_of, spaced, says_one, LineFault, command_name}
+use Rattle.runs.proofs.Names.{IsFaultOf, Cause, Stop, Tracer, reported_code, Ends, EndsIf, IsCauseIn, IsCauseOf, IsOutcome, IsTrace, IsTraced, Notes, Sees}
+use Rattle.runs.proofs.Names.{cause_text, place_text}
+use Rattle.std.proofs.Common.{◌≡◌, ◌+◌, ◌-◌, ◌^◌, ◌∷◌, ◌++◌, ◌∙◌}
 use Rattle.model.specs.declared.line.Line.TheVariants as line
 use Rattle.runs.specs.declared.cause.Cause.TheVariants as cause
 use Rattle.runs.proofs.TurnLists.{appends_none}

@@ -1,6 +1,7 @@
 -- Turns of a run, one after another, and what they write.
-use Rattle.runs.proofs.Names.{◌≡◌, ℕ, List, [], ◌∷◌, ◌++◌, Option, None, Some, refl, sym, ap, ◌∙◌, append_assoc, append-nil, Appends, Keeps, flat_map-append}
-use Rattle.runs.proofs.Names.{Geometry, Machine, Turn, IsTurn, IsRun, reply_text, output_of, lines_in}
+use Rattle.runs.proofs.Names.{ℕ, List, [], Option, None, Some, refl, sym, ap, append_assoc, append-nil, Appends, Keeps, flat_map-append, Geometry, Machine}
+use Rattle.runs.proofs.Names.{Turn, IsTurn, IsRun, reply_text, output_of, lines_in}
+use Rattle.std.proofs.Common.{◌≡◌, ◌∷◌, ◌++◌, ◌∙◌}
 
 -- one more turn
 pub run_more : (g : Geometry) (m : Machine) (ts : List Turn) (mid : Machine) (t : Turn) →

@@ -1,12 +1,13 @@
 -- Turns of a kernel, one after another.
-use Rattle.runs.proofs.Names.{◌≡◌, ◌≢◌, ◌⊎◌, ℕ, ◌<◌, suc, take, drop, length, Bool, true, false, List, [], ◌∷◌, ◌++◌, Option, None, Some, Ok, Err, refl, sym}
-use Rattle.runs.proofs.Names.{ap, ◌∙◌, subst, ⊎_elim, inl, inr, append_assoc, append-nil, arith, ◌↔◌, slice_index_or, IfErr, IsTrue, Result, Consumes-trans}
-use Rattle.runs.proofs.Names.{Appends, Consumes, IsAtEnd, Keeps, Answer, Command, Geometry, Line, ResultCode, Machine, Running, Saved, Up, Down, candidates}
-use Rattle.runs.proofs.Names.{Reply, Nothing, BadLine, Reported, Turn, Replies, lines_of, reply_text, output_of, second, Says, bad_line, Image, Disk}
-use Rattle.runs.proofs.Names.{LeavesOnly, leaves_weaker, started, Parts, View, Power, DenotesOne, saved_of, IsCaused, Serves, Stands, disk_of, RunFault}
-use Rattle.runs.proofs.Names.{LineBuffer, Holds, IsOneLine, AppendsFront, AreFirst, AreLines, AreSeen, AreTurnsOf, BeginsWith, Does, IsCutShort, IsLeftIn}
-use Rattle.runs.proofs.Names.{IsRunOf, IsReportedBy, IsTurnOf, EndsBy, RunsOver, RunsSeen, lines_in, tells_fault, reported_code, Ended, IsWritten, SoFar}
-use Rattle.runs.proofs.Names.{Stopped, StopsBy, TakesLine, TakesTurn}
+use Rattle.runs.proofs.Names.{ℕ, suc, take, drop, length, Bool, true, false, List, [], Option, None, Some, Ok, Err, refl, sym, ap, subst, ⊎_elim, inl, inr}
+use Rattle.runs.proofs.Names.{append_assoc, append-nil, arith, slice_index_or, IfErr, IsTrue, Result, Consumes-trans, Appends, Consumes, IsAtEnd, Keeps, Answer}
+use Rattle.runs.proofs.Names.{Command, Geometry, Line, ResultCode, Machine, Running, Saved, Up, Down, candidates, Reply, Nothing, BadLine, Reported, Turn}
+use Rattle.runs.proofs.Names.{Replies, lines_of, reply_text, output_of, second, Says, bad_line, Image, Disk, LeavesOnly, leaves_weaker, started, Parts, View}
+use Rattle.runs.proofs.Names.{Power, DenotesOne, saved_of, IsCaused, Serves, Stands, disk_of, RunFault, LineBuffer, Holds, IsOneLine, AppendsFront, AreFirst}
+use Rattle.runs.proofs.Names.{AreLines, AreSeen, AreTurnsOf, BeginsWith, Does, IsCutShort, IsLeftIn, IsRunOf, IsReportedBy, IsTurnOf, EndsBy, RunsOver}
+use Rattle.runs.proofs.Names.{RunsSeen, lines_in, tells_fault, reported_code, Ended, IsWritten, SoFar, Stopped, StopsBy, TakesLine, TakesTurn}
+use Rattle.std.proofs.Common.{◌≡◌, ◌≢◌, ◌⊎◌, ◌<◌, ◌∷◌, ◌++◌, ◌∙◌}
+use Rattle.std.specs.Prelude.{◌↔◌}
 use Rattle.model.specs.declared.answer.Answer.TheVariants as answer
 use Rattle.model.specs.declared.answer.Refusal.TheVariants as refusal
 use Rattle.model.specs.declared.line.Line.TheVariants as line

@@ -1,9 +1,10 @@
 -- Runs of a script over a kernel.
-use Rattle.runs.specs.Names.{◌≡◌, ◌⊎◌, ◌↔◌, ℕ, ◌<◌, ◌≤◌, Bool, true, false, List, [], ◌∷◌, ◌++◌, map, Option, Result}
-use Rattle.runs.specs.Names.{Ok, Err, All, flat_map, Appends, Consumes, IsAtEnd, Command, Geometry, Line, IsClosed}
-use Rattle.runs.specs.Names.{Machine, Running, Up, candidates, Reply, Reported, Turn, IsRun, lines_of, reply_text}
-use Rattle.runs.specs.Names.{output_of, second, Says, line_of, object_at, Image, Disk, LeavesOnly, IsKept, IsLineBy}
-use Rattle.runs.specs.Names.{with_free, Parts, View, Power, DenotesOne, Stands, disk_of, RunFault, IsOneLine}
+use Rattle.runs.specs.Names.{ℕ, Bool, true, false, List, [], map, Option, Result, Ok, Err, All, flat_map, Appends}
+use Rattle.runs.specs.Names.{Consumes, IsAtEnd, Command, Geometry, Line, IsClosed, Machine, Running, Up, candidates}
+use Rattle.runs.specs.Names.{Reply, Reported, Turn, IsRun, lines_of, reply_text, output_of, second, Says, line_of}
+use Rattle.runs.specs.Names.{object_at, Image, Disk, LeavesOnly, IsKept, IsLineBy, with_free, Parts, View, Power}
+use Rattle.runs.specs.Names.{DenotesOne, Stands, disk_of, RunFault, IsOneLine}
+use Rattle.std.specs.Prelude.{◌≡◌, ◌⊎◌, ◌↔◌, ◌<◌, ◌≤◌, ◌∷◌, ◌++◌}
 use Rattle.model.specs.declared.answer.Answer.TheVariants as answer
 use Rattle.model.specs.declared.answer.Refusal.TheVariants as refusal
 use Rattle.model.specs.declared.line.Line.TheVariants as line

@@ -31,4 +31,4 @@ pub use Rattle.script.specs.declared.lines.LineBuffer.{LineBuffer}
 pub use Rattle.std.specs.Io.KnownBytes.{Appends, Consumes, IsAtEnd}
 pub use Rattle.std.specs.List.{All, flat_map}
 pub use Rattle.std.specs.Prelude.{Bool, Err, List, None, Ok, Option, Result, Some, [], codes, decimal, false, length}
-pub use Rattle.std.specs.Prelude.{map, min, take, true, ℕ, ◌++◌, ◌+◌, ◌-◌, ◌<◌, ◌^◌, ◌↔◌, ◌∷◌, ◌≡◌, ◌≢◌, ◌≤◌, ◌⊎◌}
+pub use Rattle.std.specs.Prelude.{map, min, take, true, ℕ}

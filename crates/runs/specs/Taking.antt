@@ -1,8 +1,9 @@
 -- A run of a script in its course.
-use Rattle.runs.specs.Names.{◌≡◌, ◌⊎◌, ℕ, ◌≤◌, Bool, true, false, List, [], length, take, Option, Result, Ok, Err}
-use Rattle.runs.specs.Names.{Appends, Consumes, IsAtEnd, Command, Geometry, Line, Machine, candidates, Reply, Turn}
-use Rattle.runs.specs.Names.{Replies, lines_of, reply_text, output_of, second, Says, Disk, LeavesOnly, Parts, View}
-use Rattle.runs.specs.Names.{Power, DenotesOne, Stands, disk_of, RunFault, LineBuffer, Holds, AppendsFront}
+use Rattle.runs.specs.Names.{ℕ, Bool, true, false, List, [], length, take, Option, Result, Ok, Err, Appends, Consumes}
+use Rattle.runs.specs.Names.{IsAtEnd, Command, Geometry, Line, Machine, candidates, Reply, Turn, Replies, lines_of}
+use Rattle.runs.specs.Names.{reply_text, output_of, second, Says, Disk, LeavesOnly, Parts, View, Power, DenotesOne}
+use Rattle.runs.specs.Names.{Stands, disk_of, RunFault, LineBuffer, Holds, AppendsFront}
+use Rattle.std.specs.Prelude.{◌≡◌, ◌⊎◌, ◌≤◌}
 use Rattle.model.specs.declared.line.Line.TheVariants as line
 use Rattle.script.specs.declared.fault.RunFault.TheVariants as fault
 use Rattle.runs.specs.declared.script_pieces.Piece.{Piece}

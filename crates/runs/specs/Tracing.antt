@@ -1,8 +1,9 @@
 -- What a trace says of a run, and where a strict run ends.
-use Rattle.runs.specs.Names.{◌≡◌, ◌≢◌, ℕ, ◌+◌, ◌-◌, ◌^◌, min, Bool, true, false, Option, None, Some, List, [], ◌∷◌}
-use Rattle.runs.specs.Names.{◌++◌, codes, decimal, Appends, Answer, Command, Geometry, ResultCode, code_number, Reply}
-use Rattle.runs.specs.Names.{Nothing, BadLine, Reported, Turn, Says, line_of, refusal_text, spaced, LineFault}
-use Rattle.runs.specs.Names.{IsAnswerText, command_name, IsFaultOf, line_fault_text, AppendsFront, reported_code}
+use Rattle.runs.specs.Names.{ℕ, min, Bool, true, false, Option, None, Some, List, [], codes, decimal, Appends, Answer}
+use Rattle.runs.specs.Names.{Command, Geometry, ResultCode, code_number, Reply, Nothing, BadLine, Reported, Turn, Says}
+use Rattle.runs.specs.Names.{line_of, refusal_text, spaced, LineFault, IsAnswerText, command_name, IsFaultOf}
+use Rattle.runs.specs.Names.{line_fault_text, AppendsFront, reported_code}
+use Rattle.std.specs.Prelude.{◌≡◌, ◌≢◌, ◌+◌, ◌-◌, ◌^◌, ◌∷◌, ◌++◌}
 use Rattle.model.specs.declared.answer.Answer.TheVariants as answer
 use Rattle.model.specs.declared.line.Line.TheVariants as line
 use Rattle.model.specs.declared.order.ResultCode.TheVariants as code

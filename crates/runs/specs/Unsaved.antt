@@ -1,5 +1,6 @@
 -- What a run did that isn't committed.
-use Rattle.runs.specs.Names.{◌≡◌, Bool, true, false, Answer, Command, Geometry, Reply, Reported, Turn, Says}
+use Rattle.runs.specs.Names.{Bool, true, false, Answer, Command, Geometry, Reply, Reported, Turn, Says}
+use Rattle.std.specs.Prelude.{◌≡◌}
 use Rattle.model.specs.declared.answer.Answer.TheVariants as answer
 use Rattle.model.specs.declared.command.Command.TheVariants as command
 use Rattle.model.specs.declared.line.Line.TheVariants as line

@@ -1,7 +1,8 @@
 -- Two runs of one machine on the same lines.
-use Rattle.runs_laws.proofs.Names.{◌≡◌, ℕ, true, List, [], ◌∷◌, ◌++◌, Option, None, Some, refl, sym, ap, ◌∙◌, subst, append-nil, inl, inr, flat_map-append}
-use Rattle.runs_laws.proofs.Names.{Answer, Refusal, Command, Geometry, Line, Machine, Running, Up, Reply, Reported, Turn, IsRun, Replies, reply_text, output_of}
-use Rattle.runs_laws.proofs.Names.{Answers, Outcome, Step, carried_out, refusal_of, Says, says_one, lines_in, SteadyRunsAgree, is_steady}
+use Rattle.runs_laws.proofs.Names.{ℕ, true, List, [], Option, None, Some, refl, sym, ap, subst, append-nil, inl, inr, flat_map-append, Answer, Refusal, Command}
+use Rattle.runs_laws.proofs.Names.{Geometry, Line, Machine, Running, Up, Reply, Reported, Turn, IsRun, Replies, reply_text, output_of, Answers, Outcome, Step}
+use Rattle.runs_laws.proofs.Names.{carried_out, refusal_of, Says, says_one, lines_in, SteadyRunsAgree, is_steady}
+use Rattle.std.proofs.Common.{◌≡◌, ◌∷◌, ◌++◌, ◌∙◌}
 use Rattle.model.specs.declared.answer.Answer.TheVariants as answer
 use Rattle.model.specs.declared.answer.Refusal.TheVariants as refusal
 use Rattle.model.specs.declared.line.Line.TheVariants as line

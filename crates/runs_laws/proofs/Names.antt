@@ -25,8 +25,7 @@ pub use Rattle.recovery.specs.Denotes.{Denotes, DenotesOne}
 pub use Rattle.recovery.specs.Recovered.{RefusesToOpen}
 pub use Rattle.runs.proofs.Confining.{one_machine, sound_world}
 pub use Rattle.runs.specs.KernelRuns.{AreTurnsOf, IsLeftIn, lines_in}
-pub use Rattle.std.proofs.Common.{List, None, Option, Some, [], ap, append-nil, arith, inl, inr, refl, subst, suc, sym, true, zero, ℕ, ⊎_elim, ◌++◌, ◌∙◌, ◌∷◌}
-pub use Rattle.std.proofs.Common.{◌≡◌}
+pub use Rattle.std.proofs.Common.{List, None, Option, Some, [], ap, append-nil, arith, inl, inr, refl, subst, suc, sym, true, zero, ℕ, ⊎_elim}
 pub use Rattle.std.proofs.lemmas.List.Concat.{flat_map-append}
 pub use Rattle.std.specs.List.{Contains}
 pub use Rattle.runs_laws.specs.Laws.{CrashesAreSurvived, IsOpenedAt, MaySave, RunsAreConfined, SteadyRunsAgree, is_steady}

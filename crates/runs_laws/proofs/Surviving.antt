@@ -1,8 +1,9 @@
 -- What a crash leaves in the course of a run, and that it is opened.
-use Rattle.runs_laws.proofs.Names.{ℕ, zero, suc, List, [], ◌∷◌, refl, sym, subst, ⊎_elim, inl, inr, arith, Contains, Geometry, Machine, Running, Saved, Up}
-use Rattle.runs_laws.proofs.Names.{Down, candidates, opened, Turn, IsRun, second, Image, Disk, LeavesOnly, leaves_on, leaves_weaker, started, OpenFault, Parts}
-use Rattle.runs_laws.proofs.Names.{View, Power, Denotes, DenotesOne, RefusesToOpen, IsNoReason, Opens, Stands, disk_of, denotes_one, denoted_not_bad}
-use Rattle.runs_laws.proofs.Names.{AreTurnsOf, IsLeftIn, CrashesAreSurvived, IsOpenedAt, MaySave}
+use Rattle.runs_laws.proofs.Names.{ℕ, zero, suc, List, [], refl, sym, subst, ⊎_elim, inl, inr, arith, Contains, Geometry, Machine, Running, Saved, Up, Down}
+use Rattle.runs_laws.proofs.Names.{candidates, opened, Turn, IsRun, second, Image, Disk, LeavesOnly, leaves_on, leaves_weaker, started, OpenFault, Parts, View}
+use Rattle.runs_laws.proofs.Names.{Power, Denotes, DenotesOne, RefusesToOpen, IsNoReason, Opens, Stands, disk_of, denotes_one, denoted_not_bad, AreTurnsOf}
+use Rattle.runs_laws.proofs.Names.{IsLeftIn, CrashesAreSurvived, IsOpenedAt, MaySave}
+use Rattle.std.proofs.Common.{◌∷◌}
 use Rattle.checkpoint.specs.declared.open_fault.OpenFault.TheVariants as fault
 use Rattle.kernel.specs.Power as power
 

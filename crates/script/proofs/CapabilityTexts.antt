@@ -1,9 +1,8 @@
 -- A text is a capability's where its pieces are the capability's words.
-use Rattle.script.proofs.Names.{◌≡◌, ◌≢◌, ℕ, ◌<◌, ◌^◌, ◌==◌, not, Bool, true, false, if◌then◌else◌, List, [], ◌∷◌, ◌++◌, length, codes, decimal, refl, sym, ap}
-use Rattle.script.proofs.Names.{◌∙◌, arith, flat_map, list_all, same_Some, All-nil, All-cons, All-weaker, AllPass-from_list_all, join_with_byte-slice_split}
-use Rattle.script.proofs.Names.{Access, Capability, spaced, access_text, capability_text, IsSpaceless, split_spaced, decimal_is_word, access_words}
-use Rattle.script.proofs.Names.{capability_words, kind_name, words_of}
-use Rattle.std.proofs.Common.{All}
+use Rattle.script.proofs.Names.{ℕ, not, Bool, true, false, List, [], length, codes, decimal, refl, sym, ap, arith, flat_map, list_all, same_Some, All-nil}
+use Rattle.script.proofs.Names.{All-cons, All-weaker, AllPass-from_list_all, join_with_byte-slice_split, Access, Capability, spaced, access_text}
+use Rattle.script.proofs.Names.{capability_text, IsSpaceless, split_spaced, decimal_is_word, access_words, capability_words, kind_name, words_of}
+use Rattle.std.proofs.Common.{◌≡◌, ◌≢◌, ◌<◌, ◌^◌, ◌==◌, if◌then◌else◌, ◌∷◌, ◌++◌, ◌∙◌, All}
 use Rattle.model.specs.declared.capability.Capability.TheVariants as capability
 use Rattle.script.proofs.CapabilityWords.{HasText, arguments_are, capability_again, kind_for}
 use Rattle.script.proofs.Texts.{spaced_more}

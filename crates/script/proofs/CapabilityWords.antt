@@ -1,8 +1,9 @@
 -- A capability is read from its words, and from no others.
-use Rattle.script.proofs.Names.{◌≡◌, ◌≢◌, ℕ, ◌≤◌, ◌<◌, ◌^◌, ◌&&◌, nat_lt, nat_le, Bool, true, false, if◌then◌else◌, cond, List, [], ◌∷◌, ◌++◌, Option, None}
-use Rattle.script.proofs.Names.{Some, codes, decimal, inl, inr, append-nil, refl, sym, ap, ◌∙◌, subst, arith, IfSome, bytes_eq, bytes_eq-Decides, lt-ltb}
-use Rattle.script.proofs.Names.{ltb-true, le-leb, leb-true, Access, Capability, IsAccess, IsWellFormed, named, weak, Kind, kind_name, access_words}
-use Rattle.script.proofs.Names.{capability_words, access_in, access_at, height_at, key_at, one_of, object_of, capability_at, Words, number_at}
+use Rattle.script.proofs.Names.{ℕ, nat_lt, nat_le, Bool, true, false, cond, List, [], Option, None, Some, codes, decimal, inl, inr, append-nil, refl, sym, ap}
+use Rattle.script.proofs.Names.{subst, arith, IfSome, bytes_eq, bytes_eq-Decides, lt-ltb, ltb-true, le-leb, leb-true, Access, Capability, IsAccess}
+use Rattle.script.proofs.Names.{IsWellFormed, named, weak, Kind, kind_name, access_words, capability_words, access_in, access_at, height_at, key_at, one_of}
+use Rattle.script.proofs.Names.{object_of, capability_at, Words, number_at}
+use Rattle.std.proofs.Common.{◌≡◌, ◌≢◌, ◌≤◌, ◌<◌, ◌^◌, ◌&&◌, if◌then◌else◌, ◌∷◌, ◌++◌, ◌∙◌}
 use Rattle.model.specs.declared.capability.Capability.TheVariants as capability
 use Rattle.script.specs.declared.named.Kind.TheVariants as kind
 use Rattle.script.proofs.Commands.{bind_some, guard_some, both, some_is, number_again, number_takes}

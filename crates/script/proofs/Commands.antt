@@ -1,9 +1,10 @@
 -- A command is read from its words, and from no others.
-use Rattle.script.proofs.Names.{◌≡◌, ◌≢◌, ℕ, ◌<◌, ◌^◌, ◌&&◌, Bool, true, false, cond, if◌then◌else◌, List, [], ◌∷◌, ◌++◌, map, Option, None, Some, length}
-use Rattle.script.proofs.Names.{decimal, codes, zero, suc, append-nil, append_assoc, refl, sym, ap, ◌∙◌, subst, arith, nat_lt, IfSome, IfNone, All, bytes_eq}
-use Rattle.script.proofs.Names.{digits_value, bytes_eq-Decides, lt-ltb, ltb-true, Command, Operation, Call, Return, Send, Fits, command_words, operation_name}
-use Rattle.script.proofs.Names.{Keyword, keyword_name, ◌>>=◌, Words, Gives, number_in, number_at, register_at, numbers_at, registers_at, invocation_at, one_at}
-use Rattle.script.proofs.Names.{arguments_at}
+use Rattle.script.proofs.Names.{ℕ, Bool, true, false, cond, List, [], map, Option, None, Some, length, decimal, codes, zero, suc, append-nil, append_assoc}
+use Rattle.script.proofs.Names.{refl, sym, ap, subst, arith, nat_lt, IfSome, IfNone, All, bytes_eq, digits_value, bytes_eq-Decides, lt-ltb, ltb-true, Command}
+use Rattle.script.proofs.Names.{Operation, Call, Return, Send, Fits, command_words, operation_name, Keyword, keyword_name, Words, Gives, number_in, number_at}
+use Rattle.script.proofs.Names.{register_at, numbers_at, registers_at, invocation_at, one_at, arguments_at}
+use Rattle.std.proofs.Common.{◌≡◌, ◌≢◌, ◌<◌, ◌^◌, ◌&&◌, if◌then◌else◌, ◌∷◌, ◌++◌, ◌∙◌}
+use Rattle.script.specs.Reading.{◌>>=◌}
 use Rattle.model.specs.declared.command.Command.TheVariants as command
 use Rattle.script.specs.declared.keyword.Keyword.TheVariants as keyword
 use Rattle.script.proofs.Numbers.{decimal_is_digits}

@@ -1,6 +1,7 @@
 -- A word of one digit, with a space behind it or at the end.
-use Rattle.script.proofs.Names.{◌≡◌, ℕ, ◌<◌, ◌≤◌, ◌-◌, ◌==◌, List, [], ◌∷◌, Some, length, get_or, take, drop, decimal, sym, ap, ◌∙◌, arith, IsInRange}
-use Rattle.script.proofs.Names.{nat_tests, decimal_digit, take_more, position_or_len_is, first_end, first_word, number_at, words_of}
+use Rattle.script.proofs.Names.{ℕ, List, [], Some, length, get_or, take, drop, decimal, sym, ap, arith, IsInRange, nat_tests, decimal_digit, take_more}
+use Rattle.script.proofs.Names.{position_or_len_is, first_end, first_word, number_at, words_of}
+use Rattle.std.proofs.Common.{◌≡◌, ◌<◌, ◌≤◌, ◌-◌, ◌==◌, ◌∷◌, ◌∙◌}
 use Rattle.script.proofs.Commands.{number_gives}
 use Rattle.script.proofs.Split.{word_alone, word_and_more}
 

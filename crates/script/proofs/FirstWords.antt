@@ -1,6 +1,7 @@
 -- The first word of a text, up to a space or the end.
-use Rattle.script.proofs.Names.{◌≡◌, ◌≢◌, ℕ, ◌<◌, ◌≤◌, ◌==◌, Bool, List, length, get_or, take, inl, inr, arith, cases_lt, nat_tests, get_or-take}
-use Rattle.script.proofs.Names.{length-take-le, take-take, fails_before_first, passes_at_first, prefix_len-le-length, first_end, first_word}
+use Rattle.script.proofs.Names.{ℕ, Bool, List, length, get_or, take, inl, inr, arith, cases_lt, nat_tests, get_or-take, length-take-le, take-take}
+use Rattle.script.proofs.Names.{fails_before_first, passes_at_first, prefix_len-le-length, first_end, first_word}
+use Rattle.std.proofs.Common.{◌≡◌, ◌≢◌, ◌<◌, ◌≤◌, ◌==◌}
 
 abbrev is_space : ℕ → Bool
 is_space b = b == 32

@@ -1,7 +1,8 @@
 -- What a writer is left with, put together.
-use Rattle.script.proofs.Names.{◌≡◌, ℕ, ◌+◌, ◌-◌, List, [], ◌++◌, Option, None, Some, Result, Ok, Err, length, take, drop, sym, ap, ◌∙◌, subst, append_assoc}
-use Rattle.script.proofs.Names.{append-nil, arith, take-append-drop, take_all, length-drop, take-add, Appends-trans, Appends-kept, Appends, Keeps, line_of}
-use Rattle.script.proofs.Names.{RunFault, AppendsFront, Writes}
+use Rattle.script.proofs.Names.{ℕ, List, [], Option, None, Some, Result, Ok, Err, length, take, drop, sym, ap, subst, append_assoc, append-nil, arith}
+use Rattle.script.proofs.Names.{take-append-drop, take_all, length-drop, take-add, Appends-trans, Appends-kept, Appends, Keeps, line_of, RunFault, AppendsFront}
+use Rattle.script.proofs.Names.{Writes}
+use Rattle.std.proofs.Common.{◌≡◌, ◌+◌, ◌-◌, ◌++◌, ◌∙◌}
 
 -- the first n bytes are a beginning
 pub front_at : (a b : Option (List ℕ)) (bytes : List ℕ) (n : ℕ) → Appends a b (take n bytes) → AppendsFront a b bytes

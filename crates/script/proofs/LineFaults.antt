@@ -1,9 +1,10 @@
 -- Words that can't stand at their places, and lines whose words can.
-use Rattle.script.proofs.Names.{◌≡◌, ◌≢◌, ℕ, ◌+◌, ◌<◌, ◌≤◌, ◌^◌, zero, suc, Bool, true, false, if◌then◌else◌, ◌==◌, List, [], ◌∷◌, ◌++◌, None, Some, length}
-use Rattle.script.proofs.Names.{take, get_or, decimal, codes, refl, sym, ap, ◌∙◌, subst, inl, inr, arith, append_assoc, append-nil, map, ⊎_elim, slice_get, All}
-use Rattle.script.proofs.Names.{cases_lt, nat_tests, take_all, IsInRange, decimal_digit, digits_more, digit_value_digit, AllDigits, digits_value, Command, Fits}
-use Rattle.script.proofs.Names.{Says, command_words, operation_name, spelling_from_words, Keyword, LineFault, keyword_name, AreOperands, HasWord, IsFaultOf}
-use Rattle.script.proofs.Names.{IsOperand, IsWordFault, Names, are_registers, Words, number_at}
+use Rattle.script.proofs.Names.{ℕ, zero, suc, Bool, true, false, List, [], None, Some, length, take, get_or, decimal, codes, refl, sym, ap, subst, inl, inr}
+use Rattle.script.proofs.Names.{arith, append_assoc, append-nil, map, ⊎_elim, slice_get, All, cases_lt, nat_tests, take_all, IsInRange, decimal_digit}
+use Rattle.script.proofs.Names.{digits_more, digit_value_digit, AllDigits, digits_value, Command, Fits, Says, command_words, operation_name}
+use Rattle.script.proofs.Names.{spelling_from_words, Keyword, LineFault, keyword_name, AreOperands, HasWord, IsFaultOf, IsOperand, IsWordFault, Names}
+use Rattle.script.proofs.Names.{are_registers, Words, number_at}
+use Rattle.std.proofs.Common.{◌≡◌, ◌≢◌, ◌+◌, ◌<◌, ◌≤◌, ◌^◌, if◌then◌else◌, ◌==◌, ◌∷◌, ◌++◌, ◌∙◌}
 use Rattle.model.specs.declared.command.Command.TheVariants as command
 use Rattle.model.specs.declared.line.Line.TheVariants as line
 use Rattle.script.specs.declared.keyword.Keyword.TheVariants as keyword

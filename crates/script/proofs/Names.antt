@@ -19,8 +19,8 @@ pub use Rattle.model.specs.declared.object.State.TheVariants.{Available, Running
 pub use Rattle.model_laws.proofs.Spelling.{IsSpaceless, decimal_is_word, length-spelling, skip_is_no_command, spelling_from_words, spells_one, split_spaced}
 pub use Rattle.model_laws.proofs.Spelling.{split_spelling}
 pub use Rattle.std.proofs.Common.{Bool, Err, List, None, Ok, Option, Result, Some, [], add-one, ap, append-nil, append_assoc, arith, codes, cond, decimal, drop}
-pub use Rattle.std.proofs.Common.{false, get_or, if◌then◌else◌, inl, inr, length, map, nat_le, nat_lt, not, option_map, refl, rules, subst, suc, sym, take}
-pub use Rattle.std.proofs.Common.{true, zero, ℕ, ⊎_elim, ◌%◌, ◌&&◌, ◌*◌, ◌++◌, ◌+◌, ◌-◌, ◌/◌, ◌<◌, ◌==◌, ◌^◌, ◌∙◌, ◌∷◌, ◌≡◌, ◌≢◌, ◌≤◌}
+pub use Rattle.std.proofs.Common.{false, get_or, inl, inr, length, map, nat_le, nat_lt, not, option_map, refl, rules, subst, suc, sym, take, true, zero, ℕ}
+pub use Rattle.std.proofs.Common.{⊎_elim}
 pub use Rattle.std.proofs.KnownBytes.{Appends-kept, Appends-trans}
 pub use Rattle.std.proofs.Math.Seq.{take-add, take-suc}
 pub use Rattle.std.proofs.lemmas.Bool.{cases_lt, le-leb, leb-true, lt-ltb, ltb-true}
@@ -51,7 +51,7 @@ pub use Rattle.script.specs.Keywords.{keyword_name}
 pub use Rattle.script.specs.LineFaults.{AreOperands, HasWord, IsFaultOf, IsOperand, IsWordFault, Names, are_registers}
 pub use Rattle.script.specs.Named.{access_words, kind_name, object_of, one_of}
 unfoldable pub use Rattle.script.specs.Named.{access_at, access_in, capability_at, capability_words, height_at, key_at}
-pub use Rattle.script.specs.Reading.{Gives, Words, first_end, first_word, one_at, words_left, words_of, ◌>>=◌}
+pub use Rattle.script.specs.Reading.{Gives, Words, first_end, first_word, one_at, words_left, words_of}
 unfoldable pub use Rattle.script.specs.Reading.{arguments_at, invocation_at, number_at, number_in, numbers_at, register_at, registers_at}
 pub use Rattle.script.specs.Writing.{AppendsFront, Writes}
 pub use Rattle.script.specs.declared.fault.RunFault.{RunFault}

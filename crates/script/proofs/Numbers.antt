@@ -1,8 +1,9 @@
 -- The decimal text of a number, and the words that are one.
-use Rattle.script.proofs.Names.{◌≡◌, ◌≢◌, ℕ, zero, suc, ◌<◌, ◌≤◌, ◌^◌, ◌+◌, ◌-◌, ◌*◌, List, Option, None, Some, length, get_or, take, decimal, sym, ap, subst}
-use Rattle.script.proofs.Names.{◌∙◌, arith, IfSome, IfNone, IsInRange, digit_value_digit, AllDigits, digits_value, decimal_nonempty, first_decimal}
-use Rattle.script.proofs.Names.{decimal_digit, digits_decimal, digits_value-decimal, decimal-digits_value, digits_value_more, digits_more, IsNumeralModel}
-use Rattle.script.proofs.Names.{numerals_by_value, tells_digits, digits_value-take-le, first_end, first_word}
+use Rattle.script.proofs.Names.{ℕ, zero, suc, List, Option, None, Some, length, get_or, take, decimal, sym, ap, subst, arith, IfSome, IfNone, IsInRange}
+use Rattle.script.proofs.Names.{digit_value_digit, AllDigits, digits_value, decimal_nonempty, first_decimal, decimal_digit, digits_decimal}
+use Rattle.script.proofs.Names.{digits_value-decimal, decimal-digits_value, digits_value_more, digits_more, IsNumeralModel, numerals_by_value, tells_digits}
+use Rattle.script.proofs.Names.{digits_value-take-le, first_end, first_word}
+use Rattle.std.proofs.Common.{◌≡◌, ◌≢◌, ◌<◌, ◌≤◌, ◌^◌, ◌+◌, ◌-◌, ◌*◌, ◌∙◌}
 use Rattle.script.proofs.FirstWords.{word_reads}
 
 own : IsNumeralModel (AllDigits 10) (digits_value 10)

@@ -1,7 +1,8 @@
 -- The command that numbers say which are read one after the other.
-use Rattle.script.proofs.Names.{◌≡◌, ℕ, ◌<◌, ◌+◌, ◌*◌, List, [], ◌∷◌, Option, None, Some, length, get_or, drop, refl, ap, ◌∙◌, arith, IfSome, IsSome, lt-ltb}
-use Rattle.script.proofs.Names.{Command, Operation, Fits, command_words, operation_name, Keyword, keyword_name, Words, arguments_at, invocation_at, number_at}
-use Rattle.script.proofs.Names.{numbers_at, register_at, registers_at, words_of}
+use Rattle.script.proofs.Names.{ℕ, List, [], Option, None, Some, length, get_or, drop, refl, ap, arith, IfSome, IsSome, lt-ltb, Command, Operation, Fits}
+use Rattle.script.proofs.Names.{command_words, operation_name, Keyword, keyword_name, Words, arguments_at, invocation_at, number_at, numbers_at, register_at}
+use Rattle.script.proofs.Names.{registers_at, words_of}
+use Rattle.std.proofs.Common.{◌≡◌, ◌<◌, ◌+◌, ◌*◌, ◌∷◌, ◌∙◌}
 use Rattle.model.specs.declared.command.Command.TheVariants as command
 use Rattle.script.specs.declared.keyword.Keyword.TheVariants as keyword
 use Rattle.script.proofs.Commands.{command_found}

@@ -1,7 +1,8 @@
 -- A number of one to three digits at a place of a text, with a space behind it or at the end.
-use Rattle.script.proofs.Names.{◌≡◌, ℕ, ◌<◌, ◌≤◌, ◌^◌, ◌+◌, ◌*◌, ◌-◌, ◌==◌, List, [], Some, length, get_or, take, drop, decimal, refl, sym, ap, subst, ◌∙◌}
-use Rattle.script.proofs.Names.{arith, IsInRange, AllDigits, digits_value, nat_tests, get_or-take, get_or-drop, take_all, length-drop, drop-drop}
-use Rattle.script.proofs.Names.{length-take-le, position_or_len_is, digit_at, first_end, first_word, number_at, words_of}
+use Rattle.script.proofs.Names.{ℕ, List, [], Some, length, get_or, take, drop, decimal, refl, sym, ap, subst, arith, IsInRange, AllDigits, digits_value}
+use Rattle.script.proofs.Names.{nat_tests, get_or-take, get_or-drop, take_all, length-drop, drop-drop, length-take-le, position_or_len_is, digit_at, first_end}
+use Rattle.script.proofs.Names.{first_word, number_at, words_of}
+use Rattle.std.proofs.Common.{◌≡◌, ◌<◌, ◌≤◌, ◌^◌, ◌+◌, ◌*◌, ◌-◌, ◌==◌, ◌∙◌}
 use Rattle.script.proofs.Commands.{number_gives}
 use Rattle.script.proofs.Numbers.{digits_are_decimal, value_more}
 use Rattle.script.proofs.Split.{word_alone, word_and_more}

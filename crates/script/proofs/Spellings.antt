@@ -1,6 +1,7 @@
 -- A line is a command's spelling where its pieces are the command's words.
-use Rattle.script.proofs.Names.{◌≡◌, ◌≢◌, ℕ, List, refl, sym, ap, ◌∙◌, Command, Fits, IsSkipped, command_words, spelling, length-spelling, skip_is_no_command}
+use Rattle.script.proofs.Names.{ℕ, List, refl, sym, ap, Command, Fits, IsSkipped, command_words, spelling, length-spelling, skip_is_no_command}
 use Rattle.script.proofs.Names.{spelling_from_words, spells_one, split_spelling, words_of}
+use Rattle.std.proofs.Common.{◌≡◌, ◌≢◌, ◌∙◌}
 
 -- a spelling is neither empty nor a comment
 pub spelling_said : (c : Command) → Fits c → IsSkipped (spelling c) → ⊥

@@ -1,7 +1,8 @@
 -- The pieces of a line between its spaces.
-use Rattle.script.proofs.Names.{◌≡◌, ℕ, ◌+◌, ◌-◌, ◌==◌, Bool, false, List, [], ◌∷◌, None, Some, length, take, drop, refl, ap, subst, inl, inr, arith, ◌≤◌, ◌<◌}
-use Rattle.script.proofs.Names.{position, position_or_len, cases_lt, lt-ltb, take_all, length-drop, All-from_get_or, position-Some, slice_split_none}
-use Rattle.script.proofs.Names.{slice_split_first, length-slice_split, position_or_len_is, fails_before_first, first_end, first_word, words_of}
+use Rattle.script.proofs.Names.{ℕ, Bool, false, List, [], None, Some, length, take, drop, refl, ap, subst, inl, inr, arith, position, position_or_len, cases_lt}
+use Rattle.script.proofs.Names.{lt-ltb, take_all, length-drop, All-from_get_or, position-Some, slice_split_none, slice_split_first, length-slice_split}
+use Rattle.script.proofs.Names.{position_or_len_is, fails_before_first, first_end, first_word, words_of}
+use Rattle.std.proofs.Common.{◌≡◌, ◌+◌, ◌-◌, ◌==◌, ◌∷◌, ◌≤◌, ◌<◌}
 
 abbrev is_space : ℕ → Bool
 is_space b = b == 32

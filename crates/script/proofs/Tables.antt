@@ -1,6 +1,7 @@
 -- Every keyword, every kind and every state has a place in the table of words.
-use Rattle.script.proofs.Names.{◌≢◌, ℕ, ◌<◌, List, [], ◌∷◌, get_or, arith, Call, Return, Send, State, Available, Running, Waiting, state_text, Keyword, Kind}
-use Rattle.script.proofs.Names.{Discrim, keyword_name, kind_name}
+use Rattle.script.proofs.Names.{ℕ, List, [], get_or, arith, Call, Return, Send, State, Available, Running, Waiting, state_text, Keyword, Kind, Discrim}
+use Rattle.script.proofs.Names.{keyword_name, kind_name}
+use Rattle.std.proofs.Common.{◌≢◌, ◌<◌, ◌∷◌}
 use Rattle.script.specs.declared.named.Kind.TheVariants.{Void, Number, Page, Node, Space, Process, Start, Resume, Bank}
 use Rattle.script.specs.declared.keyword.Keyword.TheVariants as keyword
 

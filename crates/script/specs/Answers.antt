@@ -1,5 +1,6 @@
 -- The line of an answer, where only one is wanted.
-use Rattle.script.specs.Names.{◌≡◌, ℕ, List, codes, Answer, line_of, printed}
+use Rattle.script.specs.Names.{ℕ, List, codes, Answer, line_of, printed}
+use Rattle.std.specs.Prelude.{◌≡◌}
 use Rattle.model.specs.declared.answer.Answer.TheVariants as answer
 
 -- the answer's line, or `shown` for an object

@@ -1,6 +1,7 @@
 -- Why a line is bad.
-use Rattle.script.specs.Names.{◌≡◌, ℕ, ◌<◌, ◌≤◌, ◌^◌, suc, if◌then◌else◌, Bool, true, false, Some, List, [], ◌∷◌, ◌++◌}
-use Rattle.script.specs.Names.{length, codes, decimal, get_or, slice_get, AllDigits, digits_value, spaced}
+use Rattle.script.specs.Names.{ℕ, suc, Bool, true, false, Some, List, [], length, codes, decimal, get_or, slice_get}
+use Rattle.script.specs.Names.{AllDigits, digits_value, spaced}
+use Rattle.std.specs.Prelude.{◌≡◌, ◌<◌, ◌≤◌, ◌^◌, if◌then◌else◌, ◌∷◌, ◌++◌}
 use Rattle.script.specs.declared.keyword.Keyword.{Keyword}
 use Rattle.script.specs.declared.keyword.Keyword.TheVariants as keyword
 use Rattle.script.specs.declared.line_fault.LineFault.{LineFault}

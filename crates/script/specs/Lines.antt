@@ -1,5 +1,6 @@
 -- What is kept of a line while it is read.
-use Rattle.script.specs.Names.{◌≡◌, ◌≢◌, ◌⊎◌, ℕ, ◌<◌, true, false, Option, None, Some, List, length, All}
+use Rattle.script.specs.Names.{ℕ, true, false, Option, None, Some, List, length, All}
+use Rattle.std.specs.Prelude.{◌≡◌, ◌≢◌, ◌⊎◌, ◌<◌}
 use Rattle.script.specs.declared.lines.LineBuffer.{LineBuffer}
 
 -- no byte of it ends a line

@@ -1,6 +1,7 @@
 -- The words of a capability's text, and reading them from left to right.
-use Rattle.script.specs.Names.{ℕ, ◌==◌, ◌&&◌, ◌^◌, nat_lt, nat_le, if◌then◌else◌, Option, None, Some, List, [], ◌∷◌}
-use Rattle.script.specs.Names.{codes, decimal, bytes_eq, full, weak, Access, Capability}
+use Rattle.script.specs.Names.{ℕ, nat_lt, nat_le, Option, None, Some, List, [], codes, decimal, bytes_eq, full, weak}
+use Rattle.script.specs.Names.{Access, Capability}
+use Rattle.std.specs.Prelude.{◌==◌, ◌&&◌, ◌^◌, if◌then◌else◌, ◌∷◌}
 use Rattle.model.specs.declared.capability.Capability.TheVariants as capability
 use Rattle.script.specs.Reading.{◌>>=◌, Words, number_at}
 use Rattle.script.specs.declared.named.Kind.{Kind}

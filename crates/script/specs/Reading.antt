@@ -1,6 +1,7 @@
 -- Reading the words of a line from left to right.
-use Rattle.script.specs.Names.{◌≡◌, ℕ, ◌==◌, ◌&&◌, ◌^◌, nat_lt, if◌then◌else◌, Option, None, Some, List, [], ◌∷◌}
-use Rattle.script.specs.Names.{decimal, take, slice_split, position_or_len, bytes_eq, digits_value, Command, Operation}
+use Rattle.script.specs.Names.{ℕ, nat_lt, Option, None, Some, List, [], decimal, take, slice_split, position_or_len}
+use Rattle.script.specs.Names.{bytes_eq, digits_value, Command, Operation}
+use Rattle.std.specs.Prelude.{◌≡◌, ◌==◌, ◌&&◌, ◌^◌, if◌then◌else◌, ◌∷◌}
 use Rattle.model.specs.declared.command.Command.TheVariants as command
 use Rattle.script.specs.declared.keyword.Keyword.{Keyword}
 use Rattle.script.specs.declared.keyword.Keyword.TheVariants as keyword

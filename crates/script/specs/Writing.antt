@@ -1,5 +1,6 @@
 -- What a writer is left with.
-use Rattle.script.specs.Names.{◌≡◌, ℕ, List, ◌++◌, Option, Result, Ok, Err, Appends}
+use Rattle.script.specs.Names.{ℕ, List, Option, Result, Ok, Err, Appends}
+use Rattle.std.specs.Prelude.{◌≡◌, ◌++◌}
 use Rattle.script.specs.declared.fault.RunFault.{RunFault}
 use Rattle.script.specs.declared.fault.RunFault.TheVariants as fault
 

@@ -1,6 +1,7 @@
 -- Sectors in a copy of an image.
-use Rattle.sector_faults.proofs.Names.{◌≡◌, ℕ, zero, suc, ◌+◌, ◌-◌, ◌*◌, ◌≤◌, List, [], ◌++◌, length, take, drop, refl, ap, ◌∙◌, arith, append-nil, take-add}
-use Rattle.sector_faults.proofs.Names.{drop-drop, Image, sectors_from, IsCopy}
+use Rattle.sector_faults.proofs.Names.{ℕ, zero, suc, List, [], length, take, drop, refl, ap, arith, append-nil, take-add, drop-drop, Image, sectors_from}
+use Rattle.sector_faults.proofs.Names.{IsCopy}
+use Rattle.std.proofs.Common.{◌≡◌, ◌+◌, ◌-◌, ◌*◌, ◌≤◌, ◌++◌, ◌∙◌}
 
 -- the sector of an image at a place of its copy
 copied : (image : Image) (bytes : List ℕ) (i : ℕ) → IsCopy image bytes → 512 * (i + 1) ≤ length bytes → take 512 (drop (512 * i) bytes) ≡ image i

@@ -1,6 +1,7 @@
 -- Entries that are each as they must be are a directory.
-use Rattle.sector_faults.proofs.Names.{◌≡◌, ℕ, ◌+◌, ◌-◌, ◌<◌, List, length, subst, sym, ◌∙◌, arith, Geometry, Entry, AllFitting, IsDirectory, IsEntry}
-use Rattle.sector_faults.proofs.Names.{directory_bytes, entry_at, directory_fits, one_directory, get_or_default, DirectoryPart, BreaksDirectory, IsAmong}
+use Rattle.sector_faults.proofs.Names.{ℕ, List, length, subst, sym, arith, Geometry, Entry, AllFitting, IsDirectory, IsEntry, directory_bytes, entry_at}
+use Rattle.sector_faults.proofs.Names.{directory_fits, one_directory, get_or_default, DirectoryPart, BreaksDirectory, IsAmong}
+use Rattle.std.proofs.Common.{◌≡◌, ◌+◌, ◌-◌, ◌<◌, ◌∙◌}
 use Rattle.sector_faults.specs.declared.fault.DirectoryPart.TheVariants as entry
 
 module _ (g : Geometry) (es : List Entry) where

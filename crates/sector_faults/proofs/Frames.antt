@@ -1,8 +1,9 @@
 -- Slots and frames.
-use Rattle.sector_faults.proofs.Names.{◌≡◌, ℕ, ◌+◌, ◌-◌, ◌*◌, ◌<◌, nat_le, List, Option, None, Some, take, drop, refl, sym, ap, subst, ◌∙◌, inl, inr, arith}
-use Rattle.sector_faults.proofs.Names.{cases_lt, Image, Cap, Frame, Geometry, IsKeptCap, Entry, CheckpointHeader, Shape, capability_bytes, IsFrameOf, shape_of}
-use Rattle.sector_faults.proofs.Names.{HasDirectory, HasHeader, HasPlan, frame_in, frame_sector, sectors_from, shaped_at, shape_bytes, Plan, FramePart}
-use Rattle.sector_faults.proofs.Names.{HoldsCap, IsFault, FitsOr, IsWholeFrame}
+use Rattle.sector_faults.proofs.Names.{ℕ, nat_le, List, Option, None, Some, take, drop, refl, sym, ap, subst, inl, inr, arith, cases_lt, Image, Cap, Frame}
+use Rattle.sector_faults.proofs.Names.{Geometry, IsKeptCap, Entry, CheckpointHeader, Shape, capability_bytes, IsFrameOf, shape_of, HasDirectory, HasHeader}
+use Rattle.sector_faults.proofs.Names.{HasPlan, frame_in, frame_sector, sectors_from, shaped_at, shape_bytes, Plan, FramePart, HoldsCap, IsFault, FitsOr}
+use Rattle.sector_faults.proofs.Names.{IsWholeFrame}
+use Rattle.std.proofs.Common.{◌≡◌, ◌+◌, ◌-◌, ◌*◌, ◌<◌, ◌∙◌}
 use Rattle.layout.specs.declared.shape.Shape.TheVariants as shape
 use Rattle.sector_faults.specs.declared.fault.SectorFault.TheVariants as fault
 

@@ -1,8 +1,9 @@
 -- Which header is committed, and what is wrong with it.
-use Rattle.sector_faults.proofs.Names.{◌≡◌, ℕ, zero, suc, ◌+◌, ◌*◌, ◌<◌, Bool, true, false, List, Option, None, Some, Result, Ok, Err, refl, sym, ap, subst}
-use Rattle.sector_faults.proofs.Names.{◌∙◌, arith, IfErr, IfNone, IfOk, if◌then◌else◌, lt-ltb, Image, CheckpointHeader, IsHeader, header_bytes, HasHeader}
-use Rattle.sector_faults.proofs.Names.{HasPlan, committed_of, committed_bytes, committed_slot, option_at, Plan, SectorFault, IsFault, HasHeaderIn, HasNoneIn}
-use Rattle.sector_faults.proofs.Names.{RefusesHeader, picked, slot_of}
+use Rattle.sector_faults.proofs.Names.{ℕ, zero, suc, Bool, true, false, List, Option, None, Some, Result, Ok, Err, refl, sym, ap, subst, arith, IfErr, IfNone}
+use Rattle.sector_faults.proofs.Names.{IfOk, lt-ltb, Image, CheckpointHeader, IsHeader, header_bytes, HasHeader, HasPlan, committed_of, committed_bytes}
+use Rattle.sector_faults.proofs.Names.{committed_slot, option_at, Plan, SectorFault, IsFault, HasHeaderIn, HasNoneIn, RefusesHeader, picked, slot_of}
+use Rattle.std.proofs.Common.{◌≡◌, ◌+◌, ◌*◌, ◌<◌, ◌∙◌}
+use Rattle.std.specs.Prelude.{if◌then◌else◌}
 use Rattle.sector_faults.specs.declared.fault.SectorFault.TheVariants as fault
 
 -- the second counts, and the first doesn't or has a smaller number

@@ -1,8 +1,8 @@
 -- A superblock has its mark, and an image with one is large enough.
-use Rattle.sector_faults.proofs.Names.{◌≡◌, ℕ, ◌+◌, ◌-◌, ◌*◌, List, [], ◌∷◌, ◌++◌, length, replicate, take, drop, refl, sym, ap, subst, ◌∙◌, ⊎_elim}
-use Rattle.sector_faults.proofs.Names.{append_assoc, length-append, take_at, drop_at, arith, codes, length-replicate, Image, HomeRange, half_number, number}
-use Rattle.sector_faults.proofs.Names.{zeros, HasPlan, IsTooSmall, total_in, HasMark, IsPlan, Plan, ranges_bytes, superblock_bytes, unused, version_number}
-use Rattle.sector_faults.proofs.Names.{total_reported}
+use Rattle.sector_faults.proofs.Names.{ℕ, List, [], length, replicate, take, drop, refl, sym, ap, subst, ⊎_elim, append_assoc, length-append, take_at, drop_at}
+use Rattle.sector_faults.proofs.Names.{arith, codes, length-replicate, Image, HomeRange, half_number, number, zeros, HasPlan, IsTooSmall, total_in, HasMark}
+use Rattle.sector_faults.proofs.Names.{IsPlan, Plan, ranges_bytes, superblock_bytes, unused, version_number, total_reported}
+use Rattle.std.proofs.Common.{◌≡◌, ◌+◌, ◌-◌, ◌*◌, ◌∷◌, ◌++◌, ◌∙◌}
 
 long : (n : ℕ) → length (number n) ≡ 8
 unfolding number

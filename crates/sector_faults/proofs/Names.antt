@@ -31,14 +31,13 @@ pub use Rattle.model.specs.declared.capability.Cap.{Cap}
 pub use Rattle.model.specs.declared.frame.Frame.{Frame}
 pub use Rattle.model.specs.declared.geometry.Geometry.{Geometry}
 pub use Rattle.std.proofs.Common.{Bool, Err, List, None, Ok, Option, Result, Some, [], ap, append-nil, append_assoc, arith, drop, drop_at, false, get_or, inl}
-pub use Rattle.std.proofs.Common.{inr, length, length-append, nat_le, refl, replicate, subst, suc, sym, take, take-add, take_at, true, zero, ℕ, ⊎_elim, ◌*◌}
-pub use Rattle.std.proofs.Common.{◌++◌, ◌+◌, ◌-◌, ◌/◌, ◌<◌, ◌∙◌, ◌∷◌, ◌≡◌, ◌≤◌}
+pub use Rattle.std.proofs.Common.{inr, length, length-append, nat_le, refl, replicate, subst, suc, sym, take, take-add, take_at, true, zero, ℕ, ⊎_elim}
 pub use Rattle.std.proofs.lemmas.Bool.{cases_lt, eq-eqb, le-ltb, lt-ltb, ne_eqb}
 pub use Rattle.std.proofs.lemmas.List.{drop-drop, drop_all, drop_more, get_or-drop, get_or-take, get_or_default, get_or_past, length-drop, length-replicate}
 pub use Rattle.std.proofs.lemmas.List.{length-take, take-append-drop, take_rest}
 pub use Rattle.std.proofs.lemmas.Nat.{le_bytes_8}
 pub use Rattle.std.specs.Int.{from_le_bytes, w64}
-pub use Rattle.std.specs.Prelude.{IfErr, IfNone, IfOk, OnOk, codes, if◌then◌else◌, ◌==◌}
+pub use Rattle.std.specs.Prelude.{IfErr, IfNone, IfOk, OnOk, codes}
 pub use Rattle.sector_faults.specs.Breaking.{BreaksDirectory, HoldsCap, IsFault}
 pub use Rattle.sector_faults.specs.Finding.{BreaksSector, FitsOr, HasHeaderIn, HasNoneIn, IsAmong, IsCopy, IsWhole, IsWholeFrame, RefusesHeader, picked}
 pub use Rattle.sector_faults.specs.Finding.{slot_of}

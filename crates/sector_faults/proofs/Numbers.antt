@@ -1,7 +1,8 @@
 -- Numbers in bytes.
-use Rattle.sector_faults.proofs.Names.{◌≡◌, ℕ, ◌+◌, ◌<◌, ◌≤◌, List, ◌++◌, length, get_or, take, drop, sym, ap, ◌∙◌, inl, inr, arith, w64, from_le_bytes}
-use Rattle.sector_faults.proofs.Names.{le_bytes_8, take-append-drop, length-take, length-drop, drop-drop, get_or-take, get_or-drop, get_or_past, cases_lt}
-use Rattle.sector_faults.proofs.Names.{little_number, little_from-take, number}
+use Rattle.sector_faults.proofs.Names.{ℕ, List, length, get_or, take, drop, sym, ap, inl, inr, arith, w64, from_le_bytes, le_bytes_8, take-append-drop}
+use Rattle.sector_faults.proofs.Names.{length-take, length-drop, drop-drop, get_or-take, get_or-drop, get_or_past, cases_lt, little_number, little_from-take}
+use Rattle.sector_faults.proofs.Names.{number}
+use Rattle.std.proofs.Common.{◌≡◌, ◌+◌, ◌<◌, ◌≤◌, ◌++◌, ◌∙◌}
 
 as_le : (xs : List ℕ) → little_number 8 xs ≡ from_le_bytes w64 xs
 as_le xs = omega arith

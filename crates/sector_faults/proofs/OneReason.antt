@@ -1,7 +1,8 @@
 -- Sectors are bad for one reason.
-use Rattle.sector_faults.proofs.Names.{◌≡◌, ℕ, ◌+◌, ◌<◌, Some, None, List, refl, sym, ap, subst, ◌∙◌, Image, BadImage, Entry, CheckpointHeader, header_bytes}
-use Rattle.sector_faults.proofs.Names.{HasBadDirectory, HasBadHeader, HasDirectory, HasHeader, HasNoHeader, HasPlan, IsBadBy, option_at, Plan, same_directory}
-use Rattle.sector_faults.proofs.Names.{same_header, same_plan, IsWhole, IsWholeFrame}
+use Rattle.sector_faults.proofs.Names.{ℕ, Some, None, List, refl, sym, ap, subst, Image, BadImage, Entry, CheckpointHeader, header_bytes, HasBadDirectory}
+use Rattle.sector_faults.proofs.Names.{HasBadHeader, HasDirectory, HasHeader, HasNoHeader, HasPlan, IsBadBy, option_at, Plan, same_directory, same_header}
+use Rattle.sector_faults.proofs.Names.{same_plan, IsWhole, IsWholeFrame}
+use Rattle.std.proofs.Common.{◌≡◌, ◌+◌, ◌<◌, ◌∙◌}
 use Rattle.layout.specs.declared.bad_image.BadImage.TheVariants as bad
 use Rattle.sector_faults.proofs.Marks.{has_mark, not_small}
 

@@ -1,6 +1,8 @@
 -- The searches for the slot of an object in a directory.
-use Rattle.sector_faults.proofs.Names.{◌≡◌, ℕ, ◌+◌, ◌<◌, ◌≤◌, Option, Some, None, Bool, true, false, List, ◌∷◌, length, drop, sym, ap, ◌∙◌, ◌==◌, if◌then◌else◌}
-use Rattle.sector_faults.proofs.Names.{eq-eqb, ne_eqb, drop_more, drop_all, Entry, entry_at, home_place, slot_beside, slot_in, Plan}
+use Rattle.sector_faults.proofs.Names.{ℕ, Option, Some, None, Bool, true, false, List, length, drop, sym, ap, eq-eqb, ne_eqb, drop_more, drop_all, Entry}
+use Rattle.sector_faults.proofs.Names.{entry_at, home_place, slot_beside, slot_in, Plan}
+use Rattle.std.proofs.Common.{◌≡◌, ◌+◌, ◌<◌, ◌≤◌, ◌∷◌, ◌∙◌}
+use Rattle.std.specs.Prelude.{◌==◌, if◌then◌else◌}
 
 if_true : (test : Bool) (x y : Option ℕ) → test ≡ true → (if test then x else y) ≡ x
 if_true test x y e = rw e

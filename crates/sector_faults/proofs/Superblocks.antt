@@ -1,7 +1,8 @@
 -- What is wrong with the size of an image or with its superblock.
-use Rattle.sector_faults.proofs.Names.{◌≡◌, ℕ, ◌<◌, ◌≤◌, Bool, List, Result, Ok, Err, refl, sym, ap, subst, ◌∙◌, inl, inr, ⊎_elim, arith, IfErr, IfOk}
-use Rattle.sector_faults.proofs.Names.{if◌then◌else◌, lt-ltb, le-ltb, Image, HasPlan, IsTooSmall, total_in, IsPlan, Plan, superblock_bytes, total_reported}
-use Rattle.sector_faults.proofs.Names.{SectorFault, IsFault, BreaksSector}
+use Rattle.sector_faults.proofs.Names.{ℕ, Bool, List, Result, Ok, Err, refl, sym, ap, subst, inl, inr, ⊎_elim, arith, IfErr, IfOk, lt-ltb, le-ltb, Image}
+use Rattle.sector_faults.proofs.Names.{HasPlan, IsTooSmall, total_in, IsPlan, Plan, superblock_bytes, total_reported, SectorFault, IsFault, BreaksSector}
+use Rattle.std.proofs.Common.{◌≡◌, ◌<◌, ◌≤◌, ◌∙◌}
+use Rattle.std.specs.Prelude.{if◌then◌else◌}
 use Rattle.sector_faults.specs.declared.fault.SectorFault.TheVariants as fault
 
 pub few_sectors : (size : ℕ) (image : Image) → size < 5 → IsFault size image (fault.Small size 5)

@@ -1,8 +1,8 @@
 -- Where the directory lies, and images with nothing wrong in their sectors.
-use Rattle.sector_faults.proofs.Names.{◌≡◌, ℕ, ◌+◌, ◌-◌, ◌*◌, ◌/◌, ◌≤◌, List, Result, Ok, Err, length, take, sym, ap, ◌∙◌, arith, OnOk, Image, Entry}
-use Rattle.sector_faults.proofs.Names.{CheckpointHeader, AllFitting, IsDirectory, directory_bytes, HasDirectory, HasHeader, HasPlan, directory_in}
-use Rattle.sector_faults.proofs.Names.{directory_length, directory_sector, sectors_from, slot_sector, IsPlan, Plan, half_within, DirectoryPart, BreaksDirectory}
-use Rattle.sector_faults.proofs.Names.{IsFault}
+use Rattle.sector_faults.proofs.Names.{ℕ, List, Result, Ok, Err, length, take, sym, ap, arith, OnOk, Image, Entry, CheckpointHeader, AllFitting, IsDirectory}
+use Rattle.sector_faults.proofs.Names.{directory_bytes, HasDirectory, HasHeader, HasPlan, directory_in, directory_length, directory_sector, sectors_from}
+use Rattle.sector_faults.proofs.Names.{slot_sector, IsPlan, Plan, half_within, DirectoryPart, BreaksDirectory, IsFault}
+use Rattle.std.proofs.Common.{◌≡◌, ◌+◌, ◌-◌, ◌*◌, ◌/◌, ◌≤◌, ◌∙◌}
 use Rattle.sector_faults.specs.declared.fault.SectorFault.TheVariants as fault
 use Rattle.sector_faults.proofs.Directories.{no_spelling}
 

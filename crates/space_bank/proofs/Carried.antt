@@ -1,8 +1,9 @@
 -- What new objects of a bank leave.
-use Rattle.space_bank.proofs.Names.{◌≡◌, ◌≢◌, ℕ, ◌+◌, ◌<◌, Bool, false, List, length, refl, sym, ap, subst, arith, ◌∙◌, IsTrue, slice_set, Capability, Void}
-use Rattle.space_bank.proofs.Names.{Geometry, Content, Object, chain, new_annex, new_root, with_new, header_at, AreCurrent, AreKeepable, is_bank, is_free}
-use Rattle.space_bank.proofs.Names.{is_root, content_at, at_other, Fresh, FreshFits, Parts, frames_of, fresh_content, objects_in, length_objects}
-use Rattle.space_bank.proofs.Names.{keepable_later, AreCounted, BanksState, CarriesOut, IsAlone, IsMadeUnder, MayServe, marks_of, IsRaised}
+use Rattle.space_bank.proofs.Names.{ℕ, Bool, false, List, length, refl, sym, ap, subst, arith, IsTrue, slice_set, Capability, Void, Geometry, Content, Object}
+use Rattle.space_bank.proofs.Names.{chain, new_annex, new_root, with_new, header_at, AreCurrent, AreKeepable, is_bank, is_free, is_root, content_at, at_other}
+use Rattle.space_bank.proofs.Names.{Fresh, FreshFits, Parts, frames_of, fresh_content, objects_in, length_objects, keepable_later, AreCounted, BanksState}
+use Rattle.space_bank.proofs.Names.{CarriesOut, IsAlone, IsMadeUnder, MayServe, marks_of, IsRaised}
+use Rattle.std.proofs.Common.{◌≡◌, ◌≢◌, ◌+◌, ◌<◌, ◌∙◌}
 use Rattle.model.specs.declared.object.Content.TheVariants as content
 use Rattle.model.specs.declared.object.Role.TheVariants as role
 use Rattle.capability.specs.declared.present.Fresh.TheVariants as fresh

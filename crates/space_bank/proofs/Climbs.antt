@@ -1,8 +1,10 @@
 -- A walk along the chain of a bank, from owner to owner.
-use Rattle.space_bank.proofs.Names.{◌≡◌, ◌≢◌, inl, inr, ℕ, ◌+◌, ◌-◌, ◌<◌, ◌≤◌, true, false, List, [], length, refl, sym, ap, subst, arith, ◌∙◌, IsTrue}
-use Rattle.space_bank.proofs.Names.{if◌then◌else◌, slice_index, slice_set, cases_eq, get_or-set_other, get_or-set_same, length-set, Object, is_bank, content_at}
-use Rattle.space_bank.proofs.Names.{owner_at, chain, is_member, IsTree, chain_itself, chain_length, chain_longer, chain_nonempty, chain_once, chain_unfolds}
-use Rattle.space_bank.proofs.Names.{chain_zero, member_tail, owner_bank, IsRaised}
+use Rattle.space_bank.proofs.Names.{inl, inr, ℕ, true, false, List, [], length, refl, sym, ap, subst, arith, IsTrue, slice_index, slice_set, cases_eq}
+use Rattle.space_bank.proofs.Names.{get_or-set_other, get_or-set_same, length-set, Object, is_bank, content_at, owner_at, chain, is_member, IsTree}
+use Rattle.space_bank.proofs.Names.{chain_itself, chain_length, chain_longer, chain_nonempty, chain_once, chain_unfolds, chain_zero, member_tail, owner_bank}
+use Rattle.space_bank.proofs.Names.{IsRaised}
+use Rattle.std.proofs.Common.{◌≡◌, ◌≢◌, ◌+◌, ◌-◌, ◌<◌, ◌≤◌, ◌∙◌}
+use Rattle.std.specs.Prelude.{if◌then◌else◌}
 
 -- what a bank adds to each in its chain
 abbrev pub share : List Object → ℕ → ℕ → ℕ → ℕ

@@ -1,9 +1,10 @@
 -- What is counted, a number at a time.
-use Rattle.space_bank.proofs.Names.{◌≡◌, ◌+◌, ◌<◌, ◌≤◌, ◌^◌, ◌++◌, ◌∙◌, ℕ, false, List, [], ◌∷◌, length, map, inl, inr, refl, sym, ap, subst, zero-add, arith}
-use Rattle.space_bank.proofs.Names.{IsTrue, slice_index, SomeIff, range_with_len, cases_lt, get_or-map-range_with_len, length-map-range_with_len}
-use Rattle.space_bank.proofs.Names.{map-range_with_len_more, Cap, Capability, Frame, ObjectHeader, Geometry, Content, Object, usage, conveyed, frames_in}
-use Rattle.space_bank.proofs.Names.{held_at, objects_of, Role, is_bank, is_free, is_root, limit_in, root_in, object_count, content_at, Parts, objects_in}
-use Rattle.space_bank.proofs.Names.{content_there, mapped, AreCounted, BanksState, AreKept, AreMarked, kept_number}
+use Rattle.space_bank.proofs.Names.{ℕ, false, List, [], length, map, inl, inr, refl, sym, ap, subst, zero-add, arith, IsTrue, slice_index, SomeIff}
+use Rattle.space_bank.proofs.Names.{range_with_len, cases_lt, get_or-map-range_with_len, length-map-range_with_len, map-range_with_len_more, Cap, Capability}
+use Rattle.space_bank.proofs.Names.{Frame, ObjectHeader, Geometry, Content, Object, usage, conveyed, frames_in, held_at, objects_of, Role, is_bank, is_free}
+use Rattle.space_bank.proofs.Names.{is_root, limit_in, root_in, object_count, content_at, Parts, objects_in, content_there, mapped, AreCounted, BanksState}
+use Rattle.space_bank.proofs.Names.{AreKept, AreMarked, kept_number}
+use Rattle.std.proofs.Common.{◌≡◌, ◌+◌, ◌<◌, ◌≤◌, ◌^◌, ◌++◌, ◌∙◌, ◌∷◌}
 use Rattle.std.specs.Prelude.{Some}
 use Rattle.model.specs.declared.object.Content.TheVariants as content
 use Rattle.model.specs.declared.object.Role.TheVariants as role

@@ -1,12 +1,12 @@
 -- What is left of what is counted, where objects are given up.
-use Rattle.space_bank.proofs.Names.{◌≡◌, ℕ, zero, suc, ◌+◌, ◌-◌, ◌^◌, ◌<◌, ◌≤◌, ◌++◌, Bool, true, false, List, [], ◌∷◌, drop, take, length, refl, sym, ap}
-use Rattle.space_bank.proofs.Names.{subst, arith, ◌∙◌, IsTrue, if◌then◌else◌, slice_index, slice_index_or, All, eq-eqb, false_from_ne_true, false≢true}
-use Rattle.space_bank.proofs.Names.{take_rest, list_any_at, Capability, Geometry, Content, Object, chain, usage, header_at, AreCurrent, AreKeepable, free}
-use Rattle.space_bank.proofs.Names.{is_bank, is_free, is_root, limit_in, is_member, names_member, rescind, void_where, without, content_at, object_at}
-use Rattle.space_bank.proofs.Names.{AllDiffer, chain_banks, member_tail, free_rescinded, at_rescind, AreGivenUp, IsOnce, KeepsRest, Parts, frames_of}
-use Rattle.space_bank.proofs.Names.{objects_in, IsMapped, without_mapped, AreCounted, BanksState, KeepsObjects, CarriesOut, MayGiveUp, MayServe, marks_of}
-use Rattle.space_bank.proofs.Names.{IsRaised, is_marked}
-use Rattle.std.specs.Prelude.{nat_eq}
+use Rattle.space_bank.proofs.Names.{ℕ, zero, suc, Bool, true, false, List, [], drop, take, length, refl, sym, ap, subst, arith, IsTrue, slice_index}
+use Rattle.space_bank.proofs.Names.{slice_index_or, All, eq-eqb, false_from_ne_true, false≢true, take_rest, list_any_at, Capability, Geometry, Content, Object}
+use Rattle.space_bank.proofs.Names.{chain, usage, header_at, AreCurrent, AreKeepable, free, is_bank, is_free, is_root, limit_in, is_member, names_member}
+use Rattle.space_bank.proofs.Names.{rescind, void_where, without, content_at, object_at, AllDiffer, chain_banks, member_tail, free_rescinded, at_rescind}
+use Rattle.space_bank.proofs.Names.{AreGivenUp, IsOnce, KeepsRest, Parts, frames_of, objects_in, IsMapped, without_mapped, AreCounted, BanksState, KeepsObjects}
+use Rattle.space_bank.proofs.Names.{CarriesOut, MayGiveUp, MayServe, marks_of, IsRaised, is_marked}
+use Rattle.std.proofs.Common.{◌≡◌, ◌+◌, ◌-◌, ◌^◌, ◌<◌, ◌≤◌, ◌++◌, ◌∷◌, ◌∙◌}
+use Rattle.std.specs.Prelude.{if◌then◌else◌, nat_eq}
 use Rattle.space_bank.proofs.Renewing.{SameFree, renews_after, renews_none, renews_rescinded}
 use Rattle.space_bank.proofs.Standing.{few_allocations, few_calls, serve_count, serve_tree}
 use Rattle.space_bank.proofs.Tallies.{annex_in, counted_from, marks_counted}

@@ -1,8 +1,8 @@
 -- The least free numbers, found by their marks.
-use Rattle.space_bank.proofs.Names.{◌≡◌, ◌+◌, ◌-◌, ◌<◌, ◌≤◌, ◌∙◌, ℕ, zero, suc, Option, None, Some, Bool, cond, List, [], ◌∷◌, length, ⊎_elim, refl, sym, ap}
-use Rattle.space_bank.proofs.Names.{subst, zero-add, arith, cases_lt, range_with_len, IfSome, Geometry, Object, are_free, free_nodes, free_pages, is_free}
-use Rattle.space_bank.proofs.Names.{content_at, BankChange, MakeProcess, numbers_of, process_at, AreCounted, BanksState, AreMarked, HasNoneMarked, IsNextMarked}
-use Rattle.space_bank.proofs.Names.{is_marked}
+use Rattle.space_bank.proofs.Names.{ℕ, zero, suc, Option, None, Some, Bool, cond, List, [], length, ⊎_elim, refl, sym, ap, subst, zero-add, arith, cases_lt}
+use Rattle.space_bank.proofs.Names.{range_with_len, IfSome, Geometry, Object, are_free, free_nodes, free_pages, is_free, content_at, BankChange, MakeProcess}
+use Rattle.space_bank.proofs.Names.{numbers_of, process_at, AreCounted, BanksState, AreMarked, HasNoneMarked, IsNextMarked, is_marked}
+use Rattle.std.proofs.Common.{◌≡◌, ◌+◌, ◌-◌, ◌<◌, ◌≤◌, ◌∙◌, ◌∷◌}
 
 -- marks of the numbers from a base on
 module _ (os : List Object) (base : ℕ) (marks : List Bool) (same : (n : ℕ) → n < length marks → is_marked marks n ≡ is_free (content_at os (base + n))) where

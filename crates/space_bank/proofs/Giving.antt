@@ -1,11 +1,11 @@
 -- What orders give up may be given up.
-use Rattle.space_bank.proofs.Names.{◌≡◌, ◌≢◌, inl, inr, ℕ, ◌<◌, ◌≤◌, ◌==◌, true, false, not, List, [], ◌∷◌, drop, length, refl, sym, ap, arith, ◌∙◌, IsTrue}
-use Rattle.space_bank.proofs.Names.{slice_index, list_any, and_parts, cases_eq, eq-eqb, eqb-true, false_from_ne_true, false≢true, or_cases, or_left}
-use Rattle.space_bank.proofs.Names.{length-drop, Capability, Geometry, Object, chain, is_under, freed_by, under, is_bank, is_free, is_member, NamesItsKind}
-use Rattle.space_bank.proofs.Names.{content_at, object_at, owner_at, destroyed_fits, freed_fits, freed_set, under_found, under_given_up, under_once}
-use Rattle.space_bank.proofs.Names.{under_stands, usage_destroyed, usage_freed, used_within, used_where, IsTree, chain_banks, chain_longer, chain_nonempty}
-use Rattle.space_bank.proofs.Names.{chain_once, chain_shorter, chain_zero, owner_bank, tree_of, IsNow, Parts, objects_in, BanksState, IsFreedOf, MayGiveUp}
-use Rattle.space_bank.proofs.Names.{MayServe}
+use Rattle.space_bank.proofs.Names.{inl, inr, ℕ, true, false, not, List, [], drop, length, refl, sym, ap, arith, IsTrue, slice_index, list_any, and_parts}
+use Rattle.space_bank.proofs.Names.{cases_eq, eq-eqb, eqb-true, false_from_ne_true, false≢true, or_cases, or_left, length-drop, Capability, Geometry, Object}
+use Rattle.space_bank.proofs.Names.{chain, is_under, freed_by, under, is_bank, is_free, is_member, NamesItsKind, content_at, object_at, owner_at}
+use Rattle.space_bank.proofs.Names.{destroyed_fits, freed_fits, freed_set, under_found, under_given_up, under_once, under_stands, usage_destroyed, usage_freed}
+use Rattle.space_bank.proofs.Names.{used_within, used_where, IsTree, chain_banks, chain_longer, chain_nonempty, chain_once, chain_shorter, chain_zero}
+use Rattle.space_bank.proofs.Names.{owner_bank, tree_of, IsNow, Parts, objects_in, BanksState, IsFreedOf, MayGiveUp, MayServe}
+use Rattle.std.proofs.Common.{◌≡◌, ◌≢◌, ◌<◌, ◌≤◌, ◌==◌, ◌∷◌, ◌∙◌}
 use Rattle.std.specs.Prelude.{nat_eq}
 use Rattle.space_bank.proofs.Ending.{once_of_differ}
 use Rattle.space_bank.proofs.Standing.{serve_tree}

@@ -1,7 +1,7 @@
 -- Lists of numbers that pass a test, least first, as a loop over the numbers makes them.
-use Rattle.space_bank.proofs.Names.{◌≡◌, ◌+◌, ◌++◌, ◌∙◌, ◌==◌, append_assoc, ◌&&◌, ◌||◌, not, ℕ, zero, suc, Bool, true, false, cond, List, [], ◌∷◌, length}
-use Rattle.space_bank.proofs.Names.{refl, sym, ap, arith, filter, range_with_len, append-nil, Object, is_under, owned_by, under, is_free, content_at, object_at}
-use Rattle.space_bank.proofs.Names.{owner_at}
+use Rattle.space_bank.proofs.Names.{append_assoc, not, ℕ, zero, suc, Bool, true, false, cond, List, [], length, refl, sym, ap, arith, filter, range_with_len}
+use Rattle.space_bank.proofs.Names.{append-nil, Object, is_under, owned_by, under, is_free, content_at, object_at, owner_at}
+use Rattle.std.proofs.Common.{◌≡◌, ◌+◌, ◌++◌, ◌∙◌, ◌==◌, ◌&&◌, ◌||◌, ◌∷◌}
 
 -- whether a number is that of a bank or of what is under it, and whether the bank itself owns it
 abbrev pub is_listed_under : List Object → ℕ → ℕ → Bool

@@ -1,11 +1,11 @@
 -- What orders plan may be made.
-use Rattle.space_bank.proofs.Names.{◌≡◌, ◌≢◌, ℕ, ◌+◌, ◌<◌, ◌≤◌, Bool, true, false, not, List, [], ◌∷◌, Some, length, refl, sym, ap, subst, arith, ◌∙◌, IsTrue}
-use Rattle.space_bank.proofs.Names.{nat_lt, range_with_len, false≢true, ltb-true, Capability, Void, Number, Page, Node, Space, Process, Start, Resume, Bank}
-use Rattle.space_bank.proofs.Names.{Discrim, Geometry, Object, chain, are_free, free_nodes, free_pages, freed_by, has_quota, owned_by, under, is_bank, is_free}
-use Rattle.space_bank.proofs.Names.{is_member, NamesItsKind, content_at, owner_at, member_head, member_tail, owner_bank, tree_of, freed_alike, owned_alike}
-use Rattle.space_bank.proofs.Names.{room_alike, under_alike, AllDiffer, filter_once, found_in, IsNow, SameFrame, tests_at, BankChange, Make, MakeProcess, Fresh}
-use Rattle.space_bank.proofs.Names.{IsFreshAt, New, count_of, is_deep, made_for, new_at, numbers_of, process_at, GivesUp, Transfers, IsMadeUnder, MayGiveUp}
-use Rattle.space_bank.proofs.Names.{MayMake}
+use Rattle.space_bank.proofs.Names.{ℕ, Bool, true, false, not, List, [], Some, length, refl, sym, ap, subst, arith, IsTrue, nat_lt, range_with_len, false≢true}
+use Rattle.space_bank.proofs.Names.{ltb-true, Capability, Void, Number, Page, Node, Space, Process, Start, Resume, Bank, Discrim, Geometry, Object, chain}
+use Rattle.space_bank.proofs.Names.{are_free, free_nodes, free_pages, freed_by, has_quota, owned_by, under, is_bank, is_free, is_member, NamesItsKind}
+use Rattle.space_bank.proofs.Names.{content_at, owner_at, member_head, member_tail, owner_bank, tree_of, freed_alike, owned_alike, room_alike, under_alike}
+use Rattle.space_bank.proofs.Names.{AllDiffer, filter_once, found_in, IsNow, SameFrame, tests_at, BankChange, Make, MakeProcess, Fresh, IsFreshAt, New}
+use Rattle.space_bank.proofs.Names.{count_of, is_deep, made_for, new_at, numbers_of, process_at, GivesUp, Transfers, IsMadeUnder, MayGiveUp, MayMake}
+use Rattle.std.proofs.Common.{◌≡◌, ◌≢◌, ◌+◌, ◌<◌, ◌≤◌, ◌∷◌, ◌∙◌}
 use Rattle.capability.specs.declared.present.Fresh.TheVariants as fresh
 use Rattle.space_bank.specs.declared.planning_new.New.TheVariants as new
 use Rattle.space_bank.proofs.Giving.{destroyed_gives, freed_list}

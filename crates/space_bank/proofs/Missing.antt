@@ -1,8 +1,8 @@
 -- Numbers that aren't free, found by the marks of nodes and of pages.
-use Rattle.space_bank.proofs.Names.{◌≡◌, ◌≢◌, ◌+◌, ◌-◌, ◌<◌, ◌≤◌, ◌++◌, ◌∙◌, ℕ, zero, suc, Bool, true, false, List, length, inl, inr, refl, sym, ap, subst}
-use Rattle.space_bank.proofs.Names.{arith, filter, range_with_len, cases_lt, ne_eqb, get_or-append_right, get_or_append_left, Object, is_free, content_at}
-use Rattle.space_bank.proofs.Names.{Parts, objects_in, length_objects, keepable_count, is_marked, IsNextUnmarked, HasAllMarked, BanksState, AreFree}
-use Rattle.space_bank.proofs.Names.{HasNoneUsed, IsBankOf, IsNextUsed}
+use Rattle.space_bank.proofs.Names.{ℕ, zero, suc, Bool, true, false, List, length, inl, inr, refl, sym, ap, subst, arith, filter, range_with_len, cases_lt}
+use Rattle.space_bank.proofs.Names.{ne_eqb, get_or-append_right, get_or_append_left, Object, is_free, content_at, Parts, objects_in, length_objects}
+use Rattle.space_bank.proofs.Names.{keepable_count, is_marked, IsNextUnmarked, HasAllMarked, BanksState, AreFree, HasNoneUsed, IsBankOf, IsNextUsed}
+use Rattle.std.proofs.Common.{◌≡◌, ◌≢◌, ◌+◌, ◌-◌, ◌<◌, ◌≤◌, ◌++◌, ◌∙◌}
 use Rattle.space_bank.proofs.Lists.{is_listed_owned, is_listed_under, listed_same}
 use Rattle.space_bank.proofs.Tallies.{marks_counted}
 

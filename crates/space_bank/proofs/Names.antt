@@ -57,8 +57,7 @@ pub use Rattle.model_laws.proofs.SoundParts.{IsFramed, nearly_from}
 pub use Rattle.model_laws.proofs.Usage.{SameFrame, chain_same, frame_refl, tests_at, usage_same}
 pub use Rattle.number_set.specs.Marks.{HasAllMarked, HasNoneMarked, IsNextMarked, IsNextUnmarked, is_marked}
 pub use Rattle.std.proofs.Common.{Bool, Global, List, None, Option, Some, Vec, [], add-one, ap, append_assoc, arith, cond, drop, false, get_or, inl, inr}
-pub use Rattle.std.proofs.Common.{length, map, min, nat_eq, not, refl, subst, suc, sym, take, true, vec_len, zero, zero-add, ℕ, ⊎_elim, ◌&&◌, ◌++◌, ◌+◌, ◌-◌}
-pub use Rattle.std.proofs.Common.{◌<◌, ◌==◌, ◌^◌, ◌||◌, ◌∙◌, ◌∷◌, ◌≡◌, ◌≢◌, ◌≤◌}
+pub use Rattle.std.proofs.Common.{length, map, min, nat_eq, not, refl, subst, suc, sym, take, true, vec_len, zero, zero-add, ℕ, ⊎_elim}
 pub use Rattle.std.proofs.lemmas.Bool.{and_parts, cases_Bool, cases_eq, cases_lt, eq-eqb, eqb-true, false_from_ne_true, false≢true, le-leb, leb-true, lt-leb}
 pub use Rattle.std.proofs.lemmas.Bool.{ltb-true, ne_eqb, or_cases, or_left}
 pub use Rattle.std.proofs.lemmas.List.{append-nil, ext_get_or, get_or-append_right, get_or-set_other, get_or-set_same, get_or_append_left, get_or_past}
@@ -70,7 +69,7 @@ pub use Rattle.std.proofs.lemmas.List.FromFn.{map-range_with_len_more}
 pub use Rattle.std.proofs.lemmas.List.Sums.{count_by-le-length, count_by_more_no, count_by_more_yes}
 pub use Rattle.std.specs.List.{All, count_by, enumerate_from, filter, list_all, list_any, range_with_len}
 pub use Rattle.std.specs.Option.{SomeIff}
-pub use Rattle.std.specs.Prelude.{IfSome, IsTrue, if◌then◌else◌, nat_le, nat_lt, slice_index, slice_index_or, slice_set}
+pub use Rattle.std.specs.Prelude.{IfSome, IsTrue, nat_le, nat_lt, slice_index, slice_index_or, slice_set}
 pub use Rattle.std.specs.Vec.{vec_capacity}
 pub use Rattle.space_bank.specs.Allocating.{allocated_by, allocating, count_of, given_by, given_for, is_deep, made_for, new_at, new_of, numbers_of, process_at}
 pub use Rattle.space_bank.specs.Banks.{AreCounted, BanksState, KeepsObjects, MayAsk}

@@ -1,8 +1,9 @@
 -- Objects that are transferred to another bank, one after another.
-use Rattle.space_bank.proofs.Names.{◌≡◌, inl, inr, ℕ, ◌+◌, ◌<◌, ◌||◌, Bool, true, false, List, take, length, refl, sym, ap, ◌∙◌, if◌then◌else◌, slice_index}
-use Rattle.space_bank.proofs.Names.{slice_set, cases_eq, eq-eqb, ne_eqb, get_or-set_other, get_or-set_same, length-set, list_any_more, Capability, Content}
-use Rattle.space_bank.proofs.Names.{Object, free, is_free, is_member, content_at, object_at, AreTransferred}
-use Rattle.std.specs.Prelude.{nat_eq}
+use Rattle.space_bank.proofs.Names.{inl, inr, ℕ, Bool, true, false, List, take, length, refl, sym, ap, slice_index, slice_set, cases_eq, eq-eqb, ne_eqb}
+use Rattle.space_bank.proofs.Names.{get_or-set_other, get_or-set_same, length-set, list_any_more, Capability, Content, Object, free, is_free, is_member}
+use Rattle.space_bank.proofs.Names.{content_at, object_at, AreTransferred}
+use Rattle.std.proofs.Common.{◌≡◌, ◌+◌, ◌<◌, ◌||◌, ◌∙◌}
+use Rattle.std.specs.Prelude.{if◌then◌else◌, nat_eq}
 
 -- an object with another owner, where it is transferred
 abbrev pub transferred : Bool → ℕ → Object → Object

@@ -1,15 +1,16 @@
 -- The plan of an order is its effect.
-use Rattle.space_bank.proofs.Names.{◌≡◌, ◌+◌, ◌<◌, ◌≤◌, ◌++◌, ◌∙◌, ℕ, Bool, true, false, List, [], ◌∷◌, None, Some, length, refl, sym, ap, subst, arith, IsTrue}
-use Rattle.space_bank.proofs.Names.{if◌then◌else◌, nat_lt, eq-eqb, ne_eqb, append-nil, length-append, Capability, Void, Number, Page, Node, Space, Process}
-use Rattle.space_bank.proofs.Names.{Start, Resume, Bank, Discrim, Geometry, Content, Object, Arguments, BankOrder, ResultCode, chain, usage, allocated}
-use Rattle.space_bank.proofs.Names.{bank_allocated, free_nodes, free_pages, freed, freed_by, has_quota, inherited, on_bank, owned_by, process_allocated}
-use Rattle.space_bank.proofs.Names.{remaining, under, with_new, full, OrderOutcome, made, refused, replying_three, is_bank, is_root, limit_in, rescind}
-use Rattle.space_bank.proofs.Names.{MayBeHeld, content_at, owner_at, BankChange, OrderPlan, Fresh, bank_changed, reply_of_code, HaveTheirRoles, Parts}
-use Rattle.space_bank.proofs.Names.{frames_of, fresh_content, objects_in, freed_alike, nodes_alike, owned_alike, pages_alike, remaining_alike, room_alike}
-use Rattle.space_bank.proofs.Names.{under_alike, IsNow, SameFrame, chain_same, frame_refl, usage_same, keepable_count, keepable_roles, root_number, New}
-use Rattle.space_bank.proofs.Names.{allocated_by, allocating, count_of, given_by, given_for, is_deep, made_for, new_at, new_of, numbers_of, process_at}
-use Rattle.space_bank.proofs.Names.{BanksState, MayAsk, IsPlanned, MayMake, PlansAs, IsBankOf, annex_among, annex_of}
-use Rattle.std.specs.Prelude.{not}
+use Rattle.space_bank.proofs.Names.{ℕ, Bool, true, false, List, [], None, Some, length, refl, sym, ap, subst, arith, IsTrue, nat_lt, eq-eqb, ne_eqb, append-nil}
+use Rattle.space_bank.proofs.Names.{length-append, Capability, Void, Number, Page, Node, Space, Process, Start, Resume, Bank, Discrim, Geometry, Content}
+use Rattle.space_bank.proofs.Names.{Object, Arguments, BankOrder, ResultCode, chain, usage, allocated, bank_allocated, free_nodes, free_pages, freed, freed_by}
+use Rattle.space_bank.proofs.Names.{has_quota, inherited, on_bank, owned_by, process_allocated, remaining, under, with_new, full, OrderOutcome, made, refused}
+use Rattle.space_bank.proofs.Names.{replying_three, is_bank, is_root, limit_in, rescind, MayBeHeld, content_at, owner_at, BankChange, OrderPlan, Fresh}
+use Rattle.space_bank.proofs.Names.{bank_changed, reply_of_code, HaveTheirRoles, Parts, frames_of, fresh_content, objects_in, freed_alike, nodes_alike}
+use Rattle.space_bank.proofs.Names.{owned_alike, pages_alike, remaining_alike, room_alike, under_alike, IsNow, SameFrame, chain_same, frame_refl, usage_same}
+use Rattle.space_bank.proofs.Names.{keepable_count, keepable_roles, root_number, New, allocated_by, allocating, count_of, given_by, given_for, is_deep}
+use Rattle.space_bank.proofs.Names.{made_for, new_at, new_of, numbers_of, process_at, BanksState, MayAsk, IsPlanned, MayMake, PlansAs, IsBankOf, annex_among}
+use Rattle.space_bank.proofs.Names.{annex_of}
+use Rattle.std.proofs.Common.{◌≡◌, ◌+◌, ◌<◌, ◌≤◌, ◌++◌, ◌∙◌, ◌∷◌}
+use Rattle.std.specs.Prelude.{if◌then◌else◌, not}
 use Rattle.model.specs.declared.object.Content.TheVariants as content
 use Rattle.model.specs.declared.order.BankOrder.TheVariants as bank
 use Rattle.model.specs.declared.order.ResultCode.TheVariants as code

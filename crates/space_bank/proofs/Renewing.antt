@@ -1,7 +1,9 @@
 -- Counts of allocations where objects are given up, and where none is.
-use Rattle.space_bank.proofs.Names.{◌≡◌, ℕ, ◌+◌, ◌&&◌, Bool, true, false, not, List, sym, ap, arith, ◌∙◌, if◌then◌else◌, Capability, ObjectHeader, Content}
-use Rattle.space_bank.proofs.Names.{Object, with_new, given_up, header_at, is_free, is_given_up, is_member, rescind, content_at, new_used, none_given_up}
-use Rattle.space_bank.proofs.Names.{rescinded_given_up, AreGivenUp, Parts, Renews, objects_in}
+use Rattle.space_bank.proofs.Names.{ℕ, Bool, true, false, not, List, sym, ap, arith, Capability, ObjectHeader, Content, Object, with_new, given_up, header_at}
+use Rattle.space_bank.proofs.Names.{is_free, is_given_up, is_member, rescind, content_at, new_used, none_given_up, rescinded_given_up, AreGivenUp, Parts}
+use Rattle.space_bank.proofs.Names.{Renews, objects_in}
+use Rattle.std.proofs.Common.{◌≡◌, ◌+◌, ◌&&◌, ◌∙◌}
+use Rattle.std.specs.Prelude.{if◌then◌else◌}
 
 -- the same counts of allocations, and the same numbers free
 abbrev pub SameAllocations : Parts → Parts → Type 0

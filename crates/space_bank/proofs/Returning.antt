@@ -1,11 +1,12 @@
 -- A bank that is returned to its parent.
-use Rattle.space_bank.proofs.Names.{◌≡◌, ◌≢◌, inl, inr, ℕ, zero, suc, ◌+◌, ◌-◌, ◌^◌, ◌<◌, ◌≤◌, ◌==◌, ◌&&◌, Bool, true, false, not, List, [], ◌∷◌, drop, length}
-use Rattle.space_bank.proofs.Names.{refl, sym, ap, subst, add-one, arith, ◌∙◌, IsTrue, if◌then◌else◌, slice_index, slice_set, All, cases_Bool, cases_eq}
-use Rattle.space_bank.proofs.Names.{false_from_ne_true, false≢true, ext_get_or, get_or-set_other, get_or-set_same, length-map, Object, chain, usage}
-use Rattle.space_bank.proofs.Names.{transferred, inherited, owned_by, header_at, AreCurrent, AreKeepable, free, is_bank, is_free, is_member, rescind}
-use Rattle.space_bank.proofs.Names.{content_at, object_at, owner_at, owned_found, used_where, returned_fits, usage_returned, chain_banks, chain_once}
-use Rattle.space_bank.proofs.Names.{member_head, member_tail, owner_bank, all_members, found_in, only_member, stands_in, at_map, Parts, frames_of, objects_in}
-use Rattle.space_bank.proofs.Names.{AreCounted, BanksState, AreTransferred, CarriesOut, MayServe, is_marked}
+use Rattle.space_bank.proofs.Names.{inl, inr, ℕ, zero, suc, Bool, true, false, not, List, [], drop, length, refl, sym, ap, subst, add-one, arith, IsTrue}
+use Rattle.space_bank.proofs.Names.{slice_index, slice_set, All, cases_Bool, cases_eq, false_from_ne_true, false≢true, ext_get_or, get_or-set_other}
+use Rattle.space_bank.proofs.Names.{get_or-set_same, length-map, Object, chain, usage, transferred, inherited, owned_by, header_at, AreCurrent, AreKeepable}
+use Rattle.space_bank.proofs.Names.{free, is_bank, is_free, is_member, rescind, content_at, object_at, owner_at, owned_found, used_where, returned_fits}
+use Rattle.space_bank.proofs.Names.{usage_returned, chain_banks, chain_once, member_head, member_tail, owner_bank, all_members, found_in, only_member}
+use Rattle.space_bank.proofs.Names.{stands_in, at_map, Parts, frames_of, objects_in, AreCounted, BanksState, AreTransferred, CarriesOut, MayServe, is_marked}
+use Rattle.std.proofs.Common.{◌≡◌, ◌≢◌, ◌+◌, ◌-◌, ◌^◌, ◌<◌, ◌≤◌, ◌==◌, ◌&&◌, ◌∷◌, ◌∙◌}
+use Rattle.std.specs.Prelude.{if◌then◌else◌}
 use Rattle.space_bank.proofs.Ending.{IsReleased, counted_gone}
 use Rattle.space_bank.proofs.Owners.{transferred_same}
 use Rattle.space_bank.proofs.Standing.{few_allocations, few_calls, serve_now, serve_tree}

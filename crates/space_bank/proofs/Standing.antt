@@ -1,9 +1,10 @@
 -- What sound frames that are counted say of their objects.
-use Rattle.space_bank.proofs.Names.{◌≡◌, ◌≢◌, ℕ, ◌+◌, ◌^◌, ◌<◌, ◌≤◌, true, false, List, length, refl, sym, ap, arith, ◌∙◌, IsTrue, nat_le, slice_index}
-use Rattle.space_bank.proofs.Names.{leb-true, Cap, Capability, Frame, Geometry, Content, Object, chain, usage, has_quota, conveyed, header_at, held_at}
-use Rattle.space_bank.proofs.Names.{objects_of, AreKeepable, IsSoundFrames, world_at, is_bank, is_free, limit_in, map_content, role_of, is_member, HasShape}
-use Rattle.space_bank.proofs.Names.{IsOfKind, object_count, content_at, IsTree, chain_banks, tree_of, member_passes, IsNow, IsFramed, nearly_from, Parts}
-use Rattle.space_bank.proofs.Names.{frames_of, objects_in, content_there, keepable_at, keepable_count, BanksState, MayServe}
+use Rattle.space_bank.proofs.Names.{ℕ, true, false, List, length, refl, sym, ap, arith, IsTrue, nat_le, slice_index, leb-true, Cap, Capability, Frame, Geometry}
+use Rattle.space_bank.proofs.Names.{Content, Object, chain, usage, has_quota, conveyed, header_at, held_at, objects_of, AreKeepable, IsSoundFrames, world_at}
+use Rattle.space_bank.proofs.Names.{is_bank, is_free, limit_in, map_content, role_of, is_member, HasShape, IsOfKind, object_count, content_at, IsTree}
+use Rattle.space_bank.proofs.Names.{chain_banks, tree_of, member_passes, IsNow, IsFramed, nearly_from, Parts, frames_of, objects_in, content_there, keepable_at}
+use Rattle.space_bank.proofs.Names.{keepable_count, BanksState, MayServe}
+use Rattle.std.proofs.Common.{◌≡◌, ◌≢◌, ◌+◌, ◌^◌, ◌<◌, ◌≤◌, ◌∙◌}
 use Rattle.model.specs.declared.object.Content.TheVariants as content
 use Rattle.model.specs.declared.object.Role.TheVariants as role
 

@@ -1,11 +1,12 @@
 -- What is counted, where objects come and go.
-use Rattle.space_bank.proofs.Names.{◌≡◌, ◌≢◌, inl, inr, ℕ, ◌+◌, ◌-◌, ◌<◌, ◌||◌, Bool, true, false, List, take, length, refl, sym, ap, subst, arith, ◌∙◌, IsTrue}
-use Rattle.space_bank.proofs.Names.{if◌then◌else◌, slice_index, slice_index_or, slice_set, cases_eq, cases_lt, eq-eqb, ne_eqb, get_or-append_right}
-use Rattle.space_bank.proofs.Names.{get_or_append_left, get_or-set_other, get_or-set_same, length-append, length-set, list_any_more, Capability, Geometry}
-use Rattle.space_bank.proofs.Names.{Content, Object, chain, usage, new_annex, new_root, with_new, is_bank, is_free, is_root, limit_in, root_in, is_member}
-use Rattle.space_bank.proofs.Names.{object_count, content_at, IsTree, at_new, at_other, chain_new, length_new, new_bank_kept, tree_new, usage_new}
-use Rattle.space_bank.proofs.Names.{usage_new_bank, AreCounted, BanksState, marks_of, IsRaised, is_marked}
-use Rattle.std.specs.Prelude.{nat_eq}
+use Rattle.space_bank.proofs.Names.{inl, inr, ℕ, Bool, true, false, List, take, length, refl, sym, ap, subst, arith, IsTrue, slice_index, slice_index_or}
+use Rattle.space_bank.proofs.Names.{slice_set, cases_eq, cases_lt, eq-eqb, ne_eqb, get_or-append_right, get_or_append_left, get_or-set_other, get_or-set_same}
+use Rattle.space_bank.proofs.Names.{length-append, length-set, list_any_more, Capability, Geometry, Content, Object, chain, usage, new_annex, new_root}
+use Rattle.space_bank.proofs.Names.{with_new, is_bank, is_free, is_root, limit_in, root_in, is_member, object_count, content_at, IsTree, at_new, at_other}
+use Rattle.space_bank.proofs.Names.{chain_new, length_new, new_bank_kept, tree_new, usage_new, usage_new_bank, AreCounted, BanksState, marks_of, IsRaised}
+use Rattle.space_bank.proofs.Names.{is_marked}
+use Rattle.std.proofs.Common.{◌≡◌, ◌≢◌, ◌+◌, ◌-◌, ◌<◌, ◌||◌, ◌∙◌}
+use Rattle.std.specs.Prelude.{if◌then◌else◌, nat_eq}
 use Rattle.model.specs.declared.object.Content.TheVariants as content
 
 -- one more of a list was marked as free

@@ -1,10 +1,10 @@
 -- Usages, added up over the numbers.
-use Rattle.space_bank.proofs.Names.{◌≡◌, ◌+◌, ◌<◌, ◌≤◌, ◌^◌, ◌∙◌, ◌==◌, ◌&&◌, ℕ, Bool, true, false, not, cond, nat_eq, take, List, length, get_or, inl, inr}
-use Rattle.space_bank.proofs.Names.{refl, sym, ap, subst, zero-add, arith, IsTrue, count_by, enumerate_from, list_any, cases_eq, cases_lt, eq-eqb, ne_eqb}
-use Rattle.space_bank.proofs.Names.{get_or_past, length-take, take_all, length-enumerate_from, get_or-enumerate_from, count_by-le-length, count_by_more_no}
-use Rattle.space_bank.proofs.Names.{count_by_more_yes, Object, chain, is_under, usage, free, is_bank, is_free, is_member, content_at, object_at, owner_at}
-use Rattle.space_bank.proofs.Names.{IsTree, chain_once, chain_prime, IsRaised}
-use Rattle.std.proofs.Common.{slice_index}
+use Rattle.space_bank.proofs.Names.{ℕ, Bool, true, false, not, cond, nat_eq, take, List, length, get_or, inl, inr, refl, sym, ap, subst, zero-add, arith}
+use Rattle.space_bank.proofs.Names.{IsTrue, count_by, enumerate_from, list_any, cases_eq, cases_lt, eq-eqb, ne_eqb, get_or_past, length-take, take_all}
+use Rattle.space_bank.proofs.Names.{length-enumerate_from, get_or-enumerate_from, count_by-le-length, count_by_more_no, count_by_more_yes, Object, chain}
+use Rattle.space_bank.proofs.Names.{is_under, usage, free, is_bank, is_free, is_member, content_at, object_at, owner_at, IsTree, chain_once, chain_prime}
+use Rattle.space_bank.proofs.Names.{IsRaised}
+use Rattle.std.proofs.Common.{◌≡◌, ◌+◌, ◌<◌, ◌≤◌, ◌^◌, ◌∙◌, ◌==◌, ◌&&◌, slice_index}
 
 -- how many of the objects below a number a bank accounts for
 abbrev pub is_used : List Object → ℕ → ℕ × Object → Bool

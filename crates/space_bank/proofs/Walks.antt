@@ -1,8 +1,9 @@
 -- Chains of banks, walked from owner to owner.
-use Rattle.space_bank.proofs.Names.{◌≡◌, ◌+◌, ◌-◌, ◌<◌, ◌≤◌, ◌∙◌, ℕ, suc, Bool, true, false, List, [], ◌∷◌, length, map, min, nat_eq, refl, sym, ap, subst}
-use Rattle.space_bank.proofs.Names.{arith, IsTrue, nat_le, slice_index, list_all, list_any, eq-eqb, le-leb, lt-leb, ne_eqb, ObjectHeader, Object, chain}
-use Rattle.space_bank.proofs.Names.{chain_within, usage, has_quota, least, left_of, remaining, is_bank, limit_in, content_at, owner_at, Parts, objects_in}
-use Rattle.space_bank.proofs.Names.{bank_used, length_objects, bank_number, BanksState, IsBankOf}
+use Rattle.space_bank.proofs.Names.{ℕ, suc, Bool, true, false, List, [], length, map, min, nat_eq, refl, sym, ap, subst, arith, IsTrue, nat_le, slice_index}
+use Rattle.space_bank.proofs.Names.{list_all, list_any, eq-eqb, le-leb, lt-leb, ne_eqb, ObjectHeader, Object, chain, chain_within, usage, has_quota, least}
+use Rattle.space_bank.proofs.Names.{left_of, remaining, is_bank, limit_in, content_at, owner_at, Parts, objects_in, bank_used, length_objects, bank_number}
+use Rattle.space_bank.proofs.Names.{BanksState, IsBankOf}
+use Rattle.std.proofs.Common.{◌≡◌, ◌+◌, ◌-◌, ◌<◌, ◌≤◌, ◌∙◌, ◌∷◌}
 
 -- a number past which the table has none, and before which it has all
 pub count_read : (p : Parts) (hs : List ObjectHeader) (count n : ℕ) → hs ≡ p.headers → count ≡ length hs → n ≤ count → count ≤ n →

@@ -1,8 +1,9 @@
 -- The four orders that allocate, as one.
-use Rattle.space_bank.specs.Names.{ℕ, nat_lt, Bool, false, not, if◌then◌else◌, Option, None, Some, List, [], ◌∷◌}
-use Rattle.space_bank.specs.Names.{length, Capability, Void, Page, Node, Process, Bank, Geometry, Object, Arguments}
-use Rattle.space_bank.specs.Names.{BankOrder, chain, free_nodes, free_pages, has_quota, full, OrderOutcome, made}
-use Rattle.space_bank.specs.Names.{refused, BankChange, Fresh, bank_changed}
+use Rattle.space_bank.specs.Names.{ℕ, nat_lt, Bool, false, not, Option, None, Some, List, [], length, Capability, Void}
+use Rattle.space_bank.specs.Names.{Page, Node, Process, Bank, Geometry, Object, Arguments, BankOrder, chain, free_nodes}
+use Rattle.space_bank.specs.Names.{free_pages, has_quota, full, OrderOutcome, made, refused, BankChange, Fresh}
+use Rattle.space_bank.specs.Names.{bank_changed}
+use Rattle.std.specs.Prelude.{if◌then◌else◌, ◌∷◌}
 use Rattle.model.specs.declared.order.BankOrder.TheVariants as order
 use Rattle.model.specs.declared.order.ResultCode.TheVariants as code
 use Rattle.capability.specs.declared.order.BankChange.TheVariants as bank

@@ -1,7 +1,8 @@
 -- The counts of banks, kept beside the objects, and the orders of banks.
-use Rattle.space_bank.specs.Names.{◌≡◌, ℕ, ◌+◌, ◌<◌, ◌≤◌, Bool, false, List, length, slice_index, IsTrue, Geometry}
-use Rattle.space_bank.specs.Names.{Object, Arguments, usage, is_bank, is_free, limit_in, MayBeHeld, object_count}
-use Rattle.space_bank.specs.Names.{annex_at, content_at, is_process, AreSound, Parts, Renews, objects_in, is_marked}
+use Rattle.space_bank.specs.Names.{ℕ, Bool, false, List, length, slice_index, IsTrue, Geometry, Object, Arguments}
+use Rattle.space_bank.specs.Names.{usage, is_bank, is_free, limit_in, MayBeHeld, object_count, annex_at, content_at}
+use Rattle.space_bank.specs.Names.{is_process, AreSound, Parts, Renews, objects_in, is_marked}
+use Rattle.std.specs.Prelude.{◌≡◌, ◌+◌, ◌<◌, ◌≤◌}
 
 -- Which nodes and which pages are free, counted from the first of each; by number of a bank how many objects it
 -- accounts for, and its limit; by number of a process its annex; and the numbers that were listed for an order, with

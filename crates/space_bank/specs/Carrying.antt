@@ -1,10 +1,10 @@
 -- What the orders of a bank require, and what they leave.
-use Rattle.space_bank.specs.Names.{◌≡◌, ◌≢◌, [], ◌∷◌, ℕ, ◌+◌, ◌^◌, ◌<◌, ◌++◌, Bool, true, false, List, length}
-use Rattle.space_bank.specs.Names.{slice_index, if◌then◌else◌, IsTrue, Capability, Geometry, Object, Arguments}
-use Rattle.space_bank.specs.Names.{BankOrder, chain, usage, freed_by, has_quota, on_bank, owned_by, AreCurrent}
-use Rattle.space_bank.specs.Names.{AreKeepable, is_bank, is_free, is_member, rescind, MayBeHeld, content_at, object_at}
-use Rattle.space_bank.specs.Names.{owner_at, IsNow, SameFrame, BankChange, Change, OrderPlan, Fresh, outcome_by}
-use Rattle.space_bank.specs.Names.{AreSound, IsFreshAt, IsOnce, Parts, frames_of, objects_in}
+use Rattle.space_bank.specs.Names.{[], ℕ, Bool, true, false, List, length, slice_index, IsTrue, Capability, Geometry}
+use Rattle.space_bank.specs.Names.{Object, Arguments, BankOrder, chain, usage, freed_by, has_quota, on_bank, owned_by}
+use Rattle.space_bank.specs.Names.{AreCurrent, AreKeepable, is_bank, is_free, is_member, rescind, MayBeHeld, content_at}
+use Rattle.space_bank.specs.Names.{object_at, owner_at, IsNow, SameFrame, BankChange, Change, OrderPlan, Fresh}
+use Rattle.space_bank.specs.Names.{outcome_by, AreSound, IsFreshAt, IsOnce, Parts, frames_of, objects_in}
+use Rattle.std.specs.Prelude.{◌≡◌, ◌≢◌, ◌∷◌, ◌+◌, ◌^◌, ◌<◌, ◌++◌, if◌then◌else◌}
 use Rattle.capability.specs.declared.order.BankChange.TheVariants as bank
 use Rattle.capability.specs.declared.order.Change.TheVariants as change
 use Rattle.capability.specs.declared.present.Fresh.TheVariants as fresh

@@ -1,6 +1,7 @@
 -- What is counted, part by part.
-use Rattle.space_bank.specs.Names.{◌≡◌, ℕ, ◌+◌, ◌<◌, Bool, List, length, map, range_with_len, Capability, Content}
-use Rattle.space_bank.specs.Names.{Object, Role, is_free, limit_in, root_in, content_at, is_marked}
+use Rattle.space_bank.specs.Names.{ℕ, Bool, List, length, map, range_with_len, Capability, Content, Object, Role}
+use Rattle.space_bank.specs.Names.{is_free, limit_in, root_in, content_at, is_marked}
+use Rattle.std.specs.Prelude.{◌≡◌, ◌+◌, ◌<◌}
 use Rattle.model.specs.declared.object.Role.TheVariants as role
 
 -- `count` marks: each says whether a number is free, from the number `first` on

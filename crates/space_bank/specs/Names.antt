@@ -30,5 +30,5 @@ pub use Rattle.model_laws.proofs.SoundOrders.{IsNow}
 pub use Rattle.model_laws.proofs.Usage.{SameFrame}
 pub use Rattle.number_set.specs.Marks.{is_marked}
 pub use Rattle.std.specs.List.{range_with_len}
-pub use Rattle.std.specs.Prelude.{Bool, IsTrue, List, None, Option, Some, [], false, if◌then◌else◌, length, map, nat_lt}
-pub use Rattle.std.specs.Prelude.{not, slice_index, true, ℕ, ◌++◌, ◌+◌, ◌<◌, ◌^◌, ◌∷◌, ◌≡◌, ◌≢◌, ◌≤◌}
+pub use Rattle.std.specs.Prelude.{Bool, IsTrue, List, None, Option, Some, [], false, length, map, nat_lt, not}
+pub use Rattle.std.specs.Prelude.{slice_index, true, ℕ}

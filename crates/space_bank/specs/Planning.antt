@@ -1,7 +1,8 @@
 -- What planning reads of a bank.
-use Rattle.space_bank.specs.Names.{◌≡◌, ℕ, ◌+◌, ◌<◌, ◌≤◌, ◌++◌, Bool, true, false, IsTrue, List, [], ◌∷◌, length}
-use Rattle.space_bank.specs.Names.{slice_index, Capability, Process, Operation, Call, Return, Send, Object, is_bank}
-use Rattle.space_bank.specs.Names.{is_free, annex_at, content_at, AreSound, Parts, objects_in, is_marked}
+use Rattle.space_bank.specs.Names.{ℕ, Bool, true, false, IsTrue, List, [], length, slice_index, Capability, Process}
+use Rattle.space_bank.specs.Names.{Operation, Call, Return, Send, Object, is_bank, is_free, annex_at, content_at}
+use Rattle.space_bank.specs.Names.{AreSound, Parts, objects_in, is_marked}
+use Rattle.std.specs.Prelude.{◌≡◌, ◌+◌, ◌<◌, ◌≤◌, ◌++◌, ◌∷◌}
 use Rattle.space_bank.specs.Banks.{AreCounted, BanksState}
 
 -- a bank of frames that are sound and counted

@@ -1,7 +1,7 @@
 -- What a call does to a handle, by the session before and after it.
-use Rattle.vezhnake.proofs.Names.{◌≡◌, ◌↔◌, ℕ, Bool, true, false, List, Some, Err, refl, sym, ◌∙◌, subst, IsSome, Session, Status, ClosesHandle, OnSession}
-use Rattle.vezhnake.proofs.Names.{OpensHandle, OpensKernel, OpensSession}
-use Rattle.std.proofs.Common.{Option, None}
+use Rattle.vezhnake.proofs.Names.{ℕ, Bool, true, false, List, Some, Err, refl, sym, subst, IsSome, Session, Status, ClosesHandle, OnSession, OpensHandle}
+use Rattle.vezhnake.proofs.Names.{OpensKernel, OpensSession}
+use Rattle.std.proofs.Common.{◌≡◌, ◌↔◌, ◌∙◌, Option, None}
 use Rattle.vezhnake.specs.declared.status.Status.TheVariants as status
 
 module _ (P : Session → Session → Type 0) (old new : Option Session) where

@@ -16,7 +16,7 @@ pub use Rattle.runs.specs.KernelRuns.{IsConfined, IsRunOf, RunsOver}
 pub use Rattle.runs_laws.specs.Laws.{CrashesAreSurvived}
 pub use Rattle.script.specs.declared.fault.RunFault.{RunFault}
 pub use Rattle.std.proofs.Common.{Bool, Err, List, Ok, Result, Some, [], ap, append_assoc, arith, drop, false, length, length-append, refl, rules, subst, sym}
-pub use Rattle.std.proofs.Common.{take, true, ℕ, ◌%◌, ◌++◌, ◌+◌, ◌/◌, ◌<◌, ◌^◌, ◌↔◌, ◌∙◌, ◌∷◌, ◌≡◌, ◌≤◌}
+pub use Rattle.std.proofs.Common.{take, true, ℕ}
 pub use Rattle.std.proofs.Math.Seq.{take-append_seam}
 pub use Rattle.std.proofs.lemmas.List.{take-append-drop}
 pub use Rattle.std.proofs.lemmas.List.Concat.{flat_map-append}

@@ -1,8 +1,9 @@
 -- What a crash leaves of storage that carried out some of the calls of a run.
-use Rattle.vezhnake.proofs.Names.{◌≡◌, ℕ, ◌+◌, ◌≤◌, List, ◌++◌, length, take, drop, sym, ap, ◌∙◌, subst, append_assoc, arith, length-append, take-append_seam}
-use Rattle.vezhnake.proofs.Names.{take-append-drop, flat_map-append, Image, image_of, Event, MayLeave, at_first, replay, Parts, View, Power, IsDeviceOf, Stands}
-use Rattle.vezhnake.proofs.Names.{disk_of, Geometry, Machine, Turn, IsConfined, IsRunOf, RunsOver, CrashesAreSurvived, RunFault, Option, HostCall}
-use Rattle.vezhnake.proofs.Names.{StorageLeaves, events_by, events_of, HostDevice, RunsText, Survives, calls_beneath, host_disk, start_beneath}
+use Rattle.vezhnake.proofs.Names.{ℕ, List, length, take, drop, sym, ap, subst, append_assoc, arith, length-append, take-append_seam, take-append-drop}
+use Rattle.vezhnake.proofs.Names.{flat_map-append, Image, image_of, Event, MayLeave, at_first, replay, Parts, View, Power, IsDeviceOf, Stands, disk_of}
+use Rattle.vezhnake.proofs.Names.{Geometry, Machine, Turn, IsConfined, IsRunOf, RunsOver, CrashesAreSurvived, RunFault, Option, HostCall, StorageLeaves}
+use Rattle.vezhnake.proofs.Names.{events_by, events_of, HostDevice, RunsText, Survives, calls_beneath, host_disk, start_beneath}
+use Rattle.std.proofs.Common.{◌≡◌, ◌+◌, ◌≤◌, ◌++◌, ◌∙◌}
 use Rattle.std.specs.Prelude.{Some, Result}
 use Rattle.kernel.specs.Power as power
 

@@ -1,4 +1,5 @@
-use Rattle.address_space.proofs.Names.{rules, ◌≡◌, Ok, Err, sym, arith, Space, path, walk_along, objects_in}
+use Rattle.address_space.proofs.Names.{rules, Ok, Err, sym, arith, Space, path, walk_along, objects_in}
+use Rattle.std.proofs.Common.{◌≡◌}
 use Rattle.address_space.proofs.Paths.{at_early_page, at_fault, at_found, at_other_tree}
 use Rattle.address_space.proofs.walking.+descend.Goals as goal
 

@@ -1,4 +1,5 @@
-use Rattle.address_space.proofs.Names.{rules, ◌≡◌, ◌-◌, ◌^◌, ◌/◌, ◌%◌, sym, subst, Capability, MayBeHeld, slot_at, objects_in}
+use Rattle.address_space.proofs.Names.{rules, sym, subst, Capability, MayBeHeld, slot_at, objects_in}
+use Rattle.std.proofs.Common.{◌≡◌, ◌-◌, ◌^◌, ◌/◌, ◌%◌}
 use Rattle.address_space.proofs.Known.{space_known}
 use Rattle.address_space.proofs.walking.next_slot.Goals as goal
 

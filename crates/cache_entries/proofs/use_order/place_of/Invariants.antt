@@ -1,4 +1,5 @@
-use Rattle.cache_entries.proofs.Names.{◌≡◌, false, drop, is_member}
+use Rattle.cache_entries.proofs.Names.{false, drop, is_member}
+use Rattle.std.proofs.Common.{◌≡◌}
 use Rattle.cache_entries.proofs.use_order.place_of.Given as goal
 
 abbrev pub invariant-loop-place : goal.invariant-loop-place

@@ -1,4 +1,5 @@
-use Rattle.cache_entries.proofs.Names.{ℕ, ap, ◌∙◌, keys_of, LruCache}
+use Rattle.cache_entries.proofs.Names.{ℕ, ap, keys_of, LruCache}
+use Rattle.std.proofs.Common.{◌∙◌}
 use Rattle.cache_entries.proofs.Orders.{used_keys}
 use Rattle.cache_entries.proofs.Turns.{Settles, settles}
 use Rattle.cache_entries.proofs.use_order.settle_first.Goals as goal

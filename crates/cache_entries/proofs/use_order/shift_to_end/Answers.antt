@@ -1,4 +1,5 @@
-use Rattle.cache_entries.proofs.Names.{◌≡◌, ◌∷◌, ◌++◌, [], ◌+◌, ◌<◌, ◌-◌, length, set, subst, arith, slice_get_within, without}
+use Rattle.cache_entries.proofs.Names.{[], length, set, subst, arith, slice_get_within, without}
+use Rattle.std.proofs.Common.{◌≡◌, ◌∷◌, ◌++◌, ◌+◌, ◌<◌, ◌-◌}
 use Rattle.cache_entries.proofs.Turns.{move_begun, moved_up, moved_last}
 use Rattle.cache_entries.proofs.use_order.shift_to_end.Goals as goal
 

@@ -1,4 +1,5 @@
-use Rattle.cache_entries.proofs.Names.{◌≡◌, ◌++◌, take, drop, without}
+use Rattle.cache_entries.proofs.Names.{take, drop, without}
+use Rattle.std.proofs.Common.{◌≡◌, ◌++◌}
 use Rattle.cache_entries.proofs.use_order.shift_to_end.Given as goal
 
 abbrev pub invariant-loop-i : goal.invariant-loop-i

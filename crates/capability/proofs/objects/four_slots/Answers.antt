@@ -1,5 +1,6 @@
-use Rattle.capability.proofs.Names.{◌≡◌, ℕ, ◌<◌, List, length, Some, refl, sym, ap, ◌∙◌, Cap, Capability, Content, ObjectHeader, conveyed, held_at, slot_at}
-use Rattle.capability.proofs.Names.{Parts, objects_in, ◌⊎◌, ⊎_elim, slice_get}
+use Rattle.capability.proofs.Names.{ℕ, List, length, Some, refl, sym, ap, Cap, Capability, Content, ObjectHeader, conveyed, held_at, slot_at, Parts, objects_in}
+use Rattle.capability.proofs.Names.{⊎_elim, slice_get}
+use Rattle.std.proofs.Common.{◌≡◌, ◌<◌, ◌∙◌, ◌⊎◌}
 use Rattle.model.specs.declared.object.Content.TheVariants as content
 use Rattle.capability.proofs.Frames.{slot_there, no_slot_there}
 use Rattle.capability.proofs.objects.four_slots.Goals as goal

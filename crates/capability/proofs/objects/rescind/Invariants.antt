@@ -1,4 +1,5 @@
-use Rattle.capability.proofs.Names.{◌≡◌, ℕ, false, take, is_member, AreGivenUp}
+use Rattle.capability.proofs.Names.{ℕ, false, take, is_member, AreGivenUp}
+use Rattle.std.proofs.Common.{◌≡◌}
 use Rattle.capability.proofs.objects.rescind.Given as goal
 
 abbrev pub invariant-loop-number : goal.invariant-loop-number

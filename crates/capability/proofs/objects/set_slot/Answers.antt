@@ -1,4 +1,5 @@
-use Rattle.capability.proofs.Names.{List, ap, ◌∙◌, Cap, ObjectHeader, Content, held_at, with_slot_in, live_cap, with_held}
+use Rattle.capability.proofs.Names.{List, ap, Cap, ObjectHeader, Content, held_at, with_slot_in, live_cap, with_held}
+use Rattle.std.proofs.Common.{◌∙◌}
 use Rattle.capability.proofs.Edited.{edited, slot_edit}
 use Rattle.capability.proofs.Edits.{put}
 use Rattle.capability.proofs.objects.set_slot.Goals as goal

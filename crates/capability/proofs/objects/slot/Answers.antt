@@ -1,4 +1,5 @@
-use Rattle.capability.proofs.Names.{List, sym, ap, ◌∙◌, ⊎_elim, ObjectHeader, conveyed}
+use Rattle.capability.proofs.Names.{List, sym, ap, ⊎_elim, ObjectHeader, conveyed}
+use Rattle.std.proofs.Common.{◌∙◌}
 use Rattle.model.specs.declared.object.Content.TheVariants as content
 use Rattle.capability.proofs.Frames.{slot_there, no_slot_there}
 use Rattle.capability.proofs.objects.slot.Goals as goal

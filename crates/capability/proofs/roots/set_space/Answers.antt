@@ -1,5 +1,6 @@
-use Rattle.capability.proofs.Names.{List, ap, arith, subst, sym, ◌∙◌, Cap, Capability, ObjectHeader, IsCurrent, IsKeptCap, with_space, IsSpace, live_cap, Root}
+use Rattle.capability.proofs.Names.{List, ap, arith, subst, sym, Cap, Capability, ObjectHeader, IsCurrent, IsKeptCap, with_space, IsSpace, live_cap, Root}
 use Rattle.capability.proofs.Names.{with_root_in}
+use Rattle.std.proofs.Common.{◌∙◌}
 use Rattle.capability.proofs.Edited.{edited, root_edit}
 use Rattle.capability.proofs.Edits.{put}
 use Rattle.capability.proofs.RootEdits.{space_kept, space_through}

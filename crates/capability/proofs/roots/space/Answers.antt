@@ -1,4 +1,5 @@
-use Rattle.capability.proofs.Names.{sym, ap, ◌∙◌, List, Capability, Content, ObjectHeader, conveyed, root_in}
+use Rattle.capability.proofs.Names.{sym, ap, List, Capability, Content, ObjectHeader, conveyed, root_in}
+use Rattle.std.proofs.Common.{◌∙◌}
 use Rattle.model.specs.declared.object.Content.TheVariants as content
 use Rattle.capability.proofs.Frames.{content_there, no_root_there}
 use Rattle.capability.proofs.roots.space.Goals as goal

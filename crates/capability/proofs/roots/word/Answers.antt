@@ -1,4 +1,5 @@
-use Rattle.capability.proofs.Names.{sym, ap, ◌∙◌, Capability, Content, root_in}
+use Rattle.capability.proofs.Names.{sym, ap, Capability, Content, root_in}
+use Rattle.std.proofs.Common.{◌∙◌}
 use Rattle.std.specs.Prelude.{slice_index}
 use Rattle.model.specs.declared.object.Content.TheVariants as content
 use Rattle.capability.proofs.Frames.{content_there, no_root_there}

@@ -1,4 +1,5 @@
-use Rattle.capability.proofs.Names.{◌≡◌, length, map, take, conveyed}
+use Rattle.capability.proofs.Names.{length, map, take, conveyed}
+use Rattle.std.proofs.Common.{◌≡◌}
 use Rattle.capability.proofs.view.conveyed_slots.Given as goal
 
 abbrev pub invariant-loop-i : goal.invariant-loop-i

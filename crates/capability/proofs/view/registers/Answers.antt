@@ -1,4 +1,5 @@
-use Rattle.capability.proofs.Names.{◌≡◌, List, map, sym, ap, ◌∙◌, IfOk-weaker, Capability, ObjectHeader, Content, conveyed, slots_in, content_at, objects_in}
+use Rattle.capability.proofs.Names.{List, map, sym, ap, IfOk-weaker, Capability, ObjectHeader, Content, conveyed, slots_in, content_at, objects_in}
+use Rattle.std.proofs.Common.{◌≡◌, ◌∙◌}
 use Rattle.model.specs.declared.object.Content.TheVariants as content
 use Rattle.capability.proofs.Frames.{content_there, no_annex_there}
 use Rattle.capability.proofs.view.registers.Goals as goal

@@ -1,4 +1,5 @@
-use Rattle.ckpt_log.proofs.Names.{◌∙◌, ap, is_open}
+use Rattle.ckpt_log.proofs.Names.{ap, is_open}
+use Rattle.std.proofs.Common.{◌∙◌}
 use Rattle.ckpt_log.proofs.Closings.{first_run, is_shut, second_run}
 use Rattle.ckpt_log.proofs.closing.close_in_turn.Goals as goal
 

@@ -1,4 +1,5 @@
-use Rattle.command_line.proofs.Names.{rules, ◌≡◌, codes, map, refl, All, IsUnsignedIn, found_of, rows_of, number_of, texts_of, greatest_number}
+use Rattle.command_line.proofs.Names.{rules, codes, map, refl, All, IsUnsignedIn, found_of, rows_of, number_of, texts_of, greatest_number}
+use Rattle.std.proofs.Common.{◌≡◌}
 use Rattle.command_line.proofs.Getters.{given_all, held, missing_all}
 use Rattle.command_line.proofs.Lacking.{lacks_all, wrong_all}
 use Rattle.command_line.proofs.requested.reach_of.Goals as goal

@@ -1,5 +1,5 @@
-use Rattle.consistency.proofs.Names.{◌≡◌, ◌≤◌, ◌^◌, ◌-◌, ◌∙◌, ℕ, List, ap, length, slice_index, subst, sym, MatchOption, Frame, ObjectHeader, frames_of}
-use Rattle.consistency.proofs.Names.{IsAboveLimit, role_at}
+use Rattle.consistency.proofs.Names.{ℕ, List, ap, length, slice_index, subst, sym, MatchOption, Frame, ObjectHeader, frames_of, IsAboveLimit, role_at}
+use Rattle.std.proofs.Common.{◌≡◌, ◌≤◌, ◌^◌, ◌-◌, ◌∙◌}
 use Rattle.model.specs.declared.object.Role.TheVariants as role
 use Rattle.consistency.proofs.Tables.{frames_looked}
 use Rattle.consistency.proofs.Trees.{bank_counted, count_all, limited, limits_count, owned_tree}

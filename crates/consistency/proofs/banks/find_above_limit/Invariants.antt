@@ -1,4 +1,5 @@
-use Rattle.consistency.proofs.Names.{◌≡◌, ℕ, ◌<◌, ◌≤◌, slice_index, frames_of, role_at}
+use Rattle.consistency.proofs.Names.{ℕ, slice_index, frames_of, role_at}
+use Rattle.std.proofs.Common.{◌≡◌, ◌<◌, ◌≤◌}
 use Rattle.model.specs.declared.object.Role.TheVariants as role
 use Rattle.consistency.proofs.banks.find_above_limit.Given as goal
 

@@ -1,4 +1,5 @@
-use Rattle.consistency.proofs.Names.{◌≡◌, ◌≢◌, ℕ, ◌<◌, Contains, chain, objects_of, frames_of, owner_of, role_at}
+use Rattle.consistency.proofs.Names.{ℕ, Contains, chain, objects_of, frames_of, owner_of, role_at}
+use Rattle.std.proofs.Common.{◌≡◌, ◌≢◌, ◌<◌}
 use Rattle.model.specs.declared.object.Role.TheVariants as role
 use Rattle.consistency.proofs.banks.find_unowned.Given as goal
 

@@ -1,4 +1,5 @@
-use Rattle.consistency.proofs.Names.{◌≡◌, chain, objects_of, frames_of, role_at}
+use Rattle.consistency.proofs.Names.{chain, objects_of, frames_of, role_at}
+use Rattle.std.proofs.Common.{◌≡◌}
 use Rattle.model.specs.declared.object.Role.TheVariants as role
 use Rattle.consistency.proofs.Trees.{reaches}
 use Rattle.consistency.proofs.banks.is_reaching.Goals as goal

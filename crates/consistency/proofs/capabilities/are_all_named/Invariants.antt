@@ -1,4 +1,5 @@
-use Rattle.consistency.proofs.Names.{ℕ, ◌<◌, slice_index_or, Cap, frames_of, IsNamed}
+use Rattle.consistency.proofs.Names.{ℕ, slice_index_or, Cap, frames_of, IsNamed}
+use Rattle.std.proofs.Common.{◌<◌}
 use Rattle.consistency.proofs.capabilities.are_all_named.Given as goal
 
 abbrev pub invariant-loop-capability : goal.invariant-loop-capability

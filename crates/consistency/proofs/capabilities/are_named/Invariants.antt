@@ -1,4 +1,5 @@
-use Rattle.consistency.proofs.Names.{ℕ, ◌<◌, All, frame_at, caps_in, frames_of, IsNamed}
+use Rattle.consistency.proofs.Names.{ℕ, All, frame_at, caps_in, frames_of, IsNamed}
+use Rattle.std.proofs.Common.{◌<◌}
 use Rattle.consistency.proofs.Looking.{HasLooked}
 use Rattle.consistency.proofs.capabilities.are_named.Given as goal
 

@@ -1,4 +1,5 @@
-use Rattle.consistency.proofs.Names.{ap, ◌∙◌, ObjectHeader, frame_at, frames_of}
+use Rattle.consistency.proofs.Names.{ap, ObjectHeader, frame_at, frames_of}
+use Rattle.std.proofs.Common.{◌∙◌}
 use Rattle.consistency.proofs.Named.{role_holds_none}
 use Rattle.consistency.proofs.Tables.{header_read}
 use Rattle.consistency.proofs.capabilities.may_hold.Goals as goal

@@ -1,4 +1,5 @@
-use Rattle.consistency.proofs.Names.{◌≡◌, ℕ, ◌<◌, true, frames_of, role_at, is_taken}
+use Rattle.consistency.proofs.Names.{ℕ, true, frames_of, role_at, is_taken}
+use Rattle.std.proofs.Common.{◌≡◌, ◌<◌}
 use Rattle.model.specs.declared.object.Role.TheVariants as role
 use Rattle.consistency.proofs.processes.are_all_taken.Given as goal
 

@@ -1,4 +1,5 @@
-use Rattle.consistency.proofs.Names.{sym, ap, ◌∙◌, Bool, Option, Some, Cap, Content, Noted, noted_in}
+use Rattle.consistency.proofs.Names.{sym, ap, Bool, Option, Some, Cap, Content, Noted, noted_in}
+use Rattle.std.proofs.Common.{◌∙◌}
 use Rattle.consistency.proofs.Notes.{unnoted}
 use Rattle.consistency.proofs.Tables.{content_read}
 use Rattle.consistency.proofs.processes.note_there.Goals as goal

@@ -1,4 +1,5 @@
-use Rattle.consistency.proofs.Names.{rules, ◌≡◌, ap, arith, length, List, ObjectHeader, frames_of, length_in}
+use Rattle.consistency.proofs.Names.{rules, ap, arith, length, List, ObjectHeader, frames_of, length_in}
+use Rattle.std.proofs.Common.{◌≡◌}
 use Rattle.consistency.proofs.Notes.{noted_whole}
 use Rattle.consistency.proofs.processes.read_notes.Goals as goal
 

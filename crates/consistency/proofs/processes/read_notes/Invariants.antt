@@ -1,4 +1,5 @@
-use Rattle.consistency.proofs.Names.{◌≡◌, ℕ, ◌<◌, ◌≤◌, vec_len, vec_capacity, frame_at, frames_of, note_at, noted_in}
+use Rattle.consistency.proofs.Names.{ℕ, vec_len, vec_capacity, frame_at, frames_of, note_at, noted_in}
+use Rattle.std.proofs.Common.{◌≡◌, ◌<◌, ◌≤◌}
 use Rattle.consistency.proofs.Looking.{HasLooked}
 use Rattle.consistency.proofs.processes.read_notes.Given as goal
 

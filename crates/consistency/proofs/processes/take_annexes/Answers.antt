@@ -1,4 +1,5 @@
-use Rattle.consistency.proofs.Names.{◌≡◌, ◌+◌, ◌<◌, ◌∙◌, List, Bool, arith, length, subst, sym, ℕ, frames_of, length_in, AreTaken}
+use Rattle.consistency.proofs.Names.{List, Bool, arith, length, subst, sym, ℕ, frames_of, length_in, AreTaken}
+use Rattle.std.proofs.Common.{◌≡◌, ◌+◌, ◌<◌, ◌∙◌}
 use Rattle.consistency.proofs.Notes.{none_noted, root_noted}
 use Rattle.consistency.proofs.Tables.{annex_known}
 use Rattle.consistency.proofs.Taking.{taken_more, taken_same}

@@ -1,4 +1,5 @@
-use Rattle.consistency.proofs.Names.{◌≡◌, length, frames_of, AreTaken}
+use Rattle.consistency.proofs.Names.{length, frames_of, AreTaken}
+use Rattle.std.proofs.Common.{◌≡◌}
 use Rattle.consistency.proofs.processes.take_annexes.Given as goal
 
 abbrev pub invariant-loop-root : goal.invariant-loop-root

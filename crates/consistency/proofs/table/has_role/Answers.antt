@@ -1,4 +1,5 @@
-use Rattle.consistency.proofs.Names.{rules, sym, ap, ◌∙◌, ObjectHeader, the_type}
+use Rattle.consistency.proofs.Names.{rules, sym, ap, ObjectHeader, the_type}
+use Rattle.std.proofs.Common.{◌∙◌}
 use denote.Enum.Bare.{same_true, true_same}
 use Rattle.consistency.proofs.Tables.{header_read}
 use Rattle.consistency.proofs.table.has_role.Goals as goal

@@ -1,4 +1,5 @@
-use Rattle.described_world.proofs.Names.{drop, map, ◌↔◌, AreDistinct}
+use Rattle.described_world.proofs.Names.{drop, map, AreDistinct}
+use Rattle.std.specs.Prelude.{◌↔◌}
 use Rattle.described_world.proofs.fields.are_distinct_words.Given as goal
 
 abbrev pub invariant-loop-i : goal.invariant-loop-i

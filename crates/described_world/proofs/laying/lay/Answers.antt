@@ -1,4 +1,5 @@
-use Rattle.described_world.proofs.Names.{◌∙◌, ap, OfBank, OfRoot, OfAnnex, OfNode, OfPage, entries, laid}
+use Rattle.described_world.proofs.Names.{ap, OfBank, OfRoot, OfAnnex, OfNode, OfPage, entries, laid}
+use Rattle.std.proofs.Common.{◌∙◌}
 use Rattle.described_world.proofs.KeptFrames.{all_within, laid_five}
 use Rattle.described_world.proofs.laying.lay.Goals as goal
 

@@ -1,4 +1,5 @@
-use Rattle.described_world.proofs.Names.{drop, ◌↔◌, AreDistinct}
+use Rattle.described_world.proofs.Names.{drop, AreDistinct}
+use Rattle.std.specs.Prelude.{◌↔◌}
 use Rattle.described_world.proofs.numbers.are_distinct.Given as goal
 
 abbrev pub invariant-loop-i : goal.invariant-loop-i

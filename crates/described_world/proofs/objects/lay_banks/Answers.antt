@@ -1,4 +1,5 @@
-use Rattle.described_world.proofs.Names.{◌∙◌, ◌<◌, ◌^◌, rules, sym, slice_index_or, drop_more, OfBank}
+use Rattle.described_world.proofs.Names.{rules, sym, slice_index_or, drop_more, OfBank}
+use Rattle.std.proofs.Common.{◌∙◌, ◌<◌, ◌^◌}
 use Rattle.described_world.proofs.LaidFrames.{all_laid, more_laid, none_laid, put_same, still_within}
 use Rattle.described_world.proofs.objects.lay_banks.Goals as goal
 

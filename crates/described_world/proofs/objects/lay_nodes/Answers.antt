@@ -1,4 +1,5 @@
-use Rattle.described_world.proofs.Names.{◌∙◌, ◌<◌, ap, rules, subst, sym, vec_len, OfNode, slots_of}
+use Rattle.described_world.proofs.Names.{ap, rules, subst, sym, vec_len, OfNode, slots_of}
+use Rattle.std.proofs.Common.{◌∙◌, ◌<◌}
 use Rattle.model.specs.declared.object.Content.TheVariants as content
 use Rattle.described_world.proofs.LaidFrames.{all_laid, more_laid, none_laid, put_same, split_at, still_within}
 use Rattle.described_world.proofs.objects.lay_nodes.Goals as goal

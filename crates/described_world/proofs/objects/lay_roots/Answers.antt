@@ -1,4 +1,5 @@
-use Rattle.described_world.proofs.Names.{◌∙◌, ◌<◌, ◌^◌, rules, subst, sym, vec_len, OfRoot}
+use Rattle.described_world.proofs.Names.{rules, subst, sym, vec_len, OfRoot}
+use Rattle.std.proofs.Common.{◌∙◌, ◌<◌, ◌^◌}
 use Rattle.described_world.proofs.LaidFrames.{all_laid, more_laid, none_laid, put_same, split_at, still_within}
 use Rattle.described_world.proofs.objects.lay_roots.Goals as goal
 

@@ -1,4 +1,5 @@
-use Rattle.described_world.proofs.Names.{◌≡◌, drop, replicate, void_held, set_each, slot_held}
+use Rattle.described_world.proofs.Names.{drop, replicate, void_held, set_each, slot_held}
+use Rattle.std.proofs.Common.{◌≡◌}
 use Rattle.described_world.proofs.objects.slots_of.Given as goal
 
 abbrev pub invariant-loop-entry : goal.invariant-loop-entry

@@ -1,4 +1,5 @@
-use Rattle.described_world.proofs.Names.{◌<◌, ◌^◌, ap, arith, refl, rules, slice_index_or, subst, sym, All, All-replicate, All-set, set_each, words_of}
+use Rattle.described_world.proofs.Names.{ap, arith, refl, rules, slice_index_or, subst, sym, All, All-replicate, All-set, set_each, words_of}
+use Rattle.std.proofs.Common.{◌<◌, ◌^◌}
 use Rattle.described_world.proofs.Lists.{each_done, each_wrote}
 use Rattle.described_world.proofs.objects.words_of.Goals as goal
 

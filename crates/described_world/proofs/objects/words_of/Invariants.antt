@@ -1,4 +1,5 @@
-use Rattle.described_world.proofs.Names.{◌≡◌, ◌<◌, ◌^◌, drop, replicate, All, set_each}
+use Rattle.described_world.proofs.Names.{drop, replicate, All, set_each}
+use Rattle.std.proofs.Common.{◌≡◌, ◌<◌, ◌^◌}
 use Rattle.described_world.proofs.objects.words_of.Given as goal
 
 abbrev pub invariant-loop-entry : goal.invariant-loop-entry

@@ -1,4 +1,5 @@
-use Rattle.described_world.proofs.Names.{◌≡◌, replicate, blank_header}
+use Rattle.described_world.proofs.Names.{replicate, blank_header}
+use Rattle.std.proofs.Common.{◌≡◌}
 use Rattle.described_world.proofs.world.free_headers.Given as goal
 
 abbrev pub invariant-loop : goal.invariant-loop

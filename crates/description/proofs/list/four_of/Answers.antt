@@ -1,4 +1,5 @@
-use Rattle.description.proofs.Names.{◌≢◌, ◌∙◌, length, arith, common_steps, view, AreFour, IsList, IsWideNumber}
+use Rattle.description.proofs.Names.{length, arith, common_steps, view, AreFour, IsList, IsWideNumber}
+use Rattle.std.proofs.Common.{◌≢◌, ◌∙◌}
 use Rattle.description.proofs.Elements.{same_length}
 use Rattle.description.proofs.Parts.{failed}
 use Rattle.description.proofs.list.four_of.Goals as goal

@@ -1,4 +1,5 @@
-use Rattle.description.proofs.Names.{◌≡◌, ◌<◌, true, length, get_or, arith, is_ok, common_steps, view, IsList}
+use Rattle.description.proofs.Names.{true, length, get_or, arith, is_ok, common_steps, view, IsList}
+use Rattle.std.proofs.Common.{◌≡◌, ◌<◌}
 use Rattle.description.proofs.Elements.{each_read, one_more}
 use Rattle.description.proofs.Parts.{failed_list}
 use Rattle.description.proofs.list.list_of.Goals as goal

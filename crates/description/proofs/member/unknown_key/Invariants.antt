@@ -1,4 +1,5 @@
-use Rattle.description.proofs.Names.{◌≡◌, ℕ, List, map, IsTrue, members_view, has_key, has_only}
+use Rattle.description.proofs.Names.{ℕ, List, map, IsTrue, members_view, has_key, has_only}
+use Rattle.std.proofs.Common.{◌≡◌}
 use Rattle.description.proofs.member.unknown_key.Given as goal
 
 -- the keys left are known where all are, and each is a key of the table

@@ -1,4 +1,5 @@
-use Rattle.description.proofs.Names.{Some, ap, ◌∙◌, view}
+use Rattle.description.proofs.Names.{Some, ap, view}
+use Rattle.std.proofs.Common.{◌∙◌}
 use Rattle.description.proofs.Types.{capability_reported, no_capability}
 use Rattle.description.proofs.value.capability_at.Goals as goal
 

@@ -1,4 +1,5 @@
-use Rattle.description.proofs.Names.{◌≡◌, ◌<◌, ◌^◌, true, false, arith, to_z-of_z, is_negative, unsigned_abs, view}
+use Rattle.description.proofs.Names.{true, false, arith, to_z-of_z, is_negative, unsigned_abs, view}
+use Rattle.std.proofs.Common.{◌≡◌, ◌<◌, ◌^◌}
 use Rattle.description.proofs.Types.{natural, negative, not_integer}
 use Rattle.description.proofs.value.number_of.Goals as goal
 

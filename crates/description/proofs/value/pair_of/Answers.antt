@@ -1,4 +1,5 @@
-use Rattle.description.proofs.Names.{◌≢◌, length, refl, arith, common_steps, view}
+use Rattle.description.proofs.Names.{length, refl, arith, common_steps, view}
+use Rattle.std.proofs.Common.{◌≢◌}
 use Rattle.description.proofs.Elements.{pair_length}
 use Rattle.description.proofs.value.pair_of.Goals as goal
 

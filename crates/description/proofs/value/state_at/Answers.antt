@@ -1,4 +1,5 @@
-use Rattle.description.proofs.Names.{Some, ap, ◌∙◌, view}
+use Rattle.description.proofs.Names.{Some, ap, view}
+use Rattle.std.proofs.Common.{◌∙◌}
 use Rattle.description.proofs.Types.{state_reported, no_state}
 use Rattle.description.proofs.value.state_at.Goals as goal
 

@@ -1,4 +1,5 @@
-use Rattle.description.proofs.Names.{◌∙◌, sym, view}
+use Rattle.description.proofs.Names.{sym, view}
+use Rattle.std.proofs.Common.{◌∙◌}
 use Rattle.description.proofs.Types.{wide_read}
 use Rattle.description.proofs.value.wide_number_of.Goals as goal
 

@@ -1,4 +1,5 @@
-use Rattle.description_explainer.proofs.Names.{◌≡◌, arith, vec_len, frames_in, object_count, keepable_later}
+use Rattle.description_explainer.proofs.Names.{arith, vec_len, frames_in, object_count, keepable_later}
+use Rattle.std.proofs.Common.{◌≡◌}
 use Rattle.description_explainer.proofs.explaining.lay_whole.Goals as goal
 
 pub returns-in-Ok : goal.returns-in-Ok

@@ -1,5 +1,5 @@
-use Rattle.description_explainer.proofs.Names.{◌∙◌, ◌++◌, ℕ, ap, codes, decimal, string_bytes, Global, String, IfOk-weaker, fault_number, BuildFault}
-use Rattle.description_explainer.proofs.Names.{IsExplanation}
+use Rattle.description_explainer.proofs.Names.{ℕ, ap, codes, decimal, string_bytes, Global, String, IfOk-weaker, fault_number, BuildFault, IsExplanation}
+use Rattle.std.proofs.Common.{◌∙◌, ◌++◌}
 use Rattle.description_explainer.proofs.text.explanation.Goals as goal
 
 pub returns : goal.returns

@@ -1,4 +1,5 @@
-use Rattle.description_faults.proofs.Names.{◌<◌, ◌≤◌, All-more}
+use Rattle.description_faults.proofs.Names.{All-more}
+use Rattle.std.proofs.Common.{◌<◌, ◌≤◌}
 use Rattle.description_faults.proofs.Elements.{all_taken}
 use Rattle.description_faults.proofs.indexes.find_outside.Goals as goal
 

@@ -1,5 +1,6 @@
-use Rattle.description_faults.proofs.Names.{◌≡◌, ◌<◌, ◌≤◌, ◌^◌, ◌++◌, [], ◌∷◌, length, get_or, sym, subst, arith, common_steps, length-append, take_all}
-use Rattle.description_faults.proofs.Names.{items_view, view, AreItems, IsList, one_more}
+use Rattle.description_faults.proofs.Names.{[], length, get_or, sym, subst, arith, common_steps, length-append, take_all, items_view, view, AreItems, IsList}
+use Rattle.description_faults.proofs.Names.{one_more}
+use Rattle.std.proofs.Common.{◌≡◌, ◌<◌, ◌≤◌, ◌^◌, ◌++◌, ◌∷◌}
 use Rattle.description_faults.proofs.Decisions.{item_viewed, vec_of}
 use Rattle.description_faults.proofs.shape.first_bad.Goals as goal
 

@@ -1,4 +1,5 @@
-use Rattle.description_faults.proofs.Names.{◌≡◌, List, length, take, items_view, AreItems}
+use Rattle.description_faults.proofs.Names.{List, length, take, items_view, AreItems}
+use Rattle.std.proofs.Common.{◌≡◌}
 use Rattle.description_faults.proofs.shape.first_bad.Given as goal
 
 -- the values so far are read

@@ -1,4 +1,5 @@
-use Rattle.description_faults.proofs.Names.{[], ◌∷◌, Some, codes, Void, table_view, AreFour, At, AtOr, IsCapability, IsState, IsWideNumber}
+use Rattle.description_faults.proofs.Names.{[], Some, codes, Void, table_view, AreFour, At, AtOr, IsCapability, IsState, IsWideNumber}
+use Rattle.std.proofs.Common.{◌∷◌}
 use Rattle.description_faults.proofs.Decisions.{reads_decided}
 use Rattle.description_faults.proofs.shape.fits.Goals as goal
 

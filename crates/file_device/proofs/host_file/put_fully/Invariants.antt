@@ -1,4 +1,5 @@
-use Rattle.file_device.proofs.Names.{◌≤◌, length, take, Takes}
+use Rattle.file_device.proofs.Names.{length, take, Takes}
+use Rattle.std.proofs.Common.{◌≤◌}
 use Rattle.file_device.proofs.host_file.put_fully.Given as goal
 
 abbrev pub invariant-loop : goal.invariant-loop

@@ -1,4 +1,5 @@
-use Rattle.file_device.proofs.Names.{◌≡◌, ℕ, ◌+◌, ◌-◌, ◌*◌, ◌++◌, take, ap, ◌∙◌, arith}
+use Rattle.file_device.proofs.Names.{ℕ, take, ap, arith}
+use Rattle.std.proofs.Common.{◌≡◌, ◌+◌, ◌-◌, ◌*◌, ◌++◌, ◌∙◌}
 use Rattle.file_device.proofs.Openings.{part_more}
 use Rattle.file_device.proofs.open.append.Goals as goal
 

@@ -1,4 +1,5 @@
-use Rattle.file_device.proofs.Names.{◌≡◌, ◌*◌, ◌++◌, take}
+use Rattle.file_device.proofs.Names.{take}
+use Rattle.std.proofs.Common.{◌≡◌, ◌*◌, ◌++◌}
 use Rattle.file_device.proofs.open.append.Given as goal
 
 abbrev pub invariant-loop-i : goal.invariant-loop-i

@@ -1,4 +1,5 @@
-use Rattle.file_device.proofs.Names.{◌≡◌, ◌≤◌, length, Gets, KeepsLength}
+use Rattle.file_device.proofs.Names.{length, Gets, KeepsLength}
+use Rattle.std.proofs.Common.{◌≡◌, ◌≤◌}
 use Rattle.file_device.proofs.open.get_fully.Given as goal
 
 abbrev pub invariant-loop : goal.invariant-loop

@@ -1,6 +1,7 @@
-use Rattle.gate.proofs.Names.{◌≡◌, ◌+◌, true, List, ap, arith, drop, refl, subst, sym, ◌∙◌, ℕ, All-drop, Geometry, Object, is_annex, annex_at, content_at}
-use Rattle.gate.proofs.Names.{is_process, tests_at, changed, AreSound, frames_of, objects_in, annex_used, root_used, keepable_roles, AreCounted, writer_count}
-use Rattle.gate.proofs.Names.{renews_after, renews_then, answered, state_before, FitsCap}
+use Rattle.gate.proofs.Names.{true, List, ap, arith, drop, refl, subst, sym, ℕ, All-drop, Geometry, Object, is_annex, annex_at, content_at, is_process}
+use Rattle.gate.proofs.Names.{tests_at, changed, AreSound, frames_of, objects_in, annex_used, root_used, keepable_roles, AreCounted, writer_count, renews_after}
+use Rattle.gate.proofs.Names.{renews_then, answered, state_before, FitsCap}
+use Rattle.std.proofs.Common.{◌≡◌, ◌+◌, ◌∙◌}
 use Rattle.gate.proofs.BankStates.{annex_listed, answered_frame, before_counted, before_frame, before_may, before_sound, counted_on, no_send, process_listed}
 use Rattle.gate.proofs.BankStates.{writers_within}
 use Rattle.gate.proofs.Effects.{frame_before}

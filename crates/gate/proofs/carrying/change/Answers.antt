@@ -1,5 +1,6 @@
-use Rattle.gate.proofs.Names.{List, ap, drop, subst, sym, ◌∙◌, ℕ, All, Object, is_free, content_at, tests_at, Change, target_of, objects_in, AreCounted}
+use Rattle.gate.proofs.Names.{List, ap, drop, subst, sym, ℕ, All, Object, is_free, content_at, tests_at, Change, target_of, objects_in, AreCounted}
 use Rattle.gate.proofs.Names.{snapshots_alone, MayChange, MayEdit, fetched_of}
+use Rattle.std.proofs.Common.{◌∙◌}
 use Rattle.gate.proofs.BankStates.{counted_on}
 use Rattle.gate.proofs.Plans.{change_edit, edit_fetched, target_all}
 use Rattle.gate.proofs.Roles.{changed_any, changed_frame}

@@ -1,4 +1,5 @@
-use Rattle.gate.proofs.Names.{◌+◌, arith, subst, sym, frames_of, objects_in, keepable_later, IsWithinObject, MayHold}
+use Rattle.gate.proofs.Names.{arith, subst, sym, frames_of, objects_in, keepable_later, IsWithinObject, MayHold}
+use Rattle.std.proofs.Common.{◌+◌}
 use Rattle.gate.proofs.Fits.{fits_kept, in_geometry, node_is_no_annex}
 use Rattle.gate.proofs.change.make.Goals as goal
 

@@ -1,5 +1,5 @@
-use Rattle.gate.proofs.Names.{get_or, subst, sym, ap, ◌∙◌, ℕ, List, Object, Geometry, FitsCap, with_slots_from, frames_of, keeps_twice, objects_in}
-use Rattle.gate.proofs.Names.{with_message}
+use Rattle.gate.proofs.Names.{get_or, subst, sym, ap, ℕ, List, Object, Geometry, FitsCap, with_slots_from, frames_of, keeps_twice, objects_in, with_message}
+use Rattle.std.proofs.Common.{◌∙◌}
 use Rattle.gate.proofs.Fits.{fits_kept, in_geometry}
 use Rattle.gate.proofs.Messages.{deliver_by_parts}
 use Rattle.gate.proofs.delivery.deliver.Goals as goal

@@ -1,5 +1,6 @@
-use Rattle.gate.proofs.Names.{◌≡◌, true, ◌||◌, List, None, sym, ap, subst, ◌∙◌, All, slice_index, err_from_is_err_and, Capability, Geometry, Object, can_start}
-use Rattle.gate.proofs.Names.{IsNoBankOrder, is_process, objects_in, entered, received, written_through, FitsCap, process_known}
+use Rattle.gate.proofs.Names.{true, List, None, sym, ap, subst, All, slice_index, err_from_is_err_and, Capability, Geometry, Object, can_start, IsNoBankOrder}
+use Rattle.gate.proofs.Names.{is_process, objects_in, entered, received, written_through, FitsCap, process_known}
+use Rattle.std.proofs.Common.{◌≡◌, ◌||◌, ◌∙◌}
 use Rattle.gate.proofs.Entering.{effect_through, gate_code, gate_invoked, gate_process, gate_stalled, received_fits}
 use Rattle.gate.proofs.Known.{running_process}
 use Rattle.gate.proofs.Invoking.{carried_out, found_stalled, unannounced}

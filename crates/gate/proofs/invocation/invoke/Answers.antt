@@ -1,4 +1,5 @@
-use Rattle.gate.proofs.Names.{◌≡◌, true, List, sym, subst, ◌∙◌, slice_index, Capability, Object, IsNoBankOrder, is_running_process}
+use Rattle.gate.proofs.Names.{true, List, sym, subst, slice_index, Capability, Object, IsNoBankOrder, is_running_process}
+use Rattle.std.proofs.Common.{◌≡◌, ◌∙◌}
 use Rattle.gate.proofs.BankStates.{counted_after}
 use Rattle.gate.proofs.Invoking.{invoked_looked}
 use Rattle.gate.proofs.Renewing.{gate_no_bank}

@@ -1,4 +1,5 @@
-use Rattle.gate.proofs.Names.{◌<◌, subst, sym, All, Contains, Change, fetched_of}
+use Rattle.gate.proofs.Names.{subst, sym, All, Contains, Change, fetched_of}
+use Rattle.std.proofs.Common.{◌<◌}
 use Rattle.gate.proofs.kernel_object.fetched_by.Goals as goal
 
 pub returns-in-Bank-clause-new : goal.returns-in-Bank-clause-new

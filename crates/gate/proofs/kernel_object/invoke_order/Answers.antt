@@ -1,5 +1,6 @@
-use Rattle.gate.proofs.Names.{ℕ, ◌<◌, List, Some, drop, length, sym, ap, subst, ◌∙◌, IsTrue, All, err_from_is_err_and, Geometry, Object, on_kernel_object}
+use Rattle.gate.proofs.Names.{ℕ, List, Some, drop, length, sym, ap, subst, IsTrue, All, err_from_is_err_and, Geometry, Object, on_kernel_object}
 use Rattle.gate.proofs.Names.{is_running_process, IsNow, objects_in, process_known, writer_count, IsPlanned, finished, ordered_by, FitsCap}
+use Rattle.std.proofs.Common.{◌<◌, ◌∙◌}
 use Rattle.gate.proofs.BankStates.{annex_requested, counted_listed, counted_looked, planned_same}
 use Rattle.gate.proofs.Effects.{fetched_known, listed_known, object_invoked, order_after, order_code, order_fits, order_objects, order_written}
 use Rattle.gate.proofs.Known.{running_process}

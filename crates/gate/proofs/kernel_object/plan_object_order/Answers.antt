@@ -1,4 +1,5 @@
-use Rattle.gate.proofs.Names.{◌≡◌, true, List, ap, subst, sym, Object, is_process, objects_in, BanksState}
+use Rattle.gate.proofs.Names.{true, List, ap, subst, sym, Object, is_process, objects_in, BanksState}
+use Rattle.std.proofs.Common.{◌≡◌}
 use Rattle.gate.proofs.Plans.{object_planned, process_there}
 use Rattle.gate.proofs.Standing.{ReadsAs, few_objects, keepable_most, looked_as, looked_objects, now_sound, register_kind}
 use Rattle.gate.proofs.kernel_object.plan_object_order.Goals as goal

@@ -1,4 +1,5 @@
-use Rattle.gate.proofs.Names.{[], ◌∷◌, List, ℕ, arith, refl, subst, sym, All, Contains, BankChange, numbers_of}
+use Rattle.gate.proofs.Names.{[], List, ℕ, arith, refl, subst, sym, All, Contains, BankChange, numbers_of}
+use Rattle.std.proofs.Common.{◌∷◌}
 use Rattle.gate.proofs.Known.{both_known}
 use Rattle.gate.proofs.Listed.{contained}
 use Rattle.gate.proofs.kernel_object.with_new.Goals as goal

@@ -1,4 +1,5 @@
-use Rattle.gate.proofs.Names.{ℕ, ◌<◌, length, sym, subst, ◌∙◌, process_known}
+use Rattle.gate.proofs.Names.{ℕ, length, sym, subst, process_known}
+use Rattle.std.proofs.Common.{◌<◌, ◌∙◌}
 use Rattle.gate.proofs.Known.{annex_known, both_known}
 use Rattle.gate.proofs.looking.look_at_process.Goals as goal
 

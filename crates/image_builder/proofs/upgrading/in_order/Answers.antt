@@ -1,4 +1,5 @@
-use Rattle.image_builder.proofs.Names.{subst, sym, List, ◌≡◌, ◌++◌, ◌+◌, drop, Entry, numbered}
+use Rattle.image_builder.proofs.Names.{subst, sym, List, drop, Entry, numbered}
+use Rattle.std.proofs.Common.{◌≡◌, ◌++◌, ◌+◌}
 use Rattle.image_builder.proofs.Numbered.{all_numbered, numbered_more}
 use Rattle.image_builder.proofs.upgrading.in_order.Goals as goal
 

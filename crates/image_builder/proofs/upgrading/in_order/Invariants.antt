@@ -1,4 +1,5 @@
-use Rattle.image_builder.proofs.Names.{◌≡◌, ◌++◌, drop, numbered}
+use Rattle.image_builder.proofs.Names.{drop, numbered}
+use Rattle.std.proofs.Common.{◌≡◌, ◌++◌}
 use Rattle.image_builder.proofs.upgrading.in_order.Given as goal
 
 abbrev pub invariant-loop-slot : goal.invariant-loop-slot

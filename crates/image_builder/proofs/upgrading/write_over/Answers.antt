@@ -1,5 +1,6 @@
-use Rattle.image_builder.proofs.Names.{rules, ◌≡◌, List, length, ap, subst, sym, ◌∙◌, Geometry, frames_in, LeavesOnly, Entry, Two, IsDirectory, Encodes}
-use Rattle.image_builder.proofs.Names.{SavedState, Plan, SavedFrames, kept_of, laid_again, IsLeftWriting, saved_state, seen_of, numbered}
+use Rattle.image_builder.proofs.Names.{rules, List, length, ap, subst, sym, Geometry, frames_in, LeavesOnly, Entry, Two, IsDirectory, Encodes, SavedState, Plan}
+use Rattle.image_builder.proofs.Names.{SavedFrames, kept_of, laid_again, IsLeftWriting, saved_state, seen_of, numbered}
+use Rattle.std.proofs.Common.{◌≡◌, ◌∙◌}
 use Rattle.image_builder.proofs.Upgrades.{directory_count, directory_fits, same_state}
 use Rattle.image_builder.proofs.upgrading.write_over.Goals as goal
 

@@ -1,5 +1,6 @@
-use Rattle.image_builder.proofs.Names.{◌≡◌, ◌<◌, IfOk, subst, IsErrOf, OnOk, Elsewhere, Image, LeavesOnly, Two, Encodes, kept_of, laid_again, IsLeftWriting}
-use Rattle.image_builder.proofs.Names.{DurableState, saved_state, seen_of, upgraded}
+use Rattle.image_builder.proofs.Names.{IfOk, subst, IsErrOf, OnOk, Elsewhere, Image, LeavesOnly, Two, Encodes, kept_of, laid_again, IsLeftWriting, DurableState}
+use Rattle.image_builder.proofs.Names.{saved_state, seen_of, upgraded}
+use Rattle.std.proofs.Common.{◌≡◌, ◌<◌}
 use Rattle.image_builder.specs.declared.upgrade_fault.UpgradeFault.TheVariants as fault
 use Rattle.image_builder.proofs.upgrading.write_store.Goals as goal
 

@@ -1,4 +1,5 @@
-use Rattle.image_builder.proofs.Names.{◌≡◌, arith, subst, vec_len, object_count, frames_in, keepable_later, WorldFault, IsWorldFault}
+use Rattle.image_builder.proofs.Names.{arith, subst, vec_len, object_count, frames_in, keepable_later, WorldFault, IsWorldFault}
+use Rattle.std.proofs.Common.{◌≡◌}
 use Rattle.image_builder.proofs.Refusals.{field_refused, number_refused, target_refused}
 use Rattle.image_builder.proofs.worlds.lay.Goals as goal
 

@@ -1,4 +1,5 @@
-use Rattle.image_describer.proofs.Names.{◌∙◌, world_at, frames_of}
+use Rattle.image_describer.proofs.Names.{world_at, frames_of}
+use Rattle.std.proofs.Common.{◌∙◌}
 use Rattle.image_describer.proofs.Assembled.{brief, described}
 use Rattle.image_describer.proofs.Looking.{only_reads_err, only_reads_ok}
 use Rattle.image_describer.proofs.describing.describe.Goals as goal

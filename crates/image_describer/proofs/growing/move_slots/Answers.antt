@@ -1,4 +1,5 @@
-use Rattle.image_describer.proofs.Names.{◌≡◌, None, Option, ap, arith, slice_index_or, Capability, SlotEntry, moved, moved_slot}
+use Rattle.image_describer.proofs.Names.{None, Option, ap, arith, slice_index_or, Capability, SlotEntry, moved, moved_slot}
+use Rattle.std.proofs.Common.{◌≡◌}
 use Rattle.image_describer.proofs.Pairs.{zip_mapped, zip_set, zip_whole}
 use Rattle.image_describer.proofs.growing.move_slots.Goals as goal
 

@@ -1,4 +1,5 @@
-use Rattle.image_describer.proofs.Names.{◌≡◌, List, ap, subst, sym, ◌∙◌, NumberRange, MayBeLaid, grown_ranges}
+use Rattle.image_describer.proofs.Names.{List, ap, subst, sym, NumberRange, MayBeLaid, grown_ranges}
+use Rattle.std.proofs.Common.{◌≡◌, ◌∙◌}
 use Rattle.image_describer.proofs.GrownRanges.{ranges_suit}
 use Rattle.image_describer.proofs.growing.suited_ranges.Goals as goal
 

@@ -1,4 +1,5 @@
-use Rattle.image_describer.proofs.Names.{rules, sym, ◌∙◌, the_type, role_read}
+use Rattle.image_describer.proofs.Names.{rules, sym, the_type, role_read}
+use Rattle.std.proofs.Common.{◌∙◌}
 use denote.Enum.Bare.{same_true, true_same}
 use Rattle.image_describer.proofs.objects.has_role.Goals as goal
 

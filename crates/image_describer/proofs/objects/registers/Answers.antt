@@ -1,4 +1,5 @@
-use Rattle.image_describer.proofs.Names.{ℕ, ◌<◌, [], length, annex_used, known_used, content_at, objects_in, Contains-push}
+use Rattle.image_describer.proofs.Names.{ℕ, [], length, annex_used, known_used, content_at, objects_in, Contains-push}
+use Rattle.std.proofs.Common.{◌<◌}
 use Rattle.image_describer.proofs.Looking.{keepable_most, known_one}
 use Rattle.image_describer.proofs.objects.registers.Goals as goal
 

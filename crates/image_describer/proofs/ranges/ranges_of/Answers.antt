@@ -1,4 +1,5 @@
-use Rattle.image_describer.proofs.Names.{List, ap, map, ◌∙◌, HomeRange, numbers_of}
+use Rattle.image_describer.proofs.Names.{List, ap, map, HomeRange, numbers_of}
+use Rattle.std.proofs.Common.{◌∙◌}
 use Rattle.image_describer.proofs.Covers.{may_be_laid}
 use Rattle.image_describer.proofs.ranges.ranges_of.Goals as goal
 

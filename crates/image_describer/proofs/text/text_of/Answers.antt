@@ -1,4 +1,5 @@
-use Rattle.image_describer.proofs.Names.{◌≡◌, rules, string_bytes, description_text}
+use Rattle.image_describer.proofs.Names.{rules, string_bytes, description_text}
+use Rattle.std.proofs.Common.{◌≡◌}
 use Rattle.image_describer.proofs.ReadBack.{read_again}
 use Rattle.image_describer.proofs.text.text_of.Goals as goal
 

@@ -1,4 +1,5 @@
-use Rattle.image_describer.proofs.Names.{◌≡◌, ◌++◌, codes, take, string_bytes, flat_map}
+use Rattle.image_describer.proofs.Names.{codes, take, string_bytes, flat_map}
+use Rattle.std.proofs.Common.{◌≡◌, ◌++◌}
 use Rattle.image_describer.proofs.values.put_others.Given as goal
 
 -- those so far are written

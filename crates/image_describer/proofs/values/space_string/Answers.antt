@@ -1,5 +1,5 @@
-use Rattle.image_describer.proofs.Names.{◌≡◌, ◌∙◌, String, string_bytes, IfOk-weaker, capability_text, Space}
-use Rattle.std.proofs.Common.{Global}
+use Rattle.image_describer.proofs.Names.{String, string_bytes, IfOk-weaker, capability_text, Space}
+use Rattle.std.proofs.Common.{◌≡◌, ◌∙◌, Global}
 use Rattle.image_describer.proofs.Spaces.{space_text}
 use Rattle.image_describer.proofs.values.space_string.Goals as goal
 

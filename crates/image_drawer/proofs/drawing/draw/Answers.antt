@@ -1,5 +1,5 @@
-use Rattle.image_drawer.proofs.Names.{◌++◌, codes, refl, Appends-trans, err_from_is_err_and, line_of, arrow_lines, box_lines, graph_text, head_lines}
-use Rattle.image_drawer.proofs.Names.{owner_lines}
+use Rattle.image_drawer.proofs.Names.{codes, refl, Appends-trans, err_from_is_err_and, line_of, arrow_lines, box_lines, graph_text, head_lines, owner_lines}
+use Rattle.std.proofs.Common.{◌++◌}
 use Rattle.image_drawer.proofs.Texts.{fails_after, fails_before, first_fails, fourth_written, second_fails, third_fails}
 use Rattle.image_drawer.proofs.drawing.draw.Goals as goal
 

@@ -1,4 +1,5 @@
-use Rattle.image_drawer.proofs.Names.{ℕ, List, ◌<◌, subst, sym, ◌∙◌, All, object_count}
+use Rattle.image_drawer.proofs.Names.{ℕ, List, subst, sym, All, object_count}
+use Rattle.std.proofs.Common.{◌<◌, ◌∙◌}
 use Rattle.image_drawer.proofs.Listed.{holders_below}
 use Rattle.image_drawer.proofs.holding.holders.Goals as goal
 

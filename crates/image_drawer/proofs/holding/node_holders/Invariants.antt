@@ -1,4 +1,5 @@
-use Rattle.image_drawer.proofs.Names.{◌≡◌, map, take, filter, holds_in}
+use Rattle.image_drawer.proofs.Names.{map, take, filter, holds_in}
+use Rattle.std.proofs.Common.{◌≡◌}
 use Rattle.image_drawer.proofs.holding.node_holders.Given as goal
 
 abbrev pub invariant-loop-node : goal.invariant-loop-node

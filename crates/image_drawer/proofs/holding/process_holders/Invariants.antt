@@ -1,4 +1,6 @@
-use Rattle.image_drawer.proofs.Names.{◌≡◌, map, take, ◌||◌, filter, holds_in, names}
+use Rattle.image_drawer.proofs.Names.{map, take, filter, holds_in, names}
+use Rattle.std.proofs.Common.{◌≡◌}
+use Rattle.std.specs.Prelude.{◌||◌}
 use Rattle.image_drawer.proofs.holding.process_holders.Given as goal
 
 abbrev pub invariant-loop-process : goal.invariant-loop-process

@@ -1,4 +1,5 @@
-use Rattle.image_drawer.proofs.Names.{◌≡◌, ℕ, length, take, is_marked, is_listed}
+use Rattle.image_drawer.proofs.Names.{ℕ, length, take, is_marked, is_listed}
+use Rattle.std.proofs.Common.{◌≡◌}
 use Rattle.image_drawer.proofs.holding.set_of.Given as goal
 
 abbrev pub invariant-loop-number : goal.invariant-loop-number

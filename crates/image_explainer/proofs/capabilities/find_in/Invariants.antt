@@ -1,4 +1,5 @@
-use Rattle.image_explainer.proofs.Names.{ℕ, ◌<◌, slice_index_or, Cap, frames_of, IsNamed}
+use Rattle.image_explainer.proofs.Names.{ℕ, slice_index_or, Cap, frames_of, IsNamed}
+use Rattle.std.proofs.Common.{◌<◌}
 use Rattle.image_explainer.proofs.capabilities.find_in.Given as goal
 
 abbrev pub invariant-loop-index : goal.invariant-loop-index

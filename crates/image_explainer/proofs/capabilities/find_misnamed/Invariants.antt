@@ -1,4 +1,5 @@
-use Rattle.image_explainer.proofs.Names.{ℕ, ◌<◌, All, frame_at, caps_in, frames_of, IsNamed, HasLooked}
+use Rattle.image_explainer.proofs.Names.{ℕ, All, frame_at, caps_in, frames_of, IsNamed, HasLooked}
+use Rattle.std.proofs.Common.{◌<◌}
 use Rattle.image_explainer.proofs.capabilities.find_misnamed.Given as goal
 
 abbrev pub invariant-loop-number : goal.invariant-loop-number

@@ -1,4 +1,5 @@
-use Rattle.image_explainer.proofs.Names.{◌∷◌, [], ap, refl, Cap, Content, caps_in, frames_of, holds_none, content_read}
+use Rattle.image_explainer.proofs.Names.{[], ap, refl, Cap, Content, caps_in, frames_of, holds_none, content_read}
+use Rattle.std.proofs.Common.{◌∷◌}
 use Rattle.image_explainer.proofs.Naming.{held_there, none_there, nothing_there}
 use Rattle.image_explainer.proofs.capabilities.find_there.Goals as goal
 

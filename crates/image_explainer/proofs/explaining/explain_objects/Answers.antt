@@ -1,4 +1,5 @@
-use Rattle.image_explainer.proofs.Names.{ap, refl, ◌∙◌, DurableState}
+use Rattle.image_explainer.proofs.Names.{ap, refl, DurableState}
+use Rattle.std.proofs.Common.{◌∙◌}
 use Rattle.image_explainer.proofs.Reasons.{explains_found}
 use Rattle.image_explainer.proofs.explaining.explain_objects.Goals as goal
 

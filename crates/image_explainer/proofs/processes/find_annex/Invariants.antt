@@ -1,4 +1,5 @@
-use Rattle.image_explainer.proofs.Names.{ℕ, ◌<◌, frames_of, HasRoot}
+use Rattle.image_explainer.proofs.Names.{ℕ, frames_of, HasRoot}
+use Rattle.std.proofs.Common.{◌<◌}
 use Rattle.image_explainer.proofs.processes.find_annex.Given as goal
 
 abbrev pub invariant-loop-annex : goal.invariant-loop-annex

@@ -1,4 +1,5 @@
-use Rattle.image_explainer.proofs.Names.{ℕ, ◌<◌, frames_of, IsMatched}
+use Rattle.image_explainer.proofs.Names.{ℕ, frames_of, IsMatched}
+use Rattle.std.proofs.Common.{◌<◌}
 use Rattle.image_explainer.proofs.processes.find_root.Given as goal
 
 abbrev pub invariant-loop-root : goal.invariant-loop-root

@@ -1,4 +1,5 @@
-use Rattle.image_explainer.proofs.Names.{◌≡◌, ℕ, ◌<◌, ◌≤◌, Some, annex_noted}
+use Rattle.image_explainer.proofs.Names.{ℕ, Some, annex_noted}
+use Rattle.std.proofs.Common.{◌≡◌, ◌<◌, ◌≤◌}
 use Rattle.image_explainer.proofs.processes.root_of.Given as goal
 
 abbrev pub invariant-loop-root : goal.invariant-loop-root

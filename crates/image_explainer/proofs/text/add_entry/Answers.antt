@@ -1,4 +1,5 @@
-use Rattle.image_explainer.proofs.Names.{◌++◌, ap, sym, ◌∙◌, DirectoryPart, directory_part_text}
+use Rattle.image_explainer.proofs.Names.{ap, sym, DirectoryPart, directory_part_text}
+use Rattle.std.proofs.Common.{◌++◌, ◌∙◌}
 use Rattle.image_explainer.proofs.Joined.{joined_6}
 use Rattle.image_explainer.proofs.text.add_entry.Goals as goal
 

@@ -1,4 +1,5 @@
-use Rattle.image_explainer.proofs.Names.{◌++◌, ap, sym, ◌∙◌, HeaderPart, header_part_text}
+use Rattle.image_explainer.proofs.Names.{ap, sym, HeaderPart, header_part_text}
+use Rattle.std.proofs.Common.{◌++◌, ◌∙◌}
 use Rattle.image_explainer.proofs.Joined.{joined_3, joined_4}
 use Rattle.image_explainer.proofs.text.add_header_part.Goals as goal
 

@@ -1,4 +1,5 @@
-use Rattle.image_explainer.proofs.Names.{◌++◌, ap, sym, ◌∙◌, NotCounted, not_counted_text}
+use Rattle.image_explainer.proofs.Names.{ap, sym, NotCounted, not_counted_text}
+use Rattle.std.proofs.Common.{◌++◌, ◌∙◌}
 use Rattle.image_explainer.proofs.Joined.{joined_3}
 use Rattle.image_explainer.proofs.text.add_not_counted.Goals as goal
 

@@ -1,4 +1,5 @@
-use Rattle.image_writer.proofs.Names.{◌+◌, ◌∙◌, sym, ap, arith, frames_in, frame_bytes}
+use Rattle.image_writer.proofs.Names.{sym, ap, arith, frames_in, frame_bytes}
+use Rattle.std.proofs.Common.{◌+◌, ◌∙◌}
 use Rattle.image_writer.proofs.HomeFrames.{frame_there}
 use Rattle.image_writer.proofs.Ranks.{all_in, blank_in, one_more, shares_node}
 use Rattle.image_writer.proofs.clusters.fill_cluster.Goals as goal

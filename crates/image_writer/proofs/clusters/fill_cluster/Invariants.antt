@@ -1,4 +1,5 @@
-use Rattle.image_writer.proofs.Names.{◌≡◌, length, frames_in}
+use Rattle.image_writer.proofs.Names.{length, frames_in}
+use Rattle.std.proofs.Common.{◌≡◌}
 use Rattle.image_writer.proofs.Ranks.{AreIn}
 use Rattle.image_writer.proofs.clusters.fill_cluster.Given as goal
 

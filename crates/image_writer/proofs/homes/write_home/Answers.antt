@@ -1,4 +1,5 @@
-use Rattle.image_writer.proofs.Names.{◌≡◌, ℕ, ◌∙◌, ap, sym, subst, Packed, IsOwn}
+use Rattle.image_writer.proofs.Names.{ℕ, ap, sym, subst, Packed, IsOwn}
+use Rattle.std.proofs.Common.{◌≡◌, ◌∙◌}
 use Rattle.image_writer.proofs.HomeFrames.{own_written}
 use Rattle.image_writer.proofs.homes.write_home.Goals as goal
 

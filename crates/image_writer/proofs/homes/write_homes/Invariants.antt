@@ -1,4 +1,5 @@
-use Rattle.image_writer.proofs.Names.{◌≡◌, ◌-◌, Elsewhere, frames_in, LeavesOnly, AreClosed, LeavesClosed}
+use Rattle.image_writer.proofs.Names.{Elsewhere, frames_in, LeavesOnly, AreClosed, LeavesClosed}
+use Rattle.std.proofs.Common.{◌≡◌, ◌-◌}
 use Rattle.image_writer.proofs.HomeFrames.{AreHomeTo}
 use Rattle.image_writer.proofs.homes.write_homes.Given as goal
 

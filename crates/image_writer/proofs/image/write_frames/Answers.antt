@@ -1,4 +1,5 @@
-use Rattle.image_writer.proofs.Names.{◌-◌, frames_in, object_count, AreHome}
+use Rattle.image_writer.proofs.Names.{frames_in, object_count, AreHome}
+use Rattle.std.proofs.Common.{◌-◌}
 use Rattle.image_writer.proofs.FreshImages.{on_ok}
 use Rattle.image_writer.proofs.SlotFrames.{all_slotted, log_between}
 use Rattle.image_writer.proofs.image.write_frames.Goals as goal

@@ -1,4 +1,5 @@
-use Rattle.image_writer.proofs.Names.{rules, ◌-◌, ◌∙◌, ap, arith, sym, elsewhere_on, elsewhere_same, leaves_on, narrowed, frames_in, object_count, length_in}
+use Rattle.image_writer.proofs.Names.{rules, ap, arith, sym, elsewhere_on, elsewhere_same, leaves_on, narrowed, frames_in, object_count, length_in}
+use Rattle.std.proofs.Common.{◌-◌, ◌∙◌}
 use Rattle.image_writer.proofs.ClosedGates.{after_closing, closing, gates_within}
 use Rattle.image_writer.proofs.FreshImages.{all_written, five, on_ok, widened}
 use Rattle.image_writer.proofs.image.write_parts.Goals as goal

@@ -1,4 +1,5 @@
-use Rattle.image_writer.proofs.Names.{◌∙◌, ap, arith, Image, elsewhere_on, is_open, Encodes, frames_in, kept_of, state_of}
+use Rattle.image_writer.proofs.Names.{ap, arith, Image, elsewhere_on, is_open, Encodes, frames_in, kept_of, state_of}
+use Rattle.std.proofs.Common.{◌∙◌}
 use Rattle.image_writer.proofs.FreshImages.{denotes, durable_is, five, not_yet, on_ok, opening_run, widened}
 use Rattle.image_writer.proofs.image.write_saved.Goals as goal
 

@@ -1,4 +1,5 @@
-use Rattle.image_writer.proofs.Names.{◌∙◌, arith, subst, sym, false≢true, IsPlan}
+use Rattle.image_writer.proofs.Names.{arith, subst, sym, false≢true, IsPlan}
+use Rattle.std.proofs.Common.{◌∙◌}
 use Rattle.image_writer.proofs.LaidPlans.{is_plan, may_be, few_counts}
 use Rattle.image_writer.proofs.plan.lay_out.Goals as goal
 use Rattle.image_writer.proofs.plan.lay_out.Goals.{then-geometry-via-then-geometry, then-geometry-via-else-geometry+then-ranges-gt-MAX_RANGES}

@@ -1,4 +1,5 @@
-use Rattle.image_writer.proofs.Names.{List, map, subst, sym, ◌∙◌, ap, Geometry, HomeRange, NumberRange, MayBeLaid, numbers_of}
+use Rattle.image_writer.proofs.Names.{List, map, subst, sym, ap, Geometry, HomeRange, NumberRange, MayBeLaid, numbers_of}
+use Rattle.std.proofs.Common.{◌∙◌}
 use Rattle.image_writer.proofs.LaidAgain.{may_be_laid}
 use Rattle.image_writer.proofs.plan.lay_out_again.Goals as goal
 

@@ -1,4 +1,5 @@
-use Rattle.image_writer.proofs.Names.{◌-◌, zeros_in, begins, frames_in}
+use Rattle.image_writer.proofs.Names.{zeros_in, begins, frames_in}
+use Rattle.std.proofs.Common.{◌-◌}
 use Rattle.image_writer.proofs.SlotFrames.{packed_written}
 use Rattle.image_writer.proofs.slots.write_cluster.Goals as goal
 

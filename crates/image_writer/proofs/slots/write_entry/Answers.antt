@@ -1,4 +1,5 @@
-use Rattle.image_writer.proofs.Names.{◌≡◌, subst, OnOk, frame_bytes, bytes_at, slot_sector, Plan, header_at, IsOwn}
+use Rattle.image_writer.proofs.Names.{subst, OnOk, frame_bytes, bytes_at, slot_sector, Plan, header_at, IsOwn}
+use Rattle.std.proofs.Common.{◌≡◌}
 use Rattle.image_writer.proofs.SlotFrames.{own_written_at}
 use Rattle.image_writer.proofs.slots.write_entry.Goals as goal
 

@@ -1,4 +1,5 @@
-use Rattle.image_writer.proofs.Names.{◌≡◌, ◌*◌, Elsewhere, LeavesOnly, half_sector, frames_in, AreClosed, AreInSlots, LeavesClosed}
+use Rattle.image_writer.proofs.Names.{Elsewhere, LeavesOnly, half_sector, frames_in, AreClosed, AreInSlots, LeavesClosed}
+use Rattle.std.proofs.Common.{◌≡◌, ◌*◌}
 use Rattle.image_writer.proofs.slots.write_slots.Given as goal
 
 abbrev pub invariant-loop-index : goal.invariant-loop-index

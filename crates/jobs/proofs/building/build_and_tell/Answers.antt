@@ -1,4 +1,5 @@
-use Rattle.jobs.proofs.Names.{refl, subst, ◌++◌, ◌∷◌, ℕ, List, ap, codes, ◌∙◌, Appends, line_of, AppendsFront}
+use Rattle.jobs.proofs.Names.{refl, subst, ℕ, List, ap, codes, Appends, line_of, AppendsFront}
+use Rattle.std.proofs.Common.{◌++◌, ◌∷◌, ◌∙◌}
 use Rattle.jobs.proofs.BuiltImages.{built_reported, built_untold, refused_cause}
 use Rattle.jobs.proofs.building.build_and_tell.Goals as goal
 

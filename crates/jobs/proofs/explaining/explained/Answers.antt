@@ -1,7 +1,5 @@
-use Rattle.std.proofs.Common.{Some, sym, ◌∙◌, subst}
-use Rattle.std.proofs.lemmas.Option.{none-some, same_Some}
-use Rattle.toml.specs.View.{table_view}
-use Rattle.description_explainer.specs.Places.{Explains}
+use Rattle.jobs.proofs.Names.{Some, sym, subst, none-some, same_Some, table_view, Explains}
+use Rattle.std.proofs.Common.{◌∙◌}
 use Rattle.jobs.proofs.explaining.explained.Goals as goal
 
 pub returns : goal.returns

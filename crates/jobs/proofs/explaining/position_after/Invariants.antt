@@ -1,4 +1,5 @@
-use Rattle.jobs.proofs.Names.{◌≡◌, ℕ, List, ◌+◌, ◌≤◌, drop, position_from}
+use Rattle.jobs.proofs.Names.{ℕ, List, drop, position_from}
+use Rattle.std.proofs.Common.{◌≡◌, ◌+◌, ◌≤◌}
 use Rattle.jobs.proofs.explaining.position_after.Given as goal
 
 -- the position so far, and its bounds

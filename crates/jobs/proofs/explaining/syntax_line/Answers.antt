@@ -1,6 +1,5 @@
-use Rattle.std.proofs.Common.{◌≡◌, ◌∙◌, ◌≤◌, ◌++◌, ℕ, List, ap, arith, codes, length, string_bytes, take, Global, String}
-use Rattle.std.proofs.lemmas.Result.{IfOk-weaker}
-use Rattle.jobs.specs.Explained.{IsSyntaxLine, position_from, position_text}
+use Rattle.jobs.proofs.Names.{ℕ, List, ap, arith, codes, length, string_bytes, take, String, IfOk-weaker, IsSyntaxLine, position_from, position_text}
+use Rattle.std.proofs.Common.{◌≡◌, ◌∙◌, ◌≤◌, ◌++◌, Global}
 use Rattle.jobs.proofs.explaining.syntax_line.Goals as goal
 
 pub returns : goal.returns

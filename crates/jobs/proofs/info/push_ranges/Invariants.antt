@@ -1,4 +1,5 @@
-use Rattle.jobs.proofs.Names.{◌≡◌, ◌++◌, map, take, range_line}
+use Rattle.jobs.proofs.Names.{map, take, range_line}
+use Rattle.std.proofs.Common.{◌≡◌, ◌++◌}
 use Rattle.jobs.proofs.info.push_ranges.Given as goal
 
 abbrev pub invariant-loop-range : goal.invariant-loop-range

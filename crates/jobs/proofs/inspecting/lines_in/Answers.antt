@@ -1,4 +1,5 @@
-use Rattle.jobs.proofs.Names.{List, ◌≡◌, IfOk, ap, subst, ◌∙◌, DurableState, stored_of, saved_by, InfoLine}
+use Rattle.jobs.proofs.Names.{List, IfOk, ap, subst, DurableState, stored_of, saved_by, InfoLine}
+use Rattle.std.proofs.Common.{◌≡◌, ◌∙◌}
 use Rattle.jobs.proofs.InfoImages.{lines_saved, objects_found}
 use Rattle.jobs.proofs.inspecting.lines_in.Goals as goal
 

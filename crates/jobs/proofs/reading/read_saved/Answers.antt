@@ -1,4 +1,5 @@
-use Rattle.jobs.proofs.Names.{ap, ◌∙◌, DurableState}
+use Rattle.jobs.proofs.Names.{ap, DurableState}
+use Rattle.std.proofs.Common.{◌∙◌}
 use Rattle.jobs.proofs.DescribedImages.{are_sound, read}
 use Rattle.jobs.proofs.reading.read_saved.Goals as goal
 

@@ -1,4 +1,5 @@
-use Rattle.jobs.proofs.Names.{ap, ◌∙◌, DurableState}
+use Rattle.jobs.proofs.Names.{ap, DurableState}
+use Rattle.std.proofs.Common.{◌∙◌}
 use Rattle.jobs.proofs.DescribedImages.{saved}
 use Rattle.jobs.proofs.saved.describe_saved.Goals as goal
 

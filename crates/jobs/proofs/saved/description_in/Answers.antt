@@ -1,4 +1,5 @@
-use Rattle.jobs.proofs.Names.{ap, map, ◌∙◌, Vec, Global, Plan, version_number, Version, NumberRange, numbers_of}
+use Rattle.jobs.proofs.Names.{ap, map, Vec, Global, Plan, version_number, Version, NumberRange, numbers_of}
+use Rattle.std.proofs.Common.{◌∙◌}
 use Rattle.jobs.proofs.saved.description_in.Goals as goal
 
 pub returns-in-Ok-clause-reported : goal.returns-in-Ok-clause-reported

@@ -1,4 +1,5 @@
-use Rattle.jobs.proofs.Names.{ap, ◌∙◌, DurableState}
+use Rattle.jobs.proofs.Names.{ap, DurableState}
+use Rattle.std.proofs.Common.{◌∙◌}
 use Rattle.jobs.proofs.DescribedImages.{read, saved}
 use Rattle.jobs.proofs.whole.read_whole.Goals as goal
 

@@ -1,5 +1,6 @@
-use Rattle.kernel.proofs.Names.{journaled, left_in, whole, ℕ, ◌≡◌, ◌+◌, ◌∙◌, ap, length, sym, subst, nat_lt, Answer, LeavesOneOf, IsUnlooked, is_page_now}
-use Rattle.kernel.proofs.Names.{is_still_saved, next_journaled, words_now, IsCaused, ServesUp}
+use Rattle.kernel.proofs.Names.{journaled, left_in, whole, ℕ, ap, length, sym, subst, nat_lt, Answer, LeavesOneOf, IsUnlooked, is_page_now, is_still_saved}
+use Rattle.kernel.proofs.Names.{next_journaled, words_now, IsCaused, ServesUp}
+use Rattle.std.proofs.Common.{◌≡◌, ◌+◌, ◌∙◌}
 use Rattle.model.specs.declared.command.Command.TheVariants as command
 use Rattle.kernel.proofs.Performing.{AreSame}
 use Rattle.kernel.proofs.Acts.{with_store}

@@ -1,5 +1,6 @@
-use Rattle.kernel_tests.proofs.Names.{◌≡◌, ◌∙◌, ap, length, map, replicate, IfOk-weaker, world_at, untouched, f0, small, frames_of, PlainState, parts_of}
-use Rattle.kernel_tests.proofs.Names.{fresh_header, prime_header}
+use Rattle.kernel_tests.proofs.Names.{ap, length, map, replicate, IfOk-weaker, world_at, untouched, f0, small, frames_of, PlainState, parts_of, fresh_header}
+use Rattle.kernel_tests.proofs.Names.{prime_header}
+use Rattle.std.proofs.Common.{◌≡◌, ◌∙◌}
 use Rattle.model.specs.declared.object.Content.TheVariants as content
 use Rattle.kernel_tests.proofs.FreshWorlds.{f0_count, f0_headers, f0_of_fresh}
 use Rattle.kernel_tests.proofs.worlds.f0.Goals as goal

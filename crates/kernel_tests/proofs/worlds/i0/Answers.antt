@@ -1,5 +1,6 @@
-use Rattle.kernel_tests.proofs.Names.{◌≡◌, ◌∙◌, ap, length, map, replicate, IfOk-weaker, world_at, untouched, i0, small, frames_of, PlainState, parts_of}
-use Rattle.kernel_tests.proofs.Names.{fresh_header, prime_header}
+use Rattle.kernel_tests.proofs.Names.{ap, length, map, replicate, IfOk-weaker, world_at, untouched, i0, small, frames_of, PlainState, parts_of, fresh_header}
+use Rattle.kernel_tests.proofs.Names.{prime_header}
+use Rattle.std.proofs.Common.{◌≡◌, ◌∙◌}
 use Rattle.model.specs.declared.object.Content.TheVariants as content
 use Rattle.kernel_tests.proofs.FreshWorlds.{i0_count, i0_headers, i0_of_fresh}
 use Rattle.kernel_tests.proofs.worlds.i0.Goals as goal

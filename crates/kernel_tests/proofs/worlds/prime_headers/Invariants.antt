@@ -1,4 +1,5 @@
-use Rattle.kernel_tests.proofs.Names.{◌≡◌, map, take, prime_header}
+use Rattle.kernel_tests.proofs.Names.{map, take, prime_header}
+use Rattle.std.proofs.Common.{◌≡◌}
 use Rattle.kernel_tests.proofs.worlds.prime_headers.Given as goal
 
 abbrev pub invariant-loop-content : goal.invariant-loop-content

@@ -1,4 +1,5 @@
-use Rattle.kernel_tests.proofs.Names.{◌≡◌, ◌∙◌, map, replicate, ap, IfOk-weaker, Cap, Void, all_slots, fresh_cap}
+use Rattle.kernel_tests.proofs.Names.{map, replicate, ap, IfOk-weaker, Cap, Void, all_slots, fresh_cap}
+use Rattle.std.proofs.Common.{◌≡◌, ◌∙◌}
 use Rattle.kernel_tests.proofs.worlds.void_slots.Goals as goal
 
 pub returns : goal.returns

@@ -1,4 +1,5 @@
-use Rattle.layout.proofs.Names.{◌++◌, ℕ, List, length, take, ap, ◌∙◌, take_rest, length-drop, zeros}
+use Rattle.layout.proofs.Names.{ℕ, List, length, take, ap, take_rest, length-drop, zeros}
+use Rattle.std.proofs.Common.{◌++◌, ◌∙◌}
 use Rattle.layout.proofs.Pages.{put_last}
 use Rattle.layout.proofs.bytes.blank_from.Goals as goal
 

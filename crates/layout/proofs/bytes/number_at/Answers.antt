@@ -1,4 +1,5 @@
-use Rattle.layout.proofs.Names.{ap, ◌∙◌, arith, take_rest, little_number}
+use Rattle.layout.proofs.Names.{ap, arith, take_rest, little_number}
+use Rattle.std.proofs.Common.{◌∙◌}
 use Rattle.layout.proofs.Numbers.{number_read}
 use Rattle.layout.proofs.bytes.number_at.Goals as goal
 

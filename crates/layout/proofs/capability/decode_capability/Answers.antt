@@ -1,4 +1,5 @@
-use Rattle.layout.proofs.Names.{refl, sym, ◌∙◌, arith, false≢true}
+use Rattle.layout.proofs.Names.{refl, sym, arith, false≢true}
+use Rattle.std.proofs.Common.{◌∙◌}
 use Rattle.layout.proofs.Capabilities.{as_numbers, three_read, none_spelt}
 use Rattle.layout.proofs.capability.decode_capability.Goals as goal
 

@@ -1,4 +1,5 @@
-use Rattle.layout.proofs.Names.{◌≡◌, ◌+◌, ◌-◌, ◌*◌, ℕ, List, length, sym, ap, ◌∙◌, arith, Packed, shape_bytes}
+use Rattle.layout.proofs.Names.{ℕ, List, length, sym, ap, arith, Packed, shape_bytes}
+use Rattle.std.proofs.Common.{◌≡◌, ◌+◌, ◌-◌, ◌*◌, ◌∙◌}
 use borrow.Rule.Slice.PartMut.{put_mid}
 use Rattle.layout.proofs.Clusters.{front_long, part_long, other_part, packed}
 use Rattle.layout.proofs.cluster.pack_node.Goals as goal

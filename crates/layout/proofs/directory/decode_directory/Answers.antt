@@ -1,4 +1,5 @@
-use Rattle.layout.proofs.Names.{refl, sym, ◌∙◌, subst, false≢true, IsDirectory}
+use Rattle.layout.proofs.Names.{refl, sym, subst, false≢true, IsDirectory}
+use Rattle.std.proofs.Common.{◌∙◌}
 use Rattle.layout.proofs.Directories.{one_directory, directory_fits}
 use Rattle.layout.proofs.directory.decode_directory.Goals as goal
 

@@ -1,4 +1,5 @@
-use Rattle.layout.proofs.Names.{◌≡◌, ◌*◌, take, directory_bytes}
+use Rattle.layout.proofs.Names.{take, directory_bytes}
+use Rattle.std.proofs.Common.{◌≡◌, ◌*◌}
 use Rattle.layout.proofs.directory.encode_directory.Given as goal
 
 abbrev pub invariant-loop-i : goal.invariant-loop-i

@@ -1,4 +1,5 @@
-use Rattle.layout.proofs.Names.{refl, sym, ◌∙◌, false≢true, extent_at}
+use Rattle.layout.proofs.Names.{refl, sym, false≢true, extent_at}
+use Rattle.std.proofs.Common.{◌∙◌}
 use Rattle.layout.proofs.Extents.{apart_more, not_apart}
 use Rattle.layout.proofs.extent.are_apart.Goals as goal
 

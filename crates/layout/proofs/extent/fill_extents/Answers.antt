@@ -1,5 +1,5 @@
-use Rattle.layout.proofs.Names.{◌≡◌, ◌++◌, ◌∷◌, [], ℕ, List, length, take, sym, ap, ◌∙◌, arith, take_all, Extent, HomeRange, range_extent, half_extent}
-use Rattle.std.proofs.Common.{map}
+use Rattle.layout.proofs.Names.{[], ℕ, List, length, take, sym, ap, arith, take_all, Extent, HomeRange, range_extent, half_extent}
+use Rattle.std.proofs.Common.{◌≡◌, ◌++◌, ◌∷◌, ◌∙◌, map}
 use Rattle.layout.proofs.Extents.{two_set}
 use Rattle.layout.proofs.extent.fill_extents.Goals as goal
 

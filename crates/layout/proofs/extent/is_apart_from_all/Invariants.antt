@@ -1,4 +1,5 @@
-use Rattle.layout.proofs.Names.{ℕ, ◌<◌, get_or, Extent, IsApart}
+use Rattle.layout.proofs.Names.{ℕ, get_or, Extent, IsApart}
+use Rattle.std.proofs.Common.{◌<◌}
 use Rattle.layout.proofs.extent.is_apart_from_all.Given as goal
 
 abbrev pub invariant-loop-other : goal.invariant-loop-other

@@ -1,5 +1,6 @@
-use Rattle.layout.proofs.Names.{◌≡◌, ℕ, List, arith, IfOk-weaker, IfErr-weaker, Frame, ObjectHeader, Geometry, BadImage, BadFrame, Body, Scratch, frame_of}
+use Rattle.layout.proofs.Names.{ℕ, List, arith, IfOk-weaker, IfErr-weaker, Frame, ObjectHeader, Geometry, BadImage, BadFrame, Body, Scratch, frame_of}
 use Rattle.layout.proofs.Names.{node_frame_bytes, page_frame_bytes, IsFrameOf, IsNodeFrame, IsPageFrame}
+use Rattle.std.proofs.Common.{◌≡◌}
 use Rattle.layout.proofs.Keepables.{frame_of_node, node_of_frame, frame_of_page, page_of_frame}
 use Rattle.layout.proofs.frame.decode_frame.Goals as goal
 

@@ -1,4 +1,5 @@
-use Rattle.layout.proofs.Names.{◌≡◌, ℕ, List, ◌∷◌, set, refl, ap, ◌∙◌, Gate, Closed, Open, zeros, gate_bytes}
+use Rattle.layout.proofs.Names.{ℕ, List, set, refl, ap, Gate, Closed, Open, zeros, gate_bytes}
+use Rattle.std.proofs.Common.{◌≡◌, ◌∷◌, ◌∙◌}
 use Rattle.layout.proofs.gate.encode_gate.Goals as goal
 
 one_zero : zeros 512 ≡ 0 ∷ zeros 511

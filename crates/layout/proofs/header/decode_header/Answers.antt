@@ -1,4 +1,5 @@
-use Rattle.layout.proofs.Names.{◌∷◌, drop, refl, sym, ap, subst, ◌∙◌, ◌-◌, ℕ, List, arith, rules, false≢true, CheckpointHeader, zeros, IsHeader}
+use Rattle.layout.proofs.Names.{drop, refl, sym, ap, subst, ℕ, List, arith, rules, false≢true, CheckpointHeader, zeros, IsHeader}
+use Rattle.std.proofs.Common.{◌∷◌, ◌∙◌, ◌-◌}
 use Rattle.layout.proofs.Numbers.{stream}
 use Rattle.layout.proofs.Headers.{five_read, header_stream, spelt_header, fields}
 use Rattle.layout.proofs.header.decode_header.Goals as goal

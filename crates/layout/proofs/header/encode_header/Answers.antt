@@ -1,4 +1,5 @@
-use Rattle.layout.proofs.Names.{ap, ◌∙◌, zeros}
+use Rattle.layout.proofs.Names.{ap, zeros}
+use Rattle.std.proofs.Common.{◌∙◌}
 use Rattle.layout.proofs.Numbers.{written_none, written_more}
 use Rattle.layout.proofs.Headers.{header_written}
 use Rattle.layout.proofs.header.encode_header.Goals as goal

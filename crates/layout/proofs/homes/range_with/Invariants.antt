@@ -1,4 +1,5 @@
-use Rattle.layout.proofs.Names.{◌≡◌, drop, range_with}
+use Rattle.layout.proofs.Names.{drop, range_with}
+use Rattle.std.proofs.Common.{◌≡◌}
 use Rattle.layout.proofs.homes.range_with.Given as goal
 
 abbrev pub invariant-loop-range : goal.invariant-loop-range

@@ -1,5 +1,6 @@
-use Rattle.layout.proofs.Names.{◌≡◌, ◌-◌, ℕ, List, [], refl, sym, ap, subst, ◌∙◌, arith, false≢true, err_from_is_err_and, Cap, ObjectHeader, IsCount, zeros}
-use Rattle.layout.proofs.Names.{Body, IsBody, slots_of, content_of, body_in, front_numbers, role_in}
+use Rattle.layout.proofs.Names.{ℕ, List, [], refl, sym, ap, subst, arith, false≢true, err_from_is_err_and, Cap, ObjectHeader, IsCount, zeros, Body, IsBody}
+use Rattle.layout.proofs.Names.{slots_of, content_of, body_in, front_numbers, role_in}
+use Rattle.std.proofs.Common.{◌≡◌, ◌-◌, ◌∙◌}
 use Rattle.std.specs.Prelude.{◌++◌, drop}
 use Rattle.layout.proofs.Numbers.{AllFit}
 use Rattle.layout.proofs.Frames.{front_list, node_parts, node_reported, body_reported, node_found, any_words, free_node_found, free_node_spelling}

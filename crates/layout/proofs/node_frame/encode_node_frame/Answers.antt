@@ -1,4 +1,5 @@
-use Rattle.layout.proofs.Names.{◌++◌, ◌∷◌, [], List, length, refl, sym, ap, ◌∙◌, arith, replicate, append-nil, Cap, void_held, slots_of}
+use Rattle.layout.proofs.Names.{[], List, length, refl, sym, ap, arith, replicate, append-nil, Cap, void_held, slots_of}
+use Rattle.std.proofs.Common.{◌++◌, ◌∷◌, ◌∙◌}
 use Rattle.layout.proofs.Frames.{node_written, root_count}
 use Rattle.layout.proofs.node_frame.encode_node_frame.Goals as goal
 

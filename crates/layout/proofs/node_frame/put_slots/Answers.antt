@@ -1,4 +1,5 @@
-use Rattle.layout.proofs.Names.{◌≡◌, ◌+◌, ◌-◌, ◌*◌, ◌++◌, ℕ, List, length, take, ap, ◌∙◌, arith, zeros}
+use Rattle.layout.proofs.Names.{ℕ, List, length, take, ap, arith, zeros}
+use Rattle.std.proofs.Common.{◌≡◌, ◌+◌, ◌-◌, ◌*◌, ◌++◌, ◌∙◌}
 use borrow.Rule.Slice.PartMut.{put_mid}
 use Rattle.layout.proofs.Frames.{slots_put}
 use Rattle.layout.proofs.node_frame.put_slots.Goals as goal

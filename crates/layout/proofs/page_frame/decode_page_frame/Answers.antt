@@ -1,5 +1,6 @@
-use Rattle.layout.proofs.Names.{◌≡◌, ℕ, List, drop, refl, sym, ap, ◌∙◌, rules, arith, inl, inr, false, false≢true, IsTrue, take_rest, ObjectHeader, zero_words}
+use Rattle.layout.proofs.Names.{ℕ, List, drop, refl, sym, ap, rules, arith, inl, inr, false, false≢true, IsTrue, take_rest, ObjectHeader, zero_words}
 use Rattle.layout.proofs.Names.{page_body_in}
+use Rattle.std.proofs.Common.{◌≡◌, ◌∙◌}
 use Rattle.layout.specs.declared.body.Body.TheVariants as body
 use Rattle.layout.proofs.Numbers.{AllFit}
 use Rattle.layout.proofs.Frames.{front_list}

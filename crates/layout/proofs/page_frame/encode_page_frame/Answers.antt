@@ -1,4 +1,5 @@
-use Rattle.layout.proofs.Names.{◌≡◌, ◌++◌, ◌-◌, ℕ, length, take, ap, ◌∙◌, arith, zeros}
+use Rattle.layout.proofs.Names.{ℕ, length, take, ap, arith, zeros}
+use Rattle.std.proofs.Common.{◌≡◌, ◌++◌, ◌-◌, ◌∙◌}
 use Rattle.layout.proofs.Pages.{default_written, not_page}
 use Rattle.layout.proofs.page_frame.encode_page_frame.Goals as goal
 

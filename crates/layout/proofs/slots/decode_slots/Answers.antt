@@ -1,4 +1,5 @@
-use Rattle.layout.proofs.Names.{◌*◌, length, sym, ap, ◌∙◌, arith, err_from_is_err_and}
+use Rattle.layout.proofs.Names.{length, sym, ap, arith, err_from_is_err_and}
+use Rattle.std.proofs.Common.{◌*◌, ◌∙◌}
 use Rattle.layout.proofs.SlotLists.{none_read, slot_read, all_read, none_spelt, piece_is}
 use Rattle.layout.proofs.slots.decode_slots.Goals as goal
 

@@ -1,4 +1,5 @@
-use Rattle.layout.proofs.Names.{◌≡◌, ◌*◌, length, sym, arith, void_held}
+use Rattle.layout.proofs.Names.{length, sym, arith, void_held}
+use Rattle.std.proofs.Common.{◌≡◌, ◌*◌}
 use Rattle.layout.proofs.SlotLists.{slots_bytes-nil, slot_written}
 use Rattle.layout.proofs.slots.encode_slots.Goals as goal
 

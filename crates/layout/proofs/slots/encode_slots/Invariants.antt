@@ -1,4 +1,5 @@
-use Rattle.layout.proofs.Names.{◌≡◌, ◌*◌, take, slots_bytes}
+use Rattle.layout.proofs.Names.{take, slots_bytes}
+use Rattle.std.proofs.Common.{◌≡◌, ◌*◌}
 use Rattle.layout.proofs.slots.encode_slots.Given as goal
 
 abbrev pub invariant-loop-i : goal.invariant-loop-i

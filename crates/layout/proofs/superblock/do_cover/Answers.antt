@@ -1,4 +1,5 @@
-use Rattle.layout.proofs.Names.{sym, ◌∙◌, arith, false≢true}
+use Rattle.layout.proofs.Names.{sym, arith, false≢true}
+use Rattle.std.proofs.Common.{◌∙◌}
 use Rattle.layout.proofs.Extents.{not_covered}
 use Rattle.layout.proofs.superblock.do_cover.Goals as goal
 use Rattle.layout.proofs.superblock.do_cover.Goals.{then-not-is_next-via-then-not-is_next, then-not-is_next-via-else-not-is_next+then-range-end}

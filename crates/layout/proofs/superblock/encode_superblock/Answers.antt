@@ -1,4 +1,5 @@
-use Rattle.layout.proofs.Names.{◌≡◌, ◌+◌, ◌-◌, ◌*◌, ℕ, List, length, ap, subst, ◌∙◌, arith, Geometry, zeros, Plan, IsPlan, version_number, ranges_bytes}
+use Rattle.layout.proofs.Names.{ℕ, List, length, ap, subst, arith, Geometry, zeros, Plan, IsPlan, version_number, ranges_bytes}
+use Rattle.std.proofs.Common.{◌≡◌, ◌+◌, ◌-◌, ◌*◌, ◌∙◌}
 use borrow.Rule.Slice.PartMut.{put_mid}
 use Rattle.layout.proofs.Numbers.{IsWritten, written_none, written_more}
 use Rattle.layout.proofs.Superblocks.{front_same, plan_written, second_of}

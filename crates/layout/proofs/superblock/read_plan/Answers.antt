@@ -1,4 +1,5 @@
-use Rattle.layout.proofs.Names.{◌≡◌, ◌/◌, ℕ, List, length, drop, take, refl, sym, subst, ◌∙◌, arith, All, false≢true, Geometry, HomeRange, plan_of, unused}
+use Rattle.layout.proofs.Names.{ℕ, List, length, drop, take, refl, sym, subst, arith, All, false≢true, Geometry, HomeRange, plan_of, unused}
+use Rattle.std.proofs.Common.{◌≡◌, ◌/◌, ◌∙◌}
 use Rattle.layout.proofs.Superblocks.{magic, magic_read, version_from, plan_reported, others_are, plan_found, plan_read, none_read_of, eight_read, last_ranges}
 use Rattle.layout.proofs.Superblocks.{plan_same}
 use Rattle.layout.proofs.superblock.read_plan.Goals as goal

@@ -1,4 +1,5 @@
-use Rattle.layout.proofs.Names.{◌≡◌, ◌-◌, ℕ, drop, sym, ap, ◌∙◌, arith, false≢true, zeros}
+use Rattle.layout.proofs.Names.{ℕ, drop, sym, ap, arith, false≢true, zeros}
+use Rattle.std.proofs.Common.{◌≡◌, ◌-◌, ◌∙◌}
 use Rattle.layout.proofs.Superblocks.{magic_from, marked, versions_reported, unmarked}
 use Rattle.layout.proofs.superblock.version_in.Goals as goal
 use Rattle.layout.proofs.superblock.version_in.Goals.{then-magic-ne-SUPERBLOCK_MAGIC-via-then-magic-ne-SUPERBLOCK_MAGIC}

@@ -1,4 +1,5 @@
-use Rattle.layout.proofs.Names.{◌≡◌, ◌*◌, take, ranges_bytes}
+use Rattle.layout.proofs.Names.{take, ranges_bytes}
+use Rattle.std.proofs.Common.{◌≡◌, ◌*◌}
 use Rattle.layout.proofs.superblock.write_ranges.Given as goal
 
 abbrev pub invariant-loop-i : goal.invariant-loop-i

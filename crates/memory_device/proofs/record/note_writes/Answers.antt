@@ -1,4 +1,5 @@
-use Rattle.memory_device.proofs.Names.{◌∙◌, ap, length, arith, length-append, entries_of}
+use Rattle.memory_device.proofs.Names.{ap, length, arith, length-append, entries_of}
+use Rattle.std.proofs.Common.{◌∙◌}
 use Rattle.memory_device.proofs.Entries.{length-entries_of, entries_more, part_as}
 use Rattle.memory_device.proofs.record.note_writes.Goals as goal
 

@@ -1,4 +1,5 @@
-use Rattle.memory_device.proofs.Names.{◌≡◌, ◌≤◌, ◌++◌, vec_capacity, entries_of}
+use Rattle.memory_device.proofs.Names.{vec_capacity, entries_of}
+use Rattle.std.proofs.Common.{◌≡◌, ◌≤◌, ◌++◌}
 use Rattle.memory_device.proofs.record.note_writes.Given as goal
 
 abbrev pub invariant-loop-i : goal.invariant-loop-i

@@ -1,4 +1,5 @@
-use Rattle.memory_device.proofs.Names.{◌<◌, take, All, image_of, Patches, names}
+use Rattle.memory_device.proofs.Names.{take, All, image_of, Patches, names}
+use Rattle.std.proofs.Common.{◌<◌}
 use Rattle.memory_device.proofs.sectors.copy_written.Given as goal
 
 abbrev pub invariant-loop-entry : goal.invariant-loop-entry

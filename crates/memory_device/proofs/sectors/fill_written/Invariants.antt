@@ -1,4 +1,5 @@
-use Rattle.memory_device.proofs.Names.{◌<◌, take, replicate, All, image_of, Patches, names}
+use Rattle.memory_device.proofs.Names.{take, replicate, All, image_of, Patches, names}
+use Rattle.std.proofs.Common.{◌<◌}
 use Rattle.memory_device.proofs.sectors.fill_written.Given as goal
 
 abbrev pub invariant-loop-entry : goal.invariant-loop-entry

@@ -1,4 +1,5 @@
-use Rattle.migrator.proofs.Names.{◌∙◌, ap, ℕ, List, slice_set, Place, Torn, Whole}
+use Rattle.migrator.proofs.Names.{ap, ℕ, List, slice_set, Place, Torn, Whole}
+use Rattle.std.proofs.Common.{◌∙◌}
 use Rattle.migrator.proofs.Putting.{set_twice}
 use Rattle.migrator.proofs.books.put_frame.Goals as goal
 

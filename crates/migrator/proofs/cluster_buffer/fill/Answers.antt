@@ -1,4 +1,5 @@
-use Rattle.migrator.proofs.Names.{◌≡◌, ◌∙◌, ◌-◌, refl, sym, subst, arith, Image, agrees_is, Packed, sectors_from, shaped_at, begins}
+use Rattle.migrator.proofs.Names.{refl, sym, subst, arith, Image, agrees_is, Packed, sectors_from, shaped_at, begins}
+use Rattle.std.proofs.Common.{◌≡◌, ◌∙◌, ◌-◌}
 use Rattle.migrator.proofs.Completing.{filled, filled_on}
 use Rattle.migrator.proofs.Gathering.{packed_end, zeros_at}
 use Rattle.migrator.proofs.cluster_buffer.fill.Goals as goal

@@ -1,4 +1,5 @@
-use Rattle.migrator.proofs.Names.{◌≡◌, rules, zeros_home}
+use Rattle.migrator.proofs.Names.{rules, zeros_home}
+use Rattle.std.proofs.Common.{◌≡◌}
 use Rattle.migrator.proofs.Gathering.{copied_blank, counts_on, cluster_touched}
 use Rattle.migrator.proofs.copy.copy_cluster.Goals as goal
 

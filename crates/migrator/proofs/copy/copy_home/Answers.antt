@@ -1,4 +1,5 @@
-use Rattle.migrator.proofs.Names.{◌∙◌, ℕ, ap, sym, subst, home_place, shape_length, begins, Touches, Node, Page}
+use Rattle.migrator.proofs.Names.{ℕ, ap, sym, subst, home_place, shape_length, begins, Touches, Node, Page}
+use Rattle.std.proofs.Common.{◌∙◌}
 use Rattle.migrator.proofs.Gathering.{on_ok, copied_own, no_cluster, zeros_there}
 use Rattle.migrator.proofs.copy.copy_home.Goals as goal
 

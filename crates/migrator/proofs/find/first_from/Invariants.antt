@@ -1,4 +1,5 @@
-use Rattle.migrator.proofs.Names.{◌<◌, ◌≤◌, ◌-◌, ℕ, length, entry_at}
+use Rattle.migrator.proofs.Names.{ℕ, length, entry_at}
+use Rattle.std.proofs.Common.{◌<◌, ◌≤◌, ◌-◌}
 use Rattle.migrator.proofs.find.first_from.Given as goal
 
 abbrev pub invariant-loop-low : goal.invariant-loop-low

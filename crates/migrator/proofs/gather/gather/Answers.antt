@@ -1,4 +1,5 @@
-use Rattle.migrator.proofs.Names.{◌≡◌, ◌∙◌, ◌+◌, subst, arith, rules, Image, agrees_is, frame_in, Plan, IsPlan, HaveHome}
+use Rattle.migrator.proofs.Names.{subst, arith, rules, Image, agrees_is, frame_in, Plan, IsPlan, HaveHome}
+use Rattle.std.proofs.Common.{◌≡◌, ◌∙◌, ◌+◌}
 use Rattle.migrator.proofs.Gathering.{frame_end, one_more, rank_there, all_in}
 use Rattle.migrator.proofs.Reading.{reads_more}
 use Rattle.migrator.proofs.gather.gather.Goals as goal

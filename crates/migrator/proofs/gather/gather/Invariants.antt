@@ -1,4 +1,5 @@
-use Rattle.migrator.proofs.Names.{◌≡◌, length, ReadsOnly}
+use Rattle.migrator.proofs.Names.{length, ReadsOnly}
+use Rattle.std.proofs.Common.{◌≡◌}
 use Rattle.migrator.proofs.Gathering.{AreIn}
 use Rattle.migrator.proofs.gather.gather.Given as goal
 

@@ -1,4 +1,5 @@
-use Rattle.migrator.proofs.Names.{◌≤◌, ℕ, take, sym, subst, Image, agrees_is, AreSpelt, frames_read, IsBadAt}
+use Rattle.migrator.proofs.Names.{ℕ, take, sym, subst, Image, agrees_is, AreSpelt, frames_read, IsBadAt}
+use Rattle.std.proofs.Common.{◌≤◌}
 use Rattle.migrator.proofs.Reading.{bad_frame, reads_more}
 use Rattle.migrator.proofs.image.read_image.Goals as goal
 

@@ -1,4 +1,5 @@
-use Rattle.migrator.proofs.Names.{◌++◌, ◌∷◌, [], sym, subst, Frame, Image, agrees_is, IsFrameOf, frame_of, frame_in, spelt_read}
+use Rattle.migrator.proofs.Names.{[], sym, subst, Frame, Image, agrees_is, IsFrameOf, frame_of, frame_in, spelt_read}
+use Rattle.std.proofs.Common.{◌++◌, ◌∷◌}
 use Rattle.migrator.proofs.image.take_frame.Goals as goal
 
 pub returns-in-Ok-take-clause-spelt : goal.returns-in-Ok-take-clause-spelt

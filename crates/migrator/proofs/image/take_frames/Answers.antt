@@ -1,5 +1,5 @@
-use Rattle.migrator.proofs.Names.{◌≡◌, ◌≤◌, ℕ, refl, sym, arith, ◌∙◌, ◌+◌, ◌<◌, ◌++◌, ◌∷◌, [], ap, subst, rules, err_from_is_err_and, Geometry, Image}
-use Rattle.migrator.proofs.Names.{agrees_is, IsSpelt, frame_read, IsBadAt}
+use Rattle.migrator.proofs.Names.{ℕ, refl, sym, arith, [], ap, subst, rules, err_from_is_err_and, Geometry, Image, agrees_is, IsSpelt, frame_read, IsBadAt}
+use Rattle.std.proofs.Common.{◌≡◌, ◌≤◌, ◌∙◌, ◌+◌, ◌<◌, ◌++◌, ◌∷◌}
 use Rattle.migrator.proofs.Reading.{reads_more, reads_none, frames_until, frames_more, frames_all, spelt_more}
 use Rattle.migrator.proofs.image.take_frames.Goals as goal
 

@@ -1,4 +1,5 @@
-use Rattle.migrator.proofs.Names.{◌≡◌, ◌<◌, ℕ, IsSpelt, ReadsOnly}
+use Rattle.migrator.proofs.Names.{ℕ, IsSpelt, ReadsOnly}
+use Rattle.std.proofs.Common.{◌≡◌, ◌<◌}
 use Rattle.migrator.proofs.Reading.{frames_until}
 use Rattle.migrator.proofs.image.take_frames.Given as goal
 

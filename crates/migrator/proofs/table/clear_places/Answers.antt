@@ -1,5 +1,5 @@
-use Rattle.migrator.proofs.Names.{ℕ, arith, ap, sym, ◌∙◌, map-set, Nowhere, is_held}
-use Rattle.std.proofs.Common.{replicate}
+use Rattle.migrator.proofs.Names.{ℕ, arith, ap, sym, map-set, Nowhere, is_held}
+use Rattle.std.proofs.Common.{◌∙◌, replicate}
 use Rattle.migrator.proofs.Tables.{none_taken, one_less, all_nowhere}
 use Rattle.migrator.proofs.table.clear_places.Goals as goal
 

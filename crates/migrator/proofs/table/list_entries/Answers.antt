@@ -1,4 +1,5 @@
-use Rattle.migrator.proofs.Names.{◌≡◌, ◌<◌, ◌∙◌, ap, arith, drop, length, rules, entries_from}
+use Rattle.migrator.proofs.Names.{ap, arith, drop, length, rules, entries_from}
+use Rattle.std.proofs.Common.{◌≡◌, ◌<◌, ◌∙◌}
 use Rattle.migrator.proofs.Tables.{entries_done, entries_left}
 use Rattle.migrator.proofs.table.list_entries.Goals as goal
 

@@ -1,4 +1,5 @@
-use Rattle.migrator.proofs.Names.{◌≡◌, ◌++◌, drop, length, vec_capacity, entries_from, entries_of}
+use Rattle.migrator.proofs.Names.{drop, length, vec_capacity, entries_from, entries_of}
+use Rattle.std.proofs.Common.{◌≡◌, ◌++◌}
 use Rattle.migrator.proofs.table.list_entries.Given as goal
 
 abbrev pub invariant-loop : goal.invariant-loop

@@ -1,4 +1,5 @@
-use Rattle.object_cache.proofs.Names.{[], ◌∷◌, ◌+◌, ◌∙◌, None, ap, length-set, length-append}
+use Rattle.object_cache.proofs.Names.{[], None, ap, length-set, length-append}
+use Rattle.std.proofs.Common.{◌∷◌, ◌+◌, ◌∙◌}
 use Rattle.object_cache.proofs.Emptying.{later_stays, one_taken}
 use Rattle.object_cache.proofs.all_objects.take_bodies.Goals as goal
 

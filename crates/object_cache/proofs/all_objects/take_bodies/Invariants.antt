@@ -1,4 +1,5 @@
-use Rattle.object_cache.proofs.Names.{◌≡◌, ℕ, ◌<◌, ◌≤◌, Some, length, option_map, entry_at, present_of, held_at}
+use Rattle.object_cache.proofs.Names.{ℕ, Some, length, option_map, entry_at, present_of, held_at}
+use Rattle.std.proofs.Common.{◌≡◌, ◌<◌, ◌≤◌}
 use Rattle.object_cache.proofs.all_objects.take_bodies.Given as goal
 
 abbrev pub invariant-loop-number : goal.invariant-loop-number

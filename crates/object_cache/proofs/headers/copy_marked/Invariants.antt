@@ -1,4 +1,5 @@
-use Rattle.object_cache.proofs.Names.{◌≡◌, ℕ, ◌-◌, ◌<◌, true, length, header_at, mark_at}
+use Rattle.object_cache.proofs.Names.{ℕ, true, length, header_at, mark_at}
+use Rattle.std.proofs.Common.{◌≡◌, ◌-◌, ◌<◌}
 use Rattle.object_cache.proofs.headers.copy_marked.Given as goal
 
 abbrev pub invariant-loop-number : goal.invariant-loop-number

@@ -1,4 +1,5 @@
-use Rattle.reach.proofs.Names.{◌≡◌, List, reverse, refl, rules, subst, sym, Step, IsShortest}
+use Rattle.reach.proofs.Names.{List, reverse, refl, rules, subst, sym, Step, IsShortest}
+use Rattle.std.proofs.Common.{◌≡◌}
 use Rattle.reach.proofs.Chains.{IsBack, back_first, back_level, back_next, back_shortest, chain_inside, no_chain, not_reached}
 use Rattle.reach.proofs.chaining.shortest_chain.Invariants.{level_of}
 use Rattle.reach.proofs.chaining.shortest_chain.Goals as goal

@@ -1,4 +1,5 @@
-use Rattle.reach.proofs.Names.{ℕ, Bool, List, ap, arith, length, refl, subst, sym, ◌∙◌, IsTrue, get_or_default, is_marked, Frontier, IsReach}
+use Rattle.reach.proofs.Names.{ℕ, Bool, List, ap, arith, length, refl, subst, sym, IsTrue, get_or_default, is_marked, Frontier, IsReach}
+use Rattle.std.proofs.Common.{◌∙◌}
 use Rattle.reach.proofs.ClosedSets.{all_begun, all_followed, bounds_runs, one_begun, one_followed}
 use Rattle.reach.proofs.closing.reach.Goals as goal
 

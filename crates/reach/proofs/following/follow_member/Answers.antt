@@ -1,4 +1,5 @@
-use Rattle.reach.proofs.Names.{ap, sym, ◌∙◌, Capability, Content, slots_in}
+use Rattle.reach.proofs.Names.{ap, sym, Capability, Content, slots_in}
+use Rattle.std.proofs.Common.{◌∙◌}
 use Rattle.model.specs.declared.object.Content.TheVariants as content
 use Rattle.reach.proofs.Members.{annex_inside, bank_is, content_is, slots_known, slots_stay, space_inside}
 use Rattle.reach.proofs.following.follow_member.Goals as goal

@@ -1,4 +1,5 @@
-use Rattle.reach.proofs.Names.{◌≡◌, ap, sym, ◌∙◌, get_or_default, is_marked, Object, free, is_free, object_at}
+use Rattle.reach.proofs.Names.{ap, sym, get_or_default, is_marked, Object, free, is_free, object_at}
+use Rattle.std.proofs.Common.{◌≡◌, ◌∙◌}
 use Rattle.reach.proofs.Growing.{grows_more, owned_next}
 use Rattle.reach.proofs.following.follow_owned.Goals as goal
 use Rattle.reach.proofs.following.follow_owned.Goals.{then-is_owned, else-is_owned}

@@ -1,4 +1,5 @@
-use Rattle.reach.proofs.Names.{◌≡◌, ℕ, ◌<◌, Bool, false, IsTrue, is_marked, is_free, content_at, owner_at, Grows, IsWithin}
+use Rattle.reach.proofs.Names.{ℕ, Bool, false, IsTrue, is_marked, is_free, content_at, owner_at, Grows, IsWithin}
+use Rattle.std.proofs.Common.{◌≡◌, ◌<◌}
 use Rattle.reach.proofs.following.follow_owned.Given as goal
 
 abbrev pub invariant-loop-number : goal.invariant-loop-number

@@ -1,4 +1,5 @@
-use Rattle.reach.proofs.Names.{◌≡◌, take, count_by}
+use Rattle.reach.proofs.Names.{take, count_by}
+use Rattle.std.proofs.Common.{◌≡◌}
 use Rattle.reach.proofs.printing.count_members.Given as goal
 
 abbrev pub invariant-loop-number : goal.invariant-loop-number

@@ -1,6 +1,7 @@
-use Rattle.reach.proofs.Names.{◌≡◌, ◌++◌, ◌∷◌, [], ℕ, Bool, List, Err, ap, append_assoc, codes, decimal, refl, subst, ◌∙◌, Appends-trans, err_from_is_err_and}
-use Rattle.reach.proofs.Names.{Appends, count_by, enumerate_from, flat_map, Object, line_of, spaced, Writes, text_fails, writes_after, writes_fail, member_line}
-use Rattle.reach.proofs.Names.{member_pulls, reach_text}
+use Rattle.reach.proofs.Names.{[], ℕ, Bool, List, Err, ap, append_assoc, codes, decimal, refl, subst, Appends-trans, err_from_is_err_and, Appends, count_by}
+use Rattle.reach.proofs.Names.{enumerate_from, flat_map, Object, line_of, spaced, Writes, text_fails, writes_after, writes_fail, member_line, member_pulls}
+use Rattle.reach.proofs.Names.{reach_text}
+use Rattle.std.proofs.Common.{◌≡◌, ◌++◌, ◌∷◌, ◌∙◌}
 use Rattle.reach.proofs.printing.print_reach.Goals as goal
 
 abbrev members : List Object → List Bool → List ℕ

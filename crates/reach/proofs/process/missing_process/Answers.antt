@@ -1,6 +1,6 @@
-use Rattle.reach.proofs.Names.{◌≡◌, ℕ, ◌<◌, zero, suc, true, false, not, List, [], ◌∷◌, length, Some, None, inl, inr, refl, sym, ap, subst, arith, IsTrue, find}
-use Rattle.reach.proofs.Names.{cases_lt, get_or_default, Object, is_process}
-use Rattle.std.proofs.Common.{slice_index_or}
+use Rattle.reach.proofs.Names.{ℕ, zero, suc, true, false, not, List, [], length, Some, None, inl, inr, refl, sym, ap, subst, arith, IsTrue, find, cases_lt}
+use Rattle.reach.proofs.Names.{get_or_default, Object, is_process}
+use Rattle.std.proofs.Common.{◌≡◌, ◌<◌, ◌∷◌, slice_index_or}
 use Rattle.reach.proofs.process.missing_process.Goals as goal
 
 module _ (os : List Object) where

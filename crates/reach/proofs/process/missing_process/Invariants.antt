@@ -1,4 +1,5 @@
-use Rattle.reach.proofs.Names.{ℕ, ◌<◌, IsTrue, slice_index_or, is_process}
+use Rattle.reach.proofs.Names.{ℕ, IsTrue, slice_index_or, is_process}
+use Rattle.std.proofs.Common.{◌<◌}
 use Rattle.reach.proofs.process.missing_process.Given as goal
 
 abbrev pub invariant-loop-number : goal.invariant-loop-number

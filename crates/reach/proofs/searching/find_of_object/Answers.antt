@@ -1,4 +1,5 @@
-use Rattle.reach.proofs.Names.{ap, sym, ◌∙◌, Capability, Content, slots_in}
+use Rattle.reach.proofs.Names.{ap, sym, Capability, Content, slots_in}
+use Rattle.std.proofs.Common.{◌∙◌}
 use Rattle.model.specs.declared.object.Content.TheVariants as content
 use Rattle.reach.proofs.Members.{content_is, slots_known}
 use Rattle.reach.proofs.Ways.{finds_of_bank, finds_of_registers, finds_of_slots}

@@ -1,4 +1,5 @@
-use Rattle.reach.proofs.Names.{◌≡◌, ℕ, arith, ap, refl, subst, sym, ◌∙◌, get_or_default, Object, free, is_free, object_at, FindsBy, IsOwnedBelow}
+use Rattle.reach.proofs.Names.{ℕ, arith, ap, refl, subst, sym, get_or_default, Object, free, is_free, object_at, FindsBy, IsOwnedBelow}
+use Rattle.std.proofs.Common.{◌≡◌, ◌∙◌}
 use Rattle.reach.specs.declared.step.Way.TheVariants as way
 use Rattle.reach.proofs.Finding.{finds_none, owned_next_step, owned_skip}
 use Rattle.reach.proofs.searching.find_owned.Goals as goal

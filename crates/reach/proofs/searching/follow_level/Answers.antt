@@ -1,4 +1,5 @@
-use Rattle.reach.proofs.Names.{◌+◌, ◌<◌, ◌^◌, ℕ, arith, length, rules, subst, sym, FindsBy, IsFromLevel}
+use Rattle.reach.proofs.Names.{ℕ, arith, length, rules, subst, sym, FindsBy, IsFromLevel}
+use Rattle.std.proofs.Common.{◌+◌, ◌<◌, ◌^◌}
 use Rattle.reach.proofs.Finding.{finds_none}
 use Rattle.reach.proofs.Searches.{level_next, level_skip}
 use Rattle.reach.proofs.searching.follow_level.Goals as goal

@@ -1,4 +1,5 @@
-use Rattle.reach.proofs.Names.{◌+◌, FindsBy, IsFromLevel}
+use Rattle.reach.proofs.Names.{FindsBy, IsFromLevel}
+use Rattle.std.proofs.Common.{◌+◌}
 use Rattle.reach.proofs.searching.follow_level.Given as goal
 
 abbrev pub invariant-loop-number : goal.invariant-loop-number

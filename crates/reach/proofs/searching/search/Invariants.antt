@@ -1,4 +1,5 @@
-use Rattle.reach.proofs.Names.{◌+◌, ◌-◌, IsSearched, missing}
+use Rattle.reach.proofs.Names.{IsSearched, missing}
+use Rattle.std.proofs.Common.{◌+◌, ◌-◌}
 use Rattle.reach.proofs.Searches.{Begun}
 use Rattle.reach.proofs.searching.search.Given as goal
 

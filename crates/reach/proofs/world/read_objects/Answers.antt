@@ -1,5 +1,6 @@
-use Rattle.reach.proofs.Names.{◌≡◌, ◌<◌, ◌++◌, ◌∷◌, [], List, ap, arith, length, rules, sym, take, ◌∙◌, take_all, take_more, ObjectHeader, Object, free}
-use Rattle.reach.proofs.Names.{object_at, objects_in, length_objects}
+use Rattle.reach.proofs.Names.{[], List, ap, arith, length, rules, sym, take, take_all, take_more, ObjectHeader, Object, free, object_at, objects_in}
+use Rattle.reach.proofs.Names.{length_objects}
+use Rattle.std.proofs.Common.{◌≡◌, ◌<◌, ◌++◌, ◌∷◌, ◌∙◌}
 use Rattle.reach.proofs.Looking.{looked_objects, looked_ok}
 use Rattle.reach.proofs.world.read_objects.Goals as goal
 

@@ -1,4 +1,5 @@
-use Rattle.reach.proofs.Names.{◌≡◌, take, objects_in}
+use Rattle.reach.proofs.Names.{take, objects_in}
+use Rattle.std.proofs.Common.{◌≡◌}
 use Rattle.reach.proofs.Looking.{HasLooked}
 use Rattle.reach.proofs.world.read_objects.Given as goal
 

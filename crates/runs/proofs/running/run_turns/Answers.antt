@@ -1,4 +1,5 @@
-use Rattle.runs.proofs.Names.{Ok, refl, rules, subst, ◌∙◌, take, err_from_is_err_and, Piece, ReadsPiece}
+use Rattle.runs.proofs.Names.{Ok, refl, rules, subst, take, err_from_is_err_and, Piece, ReadsPiece}
+use Rattle.std.proofs.Common.{◌∙◌}
 use Rattle.runs.proofs.Turning.{end_passed_on, nothing_read, passed_on, piece_on, piece_stops, rest_stops_run}
 use Rattle.runs.proofs.running.run_turns.Goals as goal
 

@@ -1,4 +1,5 @@
-use Rattle.runs.proofs.Names.{List, ℕ, ◌++◌, refl, sym, subst, Holds, TakesLine}
+use Rattle.runs.proofs.Names.{List, ℕ, refl, sym, subst, Holds, TakesLine}
+use Rattle.std.proofs.Common.{◌++◌}
 use Rattle.runs.proofs.running.take_line.Goals as goal
 
 pub returns-then-is_empty-clause-turn : goal.returns-then-is_empty-clause-turn

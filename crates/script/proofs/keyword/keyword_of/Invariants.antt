@@ -1,4 +1,5 @@
-use Rattle.script.proofs.Names.{◌≢◌, ℕ, ◌<◌, get_or, Send, Invoke, keyword_name}
+use Rattle.script.proofs.Names.{ℕ, get_or, Send, Invoke, keyword_name}
+use Rattle.std.proofs.Common.{◌≢◌, ◌<◌}
 use Rattle.script.proofs.keyword.keyword_of.Given as goal
 
 abbrev pub invariant-loop-keyword : goal.invariant-loop-keyword

@@ -1,4 +1,5 @@
-use Rattle.script.proofs.Names.{◌<◌, length, refl, rules, AllDigits}
+use Rattle.script.proofs.Names.{length, refl, rules, AllDigits}
+use Rattle.std.proofs.Common.{◌<◌}
 use Rattle.script.proofs.LineFaults.{too_great, zero_longer}
 use Rattle.script.proofs.line_fault.number_fault.Goals as goal
 

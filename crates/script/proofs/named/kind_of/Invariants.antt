@@ -1,4 +1,5 @@
-use Rattle.script.proofs.Names.{◌≢◌, ℕ, ◌<◌, get_or, Discrim, kind_name}
+use Rattle.script.proofs.Names.{ℕ, get_or, Discrim, kind_name}
+use Rattle.std.proofs.Common.{◌≢◌, ◌<◌}
 use Rattle.script.proofs.named.kind_of.Given as goal
 
 abbrev pub invariant-loop-kind : goal.invariant-loop-kind

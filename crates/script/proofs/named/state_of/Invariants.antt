@@ -1,4 +1,5 @@
-use Rattle.script.proofs.Names.{◌≢◌, ℕ, ◌<◌, get_or, Waiting, state_text}
+use Rattle.script.proofs.Names.{ℕ, get_or, Waiting, state_text}
+use Rattle.std.proofs.Common.{◌≢◌, ◌<◌}
 use Rattle.script.proofs.named.state_of.Given as goal
 
 abbrev pub invariant-loop-state : goal.invariant-loop-state

@@ -1,4 +1,5 @@
-use Rattle.script.proofs.Names.{◌≡◌, ◌<◌, ◌≤◌, ◌^◌, take, AllDigits, digits_value, first_end}
+use Rattle.script.proofs.Names.{take, AllDigits, digits_value, first_end}
+use Rattle.std.proofs.Common.{◌≡◌, ◌<◌, ◌≤◌, ◌^◌}
 use Rattle.script.proofs.number.value_in_front.Given as goal
 
 abbrev pub invariant-loop-size : goal.invariant-loop-size

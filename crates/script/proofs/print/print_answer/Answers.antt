@@ -1,4 +1,5 @@
-use Rattle.script.proofs.Names.{◌≡◌, ℕ, ◌+◌, [], ◌∷◌, codes, refl, ap, decimal, MemoryFault, printed, line_of, spaced, fault_number, the_type}
+use Rattle.script.proofs.Names.{ℕ, [], codes, refl, ap, decimal, MemoryFault, printed, line_of, spaced, fault_number, the_type}
+use Rattle.std.proofs.Common.{◌≡◌, ◌+◌, ◌∷◌}
 use Rattle.model.specs.declared.answer.MemoryFault.TheVariants as fault
 use denote.Enum.Declared.{tag_of}
 use Rattle.script.proofs.Fronts.{writes_same}

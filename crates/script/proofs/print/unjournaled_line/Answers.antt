@@ -1,4 +1,5 @@
-use Rattle.script.proofs.Names.{digits, ◌++◌, ◌∙◌, ap, sym, codes, decimal, Unjournaled, unjournaled_number}
+use Rattle.script.proofs.Names.{digits, ap, sym, codes, decimal, Unjournaled, unjournaled_number}
+use Rattle.std.proofs.Common.{◌++◌, ◌∙◌}
 use Rattle.script.proofs.print.unjournaled_line.Goals as goal
 
 pub returns-in-NotPage-clause-text : goal.returns-in-NotPage-clause-text

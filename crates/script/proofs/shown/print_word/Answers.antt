@@ -1,4 +1,5 @@
-use Rattle.script.proofs.Names.{◌≡◌, ◌==◌, false, append_assoc, arith, nat_tests}
+use Rattle.script.proofs.Names.{false, append_assoc, arith, nat_tests}
+use Rattle.std.proofs.Common.{◌≡◌, ◌==◌}
 use Rattle.script.proofs.Fronts.{writes_same}
 use Rattle.script.proofs.shown.print_word.Goals as goal
 

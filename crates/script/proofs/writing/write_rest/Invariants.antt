@@ -1,4 +1,5 @@
-use Rattle.script.proofs.Names.{◌≤◌, length, take, Appends}
+use Rattle.script.proofs.Names.{length, take, Appends}
+use Rattle.std.proofs.Common.{◌≤◌}
 use Rattle.script.proofs.writing.write_rest.Given as goal
 
 abbrev pub invariant-loop : goal.invariant-loop

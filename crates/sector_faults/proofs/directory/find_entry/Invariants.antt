@@ -1,4 +1,5 @@
-use Rattle.sector_faults.proofs.Names.{ℕ, ◌<◌, IsAmong}
+use Rattle.sector_faults.proofs.Names.{ℕ, IsAmong}
+use Rattle.std.proofs.Common.{◌<◌}
 use Rattle.sector_faults.proofs.directory.find_entry.Given as goal
 
 abbrev pub invariant-loop-index : goal.invariant-loop-index

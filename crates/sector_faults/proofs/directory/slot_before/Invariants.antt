@@ -1,4 +1,5 @@
-use Rattle.sector_faults.proofs.Names.{◌≡◌, ℕ, ◌<◌, entry_at}
+use Rattle.sector_faults.proofs.Names.{ℕ, entry_at}
+use Rattle.std.proofs.Common.{◌≡◌, ◌<◌}
 use Rattle.sector_faults.proofs.directory.slot_before.Given as goal
 
 abbrev pub invariant-loop-j : goal.invariant-loop-j

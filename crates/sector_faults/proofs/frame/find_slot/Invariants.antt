@@ -1,4 +1,5 @@
-use Rattle.sector_faults.proofs.Names.{ℕ, ◌<◌, HoldsCap}
+use Rattle.sector_faults.proofs.Names.{ℕ, HoldsCap}
+use Rattle.std.proofs.Common.{◌<◌}
 use Rattle.sector_faults.proofs.frame.find_slot.Given as goal
 
 abbrev pub invariant-loop-k : goal.invariant-loop-k

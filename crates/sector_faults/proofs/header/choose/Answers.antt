@@ -1,4 +1,5 @@
-use Rattle.sector_faults.proofs.Names.{◌≡◌, true, false, arith, sym, ◌∙◌, does_count, sequence_in}
+use Rattle.sector_faults.proofs.Names.{true, false, arith, sym, does_count, sequence_in}
+use Rattle.std.proofs.Common.{◌≡◌, ◌∙◌}
 use Rattle.sector_faults.proofs.Headers.{if_none, none_in, second_wins}
 use Rattle.sector_faults.proofs.header.choose.Goals as goal
 

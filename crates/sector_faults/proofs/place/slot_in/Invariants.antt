@@ -1,4 +1,5 @@
-use Rattle.sector_faults.proofs.Names.{◌≡◌, drop, slot_in}
+use Rattle.sector_faults.proofs.Names.{drop, slot_in}
+use Rattle.std.proofs.Common.{◌≡◌}
 use Rattle.sector_faults.proofs.place.slot_in.Given as goal
 
 abbrev pub invariant-loop-entry : goal.invariant-loop-entry

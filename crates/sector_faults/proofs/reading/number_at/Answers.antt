@@ -1,4 +1,5 @@
-use Rattle.sector_faults.proofs.Names.{ap, ◌∙◌, arith, take_rest, little_number}
+use Rattle.sector_faults.proofs.Names.{ap, arith, take_rest, little_number}
+use Rattle.std.proofs.Common.{◌∙◌}
 use Rattle.sector_faults.proofs.Numbers.{number_read}
 use Rattle.sector_faults.proofs.reading.number_at.Goals as goal
 

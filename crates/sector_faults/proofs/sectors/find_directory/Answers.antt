@@ -1,4 +1,5 @@
-use Rattle.sector_faults.proofs.Names.{◌≡◌, ◌+◌, ◌-◌, ap, length, refl, subst, arith, ◌∙◌, Geometry, slot_sector, Plan, BreaksDirectory}
+use Rattle.sector_faults.proofs.Names.{ap, length, refl, subst, arith, Geometry, slot_sector, Plan, BreaksDirectory}
+use Rattle.std.proofs.Common.{◌≡◌, ◌+◌, ◌-◌, ◌∙◌}
 use Rattle.sector_faults.proofs.Whole.{directory_fault, directory_inside}
 use Rattle.sector_faults.proofs.sectors.find_directory.Goals as goal
 

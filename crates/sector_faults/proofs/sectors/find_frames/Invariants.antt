@@ -1,4 +1,5 @@
-use Rattle.sector_faults.proofs.Names.{ℕ, ◌<◌, Image, IsCopy, IsWholeFrame}
+use Rattle.sector_faults.proofs.Names.{ℕ, Image, IsCopy, IsWholeFrame}
+use Rattle.std.proofs.Common.{◌<◌}
 use Rattle.sector_faults.proofs.sectors.find_frames.Given as goal
 
 abbrev pub invariant-loop-number : goal.invariant-loop-number

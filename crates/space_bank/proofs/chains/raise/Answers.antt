@@ -1,4 +1,5 @@
-use Rattle.space_bank.proofs.Names.{◌≡◌, ◌<◌, arith, length, owner_at, objects_in, owner_read}
+use Rattle.space_bank.proofs.Names.{arith, length, owner_at, objects_in, owner_read}
+use Rattle.std.proofs.Common.{◌≡◌, ◌<◌}
 use Rattle.space_bank.proofs.Climbs.{climb_ended, climb_itself, climb_starts, climbs_on, raised_last, raises_on, raising_here, raising_starts}
 use Rattle.space_bank.proofs.chains.raise.Goals as goal
 

@@ -1,5 +1,5 @@
-use Rattle.space_bank.proofs.Names.{◌≡◌, ℕ, length, IsTrue, is_bank, content_at, objects_in}
-use Rattle.std.proofs.Common.{slice_index}
+use Rattle.space_bank.proofs.Names.{ℕ, length, IsTrue, is_bank, content_at, objects_in}
+use Rattle.std.proofs.Common.{◌≡◌, slice_index}
 use Rattle.space_bank.proofs.Used.{used_below}
 use Rattle.space_bank.proofs.counting.add_usages.Given as goal
 

@@ -1,4 +1,5 @@
-use Rattle.space_bank.proofs.Names.{◌≡◌, ◌+◌, ◌<◌, ℕ, length, is_free, content_at, objects_in, is_marked}
+use Rattle.space_bank.proofs.Names.{ℕ, length, is_free, content_at, objects_in, is_marked}
+use Rattle.std.proofs.Common.{◌≡◌, ◌+◌, ◌<◌}
 use Rattle.space_bank.proofs.counting.free_numbers.Given as goal
 
 abbrev pub invariant-loop-number : goal.invariant-loop-number

@@ -1,4 +1,5 @@
-use Rattle.space_bank.proofs.Names.{◌≡◌, ◌∙◌, subst, sym, Role, content_at, objects_in, kept_number}
+use Rattle.space_bank.proofs.Names.{subst, sym, Role, content_at, objects_in, kept_number}
+use Rattle.std.proofs.Common.{◌≡◌, ◌∙◌}
 use Rattle.space_bank.proofs.Counts.{annex_of_other, limit_of_other}
 use Rattle.space_bank.proofs.counting.is_kept.Goals as goal
 

@@ -1,4 +1,5 @@
-use Rattle.space_bank.proofs.Names.{◌∙◌, sym, ap, Cap, Content, limit_in}
+use Rattle.space_bank.proofs.Names.{sym, ap, Cap, Content, limit_in}
+use Rattle.std.proofs.Common.{◌∙◌}
 use Rattle.space_bank.proofs.Counts.{limit_held, no_limit}
 use Rattle.space_bank.proofs.counting.limit_there.Goals as goal
 

@@ -1,4 +1,5 @@
-use Rattle.space_bank.proofs.Names.{◌^◌, ◌-◌, frames_of, keepable_roles}
+use Rattle.space_bank.proofs.Names.{frames_of, keepable_roles}
+use Rattle.std.proofs.Common.{◌^◌, ◌-◌}
 use Rattle.space_bank.proofs.counting.read_number.Goals as goal
 
 pub is_kept-requires : goal.is_kept-requires

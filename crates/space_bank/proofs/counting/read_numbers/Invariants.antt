@@ -1,4 +1,5 @@
-use Rattle.space_bank.proofs.Names.{◌≡◌, ◌≤◌, map, vec_len, range_with_len, vec_capacity, content_at, OnlyFetches, objects_in, kept_number}
+use Rattle.space_bank.proofs.Names.{map, vec_len, range_with_len, vec_capacity, content_at, OnlyFetches, objects_in, kept_number}
+use Rattle.std.proofs.Common.{◌≡◌, ◌≤◌}
 use Rattle.space_bank.proofs.counting.read_numbers.Given as goal
 
 abbrev pub invariant-loop-number : goal.invariant-loop-number

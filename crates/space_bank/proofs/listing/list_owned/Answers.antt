@@ -1,5 +1,6 @@
-use Rattle.space_bank.proofs.Names.{◌≡◌, ◌∙◌, ◌++◌, ℕ, List, length, Vec, Global, true, false, vec_len, ap, sym, refl, arith, eq-eqb, ne_eqb, vec_capacity}
-use Rattle.space_bank.proofs.Names.{owner_at, objects_in, length_objects, HasNoneUsed, IsNextUsed}
+use Rattle.space_bank.proofs.Names.{ℕ, List, length, Vec, Global, true, false, vec_len, ap, sym, refl, arith, eq-eqb, ne_eqb, vec_capacity, owner_at}
+use Rattle.space_bank.proofs.Names.{objects_in, length_objects, HasNoneUsed, IsNextUsed}
+use Rattle.std.proofs.Common.{◌≡◌, ◌∙◌, ◌++◌}
 use Rattle.space_bank.proofs.Lists.{is_listed_owned, listed_more, listed_same, owned_whole}
 use Rattle.space_bank.proofs.Missing.{free_not_owned, listed_up_to}
 use Rattle.space_bank.proofs.listing.list_owned.Goals as goal

@@ -1,4 +1,5 @@
-use Rattle.space_bank.proofs.Names.{◌≡◌, ◌≤◌, ◌+◌, ◌-◌, ◌++◌, length, vec_len, filter, range_with_len, vec_capacity, objects_in}
+use Rattle.space_bank.proofs.Names.{length, vec_len, filter, range_with_len, vec_capacity, objects_in}
+use Rattle.std.proofs.Common.{◌≡◌, ◌≤◌, ◌+◌, ◌-◌, ◌++◌}
 use Rattle.space_bank.proofs.Lists.{is_listed_owned}
 use Rattle.space_bank.proofs.listing.list_owned.Given as goal
 

@@ -1,5 +1,6 @@
-use Rattle.space_bank.proofs.Names.{◌≡◌, ◌∙◌, ◌++◌, ℕ, List, length, Vec, Global, true, false, vec_len, ap, sym, refl, arith, eq-eqb, ne_eqb, vec_capacity}
-use Rattle.space_bank.proofs.Names.{is_under, object_at, objects_in, length_objects, HasNoneUsed, IsNextUsed}
+use Rattle.space_bank.proofs.Names.{ℕ, List, length, Vec, Global, true, false, vec_len, ap, sym, refl, arith, eq-eqb, ne_eqb, vec_capacity, is_under, object_at}
+use Rattle.space_bank.proofs.Names.{objects_in, length_objects, HasNoneUsed, IsNextUsed}
+use Rattle.std.proofs.Common.{◌≡◌, ◌∙◌, ◌++◌}
 use Rattle.space_bank.proofs.Lists.{is_listed_under, listed_more, listed_same, under_whole}
 use Rattle.space_bank.proofs.Missing.{free_not_under, listed_up_to}
 use Rattle.space_bank.proofs.listing.list_under.Goals as goal

@@ -1,4 +1,5 @@
-use Rattle.space_bank.proofs.Names.{◌<◌, ◌++◌, ◌∙◌, ap, arith, length, sym, set-append_left, set-append_right}
+use Rattle.space_bank.proofs.Names.{ap, arith, length, sym, set-append_left, set-append_right}
+use Rattle.std.proofs.Common.{◌<◌, ◌++◌, ◌∙◌}
 use Rattle.std.specs.Prelude.{Bool, List}
 use Rattle.space_bank.proofs.marking.mark.Goals as goal
 

@@ -1,4 +1,5 @@
-use Rattle.space_bank.proofs.Names.{◌<◌, ◌++◌, ◌∙◌, arith, length, slice_index, length-append}
+use Rattle.space_bank.proofs.Names.{arith, length, slice_index, length-append}
+use Rattle.std.proofs.Common.{◌<◌, ◌++◌, ◌∙◌}
 use Rattle.space_bank.proofs.Tallies.{marked_more}
 use Rattle.space_bank.proofs.marking.mark_free.Goals as goal
 

@@ -1,4 +1,6 @@
-use Rattle.space_bank.proofs.Names.{◌≡◌, ℕ, ◌++◌, true, false, length, take, if◌then◌else◌, slice_index_or, is_member}
+use Rattle.space_bank.proofs.Names.{ℕ, true, false, length, take, slice_index_or, is_member}
+use Rattle.std.proofs.Common.{◌≡◌, ◌++◌}
+use Rattle.std.specs.Prelude.{if◌then◌else◌}
 use Rattle.space_bank.proofs.marking.mark_free.Given as goal
 
 abbrev pub invariant-loop-number : goal.invariant-loop-number

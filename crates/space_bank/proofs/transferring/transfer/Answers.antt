@@ -1,5 +1,6 @@
-use Rattle.space_bank.proofs.Names.{◌≡◌, ◌<◌, arith, false, length, subst, sym, take, slice_index, Geometry, AreKeepable, is_free, content_at, frames_of}
-use Rattle.space_bank.proofs.Names.{objects_in, keeps_twice, length_objects}
+use Rattle.space_bank.proofs.Names.{arith, false, length, subst, sym, take, slice_index, Geometry, AreKeepable, is_free, content_at, frames_of, objects_in}
+use Rattle.space_bank.proofs.Names.{keeps_twice, length_objects}
+use Rattle.std.proofs.Common.{◌≡◌, ◌<◌}
 use Rattle.space_bank.proofs.Owners.{transferred_more, transferred_used}
 use Rattle.space_bank.proofs.Standing.{used_header}
 use Rattle.space_bank.proofs.transferring.transfer.Goals as goal

@@ -1,4 +1,5 @@
-use Rattle.space_bank.proofs.Names.{◌≡◌, ◌+◌, ◌-◌, length, chain, chain_within, objects_in}
+use Rattle.space_bank.proofs.Names.{length, chain, chain_within, objects_in}
+use Rattle.std.proofs.Common.{◌≡◌, ◌+◌, ◌-◌}
 use Rattle.space_bank.proofs.walking.chain_length.Given as goal
 
 abbrev pub invariant-loop-passed : goal.invariant-loop-passed

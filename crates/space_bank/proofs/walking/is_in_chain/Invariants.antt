@@ -1,4 +1,5 @@
-use Rattle.space_bank.proofs.Names.{◌≡◌, ◌-◌, nat_eq, list_any, chain, chain_within, objects_in}
+use Rattle.space_bank.proofs.Names.{nat_eq, list_any, chain, chain_within, objects_in}
+use Rattle.std.proofs.Common.{◌≡◌, ◌-◌}
 use Rattle.space_bank.proofs.walking.is_in_chain.Given as goal
 
 abbrev pub invariant-loop-step : goal.invariant-loop-step

@@ -1,4 +1,5 @@
-use Rattle.cache_entries.proofs.Names.{length, refl, sym, ◌∙◌, slice_get_read}
+use Rattle.cache_entries.proofs.Names.{length, refl, sym, slice_get_read}
+use Rattle.std.proofs.Common.{◌∙◌}
 use Rattle.cache_entries.proofs.Arenas.{has_place, seen}
 use Rattle.cache_entries.proofs.arena.Arena.get.Goals as goal
 

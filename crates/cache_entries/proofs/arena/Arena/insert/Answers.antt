@@ -1,4 +1,5 @@
-use Rattle.cache_entries.proofs.Names.{◌≡◌, ◌<◌, ◌∷◌, [], length, sym, ap, ◌∙◌, arith, length-append, ArenaState}
+use Rattle.cache_entries.proofs.Names.{[], length, sym, ap, arith, length-append, ArenaState}
+use Rattle.std.proofs.Common.{◌≡◌, ◌<◌, ◌∷◌, ◌∙◌}
 use Rattle.cache_entries.proofs.Arenas.{has_place, seen, insert_placed, more_arena}
 use Rattle.cache_entries.proofs.arena.Arena.insert.Goals as goal
 

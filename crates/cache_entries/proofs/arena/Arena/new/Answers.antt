@@ -1,4 +1,5 @@
-use Rattle.cache_entries.proofs.Names.{ℕ, List, Option, None, replicate, ap, ◌∙◌, arith, Entry}
+use Rattle.cache_entries.proofs.Names.{ℕ, List, Option, None, replicate, ap, arith, Entry}
+use Rattle.std.proofs.Common.{◌∙◌}
 use Rattle.cache_entries.proofs.Arenas.{none_in}
 use Rattle.cache_entries.proofs.arena.Arena.new.Goals as goal
 

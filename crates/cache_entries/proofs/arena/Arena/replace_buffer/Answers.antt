@@ -1,4 +1,5 @@
-use Rattle.cache_entries.proofs.Names.{Some, option_map, refl, sym, ap, ◌∙◌, arith, reserving, buffer_of}
+use Rattle.cache_entries.proofs.Names.{Some, option_map, refl, sym, ap, arith, reserving, buffer_of}
+use Rattle.std.proofs.Common.{◌∙◌}
 use Rattle.cache_entries.proofs.Arenas.{there, place_within, changes}
 use Rattle.cache_entries.proofs.arena.Arena.replace_buffer.Goals as goal
 

@@ -1,5 +1,5 @@
-use Rattle.cache_entries.proofs.Names.{◌≡◌, ◌<◌, Some, None, length, slice_set, ap, ◌∙◌, arith, ArenaState, entry_at, EntriesState, OrderState, entries_of}
-use Rattle.cache_entries.proofs.Names.{with_new}
+use Rattle.cache_entries.proofs.Names.{Some, None, length, slice_set, ap, arith, ArenaState, entry_at, EntriesState, OrderState, entries_of, with_new}
+use Rattle.std.proofs.Common.{◌≡◌, ◌<◌, ◌∙◌}
 use Rattle.cache_entries.proofs.Orders.{kept_new}
 use Rattle.cache_entries.proofs.entries.Entries.insert.Goals as goal
 

@@ -1,4 +1,5 @@
-use Rattle.cache_entries.proofs.Names.{is_some, sym, ap, ◌∙◌, entry_at, EntriesState}
+use Rattle.cache_entries.proofs.Names.{is_some, sym, ap, entry_at, EntriesState}
+use Rattle.std.proofs.Common.{◌∙◌}
 use Rattle.cache_entries.proofs.Orders.{kept_used}
 use Rattle.cache_entries.proofs.entries.Entries.promote.Goals as goal
 

@@ -1,4 +1,5 @@
-use Rattle.cache_entries.proofs.Names.{ℕ, List, Option, None, slice_set, is_some, ap, ◌∙◌, Entry, entry_at, EntriesState, OrderState, without, without_entry}
+use Rattle.cache_entries.proofs.Names.{ℕ, List, Option, None, slice_set, is_some, ap, Entry, entry_at, EntriesState, OrderState, without, without_entry}
+use Rattle.std.proofs.Common.{◌∙◌}
 use Rattle.cache_entries.proofs.Orders.{kept_without}
 use Rattle.cache_entries.proofs.entries.Entries.remove.Goals as goal
 

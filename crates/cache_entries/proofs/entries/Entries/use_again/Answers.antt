@@ -1,4 +1,5 @@
-use Rattle.cache_entries.proofs.Names.{ℕ, List, take, is_some, sym, ap, ◌∙◌, take_all, is_member, entry_at, EntriesState, used_in_turn}
+use Rattle.cache_entries.proofs.Names.{ℕ, List, take, is_some, sym, ap, take_all, is_member, entry_at, EntriesState, used_in_turn}
+use Rattle.std.proofs.Common.{◌∙◌}
 use Rattle.cache_entries.proofs.Turns.{contains_member, kept_in_turn}
 use Rattle.cache_entries.proofs.entries.Entries.use_again.Goals as goal
 

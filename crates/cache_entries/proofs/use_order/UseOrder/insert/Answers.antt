@@ -1,5 +1,5 @@
-use Rattle.cache_entries.proofs.Names.{◌≡◌, ℕ, ◌<◌, List, ◌∷◌, false, length, ap, ◌∙◌, arith, keys_of, length-map, LruCache, is_member, OrderState}
-use Rattle.cache_entries.proofs.Names.{used_in_turn}
+use Rattle.cache_entries.proofs.Names.{ℕ, List, false, length, ap, arith, keys_of, length-map, LruCache, is_member, OrderState, used_in_turn}
+use Rattle.std.proofs.Common.{◌≡◌, ◌<◌, ◌∷◌, ◌∙◌}
 use Rattle.cache_entries.proofs.Orders.{new_keys}
 use Rattle.cache_entries.proofs.use_order.UseOrder.insert.Goals as goal
 use Rattle.cache_entries.proofs.use_order.UseOrder.insert.Goals.{in-Ok, in-Err}

@@ -1,4 +1,5 @@
-use Rattle.cache_entries.proofs.Names.{◌≡◌, ℕ, length, ap, ◌∙◌, arith, nat_le, keys_of, length-map, OrderState}
+use Rattle.cache_entries.proofs.Names.{ℕ, length, ap, arith, nat_le, keys_of, length-map, OrderState}
+use Rattle.std.proofs.Common.{◌≡◌, ◌∙◌}
 use Rattle.cache_entries.proofs.Turns.{length_in_turn}
 use Rattle.cache_entries.proofs.use_order.UseOrder.is_full.Goals as goal
 

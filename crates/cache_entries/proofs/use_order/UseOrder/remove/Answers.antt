@@ -1,4 +1,5 @@
-use Rattle.cache_entries.proofs.Names.{ℕ, List, ap, ◌∙◌, keys_of, LruCache, OrderState, used_in_turn, without}
+use Rattle.cache_entries.proofs.Names.{ℕ, List, ap, keys_of, LruCache, OrderState, used_in_turn, without}
+use Rattle.std.proofs.Common.{◌∙◌}
 use Rattle.cache_entries.proofs.Orders.{without_keys}
 use Rattle.cache_entries.proofs.use_order.UseOrder.remove.Goals as goal
 

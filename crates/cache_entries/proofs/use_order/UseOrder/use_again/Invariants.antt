@@ -1,4 +1,5 @@
-use Rattle.cache_entries.proofs.Names.{◌≡◌, ℕ, true, take, is_member, used_in_turn}
+use Rattle.cache_entries.proofs.Names.{ℕ, true, take, is_member, used_in_turn}
+use Rattle.std.proofs.Common.{◌≡◌}
 use Rattle.cache_entries.proofs.use_order.UseOrder.use_again.Given as goal
 
 abbrev pub invariant-loop-number : goal.invariant-loop-number

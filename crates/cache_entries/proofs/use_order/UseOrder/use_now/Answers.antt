@@ -1,5 +1,6 @@
-use Rattle.cache_entries.proofs.Names.{◌≡◌, ℕ, List, [], ◌∷◌, true, false, length, refl, sym, ap, subst, ◌∙◌, arith, length-append, keys_of, is_member}
-use Rattle.cache_entries.proofs.Names.{AreLatest, OrderState, used_in_turn, used_last, without}
+use Rattle.cache_entries.proofs.Names.{ℕ, List, [], true, false, length, refl, sym, ap, subst, arith, length-append, keys_of, is_member, AreLatest, OrderState}
+use Rattle.cache_entries.proofs.Names.{used_in_turn, used_last, without}
+use Rattle.std.proofs.Common.{◌≡◌, ◌∷◌, ◌∙◌}
 use Rattle.cache_entries.proofs.Orders.{length_without}
 use Rattle.cache_entries.proofs.Recent.{listed_member}
 use Rattle.cache_entries.proofs.Turns.{again_latest, member_in_turn, more_latest, used_at_end, used_once_more}

@@ -1,5 +1,6 @@
-use Rattle.cache_entries.proofs.Names.{◌≡◌, ℕ, List, [], ◌∷◌, true, length, sym, ap, subst, ◌∙◌, arith, length-append, keys_of, is_member, AreLatest}
-use Rattle.cache_entries.proofs.Names.{OrderState, used_in_turn, used_last, without}
+use Rattle.cache_entries.proofs.Names.{ℕ, List, [], true, length, sym, ap, subst, arith, length-append, keys_of, is_member, AreLatest, OrderState, used_in_turn}
+use Rattle.cache_entries.proofs.Names.{used_last, without}
+use Rattle.std.proofs.Common.{◌≡◌, ◌∷◌, ◌∙◌}
 use Rattle.cache_entries.proofs.Orders.{length_without}
 use Rattle.cache_entries.proofs.Recent.{listed_member}
 use Rattle.cache_entries.proofs.Turns.{again_latest, member_in_turn, used_once_more}

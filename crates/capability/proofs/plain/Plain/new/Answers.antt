@@ -1,5 +1,5 @@
-use Rattle.capability.proofs.Names.{rules, ◌≡◌, ◌++◌, ℕ, Bool, false, List, replicate, ap, ◌∙◌, Cap, ObjectHeader, Geometry, Content, untouched, object_count}
-use Rattle.capability.proofs.Names.{PlainState}
+use Rattle.capability.proofs.Names.{rules, ℕ, Bool, false, List, replicate, ap, Cap, ObjectHeader, Geometry, Content, untouched, object_count, PlainState}
+use Rattle.std.proofs.Common.{◌≡◌, ◌++◌, ◌∙◌}
 use Rattle.model.specs.declared.object.Content.TheVariants as content
 use Rattle.capability.proofs.plain.Plain.new.Goals as goal
 

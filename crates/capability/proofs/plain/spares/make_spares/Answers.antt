@@ -1,5 +1,5 @@
-use Rattle.capability.proofs.Names.{◌≡◌, inl, inr, slice_index_or, subst, sym, ◌∙◌, arith, cases_eq, get_or_default_zero, Free, header_at, held_at}
-use Rattle.capability.proofs.Names.{spare_body_at}
+use Rattle.capability.proofs.Names.{inl, inr, slice_index_or, subst, sym, arith, cases_eq, get_or_default_zero, Free, header_at, held_at, spare_body_at}
+use Rattle.std.proofs.Common.{◌≡◌, ◌∙◌}
 use Rattle.capability.proofs.plain.spares.make_spares.Goals as goal
 
 pub loop-number-preserved : goal.loop-number-preserved

@@ -1,4 +1,5 @@
-use Rattle.capability.proofs.Names.{◌≡◌, ℕ, ◌<◌, length, slice_index_or, Free, header_at, held_at, spare_body_at}
+use Rattle.capability.proofs.Names.{ℕ, length, slice_index_or, Free, header_at, held_at, spare_body_at}
+use Rattle.std.proofs.Common.{◌≡◌, ◌<◌}
 use Rattle.capability.proofs.plain.spares.make_spares.Given as goal
 
 abbrev pub invariant-loop-number : goal.invariant-loop-number

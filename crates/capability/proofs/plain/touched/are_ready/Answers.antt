@@ -1,4 +1,6 @@
-use Rattle.capability.proofs.Names.{ℕ, true, inl, inr, ap, set, get_or, subst, sym, ◌∙◌, arith, ◌≢◌, cases_eq, get_or_default_zero, Free, header_at}
+use Rattle.capability.proofs.Names.{ℕ, true, inl, inr, ap, set, get_or, subst, sym, arith, cases_eq, get_or_default_zero, Free, header_at}
+use Rattle.std.proofs.Common.{◌∙◌}
+use Rattle.std.specs.Prelude.{◌≢◌}
 use Rattle.capability.proofs.Touched.{set-marked, touching_more}
 use Rattle.capability.proofs.plain.touched.are_ready.Goals as goal
 

@@ -1,4 +1,6 @@
-use Rattle.capability.proofs.Names.{◌≡◌, ◌<◌, ℕ, get_or, take, ◌≢◌, Free, header_at, touching}
+use Rattle.capability.proofs.Names.{ℕ, get_or, take, Free, header_at, touching}
+use Rattle.std.proofs.Common.{◌≡◌, ◌<◌}
+use Rattle.std.specs.Prelude.{◌≢◌}
 use Rattle.capability.proofs.plain.touched.are_ready.Given as goal
 
 abbrev pub invariant-loop-number : goal.invariant-loop-number

@@ -1,4 +1,5 @@
-use Rattle.capability.proofs.Names.{◌≡◌, ◌+◌, ◌≤◌, take, touching, touched_count}
+use Rattle.capability.proofs.Names.{take, touching, touched_count}
+use Rattle.std.proofs.Common.{◌≡◌, ◌+◌, ◌≤◌}
 use Rattle.capability.proofs.plain.touched.fresh_count.Given as goal
 
 abbrev pub invariant-loop-i : goal.invariant-loop-i

@@ -1,4 +1,5 @@
-use Rattle.capability.proofs.Names.{◌≡◌, length, take, touching}
+use Rattle.capability.proofs.Names.{length, take, touching}
+use Rattle.std.proofs.Common.{◌≡◌}
 use Rattle.capability.proofs.plain.touched.mark.Given as goal
 
 abbrev pub invariant-loop-number : goal.invariant-loop-number

@@ -1,4 +1,5 @@
-use Rattle.ckpt_log.proofs.Names.{rules, ◌≡◌, ◌≤◌, length, directory_sector}
+use Rattle.ckpt_log.proofs.Names.{rules, length, directory_sector}
+use Rattle.std.proofs.Common.{◌≡◌, ◌≤◌}
 use Rattle.ckpt_log.proofs.Sectors.{on_ok}
 use Rattle.ckpt_log.proofs.Directories.{no_entries, none_behind, zeros_behind}
 use Rattle.ckpt_log.proofs.log.Log.write_directory.Goals as goal

@@ -1,4 +1,5 @@
-use Rattle.described_world.proofs.Names.{◌∙◌, ap, replicate, blank_header, frames_in}
+use Rattle.described_world.proofs.Names.{ap, replicate, blank_header, frames_in}
+use Rattle.std.proofs.Common.{◌∙◌}
 use Rattle.described_world.proofs.Worlds.{blank_frames}
 use Rattle.described_world.proofs.world.World.free.Goals as goal
 

@@ -1,4 +1,5 @@
-use Rattle.file_device.proofs.Names.{◌∙◌, ◌+◌, arith, got_inside}
+use Rattle.file_device.proofs.Names.{arith, got_inside}
+use Rattle.std.proofs.Common.{◌∙◌, ◌+◌}
 use Rattle.file_device.proofs.file_device.CopiedFileDevice.read.Goals as goal
 
 pub returns-clause-bytes : goal.returns-clause-bytes

@@ -1,4 +1,5 @@
-use Rattle.file_device.proofs.Names.{◌∙◌, ap, length, rewritten}
+use Rattle.file_device.proofs.Names.{ap, length, rewritten}
+use Rattle.std.proofs.Common.{◌∙◌}
 use Rattle.file_device.proofs.Copies.{copy_written, copy_tears, write_elapses}
 use Rattle.file_device.proofs.file_device.CopiedFileDevice.write.Goals as goal
 

@@ -1,5 +1,6 @@
 -- `then` makes the empty struct, with the history that its clauses name.
-use Rattle.file_device.proofs.Names.{List, [], ◌∷◌, ◌++◌, refl, stepped}
+use Rattle.file_device.proofs.Names.{List, [], refl, stepped}
+use Rattle.std.proofs.Common.{◌∷◌, ◌++◌}
 use seplogic.Ra.Ura.{Ura}
 use mir.Syntax.{Fn}
 use mir.Val.{Val, vptr}

@@ -1,4 +1,5 @@
-use Rattle.file_device.proofs.Names.{◌≡◌, ◌*◌, ◌∙◌, arith, zeros_are, file_disk}
+use Rattle.file_device.proofs.Names.{arith, zeros_are, file_disk}
+use Rattle.std.proofs.Common.{◌≡◌, ◌*◌, ◌∙◌}
 use Rattle.file_device.proofs.Mirrored.{made_mirrors}
 use Rattle.file_device.proofs.Openings.{makes}
 use Rattle.file_device.proofs.open.CopiedFile+HostFile+F.create.Goals as goal

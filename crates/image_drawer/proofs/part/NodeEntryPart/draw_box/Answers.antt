@@ -1,4 +1,5 @@
-use Rattle.image_drawer.proofs.Names.{[], ◌∷◌, codes, decimal, err_from_is_err_and, spaced, text_fails, writes_fail, node_box, plain_lines}
+use Rattle.image_drawer.proofs.Names.{[], codes, decimal, err_from_is_err_and, spaced, text_fails, writes_fail, node_box, plain_lines}
+use Rattle.std.proofs.Common.{◌∷◌}
 use Rattle.image_drawer.proofs.Texts.{box_pieces, fails_before, three_written}
 use Rattle.image_drawer.proofs.part.NodeEntryPart.draw_box.Goals as goal
 

@@ -1,5 +1,6 @@
-use Rattle.image_drawer.proofs.Names.{[], ◌∷◌, ◌++◌, codes, decimal, err_from_is_err_and, spaced, text_fails, writes_fail, next_line, plain_lines, process_box}
+use Rattle.image_drawer.proofs.Names.{[], codes, decimal, err_from_is_err_and, spaced, text_fails, writes_fail, next_line, plain_lines, process_box}
 use Rattle.image_drawer.proofs.Names.{word_of_state}
+use Rattle.std.proofs.Common.{◌∷◌, ◌++◌}
 use Rattle.image_drawer.proofs.Texts.{box_pieces, fails_before, three_written}
 use Rattle.image_drawer.proofs.part.ProcessEntryPart.draw_box.Goals as goal
 

@@ -1,4 +1,5 @@
-use Rattle.jobs.proofs.Names.{◌≡◌, ◌+◌, ◌≤◌, length, failed_reads, left_to_read}
+use Rattle.jobs.proofs.Names.{length, failed_reads, left_to_read}
+use Rattle.std.proofs.Common.{◌≡◌, ◌+◌, ◌≤◌}
 use Rattle.jobs.proofs.shell.ShellInput.read_line.Given as goal
 
 abbrev pub invariant-loop-count : goal.invariant-loop-count

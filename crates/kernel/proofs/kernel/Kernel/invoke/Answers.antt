@@ -1,4 +1,5 @@
-use Rattle.kernel.proofs.Names.{◌≡◌, sym, subst, ◌∙◌, Refusal, IsUnlooked, ServesUp, HasCode, disk_at}
+use Rattle.kernel.proofs.Names.{sym, subst, Refusal, IsUnlooked, ServesUp, HasCode, disk_at}
+use Rattle.std.proofs.Common.{◌≡◌, ◌∙◌}
 use Rattle.kernel.specs.Prepared.{refusal_of}
 use Rattle.model.specs.declared.answer.Answer.TheVariants as answer
 use Rattle.model.specs.declared.answer.Refusal.TheVariants as refusal

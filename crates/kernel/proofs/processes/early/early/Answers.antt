@@ -1,4 +1,5 @@
-use Rattle.kernel.proofs.Names.{ℕ, ◌<◌, length, sym, process_known, one_known, keepable_most}
+use Rattle.kernel.proofs.Names.{ℕ, length, sym, process_known, one_known, keepable_most}
+use Rattle.std.proofs.Common.{◌<◌}
 use Rattle.kernel.proofs.processes.early.early.Goals as goal
 
 pub fetch-requires-clause-known : goal.fetch-requires-clause-known

@@ -1,4 +1,5 @@
-use Rattle.kernel.proofs.Names.{subst, sym, ◌∙◌, Answer, Performs, counted_looked, ReadsAs, looked_as}
+use Rattle.kernel.proofs.Names.{subst, sym, Answer, Performs, counted_looked, ReadsAs, looked_as}
+use Rattle.std.proofs.Common.{◌∙◌}
 use Rattle.model.specs.declared.command.Command.TheVariants as command
 use Rattle.kernel.proofs.Performing.{fault_serves, invoked_serves, no_process_serves}
 use Rattle.kernel.proofs.processes.invocation.invoke.Goals as goal

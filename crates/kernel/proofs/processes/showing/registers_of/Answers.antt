@@ -1,4 +1,5 @@
-use Rattle.kernel.proofs.Names.{ℕ, ◌<◌, length, annex_known, one_known}
+use Rattle.kernel.proofs.Names.{ℕ, length, annex_known, one_known}
+use Rattle.std.proofs.Common.{◌<◌}
 use Rattle.kernel.proofs.processes.showing.registers_of.Goals as goal
 
 pub fetch-requires-clause-known : goal.fetch-requires-clause-known

@@ -1,4 +1,5 @@
-use Rattle.kernel.proofs.Names.{◌≡◌, ℕ, ◌≤◌, ◌<◌, List, length, refl, ap, ◌∙◌, subst, arith, ObjectHeader, objects_in, answer_of}
+use Rattle.kernel.proofs.Names.{ℕ, List, length, refl, ap, subst, arith, ObjectHeader, objects_in, answer_of}
+use Rattle.std.proofs.Common.{◌≡◌, ◌≤◌, ◌<◌, ◌∙◌}
 use Rattle.kernel.proofs.Performing.{AreSame, bad_number_serves, show_refused, shown_fine, shown_serves, shown_unfailed}
 use Rattle.kernel.proofs.processes.showing.show.Goals as goal
 

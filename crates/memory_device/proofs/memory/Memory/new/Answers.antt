@@ -1,4 +1,5 @@
-use Rattle.memory_device.proofs.Names.{◌*◌, ◌∙◌, arith, zeros_are}
+use Rattle.memory_device.proofs.Names.{arith, zeros_are}
+use Rattle.std.proofs.Common.{◌*◌, ◌∙◌}
 use Rattle.memory_device.proofs.memory.Memory.new.Goals as goal
 
 pub returns-clause-zeros : goal.returns-clause-zeros

@@ -1,4 +1,5 @@
-use Rattle.memory_device.proofs.Names.{◌∙◌, ap, length, arith, take_rest, rewritten}
+use Rattle.memory_device.proofs.Names.{ap, length, arith, take_rest, rewritten}
+use Rattle.std.proofs.Common.{◌∙◌}
 use Rattle.memory_device.proofs.Keeps.{sound_cut, cut_left, left_sound}
 use Rattle.memory_device.proofs.Entries.{past_cut, length-marked}
 use Rattle.memory_device.proofs.mirror.Mirror.power_cut.Goals as goal

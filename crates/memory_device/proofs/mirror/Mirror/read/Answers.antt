@@ -1,4 +1,5 @@
-use Rattle.memory_device.proofs.Names.{◌∙◌, ◌+◌, arith, got_inside}
+use Rattle.memory_device.proofs.Names.{arith, got_inside}
+use Rattle.std.proofs.Common.{◌∙◌, ◌+◌}
 use Rattle.memory_device.proofs.mirror.Mirror.read.Goals as goal
 
 pub returns : goal.returns

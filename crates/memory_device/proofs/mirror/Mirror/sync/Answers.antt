@@ -1,4 +1,5 @@
-use Rattle.memory_device.proofs.Names.{◌∙◌, ap, length, take_rest, rewritten}
+use Rattle.memory_device.proofs.Names.{ap, length, take_rest, rewritten}
+use Rattle.std.proofs.Common.{◌∙◌}
 use Rattle.memory_device.proofs.Keeps.{sound_synced}
 use Rattle.memory_device.proofs.Entries.{past_synced}
 use Rattle.memory_device.proofs.mirror.Mirror.sync.Goals as goal

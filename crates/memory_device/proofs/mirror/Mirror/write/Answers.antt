@@ -1,4 +1,5 @@
-use Rattle.memory_device.proofs.Names.{◌∙◌, ap, length, arith, rewritten, sectors_of}
+use Rattle.memory_device.proofs.Names.{ap, length, arith, rewritten, sectors_of}
+use Rattle.std.proofs.Common.{◌∙◌}
 use Rattle.memory_device.proofs.Keeps.{sound_written}
 use Rattle.memory_device.proofs.Entries.{past_written, length_written}
 use Rattle.memory_device.proofs.mirror.Mirror.write.Goals as goal

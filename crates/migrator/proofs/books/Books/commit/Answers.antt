@@ -1,4 +1,5 @@
-use Rattle.migrator.proofs.Names.{next_saved, ◌∙◌, refl, arith, frozen_of, seen_by, stored_on, puts}
+use Rattle.migrator.proofs.Names.{next_saved, refl, arith, frozen_of, seen_by, stored_on, puts}
+use Rattle.std.proofs.Common.{◌∙◌}
 use Rattle.migrator.proofs.Buffered.{entry_of}
 use Rattle.migrator.proofs.Commits.{commit_run, commit_stored, may_commit_now, mid_durable, mid_goes_on, mid_stored}
 use Rattle.migrator.proofs.Committing.{frozen_fits}

@@ -1,4 +1,5 @@
-use Rattle.migrator.proofs.Names.{◌∙◌, ℕ, List, ap, sym, subst, IsFrameOf, frame_from, most, Nowhere, Torn, Whole, seen_by, working_generation}
+use Rattle.migrator.proofs.Names.{ℕ, List, ap, sym, subst, IsFrameOf, frame_from, most, Nowhere, Torn, Whole, seen_by, working_generation}
+use Rattle.std.proofs.Common.{◌∙◌}
 use Rattle.migrator.proofs.Buffered.{working_again}
 use Rattle.migrator.proofs.Fetching.{newest_by, ok_weaker, whole_low}
 use Rattle.migrator.proofs.books.Books.fetch.Goals as goal

@@ -1,4 +1,5 @@
-use Rattle.migrator.proofs.Names.{◌∙◌, sym, Nowhere, Torn, Whole, seen_by}
+use Rattle.migrator.proofs.Names.{sym, Nowhere, Torn, Whole, seen_by}
+use Rattle.std.proofs.Common.{◌∙◌}
 use Rattle.migrator.proofs.Fetching.{below_by, ok_weaker}
 use Rattle.migrator.proofs.books.Books.fetch_below.Goals as goal
 

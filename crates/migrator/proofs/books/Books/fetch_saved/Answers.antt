@@ -1,4 +1,5 @@
-use Rattle.migrator.proofs.Names.{◌∙◌, sym, read_at, seen_by}
+use Rattle.migrator.proofs.Names.{sym, read_at, seen_by}
+use Rattle.std.proofs.Common.{◌∙◌}
 use Rattle.migrator.proofs.Buffered.{read_raw, spelt_raw}
 use Rattle.migrator.proofs.Fetching.{ok_weaker}
 use Rattle.migrator.proofs.books.Books.fetch_saved.Goals as goal

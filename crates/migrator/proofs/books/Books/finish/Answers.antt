@@ -1,4 +1,5 @@
-use Rattle.migrator.proofs.Names.{◌∙◌, subst, LeavesEither, Stored, stored_on}
+use Rattle.migrator.proofs.Names.{subst, LeavesEither, Stored, stored_on}
+use Rattle.std.proofs.Common.{◌∙◌}
 use Rattle.migrator.proofs.Finishing.{finished_stored, may_finish}
 use Rattle.migrator.proofs.Saving.{ok_then}
 use Rattle.migrator.proofs.books.Books.finish.Goals as goal

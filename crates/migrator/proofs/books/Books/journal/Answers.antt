@@ -1,5 +1,6 @@
-use Rattle.migrator.proofs.Names.{◌∙◌, ap, subst, sym, LeavesEither, journaled_saved, counted_ok, counts_on, frame_at, MayJournal, Stored, seen_by, journaled}
+use Rattle.migrator.proofs.Names.{ap, subst, sym, LeavesEither, journaled_saved, counted_ok, counts_on, frame_at, MayJournal, Stored, seen_by, journaled}
 use Rattle.migrator.proofs.Names.{stored_on, on_snapshots}
+use Rattle.std.proofs.Common.{◌∙◌}
 use Rattle.migrator.proofs.Buffered.{durable_read, goes_read, stored_read}
 use Rattle.migrator.proofs.Journaling.{both_runs, either_first, page_known}
 use Rattle.migrator.proofs.Saving.{err_then, ok_then, on_err}

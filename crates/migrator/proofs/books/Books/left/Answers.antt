@@ -1,4 +1,5 @@
-use Rattle.migrator.proofs.Names.{◌∙◌, ◌-◌, ap, sym, subst, arith, ℕ, Some, option_map, IsRunning, frozen_generation, frozen_of, left_of}
+use Rattle.migrator.proofs.Names.{ap, sym, subst, arith, ℕ, Some, option_map, IsRunning, frozen_generation, frozen_of, left_of}
+use Rattle.std.proofs.Common.{◌∙◌, ◌-◌}
 use Rattle.migrator.proofs.Putting.{kept_whole}
 use Rattle.migrator.proofs.Tables.{whole_taken}
 use Rattle.migrator.proofs.books.Books.left.Goals as goal

@@ -1,4 +1,5 @@
-use Rattle.migrator.proofs.Names.{◌≡◌, ◌⊎◌, ◌∙◌, ◌<◌, ◌+◌, ◌-◌, subst, arith, counted_ok, Books}
+use Rattle.migrator.proofs.Names.{subst, arith, counted_ok, Books}
+use Rattle.std.proofs.Common.{◌≡◌, ◌⊎◌, ◌∙◌, ◌<◌, ◌+◌, ◌-◌}
 use Rattle.migrator.proofs.Counting.{ok_counts}
 use Rattle.migrator.proofs.Saving.{on_err}
 use Rattle.migrator.proofs.Moves.{all_moments, all_number, all_stored, left_moments, left_number, left_stored, part_moments}

@@ -1,4 +1,5 @@
-use Rattle.migrator.proofs.Names.{◌<◌, ◌+◌, ◌∙◌, refl, arith, rules, counted_ok}
+use Rattle.migrator.proofs.Names.{refl, arith, rules, counted_ok}
+use Rattle.std.proofs.Common.{◌<◌, ◌+◌, ◌∙◌}
 use Rattle.migrator.proofs.Moves.{moved_more, moved_none, next_low}
 use Rattle.migrator.proofs.Saving.{on_err}
 use Rattle.migrator.proofs.books.Books.move_some.Goals as goal

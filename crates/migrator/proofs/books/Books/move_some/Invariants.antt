@@ -1,4 +1,5 @@
-use Rattle.migrator.proofs.Names.{◌≡◌, IsDurable, MovedBy}
+use Rattle.migrator.proofs.Names.{IsDurable, MovedBy}
+use Rattle.std.proofs.Common.{◌≡◌}
 use Rattle.migrator.proofs.books.Books.move_some.Given as goal
 
 abbrev pub invariant-loop : goal.invariant-loop

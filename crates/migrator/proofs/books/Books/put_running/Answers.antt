@@ -1,5 +1,5 @@
-use Rattle.migrator.proofs.Names.{◌∙◌, ap, sym, subst, counted_ok, counts_on, Broken, Kept, Stored, stored_on, with_frozen, Frame, Plan, IsObject, IsKeepable}
-use Rattle.migrator.proofs.Names.{most}
+use Rattle.migrator.proofs.Names.{ap, sym, subst, counted_ok, counts_on, Broken, Kept, Stored, stored_on, with_frozen, Frame, Plan, IsObject, IsKeepable, most}
+use Rattle.std.proofs.Common.{◌∙◌}
 use Rattle.migrator.proofs.FrozenFrames.{put_twice}
 use Rattle.migrator.proofs.Moving.{goes_trans}
 use Rattle.migrator.proofs.Saving.{err_then, ok_then, on_err}

@@ -1,4 +1,5 @@
-use Rattle.migrator.proofs.Names.{◌∙◌, ℕ, List, refl, ap, sym, subst, IsFrameOf, frame_of, frame_from, most, place_at, frozen_generation, seen_by}
+use Rattle.migrator.proofs.Names.{ℕ, List, refl, ap, sym, subst, IsFrameOf, frame_of, frame_from, most, place_at, frozen_generation, seen_by}
+use Rattle.std.proofs.Common.{◌∙◌}
 use Rattle.migrator.proofs.Buffered.{frozen_raw, own_frame, own_spelt}
 use Rattle.migrator.proofs.Fetching.{ok_weaker, whole_low}
 use Rattle.migrator.proofs.books.Books.read_frozen.Goals as goal

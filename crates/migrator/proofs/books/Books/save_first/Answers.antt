@@ -1,4 +1,5 @@
-use Rattle.migrator.proofs.Names.{◌∙◌, subst, LeavesEither, Stored, stored_on}
+use Rattle.migrator.proofs.Names.{subst, LeavesEither, Stored, stored_on}
+use Rattle.std.proofs.Common.{◌∙◌}
 use Rattle.migrator.proofs.Journaling.{may_replace, replaced_on}
 use Rattle.migrator.proofs.Saving.{ok_then}
 use Rattle.migrator.proofs.books.Books.save_first.Goals as goal

@@ -1,4 +1,5 @@
-use Rattle.migrator.proofs.Names.{◌∙◌, arith, journaled_saved, counted_ok, counts_on, stored_on}
+use Rattle.migrator.proofs.Names.{arith, journaled_saved, counted_ok, counts_on, stored_on}
+use Rattle.std.proofs.Common.{◌∙◌}
 use Rattle.migrator.proofs.Saving.{err_then, ok_then, on_err}
 use Rattle.migrator.proofs.Journaling.{either_first, either_run, found, journaled_is, object_is}
 use Rattle.migrator.proofs.books.Books.save_page.Goals as goal

@@ -1,4 +1,5 @@
-use Rattle.migrator.proofs.Names.{◌∙◌, ap, Image, agrees_is, home_place, bytes_at, seen_by}
+use Rattle.migrator.proofs.Names.{ap, Image, agrees_is, home_place, bytes_at, seen_by}
+use Rattle.std.proofs.Common.{◌∙◌}
 use Rattle.migrator.proofs.Buffered.{home_raw}
 use Rattle.migrator.proofs.Fetching.{ok_weaker}
 use Rattle.migrator.proofs.Journaling.{header_read}

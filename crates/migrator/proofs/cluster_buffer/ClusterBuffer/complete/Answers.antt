@@ -1,5 +1,6 @@
-use Rattle.migrator.proofs.Names.{◌≡◌, ◌∙◌, ℕ, None, Option, sym, ap, subst, inl, inr, arith, rules, cases_lt, counted_ok, counts_on, IsComplete, Keeps}
-use Rattle.migrator.proofs.Names.{KeepsOne, Unwritten}
+use Rattle.migrator.proofs.Names.{ℕ, None, Option, sym, ap, subst, inl, inr, arith, rules, cases_lt, counted_ok, counts_on, IsComplete, Keeps, KeepsOne}
+use Rattle.migrator.proofs.Names.{Unwritten}
+use Rattle.std.proofs.Common.{◌≡◌, ◌∙◌}
 use Rattle.migrator.proofs.Completing.{all_complete, complete_stays, keeps_more, keeps_written, unwritten_inside}
 use Rattle.migrator.proofs.cluster_buffer.ClusterBuffer.complete.Goals as goal
 

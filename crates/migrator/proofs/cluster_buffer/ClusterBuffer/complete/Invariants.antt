@@ -1,4 +1,5 @@
-use Rattle.migrator.proofs.Names.{◌≡◌, ◌<◌, ℕ, None, IsComplete, Keeps}
+use Rattle.migrator.proofs.Names.{ℕ, None, IsComplete, Keeps}
+use Rattle.std.proofs.Common.{◌≡◌, ◌<◌}
 use Rattle.migrator.proofs.cluster_buffer.ClusterBuffer.complete.Given as goal
 
 abbrev pub invariant-loop-index : goal.invariant-loop-index

@@ -1,5 +1,6 @@
-use Rattle.migrator.proofs.Names.{◌∙◌, ◌-◌, Some, Option, refl, sym, ap, subst, arith, Image, agrees_is, slot_sector, entry_at, shape_of, own_of, KeepsOne}
-use Rattle.migrator.proofs.Names.{Unwritten, mended}
+use Rattle.migrator.proofs.Names.{Some, Option, refl, sym, ap, subst, arith, Image, agrees_is, slot_sector, entry_at, shape_of, own_of, KeepsOne, Unwritten}
+use Rattle.migrator.proofs.Names.{mended}
+use Rattle.std.proofs.Common.{◌∙◌, ◌-◌}
 use Rattle.migrator.proofs.Mended.{touches_on}
 use Rattle.migrator.proofs.Saving.{ok_then}
 use Rattle.migrator.proofs.Spared.{reads_touch}

@@ -1,4 +1,5 @@
-use Rattle.migrator.proofs.Names.{◌∙◌, ap, sym, Packed, frame_of, shape_bytes}
+use Rattle.migrator.proofs.Names.{ap, sym, Packed, frame_of, shape_bytes}
+use Rattle.std.proofs.Common.{◌∙◌}
 use Rattle.migrator.proofs.Mended.{unwritten_bytes, buffer_read}
 use Rattle.migrator.proofs.cluster_buffer.ClusterBuffer.read.Goals as goal
 

@@ -1,5 +1,6 @@
-use Rattle.migrator.proofs.Names.{MayCommit, rules, ◌≡◌, ◌∙◌, ◌-◌, ◌<◌, ap, sym, subst, refl, arith, ℕ, Some, option_map, Image, Books, FrozenPuts, IsRunning}
-use Rattle.migrator.proofs.Names.{puts, frozen_generation, frozen_of, is_sound, left_of, seen_by, stored_of}
+use Rattle.migrator.proofs.Names.{MayCommit, rules, ap, sym, subst, refl, arith, ℕ, Some, option_map, Image, Books, FrozenPuts, IsRunning, puts}
+use Rattle.migrator.proofs.Names.{frozen_generation, frozen_of, is_sound, left_of, seen_by, stored_of}
+use Rattle.std.proofs.Common.{◌≡◌, ◌∙◌, ◌-◌, ◌<◌}
 use Rattle.migrator.proofs.Putting.{kept_whole}
 use Rattle.migrator.proofs.Tables.{whole_taken}
 use Rattle.migrator.proofs.durable.Durable.commit.Goals as goal

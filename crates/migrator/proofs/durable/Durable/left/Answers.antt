@@ -1,4 +1,5 @@
-use Rattle.migrator.proofs.Names.{◌≡◌, subst, option_map, left_of, seen_by, stored_of}
+use Rattle.migrator.proofs.Names.{subst, option_map, left_of, seen_by, stored_of}
+use Rattle.std.proofs.Common.{◌≡◌}
 use Rattle.migrator.proofs.durable.Durable.left.Goals as goal
 
 pub left-requires : goal.left-requires

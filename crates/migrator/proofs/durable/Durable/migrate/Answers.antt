@@ -1,5 +1,5 @@
-use Rattle.migrator.proofs.Names.{moved_saved, moved, ◌≡◌, ◌-◌, ◌≤◌, ℕ, sym, subst, IfOk, OnErr, OnOk, LeavesEither, is_sound, stored_of, snapshots_in}
-use Rattle.migrator.proofs.Names.{on_snapshots}
+use Rattle.migrator.proofs.Names.{moved_saved, moved, ℕ, sym, subst, IfOk, OnErr, OnOk, LeavesEither, is_sound, stored_of, snapshots_in, on_snapshots}
+use Rattle.std.proofs.Common.{◌≡◌, ◌-◌, ◌≤◌}
 use Rattle.migrator.proofs.durable.Durable.migrate.Goals as goal
 
 pub migrate-requires-clause-stands : goal.migrate-requires-clause-stands

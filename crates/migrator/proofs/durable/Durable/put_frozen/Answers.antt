@@ -1,4 +1,5 @@
-use Rattle.migrator.proofs.Names.{◌≡◌, Some, ap, sym, subst, option_map, FrozenPuts, frozen_of, seen_by, stored_of, HasFreeSlot}
+use Rattle.migrator.proofs.Names.{Some, ap, sym, subst, option_map, FrozenPuts, frozen_of, seen_by, stored_of, HasFreeSlot}
+use Rattle.std.proofs.Common.{◌≡◌}
 use Rattle.migrator.proofs.durable.Durable.put_frozen.Goals as goal
 
 pub put_running-requires-clause-room : goal.put_running-requires-clause-room

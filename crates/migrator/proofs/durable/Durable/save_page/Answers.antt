@@ -1,4 +1,5 @@
-use Rattle.migrator.proofs.Names.{◌≡◌, None, sym, subst, frame_at, MayJournal, frozen_of, is_sound, seen_by, stored_of}
+use Rattle.migrator.proofs.Names.{None, sym, subst, frame_at, MayJournal, frozen_of, is_sound, seen_by, stored_of}
+use Rattle.std.proofs.Common.{◌≡◌}
 use Rattle.migrator.proofs.Journaling.{size_none}
 use Rattle.migrator.proofs.durable.Durable.save_page.Goals as goal
 

@@ -1,4 +1,5 @@
-use Rattle.migrator.proofs.Names.{◌≡◌, subst, IfOk, frame_at, stored_of, ReadsStore}
+use Rattle.migrator.proofs.Names.{subst, IfOk, frame_at, stored_of, ReadsStore}
+use Rattle.std.proofs.Common.{◌≡◌}
 use Rattle.migrator.proofs.Buffered.{durable_read}
 use Rattle.migrator.proofs.Fetching.{reads_store}
 use Rattle.migrator.proofs.durable.Durable.saved_header.Goals as goal

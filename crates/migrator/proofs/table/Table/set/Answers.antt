@@ -1,4 +1,5 @@
-use Rattle.migrator.proofs.Names.{arith, rules, ◌<◌, ◌^◌, ◌∙◌, length, slot_for, has_slot, has_frame}
+use Rattle.migrator.proofs.Names.{arith, rules, length, slot_for, has_slot, has_frame}
+use Rattle.std.proofs.Common.{◌<◌, ◌^◌, ◌∙◌}
 use Rattle.migrator.proofs.Tables.{taken_few, whole_taken, count_set, count_at, table_is, held_set}
 use Rattle.migrator.proofs.table.Table.set.Goals as goal
 

@@ -1,5 +1,6 @@
-use Rattle.object_cache.proofs.Names.{rules, ◌≡◌, ◌+◌, ◌<◌, ◌≤◌, arith, length, refl, sym, ap, subst, All-contains, touched_count, touching, stored_of}
-use Rattle.object_cache.proofs.Names.{StoreState, GoesOnIn, IsAnnouncedIn, IsFetchedIn}
+use Rattle.object_cache.proofs.Names.{rules, arith, length, refl, sym, ap, subst, All-contains, touched_count, touching, stored_of, StoreState, GoesOnIn}
+use Rattle.object_cache.proofs.Names.{IsAnnouncedIn, IsFetchedIn}
+use Rattle.std.proofs.Common.{◌≡◌, ◌+◌, ◌<◌, ◌≤◌}
 use Rattle.object_cache.proofs.Marks.{mark_stands, mark_seen}
 use Rattle.object_cache.proofs.Readying.{fetched_same, marked_announced, mark_continues}
 use Rattle.object_cache.proofs.cache.Cache.announce.Goals as goal

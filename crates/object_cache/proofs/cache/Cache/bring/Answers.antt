@@ -1,4 +1,5 @@
-use Rattle.object_cache.proofs.Names.{◌∙◌, ◌<◌, length, sym, ap, subst, held_at, StoreState, cached_at, goes_on_twice}
+use Rattle.object_cache.proofs.Names.{length, sym, ap, subst, held_at, StoreState, cached_at, goes_on_twice}
+use Rattle.std.proofs.Common.{◌∙◌, ◌<◌}
 use Rattle.object_cache.proofs.Bringing.{read_recent, rest_on, rest_read, cached_first, cached_staging, cached_continues, cached_recent, cached_rest}
 use Rattle.object_cache.proofs.Outcomes.{ok_then, ok_both}
 use Rattle.object_cache.proofs.cache.Cache.bring.Goals as goal

@@ -1,4 +1,5 @@
-use Rattle.object_cache.proofs.Names.{◌<◌, sym, subst, length, All, StoreState, goes_on_twice}
+use Rattle.object_cache.proofs.Names.{sym, subst, length, All, StoreState, goes_on_twice}
+use Rattle.std.proofs.Common.{◌<◌}
 use Rattle.object_cache.proofs.Bringing.{keepable_on, rest_on}
 use Rattle.object_cache.proofs.cache.Cache.bring_all.Goals as goal
 

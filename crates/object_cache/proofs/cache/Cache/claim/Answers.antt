@@ -1,4 +1,5 @@
-use Rattle.object_cache.proofs.Names.{List, set, Some, ap, ◌∙◌, ObjectHeader, claimed, header_at, void_held, role_of, fresh_content, memory_of, StoreState}
+use Rattle.object_cache.proofs.Names.{List, set, Some, ap, ObjectHeader, claimed, header_at, void_held, role_of, fresh_content, memory_of, StoreState}
+use Rattle.std.proofs.Common.{◌∙◌}
 use Rattle.model.specs.declared.object.Content.TheVariants as content
 use Rattle.object_cache.proofs.Objects.{has_entry}
 use Rattle.object_cache.proofs.Claims.{room_taken, claim_stands, claim_seen}

@@ -1,4 +1,5 @@
-use Rattle.object_cache.proofs.Names.{rules, ◌≡◌, ◌∙◌, sym, stored_of}
+use Rattle.object_cache.proofs.Names.{rules, sym, stored_of}
+use Rattle.std.proofs.Common.{◌≡◌, ◌∙◌}
 use Rattle.object_cache.proofs.Homes.{ready_of}
 use Rattle.object_cache.proofs.cache.Cache.commit.Goals as goal
 

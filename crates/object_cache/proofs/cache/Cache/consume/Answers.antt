@@ -1,4 +1,5 @@
-use Rattle.object_cache.proofs.Names.{set, refl, ap, ◌∙◌, header_at, called, stored_of, memory_of, StoreState}
+use Rattle.object_cache.proofs.Names.{set, refl, ap, header_at, called, stored_of, memory_of, StoreState}
+use Rattle.std.proofs.Common.{◌∙◌}
 use Rattle.object_cache.proofs.Objects.{known, header_stands, seen_header}
 use Rattle.object_cache.proofs.cache.Cache.consume.Goals as goal
 

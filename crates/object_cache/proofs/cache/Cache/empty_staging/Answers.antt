@@ -1,4 +1,5 @@
-use Rattle.object_cache.proofs.Names.{◌≤◌, refl, sym, ap, subst, ◌∙◌, arith, option_copied, touched_count, stored_of, let_go, StoreState, goes_on_same}
+use Rattle.object_cache.proofs.Names.{refl, sym, ap, subst, arith, option_copied, touched_count, stored_of, let_go, StoreState, goes_on_same}
+use Rattle.std.proofs.Common.{◌≤◌, ◌∙◌}
 use Rattle.object_cache.proofs.Outcomes.{ok_then}
 use Rattle.object_cache.proofs.Paying.{let_go_own, ok_counts, paid_put}
 use Rattle.object_cache.proofs.Settling.{held_number}

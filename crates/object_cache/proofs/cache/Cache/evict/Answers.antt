@@ -1,4 +1,5 @@
-use Rattle.object_cache.proofs.Names.{refl, sym, ap, ◌∙◌, most, stored_of, keepable_at, StoreState, parts_of, cached_at, goes_on_same, memory_of}
+use Rattle.object_cache.proofs.Names.{refl, sym, ap, most, stored_of, keepable_at, StoreState, parts_of, cached_at, goes_on_same, memory_of}
+use Rattle.std.proofs.Common.{◌∙◌}
 use Rattle.object_cache.proofs.Outcomes.{ok_then}
 use Rattle.object_cache.proofs.Owing.{fetched_by, uncached_by, cached_gone}
 use Rattle.object_cache.proofs.Paying.{away_rest, ok_counts}

@@ -1,4 +1,5 @@
-use Rattle.object_cache.proofs.Names.{◌∙◌, refl, arith, IsFetchedIn, goes_on_same, goes_on_twice}
+use Rattle.object_cache.proofs.Names.{refl, arith, IsFetchedIn, goes_on_same, goes_on_twice}
+use Rattle.std.proofs.Common.{◌∙◌}
 use Rattle.object_cache.proofs.Bringing.{keepable_on, rest_on, no_failure, all_listed, recent_on}
 use Rattle.object_cache.proofs.cache.Cache.fetch_all.Goals as goal
 

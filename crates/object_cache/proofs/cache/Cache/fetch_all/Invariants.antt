@@ -1,5 +1,5 @@
-use Rattle.object_cache.proofs.Names.{◌≡◌, ℕ, ◌<◌, None, GoesOnIn, IsRecentIn, on_device_with}
-use Rattle.std.proofs.Common.{slice_index_or}
+use Rattle.object_cache.proofs.Names.{ℕ, None, GoesOnIn, IsRecentIn, on_device_with}
+use Rattle.std.proofs.Common.{◌≡◌, ◌<◌, slice_index_or}
 use Rattle.object_cache.proofs.cache.Cache.fetch_all.Given as goal
 
 abbrev pub invariant-loop-number : goal.invariant-loop-number

@@ -1,4 +1,5 @@
-use Rattle.object_cache.proofs.Names.{◌∷◌, sym, ap, subst, ◌∙◌, without, StoreState, GoesOnIn, cached_at, IsRecentIn, goes_on_same}
+use Rattle.object_cache.proofs.Names.{sym, ap, subst, without, StoreState, GoesOnIn, cached_at, IsRecentIn, goes_on_same}
+use Rattle.std.proofs.Common.{◌∷◌, ◌∙◌}
 use Rattle.object_cache.proofs.Bringing.{use_first, use_recent}
 use Rattle.object_cache.proofs.Leading.{continues_cached}
 use Rattle.object_cache.proofs.Outcomes.{ok_then}

@@ -1,4 +1,5 @@
-use Rattle.object_cache.proofs.Names.{refl, ap, ◌∙◌, stored_of, memory_of, StoreState, with_content_in}
+use Rattle.object_cache.proofs.Names.{refl, ap, stored_of, memory_of, StoreState, with_content_in}
+use Rattle.std.proofs.Common.{◌∙◌}
 use Rattle.object_cache.proofs.Objects.{known, has_entry, entry_holds, body_stands, seen_body}
 use Rattle.object_cache.proofs.cache.Cache.frame_mut.Goals as goal
 

@@ -1,5 +1,6 @@
-use Rattle.object_cache.proofs.Names.{◌≤◌, None, refl, sym, ap, subst, ◌∙◌, stored_of, Entry, EntriesState, with_new, memory_of, StoreState, IsCache}
-use Rattle.object_cache.proofs.Names.{IsFetchedIn, cache_of}
+use Rattle.object_cache.proofs.Names.{None, refl, sym, ap, subst, stored_of, Entry, EntriesState, with_new, memory_of, StoreState, IsCache, IsFetchedIn}
+use Rattle.object_cache.proofs.Names.{cache_of}
+use Rattle.std.proofs.Common.{◌≤◌, ◌∙◌}
 use Rattle.model.specs.declared.object.Content.TheVariants as content
 use Rattle.object_cache.proofs.Outcomes.{either_way, ok_then}
 use Rattle.object_cache.proofs.Bringing.{cached_fetched}

@@ -1,4 +1,5 @@
-use Rattle.object_cache.proofs.Names.{◌≡◌, ◌∙◌, ap, length, arith, memory_of, StoreState}
+use Rattle.object_cache.proofs.Names.{ap, length, arith, memory_of, StoreState}
+use Rattle.std.proofs.Common.{◌≡◌, ◌∙◌}
 use Rattle.object_cache.proofs.Emptying.{contents_each, taken_are}
 use Rattle.object_cache.proofs.Objects.{has_entry}
 use Rattle.object_cache.proofs.cache.Cache.into_parts.Goals as goal

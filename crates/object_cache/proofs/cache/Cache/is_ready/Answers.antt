@@ -1,4 +1,5 @@
-use Rattle.object_cache.proofs.Names.{◌≢◌, ◌<◌, length, All-contains, header_at}
+use Rattle.object_cache.proofs.Names.{length, All-contains, header_at}
+use Rattle.std.proofs.Common.{◌≢◌, ◌<◌}
 use Rattle.model.specs.declared.object.Role.TheVariants as role
 use Rattle.object_cache.proofs.Readying.{count_within, ready_announced, ready_touched}
 use Rattle.object_cache.proofs.cache.Cache.is_ready.Goals as goal

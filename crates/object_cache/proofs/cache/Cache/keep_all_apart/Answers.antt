@@ -1,4 +1,5 @@
-use Rattle.object_cache.proofs.Names.{◌≢◌, refl, arith, Shared, owed_at}
+use Rattle.object_cache.proofs.Names.{refl, arith, Shared, owed_at}
+use Rattle.std.proofs.Common.{◌≢◌}
 use Rattle.object_cache.proofs.Bringing.{all_listed}
 use Rattle.object_cache.proofs.Preparing.{items_more, owed_on}
 use Rattle.object_cache.proofs.cache.Cache.keep_all_apart.Goals as goal

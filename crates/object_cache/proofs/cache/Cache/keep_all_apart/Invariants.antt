@@ -1,5 +1,5 @@
-use Rattle.object_cache.proofs.Names.{◌≡◌, ◌≢◌, ℕ, ◌<◌, Shared, owed_at}
-use Rattle.std.proofs.Common.{slice_index_or}
+use Rattle.object_cache.proofs.Names.{ℕ, Shared, owed_at}
+use Rattle.std.proofs.Common.{◌≡◌, ◌≢◌, ◌<◌, slice_index_or}
 use Rattle.object_cache.proofs.cache.Cache.keep_all_apart.Given as goal
 
 abbrev pub invariant-loop-number : goal.invariant-loop-number

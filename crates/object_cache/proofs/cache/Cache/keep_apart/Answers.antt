@@ -1,4 +1,5 @@
-use Rattle.object_cache.proofs.Names.{Some, sym, ap, ◌∙◌, memory_of}
+use Rattle.object_cache.proofs.Names.{Some, sym, ap, memory_of}
+use Rattle.std.proofs.Common.{◌∙◌}
 use Rattle.object_cache.proofs.Objects.{has_entry}
 use Rattle.object_cache.proofs.Apart.{apart_stands, apart_seen}
 use Rattle.object_cache.proofs.cache.Cache.keep_apart.Goals as goal

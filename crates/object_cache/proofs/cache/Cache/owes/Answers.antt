@@ -1,4 +1,5 @@
-use Rattle.object_cache.proofs.Names.{sym, ap, ◌∙◌, is_some, option_copied, is_owing, owed_at}
+use Rattle.object_cache.proofs.Names.{sym, ap, is_some, option_copied, is_owing, owed_at}
+use Rattle.std.proofs.Common.{◌∙◌}
 use Rattle.object_cache.proofs.Owing.{owing_yes, owing_none, owed_by, owed_without, fetched_by}
 use Rattle.object_cache.proofs.cache.Cache.owes.Goals as goal
 

@@ -1,4 +1,5 @@
-use Rattle.object_cache.proofs.Names.{◌<◌, sym, subst, length, All, StoreState, goes_on_twice}
+use Rattle.object_cache.proofs.Names.{sym, subst, length, All, StoreState, goes_on_twice}
+use Rattle.std.proofs.Common.{◌<◌}
 use Rattle.object_cache.proofs.Preparing.{rest_alone, rest_on_ready, within_on}
 use Rattle.object_cache.proofs.Outcomes.{on_ok}
 use Rattle.object_cache.proofs.cache.Cache.prepare.Goals as goal

@@ -1,4 +1,5 @@
-use Rattle.object_cache.proofs.Names.{◌∙◌, set, None, ap, counted_ok, without, goes_on_twice, StoreState, owed_at}
+use Rattle.object_cache.proofs.Names.{set, None, ap, counted_ok, without, goes_on_twice, StoreState, owed_at}
+use Rattle.std.proofs.Common.{◌∙◌}
 use Rattle.object_cache.proofs.Leading.{continues_cached, put_on}
 use Rattle.object_cache.proofs.Outcomes.{on_err}
 use Rattle.object_cache.proofs.Paying.{away_on, fetched_on, keepable_on, masked_on, ok_counts}

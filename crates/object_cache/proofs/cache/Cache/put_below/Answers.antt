@@ -1,4 +1,5 @@
-use Rattle.object_cache.proofs.Names.{◌<◌, ℕ, ap, subst, ◌∙◌, counted_ok, counts_on, StoreState, owed_at, pending_count, goes_on_twice}
+use Rattle.object_cache.proofs.Names.{ℕ, ap, subst, counted_ok, counts_on, StoreState, owed_at, pending_count, goes_on_twice}
+use Rattle.std.proofs.Common.{◌<◌, ◌∙◌}
 use Rattle.object_cache.proofs.Leading.{put_on, same_put}
 use Rattle.object_cache.proofs.Outcomes.{ok_then}
 use Rattle.object_cache.proofs.cache.Cache.put_below.Goals as goal

@@ -1,4 +1,5 @@
-use Rattle.object_cache.proofs.Names.{sym, ap, ◌∙◌, arith, none-some, counted_ok, option_copied, StoreState}
+use Rattle.object_cache.proofs.Names.{sym, ap, arith, none-some, counted_ok, option_copied, StoreState}
+use Rattle.std.proofs.Common.{◌∙◌}
 use Rattle.object_cache.proofs.Settling.{held_frozen, held_known, held_running, held_owed, held_room, held_keepable, settled_fewer, settled_stands, settled_put}
 use Rattle.object_cache.proofs.Settling.{settled_continues, unsettled_stands, unsettled_put, unsettled_continues}
 use Rattle.object_cache.proofs.Paying.{ok_counts}

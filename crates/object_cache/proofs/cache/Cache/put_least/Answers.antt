@@ -1,6 +1,7 @@
-use Rattle.object_cache.proofs.Names.{refl, sym, ap, ◌∙◌, ◌<◌, ◌≡◌, length, take, subst, None, OnOk, OnErr, header_at, held_at, IsKeepable, most, stored_of}
-use Rattle.object_cache.proofs.Names.{keepable_at, EntriesState, Counts, StoreState, GoesOnIn, IsFetchedIn, cache_of, on_device, parts_of, cached_at}
-use Rattle.object_cache.proofs.Names.{without_cached, memory_of}
+use Rattle.object_cache.proofs.Names.{refl, sym, ap, length, take, subst, None, OnOk, OnErr, header_at, held_at, IsKeepable, most, stored_of, keepable_at}
+use Rattle.object_cache.proofs.Names.{EntriesState, Counts, StoreState, GoesOnIn, IsFetchedIn, cache_of, on_device, parts_of, cached_at, without_cached}
+use Rattle.object_cache.proofs.Names.{memory_of}
+use Rattle.std.proofs.Common.{◌∙◌, ◌<◌, ◌≡◌}
 use Rattle.object_cache.proofs.Paying.{away_rest}
 use Rattle.object_cache.proofs.Outcomes.{ok_then, either_way}
 use Rattle.object_cache.proofs.Owing.{some_least, least_known, least_fetched, least_room, least_order, least_others, still_uncached}

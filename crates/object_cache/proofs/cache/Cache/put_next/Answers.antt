@@ -1,4 +1,5 @@
-use Rattle.object_cache.proofs.Names.{◌∙◌, true≢false, sym, ap, arith, StoreState, pending_count}
+use Rattle.object_cache.proofs.Names.{true≢false, sym, ap, arith, StoreState, pending_count}
+use Rattle.std.proofs.Common.{◌∙◌}
 use Rattle.std.specs.Prelude.{is_some}
 use Rattle.object_cache.proofs.Outcomes.{ok_then}
 use Rattle.object_cache.proofs.Turns.{few_left, none_marked}

@@ -1,4 +1,5 @@
-use Rattle.object_cache.proofs.Names.{◌≡◌, ◌≤◌, ◌-◌, Some, ap, ◌∙◌, arith, memory_of, StoreState, pending_count}
+use Rattle.object_cache.proofs.Names.{Some, ap, arith, memory_of, StoreState, pending_count}
+use Rattle.std.proofs.Common.{◌≡◌, ◌≤◌, ◌-◌, ◌∙◌}
 use Rattle.object_cache.proofs.Turns.{turned_stands}
 use Rattle.object_cache.proofs.cache.Cache.put_one.Goals as goal
 

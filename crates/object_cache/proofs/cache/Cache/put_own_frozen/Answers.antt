@@ -1,4 +1,5 @@
-use Rattle.object_cache.proofs.Names.{sym, ap, ◌∙◌, option_copied, entry_at, memory_of}
+use Rattle.object_cache.proofs.Names.{sym, ap, option_copied, entry_at, memory_of}
+use Rattle.std.proofs.Common.{◌∙◌}
 use Rattle.object_cache.proofs.Objects.{has_entry}
 use Rattle.object_cache.proofs.Outcomes.{on_err}
 use Rattle.object_cache.proofs.Owing.{none_there}

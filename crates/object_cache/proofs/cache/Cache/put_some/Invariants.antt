@@ -1,4 +1,5 @@
-use Rattle.object_cache.proofs.Names.{◌≡◌, PutsBy}
+use Rattle.object_cache.proofs.Names.{PutsBy}
+use Rattle.std.proofs.Common.{◌≡◌}
 use Rattle.object_cache.proofs.cache.Cache.put_some.Given as goal
 
 abbrev pub invariant-loop : goal.invariant-loop

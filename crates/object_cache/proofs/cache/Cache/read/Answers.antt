@@ -1,4 +1,5 @@
-use Rattle.object_cache.proofs.Names.{ap, ◌∙◌, ObjectHeader, newest, stored_of, masked}
+use Rattle.object_cache.proofs.Names.{ap, ObjectHeader, newest, stored_of, masked}
+use Rattle.std.proofs.Common.{◌∙◌}
 use Rattle.object_cache.proofs.Fetched.{read_holds, read_continues, read_seen, read_stands}
 use Rattle.object_cache.proofs.cache.Cache.read.Goals as goal
 

@@ -1,4 +1,5 @@
-use Rattle.object_cache.proofs.Names.{ap, ◌∙◌, set, Some, Cap, Geometry, Content, stored_of, spare_body_at, memory_of, StoreState}
+use Rattle.object_cache.proofs.Names.{ap, set, Some, Cap, Geometry, Content, stored_of, spare_body_at, memory_of, StoreState}
+use Rattle.std.proofs.Common.{◌∙◌}
 use Rattle.object_cache.proofs.Objects.{has_entry}
 use Rattle.object_cache.proofs.Reserving.{reserve_stands, reserve_seen}
 use Rattle.object_cache.proofs.cache.Cache.reserve.Goals as goal

@@ -1,5 +1,5 @@
-use Rattle.object_cache.proofs.Names.{◌≡◌, ℕ, ◌<◌, IsFetchedIn, HasSpareBodyIn}
-use Rattle.std.proofs.Common.{slice_index_or}
+use Rattle.object_cache.proofs.Names.{ℕ, IsFetchedIn, HasSpareBodyIn}
+use Rattle.std.proofs.Common.{◌≡◌, ◌<◌, slice_index_or}
 use Rattle.object_cache.proofs.cache.Cache.reserve_all.Given as goal
 
 abbrev pub invariant-loop-number : goal.invariant-loop-number

@@ -1,4 +1,5 @@
-use Rattle.object_cache.proofs.Names.{ℕ, sym, subst, ◌∙◌, StoreState, IsFetchedIn, HasSpareBodyIn}
+use Rattle.object_cache.proofs.Names.{ℕ, sym, subst, StoreState, IsFetchedIn, HasSpareBodyIn}
+use Rattle.std.proofs.Common.{◌∙◌}
 use Rattle.object_cache.proofs.Outcomes.{either_way, ok_then}
 use Rattle.object_cache.proofs.Owing.{fetched_by, uncached_by}
 use Rattle.object_cache.proofs.Readying.{with_room_in, reserved_room, reserved_others, reserved_fetched, no_cached}

@@ -1,4 +1,5 @@
-use Rattle.object_cache.proofs.Names.{set, refl, ap, ◌∙◌, header_at, given_up, stored_of, memory_of, StoreState}
+use Rattle.object_cache.proofs.Names.{set, refl, ap, header_at, given_up, stored_of, memory_of, StoreState}
+use Rattle.std.proofs.Common.{◌∙◌}
 use Rattle.model.specs.declared.object.Content.TheVariants as content
 use Rattle.object_cache.proofs.Objects.{known, free_stands, seen_free}
 use Rattle.object_cache.proofs.cache.Cache.reset.Goals as goal

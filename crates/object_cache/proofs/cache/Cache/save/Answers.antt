@@ -1,5 +1,6 @@
-use Rattle.object_cache.proofs.Names.{sym, subst, ap, ◌∙◌, ℕ, Option, Some, same_Some, is_sound, stored_of, IsCommitAnswer, LeavesEither, FrozenFrames}
-use Rattle.object_cache.proofs.Names.{next_saved, whole, StoreState, memory_of}
+use Rattle.object_cache.proofs.Names.{sym, subst, ap, ℕ, Option, Some, same_Some, is_sound, stored_of, IsCommitAnswer, LeavesEither, FrozenFrames, next_saved}
+use Rattle.object_cache.proofs.Names.{whole, StoreState, memory_of}
+use Rattle.std.proofs.Common.{◌∙◌}
 use Rattle.object_cache.proofs.Homes.{save_left, save_ready, save_moments, save_stands, save_contents, save_rest, save_snapshots}
 use Rattle.object_cache.proofs.cache.Cache.save.Goals as goal
 

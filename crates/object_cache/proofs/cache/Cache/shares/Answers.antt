@@ -1,4 +1,5 @@
-use Rattle.object_cache.proofs.Names.{sym, ap, ◌∙◌, is_some, option_copied, is_shared, owed_at}
+use Rattle.object_cache.proofs.Names.{sym, ap, is_some, option_copied, is_shared, owed_at}
+use Rattle.std.proofs.Common.{◌∙◌}
 use Rattle.object_cache.proofs.Owing.{shared_yes, shared_none, owed_by, owed_without, fetched_by, nothing_apart}
 use Rattle.object_cache.proofs.cache.Cache.shares.Goals as goal
 

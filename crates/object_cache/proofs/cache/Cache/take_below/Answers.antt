@@ -1,4 +1,5 @@
-use Rattle.object_cache.proofs.Names.{◌∙◌, Option, ap, sym, Held, StoreState, Frame, content_of}
+use Rattle.object_cache.proofs.Names.{Option, ap, sym, Held, StoreState, Frame, content_of}
+use Rattle.std.proofs.Common.{◌∙◌}
 use Rattle.object_cache.proofs.Fetched.{read_continues, read_seen, read_stands}
 use Rattle.object_cache.proofs.Taking.{taken_stands, taken_seen, taken_continues}
 use Rattle.object_cache.proofs.cache.Cache.take_below.Goals as goal

@@ -1,5 +1,6 @@
-use Rattle.object_cache.proofs.Names.{arith, ◌≤◌, ◌<◌, length, sym, ap, subst, ◌∙◌, All-contains, touched_count, stored_of, memory_of, EntriesState}
-use Rattle.object_cache.proofs.Names.{used_in_turn, StoreState, GoesOnIn, IsCache, IsFetchedIn, cache_of, goes_on_same}
+use Rattle.object_cache.proofs.Names.{arith, length, sym, ap, subst, All-contains, touched_count, stored_of, memory_of, EntriesState, used_in_turn, StoreState}
+use Rattle.object_cache.proofs.Names.{GoesOnIn, IsCache, IsFetchedIn, cache_of, goes_on_same}
+use Rattle.std.proofs.Common.{◌≤◌, ◌<◌, ◌∙◌}
 use Rattle.object_cache.proofs.Leading.{continues_cached}
 use Rattle.object_cache.proofs.Owing.{fetched_by}
 use Rattle.object_cache.proofs.cache.Cache.use_again.Goals as goal

@@ -1,4 +1,5 @@
-use Rattle.reach.proofs.Names.{◌≡◌, None, Some, refl, sym, ◌∙◌, get_or_default, found_at}
+use Rattle.reach.proofs.Names.{None, Some, refl, sym, get_or_default, found_at}
+use Rattle.std.proofs.Common.{◌≡◌, ◌∙◌}
 use Rattle.reach.proofs.Finding.{added, added_before, none_of, some_of}
 use Rattle.reach.proofs.levels.Levels.add.Goals as goal
 

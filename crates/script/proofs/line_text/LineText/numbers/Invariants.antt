@@ -1,4 +1,5 @@
-use Rattle.script.proofs.Names.{◌≡◌, ◌+◌, ◌*◌, ◌≤◌, ◌∷◌, ◌++◌, length, take, decimal, flat_map}
+use Rattle.script.proofs.Names.{length, take, decimal, flat_map}
+use Rattle.std.proofs.Common.{◌≡◌, ◌+◌, ◌*◌, ◌≤◌, ◌∷◌, ◌++◌}
 use Rattle.script.proofs.line_text.LineText.numbers.Given as goal
 
 abbrev pub invariant-loop-number : goal.invariant-loop-number

@@ -1,4 +1,5 @@
-use Rattle.script.proofs.Names.{◌≡◌, sym, ◌∙◌, words_of}
+use Rattle.script.proofs.Names.{sym, words_of}
+use Rattle.std.proofs.Common.{◌≡◌, ◌∙◌}
 use Rattle.script.proofs.Split.{no_space, first_piece}
 use Rattle.script.proofs.words.Words.next.Goals as goal
 

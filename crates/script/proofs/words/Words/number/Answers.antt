@@ -1,4 +1,5 @@
-use Rattle.script.proofs.Names.{◌≡◌, ◌∙◌, sym, ap, None, Some, option_map, number_at, first_word, words_left, words_of}
+use Rattle.script.proofs.Names.{sym, ap, None, Some, option_map, number_at, first_word, words_left, words_of}
+use Rattle.std.proofs.Common.{◌≡◌, ◌∙◌}
 use Rattle.script.proofs.Commands.{number_gives}
 use Rattle.script.proofs.Digits.{digit_alone, digit_last}
 use Rattle.script.proofs.Split.{begins_with_word}

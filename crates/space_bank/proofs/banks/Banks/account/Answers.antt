@@ -1,5 +1,5 @@
-use Rattle.space_bank.proofs.Names.{◌≡◌, ◌<◌, ◌+◌, ◌^◌, ◌∙◌, ℕ, List, ap, subst, sym, true, slice_index, with_items_is, chain, is_member, objects_in}
-use Rattle.space_bank.proofs.Names.{BanksState, IsRaised}
+use Rattle.space_bank.proofs.Names.{ℕ, List, ap, subst, sym, true, slice_index, with_items_is, chain, is_member, objects_in, BanksState, IsRaised}
+use Rattle.std.proofs.Common.{◌≡◌, ◌<◌, ◌+◌, ◌^◌, ◌∙◌}
 use Rattle.space_bank.proofs.Standing.{room_fits}
 use Rattle.space_bank.proofs.banks.Banks.account.Goals as goal
 

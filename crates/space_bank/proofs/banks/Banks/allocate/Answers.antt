@@ -1,4 +1,5 @@
-use Rattle.space_bank.proofs.Names.{◌≡◌, arith, ap, length, chain, objects_in, BanksState}
+use Rattle.space_bank.proofs.Names.{arith, ap, length, chain, objects_in, BanksState}
+use Rattle.std.proofs.Common.{◌≡◌}
 use Rattle.space_bank.proofs.Carried.{IsMade, alone_carried, taken_one}
 use Rattle.space_bank.proofs.Standing.{free_role, serve_count}
 use Rattle.space_bank.proofs.banks.Banks.allocate.Goals as goal

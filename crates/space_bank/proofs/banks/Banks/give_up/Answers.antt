@@ -1,5 +1,7 @@
-use Rattle.space_bank.proofs.Names.{◌≡◌, ◌+◌, ◌-◌, ◌∙◌, ◌++◌, true, false, ℕ, List, ap, arith, drop, length, subst, sym, take, if◌then◌else◌, length-drop}
-use Rattle.space_bank.proofs.Names.{chain, is_free, is_member, rescind, content_at, objects_in, BanksState, IsRaised, is_marked}
+use Rattle.space_bank.proofs.Names.{true, false, ℕ, List, ap, arith, drop, length, subst, sym, take, length-drop, chain, is_free, is_member, rescind}
+use Rattle.space_bank.proofs.Names.{content_at, objects_in, BanksState, IsRaised, is_marked}
+use Rattle.std.proofs.Common.{◌≡◌, ◌+◌, ◌-◌, ◌∙◌, ◌++◌}
+use Rattle.std.specs.Prelude.{if◌then◌else◌}
 use Rattle.space_bank.proofs.Ending.{AreKnown, ended_snapshots, ended_carried, enough_used, list_allocations, list_calls, list_marks, released_then, rest_is}
 use Rattle.space_bank.proofs.banks.Banks.give_up.Goals as goal
 

@@ -1,4 +1,5 @@
-use Rattle.space_bank.proofs.Names.{◌≤◌, ◌<◌, ◌∙◌, sym, ap, arith, list_all, left_of, objects_in}
+use Rattle.space_bank.proofs.Names.{sym, ap, arith, list_all, left_of, objects_in}
+use Rattle.std.proofs.Common.{◌≤◌, ◌<◌, ◌∙◌}
 use Rattle.space_bank.proofs.Walks.{chain_past, fits, left_counted, limit_known, owner_is_bank, room_begun, room_last, room_next, room_refused, usage_known}
 use Rattle.space_bank.proofs.Walks.{usage_within, within_counted}
 use Rattle.space_bank.proofs.banks.Banks.has_quota.Goals as goal

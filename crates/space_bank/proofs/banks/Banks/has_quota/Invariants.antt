@@ -1,4 +1,5 @@
-use Rattle.space_bank.proofs.Names.{◌≡◌, ◌-◌, list_all, chain_within, has_quota, objects_in, IsBankOf}
+use Rattle.space_bank.proofs.Names.{list_all, chain_within, has_quota, objects_in, IsBankOf}
+use Rattle.std.proofs.Common.{◌≡◌, ◌-◌}
 use Rattle.space_bank.proofs.Walks.{fits}
 use Rattle.space_bank.proofs.banks.Banks.has_quota.Given as goal
 

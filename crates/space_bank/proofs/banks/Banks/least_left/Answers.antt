@@ -1,4 +1,5 @@
-use Rattle.space_bank.proofs.Names.{◌≡◌, ◌-◌, ◌∙◌, [], sym, left_of, chain_within, objects_in}
+use Rattle.space_bank.proofs.Names.{[], sym, left_of, chain_within, objects_in}
+use Rattle.std.proofs.Common.{◌≡◌, ◌-◌, ◌∙◌}
 use Rattle.space_bank.proofs.Walks.{chain_past, least_begun, least_last, least_next, least_on, left_counted, limit_known, owner_is_bank, usage_known}
 use Rattle.space_bank.proofs.Walks.{within_counted}
 use Rattle.space_bank.proofs.banks.Banks.least_left.Goals as goal

@@ -1,4 +1,5 @@
-use Rattle.space_bank.proofs.Names.{◌≡◌, ◌-◌, map, chain_within, least, left_of, remaining, objects_in, IsBankOf}
+use Rattle.space_bank.proofs.Names.{map, chain_within, least, left_of, remaining, objects_in, IsBankOf}
+use Rattle.std.proofs.Common.{◌≡◌, ◌-◌}
 use Rattle.space_bank.proofs.banks.Banks.least_left.Given as goal
 
 abbrev pub invariant-loop-step : goal.invariant-loop-step

@@ -1,5 +1,6 @@
-use Rattle.space_bank.proofs.Names.{◌∙◌, List, ap, false, subst, sym, slice_set, Geometry, Object, new_annex, new_root, with_new, AreKeepable, BanksState}
-use Rattle.space_bank.proofs.Names.{marks_of, chain, frames_of, objects_in}
+use Rattle.space_bank.proofs.Names.{List, ap, false, subst, sym, slice_set, Geometry, Object, new_annex, new_root, with_new, AreKeepable, BanksState, marks_of}
+use Rattle.space_bank.proofs.Names.{chain, frames_of, objects_in}
+use Rattle.std.proofs.Common.{◌∙◌}
 use Rattle.space_bank.proofs.Carried.{IsMade, process_carried, still_free, taken_one, taken_two}
 use Rattle.space_bank.proofs.Standing.{free_role}
 use Rattle.space_bank.proofs.banks.Banks.new_process.Goals as goal

@@ -1,4 +1,5 @@
-use Rattle.space_bank.proofs.Names.{ap, sym, ◌∙◌, Geometry, objects_in, new_at, process_at, BanksState}
+use Rattle.space_bank.proofs.Names.{ap, sym, Geometry, objects_in, new_at, process_at, BanksState}
+use Rattle.std.proofs.Common.{◌∙◌}
 use Rattle.capability.specs.declared.present.Fresh.TheVariants as fresh
 use Rattle.space_bank.proofs.Found.{nodes_are, nodes_marked, pages_are, pages_marked}
 use Rattle.space_bank.proofs.banks.Banks.next_free.Goals as goal

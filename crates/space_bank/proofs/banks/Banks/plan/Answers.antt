@@ -1,4 +1,5 @@
-use Rattle.space_bank.proofs.Names.{ap, refl, subst, sym, ◌∙◌, BankOrder, usage, remaining, limit_in, content_at, objects_in, IsPlanned}
+use Rattle.space_bank.proofs.Names.{ap, refl, subst, sym, BankOrder, usage, remaining, limit_in, content_at, objects_in, IsPlanned}
+use Rattle.std.proofs.Common.{◌∙◌}
 use Rattle.model.specs.declared.order.BankOrder.TheVariants as bank
 use Rattle.space_bank.proofs.Plans.{answer, bank_requested, planned_none, remaining_there, replying_as}
 use Rattle.space_bank.proofs.banks.Banks.plan.Goals as goal

@@ -1,4 +1,5 @@
-use Rattle.space_bank.proofs.Names.{◌++◌, ◌∙◌, ℕ, List, [], ◌∷◌, append_assoc, refl, sym, ap, Void, GiveUp, objects_in, BanksState, annex_among, annex_of}
+use Rattle.space_bank.proofs.Names.{ℕ, List, [], append_assoc, refl, sym, ap, Void, GiveUp, objects_in, BanksState, annex_among, annex_of}
+use Rattle.std.proofs.Common.{◌++◌, ◌∙◌, ◌∷◌}
 use Rattle.model.specs.declared.order.BankOrder.TheVariants as bank
 use Rattle.model.specs.declared.order.ResultCode.TheVariants as code
 use Rattle.space_bank.proofs.Making.{may_free}

@@ -1,4 +1,5 @@
-use Rattle.space_bank.proofs.Names.{◌≡◌, ◌∙◌, true, false, ap, arith, refl, sym, Capability, has_quota, objects_in, count_of, given_by, numbers_of, BanksState}
+use Rattle.space_bank.proofs.Names.{true, false, ap, arith, refl, sym, Capability, has_quota, objects_in, count_of, given_by, numbers_of, BanksState}
+use Rattle.std.proofs.Common.{◌≡◌, ◌∙◌}
 use Rattle.model.specs.declared.order.ResultCode.TheVariants as code
 use Rattle.space_bank.proofs.Making.{may_new}
 use Rattle.space_bank.proofs.Plans.{making, made_as, new_deep, new_limit, new_made, new_none, planned_as, planned_none, refused_as}

@@ -1,4 +1,5 @@
-use Rattle.space_bank.proofs.Names.{◌++◌, ◌∙◌, [], ◌∷◌, length, append_assoc, refl, ap, arith, length-append, Void, owned_by, Transfer, objects_in, BanksState}
+use Rattle.space_bank.proofs.Names.{[], length, append_assoc, refl, ap, arith, length-append, Void, owned_by, Transfer, objects_in, BanksState}
+use Rattle.std.proofs.Common.{◌++◌, ◌∙◌, ◌∷◌}
 use Rattle.model.specs.declared.order.BankOrder.TheVariants as bank
 use Rattle.model.specs.declared.order.ResultCode.TheVariants as code
 use Rattle.space_bank.proofs.Making.{may_return}

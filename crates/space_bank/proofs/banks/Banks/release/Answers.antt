@@ -1,4 +1,5 @@
-use Rattle.space_bank.proofs.Names.{◌≡◌, ◌∙◌, ℕ, List, ap, subst, sym, with_items_is, chain, objects_in, BanksState, IsRaised}
+use Rattle.space_bank.proofs.Names.{ℕ, List, ap, subst, sym, with_items_is, chain, objects_in, BanksState, IsRaised}
+use Rattle.std.proofs.Common.{◌≡◌, ◌∙◌}
 use Rattle.space_bank.proofs.banks.Banks.release.Goals as goal
 
 pub returns-clause-usages : goal.returns-clause-usages

@@ -1,6 +1,7 @@
-use Rattle.space_bank.proofs.Names.{◌≡◌, ◌<◌, ◌+◌, ◌-◌, ◌^◌, ◌∙◌, ◌++◌, ◌∷◌, [], false, ℕ, List, ap, arith, drop, length, subst, sym, take, All, length-append}
-use Rattle.space_bank.proofs.Names.{Capability, Geometry, Content, Object, chain, owned_by, header_at, AreKeepable, is_free, rescind, content_at, owner_at}
-use Rattle.space_bank.proofs.Names.{frames_of, objects_in, BanksState, AreTransferred, IsRaised, owner_read}
+use Rattle.space_bank.proofs.Names.{[], false, ℕ, List, ap, arith, drop, length, subst, sym, take, All, length-append, Capability, Geometry, Content, Object}
+use Rattle.space_bank.proofs.Names.{chain, owned_by, header_at, AreKeepable, is_free, rescind, content_at, owner_at, frames_of, objects_in, BanksState}
+use Rattle.space_bank.proofs.Names.{AreTransferred, IsRaised, owner_read}
+use Rattle.std.proofs.Common.{◌≡◌, ◌<◌, ◌+◌, ◌-◌, ◌^◌, ◌∙◌, ◌++◌, ◌∷◌}
 use Rattle.space_bank.proofs.Ending.{snapshots_then_ended, ended_snapshots, released_then, rest_is}
 use Rattle.space_bank.proofs.Giving.{serve_parent}
 use Rattle.space_bank.proofs.Owners.{transferred_same}

@@ -1,4 +1,5 @@
-use Rattle.vezhnake.proofs.Names.{Some, ap, ◌∙◌, rules, Session}
+use Rattle.vezhnake.proofs.Names.{Some, ap, rules, Session}
+use Rattle.std.proofs.Common.{◌∙◌}
 use Rattle.vezhnake.proofs.Handles.{opens_new, without}
 use Rattle.vezhnake.proofs.handle.Handle.open.Goals as goal
 

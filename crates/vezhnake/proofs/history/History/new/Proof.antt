@@ -1,5 +1,6 @@
 -- `new` makes the empty struct, with the bytes that its clauses name.
-use Rattle.vezhnake.proofs.Names.{[], ◌∷◌, ◌<◌, ◌^◌, length, refl, fresh}
+use Rattle.vezhnake.proofs.Names.{[], length, refl, fresh}
+use Rattle.std.proofs.Common.{◌∷◌, ◌<◌, ◌^◌}
 use seplogic.Ra.Ura.{Ura}
 use mir.Syntax.{named}
 use mir.Val.{Val}

@@ -1,5 +1,6 @@
 -- `then` makes the empty struct, with the data that its clauses name.
-use Rattle.vezhnake.proofs.Names.{List, [], ◌∷◌, ◌++◌, refl, stepped}
+use Rattle.vezhnake.proofs.Names.{List, [], refl, stepped}
+use Rattle.std.proofs.Common.{◌∷◌, ◌++◌}
 use seplogic.Ra.Ura.{Ura}
 use mir.Syntax.{Fn}
 use mir.Val.{Val, vptr}

@@ -1,4 +1,5 @@
-use Rattle.object_cache.proofs.Names.{MayCommit, whole, ◌≡◌, Some, sym, subst, FrozenFrames, StoreState, view_of}
+use Rattle.object_cache.proofs.Names.{MayCommit, whole, Some, sym, subst, FrozenFrames, StoreState, view_of}
+use Rattle.std.proofs.Common.{◌≡◌}
 use Rattle.object_cache.proofs.store.durable.StoreObjectStore.commit.Goals as goal
 
 pub commit-requires-clause-ready : goal.commit-requires-clause-ready

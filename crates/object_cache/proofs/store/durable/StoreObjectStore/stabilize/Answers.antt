@@ -1,4 +1,5 @@
-use Rattle.object_cache.proofs.Names.{◌≡◌, ◌≤◌, ℕ, Some, sym, subst, OnErr, LeavesSaved, FrozenFrames, stabilized, StoreState, view_of}
+use Rattle.object_cache.proofs.Names.{ℕ, Some, sym, subst, OnErr, LeavesSaved, FrozenFrames, stabilized, StoreState, view_of}
+use Rattle.std.proofs.Common.{◌≡◌, ◌≤◌}
 use Rattle.object_cache.proofs.store.durable.StoreObjectStore.stabilize.Goals as goal
 
 pub returns-clause-stopped : goal.returns-clause-stopped

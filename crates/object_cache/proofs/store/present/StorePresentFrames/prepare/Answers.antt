@@ -1,4 +1,5 @@
-use Rattle.object_cache.proofs.Names.{◌∙◌, ◌<◌, length, sym, subst, All-contains, StoreState}
+use Rattle.object_cache.proofs.Names.{length, sym, subst, All-contains, StoreState}
+use Rattle.std.proofs.Common.{◌∙◌, ◌<◌}
 use Rattle.object_cache.proofs.Outcomes.{on_ok}
 use Rattle.object_cache.proofs.store.present.StorePresentFrames.prepare.Goals as goal
 
