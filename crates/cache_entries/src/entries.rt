@@ -39,7 +39,7 @@ impl Model for Entries {
 impl Entries {
     ghost use Rattle.cache_entries.specs.contracts.entries.Entries.{the_row};
 
-    /// Entries up to the capacity, for `count` numbers, none of which has one. Fails only where
+    /// No entries yet, at most `capacity` of them later, for `count` numbers. Fails only where
     /// memory runs out.
     pub fn new(alloc: Global, capacity: Capacity, count: usize) -> Result<Entries, AllocError>
         ensures none { IfOk result (λ entries. entries

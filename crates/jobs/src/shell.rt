@@ -81,7 +81,7 @@ impl<R: Read, V: Write> ShellInput<R, V> {
         }
     }
 
-    // Reads a line with its newline, or as much as fits into `piece`, or what is left.
+    // Reads a line with its newline. Ends before it where `piece` is full or the input ends.
     fn read_line<W: Output>(&mut self, output: &W, piece: &mut [u8]) -> Result<usize, RunFault>
         requires none_waits { W.waiting output.now ≡ [] }
         requires room { 0 < length piece.old }

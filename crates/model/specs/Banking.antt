@@ -1,4 +1,4 @@
--- The orders of a bank: new objects, their end, and what is left (EROS, KeyKOS: space bank).
+-- The orders of a bank: allocate, free, destroy, and count what may still be allocated (EROS, KeyKOS: space bank).
 use Rattle.model.specs.Names.{ℕ, nat_le, nat_lt, min, Bool, not, List, [], length, map, replicate, slice_set, filter}
 use Rattle.model.specs.Names.{list_all, range_with_len}
 use Rattle.std.specs.Prelude.{◌+◌, ◌-◌, ◌==◌, ◌&&◌, ◌||◌, if◌then◌else◌, ◌∷◌}

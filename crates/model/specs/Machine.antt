@@ -19,7 +19,7 @@ pub record Frozen : Type 0 where
   pub left : ℕ
 
 -- a machine that is up. `touched` says of each number whether it was written since the last checkpoint or restart, and
--- `renewed` whether its object was given up since; `to_move` counts the saved objects that aren't home, and after a
+-- `renewed` whether its object was freed since; `to_move` counts the saved objects that aren't home, and after a
 -- restart all entries
 pub record Running : Type 0 where
   pub now : World

@@ -170,7 +170,7 @@ pub trait ObjectStore<D: Device>: PresentFrames + Sized {
     /// It is refused by `CheckpointRunning` exactly where a checkpoint is on its way, else by `MigrationPending` exactly
     /// where something saved isn't home, else by `BadNumber` exactly where no object has the number, else by
     /// `NotJournaled(NotPage)` exactly where it isn't a page, else by `NotJournaled(Renewed)` exactly where no page is
-    /// saved, or the one that is was given up since; nothing is written then, and only before `Renewed` the device is
+    /// saved, or the saved one was freed since; nothing is written then, and only before `Renewed` the device is
     /// asked. It returns `Fault` exactly where the device failed; then a crash leaves what was saved or, where nothing
     /// else refuses it, that with the page.
     fn journal(&mut self, number: u64, age: u64) -> Result<u64, Refusal>

@@ -18,8 +18,8 @@ impl Banks {
     /// Makes a change that was planned, whose order's numbers are listed from `skip` on. They are
     /// announced, and those of new objects fetched.
     ///
-    /// Takes no memory, and can't fail. Where objects are given up or transferred, it goes over the
-    /// numbers listed, and else over at most 16 banks.
+    /// Takes no memory, and can't fail. If objects are freed or transferred, it goes over the listed
+    /// numbers; otherwise over at most 16 banks.
     pub fn carry_out<F: PresentFrames>(&mut self, store: &mut F, skip: usize, change: BankChange)
         requires sound { AreSound (F.parts store.old) }
         requires counted { AreCounted (F.parts store.old).geometry

@@ -102,7 +102,7 @@ fn tell_task<D: Device, S: ObjectStore<D>>(
     Ok(stop.is_some())
 }
 
-// The same, and reports what is left of the device then.
+// The same, and then reports the bytes that the device holds.
 fn tell_all<D: Device, S: ObjectStore<D>>(
     alloc: Global,
     kernel: Kernel<D, S>,

@@ -22,7 +22,7 @@ pub(crate) struct Task<'a> {
     pub(crate) script: &'a [u8],
     /// The lines for the same kernel after the stop.
     pub(crate) tail: &'a [u8],
-    /// The lines for a kernel that opens what is left after all that, and holds all objects.
+    /// The lines for a last kernel, over the device as the others left it, with all objects in memory.
     pub(crate) last: &'a [u8],
 }
 

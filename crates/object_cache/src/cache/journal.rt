@@ -162,7 +162,7 @@ impl<D: Device> Cache<D> {
     /// It is refused by `CheckpointRunning` exactly where a checkpoint is on its way, else by `MigrationPending` exactly
     /// where something saved isn't home, else by `BadNumber` exactly where no object has the number, else by
     /// `NotJournaled(NotPage)` exactly where it isn't a page, else by `NotJournaled(Renewed)` exactly where no page is
-    /// saved, or the one that is was given up since. It returns `Fault` exactly where the device failed.
+    /// saved, or the saved one was freed since. It returns `Fault` exactly where the device failed.
     pub fn journal(&mut self, number: u64, age: u64) -> Result<u64, Refusal>
         requires keepable { AreKeepable (parts_of D.disk self.old).geometry u64.MAX
             (frames_of (parts_of D.disk self.old)) }
