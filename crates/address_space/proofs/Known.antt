@@ -19,7 +19,8 @@ module _ (p q : Parts) (headers : q.headers ≡ p.headers) (contents : q.content
   pub frames_same : frames_of q ≡ frames_of p
   frames_same = ap (λ (hs : List ObjectHeader). frames_in hs q.contents) headers ∙ ap (frames_in p.headers) contents
 
-  pub space_held : {g : Geometry} {age : ℕ} → IsSoundFrames g age (frames_of p) → (n : ℕ) (c : Capability) → c ≡ (root_at (objects_in q) n).space → MayBeHeld (objects_in p) c
+  pub space_held : {g : Geometry} {age : ℕ} → IsSoundFrames g age (frames_of p) → (n : ℕ) (c : Capability) → c ≡ (root_at (objects_in q) n).space →
+      MayBeHeld (objects_in p) c
   space_held sound n c is =
       subst (MayBeHeld (objects_in p)) (sym (is ∙ ap (λ (fs : List Frame). (root_at (objects_of fs) n).space) frames_same)) (sound.sound.spaces n).0
 

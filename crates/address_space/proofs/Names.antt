@@ -1,5 +1,5 @@
 -- The names that the proofs here cite: of other crates, and of the definitions of this one.
-pub use Rattle.capability.proofs.Frames.{known_used, node_used, page_used}
+pub use Rattle.capability.proofs.FrameLists.{known_used, node_used, page_used}
 pub use Rattle.capability.proofs.Keeping.{keepable_later}
 pub use Rattle.capability.specs.Parts.{Parts, frames_of, objects_in}
 pub use Rattle.model.specs.Capability.{union}

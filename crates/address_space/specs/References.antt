@@ -1,5 +1,5 @@
 -- Loads and stores over a store of present frames.
-use Rattle.std.specs.Prelude.{◌≡◌, ◌↔◌, ℕ, ◌%◌, ◌<◌, ◌≤◌, Bool, List, [], ◌∷◌, Result, Ok, Err, OnErr, IsErrOf}
+use Rattle.std.specs.Prelude.{◌≡◌, ◌↔◌, ℕ, ◌%◌, ◌<◌, ◌≤◌, Bool, List, [], ◌∷◌, Result, Ok, Err, OnErr, IsErr, IsErrOf}
 use Rattle.model.specs.declared.access.Access.{Access}
 use Rattle.model.specs.declared.answer.MemoryFault.{MemoryFault}
 use Rattle.model.specs.declared.object.Object.{Object}
@@ -9,7 +9,8 @@ use Rattle.model.specs.Step.{reached, writable}
 use Rattle.model.specs.World.{word_at, with_word}
 use Rattle.capability.specs.declared.present.PrepareFault.{PrepareFault}
 use Rattle.capability.specs.declared.present.PrepareFault.TheVariants as prepare
-use Rattle.capability.specs.Parts.{IsUnchanged, Parts, frames_of}
+use Rattle.capability.specs.Parts.{IsUnchanged, OnlyFetches, Parts, frames_of}
+use Rattle.device.specs.declared.device.Failed.{Failed}
 
 -- a load gives a word, or says why there is none
 abbrev pub IsLoaded : List Object → ℕ → ℕ → Result ℕ MemoryFault → Type 0
@@ -18,7 +19,8 @@ IsLoaded os p address (Ok word) =
 IsLoaded os p address (Err why) = reached os p address ≡ Err why
 
 -- a store puts a word into a page, which half of the log holds with the numbers written before, or says why it can't
-abbrev pub IsStored : ℕ → List Object → List Bool → ℕ → ℕ → ℕ → List Object → List Bool → Result (Unit {0}) MemoryFault → Type 0
+abbrev pub IsStored : ℕ → List Object → List Bool → ℕ → ℕ → ℕ → List Object → List Bool →
+    Result (Unit {0}) MemoryFault → Type 0
 IsStored log before touched p address word after touched_after (Ok done) =
     (page : ℕ) × (writable (reached before p address) ≡ Ok page) × (after ≡ with_word before page (address % 512) word)
     × (touched_after ≡ touching touched (page ∷ [])) × (touched_count touched_after ≤ log)
@@ -32,11 +34,13 @@ OverfillsStore log os touched p address =
 
 -- frames that are sound at an age are still sound then
 abbrev pub KeepsSound : Parts → Parts → Type 0
-KeepsSound old new = (age : ℕ) → IsSoundFrames old.geometry age (frames_of old) → IsSoundFrames old.geometry age (frames_of new)
+KeepsSound old new = (age : ℕ) → IsSoundFrames old.geometry age (frames_of old) →
+    IsSoundFrames old.geometry age (frames_of new)
 
 -- A store changes one content at most, and nothing where it fails. The parameters are ghost members of a store of
 -- present frames.
-pub record WritesWord {S T : Type 0} (parts : S → Parts) (Continues : S → S → Type 0) (old new : S) (result : Result T PrepareFault) : Type 0 where
+pub record WritesWord {S T : Type 0} (parts : S → Parts) (Continues : S → S → Type 0) (old new : S)
+    (result : Result T PrepareFault) : Type 0 where
   pub sound : KeepsSound (parts old) (parts new)
   pub headers : (parts new).headers ≡ (parts old).headers
   pub unchanged : OnErr result (IsUnchanged (parts old) (parts new))

@@ -4,36 +4,35 @@ ghost use Rattle.model.specs.Machine.{touched_count, touching};
 ghost use Rattle.model.specs.Object.{is_page};
 ghost use Rattle.model.specs.Step.{reached};
 ghost use Rattle.model.specs.World.{content_at, is_running_process, with_word};
-ghost use Rattle.capability.specs.Parts.{AreSound, OnlyReads, objects_in};
+ghost use Rattle.capability.specs.Parts.{AreSound, objects_in};
 ghost use Rattle.address_space.specs.Reaches.{ReachesPage, allowed, reported};
+ghost use Rattle.capability.specs.Parts.{FetchesOrFails};
 ghost use Rattle.address_space.specs.References.{IsLoaded, IsStored, OverfillsStore, WritesWord};
 
 use crate::looking::{look, space_of};
 use crate::walking::{Reached, walk};
-use capability::{PrepareFault, PresentFrames, objects};
+use capability::{Frames, PrepareFault, PresentFrames, objects};
+use device::Failed;
 use model::{MemoryFault, WORDS};
-use std::alloc::Global;
 
 /// Reads the word at an address in the address space of a running process, or returns the fault of
 /// the first place where the way to it stops, as `walk` does.
 ///
-/// Nothing is changed. An error is `NoMemory` where memory ran out, or `Failed` exactly where the
-/// device failed; it is never `LogFull`.
-pub fn load<F: PresentFrames>(
-    alloc: Global,
+/// Nothing is changed. Fails exactly if the device fails.
+pub fn load<F: Frames>(
     frames: &mut F,
     process: u64,
     address: u64,
-) -> Result<Result<u64, MemoryFault>, PrepareFault>
+) -> Result<Result<u64, MemoryFault>, Failed>
     requires sound { AreSound (F.parts frames.old) }
     requires process { IsTrue (is_running_process (objects_in (F.parts frames.old)) process) }
     ensures loaded { IfOk result (λ loaded.
         IsLoaded (objects_in (F.parts frames.old)) process address loaded) }
-    ensures only_reads { OnlyReads F.parts F.ContinuesTo frames.old frames.new result }
+    ensures fetches { FetchesOrFails F.parts F.ContinuesTo frames.old frames.new result }
 {
-    match reach(alloc, frames, process, address, false)? {
+    match reach(frames, process, address, false)? {
         Ok(found) => {
-            look(alloc, frames, found.page)?;
+            look(frames, found.page)?;
             Ok(Ok(objects::word(frames, found.page, word_index(address))))
         }
         Err(fault) => Ok(Err(fault)),
@@ -44,11 +43,9 @@ pub fn load<F: PresentFrames>(
 /// the first place where the way to it stops, as `walk` does for a store, and writes nothing.
 ///
 /// The page alone is written, and announced only once it is reached, so a fault comes before a full
-/// log. An error changes nothing: `NoMemory` where memory ran out, `LogFull` where the numbers
-/// written since the last checkpoint with the page would be more than half of the log holds, and
-/// `Failed` exactly where the device failed.
+/// log. An error changes nothing: `LogFull` if the numbers written since the last checkpoint with
+/// the page would be more than half of the log holds, and `Failed` exactly if the device failed.
 pub fn store<F: PresentFrames>(
-    alloc: Global,
     frames: &mut F,
     process: u64,
     address: u64,
@@ -64,9 +61,9 @@ pub fn store<F: PresentFrames>(
         (F.parts frames.old).touched process address }
     ensures writes { WritesWord F.parts F.ContinuesTo frames.old frames.new result }
 {
-    match reach(alloc, frames, process, address, true)? {
+    match reach(frames, process, address, true)? {
         Ok(found) => {
-            put(alloc, frames, found.page, word_index(address), word)?;
+            put(frames, found.page, word_index(address), word)?;
             Ok(Ok(()))
         }
         Err(fault) => Ok(Err(fault)),
@@ -74,29 +71,27 @@ pub fn store<F: PresentFrames>(
 }
 
 // The page that a reference of a process reaches.
-fn reach<F: PresentFrames>(
-    alloc: Global,
+fn reach<F: Frames>(
     frames: &mut F,
     process: u64,
     address: u64,
     for_write: bool,
-) -> Result<Result<Reached, MemoryFault>, PrepareFault>
+) -> Result<Result<Reached, MemoryFault>, Failed>
     requires sound { AreSound (F.parts frames.old) }
     requires process { IsTrue (is_running_process (objects_in (F.parts frames.old)) process) }
     ensures reached { IfOk result (λ found.
         reported found ≡ allowed for_write
         (reached (objects_in (F.parts frames.old)) process address)) }
     ensures page { IfOk result (ReachesPage (objects_in (F.parts frames.old))) }
-    ensures only_reads { OnlyReads F.parts F.ContinuesTo frames.old frames.new result }
+    ensures fetches { FetchesOrFails F.parts F.ContinuesTo frames.old frames.new result }
 {
-    let space = space_of(alloc, frames, process)?;
-    walk(alloc, frames, space, address, for_write)
+    let space = space_of(frames, process)?;
+    walk(frames, space, address, for_write)
 }
 
 // Announces a page, and puts a word into it.
 #[tactic(auto, using(crate::proofs::Known::page_known))]
 fn put<F: PresentFrames>(
-    alloc: Global,
     frames: &mut F,
     page: u64,
     index: usize,
@@ -116,7 +111,7 @@ fn put<F: PresentFrames>(
         < touched_count (touching (F.parts frames.old).touched (page ∷ [])) }
     ensures writes { WritesWord F.parts F.ContinuesTo frames.old frames.new result }
 {
-    frames.prepare(alloc, &[page], &[page])?;
+    frames.prepare(&[page], &[page])?;
     objects::set_word(frames, page, index, word);
     Ok(())
 }

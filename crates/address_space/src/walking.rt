@@ -4,14 +4,15 @@ ghost use Rattle.model.specs.Capability.{union};
 ghost use Rattle.model.specs.Sound.{MayBeHeld};
 ghost use Rattle.model.specs.Walk.{path, walk as walked, walk_along};
 ghost use Rattle.model.specs.World.{slot_at};
-ghost use Rattle.capability.specs.Parts.{AreSound, OnlyReads, objects_in};
+ghost use Rattle.capability.specs.Parts.{AreSound, objects_in};
 ghost use Rattle.address_space.specs.Reaches.{ReachesPage, allowed, reported};
+ghost use Rattle.capability.specs.Parts.{FetchesOrFails};
 
 use crate::looking::look;
 use bitflags::Flags;
-use capability::{Access, Capability, PrepareFault, PresentFrames, objects};
+use capability::{Access, Capability, Frames, objects};
+use device::Failed;
 use model::{MemoryFault, SLOTS, WORDS};
-use std::alloc::Global;
 
 /// The page that a reference to memory reaches.
 #[derive(Clone, Copy, PartialEq, Eq, Debug)]
@@ -55,24 +56,22 @@ struct Tree {
 /// a page at height 1, above it a tree that is one less high. A stale capability is void, so on the
 /// way it is a hole. A store to a page that is reached with any restriction is `ReadOnly`.
 ///
-/// At most four nodes are fetched, one after the other, and the page isn't. No object is another
-/// than before. An error is `NoMemory` where memory ran out, or `Failed` exactly where the device
-/// failed; it is never `LogFull`.
-pub fn walk<F: PresentFrames>(
-    alloc: Global,
+/// At most four nodes are fetched, one after the other, and the page isn't. No object changes.
+/// Fails exactly if the device fails.
+pub fn walk<F: Frames>(
     frames: &mut F,
     capability: Capability,
     address: u64,
     for_write: bool,
-) -> Result<Result<Reached, MemoryFault>, PrepareFault>
+) -> Result<Result<Reached, MemoryFault>, Failed>
     requires sound { AreSound (F.parts frames.old) }
     requires held { MayBeHeld (objects_in (F.parts frames.old)) capability }
     ensures reached { IfOk result (λ reached. reported reached ≡ allowed for_write
         (walked (objects_in (F.parts frames.old)) capability (address / 512))) }
     ensures page { IfOk result (ReachesPage (objects_in (F.parts frames.old))) }
-    ensures only_reads { OnlyReads F.parts F.ContinuesTo frames.old frames.new result }
+    ensures fetches { FetchesOrFails F.parts F.ContinuesTo frames.old frames.new result }
 {
-    match find(alloc, frames, capability, address / WORDS as u64)? {
+    match find(frames, capability, address / WORDS as u64)? {
         Ok(found) if for_write && !found.access.is_empty() => Ok(Err(MemoryFault::ReadOnly)),
         reached => Ok(reached),
     }
@@ -80,18 +79,17 @@ pub fn walk<F: PresentFrames>(
 
 // The page with an index in an address space.
 #[tactic(auto, unfolding(model::specs::Walk::walk))]
-fn find<F: PresentFrames>(
-    alloc: Global,
+fn find<F: Frames>(
     frames: &mut F,
     capability: Capability,
     index: u64,
-) -> Result<Result<Reached, MemoryFault>, PrepareFault>
+) -> Result<Result<Reached, MemoryFault>, Failed>
     requires sound { AreSound (F.parts frames.old) }
     requires held { MayBeHeld (objects_in (F.parts frames.old)) capability }
     ensures reached { IfOk result (λ reached.
         reported reached ≡ walked (objects_in (F.parts frames.old)) capability index) }
     ensures page { IfOk result (ReachesPage (objects_in (F.parts frames.old))) }
-    ensures only_reads { OnlyReads F.parts F.ContinuesTo frames.old frames.new result }
+    ensures fetches { FetchesOrFails F.parts F.ContinuesTo frames.old frames.new result }
 {
     match capability {
         Capability::Void => Ok(Err(MemoryFault::NoSpace)),
@@ -117,7 +115,7 @@ fn find<F: PresentFrames>(
                 height,
                 access,
             };
-            descend(alloc, frames, tree, index)
+            descend(frames, tree, index)
         }
         _ => Ok(Err(MemoryFault::Malformed)),
     }
@@ -125,12 +123,11 @@ fn find<F: PresentFrames>(
 
 // The page with an index in a tree.
 #[tactic(auto, using(crate::proofs::Paths::at_hole, crate::proofs::Paths::at_page, crate::proofs::Paths::at_other))]
-fn descend<F: PresentFrames>(
-    alloc: Global,
+fn descend<F: Frames>(
     frames: &mut F,
     tree: Tree,
     index: u64,
-) -> Result<Result<Reached, MemoryFault>, PrepareFault>
+) -> Result<Result<Reached, MemoryFault>, Failed>
     requires sound { AreSound (F.parts frames.old) }
     requires held { MayBeHeld (objects_in (F.parts frames.old))
         (Capability.Space tree.node tree.height tree.access) }
@@ -138,9 +135,9 @@ fn descend<F: PresentFrames>(
         ≡ walk_along (objects_in (F.parts frames.old))
         (Capability.Space tree.node tree.height tree.access) (path tree.height index)) }
     ensures page { IfOk result (ReachesPage (objects_in (F.parts frames.old))) }
-    ensures only_reads { OnlyReads F.parts F.ContinuesTo frames.old frames.new result }
+    ensures fetches { FetchesOrFails F.parts F.ContinuesTo frames.old frames.new result }
 {
-    match next_slot(alloc, frames, tree, index)? {
+    match next_slot(frames, tree, index)? {
         Capability::Void => Ok(Err(MemoryFault::Hole)),
         Capability::Page { object, access } => {
             if tree.height != 1 {
@@ -165,7 +162,7 @@ fn descend<F: PresentFrames>(
                 height,
                 access,
             };
-            match descend(alloc, frames, below, index)? {
+            match descend(frames, below, index)? {
                 Ok(found) => Ok(Ok(found.through(tree.access))),
                 Err(fault) => Ok(Err(fault)),
             }
@@ -175,12 +172,7 @@ fn descend<F: PresentFrames>(
 }
 
 // What the node of a tree holds on the way to the page with an index.
-fn next_slot<F: PresentFrames>(
-    alloc: Global,
-    frames: &mut F,
-    tree: Tree,
-    index: u64,
-) -> Result<Capability, PrepareFault>
+fn next_slot<F: Frames>(frames: &mut F, tree: Tree, index: u64) -> Result<Capability, Failed>
     requires sound { AreSound (F.parts frames.old) }
     requires held { MayBeHeld (objects_in (F.parts frames.old))
         (Capability.Space tree.node tree.height tree.access) }
@@ -188,9 +180,9 @@ fn next_slot<F: PresentFrames>(
         slot ≡ slot_at (objects_in (F.parts frames.old)) tree.node
         (index / 32 ^ (tree.height - 1) % 32)) }
     ensures held { IfOk result (MayBeHeld (objects_in (F.parts frames.old))) }
-    ensures only_reads { OnlyReads F.parts F.ContinuesTo frames.old frames.new result }
+    ensures fetches { FetchesOrFails F.parts F.ContinuesTo frames.old frames.new result }
 {
-    look(alloc, frames, tree.node)?;
+    look(frames, tree.node)?;
     Ok(objects::slot(frames, tree.node, digit(index, tree.height - 1)))
 }
 

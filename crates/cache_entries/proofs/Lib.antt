@@ -1,6 +1,9 @@
 mod Names
 pub mod Lists
-pub mod Arenas
+pub mod Slabs
+pub mod Contents
 pub mod Orders
 pub mod Recent
 pub mod Turns
+pub mod Spreads
+pub mod Stored

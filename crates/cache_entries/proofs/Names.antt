@@ -1,22 +1,37 @@
 -- The names that the proofs here cite: of other crates, and of the definitions of this one.
+pub use Rattle.capability.specs.Objects.{with_root_in, with_slots_in}
+pub use Rattle.capability.specs.Parts.{fresh_content}
 pub use Rattle.lru.proofs.CallerLemmas.{Contains-lookup_entry}
-pub use Rattle.lru.specs.LruCache.{LruCache, promoted, put_entries}
+pub use Rattle.lru.specs.LruCache.{LruCache, demoted, promoted, put_entries}
+pub use Rattle.model.specs.Frame.{content_behind, held_at, void_held}
+pub use Rattle.model.specs.Object.{with_slot_in, with_word_in}
+unfoldable pub use Rattle.model.specs.Object.{all_slots, zero_words}
 pub use Rattle.model.specs.Revoke.{is_member}
-pub use Rattle.std.proofs.Common.{Bool, IsSome, List, None, Option, Some, [], ap, arith, cond, drop, eqb, false, get_or, inl, inr, is_some, length}
-pub use Rattle.std.proofs.Common.{length-append, length-set, nat_eq, option_map, refl, replicate, set, slice_set, subst, suc, sym, take, true, true≢false}
-pub use Rattle.std.proofs.Common.{vec_capacity, zero, ℕ}
-pub use Rattle.std.proofs.lemmas.Bool.{cases_eq, cases_lt, cond-true, eq-eqb, eqb-true, ne_eqb}
-pub use Rattle.std.proofs.lemmas.List.{get_or-drop, get_or-replicate, get_or-set_other, get_or-set_same, get_or_default, get_or_past, length-drop, length-map}
-pub use Rattle.std.proofs.lemmas.List.{length-replicate, length-take-le, same_lists, take-append-drop, take_all, take_more}
+pub use Rattle.model.specs.declared.capability.Cap.{Cap}
+pub use Rattle.model.specs.declared.object.Content.{Content}
+pub use Rattle.model.specs.declared.object.Root.{Root}
+pub use Rattle.std.proofs.Common.{Bool, IsSome, List, None, Option, Some, [], ap, arith, cond, drop, false, get_or, inl, inr, is_some, length, length-append}
+pub use Rattle.std.proofs.Common.{length-set, map, nat_eq, option_map, refl, replicate, rules, set, slice_set, subst, suc, sym, take, true, true≢false}
+pub use Rattle.std.proofs.Common.{unwrap_or, vec_capacity, vec_len, zero, ℕ}
+pub use Rattle.std.proofs.lemmas.Bool.{cases_eq, cases_lt, eq-eqb, eqb-true, le-ltb, lt-ltb, ne_eqb}
+pub use Rattle.std.proofs.lemmas.List.{get_or-drop, get_or-map, get_or-replicate, get_or-set_other, get_or-set_same, get_or_default, get_or_past, length-drop}
+pub use Rattle.std.proofs.lemmas.List.{length-map, length-replicate, length-take-le, same_lists, set-get_or, take-append-drop, take_all, take_more}
+pub use Rattle.std.proofs.lemmas.List.Folds.{sum_by-replicate}
 pub use Rattle.std.proofs.lemmas.List.FromFn.{fill_by_all, get_or-map-range_with_len, length-map-range_with_len}
-pub use Rattle.std.proofs.lemmas.Option.{cond_some, none-some, same_Some, slice_get-get_or, slice_get_read, slice_get_within}
-pub use Rattle.std.specs.List.{Contains, slice_get, swap_remove}
-pub use Rattle.std.specs.Map.{keys_of, lookup, lookup_entry, remove_entry}
+pub use Rattle.std.proofs.lemmas.List.Sums.{count_by-le-length, sum_by-set}
+pub use Rattle.std.proofs.lemmas.Option.{none-some, same_Some, slice_get_past, slice_get_read, slice_get_within}
+pub use Rattle.std.specs.List.{Contains, count_by, slice_get}
+pub use Rattle.std.specs.Map.{keys_of, lookup_entry, remove_entry}
+pub use Rattle.std.specs.NonZero.{non_zero_usize_get}
 pub use Rattle.std.specs.Option.{option_map_or}
-pub use Rattle.std.specs.Prelude.{nat_le, slice_index}
-pub use Rattle.cache_entries.specs.Entries.{ArenaState, IsPlaced, arena_of, buffer_of, entry_at, entry_of, holding, keeping, of_number, present_of, reserving}
-pub use Rattle.cache_entries.specs.Entries.{settled, with_entry_in}
-unfoldable pub use Rattle.cache_entries.specs.Entries.{entries_in}
-pub use Rattle.cache_entries.specs.Order.{AllDiffer, AreKept, AreLatest, EntriesState, OrderState, entries_of, used_in_turn, used_last, with_new, without}
+pub use Rattle.std.specs.Prelude.{nat_le, nat_lt}
+pub use Rattle.cache_entries.specs.Bodies.{AreBodies, HasRoom, content_at, content_in, is_root_kind, kind_at, kind_of, slots_are_of, slots_from, with_slots_of}
+pub use Rattle.cache_entries.specs.Bodies.{with_words_of, words_are_of}
+unfoldable pub use Rattle.cache_entries.specs.Bodies.{contents_in}
+pub use Rattle.cache_entries.specs.Entries.{Entry, changing, entry_at}
+pub use Rattle.cache_entries.specs.Order.{AllDiffer, AreLatest, AreOrdered, ArePlaced, AreSpread, AreStored, EntriesState, OrderState, entries_of, entry_in}
+pub use Rattle.cache_entries.specs.Order.{order_of, place_at, place_below, used_in_turn, used_last, used_longest_ago, with_entry_of, with_new, without}
 pub use Rattle.cache_entries.specs.Order.{without_entry}
-pub use Rattle.cache_entries.specs.declared.entry.Entry.{Entry}
+pub use Rattle.cache_entries.specs.Slab.{IsSlab, item_at, position}
+unfoldable pub use Rattle.cache_entries.specs.Slab.{items_in}
+pub use Rattle.cache_entries.specs.declared.bodies.Kind.{Kind}

@@ -1,10 +1,8 @@
 -- Numbers in the order of their last use, and pairs of a cache with them as its keys.
-use Rattle.cache_entries.proofs.Names.{inl, inr, ℕ, nat_eq, Bool, true, false, cond, true≢false, List, [], length, take, Option, Some, None, is_some, IsSome}
-use Rattle.cache_entries.proofs.Names.{set, refl, sym, ap, arith, keys_of, lookup, lookup_entry, remove_entry, option_map_or, eqb-true, eq-eqb, ne_eqb}
-use Rattle.cache_entries.proofs.Names.{cases_eq, take_all, get_or-set_same, get_or-set_other, LruCache, promoted, put_entries, Contains-lookup_entry, is_member}
-use Rattle.cache_entries.proofs.Names.{Entry, ArenaState, entry_at, AllDiffer, without, AreKept}
-use Rattle.std.proofs.Common.{◌≡◌, ◌≢◌, ◌+◌, ◌-◌, ◌<◌, ◌||◌, ◌∷◌, ◌∙◌}
-use Rattle.cache_entries.proofs.Arenas.{some_within}
+use Rattle.cache_entries.proofs.Names.{inl, inr, ℕ, nat_eq, Bool, true, false, cond, true≢false, List, [], length, take, Option, Some, None, is_some, refl, sym}
+use Rattle.cache_entries.proofs.Names.{ap, arith, keys_of, lookup_entry, remove_entry, option_map_or, eqb-true, eq-eqb, ne_eqb, cases_eq, take_all, LruCache}
+use Rattle.cache_entries.proofs.Names.{promoted, demoted, put_entries, Contains-lookup_entry, is_member, AllDiffer, without}
+use Rattle.std.proofs.Common.{◌≡◌, ◌≢◌, ◌+◌, ◌-◌, ◌<◌, ◌||◌, ◌∷◌, ◌++◌, ◌∙◌}
 
 -- ---- the keys of pairs
 
@@ -13,7 +11,8 @@ module _ (n : ℕ) where
   without_keys [] = refl
   without_keys (e ∷ es) = go (nat_eq n e.0) (without_keys es)
     where
-      go : (t : Bool) → keys_of (remove_entry (nat_eq n) es) ≡ without n (keys_of es) → keys_of (cond t es (e ∷ remove_entry (nat_eq n) es)) ≡ cond t (keys_of es) (e.0 ∷ without n (keys_of es))
+      go : (t : Bool) → keys_of (remove_entry (nat_eq n) es) ≡ without n (keys_of es) → keys_of (cond t es (e ∷ remove_entry (nat_eq n) es)) ≡ cond t
+          (keys_of es) (e.0 ∷ without n (keys_of es))
       go true later = refl
       go false later = ap (λ (ns : List ℕ). e.0 ∷ ns) later
 
@@ -35,11 +34,28 @@ module _ (n : ℕ) where
           ap (λ (m : ℕ). m ∷ keys_of (remove_entry (nat_eq n) es)) (sym (eqb-true n e.0 (Contains-lookup_entry (nat_eq n) es e at).1))
           ∙ ap (λ (ns : List ℕ). n ∷ ns) (without_keys es)
 
-  pub new_keys : (c : LruCache ℕ (Unit {0})) → is_member (keys_of c.entries) n ≡ false → length c.entries < c.cap → keys_of (put_entries nat_eq c n tt) ≡ n ∷ keys_of c.entries
+  pub demoted_keys : (es : List (ℕ × Unit {0})) → is_member (keys_of es) n ≡ true → keys_of (demoted (nat_eq n) es) ≡ without n (keys_of es) ++ n ∷ []
+  demoted_keys es is = go (lookup_entry (nat_eq n) es) refl (member_entries es ∙ is)
+    where
+      keys_end : (es : List (ℕ × Unit {0})) (e : ℕ × Unit {0}) → keys_of (es ++ e ∷ []) ≡ keys_of es ++ e.0 ∷ []
+      keys_end [] e = refl
+      keys_end (f ∷ es) e = ap (λ (ns : List ℕ). f.0 ∷ ns) (keys_end es e)
+
+      go : (o : Option (ℕ × Unit {0})) → lookup_entry (nat_eq n) es ≡ o → is_some o ≡ true →
+          keys_of (option_map_or (λ (e : ℕ × Unit {0}). remove_entry (nat_eq n) es ++ e ∷ []) o es) ≡ without n (keys_of es) ++ n ∷ []
+      go None at some = absurd (true≢false (sym some))
+      go (Some e) at some =
+          keys_end (remove_entry (nat_eq n) es) e
+          ∙ ap (λ (m : ℕ). keys_of (remove_entry (nat_eq n) es) ++ m ∷ []) (sym (eqb-true n e.0 (Contains-lookup_entry (nat_eq n) es e at).1))
+          ∙ ap (λ (ns : List ℕ). ns ++ n ∷ []) (without_keys es)
+
+  pub new_keys : (c : LruCache ℕ (Unit {0})) → is_member (keys_of c.entries) n ≡ false → length c.entries < c.cap → keys_of (put_entries nat_eq c n tt) ≡ n
+      ∷ keys_of c.entries
   new_keys c none short = go (lookup_entry (nat_eq n) c.entries) (member_entries c.entries ∙ none)
     where
       go : (o : Option (ℕ × Unit {0})) → is_some o ≡ false →
-          keys_of (option_map_or (λ (e : ℕ × Unit {0}). (e.0, tt) ∷ remove_entry (nat_eq n) c.entries) o ((n, tt) ∷ take (c.cap - 1) c.entries)) ≡ n ∷ keys_of c.entries
+          keys_of (option_map_or (λ (e : ℕ × Unit {0}). (e.0, tt) ∷ remove_entry (nat_eq n) c.entries) o ((n, tt) ∷ take (c.cap - 1) c.entries)) ≡ n ∷
+          keys_of c.entries
       go None is = ap (λ (es : List (ℕ × Unit {0})). n ∷ keys_of es) (take_all (c.cap - 1) c.entries (omega (arith, short)))
       go (Some e) is = absurd (true≢false is)
 
@@ -56,7 +72,8 @@ pub length_without : (n : ℕ) (ns : List ℕ) → is_member ns n ≡ true → l
 length_without n [] is = absurd (true≢false (sym is))
 length_without n (m ∷ ms) is = go (nat_eq n m) is (length_without n ms)
   where
-    go : (t : Bool) → (t || is_member ms n) ≡ true → (is_member ms n ≡ true → length (without n ms) + 1 ≡ length ms) → length (cond t ms (m ∷ without n ms)) + 1 ≡ length (m ∷ ms)
+    go : (t : Bool) → (t || is_member ms n) ≡ true → (is_member ms n ≡ true → length (without n ms) + 1 ≡ length ms) → length
+        (cond t ms (m ∷ without n ms)) + 1 ≡ length (m ∷ ms)
     go true is later = omega arith
     go false is later = omega (arith, later is)
 
@@ -89,69 +106,25 @@ differ_without n (m ∷ ms) once = elim (cases_eq n m) [
   | inr other ↦ rw (ne_eqb n m other) (still n ms m (λ is. other (sym is)) ∙ once.0, differ_without n ms once.1)
 ]
 
--- ---- what is always kept
+pub not_yet : (keys : List ℕ) (k : ℕ) → ((p : ℕ) → is_member keys p ≡ true → p < k) → is_member keys k ≡ false
+not_yet keys k known = go (is_member keys k) refl
+  where
+    go : (t : Bool) → is_member keys k ≡ t → is_member keys k ≡ false
+    go true is = absurd (omega (arith, known k is))
+    go false is = is
 
-module _ (a : ArenaState) (order : List ℕ) (buffer : ℕ) (kept : AreKept a order buffer) where
-  module _ (e : Entry) (known : e.number < length a.at) (absent : entry_at a.at e.number ≡ None) (short : length order < a.most) where
-    pub not_listed : is_member order e.number ≡ false
-    not_listed = kept.ordered.listed e.number ∙ ap is_some absent
+-- a cache with one more key, greater than all others
+pub record IsFilled (keys : List ℕ) (k : ℕ) : Type 0 where
+  pub once : AllDiffer keys
+  pub all : length keys ≡ k
+  pub known : (p : ℕ) → is_member keys p ≡ true → p < k
 
-    pub kept_new : AreKept (record { at = set a.at e.number (Some e); count = a.count + 1; most = a.most }) (e.number ∷ order) buffer
-    kept_new = record {
-      ordered = record {
-        listed = λ n. elim (cases_eq n e.number) [
-          | inl same ↦
-              member_head n e.number order same
-              ∙ sym (ap (λ (m : ℕ). is_some (entry_at (set a.at e.number (Some e)) m)) same
-              ∙ ap is_some (get_or-set_same a.at e.number (Some e) None known))
-          | inr other ↦
-              member_tail n e.number order (λ same. other (sym same))
-              ∙ kept.ordered.listed n
-              ∙ sym (ap is_some (get_or-set_other a.at e.number n (Some e) None other))
-        ];
-        once = (not_listed, kept.ordered.once);
-        few = omega (arith, short);
-      };
-      count = omega (arith, kept.count);
-      same_most = kept.same_most;
-    }
-
-  module _ (n : ℕ) (some : IsSome (entry_at a.at n)) where
-    pub is_listed : is_member order n ≡ true
-    is_listed = kept.ordered.listed n ∙ some
-
-    pub kept_without : (b : ArenaState) → b.at ≡ set a.at n None → b.count + 1 ≡ a.count → b.most ≡ a.most → AreKept b (without n order) buffer
-    kept_without b at count most = record {
-      ordered = record {
-        listed = λ m. elim (cases_eq m n) [
-          | inl same ↦
-              ap (is_member (without n order)) same ∙ gone n order kept.ordered.once
-              ∙ sym (ap (λ (es : List (Option Entry)). is_some (entry_at es m)) at
-              ∙ ap (λ (k : ℕ). is_some (entry_at (set a.at n None) k)) same
-              ∙ ap is_some (get_or-set_same a.at n None None (some_within a.at n some)))
-          | inr other ↦
-              still n order m other
-              ∙ kept.ordered.listed m
-              ∙ sym (ap (λ (es : List (Option Entry)). is_some (entry_at es m)) at
-              ∙ ap is_some (get_or-set_other a.at n m None None other))
-        ];
-        once = differ_without n order kept.ordered.once;
-        few = omega (arith, kept.ordered.few, length_without n order is_listed, most);
-      };
-      count = omega (arith, count, kept.count, length_without n order is_listed);
-      same_most = most ∙ kept.same_most;
-    }
-
-    pub kept_used : AreKept a (n ∷ without n order) buffer
-    kept_used = record {
-      ordered = record {
-        listed = λ m. elim (cases_eq m n) [
-          | inl same ↦ member_head m n (without n order) same ∙ sym (ap (λ (k : ℕ). is_some (entry_at a.at k)) same ∙ some)
-          | inr other ↦ member_tail m n (without n order) (λ same. other (sym same)) ∙ still n order m other ∙ kept.ordered.listed m
-        ];
-        once = (gone n order kept.ordered.once, differ_without n order kept.ordered.once);
-        few = omega (arith, kept.ordered.few, length_without n order is_listed);
-      };
-      count = omega (arith, kept.count, length_without n order is_listed);
-      same_most = kept.same_most;
-    }
+pub filled_more : (keys : List ℕ) (k : ℕ) → IsFilled keys k → IsFilled (k ∷ keys) (k + 1)
+filled_more keys k is = record {
+  once = (not_yet keys k is.known, is.once);
+  all = omega (arith, is.all);
+  known = λ p here. elim (cases_eq p k) [
+    | inl same ↦ omega (arith, same)
+    | inr other ↦ omega (arith, is.known p (sym (member_tail p k keys (λ same. other (sym same))) ∙ here))
+  ];
+}

@@ -30,7 +30,8 @@ module _ (n : ℕ) where
       ∙ ap (λ (ms : List ℕ). m ∷ ms) (front_stays (p ∷ ps) i k (omega (arith, last)) once.1 at (omega (arith, below)))
 
   -- and none of them is the last
-  pub front_apart : (ns : List ℕ) (i k m : ℕ) → i + 1 ≡ length ns → AllDiffer ns → slice_get ns i ≡ Some n → k < length ns → is_member (take k ns) m ≡ true → m ≢ n
+  pub front_apart : (ns : List ℕ) (i k m : ℕ) → i + 1 ≡ length ns → AllDiffer ns → slice_get ns i ≡ Some n → k < length ns → is_member (take k ns) m ≡
+      true → m ≢ n
   front_apart [] i k m last once at below is = absurd (omega (arith, below))
   front_apart (a ∷ rest) i zero m last once at below is = absurd (true≢false (sym is))
   front_apart (a ∷ []) i (suc k) m last once at below is = absurd (omega (arith, below))
@@ -40,26 +41,3 @@ module _ (n : ℕ) where
     | inr other ↦ front_apart (p ∷ ps) i k m (omega (arith, last)) once.1 at (omega (arith, below))
         (sym (ap (λ (t : Bool). t || is_member (take k (p ∷ ps)) m) (ne_eqb m a other)) ∙ is)
   ]
-
-  -- taking a number out of the order brings none further back
-  pub front_without : (ns : List ℕ) (k m : ℕ) → m ≢ n → is_member (take k ns) m ≡ true → is_member (take k (without n ns)) m ≡ true
-  front_without [] k m other is = is
-  front_without (a ∷ rest) zero m other is = absurd (true≢false (sym is))
-  front_without (a ∷ rest) (suc k) m other is = elim (cases_eq n a) [
-    | inl same ↦
-        ap (λ (t : Bool). is_member (take (suc k) (cond t rest (a ∷ without n rest))) m) (eq-eqb n a same)
-        ∙ front_more rest k m (sym (ap (λ (t : Bool). t || is_member (take k rest) m) (ne_eqb m a (λ there. other (there ∙ sym same)))) ∙ is)
-    | inr differs ↦
-        ap (λ (t : Bool). is_member (take (suc k) (cond t rest (a ∷ without n rest))) m) (ne_eqb n a differs)
-        ∙ head_or (nat_eq m a) (is_member (take k rest) m) (is_member (take k (without n rest)) m) (front_without rest k m other) is
-  ]
-    where
-      head_or : (t a b : Bool) → (a ≡ true → b ≡ true) → (t || a) ≡ true → (t || b) ≡ true
-      head_or true a b then is = refl
-      head_or false a b then is = then is
-
-      front_more : (ns : List ℕ) (k m : ℕ) → is_member (take k ns) m ≡ true → is_member (take (suc k) ns) m ≡ true
-      front_more [] zero m is = absurd (true≢false (sym is))
-      front_more [] (suc k) m is = absurd (true≢false (sym is))
-      front_more (b ∷ bs) zero m is = absurd (true≢false (sym is))
-      front_more (b ∷ bs) (suc k) m is = head_or (nat_eq m b) (is_member (take k bs) m) (is_member (take (suc k) bs) m) (front_more bs k m) is

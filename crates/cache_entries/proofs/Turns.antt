@@ -1,15 +1,15 @@
 -- Numbers that are used in turn, and those whose use the order doesn't have yet.
 use Rattle.cache_entries.proofs.Names.{inl, inr, ℕ, zero, suc, nat_eq, Bool, true, false, cond, true≢false, List, [], length, set, take, drop, get_or, Some}
 use Rattle.cache_entries.proofs.Names.{refl, sym, ap, subst, arith, Contains, slice_get, take_more, eqb-true, eq-eqb, ne_eqb, cases_eq, none-some, same_Some}
-use Rattle.cache_entries.proofs.Names.{is_member, ArenaState, AllDiffer, AreKept, AreLatest, used_in_turn, without}
+use Rattle.cache_entries.proofs.Names.{is_member, AllDiffer, AreLatest, AreSpread, OrderState, used_in_turn, used_last, without}
 use Rattle.std.proofs.Common.{◌≡◌, ◌≢◌, ◌⊎◌, ◌+◌, ◌||◌, ◌∷◌, ◌++◌, ◌<◌, ◌≤◌, ◌∙◌}
-use Rattle.cache_entries.proofs.Orders.{differ_without, gone, kept_used, length_without, member_head, member_tail, still}
+use Rattle.cache_entries.proofs.Orders.{differ_without, gone, length_without, member_head, member_tail, still}
 use Rattle.cache_entries.proofs.Recent.{listed_member}
 
 -- ---- members
 
 -- a list with a number more in front, or at its end
-either : (t b : Bool) → (t || b) ≡ true → (t ≡ true) ⊎ (b ≡ true)
+pub either : (t b : Bool) → (t || b) ≡ true → (t ≡ true) ⊎ (b ≡ true)
 either true b is = inl refl
 either false b is = inr is
 
@@ -50,7 +50,8 @@ member_used n ns m is = elim (cases_eq m n) [
   | inr other ↦ member_tail m n (without n ns) (λ same. other (sym same)) ∙ still n ns m other
 ]
 
-pub member_in_turn : (ns order : List ℕ) (m : ℕ) → ((k : ℕ) → is_member ns k ≡ true → is_member order k ≡ true) → is_member (used_in_turn ns order) m ≡ is_member order m
+pub member_in_turn : (ns order : List ℕ) (m : ℕ) → ((k : ℕ) → is_member ns k ≡ true → is_member order k ≡ true) → is_member (used_in_turn ns order) m ≡
+    is_member order m
 member_in_turn [] order m listed = refl
 member_in_turn (n ∷ ns) order m listed =
     let here = listed n (member_head n n ns refl) in
@@ -66,10 +67,10 @@ length_in_turn (n ∷ ns) order listed =
 
 -- ---- the order
 
-without_here : (n m : ℕ) (ms : List ℕ) → n ≡ m → without n (m ∷ ms) ≡ ms
+pub without_here : (n m : ℕ) (ms : List ℕ) → n ≡ m → without n (m ∷ ms) ≡ ms
 without_here n m ms same = ap (λ (t : Bool). cond t ms (m ∷ without n ms)) (eq-eqb n m same)
 
-without_tail : (n m : ℕ) (ms : List ℕ) → n ≢ m → without n (m ∷ ms) ≡ m ∷ without n ms
+pub without_tail : (n m : ℕ) (ms : List ℕ) → n ≢ m → without n (m ∷ ms) ≡ m ∷ without n ms
 without_tail n m ms other = ap (λ (t : Bool). cond t ms (m ∷ without n ms)) (ne_eqb n m other)
 
 -- two numbers are taken out in any turn
@@ -140,7 +141,8 @@ used_behind (n ∷ ns) front order once apart =
     let here = apart n (member_head n n ns refl) in
     let moved : without n (used_in_turn ns (n ∷ without n order)) ≡ used_in_turn ns (without n order) =
     without_in_turn n ns (n ∷ without n order) once.0 ∙ ap (used_in_turn ns) (without_here n n (without n order) refl) in
-    ap (λ (rest : List ℕ). used_in_turn ns (n ∷ rest)) (without_behind n front (used_in_turn ns (n ∷ without n order)) here ∙ ap (λ (rest : List ℕ). front ++ rest) moved)
+    ap (λ (rest : List ℕ). used_in_turn ns (n ∷ rest))
+    (without_behind n front (used_in_turn ns (n ∷ without n order)) here ∙ ap (λ (rest : List ℕ). front ++ rest) moved)
     ∙ used_behind ns (n ∷ front) (without n order) once.1 (λ k is.
     member_tail k n front (λ same. true≢false (sym is ∙ ap (is_member ns) (sym same) ∙ once.0)) ∙ apart k (in_tail n ns k is))
     ∙ ap (λ (rest : List ℕ). used_in_turn ns (n ∷ rest)) (sym (without_behind n front order here))
@@ -256,7 +258,8 @@ settles (m ∷ ms) rest order reported n some first is tells are =
 -- ---- a number is moved to the end of a list
 
 -- those behind the first move up, one after the other
-up_one : (m : ℕ) (ms : List ℕ) (i : ℕ) → i < length ms → set (take i ms ++ drop i (m ∷ ms)) i (get_or (take i ms ++ drop i (m ∷ ms)) (suc i) 0) ≡ take (suc i) ms ++ drop i ms
+up_one : (m : ℕ) (ms : List ℕ) (i : ℕ) → i < length ms → set (take i ms ++ drop i (m ∷ ms)) i (get_or (take i ms ++ drop i (m ∷ ms)) (suc i) 0) ≡ take
+    (suc i) ms ++ drop i ms
 up_one m [] i below = absurd (omega (arith, below))
 up_one m (k ∷ ks) zero below = refl
 up_one m (k ∷ ks) (suc i) below = ap (λ (rest : List ℕ). k ∷ rest) (up_one k ks i (omega (arith, below)))
@@ -286,7 +289,8 @@ module _ (n : ℕ) where
       (sym (without_here n m ms (sym (same_Some m n at)))) (up_one m ms i (omega (arith, below)))
   move_up (m ∷ ms) (suc place) zero at once from below = absurd (omega (arith, from))
   move_up (m ∷ ms) (suc place) (suc i) at once from below =
-      subst (λ (rest : List ℕ). set (take (suc i) rest ++ drop i ms) (suc i) (get_or (take (suc i) rest ++ drop i ms) (suc (suc i)) 0) ≡ take (suc (suc i)) rest ++ drop (suc i) ms)
+      subst (λ (rest : List ℕ). set (take (suc i) rest ++ drop i ms) (suc i) (get_or (take (suc i) rest ++ drop i ms) (suc (suc i)) 0) ≡ take (suc (suc i))
+      rest ++ drop (suc i) ms)
       (sym (without_tail n m ms (apart_from m ms place n at once.0)))
       (ap (λ (rest : List ℕ). m ∷ rest) (move_up ms place i at once.1 (omega (arith, from)) (omega (arith, below))))
 
@@ -294,14 +298,16 @@ module _ (n : ℕ) where
       xs ≡ take i (without n ns) ++ drop i ns → set xs i (get_or xs j 0) ≡ take j (without n ns) ++ drop j ns
   moved_up xs ns place i j at once from next below is =
       ap (λ (ys : List ℕ). set ys i (get_or ys j 0)) is
-      ∙ subst (λ (k : ℕ). set (take i (without n ns) ++ drop i ns) i (get_or (take i (without n ns) ++ drop i ns) k 0) ≡ take k (without n ns) ++ drop k ns) (sym next)
+      ∙ subst (λ (k : ℕ). set (take i (without n ns) ++ drop i ns) i (get_or (take i (without n ns) ++ drop i ns) k 0) ≡ take k (without n ns) ++ drop k
+      ns) (sym next)
       (move_up ns place i at once from (omega (arith, next, below)))
 
   move_last : (ns : List ℕ) (place i : ℕ) → slice_get ns place ≡ Some n → AllDiffer ns → place ≤ i → suc i ≡ length ns →
       set (take i (without n ns) ++ drop i ns) i n ≡ without n ns ++ n ∷ []
   move_last [] place i at once from last = absurd (none-some n at)
   move_last (m ∷ ms) zero i at once from last =
-      subst (λ (rest : List ℕ). set (take i rest ++ drop i (m ∷ ms)) i n ≡ rest ++ n ∷ []) (sym (without_here n m ms (sym (same_Some m n at)))) (up_last m n ms i (omega (arith, last)))
+      subst (λ (rest : List ℕ). set (take i rest ++ drop i (m ∷ ms)) i n ≡ rest ++ n ∷ []) (sym (without_here n m ms (sym (same_Some m n at))))
+      (up_last m n ms i (omega (arith, last)))
   move_last (m ∷ ms) (suc place) zero at once from last = absurd (omega (arith, from))
   move_last (m ∷ ms) (suc place) (suc i) at once from last =
       subst (λ (rest : List ℕ). set (take (suc i) rest ++ drop i ms) (suc i) n ≡ rest ++ n ∷ []) (sym (without_tail n m ms (apart_from m ms place n at once.0)))
@@ -311,12 +317,20 @@ module _ (n : ℕ) where
       xs ≡ take i (without n ns) ++ drop i ns → set xs i n ≡ without n ns ++ n ∷ []
   moved_last xs ns place i at once from last is = ap (λ (ys : List ℕ). set ys i n) is ∙ move_last ns place i at once from last
 
--- ---- entries
+-- ---- an order with places
 
-module _ (a : ArenaState) (buffer : ℕ) where
-  pub kept_in_turn : (ns order : List ℕ) → AreKept a order buffer → ((n : ℕ) → is_member ns n ≡ true → is_member order n ≡ true) → AreKept a (used_in_turn ns order) buffer
-  kept_in_turn [] order kept listed = kept
-  kept_in_turn (n ∷ ns) order kept listed =
-      let here = listed n (member_head n n ns refl) in
-      kept_in_turn ns (n ∷ without n order) (kept_used a order buffer kept n (sym (kept.ordered.listed n) ∙ here))
-      (λ k is. member_used n order k here ∙ listed k (in_tail n ns k is))
+pub spread_used : (s : OrderState) (n : ℕ) → is_member s.numbers n ≡ true → AreSpread s → AreSpread (used_last n s)
+spread_used s n here are = record {
+  listed = λ m. member_used n s.numbers m here ∙ are.listed m;
+  once = (gone n s.numbers are.once, differ_without n s.numbers are.once);
+  few = omega (arith, are.few, length_without n s.numbers here);
+  within = are.within;
+  apart = are.apart;
+}
+
+pub spread_in_turn : (ns : List ℕ) (s : OrderState) → ((n : ℕ) → is_member ns n ≡ true → is_member s.numbers n ≡ true) → AreSpread s →
+    AreSpread (record { numbers = used_in_turn ns s.numbers; places = s.places; most = s.most })
+spread_in_turn [] s listed are = are
+spread_in_turn (n ∷ ns) s listed are =
+    let here = listed n (member_head n n ns refl) in
+    spread_in_turn ns (used_last n s) (λ k is. member_used n s.numbers k here ∙ listed k (in_tail n ns k is)) (spread_used s n here are)

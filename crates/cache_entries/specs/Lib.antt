@@ -1,3 +1,5 @@
+pub mod Bodies
 pub mod Entries
 pub mod NumberHasher
 pub mod Order
+pub mod Slab

@@ -1,9 +1,12 @@
 -- Numbers in the order of their last use, the one used last first.
-use Rattle.std.specs.Prelude.{◌≡◌, ◌==◌, ◌-◌, ◌≤◌, if◌then◌else◌, ℕ, Bool, true, false, Option, Some, None, is_some}
-use Rattle.std.specs.Prelude.{List, [], ◌∷◌, length, take, slice_get, slice_set}
+use Rattle.std.specs.Prelude.{◌≡◌, ◌==◌, ◌-◌, ◌<◌, ◌≤◌, if◌then◌else◌, ℕ, Bool, true, false, Option, Some, None}
+use Rattle.std.specs.Prelude.{is_some, nat_lt, option_map}
+use Rattle.std.specs.Prelude.{List, [], ◌∷◌, length, map, take, slice_get, slice_index, slice_index_or, slice_set}
 use Rattle.model.specs.Revoke.{is_member}
-use Rattle.cache_entries.specs.declared.entry.Entry.{Entry}
-use Rattle.cache_entries.specs.Entries.{entry_at, with_entry, ArenaState}
+use Rattle.model.specs.declared.capability.Cap.{Cap}
+use Rattle.model.specs.Frame.{held_at}
+use Rattle.model.specs.declared.object.Content.{Content}
+use Rattle.cache_entries.specs.Entries.{Entry, entry_at, new_entry, with_entry}
 
 -- no number stands twice
 abbrev pub AllDiffer : List ℕ → Type 0
@@ -29,19 +32,58 @@ pub record AreLatest (latest order : List ℕ) : Type 0 where
   pub once : AllDiffer latest
   pub listed : (n : ℕ) → is_member latest n ≡ true → is_member order n ≡ true
 
--- numbers in the order of their last use, and how many there may be
+-- numbers in the order of their last use, a place for each, and how many there may be
 pub record OrderState : Type 0 where
   pub numbers : List ℕ
+  pub places : List (Option ℕ)
   pub most : ℕ
+
+abbrev pub place_at : List (Option ℕ) → ℕ → Option ℕ
+place_at ps n = slice_index_or ps n None
 
 -- a number of the order was used last
 abbrev pub used_last : ℕ → OrderState → OrderState
-used_last n s = record { numbers = n ∷ without n s.numbers; most = s.most }
+used_last n s = record { numbers = n ∷ without n s.numbers; places = s.places; most = s.most }
+
+-- the order has each number with a place once, and no two have the same place
+pub record AreSpread (s : OrderState) : Type 0 where
+  pub listed : (n : ℕ) → is_member s.numbers n ≡ is_some (place_at s.places n)
+  pub once : AllDiffer s.numbers
+  pub few : length s.numbers ≤ s.most
+  pub within : (n p : ℕ) → place_at s.places n ≡ Some p → p < s.most
+  pub apart : (n m p : ℕ) → place_at s.places n ≡ Some p → place_at s.places m ≡ Some p → n ≡ m
+
+-- the place of a number: one past all places is none
+abbrev pub place_below : ℕ → ℕ → Option ℕ
+place_below most p = if nat_lt p most then Some p else None
+
+-- All places in the order of their last use, of which the first `count` have a number; numbers by place; and places
+-- by number.
+abbrev pub order_of : List ℕ → List ℕ → List ℕ → ℕ → OrderState
+order_of keys numbers places count = record {
+  numbers = map (slice_index numbers) (take count keys);
+  places = map (place_below (length numbers)) places;
+  most = length numbers;
+}
+
+pub record ArePlaced (keys numbers places : List ℕ) (count : ℕ) : Type 0 where
+  pub once : AllDiffer keys
+  pub all : length keys ≡ length numbers
+  pub known : (p : ℕ) → is_member keys p ≡ true → p < length numbers
+  pub some : 0 < length numbers
+  pub few : count ≤ length numbers
+  pub back : (p : ℕ) → is_member (take count keys) p ≡ true
+      → slice_index_or places (slice_index numbers p) (length numbers) ≡ p
+  pub used : (n : ℕ) → slice_index_or places n (length numbers) < length numbers
+      → is_member (take count keys) (slice_index_or places n (length numbers)) ≡ true
+  pub forth : (n : ℕ) → slice_index_or places n (length numbers) < length numbers
+      → slice_index numbers (slice_index_or places n (length numbers)) ≡ n
 
 -- the first `count` of a list of numbers of the order were used in turn, and all of them if `said`
 pub record Uses (s t : OrderState) (ns : List ℕ) (said : Bool) : Type 0 where
   pub count : ℕ
   pub numbers : t.numbers ≡ used_in_turn (take count ns) s.numbers
+  pub same_places : t.places ≡ s.places
   pub same_most : t.most ≡ s.most
   pub listed : (n : ℕ) → is_member (take count ns) n ≡ true → is_member s.numbers n ≡ true
   pub whole : said ≡ true → length ns ≤ count
@@ -52,8 +94,25 @@ pub record EntriesState : Type 0 where
   pub order : List ℕ
   pub most : ℕ
 
-abbrev pub entries_of : ArenaState → List ℕ → EntriesState
-entries_of a order = record { at = a.at; order = order; most = a.most }
+-- the entry at a place: what stands there now, and what is kept there, where that is marked
+abbrev pub entry_in : List (Content Cap) → List (Content Cap) → List Bool → ℕ → Entry
+entry_in presents kepts marks p = record {
+  present = held_at presents p;
+  kept = if slice_index_or marks p false then Some (held_at kepts p) else None;
+}
+
+abbrev pub entries_of : OrderState → List (Content Cap) → List (Content Cap) → List Bool → EntriesState
+entries_of o presents kepts marks = record {
+  at = map (option_map (entry_in presents kepts marks)) o.places;
+  order = o.numbers;
+  most = o.most;
+}
+
+-- each of so many places has a body for what an object holds, one for what is kept, and a mark
+pub record AreStored (most : ℕ) (ps ks : List (Content Cap)) (ms : List Bool) : Type 0 where
+  pub presents : length ps ≡ most
+  pub kepts : length ks ≡ most
+  pub marks : length ms ≡ most
 
 -- the order has each number with an entry once, and no more than there may be
 pub record AreOrdered (s : EntriesState) : Type 0 where
@@ -61,19 +120,13 @@ pub record AreOrdered (s : EntriesState) : Type 0 where
   pub once : AllDiffer s.order
   pub few : length s.order ≤ s.most
 
--- the same of the arena that keeps them, and of the order's capacity
-pub record AreKept (a : ArenaState) (order : List ℕ) (buffer : ℕ) : Type 0 where
-  pub ordered : AreOrdered (entries_of a order)
-  pub count : length order ≡ a.count
-  pub same_most : a.most ≡ buffer
-
 -- the entry of a number is another one
 abbrev pub with_entry_of : (Entry → Entry) → ℕ → EntriesState → EntriesState
 with_entry_of change n s = record { at = with_entry change n s.at; order = s.order; most = s.most }
 
 -- a number with no entry has one, and was used last
-abbrev pub with_new : Entry → EntriesState → EntriesState
-with_new e s = record { at = slice_set s.at e.number (Some e); order = e.number ∷ s.order; most = s.most }
+abbrev pub with_new : ℕ → Content Cap → EntriesState → EntriesState
+with_new n c s = record { at = slice_set s.at n (Some (new_entry c)); order = n ∷ s.order; most = s.most }
 
 -- a number has no entry any more
 abbrev pub without_entry : ℕ → EntriesState → EntriesState

@@ -1,44 +1,47 @@
 // Entries in the order of their last use.
 ghost use Rattle.std.specs.Prelude.{◌≡◌, ℕ, ◌<◌, ◌≤◌, [], Some, None, true, false, length, replicate, is_some, nat_le};
-ghost use Rattle.std.specs.Prelude.{option_copied, option_map, IfOk, IsSome, OnOk, OnErr};
-ghost use Rattle.std.specs.Borrow.{Lends, sem};
+ghost use Rattle.std.specs.Prelude.{option_map, IfOk, IsSome};
 ghost use Rattle.std.specs.List.{Contains};
-ghost use Rattle.model.specs.contracts.object.Content.{the_row as content_row};
-ghost use Rattle.model.specs.contracts.capability.Cap.{the_row as cap_row};
-ghost use Rattle.cache_entries.specs.Entries.{entry_at, holding, keeping, reserving, present_of, buffer_of};
+ghost use Rattle.capability.specs.Objects.{with_root_in, with_slots_in};
+ghost use Rattle.capability.specs.Parts.{fresh_content};
+ghost use Rattle.model.specs.Frame.{content_behind, void_held};
+ghost use Rattle.model.specs.Object.{with_slot_in, with_word_in};
+ghost use Rattle.model.specs.declared.object.Content.TheVariants as content;
+ghost use Rattle.cache_entries.specs.Entries.{changing, entry_at, kept_of, present_of};
 ghost use Rattle.cache_entries.specs.Order.{AreOrdered, used_longest_ago, with_entry_of, with_new, without_entry};
 ghost use Rattle.cache_entries.specs.Order.{used_in_turn, used_now};
 
-use crate::arena::Arena;
+use crate::bodies::Bodies;
 use crate::capacity::Capacity;
-use crate::entry::Entry;
 use crate::use_order::UseOrder;
-use model::{Cap, Content};
+use capability::Fresh;
+use model::{Cap, ContentRef, Root};
 use std::alloc::{AllocError, Global};
 use std::marker::Model;
-use std::mem;
 use std::num::NonZeroUsize;
 
-/// Entries by number, no more than a capacity, in the order of their last use.
+/// Entries by number, no more than a capacity, in the order of their last use. All their memory is
+/// taken by `new`.
 #[derive(Drop)]
 pub struct Entries {
     order: UseOrder,
-    arena: Arena,
+    presents: Bodies,
+    kepts: Bodies,
+    /// By place, whether what stands in `kepts` is kept.
+    marks: Vec<bool>,
 }
 
 impl Model for Entries {
-    ghost use Rattle.cache_entries.specs.Order.{EntriesState, AreKept, entries_of};
+    ghost use Rattle.cache_entries.specs.Order.{AreStored, EntriesState, entries_of};
 
     ghost Value = { EntriesState };
 
-    ghost view = { λ e. entries_of e.arena e.order.numbers };
+    ghost view = { λ e. entries_of e.order e.presents e.kepts e.marks.items };
 
-    ghost invariant = { λ e. AreKept e.arena e.order.numbers e.order.most };
+    ghost invariant = { λ e. AreStored e.order.most e.presents e.kepts e.marks.items };
 }
 
 impl Entries {
-    ghost use Rattle.cache_entries.specs.contracts.entries.Entries.{the_row};
-
     /// No entries yet, at most `capacity` of them later, for `count` numbers. Fails only where
     /// memory runs out.
     pub fn new(alloc: Global, capacity: Capacity, count: usize) -> Result<Entries, AllocError>
@@ -48,10 +51,19 @@ impl Entries {
     {
         let most = capacity.count() as usize;
         match NonZeroUsize::new(most) {
-            Some(buffer) => Ok(Entries {
-                order: UseOrder::new(alloc, buffer)?,
-                arena: Arena::new(alloc, most, count)?,
-            }),
+            Some(places) => {
+                let order = UseOrder::new(alloc, places, count)?;
+                let presents = Bodies::new(alloc, most)?;
+                let kepts = Bodies::new(alloc, most)?;
+                let mut marks = Vec::new(alloc);
+                marks.resize(most, false)?;
+                Ok(Entries {
+                    order,
+                    presents,
+                    kepts,
+                    marks,
+                })
+            }
             None => unreachable!(),
         }
     }
@@ -72,94 +84,133 @@ impl Entries {
         self.order.is_full()
     }
 
-    /// The entry of a number.
-    pub fn get(&self, number: u64) -> Option<&Entry>
-        requires { number < length self.now.at }
-        ensures { option_copied result ≡ entry_at self.now.at number }
-    {
-        self.arena.get(number)
-    }
-
     /// Whether a number has an entry.
     pub fn holds(&self, number: u64) -> bool
         requires { number < length self.now.at }
         ensures { result ≡ is_some (entry_at self.now.at number) }
     {
-        self.get(number).is_some()
+        self.order.has(number)
     }
 
     /// What an object that has an entry holds now.
-    pub fn present(&self, number: u64) -> &Content<Cap>
+    pub fn present(&self, number: u64) -> ContentRef<'_>
         requires { IsSome (entry_at self.now.at number) }
-        ensures { option_map present_of (entry_at self.now.at number) ≡ Some result.now }
+        ensures { option_map present_of (entry_at self.now.at number) ≡ Some (content_behind result) }
     {
-        self.arena.present(number)
+        self.presents.get(self.order.place(number))
     }
 
-    /// Lends what an object that has an entry holds now.
-    pub fn present_mut(&mut self, number: u64) -> &mut Content<Cap>
+    /// What is kept apart of what an object that has an entry was frozen as.
+    pub fn kept(&self, number: u64) -> Option<ContentRef<'_>>
+        requires { IsSome (entry_at self.now.at number) }
+        ensures { option_map kept_of (entry_at self.now.at number) ≡ Some (option_map content_behind result) }
+    {
+        let place = self.order.place(number);
+        if self.marks[place] {
+            Some(self.kepts.get(place))
+        } else {
+            None
+        }
+    }
+
+    /// Puts a word into a page that has an entry. What is no page stays.
+    pub fn set_word(&mut self, number: u64, index: usize, word: u64)
+        requires entry { IsSome (entry_at self.old.at number) }
+        requires within { index < 512 }
+        ensures { self.new ≡ with_entry_of (changing (λ c. with_word_in c index word)) number self.old }
+    {
+        let place = self.order.place(number);
+        self.presents.set_word(place, index, word);
+    }
+
+    /// Puts a capability into a slot of a node or a register of an annex that has an entry. What is
+    /// neither stays.
+    pub fn set_slot(&mut self, number: u64, slot: usize, held: Cap)
+        requires entry { IsSome (entry_at self.old.at number) }
+        requires within { slot < 32 }
+        ensures { self.new ≡ with_entry_of (changing (λ c. with_slot_in c slot held)) number self.old }
+    {
+        let place = self.order.place(number);
+        self.presents.set_slot(place, slot, held);
+    }
+
+    /// Puts capabilities into the last four slots of a node or registers of an annex that has an
+    /// entry. What is neither stays.
+    pub fn set_last_slots(&mut self, number: u64, held: [Cap; 4])
         requires { IsSome (entry_at self.old.at number) }
-        ensures* writes_back { sem 𝓛 (Lends the_row (content_row cap_row) self.entry result
-            (λ c. with_entry_of (holding c) number self.old)) }
-        ensures value { option_map present_of (entry_at self.old.at number) ≡ Some result.now }
+        ensures { self.new ≡ with_entry_of (changing (λ c. with_slots_in c 28 held)) number self.old }
     {
-        self.arena.present_mut(number)
+        let place = self.order.place(number);
+        self.presents.set_last_slots(place, held);
     }
 
-    /// Says what is kept apart of what an object that has an entry was frozen as.
-    pub fn set_kept(&mut self, number: u64, kept: Option<Content<Cap>>)
+    /// Puts another root in place of a root that has an entry. What is no root stays.
+    pub fn set_root(&mut self, number: u64, root: Root<Cap>)
         requires { IsSome (entry_at self.old.at number) }
-        ensures { self.new ≡ with_entry_of (keeping kept) number self.old }
+        ensures { self.new ≡ with_entry_of (changing (with_root_in (λ r. root))) number self.old }
     {
-        self.arena.set_kept(number, kept);
+        let place = self.order.place(number);
+        self.presents.set_root(place, root);
     }
 
-    /// Gives the entry of a number another buffer, and returns the one before.
-    pub fn replace_buffer(&mut self, number: u64, buffer: Content<Cap>) -> Content<Cap>
+    /// Makes what an object that has an entry holds that of a new object.
+    pub fn claim(&mut self, number: u64, fresh: Fresh)
         requires { IsSome (entry_at self.old.at number) }
-        ensures room { option_map buffer_of (entry_at self.old.at number) ≡ Some result }
-        ensures entries { self.new ≡ with_entry_of (reserving buffer) number self.old }
+        ensures { self.new ≡ with_entry_of (changing (λ c. fresh_content void_held fresh)) number self.old }
     {
-        self.arena.replace_buffer(number, buffer)
+        let place = self.order.place(number);
+        self.presents.claim(place, fresh);
     }
 
-    /// Leaves nothing in an object, where it has an entry, and hands out what it held.
-    pub fn free(&mut self, number: u64) -> Content<Cap>
+    /// Leaves nothing in an object, where it has an entry.
+    pub fn free(&mut self, number: u64)
         requires { number < length self.old.at }
-        ensures { self.new ≡ with_entry_of (holding Content.Free) number self.old }
+        ensures { self.new ≡ with_entry_of (changing (λ c. content.Free)) number self.old }
     {
-        if !self.holds(number) {
-            return Content::Free;
+        if self.order.has(number) {
+            let place = self.order.place(number);
+            self.presents.put(place, ContentRef::Free);
         }
-        mem::replace(self.present_mut(number), Content::Free)
     }
 
-    /// Puts an entry of a number in that has none, which was so used last. There are fewer than
-    /// there may be. Fails only where memory runs out, and then nothing changes.
-    pub fn insert(&mut self, entry: Entry) -> Result<(), AllocError>
-        requires known { entry.number < length self.old.at }
-        requires absent { entry_at self.old.at entry.number ≡ None }
-        requires room { length self.old.order < self.old.most }
-        ensures inserted { OnOk result (self.new ≡ with_new entry self.old) }
-        ensures unchanged { OnErr result (self.new ≡ self.old) }
+    /// Keeps a copy of what an object that has an entry holds now, apart from it.
+    pub fn keep_apart(&mut self, number: u64)
+        requires { IsSome (entry_at self.old.at number) }
+        ensures { self.new ≡ with_entry_of (λ e. record e { kept = Some e.present }) number self.old }
     {
-        match self.order.insert(entry.number) {
-            Ok(()) => {
-                self.arena.insert(entry);
-                Ok(())
-            }
-            Err(_) => Err(AllocError),
-        }
+        let place = self.order.place(number);
+        self.kepts.put(place, self.presents.get(place));
+        self.marks[place] = true;
+    }
+
+    /// Drops what is kept apart of an object that has an entry.
+    pub fn drop_kept(&mut self, number: u64)
+        requires { IsSome (entry_at self.old.at number) }
+        ensures { self.new ≡ with_entry_of (λ e. record e { kept = None }) number self.old }
+    {
+        let place = self.order.place(number);
+        self.marks[place] = false;
+    }
+
+    /// Makes a copy of what an object holds an entry of its number, which has none, and which was so
+    /// used last. There are fewer entries than there may be.
+    pub fn insert(&mut self, number: u64, content: ContentRef<'_>)
+        requires known { number < length self.old.at }
+        requires absent { entry_at self.old.at number ≡ None }
+        requires room { length self.old.order < self.old.most }
+        ensures { self.new ≡ with_new number (content_behind content.entry) self.old }
+    {
+        let place = self.order.insert(number);
+        self.presents.put(place, content);
+        self.marks[place] = false;
     }
 
     /// Takes the entry of a number out.
-    pub fn remove(&mut self, number: u64) -> Entry
+    pub fn remove(&mut self, number: u64)
         requires { IsSome (entry_at self.old.at number) }
-        ensures entry { entry_at self.old.at number ≡ Some result }
-        ensures entries { self.new ≡ without_entry number self.old }
+        ensures { self.new ≡ without_entry number self.old }
     {
         self.order.remove(number);
-        self.arena.remove(number)
     }
 
     /// Marks numbers as used, in turn, up to the first that isn't among the last few used. Returns
@@ -170,6 +221,7 @@ impl Entries {
         ensures used { result ≡ true → self.new.order ≡ used_in_turn numbers.now self.old.order }
         ensures rest { self.new ≡ record self.old { order = self.new.order } }
     {
+        self.order.spread();
         self.order.use_again(numbers)
     }
 
@@ -180,15 +232,17 @@ impl Entries {
         ensures used { result ≡ true → self.new ≡ used_now number self.old }
         ensures unchanged { result ≡ false → self.new ≡ self.old }
     {
-        if !self.holds(number) {
+        if !self.order.has(number) {
             return false;
         }
+        self.order.spread();
         self.order.use_now(number);
         true
     }
 
-    /// The number whose entry was used longest ago.
+    /// The number whose entry was used longest ago, where there are as many entries as there may be.
     pub fn least(&mut self) -> Option<u64>
+        requires { self.old.most ≤ length self.old.order }
         ensures least { result ≡ used_longest_ago self.old.order }
         ensures ordered { AreOrdered self.old }
         ensures same { self.new ≡ self.old }

@@ -1,48 +1,44 @@
 // Numbers in the order of their last use.
-ghost use Rattle.std.specs.Prelude.{◌≡◌, ℕ, List, ◌+◌, ◌<◌, ◌≤◌, [], ◌∷◌, ◌++◌, None, Some, true, false, length};
-ghost use Rattle.std.specs.Prelude.{nat_le, slice_get, vec_capacity, IfSome, IfOk, OnOk, OnErr};
-ghost use Rattle.std.specs.Map.{keys_of};
+ghost use Rattle.std.specs.Prelude.{◌≡◌, ◌≢◌, ℕ, List, ◌+◌, ◌<◌, ◌≤◌, [], ◌∷◌, ◌++◌, None, Some, true, false, length};
+ghost use Rattle.std.specs.Prelude.{is_some, nat_le, replicate, slice_get, slice_set, vec_capacity, IfSome, IfOk};
+ghost use Rattle.std.specs.Prelude.{IsSome};
 ghost use Rattle.std.specs.NonZero.{non_zero_usize_get};
 ghost use Rattle.model.specs.Revoke.{is_member};
-ghost use Rattle.cache_entries.specs.Order.{AllDiffer, AreLatest, Uses, used_in_turn, used_last, used_longest_ago};
-ghost use Rattle.cache_entries.specs.Order.{without};
+ghost use Rattle.cache_entries.specs.Order.{AllDiffer, AreLatest, AreSpread, Uses, place_at, used_in_turn, used_last};
+ghost use Rattle.cache_entries.specs.Order.{used_longest_ago, without};
 
-use crate::number_hasher::NumberHasher;
-use lru::LruCache;
+use crate::places::Places;
 use std::alloc::{AllocError, Global};
-use std::hash::BuildHasherDefault;
 use std::marker::Model;
 use std::num::NonZeroUsize;
 
 // How many numbers are at most found without their hash.
 const MOST_LATEST: usize = 8;
 
-type Order = LruCache<u64, (), BuildHasherDefault<NumberHasher>>;
-
-/// Numbers in the order of their last use, at most as many as its capacity.
+/// Numbers in the order of their last use, and a place for each.
 ///
 /// What is used is mostly what was used a moment ago: the last few uses are kept apart, each number
 /// once, and moved to the order when others take their place, or when the order is read.
 #[derive(Drop)]
 pub(crate) struct UseOrder {
-    order: Order,
+    order: Places,
     /// Numbers that were used after all others, the one used last at the end.
     latest: Vec<u64>,
 }
 
 impl Model for UseOrder {
     ghost use Rattle.std.specs.Prelude.{◌≤◌, length, vec_capacity};
-    ghost use Rattle.std.specs.Map.{keys_of};
     ghost use Rattle.cache_entries.specs.Order.{AreLatest, OrderState, used_in_turn};
 
     ghost Value = { OrderState };
 
     ghost view = { λ o. record {
-      numbers = used_in_turn o.latest.items (keys_of o.order.entries);
-      most = o.order.cap;
+      numbers = used_in_turn o.latest.items o.order.numbers;
+      places = o.order.places;
+      most = o.order.most;
     } };
 
-    ghost invariant = { λ o. AreLatest o.latest.items (keys_of o.order.entries)
+    ghost invariant = { λ o. AreLatest o.latest.items o.order.numbers
         × (length o.latest.items ≤ 8)
         × (8 ≤ vec_capacity o.latest) };
 }
@@ -112,33 +108,35 @@ fn put_at_end(numbers: &mut Vec<u64>, number: u64)
 }
 
 // Moves the first of the latest numbers to the end of the order.
-fn settle_first(order: &mut Order, latest: &mut Vec<u64>)
+fn settle_first(order: &mut Places, latest: &mut Vec<u64>)
     requires some { 0 < length latest.old.items }
-    requires latest { AreLatest latest.old.items (keys_of order.old.entries) }
-    ensures same { used_in_turn latest.new.items (keys_of order.new.entries)
-        ≡ used_in_turn latest.old.items (keys_of order.old.entries) }
-    ensures latest { AreLatest latest.new.items (keys_of order.new.entries) }
+    requires latest { AreLatest latest.old.items order.old.numbers }
+    ensures same { used_in_turn latest.new.items order.new.numbers
+        ≡ used_in_turn latest.old.items order.old.numbers }
+    ensures latest { AreLatest latest.new.items order.new.numbers }
     ensures others { (n : ℕ) → is_member latest.old.items n ≡ false
         → is_member latest.new.items n ≡ false }
-    ensures members { (n : ℕ) → is_member (keys_of order.new.entries) n
-        ≡ is_member (keys_of order.old.entries) n }
+    ensures members { (n : ℕ) → is_member order.new.numbers n
+        ≡ is_member order.old.numbers n }
     ensures fewer { length latest.new.items + 1 ≡ length latest.old.items }
     ensures capacity { vec_capacity latest.old ≤ vec_capacity latest.new }
-    ensures most { order.new.cap ≡ order.old.cap }
+    ensures places { order.new.places ≡ order.old.places }
+    ensures most { order.new.most ≡ order.old.most }
 {
     let first = latest.remove(0);
-    order.promote(&first);
+    order.promote(first);
 }
 
 // Moves all of them to the end of the order, in turn.
 #[inline(never)]
-fn settle(order: &mut Order, latest: &mut Vec<u64>)
-    requires { AreLatest latest.old.items (keys_of order.old.entries) }
-    ensures order { keys_of order.new.entries
-        ≡ used_in_turn latest.old.items (keys_of order.old.entries) }
+fn settle(order: &mut Places, latest: &mut Vec<u64>)
+    requires { AreLatest latest.old.items order.old.numbers }
+    ensures order { order.new.numbers
+        ≡ used_in_turn latest.old.items order.old.numbers }
     ensures latest { latest.new.items ≡ [] }
     ensures capacity { vec_capacity latest.old ≤ vec_capacity latest.new }
-    ensures most { order.new.cap ≡ order.old.cap }
+    ensures places { order.new.places ≡ order.old.places }
+    ensures most { order.new.most ≡ order.old.most }
 {
     for _ in 0..latest.len() {
         settle_first(order, latest);
@@ -146,19 +144,20 @@ fn settle(order: &mut Order, latest: &mut Vec<u64>)
 }
 
 // Leaves a free place for one more among the latest numbers.
-fn spare_place(order: &mut Order, latest: &mut Vec<u64>)
-    requires latest { AreLatest latest.old.items (keys_of order.old.entries) }
+fn spare_place(order: &mut Places, latest: &mut Vec<u64>)
+    requires latest { AreLatest latest.old.items order.old.numbers }
     requires few { length latest.old.items ≤ 8 }
-    ensures same { used_in_turn latest.new.items (keys_of order.new.entries)
-        ≡ used_in_turn latest.old.items (keys_of order.old.entries) }
-    ensures latest { AreLatest latest.new.items (keys_of order.new.entries) }
+    ensures same { used_in_turn latest.new.items order.new.numbers
+        ≡ used_in_turn latest.old.items order.old.numbers }
+    ensures latest { AreLatest latest.new.items order.new.numbers }
     ensures others { (n : ℕ) → is_member latest.old.items n ≡ false
         → is_member latest.new.items n ≡ false }
-    ensures members { (n : ℕ) → is_member (keys_of order.new.entries) n
-        ≡ is_member (keys_of order.old.entries) n }
+    ensures members { (n : ℕ) → is_member order.new.numbers n
+        ≡ is_member order.old.numbers n }
     ensures room { length latest.new.items < 8 }
     ensures capacity { vec_capacity latest.old ≤ vec_capacity latest.new }
-    ensures most { order.new.cap ≡ order.old.cap }
+    ensures places { order.new.places ≡ order.old.places }
+    ensures most { order.new.most ≡ order.old.most }
 {
     if latest.len() == MOST_LATEST {
         settle_first(order, latest);
@@ -168,28 +167,58 @@ fn spare_place(order: &mut Order, latest: &mut Vec<u64>)
 impl UseOrder {
     ghost use Rattle.cache_entries.specs.contracts.use_order.UseOrder.{the_row};
 
-    /// An empty order for at most `most` numbers. Fails only where memory runs out.
-    pub(crate) fn new(alloc: Global, most: NonZeroUsize) -> Result<UseOrder, AllocError>
+    /// An empty order for at most `most` of `count` numbers. Fails only where memory runs out.
+    pub(crate) fn new(
+        alloc: Global,
+        most: NonZeroUsize,
+        count: usize,
+    ) -> Result<UseOrder, AllocError>
         ensures { IfOk result (λ order. order
-            ≡ record { numbers = []; most = non_zero_usize_get most }) }
+            ≡ record { numbers = []; places = replicate count None; most = non_zero_usize_get most }) }
     {
-        let order = LruCache::with_hasher(alloc, most, BuildHasherDefault::new())?;
+        let order = Places::new(alloc, most, count)?;
         let latest = Vec::with_capacity(alloc, MOST_LATEST)?;
         Ok(UseOrder { order, latest })
     }
 
     /// How many numbers there are.
     pub(crate) fn len(&self) -> usize
-        ensures { result ≡ length self.now.numbers }
+        ensures count { result ≡ length self.now.numbers }
+        ensures spread { AreSpread self.now }
     {
         self.order.len()
     }
 
     /// Whether there are as many as there may be.
     pub(crate) fn is_full(&self) -> bool
-        ensures { result ≡ nat_le self.now.most (length self.now.numbers) }
+        ensures full { result ≡ nat_le self.now.most (length self.now.numbers) }
+        ensures spread { AreSpread self.now }
     {
-        self.order.len() >= self.order.cap().get()
+        self.order.is_full()
+    }
+
+    /// Each number in the order has a place, and no two have the same.
+    pub(crate) fn spread(&self)
+        ensures { AreSpread self.now }
+    {
+        self.order.len();
+    }
+
+    /// Whether a number has a place.
+    pub(crate) fn has(&self, number: u64) -> bool
+        requires { number < length self.now.places }
+        ensures { result ≡ is_some (place_at self.now.places number) }
+    {
+        self.order.has(number)
+    }
+
+    /// The place of a number that has one.
+    pub(crate) fn place(&self, number: u64) -> usize
+        requires { IsSome (place_at self.now.places number) }
+        ensures place { place_at self.now.places number ≡ Some result }
+        ensures spread { AreSpread self.now }
+    {
+        self.order.place(number)
     }
 
     // Marks a number as used last, where it is among the latest, and returns whether it is.
@@ -236,39 +265,45 @@ impl UseOrder {
         }
     }
 
-    /// Puts a number in that was so used last. It is none of them, and there are fewer than there
-    /// may be. Fails only where memory runs out, and then nothing changes.
-    pub(crate) fn insert(&mut self, number: u64) -> Result<(), AllocError>
-        requires other { is_member self.old.numbers number ≡ false }
+    /// Gives a place to a number that has none, which was so used last. There are fewer numbers
+    /// than there may be.
+    pub(crate) fn insert(&mut self, number: u64) -> usize
+        requires known { number < length self.old.places }
+        requires absent { place_at self.old.places number ≡ None }
         requires room { length self.old.numbers < self.old.most }
-        ensures inserted { OnOk result (self.new
-            ≡ record { numbers = number ∷ self.old.numbers; most = self.old.most }) }
-        ensures unchanged { OnErr result (self.new ≡ self.old) }
+        ensures inserted { self.new ≡ record {
+          numbers = number ∷ self.old.numbers;
+          places = slice_set self.old.places number (Some result);
+          most = self.old.most;
+        } }
+        ensures fresh { (n : ℕ) → place_at self.old.places n ≢ Some result }
+        ensures within { result < self.old.most }
     {
         settle(&mut self.order, &mut self.latest);
-        match self.order.put(number, ()) {
-            Ok(_) => Ok(()),
-            Err(_) => Err(AllocError),
-        }
+        self.order.insert(number)
     }
 
-    /// Takes a number of them out.
+    /// Takes the place of a number that has one.
     pub(crate) fn remove(&mut self, number: u64)
-        ensures { self.new ≡ record { numbers = without number self.old.numbers; most = self.old.most } }
+        requires { IsSome (place_at self.old.places number) }
+        ensures { self.new ≡ record {
+          numbers = without number self.old.numbers;
+          places = slice_set self.old.places number None;
+          most = self.old.most;
+        } }
     {
         settle(&mut self.order, &mut self.latest);
-        self.order.pop(&number);
+        self.order.remove(number);
     }
 
-    /// The number that was used longest ago.
+    /// The number that was used longest ago, where there are as many as there may be.
     pub(crate) fn least(&mut self) -> Option<u64>
+        requires { self.old.most ≤ length self.old.numbers }
         ensures least { result ≡ used_longest_ago self.old.numbers }
+        ensures spread { AreSpread self.old }
         ensures same { self.new ≡ self.old }
     {
         settle(&mut self.order, &mut self.latest);
-        match self.order.peek_lru() {
-            Some((number, _)) => Some(*number),
-            None => None,
-        }
+        self.order.least()
     }
 }

@@ -10,7 +10,7 @@ use Rattle.std.proofs.Common.{◌≡◌, ◌+◌, ◌^◌, ◌<◌, ◌≤◌, �
 use Rattle.std.proofs.lemmas.List.{get_or-map}
 use Rattle.model.specs.declared.object.Content.TheVariants as content
 use Rattle.capability.proofs.Edits.{content_agree, current_from, current_held, field_same}
-use Rattle.capability.proofs.Frames.{length_objects, object_in, objects_by}
+use Rattle.capability.proofs.FrameLists.{length_objects, object_in, objects_by}
 use Rattle.capability.proofs.Keeping.{frame_later, keepable_at, keepable_count, keepable_from}
 
 -- one more where it is raised
@@ -59,7 +59,8 @@ module _ (goes : Capability → Bool) (hs ks : List ObjectHeader) (raises : (w :
   content_twice (content.Bank limit) = refl
 
   -- what a content conveys later is what it conveyed, without what goes
-  conveyed_without : (c : Content Cap) → All (IsCurrent hs) (caps_in c) → map_content (conveyed ks) c ≡ map_content (void_where goes) (map_content (conveyed hs) c)
+  conveyed_without : (c : Content Cap) → All (IsCurrent hs) (caps_in c) →
+      map_content (conveyed ks) c ≡ map_content (void_where goes) (map_content (conveyed hs) c)
   conveyed_without c all =
       content_agree (conveyed ks) (λ d. void_where goes (conveyed hs d)) c (λ k d inside. stale (slice_index_or (caps_in c) k d) (all k d inside))
       ∙ sym (content_twice c)
@@ -74,7 +75,8 @@ calls_given true h k is = ap (λ (h : ObjectHeader). h.calls) is
 calls_given false h k is = ap (λ (h : ObjectHeader). h.calls) is
 
 given_object : (set : List ℕ) (hs ks : List ObjectHeader) → ((w : Capability) → current_count ks w ≡ raised (names_member set w) (current_count hs w)) →
-    (b : Bool) (h k : ObjectHeader) (c d : Content Cap) → k ≡ (if b then given_up h else h) → d ≡ (if b then content.Free else c) → All (IsCurrent hs) (caps_in c) →
+    (b : Bool) (h k : ObjectHeader) (c d : Content Cap) → k ≡ (if b then given_up h else h) → d ≡ (if b then content.Free else c) →
+    All (IsCurrent hs) (caps_in c) →
     (let o : Object = record { owner = k.owner; content = map_content (conveyed ks) d } in o)
     ≡ (if b then free else without (names_member set) (record { owner = h.owner; content = map_content (conveyed hs) c }))
 given_object set hs ks raises true h k c d is are all =
@@ -148,7 +150,8 @@ module _ (set : List ℕ) (p q : Parts) (given : AreGivenUp set p q) where
       (λ n known.
       let old : n < length p.headers = omega (arith, given.header_count) in
       let inside : n < length os = omega (arith, count) in
-      given_object set p.headers q.headers given_raises (is_member set n) (header_at p.headers n) (header_at q.headers n) (held_at p.contents n) (held_at q.contents n)
+      given_object set p.headers q.headers given_raises (is_member set n) (header_at p.headers n) (header_at q.headers n) (held_at p.contents n)
+      (held_at q.contents n)
       (given.headers n) (given.contents n) (current_held p current n old)
       ∙ sym (rescinded_at os n inside
       ∙ ap (λ (o : Object). if is_member set n then free else without (names_member set) o) (object_in p.headers p.contents n old)))

@@ -2,12 +2,12 @@
 use Rattle.capability.proofs.Names.{ℕ, true, List, length, refl, sym, ap, subst, arith, IsTrue, All, Cap, Capability, Void, Content, Object, Root, conveyed}
 use Rattle.capability.proofs.Names.{header_at, held_at, AreCurrent, AreKeepable, IsCurrent, IsKeepable, IsKeptCap, MayBeKept, caps_in, is_annex, is_root}
 use Rattle.capability.proofs.Names.{map_content, root_in, with_slot_in, with_word_in, content_at, is_process, root_at, with_content, with_root, with_slot}
-use Rattle.capability.proofs.Names.{with_word, live_cap, with_root_in, Edits, Parts, frames_of, objects_in, with_held, with_slots_in, with_slots_from, [], suc}
-use Rattle.capability.proofs.Names.{map, set-get_or, set-set, get_or-set_same, length-set}
+use Rattle.capability.proofs.Names.{with_word, live_cap, with_root_in, Becomes, Edits, Parts, frames_of, objects_in, with_held, with_slots_in, with_slots_from}
+use Rattle.capability.proofs.Names.{[], suc, map, set-get_or, set-set, get_or-set_same, length-set}
 use Rattle.std.proofs.Common.{◌≡◌, ◌<◌, ◌^◌, ◌∙◌, ◌∷◌, ◌+◌}
 use Rattle.model.specs.declared.object.Content.TheVariants as content
 use Rattle.capability.proofs.Edits.{current_held, header_kept, held_current, held_objects, live, slot_current, slot_through_map, word_current, word_through_map}
-use Rattle.capability.proofs.Frames.{content_there}
+use Rattle.capability.proofs.FrameLists.{content_there}
 use Rattle.capability.proofs.Keeping.{keepable_at, one_keepable, with_slot_keeps, with_word_keeps}
 use Rattle.capability.proofs.RootEdits.{GoesThrough, root_current, root_keeps, through_map}
 
@@ -35,7 +35,8 @@ module _ (p q : Parts) (n : ℕ) (known : n < length p.headers) (inside : n < le
     objects = ap (λ (r : Parts). objects_in r) is ∙ held_objects p n new known inside ∙ ap (with_content (objects_in p) n) through;
     current = λ k. subst (λ (r : Parts). AreCurrent (frames_of r)) (sym is) (held_current p n new known inside (current (current_held p k n known)) k);
     keepable = λ age allowed k.
-        one_keepable p.geometry age age (omega arith) p q n (header_at p.headers n) new inside (is ∙ header_kept p n new) (keeps age allowed (keepable_at p.geometry age p n known k)) k;
+        one_keepable p.geometry age age (omega arith) p q n (header_at p.headers n) new inside (is ∙ header_kept p n new)
+        (keeps age allowed (keepable_at p.geometry age p n known k)) k;
   }
 
   pub word_edit : (i word : ℕ) → word < 2 ^ 64 → q ≡ with_held p n (with_word_in held i word) → IsEdit p q (with_word (objects_in p) n i word) (λ age. Unit {0})
@@ -51,18 +52,23 @@ module _ (p q : Parts) (n : ℕ) (known : n < length p.headers) (inside : n < le
   slot_edit i w =
       let f = conveyed p.headers in
       content_edit (with_slot_in held i (live_cap p.headers w)) (with_slot_in (content_at (objects_in p) n) i w) _
-      (slot_through_map f held i (live_cap p.headers w) ∙ ap (with_slot_in (map_content f held) i) (live p.headers w) ∙ ap (λ (d : Content Capability). with_slot_in d i w) (sym there))
+      (slot_through_map f held i (live_cap p.headers w) ∙ ap (with_slot_in (map_content f held) i) (live p.headers w) ∙
+      ap (λ (d : Content Capability). with_slot_in d i w) (sym there))
       (slot_current p.headers held i (live_cap p.headers w) (omega arith))
-      (λ age may. with_slot_keeps p.geometry age n (header_at p.headers n) held i (live_cap p.headers w) may.0 (λ annex zeroth. ap (live_cap p.headers) (may.1 annex zeroth)))
+      (λ age may. with_slot_keeps p.geometry age n (header_at p.headers n) held i (live_cap p.headers w) may.0
+      (λ annex zeroth. ap (live_cap p.headers) (may.1 annex zeroth)))
 
-  pub root_edit : (change : Root Cap → Root Cap) (after : Root Capability → Root Capability) (may : ℕ → Type 0) → GoesThrough change after (conveyed p.headers) →
+  pub root_edit : (change : Root Cap → Root Cap) (after : Root Capability → Root Capability) (may : ℕ → Type 0) →
+      GoesThrough change after (conveyed p.headers) →
       ((r : Root Cap) → IsCurrent p.headers r.space → IsCurrent p.headers (change r).space) →
       ((age : ℕ) → may age → (r : Root Cap) → MayBeKept p.geometry age (content.Root r) → MayBeKept p.geometry age (content.Root (change r))) →
-      is_process (objects_in p) n ≡ true → q ≡ with_held p n (with_root_in change held) → IsEdit p q (with_root (objects_in p) n (after (root_at (objects_in p) n))) may
+      is_process (objects_in p) n ≡ true → q ≡ with_held p n (with_root_in change held) →
+      IsEdit p q (with_root (objects_in p) n (after (root_at (objects_in p) n))) may
   unfolding with_root
   root_edit change after may through current stays process =
       content_edit (with_root_in change held) (content.Root (after (root_at (objects_in p) n))) may
-      (through_map change after (conveyed p.headers) through held (sym (ap is_root there) ∙ process) ∙ ap (λ (d : Content Capability). content.Root (after (root_in d))) (sym there))
+      (through_map change after (conveyed p.headers) through held (sym (ap is_root there) ∙ process) ∙
+      ap (λ (d : Content Capability). content.Root (after (root_in d))) (sym there))
       (root_current p.headers change current held) (λ age allowed. root_keeps p.geometry age n (header_at p.headers n) change (stays age allowed) held)
 
 -- capabilities in the slots from i on, behind the first
@@ -82,26 +88,24 @@ slots_edit p q n known inside i behind (c ∷ cs) is =
     let step = slot_edit p mid n known inside i c refl in
     let last : Content Cap → Parts = λ d. with_held mid n (with_slots_in d (i + 1) (map (live_cap p.headers) cs)) in
     let again : with_held p n (with_slots_in first (i + 1) (map (live_cap p.headers) cs)) ≡ last first =
-    ap (λ (held : List (Content Cap)). let r : Parts = record p { contents = held } in r) (sym (set-set p.contents n first (with_slots_in first (i + 1) (map (live_cap p.headers) cs)))) in
+    ap (λ (held : List (Content Cap)). let r : Parts = record p { contents = held } in r)
+    (sym (set-set p.contents n first (with_slots_in first (i + 1) (map (live_cap p.headers) cs)))) in
     let rest = slots_edit mid q n known (omega (arith, length-set p.contents n first)) (i + 1) (omega arith) cs
     (is ∙ again ∙ ap last (sym (get_or-set_same p.contents n first content.Free inside))) in
     record {
       objects = rest.objects ∙ ap (λ (os : List Object). with_slots_from os n (i + 1) cs) step.objects;
       current = λ current. rest.current (step.current current);
       keepable = λ age may keepable.
-          rest.keepable age (λ k d within. may (suc k) d (omega arith)) (step.keepable age (may 0 Void (omega arith), λ annex zeroth. absurd (omega arith)) keepable);
+          rest.keepable age (λ k d within. may (suc k) d (omega arith))
+          (step.keepable age (may 0 Void (omega arith), λ annex zeroth. absurd (omega arith)) keepable);
     }
 
--- an edit of a lent content, by the laws of present frames
-pub edited : {S : Type 0} (parts : S → Parts) (Fetched Announced : S → ℕ → Type 0) (Continues : S → S → Type 0) (with_content : S → ℕ → Content Cap → S) →
-    ((s : S) (n : ℕ) (c : Content Cap) → parts (with_content s n c) ≡ with_held (parts s) n c) →
-    ((s : S) (n : ℕ) (c : Content Cap) (m : ℕ) → Fetched s m → Fetched (with_content s n c) m) →
-    ((s : S) (n : ℕ) (c : Content Cap) (m : ℕ) → Announced s m → Announced (with_content s n c) m) → ((s : S) → Continues s s) →
-    ((s t : S) (n : ℕ) (c : Content Cap) → Announced t n → Continues s t → Continues s (with_content t n c)) →
-    (s : S) (n : ℕ) (c : Content Cap) (after : List Object) (may : ℕ → Type 0) → Announced s n → IsEdit (parts s) (parts (with_content s n c)) after may →
-    Edits parts Fetched Announced Continues s (with_content s n c) after may
-edited parts Fetched Announced Continues with_content parts_with fetched_with announced_with continues_same continues_with s n c after may announced edit =
-    let is = parts_with s n c in
+-- an edit of what an object holds
+pub edited : {S : Type 0} (parts : S → Parts) (Fetched Announced : S → ℕ → Type 0) (Continues : S → S → Type 0) (old new : S) (n : ℕ) (c : Content Cap)
+    (after : List Object) (may : ℕ → Type 0) → Becomes parts Fetched Announced Continues old new (with_held (parts old) n c) →
+    IsEdit (parts old) (parts new) after may → Edits parts Fetched Announced Continues old new after may
+edited parts Fetched Announced Continues old new n c after may becomes edit =
+    let is = becomes.parts_are in
     record {
       objects = edit.objects;
       headers = ap (λ (p : Parts). p.headers) is;
@@ -113,8 +117,8 @@ edited parts Fetched Announced Continues with_content parts_with fetched_with an
         touched = ap (λ (p : Parts). p.touched) is;
         geometry = ap (λ (p : Parts). p.geometry) is;
         failures = ap (λ (p : Parts). p.failures) is;
-        fetched = fetched_with s n c;
-        announced = announced_with s n c;
-        continues = continues_with s s n c announced (continues_same s);
+        fetched = becomes.fetched;
+        announced = becomes.announced;
+        continues = becomes.continues;
       };
     }

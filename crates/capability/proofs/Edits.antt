@@ -8,7 +8,7 @@ use Rattle.capability.proofs.Names.{Fresh, Parts, frames_of, fresh_content, with
 use Rattle.std.proofs.Common.{◌≡◌, ◌<◌, if◌then◌else◌, ◌∷◌, ◌∙◌}
 use Rattle.model.specs.declared.object.Content.TheVariants as content
 use Rattle.capability.specs.declared.present.Fresh.TheVariants as fresh
-use Rattle.capability.proofs.Frames.{at_set, content_there, frame_in, frame_past, headers_in, owner_in, set_in}
+use Rattle.capability.proofs.FrameLists.{at_set, content_there, frame_in, frame_past, headers_in, owner_in, set_in}
 
 -- functions that agree on what a content holds make the same of it
 pub map_agree : {A B : Type 0} (f g : A → B) (xs : List A) → All (λ x. f x ≡ g x) xs → map f xs ≡ map g xs
@@ -20,7 +20,8 @@ content_agree f g content.Free each = refl
 content_agree f g (content.Page words) each = refl
 content_agree f g (content.Node slots) each = ap content.Node (map_agree f g slots each)
 content_agree f g (content.Root r) each =
-    ap (λ (space : Capability). content.Root (record { state = r.state; words = r.words; key = r.key; annex = r.annex; space = space })) (each 0 r.space (omega arith))
+    ap (λ (space : Capability). content.Root (record { state = r.state; words = r.words; key = r.key; annex = r.annex; space = space }))
+    (each 0 r.space (omega arith))
 content_agree f g (content.Annex registers) each = ap content.Annex (map_agree f g registers each)
 content_agree f g (content.Bank limit) each = refl
 
@@ -60,10 +61,12 @@ module _ (hs : List ObjectHeader) (n : ℕ) (h : ObjectHeader) (same : HasCounts
 
 -- what is read of parts that hold another content, and no other header
 pub header_kept : (p : Parts) (n : ℕ) (c : Content Cap) → with_held p n c ≡ with_both p n (header_at p.headers n) c
-header_kept p n c = ap (λ (hs : List ObjectHeader). let q : Parts = record p { headers = hs; contents = slice_set p.contents n c } in q) (sym (set-get_or p.headers n blank_header))
+header_kept p n c = ap (λ (hs : List ObjectHeader). let q : Parts = record p { headers = hs; contents = slice_set p.contents n c } in q)
+    (sym (set-get_or p.headers n blank_header))
 
 pub content_kept : (p : Parts) (n : ℕ) (h : ObjectHeader) → with_header p n h ≡ with_both p n h (held_at p.contents n)
-content_kept p n h = ap (λ (cs : List (Content Cap)). let q : Parts = record p { headers = slice_set p.headers n h; contents = cs } in q) (sym (set-get_or p.contents n content.Free))
+content_kept p n h = ap (λ (cs : List (Content Cap)). let q : Parts = record p { headers = slice_set p.headers n h; contents = cs } in q)
+    (sym (set-get_or p.contents n content.Free))
 
 -- capabilities of each frame, by the two lists
 pub current_held : (p : Parts) → AreCurrent (frames_of p) → (n : ℕ) → n < length p.headers → All (IsCurrent p.headers) (caps_in (held_at p.contents n))
@@ -77,7 +80,8 @@ current_from p each n = elim (cases_lt n (length p.headers)) [
       subst (λ (f : Frame). All (IsCurrent (headers (frames_of p))) (caps_in f.content)) (sym (frame_in p.headers p.contents n known))
       (subst (λ (hs : List ObjectHeader). All (IsCurrent hs) (caps_in (held_at p.contents n))) (sym (headers_in p.headers p.contents)) (each n known))
   | inr past ↦
-      subst (λ (f : Frame). All (IsCurrent (headers (frames_of p))) (caps_in f.content)) (sym (frame_past p.headers p.contents n past)) (λ k d inside. absurd (omega arith))
+      subst (λ (f : Frame). All (IsCurrent (headers (frames_of p))) (caps_in f.content)) (sym (frame_past p.headers p.contents n past))
+      (λ k d inside. absurd (omega arith))
 ]
 
 -- An edit at a number that leaves both counts: the objects change there alone.
@@ -116,14 +120,16 @@ module _ (p : Parts) (n : ℕ) (c : Content Cap) (known : n < length p.headers) 
   held_objects =
       ap (λ (q : Parts). objects_in q) (header_kept p n c)
       ∙ objects_set p n (header_at p.headers n) c inside (refl, refl)
-      ∙ ap (λ (owner : ℕ). slice_set (objects_in p) n (record { owner = owner; content = map_content (conveyed p.headers) c })) (sym (owner_in p.headers p.contents n))
+      ∙ ap (λ (owner : ℕ). slice_set (objects_in p) n (record { owner = owner; content = map_content (conveyed p.headers) c }))
+      (sym (owner_in p.headers p.contents n))
 
   pub held_current : All (IsCurrent p.headers) (caps_in c) → AreCurrent (frames_of p) → AreCurrent (frames_of (with_held p n c))
   held_current new current =
       subst (λ (q : Parts). AreCurrent (frames_of q)) (sym (header_kept p n c)) (current_set p n (header_at p.headers n) c inside (refl, refl) new current)
 
 -- a change of a slot, a word or a message goes through the map
-pub slot_through_map : (f : Cap → Capability) (c : Content Cap) (i : ℕ) (held : Cap) → map_content f (with_slot_in c i held) ≡ with_slot_in (map_content f c) i (f held)
+pub slot_through_map : (f : Cap → Capability) (c : Content Cap) (i : ℕ) (held : Cap) → map_content f (with_slot_in c i held) ≡ with_slot_in (map_content f c) i
+    (f held)
 slot_through_map f content.Free i held = refl
 slot_through_map f (content.Page words) i held = refl
 slot_through_map f (content.Node slots) i held = ap content.Node (map-set f slots i held)
@@ -140,7 +146,8 @@ word_through_map f (content.Annex registers) i word = refl
 word_through_map f (content.Bank limit) i word = refl
 
 -- what a content holds after it is live or stale where what it held was
-pub slot_current : (hs : List ObjectHeader) (c : Content Cap) (i : ℕ) (held : Cap) → IsCurrent hs held → All (IsCurrent hs) (caps_in c) → All (IsCurrent hs) (caps_in (with_slot_in c i held))
+pub slot_current : (hs : List ObjectHeader) (c : Content Cap) (i : ℕ) (held : Cap) → IsCurrent hs held → All (IsCurrent hs) (caps_in c) →
+    All (IsCurrent hs) (caps_in (with_slot_in c i held))
 slot_current hs content.Free i held is all = all
 slot_current hs (content.Page words) i held is all = all
 slot_current hs (content.Node slots) i held is all = All-set (IsCurrent hs) slots i held is all
@@ -148,7 +155,8 @@ slot_current hs (content.Root r) i held is all = all
 slot_current hs (content.Annex registers) i held is all = All-set (IsCurrent hs) registers i held is all
 slot_current hs (content.Bank limit) i held is all = all
 
-pub word_current : (hs : List ObjectHeader) (c : Content Cap) (i word : ℕ) → All (IsCurrent hs) (caps_in c) → All (IsCurrent hs) (caps_in (with_word_in c i word))
+pub word_current : (hs : List ObjectHeader) (c : Content Cap) (i word : ℕ) → All (IsCurrent hs) (caps_in c) →
+    All (IsCurrent hs) (caps_in (with_word_in c i word))
 word_current hs content.Free i word all = all
 word_current hs (content.Page words) i word all = all
 word_current hs (content.Node slots) i word all = all
@@ -158,12 +166,8 @@ word_current hs (content.Bank limit) i word all = all
 
 -- a capability that is given its object's count conveys itself
 pub live : (hs : List ObjectHeader) (c : Capability) → conveyed hs (record { what = c; count = current_count hs c }) ≡ c
-live hs c = let P : ℕ → Type 0 = λ n. (if nat_lt n n then Void else c) ≡ c in let all : (n : ℕ) → P n = λ n. grind (arith, nat_tests) in all (current_count hs c)
-
--- how the parts come out of what was put into a lent content
-pub put : (p q : Parts) (n : ℕ) (change : Content Cap → Content Cap) (now new : Content Cap) → q ≡ with_held p n new → new ≡ change now → now ≡ held_at p.contents n →
-    q ≡ with_held p n (change (held_at p.contents n))
-put p q n change now new back set value = back ∙ ap (with_held p n) (set ∙ ap change value)
+live hs c = let P : ℕ → Type 0 = λ n. (if nat_lt n n then Void else c) ≡ c in let all : (n : ℕ) →
+    P n = λ n. grind (arith, nat_tests) in all (current_count hs c)
 
 -- The helpers' edits. The new parts are q.
 module _ (p q : Parts) (n : ℕ) (known : n < length p.headers) (inside : n < length p.contents) where
@@ -173,7 +177,8 @@ module _ (p q : Parts) (n : ℕ) (known : n < length p.headers) (inside : n < le
       let h = owned_by bank (header_at p.headers n) in
       ap (λ (r : Parts). objects_in r) (is ∙ content_kept p n h)
       ∙ objects_set p n h (held_at p.contents n) inside (refl, refl)
-      ∙ ap (λ (d : Content Capability). slice_set (objects_in p) n (record { owner = bank; content = d })) (sym (content_there p n known (held_at p.contents n) refl))
+      ∙ ap (λ (d : Content Capability). slice_set (objects_in p) n (record { owner = bank; content = d }))
+      (sym (content_there p n known (held_at p.contents n) refl))
 
   pub owner_stays_current : (bank : ℕ) → q ≡ with_header p n (owned_by bank (header_at p.headers n)) → AreCurrent (frames_of p) → AreCurrent (frames_of q)
   owner_stays_current bank is current =
@@ -213,4 +218,5 @@ module _ (p q : Parts) (n : ℕ) (inside : n < length p.contents) (f : Fresh) (o
   pub claim_stays_current : AreCurrent (frames_of p) → AreCurrent (frames_of q)
   claim_stays_current current =
       let h = claimed (role_of (fresh_content void_held f)) owner (header_at p.headers n) in
-      subst (λ (r : Parts). AreCurrent (frames_of r)) (sym is) (current_set p n h (fresh_content void_held f) inside (refl, refl) (fresh_current p.headers f) current)
+      subst (λ (r : Parts). AreCurrent (frames_of r)) (sym is)
+      (current_set p n h (fresh_content void_held f) inside (refl, refl) (fresh_current p.headers f) current)

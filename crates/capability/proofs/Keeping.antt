@@ -9,7 +9,7 @@ use Rattle.std.proofs.Common.{◌≡◌, ◌+◌, ◌^◌, ◌<◌, ◌≤◌, �
 use Rattle.model.specs.declared.object.Content.TheVariants as content
 use Rattle.model.specs.declared.object.Role.TheVariants as role
 use Rattle.capability.specs.declared.present.Fresh.TheVariants as fresh
-use Rattle.capability.proofs.Frames.{at_set, frame_in, length_in, pair_at, set_in}
+use Rattle.capability.proofs.FrameLists.{at_set, frame_in, length_in, pair_at, set_in}
 
 -- what can be kept at an age can be at a later one
 count_later : (age later n : ℕ) → age ≤ later → IsCount age n → IsCount later n
@@ -65,7 +65,8 @@ keepable_later g age later fs le k = record {
 pub keepable_count : (g : Geometry) (age : ℕ) (p : Parts) → AreKeepable g age (frames_of p) → length p.headers ≡ object_count g
 keepable_count g age p k = sym (length_in p.headers p.contents) ∙ k.count
 
-pub keepable_at : (g : Geometry) (age : ℕ) (p : Parts) (n : ℕ) → n < length p.headers → AreKeepable g age (frames_of p) → IsKeepable g age n (pair_at p.headers p.contents n)
+pub keepable_at : (g : Geometry) (age : ℕ) (p : Parts) (n : ℕ) → n < length p.headers → AreKeepable g age (frames_of p) →
+    IsKeepable g age n (pair_at p.headers p.contents n)
 keepable_at g age p n known k =
     subst (λ (f : Frame). IsKeepable g age n f) (frame_in p.headers p.contents n known) (k.each n (subst (λ m. n < m) (keepable_count g age p k) known))
 
@@ -87,7 +88,8 @@ keepable_roles g age fs k n = elim (cases_lt n (object_count g)) [
 
 -- one object is another that can be kept
 module _ (g : Geometry) (age later : ℕ) (le : age ≤ later) (p q : Parts) (n : ℕ) (h : ObjectHeader) (c : Content Cap) (inside : n < length p.contents) where
-  pub one_keepable : q ≡ with_both p n h c → IsKeepable g later n (record { header = h; content = c }) → AreKeepable g age (frames_of p) → AreKeepable g later (frames_of q)
+  pub one_keepable : q ≡ with_both p n h c → IsKeepable g later n (record { header = h; content = c }) → AreKeepable g age (frames_of p) →
+      AreKeepable g later (frames_of q)
   one_keepable is new k =
       let frame : Frame = record { header = h; content = c } in
       subst (λ (fs : List Frame). AreKeepable g later fs) (sym (ap (λ (r : Parts). frames_of r) is ∙ set_in p.headers p.contents n h c inside))
@@ -112,7 +114,8 @@ refilled g age n h c d same kind may k = record {
   };
 }
 
-slots_set : (g : Geometry) (age : ℕ) (slots : List Cap) (i : ℕ) (held : Cap) → IsKeptCap g age held → AreKeptSlots g age slots → AreKeptSlots g age (slice_set slots i held)
+slots_set : (g : Geometry) (age : ℕ) (slots : List Cap) (i : ℕ) (held : Cap) → IsKeptCap g age held → AreKeptSlots g age slots →
+    AreKeptSlots g age (slice_set slots i held)
 slots_set g age slots i held new s = record { count = length-set slots i held ∙ s.count; each = All-set (IsKeptCap g age) slots i held new s.each }
 
 pub with_slot_keeps : (g : Geometry) (age n : ℕ) (h : ObjectHeader) (c : Content Cap) (i : ℕ) (held : Cap) → IsKeptCap g age held →

@@ -6,7 +6,7 @@ use Rattle.capability.proofs.Names.{objects_in}
 use Rattle.std.proofs.Common.{◌≡◌, ◌<◌, ◌≤◌, ◌∙◌}
 use Rattle.model.specs.declared.object.Content.TheVariants as content
 use Rattle.model.specs.declared.object.Role.TheVariants as role
-use Rattle.capability.proofs.Frames.{frame_in, headers_in, object_in, object_past}
+use Rattle.capability.proofs.FrameLists.{frame_in, headers_in, object_in, object_past}
 use Rattle.capability.proofs.Mapped.{mapped}
 
 abbrev pub is_root_role : Role → Bool
@@ -39,7 +39,8 @@ process_by_role p n roles =
     ∙ ap is_root_role (sym (roles n))
     ∙ ap (λ (h : ObjectHeader). is_root_role h.role) (sym (header_there p n))
 
-pub role_there : (p : Parts) (n : ℕ) (hs : List ObjectHeader) (h : ObjectHeader) → hs ≡ p.headers → h ≡ header_at hs n → is_root_role (header_at p.headers n).role ≡ is_root_role h.role
+pub role_there : (p : Parts) (n : ℕ) (hs : List ObjectHeader) (h : ObjectHeader) → hs ≡ p.headers → h ≡ header_at hs n →
+    is_root_role (header_at p.headers n).role ≡ is_root_role h.role
 role_there p n hs h same is = ap (λ (k : ObjectHeader). is_root_role k.role) (sym (is ∙ ap (λ (ks : List ObjectHeader). header_at ks n) same))
 
 pub no_root_role : (r : Role) → (r ≡ role.Root → ⊥) → is_root_role r ≡ false
@@ -98,14 +99,3 @@ module _ (r : Role) (c : Content Capability) (is : r ≡ role_of c) where
       go (content.Node slots) e = cc
       go (content.Root root) e = cc
       go (content.Annex registers) e = cc
-
-  pub role_no_bank : (r ≡ role.Bank → ⊥) → is_bank c ≡ false
-  role_no_bank other = go c (λ e. other (is ∙ e))
-    where
-      go : (d : Content Capability) → (role_of d ≡ role.Bank → ⊥) → is_bank d ≡ false
-      go (content.Bank limit) e = absurd (e refl)
-      go content.Free e = refl
-      go (content.Page words) e = refl
-      go (content.Node slots) e = refl
-      go (content.Root root) e = refl
-      go (content.Annex registers) e = refl

@@ -1,18 +1,19 @@
 -- What frames stand for once the root of a process is another.
 use Rattle.capability.proofs.Names.{ℕ, true, slice_set, List, [], refl, sym, ap, subst, arith, All, length-set, All-set, Cap, Capability, ObjectHeader}
-use Rattle.capability.proofs.Names.{Geometry, Content, Object, Root, State, conveyed, AreKeptWords, IsCurrent, IsKeepable, IsKeptCap, MayBeKept, caps_in}
-use Rattle.capability.proofs.Names.{with_space, IsSpace, is_root, map_content, root_in, root_at, with_root, with_state, live_cap, with_root_in}
+use Rattle.capability.proofs.Names.{Geometry, Content, Object, Root, State, conveyed, AreKeptWords, IsCurrent, IsKeepable, IsKeptCap, MayBeKept, caps_in, Parts}
+use Rattle.capability.proofs.Names.{held_at, with_held, with_space, IsSpace, is_root, map_content, root_in, root_at, with_root, with_state, live_cap}
+use Rattle.capability.proofs.Names.{with_root_in}
 use Rattle.std.proofs.Common.{◌≡◌, ◌<◌, ◌^◌, ◌∷◌, ◌∙◌}
 use Rattle.model.specs.declared.object.Content.TheVariants as content
 use Rattle.capability.proofs.Edits.{live}
 use Rattle.capability.proofs.Keeping.{refilled}
 
--- how the parts come out of what was put into a lent content
 -- a change that goes through the map of capabilities
 abbrev pub GoesThrough : (Root Cap → Root Cap) → (Root Capability → Root Capability) → (Cap → Capability) → Type 0
 GoesThrough change after f = (r : Root Cap) → map_content f (content.Root (change r)) ≡ content.Root (after (root_in (map_content f (content.Root r))))
 
-pub through_map : (change : Root Cap → Root Cap) (after : Root Capability → Root Capability) (f : Cap → Capability) → GoesThrough change after f → (c : Content Cap) →
+pub through_map : (change : Root Cap → Root Cap) (after : Root Capability → Root Capability) (f : Cap → Capability) → GoesThrough change after f →
+    (c : Content Cap) →
     is_root (map_content f c) ≡ true → map_content f (with_root_in change c) ≡ content.Root (after (root_in (map_content f c)))
 through_map change after f through content.Free is = cc
 through_map change after f through (content.Page ws) is = cc
@@ -21,7 +22,8 @@ through_map change after f through (content.Root r) is = through r
 through_map change after f through (content.Annex registers) is = cc
 through_map change after f through (content.Bank limit) is = cc
 
-pub root_current : (hs : List ObjectHeader) (change : Root Cap → Root Cap) → ((r : Root Cap) → IsCurrent hs r.space → IsCurrent hs (change r).space) → (c : Content Cap) →
+pub root_current : (hs : List ObjectHeader) (change : Root Cap → Root Cap) → ((r : Root Cap) → IsCurrent hs r.space → IsCurrent hs (change r).space) →
+    (c : Content Cap) →
     All (IsCurrent hs) (caps_in c) → All (IsCurrent hs) (caps_in (with_root_in change c))
 root_current hs change stays content.Free all = all
 root_current hs change stays (content.Page ws) all = all
@@ -63,3 +65,8 @@ pub space_kept : (g : Geometry) (age : ℕ) (hs : List ObjectHeader) (w : Capabi
     MayBeKept g age (content.Root r) → MayBeKept g age (content.Root (record r { space = held }))
 space_kept g age hs w held is kept space r k =
     (k.0, k.1, k.2, subst (IsKeptCap g age) (sym is) kept, subst (λ (c : Cap). IsSpace c.what) (sym is) space)
+
+-- the parts once the root at a number is a changed one
+pub root_put : (p q : Parts) (n : ℕ) (r : Root Cap) (change : Root Cap → Root Cap) → q ≡ with_held p n (with_root_in (λ old. change r) (held_at p.contents n)) →
+    held_at p.contents n ≡ content.Root r → q ≡ with_held p n (with_root_in change (held_at p.contents n))
+root_put p q n r change is held = is ∙ ap (with_held p n) (ap (with_root_in (λ old. change r)) held ∙ sym (ap (with_root_in change) held))

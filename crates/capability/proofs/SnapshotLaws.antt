@@ -2,9 +2,11 @@
 use Rattle.capability.proofs.Names.{ℕ, KeepsRest, OnlyFetches, Parts}
 use Rattle.std.proofs.Common.{◌∙◌}
 
-module _ {S : Type 0} (parts : S → Parts) (Fetched Announced : S → ℕ → Type 0) (Continues : S → S → Type 0) (twice : (s t u : S) → Continues s t → Continues t u → Continues s u) where
+module _ {S : Type 0} (parts : S → Parts) (Fetched Announced : S → ℕ → Type 0) (Continues : S → S → Type 0)
+    (twice : (s t u : S) → Continues s t → Continues t u → Continues s u) where
   -- what two changes leave alone both leave
-  pub keeps_twice : (s t u : S) → KeepsRest parts Fetched Announced Continues s t → KeepsRest parts Fetched Announced Continues t u → KeepsRest parts Fetched Announced Continues s u
+  pub keeps_twice : (s t u : S) → KeepsRest parts Fetched Announced Continues s t → KeepsRest parts Fetched Announced Continues t u →
+      KeepsRest parts Fetched Announced Continues s u
   keeps_twice s t u a b = record {
     count = b.count ∙ a.count;
     allocations = λ n. b.allocations n ∙ a.allocations n;

@@ -28,14 +28,19 @@ changed os list change.Nothing = os
 changed os list (change.Word page index word) = with_word os page index word
 changed os list (change.Slot node slot held) = with_slot os node slot held
 changed os list (change.Register process annex register held) = with_slot os annex register held
-changed os list (change.RootWord process index word) = with_root os process (with_root_word (root_at os process) index word)
+changed os list (change.RootWord process index word) = with_root os process
+    (with_root_word (root_at os process) index word)
 changed os list (change.SetState process state) = consume process (with_state os process state)
 changed os list (change.Space process held) = with_root os process (with_space (root_at os process) held)
 changed os list (change.Bank made) = bank_changed os list made
 
 -- the message that a reply is: the code and the words, key 0, and the capability
 abbrev pub message_of : Reply → Message
-message_of reply = record { words = code_number reply.code ∷ reply.words; key = 0; capabilities = reply.capability ∷ Void ∷ Void ∷ Void ∷ [] }
+message_of reply = record {
+  words = code_number reply.code ∷ reply.words;
+  key = 0;
+  capabilities = reply.capability ∷ Void ∷ Void ∷ Void ∷ [];
+}
 
 -- the one object that it writes
 abbrev pub target_of : Change → Option ℕ

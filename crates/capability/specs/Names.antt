@@ -1,17 +1,19 @@
 -- The names of other crates that the definitions here cite.
+pub use Rattle.device.specs.declared.device.Failed.{Failed}
 pub use Rattle.model.specs.Banking.{new_annex, new_root}
 unfoldable pub use Rattle.model.specs.Banking.{inherited, with_new}
-pub use Rattle.model.specs.Frame.{called, current_count, frame_at, given_up, header_at, held_at, void_held}
+pub use Rattle.model.specs.Frame.{called, current_count, frame_at, given_up, header_at, held_at}
 unfoldable pub use Rattle.model.specs.Frame.{frames_in, objects_of}
 pub use Rattle.model.specs.Keepable.{AreCurrent, AreKeepable, IsSoundFrames}
 pub use Rattle.model.specs.Machine.{touched_count, touching}
+unfoldable pub use Rattle.model.specs.Machine.{untouched}
 pub use Rattle.model.specs.Object.{role_of, with_slot_in}
 unfoldable pub use Rattle.model.specs.Object.{all_slots, zero_words}
 pub use Rattle.model.specs.Order.{with_root_word, with_space}
 pub use Rattle.model.specs.OrderOutcome.{OrderOutcome, code_number}
 pub use Rattle.model.specs.Revoke.{is_given_up, is_member}
 unfoldable pub use Rattle.model.specs.Revoke.{consume, rescind}
-pub use Rattle.model.specs.Sound.{IsSound, object_count}
+pub use Rattle.model.specs.Sound.{IsSound}
 pub use Rattle.model.specs.World.{root_at}
 unfoldable pub use Rattle.model.specs.World.{with_root, with_slot, with_state, with_word}
 pub use Rattle.model.specs.declared.command.Message.{Message}
@@ -23,10 +25,9 @@ pub use Rattle.model.specs.declared.object.Object.{Object}
 pub use Rattle.model.specs.declared.object.Root.{Root}
 pub use Rattle.model.specs.declared.object.State.TheVariants.{Available, Running}
 pub use Rattle.model.specs.declared.order.ResultCode.{ResultCode}
-pub use Rattle.std.specs.List.{All, Contains}
 pub use Rattle.std.specs.Option.{option_to_list}
-pub use Rattle.std.specs.Prelude.{Bool, IsErrOf, List, None, OnErr, OnOk, Option, Result, Some, [], false, length}
-pub use Rattle.std.specs.Prelude.{nat_lt, replicate, slice_index_or, slice_set, take, ℕ}
+pub use Rattle.std.specs.Prelude.{Bool, IsErr, IsErrOf, List, None, OnErr, OnOk, Option, Result, Some, [], false}
+pub use Rattle.std.specs.Prelude.{length, replicate, slice_index_or, slice_set, take, ℕ}
 pub use Rattle.model.specs.declared.capability.Cap.{Cap}
 pub use Rattle.model.specs.declared.capability.Capability.{Capability}
 pub use Rattle.model.specs.declared.capability.Capability.TheVariants.{Void}

@@ -3,13 +3,15 @@ use Rattle.capability.specs.Names.{ℕ, Bool, false, List, length, replicate, sl
 use Rattle.capability.specs.Names.{OnOk, OnErr, IsErrOf, Cap, Frame, ObjectHeader, Geometry, Content, Available, Object}
 use Rattle.capability.specs.Names.{frame_at, frames_in, header_at, held_at, given_up, objects_of, AreCurrent}
 use Rattle.capability.specs.Names.{AreKeepable, IsSoundFrames, touching, touched_count, all_slots, role_of, zero_words}
-use Rattle.capability.specs.Names.{is_given_up, is_member}
+use Rattle.capability.specs.Names.{is_given_up, is_member, Failed, IsErr}
 use Rattle.std.specs.Prelude.{◌≡◌, ◌↔◌, ◌+◌, ◌<◌, ◌≤◌, ◌^◌, if◌then◌else◌}
 use Rattle.model.specs.declared.object.Content.TheVariants as content
 use Rattle.capability.specs.declared.present.Fresh.{Fresh}
 use Rattle.capability.specs.declared.present.Fresh.TheVariants as fresh
 use Rattle.capability.specs.declared.present.PrepareFault.{PrepareFault}
 use Rattle.capability.specs.declared.present.PrepareFault.TheVariants as prepare
+use Rattle.capability.specs.declared.present.ReadFault.{ReadFault}
+use Rattle.capability.specs.declared.present.ReadFault.TheVariants as read
 
 -- what a store of present frames is made of: a header and a content for each number, which numbers were
 -- written since the last checkpoint, and how often the device failed
@@ -46,7 +48,8 @@ with_both p n h c = record p { headers = slice_set p.headers n h; contents = sli
 abbrev pub fresh_content : {C : Type 0} → C → Fresh → Content C
 fresh_content void fresh.Page = content.Page zero_words
 fresh_content void fresh.Node = content.Node (all_slots void)
-fresh_content void (fresh.Root annex) = content.Root (record { state = Available; words = replicate 4 0; key = 0; annex = annex; space = void })
+fresh_content void (fresh.Root annex) = content.Root
+    (record { state = Available; words = replicate 4 0; key = 0; annex = annex; space = void })
 fresh_content void fresh.Annex = content.Annex (all_slots void)
 fresh_content void (fresh.Bank limit) = content.Bank limit
 
@@ -68,11 +71,23 @@ FreshFits _ = Unit {0}
 abbrev pub HaveTheirRoles : List Frame → Type 0
 HaveTheirRoles fs = (n : ℕ) → (frame_at fs n).header.role ≡ role_of (frame_at fs n).content
 
--- A change of present frames that gives no object up: counts of allocations and what lies beside them go on as they were,
+-- A change of present frames: their parts after it. What was fetched and announced stays so. The parameters are the
+-- ghost members of a store of present frames.
+pub record Becomes {S : Type 0} (parts : S → Parts) (Fetched Announced : S → ℕ → Type 0) (Continues : S → S → Type 0)
+    (old new : S) (after : Parts) : Type 0 where
+  pub parts_are : parts new ≡ after
+  pub fetched : (n : ℕ) → Fetched old n → Fetched new n
+  pub announced : (n : ℕ) → Announced old n → Announced new n
+  pub continues : Continues old new
+
+-- A change of present frames that gives no object up: counts of allocations and what lies beside them go on as they
+-- were,
 -- and what was fetched and announced stays so. The parameters are the ghost members of a store of present frames.
-pub record KeepsRest {S : Type 0} (parts : S → Parts) (Fetched Announced : S → ℕ → Type 0) (Continues : S → S → Type 0) (old new : S) : Type 0 where
+pub record KeepsRest {S : Type 0} (parts : S → Parts) (Fetched Announced : S → ℕ → Type 0) (Continues : S → S → Type 0)
+    (old new : S) : Type 0 where
   pub count : length (parts new).headers ≡ length (parts old).headers
-  pub allocations : (n : ℕ) → (header_at (parts new).headers n).allocations ≡ (header_at (parts old).headers n).allocations
+  pub allocations : (n : ℕ) → (header_at (parts new).headers n).allocations ≡
+      (header_at (parts old).headers n).allocations
   pub touched : (parts new).touched ≡ (parts old).touched
   pub geometry : (parts new).geometry ≡ (parts old).geometry
   pub failures : (parts new).failures ≡ (parts old).failures
@@ -82,11 +97,13 @@ pub record KeepsRest {S : Type 0} (parts : S → Parts) (Fetched Announced : S �
 
 -- An edit of what objects hold: the objects after it, and when the frames can be kept at an age. The parameters are
 -- ghost members of a store of present frames.
-pub record Edits {S : Type 0} (parts : S → Parts) (Fetched Announced : S → ℕ → Type 0) (Continues : S → S → Type 0) (old new : S) (after : List Object) (may : ℕ → Type 0) : Type 0 where
+pub record Edits {S : Type 0} (parts : S → Parts) (Fetched Announced : S → ℕ → Type 0) (Continues : S → S → Type 0)
+    (old new : S) (after : List Object) (may : ℕ → Type 0) : Type 0 where
   pub objects : objects_in (parts new) ≡ after
   pub headers : (parts new).headers ≡ (parts old).headers
   pub current : AreCurrent (frames_of (parts old)) → AreCurrent (frames_of (parts new))
-  pub keepable : (age : ℕ) → may age → AreKeepable (parts old).geometry age (frames_of (parts old)) → AreKeepable (parts old).geometry age (frames_of (parts new))
+  pub keepable : (age : ℕ) → may age → AreKeepable (parts old).geometry age (frames_of (parts old)) →
+      AreKeepable (parts old).geometry age (frames_of (parts new))
   pub snapshots : KeepsRest parts Fetched Announced Continues old new
 
 -- Frames were fetched, and nothing else came of it.
@@ -97,24 +114,34 @@ pub record OnlyFetches {S : Type 0} (parts : S → Parts) (Continues : S → S �
   pub geometry : (parts new).geometry ≡ (parts old).geometry
   pub continues : Continues old new
 
--- Frames were fetched for a call that may want memory or fail, and nothing else came of it. The parameters are
--- ghost members of a store of present frames.
-pub record OnlyReads {S T : Type 0} (parts : S → Parts) (Continues : S → S → Type 0) (old new : S) (result : Result T PrepareFault) : Type 0 where
+-- Frames were fetched, and nothing else came of it. The call fails exactly if the device fails. The parameters are
+-- ghost members of frames.
+pub record FetchesOrFails {S T : Type 0} (parts : S → Parts) (Continues : S → S → Type 0) (old new : S)
+    (result : Result T Failed) : Type 0 where
   pub snapshots : OnlyFetches parts Continues old new
   pub later : (parts old).failures ≤ (parts new).failures
-  pub cause : IsErrOf result prepare.Failed ↔ ((parts old).failures < (parts new).failures)
-  pub room : IsErrOf result prepare.LogFull → ⊥
+  pub cause : IsErr result ↔ ((parts old).failures < (parts new).failures)
+
+-- Frames were fetched for a call that may want memory or fail, and nothing else came of it. The parameters are
+-- ghost members of frames.
+pub record OnlyReads {S T : Type 0} (parts : S → Parts) (Continues : S → S → Type 0) (old new : S)
+    (result : Result T ReadFault) : Type 0 where
+  pub snapshots : OnlyFetches parts Continues old new
+  pub later : (parts old).failures ≤ (parts new).failures
+  pub cause : IsErrOf result read.Failed ↔ ((parts old).failures < (parts new).failures)
 
 -- Frames were fetched, and numbers announced that are to be written; after an error none of them is. The parameters are
 -- ghost members of a store of present frames.
-pub record Prepares {S T : Type 0} (parts : S → Parts) (Continues : S → S → Type 0) (old new : S) (written : List ℕ) (result : Result T PrepareFault) : Type 0 where
+pub record Prepares {S T : Type 0} (parts : S → Parts) (Continues : S → S → Type 0) (old new : S) (written : List ℕ)
+    (result : Result T PrepareFault) : Type 0 where
   pub touched : OnOk result ((parts new).touched ≡ touching (parts old).touched written)
   pub within : touched_count (parts new).touched ≤ (parts new).geometry.log
   pub headers : (parts new).headers ≡ (parts old).headers
   pub contents : (parts new).contents ≡ (parts old).contents
   pub geometry : (parts new).geometry ≡ (parts old).geometry
   pub untouched : OnErr result ((parts new).touched ≡ (parts old).touched)
-  pub full : IsErrOf result prepare.LogFull → (parts old).geometry.log < touched_count (touching (parts old).touched written)
+  pub full : IsErrOf result prepare.LogFull →
+      (parts old).geometry.log < touched_count (touching (parts old).touched written)
   pub cause : IsErrOf result prepare.Failed ↔ ((parts old).failures < (parts new).failures)
   pub later : (parts old).failures ≤ (parts new).failures
   pub continues : Continues old new
@@ -136,7 +163,9 @@ pub record AreGivenUp (set : List ℕ) (old new : Parts) : Type 0 where
   pub failures : new.failures ≡ old.failures
   pub header_count : length new.headers ≡ length old.headers
   pub content_count : length new.contents ≡ length old.contents
-  pub headers : (n : ℕ) → header_at new.headers n ≡ (if is_member set n then given_up (header_at old.headers n) else header_at old.headers n)
+  pub headers : (n : ℕ) →
+      header_at new.headers n ≡
+      (if is_member set n then given_up (header_at old.headers n) else header_at old.headers n)
   pub contents : (n : ℕ) → held_at new.contents n ≡ (if is_member set n then content.Free else held_at old.contents n)
 
 -- the count of allocations of a number rises by one where its object is given up, and else stays

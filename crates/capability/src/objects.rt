@@ -1,60 +1,74 @@
 // Present frames, read and changed as the objects that they stand for.
-ghost use Rattle.std.specs.Prelude.{[], ◌∷◌, ◌≡◌, ◌↔◌, ℕ, ◌+◌, ◌<◌, ◌≤◌, ◌^◌, false, length, slice_set, IsTrue, OnOk};
-ghost use Rattle.std.specs.Prelude.{IsErrOf};
-ghost use Rattle.std.specs.List.{All, Contains};
-ghost use Rattle.model.specs.Frame.{current_count, header_at, held_at};
+ghost use Rattle.std.specs.Prelude.{[], ◌∷◌, ◌≡◌, ℕ, ◌+◌, ◌<◌, ◌≤◌, ◌^◌, None, false, length, slice_set, IfSome};
+ghost use Rattle.std.specs.Prelude.{IsTrue};
+ghost use Rattle.std.specs.List.{All};
+ghost use Rattle.model.specs.Frame.{content_behind, current_count, header_at, held_at};
 ghost use Rattle.model.specs.Keepable.{AreCurrent, AreKeepable, AreKeptWords, IsKeptCap};
-ghost use Rattle.model.specs.Object.{is_annex, with_slot_in, with_word_in};
+ghost use Rattle.model.specs.Object.{is_annex, slots_in};
 ghost use Rattle.model.specs.Revoke.{consume as consumed, is_member, rescind as rescinded};
 ghost use Rattle.model.specs.World.{word_at, slot_at, annex_at, content_at, is_process, with_word, with_slot};
 ghost use Rattle.model.specs.World.{with_slots_from};
-ghost use Rattle.capability.specs.Objects.{live_cap, with_message, with_root_in, with_slots_in};
-ghost use Rattle.capability.specs.Parts.{AreGivenUp, Edits, FreshFits, IsFreshAt, IsOnce, KeepsRest, OnlyFetches};
+ghost use Rattle.capability.specs.Objects.{live_cap, with_message};
+ghost use Rattle.capability.specs.Parts.{AreGivenUp, Edits, FreshFits, IsFreshAt, IsOnce, KeepsRest};
 ghost use Rattle.capability.specs.Parts.{frames_of, fresh_content, objects_in};
 
-use crate::present::{Fresh, MAX_FETCHED, PrepareFault, PresentFrames};
-use model::{Cap, Capability, Content, Message, Role, Slots, State};
-use std::alloc::Global;
+use crate::present::{Frames, Fresh, PresentFrames};
+use crate::roots::root;
+use model::{Cap, Capability, ContentRef, Message, Role, Root, State};
 
 /// The word of a page that is fetched, or 0 where it is no page.
-pub fn word<F: PresentFrames>(store: &F, number: u64, index: usize) -> u64
+pub fn word<F: Frames>(store: &F, number: u64, index: usize) -> u64
     requires fetched { F.IsFetched store.now number }
     requires within { index < 512 }
     ensures { result ≡ word_at (objects_in (F.parts store.now)) number index }
 {
     match store.frame(number) {
-        Content::Page(words) => words.get(index),
+        ContentRef::Page(words) => words[index],
         _ => 0,
     }
 }
 
 /// The annex of a process whose root is fetched, or 0 where it is no root.
-pub fn annex<F: PresentFrames>(store: &F, process: u64) -> u64
+pub fn annex<F: Frames>(store: &F, process: u64) -> u64
     requires fetched { F.IsFetched store.now process }
     ensures { result ≡ annex_at (objects_in (F.parts store.now)) process }
 {
     match store.frame(process) {
-        Content::Root(root) => root.annex,
+        ContentRef::Root(root) => root.annex,
         _ => 0,
+    }
+}
+
+// The slots of a node, or the registers of an annex.
+#[inline(always)]
+fn slots_behind(content: ContentRef<'_>) -> Option<&[Cap]>
+    ensures some { IfSome result (λ slots. slots.now ≡ slots_in (content_behind content.entry)) }
+    ensures length { IfSome result (λ slots. length slots.now ≡ 32) }
+    ensures none { result ≡ None → slots_in (content_behind content.entry) ≡ [] }
+{
+    match content {
+        ContentRef::Node(slots) => Some(&slots[..]),
+        ContentRef::Annex(registers) => Some(&registers[..]),
+        _ => None,
     }
 }
 
 /// The capability in a slot of a node, or a register of an annex, that is fetched: void where it is
 /// stale, or there is no such slot.
-pub fn slot<F: PresentFrames>(store: &F, number: u64, slot: usize) -> Capability
+pub fn slot<F: Frames>(store: &F, number: u64, slot: usize) -> Capability
     requires fetched { F.IsFetched store.now number }
     requires within { slot < 32 }
     ensures { result ≡ slot_at (objects_in (F.parts store.now)) number slot }
 {
-    match store.frame(number) {
-        Content::Node(slots) | Content::Annex(slots) => store.table().conveyed(slots.get(slot)),
-        _ => Capability::Void,
+    match slots_behind(store.frame(number)) {
+        Some(slots) => store.table().conveyed(slots[slot]),
+        None => Capability::Void,
     }
 }
 
 /// The capabilities in four slots of a node, or registers of an annex, that is fetched, as `slot` reads each.
 #[inline(always)]
-pub fn four_slots<F: PresentFrames>(
+pub fn four_slots<F: Frames>(
     store: &F,
     number: u64,
     first: usize,
@@ -67,18 +81,16 @@ pub fn four_slots<F: PresentFrames>(
     ensures { let read = slot_at (objects_in (F.parts store.now)) number in
         result ≡ read first ∷ read second ∷ read third ∷ read fourth ∷ [] }
 {
-    match store.frame(number) {
-        Content::Node(slots) | Content::Annex(slots) => {
-            let table = store.table();
-            [
-                table.conveyed(slots.get(first)),
-                table.conveyed(slots.get(second)),
-                table.conveyed(slots.get(third)),
-                table.conveyed(slots.get(fourth)),
-            ]
-        }
-        _ => [Capability::Void; 4],
-    }
+    let Some(slots) = slots_behind(store.frame(number)) else {
+        return [Capability::Void; 4];
+    };
+    let table = store.table();
+    [
+        table.conveyed(slots[first]),
+        table.conveyed(slots[second]),
+        table.conveyed(slots[third]),
+        table.conveyed(slots[fourth]),
+    ]
 }
 
 /// Puts a word into a page that is fetched and announced. What is no page stays.
@@ -90,7 +102,7 @@ pub fn set_word<F: PresentFrames>(store: &mut F, number: u64, index: usize, word
         (with_word (objects_in (F.parts store.old)) number index word)
         (λ age. Unit {0}) }
 {
-    put_word(store.frame_mut(number), index, word);
+    store.set_word(number, index, word);
 }
 
 /// Puts a capability, live, into a slot of a node or a register of an annex that is fetched and
@@ -106,7 +118,7 @@ pub fn set_slot<F: PresentFrames>(store: &mut F, number: u64, slot: usize, capab
         → capability ≡ Capability.Void)) }
 {
     let held = store.table().live_cap(capability);
-    put_slot(store.frame_mut(number), slot, held);
+    store.set_slot(number, slot, held);
 }
 
 /// Puts the capabilities of a message, live, into the last four slots of a node or registers of an
@@ -122,13 +134,13 @@ pub fn set_last_slots<F: PresentFrames>(store: &mut F, number: u64, message: &Me
 {
     let [first, second, third, fourth] = message.capabilities;
     let table = store.table();
-    let held = LastSlots {
-        first: table.live_cap(first),
-        second: table.live_cap(second),
-        third: table.live_cap(third),
-        fourth: table.live_cap(fourth),
-    };
-    put_last_slots(store.frame_mut(number), &held);
+    let held = [
+        table.live_cap(first),
+        table.live_cap(second),
+        table.live_cap(third),
+        table.live_cap(fourth),
+    ];
+    store.set_last_slots(number, held);
 }
 
 /// Gives a process, whose root is fetched and announced, words and a key. It is running.
@@ -140,7 +152,17 @@ pub fn set_message<F: PresentFrames>(store: &mut F, process: u64, words: [u64; 4
         (with_message (objects_in (F.parts store.old)) process words key)
         (λ age. Unit {0}) }
 {
-    put_message(store.frame_mut(process), words, key);
+    are_root_words(&words);
+    let root = root(store, process);
+    store.set_root(
+        process,
+        Root {
+            state: State::Running,
+            words,
+            key,
+            ..root
+        },
+    );
 }
 
 /// Makes a free number, fetched and announced, a new object of a bank (EROS: a space bank's
@@ -225,93 +247,10 @@ pub fn rescind<F: PresentFrames>(store: &mut F, numbers: &[u64])
     }
 }
 
-/// Fetches objects, at most 8, to be read. No object changes.
-///
-/// `NoMemory` where memory ran out, `Failed` exactly where the device failed, and never `LogFull`,
-/// since nothing is announced.
-pub fn fetch<F: PresentFrames>(
-    store: &mut F,
-    alloc: Global,
-    numbers: &[u64],
-) -> Result<(), PrepareFault>
-    requires few { length numbers.now ≤ MAX_FETCHED }
-    requires known { All (λ n. n < length (F.parts store.old).headers) numbers.now }
-    requires keepable { AreKeepable (F.parts store.old).geometry u64.MAX
-        (frames_of (F.parts store.old)) }
-    ensures fetched { OnOk result ((n : ℕ) → Contains numbers.now n → F.IsFetched store.new n) }
-    ensures room { IsErrOf result PrepareFault.LogFull → ⊥ }
-    ensures cause { IsErrOf result PrepareFault.Failed
-        ↔ ((F.parts store.old).failures < (F.parts store.new).failures) }
-    ensures later { (F.parts store.old).failures ≤ (F.parts store.new).failures }
-    ensures snapshots { OnlyFetches F.parts F.ContinuesTo store.old store.new }
+// The words of a root have 64 bits each. This does nothing; its contract is the fact.
+fn are_root_words(words: &[u64])
+    requires { length words.now ≡ 4 }
+    ensures { AreKeptWords 4 words.now }
 {
-    store.prepare(alloc, numbers, &[])
-}
-
-// A content with another word, where it is a page.
-fn put_word(content: &mut Content<Cap>, index: usize, word: u64)
-    requires { index < 512 }
-    ensures { content.new ≡ with_word_in content.old index word }
-{
-    if let Content::Page(words) = content {
-        words.set(index, word);
-    }
-}
-
-// A content with another capability in a slot or register, where it has some.
-fn put_slot(content: &mut Content<Cap>, slot: usize, held: Cap)
-    requires { slot < 32 }
-    ensures { content.new ≡ with_slot_in content.old slot held }
-{
-    match content {
-        Content::Node(slots) => slots.set(slot, held),
-        Content::Annex(registers) => registers.set(slot, held),
-        _ => {}
-    }
-}
-
-// What the last four slots are to hold.
-#[derive(Clone, Copy)]
-struct LastSlots {
-    first: Cap,
-    second: Cap,
-    third: Cap,
-    fourth: Cap,
-}
-
-// Slots with other last four.
-#[inline(always)]
-fn set_last(slots: &mut Slots<Cap>, held: &LastSlots)
-    ensures { slots.new ≡ slice_set (slice_set (slice_set (slice_set slots.old
-        28 held.now.first) 29 held.now.second) 30 held.now.third) 31 held.now.fourth }
-{
-    slots.set(28, held.first);
-    slots.set(29, held.second);
-    slots.set(30, held.third);
-    slots.set(31, held.fourth);
-}
-
-// A content with other capabilities in its last four slots or registers, where it has some.
-#[inline(always)]
-fn put_last_slots(content: &mut Content<Cap>, held: &LastSlots)
-    ensures { content.new ≡ with_slots_in content.old 28
-        (held.now.first ∷ held.now.second ∷ held.now.third ∷ held.now.fourth ∷ []) }
-{
-    match content {
-        Content::Node(slots) => set_last(slots, held),
-        Content::Annex(registers) => set_last(registers, held),
-        _ => {}
-    }
-}
-
-// A root with words and a key delivered, and running. What is no root stays.
-fn put_message(content: &mut Content<Cap>, words: [u64; 4], key: u16)
-    ensures set { content.new ≡ with_root_in (λ r. record r { state = State.Running; words = words; key = key }) content.old }
-    ensures fits { AreKeptWords 4 words }
-{
-    if let Content::Root(root) = content {
-        root.state = State::Running;
-        root.words = words;
-        root.key = key;
-    }
+    let _count = words.len();
 }

@@ -1,21 +1,19 @@
-// The trait of present frames.
-ghost use Rattle.std.specs.Prelude.{◌≡◌, ◌≢◌, ℕ, ◌<◌, ◌≤◌, length, OnOk, OnErr, IsErrOf, ◌↔◌};
+// The frames of objects as they are now: a trait to read them, and one to change them.
+ghost use Rattle.std.specs.Prelude.{◌≡◌, ◌≢◌, ℕ, ◌<◌, ◌≤◌, ◌∷◌, [], length, OnOk, OnErr, IsErr, IsErrOf, ◌↔◌};
 ghost use Rattle.std.specs.List.{All, Contains};
-ghost use Rattle.std.specs.Borrow.{Lends, sem};
-ghost use Rattle.model.specs.declared.capability.Cap.{Cap};
-ghost use Rattle.model.specs.declared.geometry.Geometry.{Geometry};
-ghost use Rattle.model.specs.declared.object.Content.{Content};
-ghost use Rattle.model.specs.contracts.object.Content.{the_row as content_row};
-ghost use Rattle.model.specs.contracts.capability.Cap.{the_row as cap_row};
+ghost use Rattle.model.specs.declared.object.Content.TheVariants as content;
 ghost use Rattle.model.specs.Machine.{touching, touched_count};
-ghost use Rattle.model.specs.Frame.{header_at, held_at, void_held, given_up, owned_by, called, claimed};
+ghost use Rattle.model.specs.Frame.{content_behind, header_at, held_at, void_held, given_up, owned_by, called, claimed};
 ghost use Rattle.model.specs.Keepable.{AreKeepable};
-ghost use Rattle.model.specs.Object.{role_of};
+ghost use Rattle.model.specs.Object.{role_of, with_slot_in, with_word_in};
+ghost use Rattle.capability.specs.Objects.{with_root_in, with_slots_in};
 ghost use Rattle.capability.specs.Parts.{Parts, frames_of, with_header, with_held, with_both, fresh_content, IsFreshAt};
+ghost use Rattle.capability.specs.Parts.{Becomes, OnlyFetches};
 
 use crate::table::ObjectTable;
-use model::{Cap, Content, Geometry, Role};
-use std::alloc::Global;
+use device::Failed;
+use model::{Cap, ContentRef, Geometry, Role, Root};
+use std::alloc::AllocError;
 
 /// How many frames can be fetched at a time.
 pub const MAX_FETCHED: usize = 8;
@@ -23,13 +21,50 @@ pub const MAX_FETCHED: usize = 8;
 /// Why objects weren't prepared.
 #[derive(Clone, Copy, PartialEq, Eq, Debug)]
 pub enum PrepareFault {
-    /// Memory ran out.
-    NoMemory,
     /// With the numbers to be written, more were written since the last checkpoint than half of the
     /// log holds.
     LogFull,
     /// The device failed.
     Failed,
+}
+
+impl From<Failed> for PrepareFault {
+    ghost use Rattle.capability.specs.declared.present.PrepareFault.TheVariants as prepare;
+
+    ghost from_gives = { λ _ e. e ≡ prepare.Failed };
+
+    fn from(_failed: Failed) -> PrepareFault {
+        PrepareFault::Failed
+    }
+}
+
+/// Why something that takes memory wasn't read.
+#[derive(Clone, Copy, PartialEq, Eq, Debug)]
+pub enum ReadFault {
+    /// Memory ran out.
+    NoMemory,
+    /// The device failed.
+    Failed,
+}
+
+impl From<Failed> for ReadFault {
+    ghost use Rattle.capability.specs.declared.present.ReadFault.TheVariants as read;
+
+    ghost from_gives = { λ _ e. e ≡ read.Failed };
+
+    fn from(_failed: Failed) -> ReadFault {
+        ReadFault::Failed
+    }
+}
+
+impl From<AllocError> for ReadFault {
+    ghost use Rattle.capability.specs.declared.present.ReadFault.TheVariants as read;
+
+    ghost from_gives = { λ _ e. e ≡ read.NoMemory };
+
+    fn from(_error: AllocError) -> ReadFault {
+        ReadFault::NoMemory
+    }
 }
 
 /// What a free number becomes.
@@ -51,23 +86,17 @@ pub enum Fresh {
     },
 }
 
-/// The objects as they are now, and the numbers written since the last checkpoint.
+/// The objects as they are now, to be read.
 ///
-/// The table with the headers of all objects is always in memory. `prepare` fetches what objects
-/// hold, and announces writes; it alone takes memory and alone can fail. What an object holds is
-/// read only where it is fetched, and changed only where that is announced.
-pub trait PresentFrames: Drop {
+/// The table with the headers of all objects is always in memory. `fetch` brings what objects hold
+/// into memory. Nothing here takes memory: a store has it from the opening on.
+pub trait Frames: Drop {
     ghost parts: { Self → Parts };
 
     ghost IsFetched: { Self → ℕ → Type 0 };
 
-    ghost IsAnnounced: { Self → ℕ → Type 0 };
-
     /// What lies beside the frames went on with no commit.
     ghost ContinuesTo: { Self → Self → Type 0 };
-
-    /// The store with another content at a number.
-    ghost with_content: { Self → ℕ → Content Cap → Self };
 
     /// How many objects there may be. Never more was written than half of the log holds.
     fn geometry(&self) -> Geometry
@@ -78,111 +107,142 @@ pub trait PresentFrames: Drop {
     fn table(&self) -> &ObjectTable
         ensures { result.now ≡ (parts self.now).headers };
 
-    /// Fetches what the objects hold that are to be read or changed, at most 8, announces the
-    /// numbers that are to be written, and makes a spare body for each free one among them.
-    ///
-    /// An error changes no object and none of the numbers written: `NoMemory` where
-    /// memory ran out, `LogFull` only where the numbers written would be more than half of the log
-    /// holds, and `Failed` exactly where the device failed.
-    fn prepare(
-        &mut self,
-        alloc: Global,
-        fetched: &[u64],
-        written: &[u64],
-    ) -> Result<(), PrepareFault>
-        requires few { length fetched.now ≤ MAX_FETCHED }
-        requires known { All (λ n. n < length (parts self.old).headers) fetched.now }
-        requires announced { All (λ n. n < length (parts self.old).headers) written.now }
+    /// Fetches what objects hold that are to be read, at most 8. No object changes. Fails exactly
+    /// where the device does.
+    fn fetch(&mut self, numbers: &[u64]) -> Result<(), Failed>
+        requires few { length numbers.now ≤ MAX_FETCHED }
+        requires known { All (λ n. n < length (parts self.old).headers) numbers.now }
         requires keepable { AreKeepable (parts self.old).geometry u64.MAX
             (frames_of (parts self.old)) }
-
-        ensures fetched { OnOk result ((n : ℕ) → Contains fetched.now n → IsFetched self.new n) }
-        ensures announced { OnOk result
-            ((n : ℕ) → Contains written.now n → IsAnnounced self.new n) }
-        ensures touched { OnOk result ((parts self.new).touched
-            ≡ touching (parts self.old).touched written.now) }
-        ensures within { touched_count (parts self.new).touched ≤ (parts self.new).geometry.log }
-        ensures before { touched_count (parts self.old).touched ≤ (parts self.old).geometry.log }
-
-        ensures headers { (parts self.new).headers ≡ (parts self.old).headers }
-        ensures contents { (parts self.new).contents ≡ (parts self.old).contents }
-        ensures geometry { (parts self.new).geometry ≡ (parts self.old).geometry }
-        ensures untouched { OnErr result ((parts self.new).touched ≡ (parts self.old).touched) }
-        ensures full { IsErrOf result PrepareFault.LogFull
-            → (parts self.old).geometry.log < touched_count (touching (parts self.old).touched written.now) }
-        ensures cause { IsErrOf result PrepareFault.Failed
-            ↔ ((parts self.old).failures < (parts self.new).failures) }
+        ensures fetched { OnOk result ((n : ℕ) → Contains numbers.now n → IsFetched self.new n) }
+        ensures cause { IsErr result ↔ ((parts self.old).failures < (parts self.new).failures) }
         ensures later { (parts self.old).failures ≤ (parts self.new).failures }
-        ensures continues { ContinuesTo self.old self.new };
+        ensures snapshots { OnlyFetches parts ContinuesTo self.old self.new };
 
     /// What an object holds.
-    fn frame(&self, number: u64) -> &Content<Cap>
+    fn frame(&self, number: u64) -> ContentRef<'_>
         requires { IsFetched self.now number }
-        ensures { result.now ≡ held_at (parts self.now).contents number };
+        ensures { content_behind result ≡ held_at (parts self.now).contents number };
 
-    /// Lends what an object holds, to be changed.
-    fn frame_mut(&mut self, number: u64) -> &mut Content<Cap>
-        requires fetched { IsFetched self.old number }
+    ghost known_fetched: { (s : Self) (n : ℕ) → IsFetched s n → (n < length (parts s).headers)
+        × (n < length (parts s).contents) };
+
+    ghost continues_same: { (s : Self) → ContinuesTo s s };
+
+    ghost continues_twice: { (s t u : Self) → ContinuesTo s t → ContinuesTo t u → ContinuesTo s u };
+}
+
+/// The objects as they are now, and the numbers written since the last checkpoint.
+///
+/// What an object holds is changed only where it is fetched and its number announced.
+pub trait PresentFrames: Frames {
+    ghost IsAnnounced: { Self → ℕ → Type 0 };
+
+    /// Fetches what the objects hold that are to be read or changed, at most 8, and announces the
+    /// numbers that are to be written.
+    ///
+    /// An error changes no object and none of the numbers written: `LogFull` only where the numbers
+    /// written would be more than half of the log holds, and `Failed` exactly where the device
+    /// failed.
+    fn prepare(&mut self, fetched: &[u64], written: &[u64]) -> Result<(), PrepareFault>
+        requires few { length fetched.now ≤ MAX_FETCHED }
+        requires known { All (λ n. n < length (Self.parts self.old).headers) fetched.now }
+        requires announced { All (λ n. n < length (Self.parts self.old).headers) written.now }
+        requires keepable { AreKeepable (Self.parts self.old).geometry u64.MAX
+            (frames_of (Self.parts self.old)) }
+
+        ensures fetched { OnOk result
+            ((n : ℕ) → Contains fetched.now n → Self.IsFetched self.new n) }
+        ensures announced { OnOk result
+            ((n : ℕ) → Contains written.now n → IsAnnounced self.new n) }
+        ensures touched { OnOk result ((Self.parts self.new).touched
+            ≡ touching (Self.parts self.old).touched written.now) }
+        ensures within { touched_count (Self.parts self.new).touched
+            ≤ (Self.parts self.new).geometry.log }
+        ensures before { touched_count (Self.parts self.old).touched
+            ≤ (Self.parts self.old).geometry.log }
+
+        ensures headers { (Self.parts self.new).headers ≡ (Self.parts self.old).headers }
+        ensures contents { (Self.parts self.new).contents ≡ (Self.parts self.old).contents }
+        ensures geometry { (Self.parts self.new).geometry ≡ (Self.parts self.old).geometry }
+        ensures untouched { OnErr result ((Self.parts self.new).touched ≡ (Self.parts self.old).touched) }
+        ensures full { IsErrOf result PrepareFault.LogFull → (Self.parts self.old).geometry.log
+            < touched_count (touching (Self.parts self.old).touched written.now) }
+        ensures cause { IsErrOf result PrepareFault.Failed
+            ↔ ((Self.parts self.old).failures < (Self.parts self.new).failures) }
+        ensures later { (Self.parts self.old).failures ≤ (Self.parts self.new).failures }
+        ensures continues { Self.ContinuesTo self.old self.new };
+
+    /// Puts a word into a page. What is no page stays.
+    fn set_word(&mut self, number: u64, index: usize, word: u64)
+        requires fetched { Self.IsFetched self.old number }
         requires announced { IsAnnounced self.old number }
-        ensures* writes_back { sem 𝓛 (Lends Self.row (content_row cap_row) self.entry result
-            (with_content self.old number)) }
-        ensures value { result.now ≡ held_at (parts self.old).contents number };
+        requires within { index < 512 }
+        ensures { Becomes Self.parts Self.IsFetched IsAnnounced Self.ContinuesTo self.old self.new
+            (with_held (Self.parts self.old) number
+            (with_word_in (held_at (Self.parts self.old).contents number) index word)) };
 
-    /// Makes a free number an object, in its spare body. Its counts stay.
+    /// Puts a capability into a slot of a node or a register of an annex. What is neither stays.
+    fn set_slot(&mut self, number: u64, slot: usize, held: Cap)
+        requires fetched { Self.IsFetched self.old number }
+        requires announced { IsAnnounced self.old number }
+        requires within { slot < 32 }
+        ensures { Becomes Self.parts Self.IsFetched IsAnnounced Self.ContinuesTo self.old self.new
+            (with_held (Self.parts self.old) number
+            (with_slot_in (held_at (Self.parts self.old).contents number) slot held)) };
+
+    /// Puts capabilities into the last four slots of a node or registers of an annex. What is neither
+    /// stays.
+    fn set_last_slots(&mut self, number: u64, held: [Cap; 4])
+        requires fetched { Self.IsFetched self.old number }
+        requires announced { IsAnnounced self.old number }
+        ensures { Becomes Self.parts Self.IsFetched IsAnnounced Self.ContinuesTo self.old self.new
+            (with_held (Self.parts self.old) number
+            (with_slots_in (held_at (Self.parts self.old).contents number) 28 held)) };
+
+    /// Puts another root in place of the root of a process. What is no root stays.
+    fn set_root(&mut self, process: u64, root: Root<Cap>)
+        requires fetched { Self.IsFetched self.old process }
+        requires announced { IsAnnounced self.old process }
+        ensures { Becomes Self.parts Self.IsFetched IsAnnounced Self.ContinuesTo self.old self.new
+            (with_held (Self.parts self.old) process
+            (with_root_in (λ r. root) (held_at (Self.parts self.old).contents process))) };
+
+    /// Makes a free number an object. Its counts stay.
     fn claim(&mut self, number: u64, fresh: Fresh, owner: u64)
-        requires fetched { IsFetched self.old number }
+        requires fetched { Self.IsFetched self.old number }
         requires announced { IsAnnounced self.old number }
-        requires free { (header_at (parts self.old).headers number).role ≡ Role.Free }
-        requires place { IsFreshAt (parts self.old).geometry number fresh }
-        ensures parts { parts self.new ≡ with_both (parts self.old) number
-            (claimed (role_of (fresh_content void_held fresh)) owner (header_at (parts self.old).headers number)) (fresh_content void_held fresh) }
-        ensures announced { (n : ℕ) → IsAnnounced self.old n → IsAnnounced self.new n }
-        ensures fetched { (n : ℕ) → IsFetched self.old n → IsFetched self.new n }
-        ensures continues { ContinuesTo self.old self.new };
+        requires free { (header_at (Self.parts self.old).headers number).role ≡ Role.Free }
+        requires place { IsFreshAt (Self.parts self.old).geometry number fresh }
+        ensures { Becomes Self.parts Self.IsFetched IsAnnounced Self.ContinuesTo self.old self.new
+            (with_both (Self.parts self.old) number
+            (claimed (role_of (fresh_content void_held fresh)) owner (header_at (Self.parts self.old).headers number))
+            (fresh_content void_held fresh)) };
 
     /// Gives an object up: it is free, and both of its counts are one more.
     fn reset(&mut self, number: u64)
         requires announced { IsAnnounced self.old number }
-        requires allocations { (header_at (parts self.old).headers number).allocations < u64.MAX }
-        requires calls { (header_at (parts self.old).headers number).calls < u64.MAX }
-        ensures parts { parts self.new ≡ with_both (parts self.old) number
-            (given_up (header_at (parts self.old).headers number)) Content.Free }
-        ensures announced { (n : ℕ) → n ≢ number → IsAnnounced self.old n → IsAnnounced self.new n }
-        ensures fetched { (n : ℕ) → n ≢ number → IsFetched self.old n → IsFetched self.new n }
-        ensures continues { ContinuesTo self.old self.new };
+        requires allocations { (header_at (Self.parts self.old).headers number).allocations < u64.MAX }
+        requires calls { (header_at (Self.parts self.old).headers number).calls < u64.MAX }
+        ensures { Becomes Self.parts Self.IsFetched IsAnnounced Self.ContinuesTo self.old self.new
+            (with_both (Self.parts self.old) number
+            (given_up (header_at (Self.parts self.old).headers number)) content.Free) };
 
     /// Gives an object another owner.
     fn set_owner(&mut self, number: u64, bank: u64)
         requires { IsAnnounced self.old number }
-        ensures parts { parts self.new ≡ with_header (parts self.old) number
-            (owned_by bank (header_at (parts self.old).headers number)) }
-        ensures announced { (n : ℕ) → IsAnnounced self.old n → IsAnnounced self.new n }
-        ensures fetched { (n : ℕ) → IsFetched self.old n → IsFetched self.new n }
-        ensures continues { ContinuesTo self.old self.new };
+        ensures { Becomes Self.parts Self.IsFetched IsAnnounced Self.ContinuesTo self.old self.new
+            (with_header (Self.parts self.old) number
+            (owned_by bank (header_at (Self.parts self.old).headers number))) };
 
     /// Gives the right to resume a process up: its call count is one more.
     fn consume(&mut self, root: u64)
         requires announced { IsAnnounced self.old root }
-        requires calls { (header_at (parts self.old).headers root).calls < u64.MAX }
-        ensures parts { parts self.new ≡ with_header (parts self.old) root
-            (called (header_at (parts self.old).headers root)) }
-        ensures announced { (n : ℕ) → IsAnnounced self.old n → IsAnnounced self.new n }
-        ensures fetched { (n : ℕ) → IsFetched self.old n → IsFetched self.new n }
-        ensures continues { ContinuesTo self.old self.new };
+        requires calls { (header_at (Self.parts self.old).headers root).calls < u64.MAX }
+        ensures { Becomes Self.parts Self.IsFetched IsAnnounced Self.ContinuesTo self.old self.new
+            (with_header (Self.parts self.old) root
+            (called (header_at (Self.parts self.old).headers root))) };
 
-    ghost parts_with: { (s : Self) (n : ℕ) (c : Content Cap) → parts (with_content s n c) ≡ with_held (parts s) n c };
-
-    ghost fetched_with: { (s : Self) (n : ℕ) (c : Content Cap) (m : ℕ) → IsFetched s m → IsFetched (with_content s n c) m };
-
-    ghost announced_with: { (s : Self) (n : ℕ) (c : Content Cap) (m : ℕ) → IsAnnounced s m → IsAnnounced (with_content s n c) m };
-
-    ghost known_fetched: { (s : Self) (n : ℕ) → IsFetched s n → (n < length (parts s).headers) × (n < length (parts s).contents) };
-
-    ghost known_announced: { (s : Self) (n : ℕ) → IsAnnounced s n → (n < length (parts s).headers) × (n < length (parts s).contents) };
-
-    ghost continues_same: { (s : Self) → ContinuesTo s s };
-
-    ghost continues_with: { (s t : Self) (n : ℕ) (c : Content Cap) → IsAnnounced t n → ContinuesTo s t → ContinuesTo s (with_content t n c) };
-
-    ghost continues_twice: { (s t u : Self) → ContinuesTo s t → ContinuesTo t u → ContinuesTo s u };
+    ghost known_announced: { (s : Self) (n : ℕ) → IsAnnounced s n → (n < length (Self.parts s).headers)
+        × (n < length (Self.parts s).contents) };
 }

@@ -1,25 +1,45 @@
 // The roots of processes, read and changed as the definitions see them.
-ghost use Rattle.std.specs.Prelude.{◌≡◌, ◌<◌, ℕ, IsTrue, slice_index, slice_set};
+ghost use Rattle.std.specs.Prelude.{◌≡◌, ◌<◌, ℕ, IsTrue, slice_index};
+ghost use Rattle.model.specs.declared.object.Content.TheVariants as content;
+ghost use Rattle.model.specs.Frame.{held_at};
 ghost use Rattle.model.specs.Keepable.{IsKeptCap};
 ghost use Rattle.model.specs.Order.{with_root_word, with_space};
 ghost use Rattle.model.specs.Sound.{IsSpace};
 ghost use Rattle.model.specs.World.{root_at, is_process, is_running_process, with_root, with_state};
-ghost use Rattle.capability.specs.Objects.{live_cap, with_root_in};
+ghost use Rattle.capability.specs.Objects.{live_cap};
 ghost use Rattle.capability.specs.Parts.{Edits, HaveTheirRoles, frames_of, objects_in};
 
-use crate::present::PresentFrames;
-use model::{Cap, Capability, Content, Role, State};
+use crate::present::{Frames, PresentFrames};
+use model::{Cap, Capability, ContentRef, Role, Root, State};
 
 /// Whether a number is that of a process, by its role in the table: it needn't be fetched.
-pub fn is_process<F: PresentFrames>(store: &F, number: u64) -> bool
+pub fn is_process<F: Frames>(store: &F, number: u64) -> bool
     requires { HaveTheirRoles (frames_of (F.parts store.now)) }
     ensures { result ≡ is_process (objects_in (F.parts store.now)) number }
 {
     matches!(store.table().header(number).role, Role::Root)
 }
 
+/// The root of a process, as it is held. It is fetched.
+pub fn root<F: Frames>(store: &F, process: u64) -> Root<Cap>
+    requires fetched { F.IsFetched store.now process }
+    requires process { IsTrue (is_process (objects_in (F.parts store.now)) process) }
+    ensures { held_at (F.parts store.now).contents process ≡ content.Root result }
+{
+    match store.frame(process) {
+        ContentRef::Root(root) => Root {
+            state: root.state,
+            words: root.words,
+            key: root.key,
+            annex: root.annex,
+            space: root.space,
+        },
+        _ => unreachable!(),
+    }
+}
+
 /// A word that a process was last delivered. Its root is fetched.
-pub fn word<F: PresentFrames>(store: &F, process: u64, index: usize) -> u64
+pub fn word<F: Frames>(store: &F, process: u64, index: usize) -> u64
     requires fetched { F.IsFetched store.now process }
     requires process { IsTrue (is_process (objects_in (F.parts store.now)) process) }
     requires within { index < 4 }
@@ -27,37 +47,37 @@ pub fn word<F: PresentFrames>(store: &F, process: u64, index: usize) -> u64
         (objects_in (F.parts store.now)) process).words index }
 {
     match store.frame(process) {
-        Content::Root(root) => root.words[index],
+        ContentRef::Root(root) => root.words[index],
         _ => 0,
     }
 }
 
 /// The key that a process was last delivered. Its root is fetched.
-pub fn key<F: PresentFrames>(store: &F, process: u64) -> u16
+pub fn key<F: Frames>(store: &F, process: u64) -> u16
     requires fetched { F.IsFetched store.now process }
     requires process { IsTrue (is_process (objects_in (F.parts store.now)) process) }
     ensures { result ≡ (root_at (objects_in (F.parts store.now)) process).key }
 {
     match store.frame(process) {
-        Content::Root(root) => root.key,
+        ContentRef::Root(root) => root.key,
         _ => 0,
     }
 }
 
 /// The state of a process. Its root is fetched.
-pub fn state<F: PresentFrames>(store: &F, process: u64) -> State
+pub fn state<F: Frames>(store: &F, process: u64) -> State
     requires fetched { F.IsFetched store.now process }
     requires process { IsTrue (is_process (objects_in (F.parts store.now)) process) }
     ensures { result ≡ (root_at (objects_in (F.parts store.now)) process).state }
 {
     match store.frame(process) {
-        Content::Root(root) => root.state,
+        ContentRef::Root(root) => root.state,
         _ => State::Available,
     }
 }
 
 /// Whether a process runs. Its root is fetched.
-pub fn is_running<F: PresentFrames>(store: &F, process: u64) -> bool
+pub fn is_running<F: Frames>(store: &F, process: u64) -> bool
     requires fetched { F.IsFetched store.now process }
     requires process { IsTrue (is_process (objects_in (F.parts store.now)) process) }
     ensures { result ≡ is_running_process (objects_in (F.parts store.now)) process }
@@ -69,13 +89,13 @@ pub fn is_running<F: PresentFrames>(store: &F, process: u64) -> bool
 }
 
 /// The address space of a process: void where it is stale. Its root is fetched.
-pub fn space<F: PresentFrames>(store: &F, process: u64) -> Capability
+pub fn space<F: Frames>(store: &F, process: u64) -> Capability
     requires fetched { F.IsFetched store.now process }
     requires process { IsTrue (is_process (objects_in (F.parts store.now)) process) }
     ensures { result ≡ (root_at (objects_in (F.parts store.now)) process).space }
 {
     match store.frame(process) {
-        Content::Root(root) => store.table().conveyed(root.space),
+        ContentRef::Root(root) => store.table().conveyed(root.space),
         _ => Capability::Void,
     }
 }
@@ -91,7 +111,9 @@ pub fn set_word<F: PresentFrames>(store: &mut F, process: u64, index: usize, wor
         (with_root_word (root_at (objects_in (F.parts store.old)) process) index word))
         (λ age. Unit {0}) }
 {
-    put_word(store.frame_mut(process), index, word);
+    let mut root = root(store, process);
+    root.words[index] = word;
+    store.set_root(process, root);
 }
 
 /// Puts a process, whose root is fetched and announced, into a state.
@@ -103,7 +125,8 @@ pub fn set_state<F: PresentFrames>(store: &mut F, process: u64, state: State)
         (with_state (objects_in (F.parts store.old)) process state)
         (λ age. Unit {0}) }
 {
-    put_state(store.frame_mut(process), state);
+    let root = root(store, process);
+    store.set_root(process, Root { state, ..root });
 }
 
 /// Gives a process, whose root is fetched and announced, an address space, live.
@@ -118,33 +141,12 @@ pub fn set_space<F: PresentFrames>(store: &mut F, process: u64, capability: Capa
         × IsSpace capability) }
 {
     let held = store.table().live_cap(capability);
-    put_space(store.frame_mut(process), held);
-}
-
-// A root with another word. What is no root stays.
-fn put_word(content: &mut Content<Cap>, index: usize, word: u64)
-    requires { index < 4 }
-    ensures { content.new ≡ with_root_in (λ r. record r { words = slice_set r.words index word }) content.old }
-{
-    if let Content::Root(root) = content {
-        root.words[index] = word;
-    }
-}
-
-// A root in another state. What is no root stays.
-fn put_state(content: &mut Content<Cap>, state: State)
-    ensures { content.new ≡ with_root_in (λ r. record r { state = state }) content.old }
-{
-    if let Content::Root(root) = content {
-        root.state = state;
-    }
-}
-
-// A root with another address space. What is no root stays.
-fn put_space(content: &mut Content<Cap>, held: Cap)
-    ensures { content.new ≡ with_root_in (λ r. record r { space = held }) content.old }
-{
-    if let Content::Root(root) = content {
-        root.space = held;
-    }
+    let root = root(store, process);
+    store.set_root(
+        process,
+        Root {
+            space: held,
+            ..root
+        },
+    );
 }

@@ -1,25 +1,25 @@
 // Objects as values that can be shown.
 ghost use Rattle.std.specs.Prelude.{◌≡◌, map, IfOk, IsTrue};
-ghost use Rattle.model.specs.Frame.{conveyed};
+ghost use Rattle.model.specs.Frame.{content_behind, conveyed};
 ghost use Rattle.model.specs.Object.{is_annex, map_content, slots_in};
 ghost use Rattle.model.specs.World.{content_at, object_at};
 ghost use Rattle.capability.specs.Parts.{objects_in};
 
-use crate::present::PresentFrames;
+use crate::present::Frames;
 use crate::table::ObjectTable;
-use model::{Cap, Capability, Content, Object, Root, Slots};
+use model::{Cap, Capability, Content, ContentRef, Object, Root, SLOTS, Slots, Words};
 use std::alloc::{AllocError, Global};
 
 // What each of 32 held capabilities conveys.
 fn conveyed_slots(
     alloc: Global,
     table: &ObjectTable,
-    held: &Slots<Cap>,
+    held: &[Cap; SLOTS],
 ) -> Result<Slots<Capability>, AllocError>
     ensures { IfOk result (λ slots. slots ≡ map (conveyed table.now) held.now) }
 {
     let mut slots = Slots::new(alloc, Capability::Void)?;
-    for (i, capability) in held.as_slice().iter().enumerate() {
+    for (i, capability) in held.iter().enumerate() {
         slots.set(i, table.conveyed(*capability));
     }
     Ok(slots)
@@ -29,29 +29,31 @@ fn conveyed_slots(
 fn conveyed_content(
     alloc: Global,
     table: &ObjectTable,
-    held: &Content<Cap>,
+    held: ContentRef<'_>,
 ) -> Result<Content<Capability>, AllocError>
-    ensures { IfOk result (λ content. content ≡ map_content (conveyed table.now) held.now) }
+    ensures { IfOk result (λ content. content ≡ map_content (conveyed table.now) (content_behind held.entry)) }
 {
     match held {
-        Content::Free => Ok(Content::Free),
-        Content::Page(words) => Ok(Content::Page(words.copy(alloc)?)),
-        Content::Node(slots) => Ok(Content::Node(conveyed_slots(alloc, table, slots)?)),
-        Content::Root(root) => Ok(Content::Root(Root {
+        ContentRef::Free => Ok(Content::Free),
+        ContentRef::Page(words) => Ok(Content::Page(Words::of(alloc, words)?)),
+        ContentRef::Node(slots) => Ok(Content::Node(conveyed_slots(alloc, table, slots)?)),
+        ContentRef::Root(root) => Ok(Content::Root(Root {
             state: root.state,
             words: root.words,
             key: root.key,
             annex: root.annex,
             space: table.conveyed(root.space),
         })),
-        Content::Annex(registers) => Ok(Content::Annex(conveyed_slots(alloc, table, registers)?)),
-        Content::Bank { limit } => Ok(Content::Bank { limit: *limit }),
+        ContentRef::Annex(registers) => Ok(Content::Annex(conveyed_slots(
+            alloc, table, registers,
+        )?)),
+        ContentRef::Bank { limit } => Ok(Content::Bank { limit }),
     }
 }
 
 /// The present state of a fetched object, its stale capabilities void. Fails only where memory
 /// runs out.
-pub fn object<F: PresentFrames>(alloc: Global, store: &F, number: u64) -> Result<Object, AllocError>
+pub fn object<F: Frames>(alloc: Global, store: &F, number: u64) -> Result<Object, AllocError>
     requires { F.IsFetched store.now number }
     ensures { IfOk result (λ object.
         object ≡ object_at (objects_in (F.parts store.now)) number) }
@@ -64,7 +66,7 @@ pub fn object<F: PresentFrames>(alloc: Global, store: &F, number: u64) -> Result
 
 /// The registers in an annex that is fetched, stale capabilities void. Fails only where memory runs
 /// out.
-pub fn registers<F: PresentFrames>(
+pub fn registers<F: Frames>(
     alloc: Global,
     store: &F,
     annex: u64,
@@ -76,7 +78,7 @@ pub fn registers<F: PresentFrames>(
         registers ≡ slots_in (content_at (objects_in (F.parts store.now)) annex)) }
 {
     match store.frame(annex) {
-        Content::Annex(registers) => conveyed_slots(alloc, store.table(), registers),
+        ContentRef::Annex(registers) => conveyed_slots(alloc, store.table(), registers),
         _ => unreachable!(),
     }
 }

@@ -27,32 +27,43 @@ IsFreezeAnswer left entries (Err _) = ⊥
 
 -- it is committed, as the generation after the one that is saved, where all of its frames were put
 abbrev pub IsCommitAnswer : Disk → Disk → Option ℕ → ℕ → Result ℕ Refusal → Type 0
-IsCommitAnswer old new left saved (Ok generation) = (new.failures ≡ old.failures) × (left ≡ Some 0) × (generation ≡ saved + 1)
+IsCommitAnswer old new left saved (Ok generation) = (new.failures ≡ old.failures) × (left ≡ Some 0) ×
+    (generation ≡ saved + 1)
 IsCommitAnswer old new left saved (Err refusal.NoCheckpoint) = (new.failures ≡ old.failures) × (left ≡ None)
-IsCommitAnswer old new left saved (Err (refusal.NotStable count)) = (new.failures ≡ old.failures) × (left ≡ Some count) × (0 < count)
+IsCommitAnswer old new left saved (Err (refusal.NotStable count)) = (new.failures ≡ old.failures) × (left ≡ Some count)
+    × (0 < count)
 IsCommitAnswer old new left saved (Err refusal.Fault) = (old.failures < new.failures) × (left ≡ Some 0)
 IsCommitAnswer old new left saved (Err _) = ⊥
 
--- a page is journaled, as the generation after the next, where no checkpoint is on its way and all that is saved is home,
+-- a page is journaled, as the generation after the next, where no checkpoint is on its way and all that is saved is
+-- home,
 -- an object has the number, it is a page, and the one that is saved is the same
-abbrev pub IsJournalAnswer : Disk → Disk → Option ℕ → SavedFrames → (is_known is_page is_saved : Bool) → Result ℕ Refusal → Type 0
+abbrev pub IsJournalAnswer : Disk → Disk → Option ℕ → SavedFrames → (is_known is_page is_saved : Bool) →
+    Result ℕ Refusal → Type 0
 IsJournalAnswer old new left s is_known is_page is_saved (Ok generation) =
-    (new.failures ≡ old.failures) × (left ≡ None) × (s.entries ≡ 0) × (is_page ≡ true) × (is_saved ≡ true) × (generation ≡ s.generation + 2)
-IsJournalAnswer old new left s is_known is_page is_saved (Err refusal.CheckpointRunning) = (new.failures ≡ old.failures) × (left ≢ None)
-IsJournalAnswer old new left s is_known is_page is_saved (Err refusal.MigrationPending) = (new.failures ≡ old.failures) × (left ≡ None) × (s.entries ≢ 0)
+    (new.failures ≡ old.failures) × (left ≡ None) × (s.entries ≡ 0) × (is_page ≡ true) × (is_saved ≡ true) ×
+    (generation ≡ s.generation + 2)
+IsJournalAnswer old new left s is_known is_page is_saved (Err refusal.CheckpointRunning) = (new.failures ≡ old.failures)
+    × (left ≢ None)
+IsJournalAnswer old new left s is_known is_page is_saved (Err refusal.MigrationPending) = (new.failures ≡ old.failures)
+    × (left ≡ None) × (s.entries ≢ 0)
 IsJournalAnswer old new left s is_known is_page is_saved (Err refusal.BadNumber) =
     (new.failures ≡ old.failures) × (left ≡ None) × (s.entries ≡ 0) × (is_known ≡ false)
 IsJournalAnswer old new left s is_known is_page is_saved (Err (refusal.NotJournaled unjournaled.NotPage)) =
     (new.failures ≡ old.failures) × (left ≡ None) × (s.entries ≡ 0) × (is_known ≡ true) × (is_page ≡ false)
 IsJournalAnswer old new left s is_known is_page is_saved (Err (refusal.NotJournaled unjournaled.Renewed)) =
     (new.failures ≡ old.failures) × (left ≡ None) × (s.entries ≡ 0) × (is_page ≡ true) × (is_saved ≡ false)
-IsJournalAnswer old new left s is_known is_page is_saved (Err refusal.Fault) = (old.failures < new.failures) × (left ≡ None) × (s.entries ≡ 0) × (is_page ≡ true)
+IsJournalAnswer old new left s is_known is_page is_saved (Err refusal.Fault) = (old.failures < new.failures) ×
+    (left ≡ None) × (s.entries ≡ 0) × (is_page ≡ true)
 IsJournalAnswer old new left s is_known is_page is_saved (Err _) = ⊥
 
 -- whether it is to be done, or why it is refused before anything is written
-abbrev pub IsJournalCheck : {T : Type 0} → Disk → Disk → Option ℕ → SavedFrames → (is_known is_page is_saved : Bool) → Result T Refusal → Type 0
-IsJournalCheck old new left s is_known is_page is_saved (Ok done) = (new.failures ≡ old.failures) × (left ≡ None) × (s.entries ≡ 0) × (is_page ≡ true) × (is_saved ≡ true)
-IsJournalCheck old new left s is_known is_page is_saved (Err why) = IsJournalAnswer old new left s is_known is_page is_saved (Err why)
+abbrev pub IsJournalCheck : {T : Type 0} → Disk → Disk → Option ℕ → SavedFrames → (is_known is_page is_saved : Bool) →
+    Result T Refusal → Type 0
+IsJournalCheck old new left s is_known is_page is_saved (Ok done) = (new.failures ≡ old.failures) × (left ≡ None) ×
+    (s.entries ≡ 0) × (is_page ≡ true) × (is_saved ≡ true)
+IsJournalCheck old new left s is_known is_page is_saved (Err why) = IsJournalAnswer old new left s is_known is_page
+    is_saved (Err why)
 
 -- it is refused before any device call
 abbrev pub IsTurnedAway : Result ℕ Refusal → Type 0

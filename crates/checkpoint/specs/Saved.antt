@@ -45,7 +45,14 @@ home_saved s = record { geometry = s.geometry; frames = s.frames; generation = s
 
 -- what is saved once another frame of an object is, at an age: its half is that of the saved generation again
 abbrev pub replaced_saved : ℕ → ℕ → Frame → SavedFrames → SavedFrames
-replaced_saved age n f s = record { geometry = s.geometry; frames = slice_set s.frames n f; generation = s.generation + 2; entries = 1; age = age }
+replaced_saved age n f s =
+    record {
+      geometry = s.geometry;
+      frames = slice_set s.frames n f;
+      generation = s.generation + 2;
+      entries = 1;
+      age = age;
+    }
 
 -- the frame of a page with other words
 abbrev pub with_words : List ℕ → Frame → Frame

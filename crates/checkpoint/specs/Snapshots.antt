@@ -1,4 +1,5 @@
--- What a store keeps beside its present objects, and what each stage of a checkpoint does to that, whatever it keeps of a
+-- What a store keeps beside its present objects, and what each stage of a checkpoint does to that, whatever it keeps of
+-- a
 -- frozen state.
 use Rattle.checkpoint.specs.Names.{ℕ, Option, Some, None, option_map, List, Frame, frame_at, AreKeepable}
 use Rattle.std.specs.Prelude.{◌≡◌, ◌==◌, if◌then◌else◌, ◌+◌, ◌-◌, ◌<◌, ◌≤◌, ◌^◌}
@@ -46,7 +47,13 @@ module _ {F : Type 0} (of : FrozenView F) where
 
   -- what a frozen state saves at an age
   abbrev pub next_saved : ℕ → F → SavedFrames → SavedFrames
-  next_saved age f s = record { geometry = s.geometry; frames = of.frames f s.frames; generation = s.generation + 1; entries = of.size f; age = age }
+  next_saved age f s = record {
+    geometry = s.geometry;
+    frames = of.frames f s.frames;
+    generation = s.generation + 1;
+    entries = of.size f;
+    age = age;
+  }
 
   -- it is saved
   abbrev pub committed : ℕ → F → Snapshots F → Snapshots F

@@ -16,7 +16,8 @@ spare_sectors old new h at n behind e = (e.before 0 (omega arith), λ i lt. e.af
 
 pub spare_frames : HeadersSpareFrames
 spare_frames old new h p generation es object behind e =
-    same_shaped (frame_sector p generation es object) (shape_of p object) old new (spare_sectors old new h (frame_sector p generation es object) (place_length p object) behind e).1
+    same_shaped (frame_sector p generation es object) (shape_of p object) old new
+    (spare_sectors old new h (frame_sector p generation es object) (place_length p object) behind e).1
 
 pub half_behind : (p : Plan) (generation : ℕ) → IsPlan p → 5 ≤ half_sector p generation
 half_behind p generation fits = (half_within p generation fits).0
@@ -24,7 +25,8 @@ half_behind p generation fits = (half_within p generation fits).0
 pub spare_slots : HeadersSpareSlots
 spare_slots old new h p generation slot object fits e =
     let behind = half_behind p generation fits in
-    same_shaped (slot_sector p generation slot) (shape_of p object) old new (spare_sectors old new h (slot_sector p generation slot) (place_length p object) (omega (arith, behind)) e).1
+    same_shaped (slot_sector p generation slot) (shape_of p object) old new
+    (spare_sectors old new h (slot_sector p generation slot) (place_length p object) (omega (arith, behind)) e).1
 
 pub spare_directories : HeadersSpareDirectories
 spare_directories old new h p generation n fits e =

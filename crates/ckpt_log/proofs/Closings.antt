@@ -11,7 +11,8 @@ use Rattle.ckpt_log.proofs.Winners.{belongs, counts_if, opened, slot_of_image}
 -- ---- of two slots
 
 -- The first has the lesser number, and neither begins to count. Where it still counts, the second is unchanged.
-first_in_turn : (first second first_was second_was : Bool) (m n : ℕ) → nat_lt m n ≡ true → (first ≡ true → first_was ≡ true) → (second ≡ true → second_was ≡ true) → (first ≡ true → second ≡ second_was)
+first_in_turn : (first second first_was second_was : Bool) (m n : ℕ) → nat_lt m n ≡ true → (first ≡ true → first_was ≡ true) →
+    (second ≡ true → second_was ≡ true) → (first ≡ true → second ≡ second_was)
     → (committed_of first m second n ≡ committed_of first_was m second_was n) ⊎ (committed_of first m second n ≡ None)
 first_in_turn true second first_was second_was m n lt was was_second same = inl (rw (was refl, same refl) refl)
 first_in_turn false true true second_was m n lt was was_second same = inl (rw (was_second refl, lt) refl)
@@ -19,7 +20,8 @@ first_in_turn false true false second_was m n lt was was_second same = inl (rw (
 first_in_turn false false first_was second_was m n lt was was_second same = inr refl
 
 -- so it is the other way round
-second_in_turn : (first second first_was second_was : Bool) (m n : ℕ) → nat_lt m n ≡ false → (first ≡ true → first_was ≡ true) → (second ≡ true → second_was ≡ true) → (second ≡ true → first ≡ first_was)
+second_in_turn : (first second first_was second_was : Bool) (m n : ℕ) → nat_lt m n ≡ false → (first ≡ true → first_was ≡ true) →
+    (second ≡ true → second_was ≡ true) → (second ≡ true → first ≡ first_was)
     → (committed_of first m second n ≡ committed_of first_was m second_was n) ⊎ (committed_of first m second n ≡ None)
 second_in_turn first true first_was second_was m n lt was was_second same = inl (rw (was_second refl, same refl) refl)
 second_in_turn true false first_was true m n lt was was_second same = inl (rw (was refl, lt) refl)
@@ -32,8 +34,10 @@ second_in_turn false false first_was second_was m n lt was was_second same = inr
 abbrev OpensNoMore : ℕ → Image → Image → Type 0
 OpensNoMore gate old new = is_open (new gate) ≡ true → is_open (old gate) ≡ true
 
-counts_no_more : (header old_gate new_gate : List ℕ) (slot : ℕ) → (is_open new_gate ≡ true → is_open old_gate ≡ true) → does_count header new_gate slot ≡ true → does_count header old_gate slot ≡ true
-counts_no_more header old_gate new_gate slot was counts = counts_if header old_gate slot (was (opened header new_gate slot counts)) (belongs header new_gate slot counts)
+counts_no_more : (header old_gate new_gate : List ℕ) (slot : ℕ) → (is_open new_gate ≡ true → is_open old_gate ≡ true) → does_count header new_gate slot ≡ true →
+    does_count header old_gate slot ≡ true
+counts_no_more header old_gate new_gate slot was counts = counts_if header old_gate slot (was (opened header new_gate slot counts))
+    (belongs header new_gate slot counts)
 
 module _ (old new : Image) (elsewhere : SparesRest old new) (first : OpensNoMore 2 old new) (second : OpensNoMore 4 old new) where
   one : new 1 ≡ old 1
@@ -54,14 +58,16 @@ module _ (old new : Image) (elsewhere : SparesRest old new) (first : OpensNoMore
 
   pub first_is_lesser : nat_lt (sequence_in (old 1)) (sequence_in (old 3)) ≡ true → (is_open (new 2) ≡ true → new 4 ≡ old 4) → KeepsOrHasNone old new
   first_is_lesser lt same =
-      let step = first_in_turn (does_count (old 1) (new 2) 0) (does_count (old 3) (new 4) 1) (does_count (old 1) (old 2) 0) (does_count (old 3) (old 4) 1) (sequence_in (old 1)) (sequence_in (old 3)) lt
+      let step = first_in_turn (does_count (old 1) (new 2) 0) (does_count (old 3) (new 4) 1) (does_count (old 1) (old 2) 0) (does_count (old 3) (old 4) 1)
+      (sequence_in (old 1)) (sequence_in (old 3)) lt
       (counts_no_more (old 1) (old 2) (new 2) 0 first) (counts_no_more (old 3) (old 4) (new 4) 1 second)
       (λ counts. ap (λ (b : List ℕ). does_count (old 3) b 1) (same (opened (old 1) (new 2) 0 counts))) in
       kept_or_none (rw (one, three) step)
 
   pub second_is_lesser : nat_lt (sequence_in (old 1)) (sequence_in (old 3)) ≡ false → (is_open (new 4) ≡ true → new 2 ≡ old 2) → KeepsOrHasNone old new
   second_is_lesser lt same =
-      let step = second_in_turn (does_count (old 1) (new 2) 0) (does_count (old 3) (new 4) 1) (does_count (old 1) (old 2) 0) (does_count (old 3) (old 4) 1) (sequence_in (old 1)) (sequence_in (old 3)) lt
+      let step = second_in_turn (does_count (old 1) (new 2) 0) (does_count (old 3) (new 4) 1) (does_count (old 1) (old 2) 0) (does_count (old 3) (old 4) 1)
+      (sequence_in (old 1)) (sequence_in (old 3)) lt
       (counts_no_more (old 1) (old 2) (new 2) 0 first) (counts_no_more (old 3) (old 4) (new 4) 1 second)
       (λ counts. ap (λ (b : List ℕ). does_count (old 1) b 0) (same (opened (old 3) (new 4) 1 counts))) in
       kept_or_none (rw (one, three) step)
@@ -89,17 +95,20 @@ pub is_shut : (bytes : List ℕ) → is_open (closed_gate bytes) ≡ false
 is_shut bytes = shut_by (is_open bytes) bytes refl
 
 -- while the first is closed
-pub closing_first : (lesser greater : ℕ) (old c : Image) → AreInTurn old lesser greater → Elsewhere lesser 1 old c → (is_open (old lesser) ≡ false → Agrees c old) → KeepsOrHasNone old c
+pub closing_first : (lesser greater : ℕ) (old c : Image) → AreInTurn old lesser greater → Elsewhere lesser 1 old c →
+    (is_open (old lesser) ≡ false → Agrees c old) → KeepsOrHasNone old c
 closing_first lesser greater old c (inl turn) change same =
     let change_two = rw turn.0 at change in
     let same_two = rw turn.0 at same in
     let four : c 4 ≡ old 4 = change_two.after 4 (omega arith) in
-    first_is_lesser old c (λ i two _. beside 2 old c change_two i two) (opens_no_more 2 old c same_two) (λ open'. ap is_open (sym four) ∙ open') turn.2 (λ _. four)
+    first_is_lesser old c (λ i two _. beside 2 old c change_two i two) (opens_no_more 2 old c same_two) (λ open'. ap is_open (sym four) ∙ open') turn.2
+    (λ _. four)
 closing_first lesser greater old c (inr turn) change same =
     let change_four = rw turn.0 at change in
     let same_four = rw turn.0 at same in
     let two : c 2 ≡ old 2 = change_four.before 2 (omega arith) in
-    second_is_lesser old c (λ i _ four. beside 4 old c change_four i four) (λ open'. ap is_open (sym two) ∙ open') (opens_no_more 4 old c same_four) turn.2 (λ _. two)
+    second_is_lesser old c (λ i _ four. beside 4 old c change_four i four) (λ open'. ap is_open (sym two) ∙ open') (opens_no_more 4 old c same_four) turn.2
+    (λ _. two)
 
 never_open : {A : Type 0} (bytes : List ℕ) → is_open bytes ≡ false → is_open bytes ≡ true → A
 never_open bytes shut open' = let never : false ≡ true = sym shut ∙ open' in cc
@@ -142,16 +151,21 @@ none_committed image shut =
 -- ---- at each moment
 
 -- while the first is closed
-pub first_run : (lesser greater : ℕ) (image : Image) {old new : Disk} → AreInTurn image lesser greater → LeavesOnly old new (λ c. IsClosing lesser image c) → LeavesOnly old new (λ c. KeepsOrHasNone image c)
+pub first_run : (lesser greater : ℕ) (image : Image) {old new : Disk} → AreInTurn image lesser greater → LeavesOnly old new (λ c. IsClosing lesser image c) →
+    LeavesOnly old new (λ c. KeepsOrHasNone image c)
 first_run lesser greater image {old} {new} turn run =
-    leaves_weaker {old = old} {new = new} {P = λ c. IsClosing lesser image c} (λ c. KeepsOrHasNone image c) (λ c is. closing_first lesser greater image c turn is.0 is.1) run
+    leaves_weaker {old = old} {new = new} {P = λ c. IsClosing lesser image c} (λ c. KeepsOrHasNone image c)
+    (λ c is. closing_first lesser greater image c turn is.0 is.1) run
 
 -- and then the second
-pub second_run : (lesser greater : ℕ) (image mid_image : Image) {old mid new : Disk} → AreInTurn image lesser greater → Elsewhere lesser 1 image mid_image → is_open (mid_image lesser) ≡ false
-    → LeavesOnly old mid (λ c. KeepsOrHasNone image c) → LeavesOnly mid new (λ c. IsClosing greater mid_image c) → LeavesOnly old new (λ c. KeepsOrHasNone image c)
+pub second_run : (lesser greater : ℕ) (image mid_image : Image) {old mid new : Disk} → AreInTurn image lesser greater → Elsewhere lesser 1 image mid_image →
+    is_open (mid_image lesser) ≡ false
+    → LeavesOnly old mid (λ c. KeepsOrHasNone image c) → LeavesOnly mid new (λ c. IsClosing greater mid_image c) →
+    LeavesOnly old new (λ c. KeepsOrHasNone image c)
 second_run lesser greater image mid_image {old} {mid} {new} turn change shut first second =
     leaves_on {old = old} {mid = mid} {new = new} {P = λ c. KeepsOrHasNone image c} first
-    (leaves_weaker {old = mid} {new = new} {P = λ c. IsClosing greater mid_image c} (λ c. KeepsOrHasNone image c) (λ c is. closing_second lesser greater image mid_image c turn change shut is.0 is.1) second)
+    (leaves_weaker {old = mid} {new = new} {P = λ c. IsClosing greater mid_image c} (λ c. KeepsOrHasNone image c)
+    (λ c is. closing_second lesser greater image mid_image c turn change shut is.0 is.1) second)
 
 -- a sync, which may fail, and reads
 pub peek_run : {old new : Disk} → Peeks old new → LeavesOnly old new (λ c. WasKeptOrHasNone old c)

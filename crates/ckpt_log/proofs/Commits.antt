@@ -49,12 +49,14 @@ torn_no_more : (r : ℕ) (old new : Image) → is_open (old (2 + 2 * r)) ≡ tru
 torn_no_more r old new open' e =
     let header : new (1 + 2 * r) ≡ old (1 + 2 * r) = e.before (1 + 2 * r) (omega arith) in
     record {
-      counted = λ counts. counts_if (old (1 + 2 * r)) (old (2 + 2 * r)) r open' (subst (λ (x : List ℕ). sequence_in x % 2 ≡ r) header (belongs (new (1 + 2 * r)) (new (2 + 2 * r)) r counts));
+      counted = λ counts. counts_if (old (1 + 2 * r)) (old (2 + 2 * r)) r open'
+          (subst (λ (x : List ℕ). sequence_in x % 2 ≡ r) header (belongs (new (1 + 2 * r)) (new (2 + 2 * r)) r counts));
       same = λ _. header;
     }
 
 -- the slot of the next header may change if it doesn't begin to count
-keeps : (h : CheckpointHeader) (old new : Image) → Precedes old h → Elsewhere (header_sector h) 2 old new → CountsNoMore (h.sequence % 2) old new → KeepsHeader h old new
+keeps : (h : CheckpointHeader) (old new : Image) → Precedes old h → Elsewhere (header_sector h) 2 old new → CountsNoMore (h.sequence % 2) old new →
+    KeepsHeader h old new
 keeps h old new next e no_more = record {
   elsewhere = e;
   committed = keeps_at (h.sequence % 2) h.sequence old new next.0 refl next.1 next.2 e no_more ∙ sym next.1;
@@ -85,7 +87,8 @@ pub shut_gate : (old new : Image) (h : CheckpointHeader) → new (gate_sector h)
 shut_gate old new h closed = ap is_open closed ∙ shut (old (gate_sector h))
 
 -- a header is written under a closed gate
-pub header_keeps : (h : CheckpointHeader) (old new : Image) → Precedes old h → is_open (old (gate_sector h)) ≡ false → Elsewhere (header_sector h) 1 old new → KeepsHeader h old new
+pub header_keeps : (h : CheckpointHeader) (old new : Image) → Precedes old h → is_open (old (gate_sector h)) ≡ false → Elsewhere (header_sector h) 1 old new →
+    KeepsHeader h old new
 header_keeps h old new next closed e =
     let gate : new (gate_sector h) ≡ old (gate_sector h) = e.after (gate_sector h) (omega arith) in
     keeps h old new next (header_within (h.sequence % 2) old new e)
@@ -102,13 +105,16 @@ open_new h old new fits next written e gate =
       committed = new_at (h.sequence % 2) h.sequence old new next.0 (header_bytes h) refl next.1 next.2 within (header ∙ written) (sequence_of h fits) gate;
     }
 
-opening_by : (b : Bool) (h : CheckpointHeader) (old new : Image) → is_open (new (gate_sector h)) ≡ b → h.sequence < 2 ^ 64 → Precedes old h → old (header_sector h) ≡ header_bytes h
+opening_by : (b : Bool) (h : CheckpointHeader) (old new : Image) → is_open (new (gate_sector h)) ≡ b → h.sequence < 2 ^ 64 → Precedes old h →
+    old (header_sector h) ≡ header_bytes h
     → Elsewhere (gate_sector h) 1 old new → IsOldOrNew h old new
 opening_by true h old new is fits next written e = inr (open_new h old new fits next written e is)
-opening_by false h old new is fits next written e = inl (keeps h old new next (gate_within (h.sequence % 2) old new e) (closed_no_more (h.sequence % 2) old new is))
+opening_by false h old new is fits next written e = inl
+    (keeps h old new next (gate_within (h.sequence % 2) old new e) (closed_no_more (h.sequence % 2) old new is))
 
 -- the gate of a header that is written is torn: it is open or closed
-pub opening : (h : CheckpointHeader) (old new : Image) → h.sequence < 2 ^ 64 → Precedes old h → old (header_sector h) ≡ header_bytes h → Elsewhere (gate_sector h) 1 old new → IsOldOrNew h old new
+pub opening : (h : CheckpointHeader) (old new : Image) → h.sequence < 2 ^ 64 → Precedes old h → old (header_sector h) ≡ header_bytes h →
+    Elsewhere (gate_sector h) 1 old new → IsOldOrNew h old new
 opening h old new fits next written e = opening_by (is_open (new (gate_sector h))) h old new refl fits next written e
 
 -- old or new, only the slot of h was touched
@@ -130,7 +136,8 @@ pub next_fits : (room : ℕ) (h : CheckpointHeader) → IsHeader room h → h.se
 next_fits room h is = let more = one_more (h.entries == 0) in omega (arith, is.sequence, is.age, more)
 
 -- the header with the next sequence number after the committed one
-pub precedes : (image : Image) (h next : CheckpointHeader) → committed_bytes image ≡ Some (header_bytes h) → h.sequence < 2 ^ 64 → h.sequence + 1 ≡ next.sequence → Precedes image next
+pub precedes : (image : Image) (h next : CheckpointHeader) → committed_bytes image ≡ Some (header_bytes h) → h.sequence < 2 ^ 64 →
+    h.sequence + 1 ≡ next.sequence → Precedes image next
 precedes image h next is fits after = (header_bytes h, is, ap (λ (n : ℕ). n + 1) (sequence_of h fits) ∙ after)
 
 -- ---- one change after another

@@ -10,10 +10,12 @@ behind_by None p generation home half le = le
 behind_by (Some slot) p generation home half le = omega (arith, half)
 
 pub frames_behind : FramesAreBehind
-frames_behind p generation es object fits behind = behind_by (frame_slot_in p es object) p generation (home_place p object) (half_behind p generation fits) behind
+frames_behind p generation es object fits behind = behind_by (frame_slot_in p es object) p generation (home_place p object) (half_behind p generation fits)
+    behind
 
 -- a change of a header's slot leaves all else of a state
-ready_stays : (old new : Image) (size : ℕ) (s : SavedState) (h : CheckpointHeader) → HomesAreBehind s.plan → Elsewhere (header_sector h) 2 old new → IsReady old size s → IsReady new size s
+ready_stays : (old new : Image) (size : ℕ) (s : SavedState) (h : CheckpointHeader) → HomesAreBehind s.plan → Elsewhere (header_sector h) 2 old new →
+    IsReady old size s → IsReady new size s
 ready_stays old new size s h homes e is = record {
   plan = record { least = is.plan.least; whole = is.plan.whole; fits = is.plan.fits; spelt = (spare_sectors old new h 5 0 (omega arith) e).0 ∙ is.plan.spelt };
   header = is.header;
@@ -24,7 +26,8 @@ ready_stays old new size s h homes e is = record {
   };
   count = is.count;
   each = λ object lt. subst (λ (b : List ℕ). IsFrameOf s.plan.geometry s.header.age object b (frame_at s.frames object))
-      (sym (spare_frames old new h s.plan s.header.generation s.directory object (frames_behind s.plan s.header.generation s.directory object is.plan.fits (homes object lt)) e)) (is.each object lt);
+      (sym (spare_frames old new h s.plan s.header.generation s.directory object
+      (frames_behind s.plan s.header.generation s.directory object is.plan.fits (homes object lt)) e)) (is.each object lt);
 }
 
 ready_of : (image : Image) (size : ℕ) (s : SavedState) → Encodes image size s → IsReady image size s
@@ -38,4 +41,10 @@ new_denoted old new size s homes ready has =
 pub old_denoted : OldIsDenoted
 old_denoted seen before c size s h homes shown was e same =
     let ready = ready_stays before c size s h homes e (ready_of before size s was) in
-    record { plan = ready.plan; header = record { fits = ready.header; spelt = same ∙ shown.header.spelt }; directory = ready.directory; count = ready.count; each = ready.each }
+    record {
+      plan = ready.plan;
+      header = record { fits = ready.header; spelt = same ∙ shown.header.spelt };
+      directory = ready.directory;
+      count = ready.count;
+      each = ready.each;
+    }

@@ -5,8 +5,8 @@ pub use Rattle.device.specs.Calls.{Agrees, AreSectors, Elsewhere, Narrows, Only,
 pub use Rattle.device.specs.Disk.{Disk, Image}
 pub use Rattle.device.specs.Moments.{Elapses, LeavesOnly, Peeks}
 pub use Rattle.frame_io.specs.Frames.{IsRefused}
-pub use Rattle.frame_io.specs.declared.fault.ReadFault.{ReadFault}
-pub use Rattle.frame_io.specs.declared.fault.ReadFault.TheVariants.{Bad, Failed}
+pub use Rattle.frame_io.specs.declared.fault.Unreadable.{Unreadable}
+pub use Rattle.frame_io.specs.declared.fault.Unreadable.TheVariants.{Bad, Failed}
 pub use Rattle.layout.proofs.Directories.{directory_fits, one_directory}
 pub use Rattle.layout.proofs.Halves.{half_apart, half_within}
 pub use Rattle.layout.proofs.Headers.{six}

@@ -1,9 +1,10 @@
 -- What was written is read.
 use Rattle.ckpt_log.proofs.Names.{ℕ, List, refl, sym, Frame, Entry, directory_bytes, IsDirectory, IsFrameOf, frame_bytes, Geometry, one_directory}
-use Rattle.ckpt_log.proofs.Names.{directory_fits, one_frame, ReadFault, Failed, Bad, IsRefused, IsBadDirectory, SlotsAreReadBack, DirectoriesAreReadBack}
+use Rattle.ckpt_log.proofs.Names.{directory_fits, one_frame, Unreadable, Failed, Bad, IsRefused, IsBadDirectory, SlotsAreReadBack, DirectoriesAreReadBack}
 use Rattle.std.proofs.Common.{◌≡◌}
 
-slot_not_refused : (g : Geometry) (age object : ℕ) (f : Frame) (e : ReadFault) → IsFrameOf g age object (frame_bytes g object f) f → IsRefused g age object (frame_bytes g object f) e → e ≡ Failed
+slot_not_refused : (g : Geometry) (age object : ℕ) (f : Frame) (e : Unreadable) → IsFrameOf g age object (frame_bytes g object f) f →
+    IsRefused g age object (frame_bytes g object f) e → e ≡ Failed
 slot_not_refused g age object f Failed is bad = refl
 slot_not_refused g age object f (Bad reason) is bad = absurd (bad.1 f is)
 
@@ -13,7 +14,7 @@ slots_read_back g age object f is = (
   λ e bad. slot_not_refused g age object f e is bad,
 )
 
-directory_not_refused : (g : Geometry) (es : List Entry) (e : ReadFault) → IsDirectory g es → IsBadDirectory g (directory_bytes es) e → e ≡ Failed
+directory_not_refused : (g : Geometry) (es : List Entry) (e : Unreadable) → IsDirectory g es → IsBadDirectory g (directory_bytes es) e → e ≡ Failed
 directory_not_refused g es Failed is bad = refl
 directory_not_refused g es (Bad reason) is bad = absurd (bad.1 es is refl)
 

@@ -23,24 +23,29 @@ pub header_run : (h : CheckpointHeader) (at : ℕ) (image mid_image : Image) {ol
 header_run h at image mid_image {old} {mid} {new} place next kept closed first second =
     leaves_on {old = old} {mid = mid} {new = new} {P = λ c. KeepsHeader h image c} first
     (leaves_weaker {old = mid} {new = new} {P = λ c. Elsewhere at 1 mid_image c} (λ c. KeepsHeader h image c)
-    (λ c is. keeps_on h image mid_image c kept (header_keeps h mid_image c (precedes_on h image mid_image next kept) closed (subst (λ (i : ℕ). Elsewhere i 1 mid_image c) place is))) second)
+    (λ c is. keeps_on h image mid_image c kept
+    (header_keeps h mid_image c (precedes_on h image mid_image next kept) closed (subst (λ (i : ℕ). Elsewhere i 1 mid_image c) place is))) second)
 
 -- the gate is opened
-pub opening_run : (h : CheckpointHeader) (at : ℕ) (image : Image) {old new : Disk} → at ≡ gate_sector h → h.sequence < 2 ^ 64 → Precedes image h → image (header_sector h) ≡ header_bytes h
+pub opening_run : (h : CheckpointHeader) (at : ℕ) (image : Image) {old new : Disk} → at ≡ gate_sector h → h.sequence < 2 ^ 64 → Precedes image h →
+    image (header_sector h) ≡ header_bytes h
     → LeavesOnly old new (λ c. Elsewhere at 1 image c) → LeavesOnly old new (λ c. IsOldOrNew h image c)
 opening_run h at image {old} {new} place fits next written run =
     leaves_weaker {old = old} {new = new} {P = λ c. Elsewhere at 1 image c} (λ c. IsOldOrNew h image c)
     (λ c is. opening h image c fits next written (subst (λ (i : ℕ). Elsewhere i 1 image c) place is)) run
 
 -- a header is written under a closed gate, and then its gate is opened
-pub preparing_run : (h : CheckpointHeader) (image : Image) {old new : Disk} → LeavesOnly old new (λ c. KeepsHeader h image c) → LeavesOnly old new (λ c. IsOldOrNew h image c)
-preparing_run h image {old} {new} run = leaves_weaker {old = old} {new = new} {P = λ c. KeepsHeader h image c} (λ c. IsOldOrNew h image c) (λ c kept. inl kept) run
+pub preparing_run : (h : CheckpointHeader) (image : Image) {old new : Disk} → LeavesOnly old new (λ c. KeepsHeader h image c) →
+    LeavesOnly old new (λ c. IsOldOrNew h image c)
+preparing_run h image {old} {new} run = leaves_weaker {old = old} {new = new} {P = λ c. KeepsHeader h image c} (λ c. IsOldOrNew h image c) (λ c kept. inl kept)
+    run
 
 pub publishing_run : (h : CheckpointHeader) (image mid_image : Image) {old mid new : Disk} → KeepsHeader h image mid_image
     → LeavesOnly old mid (λ c. KeepsHeader h image c) → LeavesOnly mid new (λ c. IsOldOrNew h mid_image c) → LeavesOnly old new (λ c. IsOldOrNew h image c)
 publishing_run h image mid_image {old} {mid} {new} kept first second =
     leaves_on {old = old} {mid = mid} {new = new} {P = λ c. IsOldOrNew h image c} (preparing_run h image {old = old} {new = mid} first)
-    (leaves_weaker {old = mid} {new = new} {P = λ c. IsOldOrNew h mid_image c} (λ c. IsOldOrNew h image c) (λ c is. either_on h image mid_image c kept is) second)
+    (leaves_weaker {old = mid} {new = new} {P = λ c. IsOldOrNew h mid_image c} (λ c. IsOldOrNew h image c) (λ c is. either_on h image mid_image c kept is)
+    second)
 
 -- ---- from a disk whose writes aren't durable
 
@@ -55,13 +60,16 @@ was_seen h disk c left (inl kept) = inl (record { could_be = (disk.seen, left, k
 was_seen h disk c left (inr next) = inr next
 
 -- a sync that may fail
-pub sync_run : (h : CheckpointHeader) {old new : Disk} → CommitsOne old → OnlyNow old → Elapses old new → Narrows old new → LeavesOnly old new (λ c. IsOldOrCommitted h old c)
+pub sync_run : (h : CheckpointHeader) {old new : Disk} → CommitsOne old → OnlyNow old → Elapses old new → Narrows old new →
+    LeavesOnly old new (λ c. IsOldOrCommitted h old c)
 sync_run h {old} {new} one only_now time narrows =
-    in_one_call {old = old} {new = new} (λ c. IsOldOrCommitted h old c) only_now time (λ c left. inl (still_old h old c one left)) (λ c left. inl (still_old h old c one (narrows c left)))
+    in_one_call {old = old} {new = new} (λ c. IsOldOrCommitted h old c) only_now time (λ c left. inl (still_old h old c one left))
+    (λ c left. inl (still_old h old c one (narrows c left)))
 
 -- the commit after a sync
 pub commit_run : (h : CheckpointHeader) {old mid new : Disk} → old.may_leave old.seen → Agrees mid.seen old.seen
-    → LeavesOnly old mid (λ c. IsOldOrCommitted h old c) → LeavesOnly mid new (λ c. IsOldOrNew h mid.seen c) → LeavesOnly old new (λ c. IsOldOrCommitted h old c)
+    → LeavesOnly old mid (λ c. IsOldOrCommitted h old c) → LeavesOnly mid new (λ c. IsOldOrNew h mid.seen c) →
+    LeavesOnly old new (λ c. IsOldOrCommitted h old c)
 commit_run h {old} {mid} {new} left same first second =
     leaves_on {old = old} {mid = mid} {new = new} {P = λ c. IsOldOrCommitted h old c} first
     (leaves_weaker {old = mid} {new = new} {P = λ c. IsOldOrNew h mid.seen c} (λ c. IsOldOrCommitted h old c)
@@ -81,7 +89,8 @@ commit_order h {old} {mid} {new} left same first second =
     (λ c is. (old.seen, left, subst (λ (image : Image). IsInOrder h image c) (agrees_is mid.seen old.seen same) is)) second)
 
 -- the header stands while its gate is opened
-pub publishing_order : (h : CheckpointHeader) (image : Image) {old mid new : Disk} → LeavesOnly old mid (λ c. IsInOrder h image c) → LeavesOnly mid new (λ c. c (header_sector h) ≡ header_bytes h)
+pub publishing_order : (h : CheckpointHeader) (image : Image) {old mid new : Disk} → LeavesOnly old mid (λ c. IsInOrder h image c) →
+    LeavesOnly mid new (λ c. c (header_sector h) ≡ header_bytes h)
     → LeavesOnly old new (λ c. IsInOrder h image c)
 publishing_order h image {old} {mid} {new} first second =
     leaves_on {old = old} {mid = mid} {new = new} {P = λ c. IsInOrder h image c} first

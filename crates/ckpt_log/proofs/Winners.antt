@@ -27,7 +27,8 @@ pub record SecondWins (first second : Bool) (m n : ℕ) : Type 0 where
   pub greatest : first ≡ true → m < n
 
 -- one of the two, where there is one
-winner : (first second : Bool) (m n k : ℕ) → committed_of first m second n ≡ Some k → (FirstWins first second m n × (k ≡ 0)) ⊎ (SecondWins first second m n × (k ≡ 1))
+winner : (first second : Bool) (m n k : ℕ) → committed_of first m second n ≡ Some k →
+    (FirstWins first second m n × (k ≡ 0)) ⊎ (SecondWins first second m n × (k ≡ 1))
 winner true true m n k e = ⊎_elim
     (λ lt. let is : Some k ≡ Some 1 = sym e ∙ ap (λ (t : Bool). Some (if t then 1 else 0)) (lt-ltb m n lt) in
     let one : k ≡ 1 = cc in inr (record { counts = refl; greatest = λ _. lt }, one))
@@ -100,10 +101,13 @@ second_is_odd : (image : Image) (b : List ℕ) → IsSecond image b → sequence
 second_is_odd image b is = subst (λ (x : List ℕ). sequence_in x % 2 ≡ 1) is.bytes (belongs (image 3) (image 4) 1 is.wins.counts)
 
 in_second : (n : ℕ) (image : Image) (b : List ℕ) → n % 2 ≡ 0 → committed_bytes image ≡ Some b → sequence_in b + 1 ≡ n → IsSecond image b
-in_second n image b even is next = ⊎_elim (λ first. let before = first_is_even image b first in let never : ⊥ = omega (arith, even, before, next) in absurd never) (λ second. second) (first_or_second image b is)
+in_second n image b even is next = ⊎_elim
+    (λ first. let before = first_is_even image b first in let never : ⊥ = omega (arith, even, before, next) in absurd never) (λ second. second)
+    (first_or_second image b is)
 
 in_first : (n : ℕ) (image : Image) (b : List ℕ) → n % 2 ≡ 1 → committed_bytes image ≡ Some b → sequence_in b + 1 ≡ n → IsFirst image b
-in_first n image b odd is next = ⊎_elim (λ first. first) (λ second. let before = second_is_odd image b second in let never : ⊥ = omega (arith, odd, before, next) in absurd never) (first_or_second image b is)
+in_first n image b odd is next = ⊎_elim (λ first. first)
+    (λ second. let before = second_is_odd image b second in let never : ⊥ = omega (arith, odd, before, next) in absurd never) (first_or_second image b is)
 
 -- a slot counts only where it did, with the same header
 pub record CountsNoMore (r : ℕ) (old new : Image) : Type 0 where
@@ -137,8 +141,10 @@ keep_first old new b is elsewhere no_more =
 -- the committed header stays where the slot of the next one doesn't begin to count
 pub keeps_at : (r n : ℕ) (old new : Image) (b : List ℕ) → n % 2 ≡ r → committed_bytes old ≡ Some b → sequence_in b + 1 ≡ n
     → Elsewhere (1 + 2 * r) 2 old new → CountsNoMore r old new → committed_bytes new ≡ Some b
-keeps_at zero n old new b is_slot is next elsewhere no_more = committed_second new b (keep_second old new b (in_second n old b is_slot is next) elsewhere no_more)
-keeps_at (suc zero) n old new b is_slot is next elsewhere no_more = committed_first new b (keep_first old new b (in_first n old b is_slot is next) elsewhere no_more)
+keeps_at zero n old new b is_slot is next elsewhere no_more = committed_second new b
+    (keep_second old new b (in_second n old b is_slot is next) elsewhere no_more)
+keeps_at (suc zero) n old new b is_slot is next elsewhere no_more = committed_first new b
+    (keep_first old new b (in_first n old b is_slot is next) elsewhere no_more)
 keeps_at (suc (suc r)) n old new b is_slot is next elsewhere no_more = let never : ⊥ = omega (arith, is_slot) in absurd never
 
 -- the next header is the committed one where its slot counts

@@ -16,7 +16,8 @@ closed_gate bytes = if is_open bytes then gate_bytes Closed else bytes
 
 -- the slot of h in the course of its commit: the old header, or a gate that was closed first, or h
 abbrev pub IsInOrder : CheckpointHeader → Image → Image → Type 0
-IsInOrder h old new = (new (header_sector h) ≡ old (header_sector h)) ⊎ ((new (gate_sector h) ≡ closed_gate (old (gate_sector h))) ⊎ (new (header_sector h) ≡ header_bytes h))
+IsInOrder h old new = (new (header_sector h) ≡ old (header_sector h)) ⊎
+    ((new (gate_sector h) ≡ closed_gate (old (gate_sector h))) ⊎ (new (header_sector h) ≡ header_bytes h))
 
 -- the same, after what a crash could have left before
 abbrev pub IsInOrderAfter : CheckpointHeader → Disk → Image → Type 0

@@ -11,7 +11,8 @@ HomesAreBehind p = (object : ℕ) → IsObject p.geometry object → 5 ≤ home_
 
 -- then so do all frames
 abbrev pub FramesAreBehind : Type 0
-FramesAreBehind = (p : Plan) (generation : ℕ) (es : List Entry) (object : ℕ) → IsPlan p → 5 ≤ home_place p object → 5 ≤ frame_sector p generation es object
+FramesAreBehind = (p : Plan) (generation : ℕ) (es : List Entry) (object : ℕ) → IsPlan p → 5 ≤ home_place p object →
+    5 ≤ frame_sector p generation es object
 
 -- all of a state is on an image but, perhaps, that its header is committed
 pub record IsReady (image : Image) (size : ℕ) (s : SavedState) : Type 0 where
@@ -20,13 +21,17 @@ pub record IsReady (image : Image) (size : ℕ) (s : SavedState) : Type 0 where
   pub directory : HasDirectory image s.plan s.header s.directory
   pub count : length s.frames ≡ s.plan.geometry.nodes + s.plan.geometry.pages
   pub each : (object : ℕ) → object < s.plan.geometry.nodes + s.plan.geometry.pages →
-      IsFrameOf s.plan.geometry s.header.age object (frame_in image s.plan s.header.generation s.directory object) (frame_at s.frames object)
+      IsFrameOf s.plan.geometry s.header.age object (frame_in image s.plan s.header.generation s.directory object)
+      (frame_at s.frames object)
 
 -- once its header is committed, the image denotes the state
 abbrev pub NewIsDenoted : Type 0
-NewIsDenoted = (old new : Image) (size : ℕ) (s : SavedState) → HomesAreBehind s.plan → IsReady old size s → HasNew s.header old new → Encodes new size s
+NewIsDenoted = (old new : Image) (size : ℕ) (s : SavedState) → HomesAreBehind s.plan → IsReady old size s →
+    HasNew s.header old new → Encodes new size s
 
--- until then, a crash leaves the state from before: its image is one before it but for the slot of a header, with the committed header that is seen
+-- until then, a crash leaves the state from before: its image is one before it but for the slot of a header, with the
+-- committed header that is seen
 abbrev pub OldIsDenoted : Type 0
-OldIsDenoted = (seen before c : Image) (size : ℕ) (s : SavedState) (h : CheckpointHeader) → HomesAreBehind s.plan → Encodes seen size s → Encodes before size s
+OldIsDenoted = (seen before c : Image) (size : ℕ) (s : SavedState) (h : CheckpointHeader) → HomesAreBehind s.plan →
+    Encodes seen size s → Encodes before size s
     → Elsewhere (header_sector h) 2 before c → committed_bytes c ≡ committed_bytes seen → Encodes c size s

@@ -11,23 +11,28 @@ SequencesAreReported = (h : CheckpointHeader) → h.sequence < 2 ^ 64 → sequen
 
 -- the committed header is the one before the header with the next sequence number
 abbrev pub NextFollows : Type 0
-NextFollows = (image : Image) (room : ℕ) (h next : CheckpointHeader) → IsHeader room h → Commits image h → h.sequence + 1 ≡ next.sequence → Precedes image next
+NextFollows = (image : Image) (room : ℕ) (h next : CheckpointHeader) → IsHeader room h → Commits image h →
+    h.sequence + 1 ≡ next.sequence → Precedes image next
 
 -- a change of the slot of a header leaves the superblock, and all that lies behind the headers
 abbrev pub HeadersSpareSectors : Type 0
-HeadersSpareSectors = (old new : Image) (h : CheckpointHeader) (at n : ℕ) → 5 ≤ at → Elsewhere (header_sector h) 2 old new → (new 0 ≡ old 0) × SameFrom at n old new
+HeadersSpareSectors = (old new : Image) (h : CheckpointHeader) (at n : ℕ) → 5 ≤ at →
+    Elsewhere (header_sector h) 2 old new → (new 0 ≡ old 0) × SameFrom at n old new
 
 -- so it leaves the frames,
 abbrev pub HeadersSpareFrames : Type 0
-HeadersSpareFrames = (old new : Image) (h : CheckpointHeader) (p : Plan) (generation : ℕ) (es : List Entry) (object : ℕ) → 5 ≤ frame_sector p generation es object → Elsewhere (header_sector h) 2 old new
+HeadersSpareFrames = (old new : Image) (h : CheckpointHeader) (p : Plan) (generation : ℕ) (es : List Entry) (object : ℕ)
+    → 5 ≤ frame_sector p generation es object → Elsewhere (header_sector h) 2 old new
     → frame_in new p generation es object ≡ frame_in old p generation es object
 
 -- those in the slots of the log,
 abbrev pub HeadersSpareSlots : Type 0
-HeadersSpareSlots = (old new : Image) (h : CheckpointHeader) (p : Plan) (generation slot object : ℕ) → IsPlan p → Elsewhere (header_sector h) 2 old new
+HeadersSpareSlots = (old new : Image) (h : CheckpointHeader) (p : Plan) (generation slot object : ℕ) → IsPlan p →
+    Elsewhere (header_sector h) 2 old new
     → bytes_at new (slot_sector p generation slot) p object ≡ bytes_at old (slot_sector p generation slot) p object
 
 -- and the directories
 abbrev pub HeadersSpareDirectories : Type 0
-HeadersSpareDirectories = (old new : Image) (h : CheckpointHeader) (p : Plan) (generation n : ℕ) → IsPlan p → Elsewhere (header_sector h) 2 old new
+HeadersSpareDirectories = (old new : Image) (h : CheckpointHeader) (p : Plan) (generation n : ℕ) → IsPlan p →
+    Elsewhere (header_sector h) 2 old new
     → directory_in new p generation n ≡ directory_in old p generation n

@@ -2,8 +2,8 @@
 pub use Rattle.device.specs.Calls.{Elsewhere}
 pub use Rattle.device.specs.Disk.{Disk, Image}
 pub use Rattle.frame_io.specs.Frames.{IsObject, IsRefused}
-pub use Rattle.frame_io.specs.declared.fault.ReadFault.{ReadFault}
-pub use Rattle.frame_io.specs.declared.fault.ReadFault.TheVariants.{Bad, Failed}
+pub use Rattle.frame_io.specs.declared.fault.Unreadable.{Unreadable}
+pub use Rattle.frame_io.specs.declared.fault.Unreadable.TheVariants.{Bad, Failed}
 pub use Rattle.layout.specs.Directory.{IsDirectory}
 unfoldable pub use Rattle.layout.specs.Directory.{directory_bytes}
 pub use Rattle.layout.specs.Frame.{IsFrameOf, frame_bytes}

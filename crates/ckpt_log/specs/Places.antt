@@ -9,7 +9,8 @@ slot_extent p generation slot = record { sector = slot_sector p generation slot;
 
 -- those of the frame of an object in a slot
 abbrev pub place_extent : Plan → ℕ → ℕ → ℕ → Extent
-place_extent p generation slot object = record { sector = slot_sector p generation slot; length = place_length p object }
+place_extent p generation slot object =
+    record { sector = slot_sector p generation slot; length = place_length p object }
 
 -- the sectors of a directory of n entries
 abbrev pub directory_extent : Plan → ℕ → ℕ → Extent
@@ -17,25 +18,32 @@ directory_extent p generation n = record { sector = directory_sector p generatio
 
 -- they are among those of the half
 abbrev pub SlotsAreInside : Type 0
-SlotsAreInside = (p : Plan) (generation slot : ℕ) → slot < p.geometry.log → IsInside (slot_extent p generation slot) (half_extent p.geometry (half_sector p generation))
+SlotsAreInside = (p : Plan) (generation slot : ℕ) → slot < p.geometry.log →
+    IsInside (slot_extent p generation slot) (half_extent p.geometry (half_sector p generation))
 
 abbrev pub FramesAreInSlots : Type 0
-FramesAreInSlots = (p : Plan) (generation slot object : ℕ) → IsInside (place_extent p generation slot object) (slot_extent p generation slot)
+FramesAreInSlots = (p : Plan) (generation slot object : ℕ) → IsInside (place_extent p generation slot object)
+    (slot_extent p generation slot)
 
 abbrev pub DirectoriesAreInside : Type 0
-DirectoriesAreInside = (p : Plan) (generation n : ℕ) → n ≤ p.geometry.log → IsInside (directory_extent p generation n) (half_extent p.geometry (half_sector p generation))
+DirectoriesAreInside = (p : Plan) (generation n : ℕ) → n ≤ p.geometry.log →
+    IsInside (directory_extent p generation n) (half_extent p.geometry (half_sector p generation))
 
 -- each half lies behind the headers and before the end
 abbrev pub HalvesAreWithin : Type 0
-HalvesAreWithin = (p : Plan) (generation : ℕ) → IsPlan p → IsWithin p.total (half_extent p.geometry (half_sector p generation))
+HalvesAreWithin = (p : Plan) (generation : ℕ) → IsPlan p →
+    IsWithin p.total (half_extent p.geometry (half_sector p generation))
 
 -- no sector is in both halves
 abbrev pub HalvesAreApart : Type 0
-HalvesAreApart = (p : Plan) (a b : ℕ) → IsPlan p → (a % 2 ≡ b % 2 → ⊥) → IsApart (half_extent p.geometry (half_sector p a)) (half_extent p.geometry (half_sector p b))
+HalvesAreApart = (p : Plan) (a b : ℕ) → IsPlan p → (a % 2 ≡ b % 2 → ⊥) →
+    IsApart (half_extent p.geometry (half_sector p a)) (half_extent p.geometry (half_sector p b))
 
 -- nor in two slots of a half, nor in a slot and the directory
 abbrev pub SlotsAreApart : Type 0
-SlotsAreApart = (p : Plan) (generation a b : ℕ) → (a ≡ b → ⊥) → IsApart (slot_extent p generation a) (slot_extent p generation b)
+SlotsAreApart = (p : Plan) (generation a b : ℕ) → (a ≡ b → ⊥) →
+    IsApart (slot_extent p generation a) (slot_extent p generation b)
 
 abbrev pub SlotsSpareDirectories : Type 0
-SlotsSpareDirectories = (p : Plan) (generation slot n : ℕ) → slot < p.geometry.log → IsApart (slot_extent p generation slot) (directory_extent p generation n)
+SlotsSpareDirectories = (p : Plan) (generation slot n : ℕ) → slot < p.geometry.log →
+    IsApart (slot_extent p generation slot) (directory_extent p generation n)

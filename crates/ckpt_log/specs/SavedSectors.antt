@@ -12,22 +12,27 @@ SameFrom at n old new = (i : ℕ) → i < n → new (at + i) ≡ old (at + i)
 pub record SameWhereRead (p : Plan) (h : CheckpointHeader) (es : List Entry) (old new : Image) : Type 0 where
   pub headers : SameFrom 1 4 old new
   pub directory : SameFrom (directory_sector p h.generation) (directory_length h.entries) old new
-  pub frames : (object : ℕ) → object < p.geometry.nodes + p.geometry.pages → SameFrom (frame_sector p h.generation es object) (place_length p object) old new
+  pub frames : (object : ℕ) → object < p.geometry.nodes + p.geometry.pages →
+      SameFrom (frame_sector p h.generation es object) (place_length p object) old new
 
 -- images that agree in these sectors have the same committed header
 abbrev pub SameHeader : Type 0
-SameHeader = (old new : Image) → SameFrom 1 4 old new → (committed_slot new ≡ committed_slot old) × (committed_bytes new ≡ committed_bytes old)
+SameHeader = (old new : Image) → SameFrom 1 4 old new →
+    (committed_slot new ≡ committed_slot old) × (committed_bytes new ≡ committed_bytes old)
 
 -- the same directory
 abbrev pub SameDirectory : Type 0
-SameDirectory = (old new : Image) (p : Plan) (h : CheckpointHeader) (es : List Entry) → SameFrom (directory_sector p h.generation) (directory_length h.entries) old new
+SameDirectory = (old new : Image) (p : Plan) (h : CheckpointHeader) (es : List Entry) →
+    SameFrom (directory_sector p h.generation) (directory_length h.entries) old new
     → HasDirectory old p h es → HasDirectory new p h es
 
 -- the same frames
 abbrev pub SameFrames : Type 0
-SameFrames = (old new : Image) (p : Plan) (h : CheckpointHeader) (es : List Entry) (object : ℕ) → SameFrom (frame_sector p h.generation es object) (place_length p object) old new
+SameFrames = (old new : Image) (p : Plan) (h : CheckpointHeader) (es : List Entry) (object : ℕ) →
+    SameFrom (frame_sector p h.generation es object) (place_length p object) old new
     → frame_in new p h.generation es object ≡ frame_in old p h.generation es object
 
 -- and denote the same saved state, where the superblock is the same too
 abbrev pub SameSaved : Type 0
-SameSaved = (old new : Image) (size : ℕ) (s : SavedState) → SameFrom 0 1 old new → SameWhereRead s.plan s.header s.directory old new → Encodes old size s → Encodes new size s
+SameSaved = (old new : Image) (size : ℕ) (s : SavedState) → SameFrom 0 1 old new →
+    SameWhereRead s.plan s.header s.directory old new → Encodes old size s → Encodes new size s

@@ -11,7 +11,7 @@ use crate::header_slot::HeaderSlot;
 use crate::log::Log;
 use crate::sector::read_sector;
 use device::{Device, Failed, SECTOR_SIZE};
-use frame_io::ReadFault;
+use frame_io::Unreadable;
 use layout::{BadImage, CheckpointHeader, Entry, Gate, decode_gate, decode_header, sequence_in};
 
 // Reads the header of a slot, and answers whether it counts: its gate is open, and it belongs in
@@ -66,7 +66,7 @@ fn choose(
 
 impl<'a> Log<'a> {
     // The committed header.
-    fn find_header<D: Device>(&self, device: &mut D) -> Result<CheckpointHeader, ReadFault>
+    fn find_header<D: Device>(&self, device: &mut D) -> Result<CheckpointHeader, Unreadable>
         requires inside { self.now.total ≤ (D.disk device.old).sectors }
         ensures found { IfOk result (λ h. HasHeader (D.disk device.old).seen self.now h) }
         ensures refused { IfErr result (λ e. HasNone (D.disk device.old).seen self.now e) }
@@ -98,7 +98,7 @@ impl<'a> Log<'a> {
         &self,
         device: &mut D,
         directory: &mut [Entry],
-    ) -> Result<CheckpointHeader, ReadFault>
+    ) -> Result<CheckpointHeader, Unreadable>
         requires room { self.now.geometry.log ≤ length directory.old }
         requires inside { self.now.total ≤ (D.disk device.old).sectors }
         ensures found { IfOk result (λ h.

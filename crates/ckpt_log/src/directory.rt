@@ -9,7 +9,7 @@ ghost use Rattle.ckpt_log.specs.Slot.{IsBadDirectory};
 
 use crate::log::Log;
 use device::{Device, Failed, SECTOR_SIZE};
-use frame_io::{ReadFault, read_sectors, write_sectors};
+use frame_io::{Unreadable, read_sectors, write_sectors};
 use layout::{BadImage, ENTRY_BYTES, Entry, decode_directory, encode_directory};
 use model::Geometry;
 
@@ -89,7 +89,7 @@ impl<'a> Log<'a> {
         device: &mut D,
         generation: u64,
         into: &mut [Entry],
-    ) -> Result<(), ReadFault>
+    ) -> Result<(), Unreadable>
         requires few { length into.old ≤ self.now.geometry.log }
         requires inside { self.now.total ≤ (D.disk device.old).sectors }
         ensures found { OnOk result (IsDirectory self.now.geometry into.new

@@ -9,12 +9,13 @@ ghost use Rattle.frame_io.specs.Calls.{ReadsOnly, WritesAt};
 ghost use Rattle.frame_io.specs.Clusters.{HasZerosBeside};
 ghost use Rattle.frame_io.specs.Fault.{CountsFailed};
 ghost use Rattle.frame_io.specs.Frames.{IsObject, IsRefused};
+ghost use Rattle.model.specs.Frame.{content_behind};
 
 use crate::log::Log;
 use device::{Device, Failed};
-use frame_io::{ReadFault, read_frame, write_frame, write_page};
+use frame_io::{Unreadable, read_frame, write_frame, write_page};
 use layout::{Body, Scratch};
-use model::{Cap, Content, ObjectHeader};
+use model::{Cap, ContentRef, ObjectHeader};
 
 impl<'a> Log<'a> {
     /// Reads the frame of an object in a slot of the half of a generation. The slots of a node or
@@ -31,7 +32,7 @@ impl<'a> Log<'a> {
         number: u64,
         age: u64,
         scratch: &mut Scratch,
-    ) -> Result<(ObjectHeader, Body), ReadFault>
+    ) -> Result<(ObjectHeader, Body), Unreadable>
         requires object { IsObject self.now.geometry number }
         requires slot { slot < self.now.geometry.log }
         requires inside { self.now.total ≤ (D.disk device.old).sectors }
@@ -49,9 +50,10 @@ impl<'a> Log<'a> {
         read_frame(device, at, shape, self.geometry(), number, age, scratch)
     }
 
-    /// Writes the frame of an object into a slot of the half of a generation, and touches that slot
-    /// alone: a crash at any moment leaves all other sectors as they could have been left before. In a cluster all bytes
-    /// beside the frame are 0. It is refused exactly where the device fails, and the sectors may then hold any bytes.
+    /// Writes the frame of an object into a slot of the half of a generation, and touches that slot alone: a
+    /// crash at any moment leaves all other sectors as they could have been left before. In a cluster all
+    /// bytes beside the frame are 0. It is refused exactly where the device fails, and the sectors may then
+    /// hold any bytes.
     pub fn write_slot<D: Device>(
         &self,
         device: &mut D,
@@ -59,14 +61,14 @@ impl<'a> Log<'a> {
         slot: u64,
         number: u64,
         header: ObjectHeader,
-        content: &Content<Cap>,
+        content: ContentRef<'_>,
     ) -> Result<(), Failed>
         requires slot { slot < self.now.geometry.log }
         requires inside { self.now.total ≤ (D.disk device.old).sectors }
         ensures written { OnOk result (bytes_at (D.disk device.new).seen
             (slot_sector self.now generation slot) self.now number
             ≡ frame_bytes self.now.geometry number
-            (record { header = header; content = content.now })) }
+            (record { header = header; content = content_behind content.entry })) }
         ensures beside { OnOk result (HasZerosBeside (shape_of self.now number)
             (sectors_from (D.disk device.new).seen (slot_sector self.now generation slot)
             (place_length self.now number))) }

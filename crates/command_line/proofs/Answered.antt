@@ -22,7 +22,8 @@ is_ready s = is_empty s.aliases && (bytes_eq s.name (codes "help") || (is_plain 
 its_name : (s : Shape) (name : Text) → is_empty s.aliases ≡ true → answers_to name (label_of s) ≡ true → s.name ≡ name
 its_name s name plain answers = go s.aliases plain (bytes_eq s.name name) refl answers
   where
-    go : (aliases : List Text) → is_empty aliases ≡ true → (b : Bool) → bytes_eq s.name name ≡ b → (b || list_any (λ alias. bytes_eq alias name) aliases) ≡ true → s.name ≡ name
+    go : (aliases : List Text) → is_empty aliases ≡ true → (b : Bool) → bytes_eq s.name name ≡ b →
+        (b || list_any (λ alias. bytes_eq alias name) aliases) ≡ true → s.name ≡ name
     go [] none true e is = (bytes_eq-Decides _ _).0 e
     go [] none false e is = absurd (true≢false (sym is))
     go (x ∷ xs) none b e is = let bad : suc (length xs) ≡ 0 = eqb-true _ _ none in absurd (omega arith)

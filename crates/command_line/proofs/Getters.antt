@@ -26,10 +26,12 @@ pub missing : (f : Found) (id : Text) (o : Option (Bor Text)) → option_map (λ
 missing f id o got is = sym (first_value-rows f id) ∙ (sym got ∙ ap (option_map (λ s. s.now)) is)
 
 pub given_all : (f : Found) (id : Text) (o : Option (Bor (List (Bor Text)))) (words : Bor (List (Bor Text)))
-    → option_map (λ s. map (λ v. v.now) s.now) o ≡ option_map raw_values (matched_of f id) → o ≡ Some words → all_of id (rows_of f) ≡ Some (map (λ v. v.now) words.now)
+    → option_map (λ s. map (λ v. v.now) s.now) o ≡ option_map raw_values (matched_of f id) → o ≡ Some words →
+    all_of id (rows_of f) ≡ Some (map (λ v. v.now) words.now)
 given_all f id o words got is = sym (raw_values-rows f id) ∙ (sym got ∙ ap (option_map (λ s. map (λ v. v.now) s.now)) is)
 
-pub missing_all : (f : Found) (id : Text) (o : Option (Bor (List (Bor Text)))) → option_map (λ s. map (λ v. v.now) s.now) o ≡ option_map raw_values (matched_of f id)
+pub missing_all : (f : Found) (id : Text) (o : Option (Bor (List (Bor Text)))) → option_map (λ s. map (λ v. v.now) s.now) o ≡ option_map raw_values
+    (matched_of f id)
     → o ≡ None → all_of id (rows_of f) ≡ None
 missing_all f id o got is = sym (raw_values-rows f id) ∙ (sym got ∙ ap (option_map (λ s. map (λ v. v.now) s.now)) is)
 

@@ -54,7 +54,8 @@ module _ (name id : Text) (rows : List Row) where
       empty [] e = refl
       empty (v ∷ vs) e = let bad : Some v ≡ None = e in cc
 
-      go : (o : Option Row) → option_and_then (λ (r : Row). slice_get r.values 0) o ≡ None → option_map_or (λ (r : Row). nat_lt 0 (length r.values)) o false ≡ false
+      go : (o : Option Row) → option_and_then (λ (r : Row). slice_get r.values 0) o ≡ None → option_map_or (λ (r : Row). nat_lt 0 (length r.values)) o false ≡
+          false
       go None e = refl
       go (Some r) e = empty r.values e
 
@@ -98,7 +99,9 @@ module _ (name id : Text) (rows : List Row) where
       go (Some r) at is =
           let all = passing (Unsigned least most) (rule_named name id) refl parser has r at in
           let same : r.values ≡ words = ap (λ (o : Option (List Text)). unwrap_or o words) is in
-          bad (λ k d lt. accepts-Accepts all.0 (Unsigned least most) (slice_index_or words k d) (AllPass-from_list_all (accepts all.0 (Unsigned least most)) words (subst (λ vs. list_all (accepts all.0 (Unsigned least most)) vs ≡ true) same all.1) k d lt))
+          bad (λ k d lt. accepts-Accepts all.0 (Unsigned least most) (slice_index_or words k d)
+          (AllPass-from_list_all (accepts all.0 (Unsigned least most)) words
+          (subst (λ vs. list_all (accepts all.0 (Unsigned least most)) vs ≡ true) same all.1) k d lt))
 
 -- an upgrade whose two words are equal
 pub same_twice : (rows : List Row) (one other : Text) → first_of (codes "OLD") rows ≡ Some one → first_of (codes "NEW") rows ≡ Some other → one ≡ other
@@ -110,7 +113,8 @@ abbrev pub DiffersFrom : Text → List Shape → Type 0
 DiffersFrom name [] = ⊤
 DiffersFrom name (s ∷ rest) = (name ≡ s.name → ⊥) × DiffersFrom name rest
 
-not_found : (name : Text) (xs : List Shape) → DiffersFrom name xs → list_all (λ s. is_empty s.aliases) xs ≡ true → find (λ s. answers_to name (label_of s)) xs ≡ None
+not_found : (name : Text) (xs : List Shape) → DiffersFrom name xs → list_all (λ s. is_empty s.aliases) xs ≡ true →
+    find (λ s. answers_to name (label_of s)) xs ≡ None
 not_found name [] differs plain = refl
 not_found name (s ∷ rest) differs plain = go (bytes_eq s.name name) refl s.aliases (both _ _ plain).0 (not_found name rest differs.1 (both _ _ plain).1)
   where

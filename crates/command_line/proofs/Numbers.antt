@@ -21,18 +21,22 @@ module _ (words : List (Bor Text)) (i : ℕ) (d : Bor Text) (lt : i < length wor
   within : i < length (texts_of words)
   within = subst (λ n. i < n) (sym (length-map words (λ (w : Bor Text). w.now))) lt
 
-  pub numbers_next : (numbers : List ℕ) (n : ℕ) → NumbersBefore words i numbers → IsNumber 0 greatest_number word.now n → NumbersBefore words (i + 1) (numbers ++ n ∷ [])
+  pub numbers_next : (numbers : List ℕ) (n : ℕ) → NumbersBefore words i numbers → IsNumber 0 greatest_number word.now n →
+      NumbersBefore words (i + 1) (numbers ++ n ∷ [])
   numbers_next numbers n before is = (
     ap₂ (λ (a : List ℕ) (b : ℕ). a ++ b ∷ []) before.0 (is.1 ∙ ap number_of (sym text_here))
-        ∙ sym (ap (map number_of) (take_more (texts_of words) i word.now within) ∙ map-append number_of (take i (texts_of words)) (get_or (texts_of words) i word.now ∷ [])),
+        ∙ sym (ap (map number_of) (take_more (texts_of words) i word.now within) ∙
+        map-append number_of (take i (texts_of words)) (get_or (texts_of words) i word.now ∷ [])),
     All-more (IsUnsignedIn 0 greatest_number) (texts_of words) i word.now within before.1 (subst (IsUnsignedIn 0 greatest_number) (sym text_here) is.0),
   )
 
   pub numbers_bad : (IsUnsignedIn 0 greatest_number word.now → ⊥) → All (IsUnsignedIn 0 greatest_number) (texts_of words) → ⊥
-  numbers_bad bad all = bad (subst (IsUnsignedIn 0 greatest_number) text_here (All-get_or (IsUnsignedIn 0 greatest_number) (texts_of words) i word.now within all))
+  numbers_bad bad all = bad
+      (subst (IsUnsignedIn 0 greatest_number) text_here (All-get_or (IsUnsignedIn 0 greatest_number) (texts_of words) i word.now within all))
 
 pub numbers_all : (words : List (Bor Text)) (i : ℕ) (numbers : List ℕ) → length words ≤ i → NumbersBefore words i numbers
     → (numbers ≡ map number_of (texts_of words)) × All (IsUnsignedIn 0 greatest_number) (texts_of words)
 numbers_all words i numbers le before =
-    let whole : take i (texts_of words) ≡ texts_of words = take_all i (texts_of words) (subst (λ n. n ≤ i) (sym (length-map words (λ (w : Bor Text). w.now))) le) in
+    let whole : take i (texts_of words) ≡ texts_of words = take_all i (texts_of words)
+    (subst (λ n. n ≤ i) (sym (length-map words (λ (w : Bor Text). w.now))) le) in
     (before.0 ∙ ap (map number_of) whole, subst (All (IsUnsignedIn 0 greatest_number)) whole before.1)

@@ -24,7 +24,8 @@ parse_explains words e passes kinds = go (takes eros_app words) refl
     go false not_taken = elim kinds [ inl memory ↦ inl memory | inr among ↦ inr (inl (not_taken, inr among)) ]
 
 -- and so it does where the parse is of a command that is read as that of `eros`
-pub parse_refused : (words : List Text) (command : Command) (e : Error) → app_of command ≡ eros_app → (takes (app_of command) words ≡ true → kind_of e ≡ OutOfMemory)
+pub parse_refused : (words : List Text) (command : Command) (e : Error) → app_of command ≡ eros_app →
+    (takes (app_of command) words ≡ true → kind_of e ≡ OutOfMemory)
     → (is_simple_and_free (app_of command) ≡ true → HasKind (fault_of (app_of command) words) e) → (kind_of e ≡ OutOfMemory) ⊎ Explains words e
 parse_refused words command e is passes kinds =
     parse_explains words e (subst (λ (a : App). takes a words ≡ true → kind_of e ≡ OutOfMemory) is passes)

@@ -147,24 +147,29 @@ module _ (c : List Rule) where
       )
 
 module _ (c : List Rule) (again : Bool) where
-  used_as_keeps : (x : ArgAction) (a : Rule) (values : List Text) (rows : List Row) → arg_by_id c a.id ≡ Some a → (is_request x || nat_lt 0 (length values)) ≡ true
+  used_as_keeps : (x : ArgAction) (a : Rule) (values : List Text) (rows : List Row) → arg_by_id c a.id ≡ Some a →
+      (is_request x || nat_lt 0 (length values)) ≡ true
       → action_passes x again a values rows ≡ true → Filled c rows → Filled c (used_as x a.id (reading_by a) values rows)
   used_as_keeps Help a values rows own some passes f = f
   used_as_keeps HelpShort a values rows own some passes f = f
   used_as_keeps HelpLong a values rows own some passes f = f
   used_as_keeps Version a values rows own some passes f = f
   used_as_keeps Set a [] rows own some passes f = absurd (true≢false (sym some))
-  used_as_keeps Set a (v ∷ vs) rows own some passes f = with_keeps c a CommandLine (v ∷ vs) _ own (omega arith) (both _ _ passes).1 (without_keeps c a.id rows f)
+  used_as_keeps Set a (v ∷ vs) rows own some passes f = with_keeps c a CommandLine (v ∷ vs) _ own (omega arith) (both _ _ passes).1
+      (without_keeps c a.id rows f)
   used_as_keeps SetTrue a [] rows own some passes f = absurd (true≢false (sym some))
-  used_as_keeps SetTrue a (v ∷ vs) rows own some passes f = with_keeps c a CommandLine (v ∷ vs) _ own (omega arith) (both _ _ passes).1 (without_keeps c a.id rows f)
+  used_as_keeps SetTrue a (v ∷ vs) rows own some passes f = with_keeps c a CommandLine (v ∷ vs) _ own (omega arith) (both _ _ passes).1
+      (without_keeps c a.id rows f)
   used_as_keeps SetFalse a [] rows own some passes f = absurd (true≢false (sym some))
-  used_as_keeps SetFalse a (v ∷ vs) rows own some passes f = with_keeps c a CommandLine (v ∷ vs) _ own (omega arith) (both _ _ passes).1 (without_keeps c a.id rows f)
+  used_as_keeps SetFalse a (v ∷ vs) rows own some passes f = with_keeps c a CommandLine (v ∷ vs) _ own (omega arith) (both _ _ passes).1
+      (without_keeps c a.id rows f)
   used_as_keeps Append a [] rows own some passes f = absurd (true≢false (sym some))
   used_as_keeps Append a (v ∷ vs) rows own some passes f = with_keeps c a CommandLine (v ∷ vs) rows own (omega arith) passes f
   used_as_keeps Count a [] rows own some passes f = absurd (true≢false (sym some))
   used_as_keeps Count a (v ∷ vs) rows own some passes f = with_keeps c a CommandLine (v ∷ vs) _ own (omega arith) passes (without_keeps c a.id rows f)
 
-  used_keeps : (a : Rule) (values : List Text) (rows : List Row) → IsOwn c a → use_passes again a values rows ≡ true → Filled c rows → Filled c (used a values rows)
+  used_keeps : (a : Rule) (values : List Text) (rows : List Row) → IsOwn c a → use_passes again a values rows ≡ true → Filled c rows →
+      Filled c (used a values rows)
   used_keeps a values rows own passes f =
       let least = both _ _ passes in
       used_as_keeps (action_of a) a (values_or_missing a values) rows own.1 (some (is_request (action_of a)) own.0 least.0) (both _ _ least.1).1 f
@@ -192,10 +197,12 @@ module _ (c : List Rule) (again : Bool) (own : AllOwn c c) where
   settle_keeps : (h : Held) → settle_passes c again h ≡ true → Filled c h.rows → Filled c (settled c h).rows
   settle_keeps h passes f = pending_settled h.pending h.rows passes f
 
-  react_keeps : (a : Rule) (values : List Text) (h : Held) → IsOwn c a → react_passes c again a values h ≡ true → Filled c h.rows → Filled c (reacted c a values h).rows
+  react_keeps : (a : Rule) (values : List Text) (h : Held) → IsOwn c a → react_passes c again a values h ≡ true → Filled c h.rows →
+      Filled c (reacted c a values h).rows
   react_keeps a values h is passes f = let parts = both _ _ passes in used_keeps c again a values (settled c h).rows is parts.1 (settle_keeps h parts.0 f)
 
-  option_keeps : (a : Rule) (v : Option Text) (h : Held) → IsOwn c a → option_passes c again a v h ≡ true → Filled c h.rows → Filled c (option_met c a v h).0.rows
+  option_keeps : (a : Rule) (v : Option Text) (h : Held) → IsOwn c a → option_passes c again a v h ≡ true → Filled c h.rows →
+      Filled c (option_met c a v h).0.rows
   option_keeps a (Some v) h is passes f = react_keeps a (v ∷ []) h is passes f
   option_keeps a None h is passes f = settle_keeps h passes f
 
@@ -204,7 +211,8 @@ module _ (c : List Rule) (again : Bool) (own : AllOwn c c) where
   flag_keeps a (Some v) h is passes f = f
   flag_keeps a None h is passes f = react_keeps a [] h is passes f
 
-  long_keeps : (o : Option Rule) (v : Option Text) (h : Held) → IsOwnIfAny c o → long_passes c again o v h ≡ true → Filled c h.rows → Filled c (long_met c o v h).0.rows
+  long_keeps : (o : Option Rule) (v : Option Text) (h : Held) → IsOwnIfAny c o → long_passes c again o v h ≡ true → Filled c h.rows →
+      Filled c (long_met c o v h).0.rows
   long_keeps None v h is passes f = f
   long_keeps (Some a) v h is passes f = go (takes_values a) passes
     where
@@ -319,7 +327,8 @@ module _ (s : Shape) (own : AllOwn s.rules s.rules) where
       go false e = settle_keeps s.rules s.args_override_self own h e f
 
   to_positional_keeps : (o : Option Rule) (word : Text) (w : Walk) (h : Held)
-      → option_map_or (λ a. positional_passes s.rules s.args_override_self a h) o false ≡ true → Filled s.rules h.rows → WalkKeeps s (to_positional s.rules o word w h)
+      → option_map_or (λ a. positional_passes s.rules s.args_override_self a h) o false ≡ true → Filled s.rules h.rows →
+      WalkKeeps s (to_positional s.rules o word w h)
   to_positional_keeps None word w h passes f = absurd (true≢false (sym passes))
   to_positional_keeps (Some a) word w h passes f = (positional_keeps a word h passes f, tt)
 
@@ -332,7 +341,8 @@ module _ (s : Shape) (own : AllOwn s.rules s.rules) where
 
   turn_keeps : (names : Names) (stop : Option (Text × List Text)) (w : Walk) (word : Text)
       → (is_some stop || (word_passes s names w.is_trailing w.waiting word w.held
-      && step_passes s w.position (word_met s.rules names w.is_trailing w.waiting w.position word w.held).0 (word_met s.rules names w.is_trailing w.waiting w.position word w.held).1)) ≡ true
+      && step_passes s w.position (word_met s.rules names w.is_trailing w.waiting w.position word w.held).0
+      (word_met s.rules names w.is_trailing w.waiting w.position word w.held).1)) ≡ true
       → StopsWell s stop → WalkKeeps s w → WalkKeeps s (walked_from s.rules names stop w word)
   turn_keeps names (Some p) w word passes stops keeps = (keeps.0, stops)
   turn_keeps names None w word passes stops keeps =
@@ -352,7 +362,8 @@ module _ (s : Shape) (own : AllOwn s.rules s.rules) where
 -- ---- a level of the parse
 
 default_keeps : (c : List Rule) (a : Rule) (values : List Text) (rows : List Row) → arg_by_id c a.id ≡ Some a
-    → (is_empty values || (not (is_request (action_of a)) && values_pass a values)) ≡ true → Filled c rows → Filled c (default_rows a.id (reading_by a) values rows)
+    → (is_empty values || (not (is_request (action_of a)) && values_pass a values)) ≡ true → Filled c rows →
+    Filled c (default_rows a.id (reading_by a) values rows)
 default_keeps c a [] rows own passes f = f
 default_keeps c a (v ∷ vs) rows own passes f = go (is_empty (v ∷ vs)) refl passes
   where
@@ -361,7 +372,8 @@ default_keeps c a (v ∷ vs) rows own passes f = go (is_empty (v ∷ vs)) refl p
     go true e passes = let bad : suc (length vs) ≡ 0 = eqb-true _ _ e in absurd (omega arith)
     go false e passes = with_keeps c a DefaultValue (v ∷ vs) rows own (omega arith) (both (not (is_request (action_of a))) _ passes).1 f
 
-with_default_keeps : (c : List Rule) (rows : List Row) (a : Rule) → arg_by_id c a.id ≡ Some a → default_passes a ≡ true → Filled c rows → Filled c (with_default rows a)
+with_default_keeps : (c : List Rule) (rows : List Row) (a : Rule) → arg_by_id c a.id ≡ Some a → default_passes a ≡ true → Filled c rows →
+    Filled c (with_default rows a)
 with_default_keeps c rows a own passes f = go (has_row a.id rows)
   where
     go : (b : Bool) → Filled c (cond b rows (default_rows a.id (reading_by a) a.defaults rows))
@@ -403,7 +415,8 @@ rule_filled c a rows own f given = go (find (λ r. bytes_eq r.id a.id) rows) giv
         let same : suits c a.id r.values ≡ values_pass a r.values = suits_own c a a.id r.values own ((bytes_eq-Decides a.id a.id).1 refl) in
         ap₂ (λ x y. x && y) (lt-ltb 0 _ good.0) (sym same ∙ good.1)
 
-whole_from : (c xs : List Rule) (rows : List Row) → AllOwn c xs → Filled c rows → list_all (λ a. not a.required || is_given a.id rows) xs ≡ true → is_whole xs rows ≡ true
+whole_from : (c xs : List Rule) (rows : List Row) → AllOwn c xs → Filled c rows → list_all (λ a. not a.required || is_given a.id rows) xs ≡ true →
+    is_whole xs rows ≡ true
 whole_from c [] rows own f given = refl
 whole_from c (a ∷ xs) rows own f given =
     let parts = both _ _ given in
@@ -424,7 +437,8 @@ level_keeps s names words has simple negates passes =
     let free = both _ _ wanted.1 in
     let end = (walk s.rules names nothing_held words) in
     let kept = walk_keeps s own names (walk_from nothing_held) words walks.0 (tt, tt) in
-    let filled = defaults_keep s.rules s.rules (settled s.rules end.held).rows own defaults.0 (settle_keeps s.rules s.args_override_self own end.held settles.0 kept.0) in
+    let filled = defaults_keep s.rules s.rules (settled s.rules end.held).rows own defaults.0
+    (settle_keeps s.rules s.args_override_self own end.held settles.0 kept.0) in
     (whole_from s.rules s.rules (finished s.rules end.held) own filled (negated s.subcommand_negates_reqs has _ negates free.1), kept.1, wanted.0)
   where
     negated : (b has x : Bool) → b ≡ false → ((b && has) || x) ≡ true → x ≡ true

@@ -55,7 +55,8 @@ IsFlag rows name false = IsGiven rows name (codes "true") → ⊥
 
 -- the argument has values that pass its parser, or has none and isn't required
 abbrev pub is_filled : List Row → Rule → Bool
-is_filled rows a = option_map_or (λ r. nat_lt 0 (length r.values) && values_pass a r.values) (find (λ r. bytes_eq r.id a.id) rows) (not a.required)
+is_filled rows a = option_map_or (λ r. nat_lt 0 (length r.values) && values_pass a r.values)
+    (find (λ r. bytes_eq r.id a.id) rows) (not a.required)
 
 -- each argument is filled
 abbrev pub is_whole : List Rule → List Row → Bool

@@ -13,7 +13,8 @@ file_rule name = record (new_rule name) { required = true }
 
 -- eros build DESCRIPTION IMAGE
 abbrev pub build_app : App
-build_app = with_rule (with_rule (new_app (codes "build")) (file_rule (codes "DESCRIPTION"))) (file_rule (codes "IMAGE"))
+build_app = with_rule (with_rule (new_app (codes "build")) (file_rule (codes "DESCRIPTION")))
+    (file_rule (codes "IMAGE"))
 
 -- how many objects a cache may hold: a number from 8 to 8192
 abbrev pub capacity_parser : ValueParser
@@ -21,7 +22,11 @@ capacity_parser = Unsigned 8 8192
 
 -- --cache C, which may be left out
 abbrev pub cache_rule : Rule
-cache_rule = record (new_rule (codes "cache")) { long = Some (codes "cache"); value_names = 1; parser = Some capacity_parser }
+cache_rule = record (new_rule (codes "cache")) {
+  long = Some (codes "cache");
+  value_names = 1;
+  parser = Some capacity_parser;
+}
 
 -- the greatest number that a word may write
 abbrev pub greatest_number : ℕ
@@ -29,7 +34,8 @@ greatest_number = 18446744073709551615
 
 -- --NAME VALUE, a number, which may be left out
 abbrev pub number_rule : Text → Rule
-number_rule name = record (new_rule name) { long = Some name; value_names = 1; parser = Some (Unsigned 0 greatest_number) }
+number_rule name = record
+    (new_rule name) { long = Some name; value_names = 1; parser = Some (Unsigned 0 greatest_number) }
 
 -- P [P ..], one or more numbers
 abbrev pub processes_rule : Rule
@@ -49,7 +55,8 @@ run_files_app = with_rule (with_rule (new_app (codes "run")) (file_rule (codes "
 
 -- eros run [--cache C] [--trace] [--strict] [--stop-after K] IMAGE SCRIPT
 abbrev pub run_app : App
-run_app = with_rule (with_rule (with_rule (with_rule run_files_app cache_rule) (flag_rule (codes "trace"))) (flag_rule (codes "strict"))) (number_rule (codes "stop-after"))
+run_app = with_rule (with_rule (with_rule (with_rule run_files_app cache_rule) (flag_rule (codes "trace")))
+    (flag_rule (codes "strict"))) (number_rule (codes "stop-after"))
 
 -- eros NAME IMAGE
 abbrev pub reading_app : Text → App
@@ -81,7 +88,9 @@ upgrade_app = with_rule (with_rule (new_app (codes "upgrade")) (file_rule (codes
 
 -- eros describe [--nodes N] [--pages P] [--log R] IMAGE
 abbrev pub describe_app : App
-describe_app = with_rule (with_rule (with_rule (reading_app (codes "describe")) (number_rule (codes "nodes"))) (number_rule (codes "pages"))) (number_rule (codes "log"))
+describe_app = with_rule
+    (with_rule (with_rule (reading_app (codes "describe")) (number_rule (codes "nodes"))) (number_rule (codes "pages")))
+    (number_rule (codes "log"))
 
 -- eros draw [--from P] [--to O] IMAGE
 abbrev pub draw_app : App
@@ -89,7 +98,10 @@ draw_app = with_rule (with_rule (reading_app (codes "draw")) (number_rule (codes
 
 -- the name alone, which has a version, and wants a subcommand
 abbrev pub bare_app : App
-bare_app = record { top = record ((new_app (codes "eros")).top) { subcommand_required = true; has_version = true }; subs = [] }
+bare_app = record {
+  top = record ((new_app (codes "eros")).top) { subcommand_required = true; has_version = true };
+  subs = [];
+}
 
 -- the name and the subcommands that make and change images
 abbrev pub changing_app : App
@@ -97,11 +109,14 @@ changing_app = with_subcommand (with_subcommand (with_subcommand bare_app build_
 
 -- and those that check images
 abbrev pub checking_app : App
-checking_app = with_subcommand (with_subcommand (with_subcommand (with_subcommand changing_app check_app.top) explain_app.top) info_app.top) reach_app.top
+checking_app = with_subcommand
+    (with_subcommand (with_subcommand (with_subcommand changing_app check_app.top) explain_app.top) info_app.top)
+    reach_app.top
 
 -- all subcommands; one of them has to be named
 abbrev pub eros_app : App
-eros_app = with_subcommand (with_subcommand (with_subcommand checking_app upgrade_app.top) describe_app.top) draw_app.top
+eros_app = with_subcommand (with_subcommand (with_subcommand checking_app upgrade_app.top) describe_app.top)
+    draw_app.top
 
 -- a parse reads the command as this one, with no argument that holds for subcommands too
 abbrev pub IsCommand : App → Command → Type 0

@@ -30,7 +30,8 @@ IsJob name rows (job.Run image script cache trace strict stop_after) = (name ≡
     × IsFlag rows (codes "trace") trace × IsFlag rows (codes "strict") strict
     × IsNumberOption rows (codes "stop-after") stop_after
     × IsGiven rows (codes "IMAGE") image.now × (word : Text) × IsGiven rows (codes "SCRIPT") word × IsScript word script
-IsJob name rows (job.Shell image cache) = (name ≡ codes "shell") × IsCache rows cache × IsGiven rows (codes "IMAGE") image.now
+IsJob name rows (job.Shell image cache) = (name ≡ codes "shell") × IsCache rows cache × IsGiven rows (codes "IMAGE")
+    image.now
 IsJob name rows (job.Check image) = (name ≡ codes "check") × IsGiven rows (codes "IMAGE") image.now
 IsJob name rows (job.Explain file) = (name ≡ codes "explain") × IsGiven rows (codes "FILE") file.now
 IsJob name rows (job.Info image) = (name ≡ codes "info") × IsGiven rows (codes "IMAGE") image.now
@@ -38,7 +39,8 @@ IsJob name rows (job.Reach image processes shows) = (name ≡ codes "reach") × 
     × AreNumbers rows (codes "P") processes.items × IsNumberOption rows (codes "shows") shows
 IsJob name rows (job.Upgrade old new) = (name ≡ codes "upgrade")
     × IsGiven rows (codes "OLD") old.now × IsGiven rows (codes "NEW") new.now × (old.now ≢ new.now)
-IsJob name rows (job.Describe image sizes) = (name ≡ codes "describe") × IsGiven rows (codes "IMAGE") image.now × AreSizes rows sizes
+IsJob name rows (job.Describe image sizes) = (name ≡ codes "describe") × IsGiven rows (codes "IMAGE") image.now ×
+    AreSizes rows sizes
 IsJob name rows (job.Draw image from to) = (name ≡ codes "draw") × IsGiven rows (codes "IMAGE") image.now
     × IsNumberOption rows (codes "from") from × IsNumberOption rows (codes "to") to
 
@@ -49,7 +51,8 @@ NamesJob (Some met) job = IsJob met.0 met.1 job
 
 -- it is an upgrade whose two words are equal
 abbrev pub IsSameTwice : Text → List Row → Type 0
-IsSameTwice name rows = (name ≡ codes "upgrade") × (word : Text) × IsGiven rows (codes "OLD") word × IsGiven rows (codes "NEW") word
+IsSameTwice name rows = (name ≡ codes "upgrade") × (word : Text) × IsGiven rows (codes "OLD") word × IsGiven rows
+    (codes "NEW") word
 
 -- the subcommand doesn't have what it takes, or is that for help, or an upgrade whose two words are equal
 abbrev pub IsNoJob : Text → List Row → Type 0

@@ -19,8 +19,8 @@ fn number_in(word: &str, least: u64, most: u64) -> Option<u64>
     }
 }
 
-// The number that an option gives: `Some(None)` where the option is left out, and `None` where its word writes no number
-// from `least` to `most`.
+// The number that an option gives: `Some(None)` where the option is left out, and `None` where its word
+// writes no number from `least` to `most`.
 pub(crate) fn option_of(
     inner: &ArgMatches<'_>,
     name: &str,
@@ -39,7 +39,8 @@ pub(crate) fn option_of(
     }
 }
 
-// The numbers that words write, in their order, or `None` where one of the words writes none. Fails where memory runs out.
+// The numbers that words write, in their order, or `None` where one of the words writes none. Fails where
+// memory runs out.
 pub(crate) fn numbers_in(alloc: Global, words: &[&str]) -> Result<Option<Vec<u64>>, AllocError>
     ensures named { IfOk result (λ o. IfSome o (λ numbers. numbers.items ≡ map number_of (texts_of words.now)
         × All (IsUnsignedIn 0 greatest_number) (texts_of words.now))) }

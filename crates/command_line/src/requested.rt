@@ -53,7 +53,8 @@ pub enum Job<'a> {
         cache: Option<u64>,
         /// Whether standard error says what became of each line.
         trace: bool,
-        /// Whether the run stops at the first line that is bad or refused, or whose invocation of a kernel object fails.
+        /// Whether the run stops at the first line that is bad or refused, or whose invocation of a kernel
+        /// object fails.
         strict: bool,
         /// How many reads, writes and syncs the device answers before it fails each; `None` where it answers all.
         stop_after: Option<u64>,
@@ -115,7 +116,8 @@ fn script_of<'a>(word: &'a str) -> Script<'a>
     }
 }
 
-// The capacity of the option `--cache`: `Some(None)` where it is left out, and `None` where it is no number from 8 to 8192.
+// The capacity of the option `--cache`: `Some(None)` where it is left out, and `None` where it is no number
+// from 8 to 8192.
 fn cache_of(inner: &ArgMatches<'_>) -> Option<Option<u64>>
     ensures named { IfSome result (IsCache (rows_of (found_of inner.now))) }
     ensures none { IsNone result → GivesNoNumber (rows_of (found_of inner.now)) (codes "cache") 8 8192 }
@@ -201,7 +203,8 @@ fn info_of<'a>(inner: &ArgMatches<'a>) -> Option<Job<'a>>
     Some(Job::Info { image })
 }
 
-// The analysis of these processes that the matches name, or `None` where the image is missing or `--shows` gives no number.
+// The analysis of these processes that the matches name, or `None` where the image is missing or `--shows`
+// gives no number.
 fn reach_from<'a>(inner: &ArgMatches<'a>, processes: Vec<u64>) -> Option<Job<'a>>
     ensures named { AreNumbers (rows_of (found_of inner.now)) (codes "P") processes.items
         → IfSome result (IsJob (codes "reach") (rows_of (found_of inner.now))) }
@@ -216,7 +219,8 @@ fn reach_from<'a>(inner: &ArgMatches<'a>, processes: Vec<u64>) -> Option<Job<'a>
     })
 }
 
-// The analysis that the matches name, or `None` where a word is missing or writes no number. Fails where memory runs out.
+// The analysis that the matches name, or `None` where a word is missing or writes no number. Fails where
+// memory runs out.
 fn reach_of<'a>(alloc: Global, inner: &ArgMatches<'a>) -> Result<Option<Job<'a>>, AllocError>
     ensures named { IfOk result (λ o. IfSome o (IsJob (codes "reach") (rows_of (found_of inner.now)))) }
     ensures none { IfOk result (λ o. IsNone o → IsNoJob (codes "reach") (rows_of (found_of inner.now))) }
@@ -331,8 +335,9 @@ fn requested<'a>(alloc: Global, matches: ArgMatches<'a>) -> Result<Option<Job<'a
     }
 }
 
-// The job that the words name. Fails with what clap says of words that the command doesn't take, also where they ask for
-// help, with a `ValueValidation` where an upgrade has one word twice, and with `OutOfMemory` where memory runs out.
+// The job that the words name. Fails with what clap says of words that the command doesn't take, also where
+// they ask for help, with a `ValueValidation` where an upgrade has one word twice, and with `OutOfMemory`
+// where memory runs out.
 pub(crate) fn read_job<'a, S: AsStr>(
     alloc: Global,
     command: &mut Command<'a>,

@@ -93,7 +93,8 @@ module _ (g : Geometry) (inside : ℕ → Bool) (os : List Object) (h : IsNow g 
   IsUnused n = (n < length os) × IsTrue (is_free (content_at os n))
 
   -- each free number of a range of objects is one
-  unused_at : (from count : ℕ) → from + count ≤ length os → (ns : List ℕ) → are_free os (range_with_len from count) ≡ ns → (n : ℕ) → is_member ns n ≡ true → IsUnused n
+  unused_at : (from count : ℕ) → from + count ≤ length os → (ns : List ℕ) → are_free os (range_with_len from count) ≡ ns → (n : ℕ) → is_member ns n ≡ true →
+      IsUnused n
   unused_at from count fits ns e n member =
       let found = found_in (λ n. is_free (content_at os n)) from count n (subst (λ xs. is_member xs n ≡ true) (sym e) member) in
       (omega (arith, fits, found.1), found.2)
@@ -140,7 +141,8 @@ module _ (g : Geometry) (inside : ℕ → Bool) (os : List Object) (h : IsNow g 
 
   freed_stays : (b : ℕ) (ns : List ℕ) → ((n : ℕ) → is_member ns n ≡ true → IsTrue (inside n)) → OutcomeStays inside os (freed os b ns)
   freed_stays b [] within = refused_stays code.BadCapability
-  freed_stays b (n ∷ ns) within = chosen (OutcomeStays inside os) (owner_at os n == b) _ _ (λ _. (gone_stays (n ∷ ns) within, inl tt)) (λ _. refused_stays code.NotFromThisBank)
+  freed_stays b (n ∷ ns) within = chosen (OutcomeStays inside os) (owner_at os n == b) _ _ (λ _. (gone_stays (n ∷ ns) within, inl tt))
+      (λ _. refused_stays code.NotFromThisBank)
 
   -- what a capability with full access names that stays inside is inside
   full_inside : (a o n : ℕ) → (a ≡ 3) ⊎ IsTrue (inside o) → is_member (if a == 0 then o ∷ [] else []) n ≡ true → IsTrue (inside n)
@@ -233,7 +235,8 @@ module _ (g : Geometry) (inside : ℕ → Bool) (os : List Object) (h : IsNow g 
         go : (ns : List ℕ) → are_free os (range_with_len 0 g.nodes) ≡ ns → OutcomeStays inside os (bank_allocated os b ns args.first)
         go [] e = refused_stays code.NoFrame
         go (n ∷ ns) e = chosen (OutcomeStays inside os) (nat_lt (length (chain os b)) 16) _ _
-            (λ _. allocated_stays 0 g.nodes (omega (arith, h.frame.size)) b (content.Bank args.first) Bank (fresh_bank inside args.first) (λ n is. inr is) (n ∷ ns) e)
+            (λ _. allocated_stays 0 g.nodes (omega (arith, h.frame.size)) b (content.Bank args.first) Bank (fresh_bank inside args.first) (λ n is. inr is)
+            (n ∷ ns) e)
             (λ _. refused_stays code.TooDeep)
 
     process_made_stays : OutcomeStays inside os (on_bank g os b bank.NewProcess args)
@@ -254,7 +257,8 @@ module _ (g : Geometry) (inside : ℕ → Bool) (os : List Object) (h : IsNow g 
 
     destroyed_stays : OutcomeStays inside os (on_bank g os b bank.Destroy args)
     unfolding on_bank
-    destroyed_stays = chosen (OutcomeStays inside os) (b == 0) _ _ (λ _. refused_stays code.PrimeBank) (λ _. (gone_stays (under os b) (under_inside b is), inl tt))
+    destroyed_stays = chosen (OutcomeStays inside os) (b == 0) _ _ (λ _. refused_stays code.PrimeBank)
+        (λ _. (gone_stays (under os b) (under_inside b is), inl tt))
 
     returned_stays : OutcomeStays inside os (on_bank g os b bank.ReturnToParent args)
     unfolding on_bank

@@ -109,7 +109,8 @@ resume_stays g inside os i q h by is root =
 
 -- kernel objects
 
-reply_stays : (inside : ℕ → Bool) (o : OrderOutcome) (j : ℕ) → StaysInside inside o.capability → StaysInside inside (slice_index_or (reply_of o).capabilities j Void)
+reply_stays : (inside : ℕ → Bool) (o : OrderOutcome) (j : ℕ) → StaysInside inside o.capability →
+    StaysInside inside (slice_index_or (reply_of o).capabilities j Void)
 reply_stays inside o zero h = h
 reply_stays inside o (suc j) h = holds_replicate (StaysInside inside) 3 Void Void (inl tt) (inl tt) j
 
@@ -121,7 +122,8 @@ replied_stays inside i o h is given =
     (and_parts (is_process o.objects i.process) (is_running (state_at o.objects i.process)) runs).0 (λ j. reply_stays inside o j given))
 
 -- what is held before the invoker's state changes is held after it
-held_ready : (g : Geometry) (inside : ℕ → Bool) (os us : List Object) (c : Capability) → IsReady g inside os us → IsHeld os (Waits os) c → IsHeld us (Waits us) c
+held_ready : (g : Geometry) (inside : ℕ → Bool) (os us : List Object) (c : Capability) → IsReady g inside os us → IsHeld os (Waits os) c →
+    IsHeld us (Waits us) c
 held_ready g inside os us c ready held = held_on os us (Waits os) (Waits us) c ready.after.frame ready.after.waits held
 
 ordered_stays : (g : Geometry) (inside : ℕ → Bool) (os : List Object) (i : Invocation) → IsNow g os → IsInvoker inside os i.process

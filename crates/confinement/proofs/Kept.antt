@@ -209,7 +209,8 @@ stays_without inside os us goes set h members names at = record {
           (λ e f. h.closed.owned b n in_b (was_bank b is) (sym (without_mapped goes (object_at os n)).free ∙ e) f);
       slots = λ n i in_n.
           at_us (λ o. StaysInside inside (slice_index_or (slots_in o.content) i Void)) n (λ m. inl tt)
-          (rw ((without_mapped goes (object_at os n)).slot (void_void goes) i) (stays_void inside goes (slice_index_or (slots_in (content_at os n)) i Void) (h.closed.slots n i in_n)));
+          (rw ((without_mapped goes (object_at os n)).slot (void_void goes) i)
+          (stays_void inside goes (slice_index_or (slots_in (content_at os n)) i Void) (h.closed.slots n i in_n)));
       spaces = λ p in_p.
           at_us (λ o. StaysInside inside (root_in o.content).space) p (λ m. inl tt)
           (rw ((without_mapped goes (object_at os p)).space (void_void goes)) (stays_void inside goes (root_at os p).space (h.closed.spaces p in_p)));

@@ -56,7 +56,8 @@ fetched_stays inside o a c named held = chosen (StaysInside inside) (a.0 == 3) (
 page_stays : (inside : ℕ → Bool) (os : List Object) (o : ℕ) (a : Access) (requested : PageOrder) (args : Arguments) → Encloses inside os
     → StaysInside inside (Page o a) → OutcomeStays inside os (on_page os o a requested args)
 unfolding on_page
-page_stays inside os o a page.Read args h c = chosen (OutcomeStays inside os) (nat_lt args.first 512) _ _ (λ _. refused_stays inside os h) (λ _. refused_stays inside os h)
+page_stays inside os o a page.Read args h c = chosen (OutcomeStays inside os) (nat_lt args.first 512) _ _ (λ _. refused_stays inside os h)
+    (λ _. refused_stays inside os h)
 page_stays inside os o a page.Write args h c =
     chosen (OutcomeStays inside os) (not (a.0 == 0)) _ _ (λ _. refused_stays inside os h) (λ e.
     chosen (OutcomeStays inside os) (nat_lt args.first 512) _ _
@@ -112,7 +113,10 @@ process_stays inside os p process.GetWord args h is root sent =
     chosen (OutcomeStays inside os) (nat_lt args.first 4) _ _ (λ _. refused_stays inside os h) (λ _. refused_stays inside os h)
 process_stays inside os p process.PutWord args h is root sent =
     chosen (OutcomeStays inside os) (nat_lt args.first 4) _ _
-    (λ _. (stays_root inside os p (with_root_word (root_at os p) args.first args.second) h is (h.closed.annexes p is root) (h.closed.spaces p is), void_stays inside))
+    (λ _. (
+      stays_root inside os p (with_root_word (root_at os p) args.first args.second) h is (h.closed.annexes p is root) (h.closed.spaces p is),
+      void_stays inside,
+    ))
     (λ _. refused_stays inside os h)
 process_stays inside os p process.MakeStart args h is root sent =
     chosen (OutcomeStays inside os) (nat_lt args.first 65536) _ _ (λ _. still inside os (Start p args.first) h (inr is)) (λ _. refused_stays inside os h)

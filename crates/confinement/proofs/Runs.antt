@@ -90,7 +90,8 @@ names_live inside os (Resume p) kind h = lives inside os p (λ c. is_root c) ref
 names_live inside os (Bank b) kind h = lives inside os b (λ c. is_bank c) refl kind h
 names_live inside os c kind h = absurd h
 
-map_alike : (f k : Capability → Capability) (cs : List Capability) → ((i : ℕ) → f (slice_index_or cs i Void) ≡ k (slice_index_or cs i Void)) → map f cs ≡ map k cs
+map_alike : (f k : Capability → Capability) (cs : List Capability) → ((i : ℕ) → f (slice_index_or cs i Void) ≡ k (slice_index_or cs i Void)) →
+    map f cs ≡ map k cs
 map_alike f k [] same = refl
 map_alike f k (c ∷ cs) same = rw (same 0, map_alike f k cs (λ i. same (suc i))) refl
 

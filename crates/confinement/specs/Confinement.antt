@@ -26,7 +26,8 @@ NamesInside inside c = elim (named c) [ None ↦ ⊥ | Some n ↦ IsTrue (inside
 
 -- an object is as it was, its owner too, but that capabilities that name a member of a set may be void
 abbrev pub IsKept : (ℕ → Bool) → Object → Object → Type 0
-IsKept inside old new = (goes : Capability → Bool) × ((c : Capability) → goes c ≡ true → NamesInside inside c) × (new ≡ without goes old)
+IsKept inside old new = (goes : Capability → Bool) × ((c : Capability) → goes c ≡ true → NamesInside inside c) ×
+    (new ≡ without goes old)
 
 -- a closed set that has the free numbers too
 pub record Encloses (inside : ℕ → Bool) (os : List Object) : Type 0 where
@@ -41,7 +42,8 @@ pub record StaysWithin (inside : ℕ → Bool) (os us : List Object) : Type 0 wh
 -- an invocation by a process of such a set stays in it
 abbrev pub InvocationIsConfined : Type 0
 InvocationIsConfined = (g : Geometry) (w : World) (i : Invocation) (e : Effect) (inside : ℕ → Bool) →
-    IsSound g w → Fits (command.Invoke i) → IsTrue (is_running_process w.objects i.process) → Encloses inside w.objects →
+    IsSound g w → Fits (command.Invoke i) → IsTrue (is_running_process w.objects i.process) →
+    Encloses inside w.objects →
     IsTrue (inside i.process) → invoke g w.objects i ≡ Some e → StaysWithin inside w.objects e.objects
 
 -- a closed set with the numbers that are free
@@ -64,10 +66,13 @@ IsLineBy inside (line.Command c) = IsBy inside c
 abbrev pub AreBy : (ℕ → Bool) → List Turn → Type 0
 AreBy inside turns = All (λ t. (l : Line) → Says t.line l → IsLineBy inside l) turns
 
--- the authority bound: over any run of invocations and memory references by processes of a closed set, and of those that
+-- the authority bound: over any run of invocations and memory references by processes of a closed set, and of those
+-- that
 -- they make of what was free, each object outside the set that wasn't free is as it was, its owner too, but that
 -- capabilities in it that name a member may be void (EROS: confinement)
 abbrev pub RunIsConfined : Type 0
 RunIsConfined = (g : Geometry) (inside : ℕ → Bool) (s t : Running) (turns : List Turn) →
-    IsSound g s.now → IsClosed s.now.objects inside → IsRun g (Up s) turns (Up t) → AreBy (with_free s.now.objects inside) turns →
-    (n : ℕ) → with_free s.now.objects inside n ≡ false → IsKept inside (object_at s.now.objects n) (object_at t.now.objects n)
+    IsSound g s.now → IsClosed s.now.objects inside → IsRun g (Up s) turns (Up t) →
+    AreBy (with_free s.now.objects inside) turns →
+    (n : ℕ) → with_free s.now.objects inside n ≡ false →
+    IsKept inside (object_at s.now.objects n) (object_at t.now.objects n)

@@ -1,8 +1,7 @@
 -- Why banks aren't a tree that owns all objects within their limits.
-use Rattle.consistency.proofs.Names.{ℕ, Bool, false, true, List, slice_index, refl, sym, subst, arith, IsTrue, MatchOption, Contains, Frame, Role, chain}
-use Rattle.consistency.proofs.Names.{objects_of, Unbanked, AreBanked, IsUnbanked, owner_of, role_at}
-use Rattle.std.proofs.Common.{◌≡◌, ◌≢◌, ◌<◌, ◌≤◌, ◌∙◌}
-use Rattle.std.specs.Prelude.{◌↔◌, Option, None, Some}
+use Rattle.consistency.proofs.Names.{ℕ, Bool, false, true, List, sym, subst, arith, IsTrue, Frame, Unbanked, AreBanked, IsUnbanked, owner_of, role_at}
+use Rattle.std.proofs.Common.{◌≡◌, ◌≢◌, ◌∙◌}
+use Rattle.std.specs.Prelude.{◌↔◌}
 use Rattle.model.specs.declared.object.Role.TheVariants as role
 use Rattle.consistency.specs.declared.reason.Unbanked.TheVariants as bank
 

@@ -30,10 +30,8 @@ module _ (p : Parts) (hs : List ObjectHeader) (c : Cap) (current : ℕ) (table :
 -- the capabilities of one object
 module _ (fs : List Frame) (c : Content Cap) (n : ℕ) (is : c ≡ (frame_at fs n).content) (b : Bool) where
   -- those of a list of slots
-  pub held_named : (slots held : List Cap) → caps_in c ≡ slots → held ≡ slots → (IsTrue b ↔ All (IsNamed fs) held) →
-      IsTrue b ↔ All (IsNamed fs) (caps_in (frame_at fs n).content)
-  held_named slots held all same tells =
-      subst (λ (cs : List Cap). IsTrue b ↔ All (IsNamed fs) cs) (same ∙ sym all ∙ ap (λ (d : Content Cap). caps_in d) is) tells
+  pub held_named : (slots : List Cap) → caps_in c ≡ slots → (IsTrue b ↔ All (IsNamed fs) slots) → IsTrue b ↔ All (IsNamed fs) (caps_in (frame_at fs n).content)
+  held_named slots all tells = subst (λ (cs : List Cap). IsTrue b ↔ All (IsNamed fs) cs) (sym all ∙ ap (λ (d : Content Cap). caps_in d) is) tells
 
   -- the one of a root
   pub space_named : (held : Cap) → caps_in c ≡ held ∷ [] → (IsTrue b ↔ IsNamed fs held) → IsTrue b ↔ All (IsNamed fs) (caps_in (frame_at fs n).content)
@@ -58,7 +56,8 @@ holds_none (content.Root r) node root annex = absurd (root r refl)
 holds_none (content.Annex registers) node root annex = absurd (annex registers refl)
 holds_none (content.Bank limit) node root annex = refl
 
-pub other_named : (fs : List Frame) (c : Content Cap) (n : ℕ) → c ≡ (frame_at fs n).content → caps_in c ≡ [] → IsTrue true ↔ All (IsNamed fs) (caps_in (frame_at fs n).content)
+pub other_named : (fs : List Frame) (c : Content Cap) (n : ℕ) → c ≡ (frame_at fs n).content → caps_in c ≡ [] →
+    IsTrue true ↔ All (IsNamed fs) (caps_in (frame_at fs n).content)
 other_named fs c n is none = none_named fs n (sym (ap (λ (d : Content Cap). caps_in d) is) ∙ none)
 
 pub role_holds_none : (c : Content Cap) (r : Role) → r ≡ role_of c → (r ≡ role.Node → ⊥) → (r ≡ role.Root → ⊥) → (r ≡ role.Annex → ⊥) → caps_in c ≡ []

@@ -82,7 +82,8 @@ module _ (g : Geometry) (age : ℕ) (fs : List Frame) (k : AreKeepable g age fs)
   ]
 
   -- what a kept content conveys is filled
-  filled : (c : Content Cap) → MayBeKept g age c → All (IsNamed fs) (caps_in c) → IsFilled (objects_of fs) (Waits (objects_of fs)) (map_content (conveyed (headers fs)) c)
+  filled : (c : Content Cap) → MayBeKept g age c → All (IsNamed fs) (caps_in c) →
+      IsFilled (objects_of fs) (Waits (objects_of fs)) (map_content (conveyed (headers fs)) c)
   filled content.Free kept named = record {
     shape = tt;
     words = λ i. omega arith;

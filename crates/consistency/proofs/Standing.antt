@@ -1,10 +1,9 @@
 -- What stands at a number, of frames and of the objects that they stand for.
 use Rattle.consistency.proofs.Names.{ℕ, zero, suc, Bool, true, List, Option, Some, length, refl, sym, ap, IsTrue, get_or-map, eqb-true, length-map, Cap}
-use Rattle.consistency.proofs.Names.{Capability, Void, Number, Page, Node, Space, Process, Start, Resume, Bank, Discrim, Frame, Geometry, Content, Object, Role}
+use Rattle.consistency.proofs.Names.{Capability, Void, Number, Page, Node, Space, Process, Start, Resume, Bank, Discrim, Frame, Content, Object, Role}
 use Rattle.consistency.proofs.Names.{blank_frame, conveyed, frame_at, header_at, headers, object_of, objects_of, is_annex, is_bank, is_free, is_node, is_page}
-use Rattle.consistency.proofs.Names.{is_root, is_waiting, limit_in, map_content, role_number, role_of, root_in, IsOfKind, NamesItsKind, annex_at, content_at}
-use Rattle.consistency.proofs.Names.{is_process, owner_at, root_at, HaveTheirRoles, mapped, IsRootOf, NamesItsRole, annex_in, is_waiting_root, owner_of}
-use Rattle.consistency.proofs.Names.{role_at}
+use Rattle.consistency.proofs.Names.{is_root, is_waiting, limit_in, map_content, role_number, role_of, root_in, NamesItsKind, annex_at, content_at, is_process}
+use Rattle.consistency.proofs.Names.{owner_at, root_at, HaveTheirRoles, mapped, IsRootOf, NamesItsRole, annex_in, is_waiting_root, owner_of, role_at}
 use Rattle.std.proofs.Common.{◌≡◌, ◌==◌, ◌∙◌}
 use Rattle.model.specs.declared.object.Content.TheVariants as content
 use Rattle.model.specs.declared.object.Role.TheVariants as role

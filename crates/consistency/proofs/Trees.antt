@@ -3,7 +3,7 @@ use Rattle.consistency.proofs.Names.{ℕ, zero, suc, Bool, true, false, List, []
 use Rattle.consistency.proofs.Names.{IsTrue, MatchOption, nat_eq, Contains, list_any, range_with_len, eqb-true, eq-eqb, get_or-map-range_with_len}
 use Rattle.consistency.proofs.Names.{length-map-range_with_len, Contains-from_any, Frame, ObjectHeader, Geometry, chain, usage, frame_at, objects_of}
 use Rattle.consistency.proofs.Names.{AreKeepable, is_bank, limit_in, content_at, IsTree, HaveTheirRoles, Parts, frames_of, objects_in, keepable_roles, Unbanked}
-use Rattle.consistency.proofs.Names.{AreLimited, AreOwned, IsAboveLimit, IsUnbanked, owner_of, role_at}
+use Rattle.consistency.proofs.Names.{AreBanked, AreLimited, AreOwned, IsAboveLimit, IsUnbanked, owner_of, role_at}
 use Rattle.std.proofs.Common.{◌≡◌, ◌≢◌, ◌↔◌, ◌<◌, ◌≤◌, ◌||◌, ◌∷◌, ◌∙◌}
 use Rattle.std.specs.Prelude.{None, Option, Some}
 use Rattle.model.specs.declared.object.Role.TheVariants as role
@@ -59,7 +59,8 @@ module _ (g : Geometry) (age : ℕ) (fs : List Frame) (k : AreKeepable g age fs)
   }
 
 -- limits by number, against usages
-module _ (g : Geometry) (age : ℕ) (p : Parts) (k : AreKeepable g age (frames_of p)) (hs : List ObjectHeader) (count : ℕ) (table : hs ≡ p.headers) (all : count ≡ length hs) where
+module _ (g : Geometry) (age : ℕ) (p : Parts) (k : AreKeepable g age (frames_of p)) (hs : List ObjectHeader) (count : ℕ) (table : hs ≡ p.headers)
+    (all : count ≡ length hs) where
   pub count_all : count ≡ length p.headers
   count_all = all ∙ ap (λ (ks : List ObjectHeader). length ks) table
 
@@ -92,8 +93,9 @@ module _ (g : Geometry) (age : ℕ) (p : Parts) (k : AreKeepable g age (frames_o
         (is.0, is.1 ∙ used b bank, is.2 ∙ limit_there b (bank_counted b bank), is.3)
 
     -- what was found by usages and limits
-    pub limited : (found : Option Unbanked)
-        → MatchOption found ((b : ℕ) → role_at (frames_of p) b ≡ role.Bank → slice_index usages b ≤ slice_index limits b) (λ why. IsAboveLimit (frames_of p) usages limits why)
-        → MatchOption found (AreLimited (frames_of p)) (λ why. IsUnbanked (frames_of p) why)
-    limited None low = below low
-    limited (Some why) is = above why is
+    pub limited : AreOwned (frames_of p) → (found : Option Unbanked)
+        → MatchOption found ((b : ℕ) → role_at (frames_of p) b ≡ role.Bank → slice_index usages b ≤ slice_index limits b)
+        (λ why. IsAboveLimit (frames_of p) usages limits why)
+        → MatchOption found (AreBanked (frames_of p)) (λ why. IsUnbanked (frames_of p) why)
+    limited owned None low = record { owned = owned; limited = below low }
+    limited owned (Some why) is = above why is

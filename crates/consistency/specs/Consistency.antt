@@ -90,13 +90,16 @@ pub record AreBanked (fs : List Frame) : Type 0 where
 -- why they aren't
 abbrev pub IsUnbanked : List Frame → Unbanked → Type 0
 IsUnbanked fs bank.Prime = (role_at fs 0 ≡ role.Bank) × (owner_of fs 0 ≡ 0) → ⊥
-IsUnbanked fs (bank.Owner object owner) = (role_at fs object ≢ role.Free) × (owner_of fs object ≡ owner) × (role_at fs owner ≢ role.Bank)
+IsUnbanked fs (bank.Owner object owner) = (role_at fs object ≢ role.Free) × (owner_of fs object ≡ owner) ×
+    (role_at fs owner ≢ role.Bank)
 IsUnbanked fs (bank.Chain b) = (role_at fs b ≡ role.Bank) × (Contains (chain (objects_of fs) b) 0 → ⊥)
-IsUnbanked fs (bank.Limit b used limit) = (role_at fs b ≡ role.Bank) × (used ≡ usage (objects_of fs) b) × (limit ≡ limit_in (frame_at fs b).content) × (limit < used)
+IsUnbanked fs (bank.Limit b used limit) = (role_at fs b ≡ role.Bank) × (used ≡ usage (objects_of fs) b) ×
+    (limit ≡ limit_in (frame_at fs b).content) × (limit < used)
 
 -- the same of a limit, by usages and limits that were counted and read
 abbrev pub IsAboveLimit : List Frame → List ℕ → List ℕ → Unbanked → Type 0
-IsAboveLimit fs usages limits (bank.Limit b used limit) = (role_at fs b ≡ role.Bank) × (used ≡ slice_index usages b) × (limit ≡ slice_index limits b) × (limit < used)
+IsAboveLimit fs usages limits (bank.Limit b used limit) = (role_at fs b ≡ role.Bank) × (used ≡ slice_index usages b) ×
+    (limit ≡ slice_index limits b) × (limit < used)
 IsAboveLimit fs usages limits _ = ⊥
 
 -- the least reason why frames stand for no sound world

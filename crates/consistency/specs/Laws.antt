@@ -13,4 +13,5 @@ ConsistentIsSound = (g : Geometry) (age : ℕ) (fs : List Frame) → AreKeepable
 
 -- frames for which a reason holds aren't
 abbrev pub InconsistentIsUnsound : Type 0
-InconsistentIsUnsound = (g : Geometry) (age : ℕ) (fs : List Frame) (why : Inconsistency) → IsInconsistent fs why → IsSoundFrames g age fs → ⊥
+InconsistentIsUnsound = (g : Geometry) (age : ℕ) (fs : List Frame) (why : Inconsistency) → IsInconsistent fs why →
+    IsSoundFrames g age fs → ⊥

@@ -5,18 +5,18 @@ ghost use Rattle.model.specs.Bank.{chain};
 ghost use Rattle.model.specs.Frame.{objects_of};
 ghost use Rattle.model.specs.Keepable.{AreKeepable};
 ghost use Rattle.capability.specs.Parts.{OnlyReads, frames_of};
-ghost use Rattle.consistency.specs.Consistency.{AreBanked, AreLimited, AreOwned, IsAboveLimit, IsUnbanked, owner_of};
+ghost use Rattle.consistency.specs.Consistency.{AreBanked, AreOwned, IsAboveLimit, IsUnbanked, owner_of};
 ghost use Rattle.consistency.specs.Consistency.{role_at};
 
 use crate::reason::Unbanked;
 use crate::table::{has_role, owner};
-use capability::{PrepareFault, PresentFrames};
+use capability::{Frames, ReadFault};
 use model::Role;
 use space_bank::{count_usages, is_in_chain, read_limits};
 use std::alloc::Global;
 
 // Whether number 0 is a bank that owns itself.
-fn has_prime_bank<F: PresentFrames>(store: &F) -> bool
+fn has_prime_bank<F: Frames>(store: &F) -> bool
     ensures { let frames = frames_of (F.parts store.now) in
         IsTrue result ↔ ((role_at frames 0 ≡ Role.Bank) × (owner_of frames 0 ≡ 0)) }
 {
@@ -24,7 +24,7 @@ fn has_prime_bank<F: PresentFrames>(store: &F) -> bool
 }
 
 // Whether an object is free, or owned by a bank.
-fn is_owned<F: PresentFrames>(store: &F, number: u64) -> bool
+fn is_owned<F: Frames>(store: &F, number: u64) -> bool
     ensures { let frames = frames_of (F.parts store.now) in IsTrue result
         ↔ (role_at frames number ≢ Role.Free → role_at frames (owner_of frames number) ≡ Role.Bank) }
 {
@@ -32,7 +32,7 @@ fn is_owned<F: PresentFrames>(store: &F, number: u64) -> bool
 }
 
 // Whether an object is no bank, or a bank whose chain of at most 16 banks reaches number 0.
-fn is_reaching<F: PresentFrames>(store: &F, number: u64) -> bool
+fn is_reaching<F: Frames>(store: &F, number: u64) -> bool
     ensures { let frames = frames_of (F.parts store.now) in IsTrue result
         ↔ (role_at frames number ≡ Role.Bank → Contains (chain (objects_of frames) number) 0) }
 {
@@ -40,7 +40,7 @@ fn is_reaching<F: PresentFrames>(store: &F, number: u64) -> bool
 }
 
 // Why the banks aren't a tree with number 0 at the top that owns all objects, if they aren't.
-fn find_unowned<F: PresentFrames>(store: &F) -> Option<Unbanked>
+fn find_unowned<F: Frames>(store: &F) -> Option<Unbanked>
     ensures { MatchOption result (AreOwned (frames_of (F.parts store.now)))
         (λ why. IsUnbanked (frames_of (F.parts store.now)) why) }
 {
@@ -62,7 +62,7 @@ fn find_unowned<F: PresentFrames>(store: &F) -> Option<Unbanked>
 }
 
 // Which bank accounts for more than its limit, if one does.
-fn find_above_limit<F: PresentFrames>(store: &F, usages: &[u64], limits: &[u64]) -> Option<Unbanked>
+fn find_above_limit<F: Frames>(store: &F, usages: &[u64], limits: &[u64]) -> Option<Unbanked>
     requires usages { length usages.now ≡ length (F.parts store.now).headers }
     requires limits { length limits.now ≡ length (F.parts store.now).headers }
     ensures { let frames = frames_of (F.parts store.now) in MatchOption result
@@ -81,38 +81,12 @@ fn find_above_limit<F: PresentFrames>(store: &F, usages: &[u64], limits: &[u64])
     None
 }
 
-// What each bank accounts for, counted from the table, against its limit. The banks are a tree.
-fn count_above_limit<F: PresentFrames>(
-    alloc: Global,
-    store: &mut F,
-) -> Result<Option<Unbanked>, PrepareFault>
-    requires keepable { AreKeepable (F.parts store.old).geometry u64.MAX
-        (frames_of (F.parts store.old)) }
-    requires owned { AreOwned (frames_of (F.parts store.old)) }
-    ensures found { let frames = frames_of (F.parts store.old) in IfOk result (λ found.
-        MatchOption found (AreLimited frames) (λ why. IsUnbanked frames why)) }
-    ensures only_reads { OnlyReads F.parts F.ContinuesTo store.old store.new result }
-{
-    let count = store.table().count();
-    let usages = match count_usages(alloc, store, count) {
-        Ok(usages) => usages,
-        Err(_) => return Err(PrepareFault::NoMemory),
-    };
-    match read_limits(alloc, store, count) {
-        Err(fault) => Err(fault),
-        Ok(limits) => Ok(find_above_limit(store, &usages, &limits)),
-    }
-}
-
-/// Why an object isn't owned by a bank, the banks aren't a tree with number 0 at the top and at most 16 banks in a chain, or
-/// a bank accounts for more than its limit. Nothing where none of this is so. Banks are fetched one at a time for their
-/// limits.
+/// Why an object isn't owned by a bank, the banks aren't a tree with number 0 at the top and at most 16 banks
+/// in a chain, or a bank accounts for more than its limit. Nothing where none of this is so. Banks are
+/// fetched one at a time for their limits.
 ///
-/// `NoMemory` where memory ran out, and `Failed` exactly where the device failed. No object changes.
-pub fn find_unbanked<F: PresentFrames>(
-    alloc: Global,
-    store: &mut F,
-) -> Result<Option<Unbanked>, PrepareFault>
+/// `NoMemory` if memory ran out, and `Failed` exactly if the device failed. No object changes.
+pub fn find_unbanked<F: Frames>(alloc: Global, store: &mut F) -> Result<Option<Unbanked>, ReadFault>
     requires { AreKeepable (F.parts store.old).geometry u64.MAX (frames_of (F.parts store.old)) }
     ensures found { let frames = frames_of (F.parts store.old) in IfOk result (λ found.
         MatchOption found (AreBanked frames) (λ why. IsUnbanked frames why)) }
@@ -120,6 +94,11 @@ pub fn find_unbanked<F: PresentFrames>(
 {
     match find_unowned(store) {
         Some(why) => Ok(Some(why)),
-        None => count_above_limit(alloc, store),
+        None => {
+            let count = store.table().count();
+            let usages = count_usages(alloc, store, count)?;
+            let limits = read_limits(alloc, store, count)?;
+            Ok(find_above_limit(store, &usages, &limits))
+        }
     }
 }

@@ -9,17 +9,12 @@ ghost use Rattle.consistency.specs.Noted.{AreNoted};
 
 use crate::processes::{Noted, is_waiting};
 use crate::table::has_role;
-use capability::{PrepareFault, PresentFrames, objects};
-use model::{Cap, Capability, Content, Role};
-use std::alloc::Global;
+use capability::{Frames, ReadFault};
+use model::{Cap, Capability, ContentRef, Role};
 
 /// Whether the object that a capability names is what the capability is for.
 #[inline(always)]
-pub fn names_its_role<F: PresentFrames>(
-    store: &F,
-    notes: &[Option<Noted>],
-    capability: Capability,
-) -> bool
+pub fn names_its_role<F: Frames>(store: &F, notes: &[Option<Noted>], capability: Capability) -> bool
     requires { AreNoted (frames_of (F.parts store.now)) notes.now }
     ensures { IsTrue result ↔ NamesItsRole (frames_of (F.parts store.now)) capability }
 {
@@ -40,7 +35,7 @@ pub fn names_its_role<F: PresentFrames>(
 /// Whether a held capability has no greater count than its object, and where the counts are the same
 /// names what it is for.
 #[inline(always)]
-pub fn is_named<F: PresentFrames>(store: &F, notes: &[Option<Noted>], held: Cap) -> bool
+pub fn is_named<F: Frames>(store: &F, notes: &[Option<Noted>], held: Cap) -> bool
     requires { AreNoted (frames_of (F.parts store.now)) notes.now }
     ensures { IsTrue result ↔ IsNamed (frames_of (F.parts store.now)) held }
 {
@@ -52,7 +47,7 @@ pub fn is_named<F: PresentFrames>(store: &F, notes: &[Option<Noted>], held: Cap)
 }
 
 // The same of each of some capabilities.
-fn are_all_named<F: PresentFrames>(store: &F, notes: &[Option<Noted>], held: &[Cap]) -> bool
+fn are_all_named<F: Frames>(store: &F, notes: &[Option<Noted>], held: &[Cap]) -> bool
     requires { AreNoted (frames_of (F.parts store.now)) notes.now }
     ensures { IsTrue result ↔ All (IsNamed (frames_of (F.parts store.now))) held.now }
 {
@@ -65,22 +60,22 @@ fn are_all_named<F: PresentFrames>(store: &F, notes: &[Option<Noted>], held: &[C
 }
 
 // The same of each capability that an object holds, which is fetched.
-fn holds_named<F: PresentFrames>(store: &F, notes: &[Option<Noted>], number: u64) -> bool
+fn holds_named<F: Frames>(store: &F, notes: &[Option<Noted>], number: u64) -> bool
     requires fetched { F.IsFetched store.now number }
     requires notes { AreNoted (frames_of (F.parts store.now)) notes.now }
     ensures { let frames = frames_of (F.parts store.now) in
         IsTrue result ↔ All (IsNamed frames) (caps_in (frame_at frames number).content) }
 {
     match store.frame(number) {
-        Content::Node(slots) => are_all_named(store, notes, slots.as_slice()),
-        Content::Root(root) => is_named(store, notes, root.space),
-        Content::Annex(registers) => are_all_named(store, notes, registers.as_slice()),
+        ContentRef::Node(slots) => are_all_named(store, notes, &slots[..]),
+        ContentRef::Root(root) => is_named(store, notes, root.space),
+        ContentRef::Annex(registers) => are_all_named(store, notes, &registers[..]),
         _ => true,
     }
 }
 
 // Whether an object may hold capabilities, by its role.
-fn may_hold<F: PresentFrames>(store: &F, number: u64) -> bool
+fn may_hold<F: Frames>(store: &F, number: u64) -> bool
     requires { HaveTheirRoles (frames_of (F.parts store.now)) }
     ensures { result ≡ false → caps_in (frame_at (frames_of (F.parts store.now)) number).content ≡ [] }
 {
@@ -91,12 +86,11 @@ fn may_hold<F: PresentFrames>(store: &F, number: u64) -> bool
 }
 
 // The same of each capability that an object holds. It is fetched if it may hold some.
-fn has_named<F: PresentFrames>(
-    alloc: Global,
+fn has_named<F: Frames>(
     store: &mut F,
     notes: &[Option<Noted>],
     number: u64,
-) -> Result<bool, PrepareFault>
+) -> Result<bool, ReadFault>
     requires known { number < length (F.parts store.old).headers }
     requires keepable { AreKeepable (F.parts store.old).geometry u64.MAX
         (frames_of (F.parts store.old)) }
@@ -108,19 +102,16 @@ fn has_named<F: PresentFrames>(
     if !may_hold(store, number) {
         return Ok(true);
     }
-    match objects::fetch(store, alloc, &[number]) {
-        Err(fault) => Err(fault),
-        Ok(()) => Ok(holds_named(store, notes, number)),
-    }
+    store.fetch(&[number])?;
+    Ok(holds_named(store, notes, number))
 }
 
 /// Whether each capability that an object holds has no greater count than the object that it names,
 /// and where the counts are the same names what it is for. Objects are fetched one at a time.
-pub(crate) fn are_named<F: PresentFrames>(
-    alloc: Global,
+pub(crate) fn are_named<F: Frames>(
     store: &mut F,
     notes: &[Option<Noted>],
-) -> Result<bool, PrepareFault>
+) -> Result<bool, ReadFault>
     requires keepable { AreKeepable (F.parts store.old).geometry u64.MAX
         (frames_of (F.parts store.old)) }
     requires notes { AreNoted (frames_of (F.parts store.old)) notes.now }
@@ -128,10 +119,8 @@ pub(crate) fn are_named<F: PresentFrames>(
     ensures only_reads { OnlyReads F.parts F.ContinuesTo store.old store.new result }
 {
     for number in 0..store.table().count() {
-        match has_named(alloc, store, notes, number) {
-            Err(fault) => return Err(fault),
-            Ok(false) => return Ok(false),
-            Ok(true) => {}
+        if !has_named(store, notes, number)? {
+            return Ok(false);
         }
     }
     Ok(true)

@@ -8,8 +8,8 @@ ghost use Rattle.consistency.specs.Consistency.{AreWholeProcesses, IsAnnexFor, r
 ghost use Rattle.consistency.specs.Noted.{AreNoted, AreTaken, is_taken, noted_in, waits_at, IsTaking};
 
 use crate::table::{has_role, owner};
-use capability::{PrepareFault, PresentFrames, objects};
-use model::{Content, Role, State};
+use capability::{Frames, ReadFault};
+use model::{ContentRef, Role, State};
 use std::alloc::{AllocError, Global};
 
 /// What is noted of the root of a process, which may not stay in memory.
@@ -29,12 +29,12 @@ fn waits(state: State) -> bool
 }
 
 // What is noted of an object that is fetched.
-fn note_there<F: PresentFrames>(store: &F, number: u64) -> Option<Noted>
+fn note_there<F: Frames>(store: &F, number: u64) -> Option<Noted>
     requires { F.IsFetched store.now number }
     ensures { result ≡ noted_in (frame_at (frames_of (F.parts store.now)) number).content }
 {
     match store.frame(number) {
-        Content::Root(root) => Some(Noted {
+        ContentRef::Root(root) => Some(Noted {
             is_waiting: waits(root.state),
             annex: root.annex,
         }),
@@ -43,11 +43,7 @@ fn note_there<F: PresentFrames>(store: &F, number: u64) -> Option<Noted>
 }
 
 // What is noted of an object. A root is fetched for it.
-fn read_note<F: PresentFrames>(
-    alloc: Global,
-    store: &mut F,
-    number: u64,
-) -> Result<Option<Noted>, PrepareFault>
+fn read_note<F: Frames>(store: &mut F, number: u64) -> Result<Option<Noted>, ReadFault>
     requires known { number < length (F.parts store.old).headers }
     requires keepable { AreKeepable (F.parts store.old).geometry u64.MAX
         (frames_of (F.parts store.old)) }
@@ -58,32 +54,21 @@ fn read_note<F: PresentFrames>(
     if !has_role(store, number, Role::Root) {
         return Ok(None);
     }
-    match objects::fetch(store, alloc, &[number]) {
-        Err(fault) => Err(fault),
-        Ok(()) => Ok(note_there(store, number)),
-    }
+    store.fetch(&[number])?;
+    Ok(note_there(store, number))
 }
 
 /// Notes of all objects by number, nothing of what is no root. Each root is fetched, one at a time.
-pub fn read_notes<F: PresentFrames>(
-    alloc: Global,
-    store: &mut F,
-) -> Result<Vec<Option<Noted>>, PrepareFault>
+pub fn read_notes<F: Frames>(alloc: Global, store: &mut F) -> Result<Vec<Option<Noted>>, ReadFault>
     requires { AreKeepable (F.parts store.old).geometry u64.MAX (frames_of (F.parts store.old)) }
     ensures notes { IfOk result (λ notes.
         AreNoted (frames_of (F.parts store.old)) notes.items) }
     ensures only_reads { OnlyReads F.parts F.ContinuesTo store.old store.new result }
 {
     let count = store.table().count();
-    let mut notes = match Vec::with_capacity(alloc, count as usize) {
-        Ok(notes) => notes,
-        Err(_) => return Err(PrepareFault::NoMemory),
-    };
+    let mut notes = Vec::with_capacity(alloc, count as usize)?;
     for number in 0..count {
-        match read_note(alloc, store, number) {
-            Err(fault) => return Err(fault),
-            Ok(note) => notes.push_reserved(note),
-        }
+        notes.push_reserved(read_note(store, number)?);
     }
     Ok(notes)
 }
@@ -99,14 +84,14 @@ pub(crate) fn is_waiting(notes: &[Option<Noted>], number: u64) -> bool
 }
 
 /// Whether an object is an annex, and has the owner of a root.
-pub fn is_annex_for<F: PresentFrames>(store: &F, root: u64, annex: u64) -> bool
+pub fn is_annex_for<F: Frames>(store: &F, root: u64, annex: u64) -> bool
     ensures { IsTrue result ↔ IsAnnexFor (frames_of (F.parts store.now)) root annex }
 {
     has_role(store, annex, Role::Annex) && owner(store, annex) == owner(store, root)
 }
 
 // Takes the annex of a root, where it is one for it and no other root took it.
-fn take_annex<F: PresentFrames>(store: &F, taken: &mut [bool], root: u64, annex: u64) -> bool
+fn take_annex<F: Frames>(store: &F, taken: &mut [bool], root: u64, annex: u64) -> bool
     requires { length taken.old ≡ length (F.parts store.now).headers }
     ensures yes { IsTrue result → IsTaking (frames_of (F.parts store.now)) root annex
         taken.old taken.new }
@@ -124,7 +109,7 @@ fn take_annex<F: PresentFrames>(store: &F, taken: &mut [bool], root: u64, annex:
 }
 
 // Takes the annexes of all roots, from none. Whether each is one for its root and is taken once.
-fn take_annexes<F: PresentFrames>(store: &F, notes: &[Option<Noted>], taken: &mut [bool]) -> bool
+fn take_annexes<F: Frames>(store: &F, notes: &[Option<Noted>], taken: &mut [bool]) -> bool
     requires size { length taken.old ≡ length (F.parts store.now).headers }
     requires none { (a : ℕ) → is_taken taken.old a ≡ false }
     requires notes { AreNoted (frames_of (F.parts store.now)) notes.now }
@@ -143,7 +128,7 @@ fn take_annexes<F: PresentFrames>(store: &F, notes: &[Option<Noted>], taken: &mu
 }
 
 // Whether each annex is taken.
-fn are_all_taken<F: PresentFrames>(store: &F, taken: &[bool]) -> bool
+fn are_all_taken<F: Frames>(store: &F, taken: &[bool]) -> bool
     requires { length taken.now ≡ length (F.parts store.now).headers }
     ensures { IsTrue result ↔ ((a : ℕ) → role_at (frames_of (F.parts store.now)) a ≡ Role.Annex
         → is_taken taken.now a ≡ true) }
@@ -157,7 +142,7 @@ fn are_all_taken<F: PresentFrames>(store: &F, taken: &[bool]) -> bool
 }
 
 // Whether each process is a root and an annex. `taken` marks no annex at first.
-fn are_matched<F: PresentFrames>(store: &F, notes: &[Option<Noted>], taken: &mut [bool]) -> bool
+fn are_matched<F: Frames>(store: &F, notes: &[Option<Noted>], taken: &mut [bool]) -> bool
     requires size { length taken.old ≡ length (F.parts store.now).headers }
     requires none { (a : ℕ) → is_taken taken.old a ≡ false }
     requires notes { AreNoted (frames_of (F.parts store.now)) notes.now }
@@ -171,7 +156,7 @@ fn are_matched<F: PresentFrames>(store: &F, notes: &[Option<Noted>], taken: &mut
 
 /// Whether each process is a root and an annex: a root's annex is one, with its owner, and each
 /// annex has one root. Fails only where memory runs out.
-pub(crate) fn are_whole<F: PresentFrames>(
+pub(crate) fn are_whole<F: Frames>(
     alloc: Global,
     store: &F,
     notes: &[Option<Noted>],

@@ -3,18 +3,18 @@ ghost use Rattle.std.specs.Prelude.{◌≡◌, ◌↔◌, IsTrue};
 ghost use Rattle.capability.specs.Parts.{frames_of};
 ghost use Rattle.consistency.specs.Consistency.{owner_of, role_at};
 
-use capability::PresentFrames;
+use capability::Frames;
 use model::Role;
 
 /// Whether an object has a role. What is no number is free.
-pub fn has_role<F: PresentFrames>(store: &F, number: u64, role: Role) -> bool
+pub fn has_role<F: Frames>(store: &F, number: u64, role: Role) -> bool
     ensures { IsTrue result ↔ (role_at (frames_of (F.parts store.now)) number ≡ role) }
 {
     store.table().header(number).role == role
 }
 
 // The owner of an object.
-pub(crate) fn owner<F: PresentFrames>(store: &F, number: u64) -> u64
+pub(crate) fn owner<F: Frames>(store: &F, number: u64) -> u64
     ensures { result ≡ owner_of (frames_of (F.parts store.now)) number }
 {
     store.table().header(number).owner

@@ -7,7 +7,7 @@ use std::marker::Model;
 /// How many slots a node has, and how many registers a process.
 pub const SLOTS: usize = 32;
 
-/// The 32 slots of a node, or registers of a process.
+/// The 32 slots of a node, or registers of a process, in memory of their own.
 #[derive(Drop)]
 pub struct Slots<C> {
     items: Vec<C>,
@@ -47,6 +47,16 @@ impl<C: Copy> Slots<C> {
     }
 
     /// The slots in order.
+    pub fn as_array(&self) -> &[C; 32]
+        ensures { result.now ≡ self.now }
+    {
+        match self.as_slice().try_into() {
+            Ok(slots) => slots,
+            Err(_) => unreachable!(),
+        }
+    }
+
+    /// The slots in order.
     pub fn as_slice(&self) -> &[C]
         ensures value { result.now ≡ self.now }
         ensures length { length self.now ≡ 32 }
@@ -54,13 +64,13 @@ impl<C: Copy> Slots<C> {
         self.items.as_slice()
     }
 
-    /// The same slots again. Fails only where memory runs out.
-    pub fn copy(&self, alloc: Global) -> Result<Self, AllocError>
-        ensures { IfOk result (λ slots. slots ≡ self.now) }
+    /// The same slots as these. Fails only where memory runs out.
+    pub fn of(alloc: Global, slots: &[C; 32]) -> Result<Self, AllocError>
+        ensures { IfOk result (λ copy. copy ≡ slots.now) }
     {
         let mut items = Vec::with_capacity(alloc, SLOTS)?;
-        for held in self.as_slice() {
-            items.push(*held)?;
+        for index in 0..SLOTS {
+            items.push(slots[index])?;
         }
         Ok(Slots { items })
     }
@@ -71,14 +81,5 @@ impl<C: Copy> Slots<C> {
         ensures set { self.new ≡ slice_set self.old index held }
     {
         self.items[index] = held;
-    }
-
-    /// Puts this into all slots.
-    pub fn fill(&mut self, held: C)
-        ensures { self.new ≡ replicate 32 held }
-    {
-        for slot in 0..SLOTS {
-            self.items[slot] = held;
-        }
     }
 }

@@ -1,42 +1,23 @@
-// The 512 words of a page.
-ghost use Rattle.std.specs.Prelude.{◌≡◌, ℕ, ◌<◌, ◌≤◌, List, length, replicate, IfOk, slice_index, slice_set};
-ghost use Rattle.contents.specs.Words.{IsZeroFrom};
+// The 512 words of a page, in memory of their own.
+ghost use Rattle.std.specs.Prelude.{◌≡◌, ◌<◌, length, replicate, IfOk, slice_index, slice_set};
 ghost use Rattle.std.specs.Borrow.{Lends, sem, Array, u64 as word};
 
+use crate::page::Page;
 use std::alloc::{AllocError, Global};
 use std::marker::Model;
 
-/// How many words of 64 bits a page has.
-pub const WORDS: usize = 512;
-
-// Makes the words before an index 0. The others are.
-fn clear_before(words: &mut [u64], end: usize)
-    requires count { length words.old ≡ 512 }
-    requires zero { IsZeroFrom end words.old }
-    ensures { words.new ≡ replicate 512 0 }
-{
-    for index in 0..end {
-        words[index] = 0;
-    }
-}
-
-/// The 512 words of a page.
+/// The 512 words of a page, in memory of their own.
 #[derive(Drop)]
 pub struct Words {
-    items: Box<[u64; 512]>,
-    /// All words from this index on are 0, so `clear` writes only those before it.
-    end: usize,
+    page: Box<Page>,
 }
 
 impl Model for Words {
     ghost use Rattle.std.specs.Prelude.{List, ℕ};
-    ghost use Rattle.contents.specs.Words.{IsZeroFrom};
 
     ghost Value = { List ℕ };
 
-    ghost view = { λ w. w.items.value };
-
-    ghost invariant = { λ w. IsZeroFrom w.end w.items.value };
+    ghost view = { λ w. w.page.value };
 }
 
 impl Words {
@@ -47,8 +28,16 @@ impl Words {
         ensures { IfOk result (λ words. words ≡ replicate 512 0) }
     {
         Ok(Words {
-            items: Box::new(alloc, [0; 512])?,
-            end: 0,
+            page: Box::new(alloc, Page::blank())?,
+        })
+    }
+
+    /// The same words as these. Fails only where memory runs out.
+    pub fn of(alloc: Global, words: &[u64; 512]) -> Result<Self, AllocError>
+        ensures { IfOk result (λ copy. copy ≡ words.now) }
+    {
+        Ok(Words {
+            page: Box::new(alloc, Page::of(words))?,
         })
     }
 
@@ -58,7 +47,14 @@ impl Words {
         ensures value { result ≡ slice_index self.now index }
         ensures length { length self.now ≡ 512 }
     {
-        self.as_slice()[index]
+        self.as_array()[index]
+    }
+
+    /// The words in order.
+    pub fn as_array(&self) -> &[u64; 512]
+        ensures { result.now ≡ self.now }
+    {
+        self.page.as_array()
     }
 
     /// The words in order.
@@ -66,7 +62,7 @@ impl Words {
         ensures value { result.now ≡ self.now }
         ensures length { length self.now ≡ 512 }
     {
-        &self.items[..]
+        &self.as_array()[..]
     }
 
     /// Lends all words, to be written.
@@ -75,22 +71,9 @@ impl Words {
         ensures value { result.now ≡ self.old }
         ensures length { length self.old ≡ 512 }
     {
-        // A look at the words makes their count known here.
-        let _count = self.as_slice().len();
-        self.end = WORDS;
-        let items = &mut self.items;
-        let words = &mut **items;
-        words.as_mut_slice()
-    }
-
-    /// The same words again. Fails only where memory runs out.
-    pub fn copy(&self, alloc: Global) -> Result<Self, AllocError>
-        ensures { IfOk result (λ words. words ≡ self.now) }
-    {
-        Ok(Words {
-            items: Box::new(alloc, *self.items)?,
-            end: self.end,
-        })
+        let page = &mut self.page;
+        let page = &mut **page;
+        page.as_mut_slice()
     }
 
     /// Puts this word at an index.
@@ -98,17 +81,6 @@ impl Words {
         requires { index < 512 }
         ensures set { self.new ≡ slice_set self.old index word }
     {
-        self.items[index] = word;
-        if self.end <= index {
-            self.end = index + 1;
-        }
-    }
-
-    /// Makes all words 0.
-    pub fn clear(&mut self)
-        ensures { self.new ≡ replicate 512 0 }
-    {
-        clear_before(&mut self.items[..], self.end);
-        self.end = 0;
+        self.page.set(index, word);
     }
 }

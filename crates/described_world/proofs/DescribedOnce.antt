@@ -38,8 +38,10 @@ root_once p f g one other =
     let state : one.0 ≡ other.0 = ap (λ (o : Option State). unwrap_or o one.0) (sym one.2 ∙ other.2) in
     let space : one.1 ≡ other.1 = ap (λ (o : Option Capability). unwrap_or o one.1) (sym one.3 ∙ other.3) in
     one.4
-    ∙ ap (λ (s : State). first_frame p.owner (content.Root (record { state = s; words = p.words; key = p.key; annex = p.annex; space = fresh_cap one.1 }))) state
-    ∙ ap (λ (c : Capability). first_frame p.owner (content.Root (record { state = other.0; words = p.words; key = p.key; annex = p.annex; space = fresh_cap c }))) space
+    ∙ ap (λ (s : State). first_frame p.owner (content.Root (record { state = s; words = p.words; key = p.key; annex = p.annex; space = fresh_cap one.1 })))
+    state
+    ∙ ap (λ (c : Capability). first_frame p.owner
+    (content.Root (record { state = other.0; words = p.words; key = p.key; annex = p.annex; space = fresh_cap c }))) space
     ∙ sym other.4
 
 annex_once : (p : ProcessEntry) (f g : Frame) → IsDescribedAnnex p f → IsDescribedAnnex p g → f ≡ g
@@ -61,16 +63,25 @@ module _ (d : Description) (fs gs : List Frame) (one : IsDescribed d fs) (other 
 
   same_nodes : All Same (node_numbers d)
   same_nodes =
-      All-append Same (map (λ b. b.number) d.banks.items ++ map (λ p. p.root) d.processes.items ++ map (λ p. p.annex) d.processes.items) (map (λ n. n.number) d.nodes.items)
+      All-append Same (map (λ b. b.number) d.banks.items ++ map (λ p. p.root) d.processes.items ++ map (λ p. p.annex) d.processes.items)
+      (map (λ n. n.number) d.nodes.items)
       (All-append Same (map (λ b. b.number) d.banks.items ++ map (λ p. p.root) d.processes.items) (map (λ p. p.annex) d.processes.items)
       (All-append Same (map (λ b. b.number) d.banks.items) (map (λ p. p.root) d.processes.items)
       (All-map Same (λ b. b.number) d.banks.items (λ k b inside. one.banks k b inside ∙ sym (other.banks k b inside)))
-      (All-map Same (λ p. p.root) d.processes.items (λ k p inside. let e = slice_index_or d.processes.items k p in root_once e (frame_at fs e.root) (frame_at gs e.root) (one.roots k p inside) (other.roots k p inside))))
-      (All-map Same (λ p. p.annex) d.processes.items (λ k p inside. let e = slice_index_or d.processes.items k p in annex_once e (frame_at fs e.annex) (frame_at gs e.annex) (one.annexes k p inside) (other.annexes k p inside))))
-      (All-map Same (λ n. n.number) d.nodes.items (λ k n inside. let e = slice_index_or d.nodes.items k n in node_once e (frame_at fs e.number) (frame_at gs e.number) (one.nodes k n inside) (other.nodes k n inside)))
+      (All-map Same (λ p. p.root) d.processes.items
+      (λ k p inside. let e = slice_index_or d.processes.items k p in root_once e (frame_at fs e.root) (frame_at gs e.root) (one.roots k p inside)
+      (other.roots k p inside))))
+      (All-map Same (λ p. p.annex) d.processes.items
+      (λ k p inside. let e = slice_index_or d.processes.items k p in annex_once e (frame_at fs e.annex) (frame_at gs e.annex) (one.annexes k p inside)
+      (other.annexes k p inside))))
+      (All-map Same (λ n. n.number) d.nodes.items
+      (λ k n inside. let e = slice_index_or d.nodes.items k n in node_once e (frame_at fs e.number) (frame_at gs e.number) (one.nodes k n inside)
+      (other.nodes k n inside)))
 
   same_pages : All Same (page_numbers d)
-  same_pages = All-map Same (λ p. p.number) d.pages.items (λ k p inside. let e = slice_index_or d.pages.items k p in page_once e (frame_at fs e.number) (frame_at gs e.number) (one.pages k p inside) (other.pages k p inside))
+  same_pages = All-map Same (λ p. p.number) d.pages.items
+      (λ k p inside. let e = slice_index_or d.pages.items k p in page_once e (frame_at fs e.number) (frame_at gs e.number) (one.pages k p inside)
+      (other.pages k p inside))
 
   same_at : (n : ℕ) → frame_at fs n ≡ frame_at gs n
   same_at n = elim (in_or_out (node_numbers d ++ page_numbers d) n) [

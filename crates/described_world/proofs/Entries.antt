@@ -52,7 +52,8 @@ of_entries d (OfNode n) h =
 of_entries d (OfPage p) h =
     Contains-append_right (banks_of d ++ roots_of d ++ annexes_of d ++ nodes_of d) (pages_of d) (OfPage p) (contains_map OfPage p d.pages.items h)
 
-from_map : {X : Type 0} → (d : Description) (f : X → Entry) (xs : List X) (e : Entry) → ((x : X) → Contains xs x → IsOf d (f x)) → Contains (map f xs) e → IsOf d e
+from_map : {X : Type 0} → (d : Description) (f : X → Entry) (xs : List X) (e : Entry) → ((x : X) → Contains xs x → IsOf d (f x)) → Contains (map f xs) e →
+    IsOf d e
 from_map d f xs e each h = let found = map_contains f e xs h in subst (IsOf d) found.2 (each found.0 found.1)
 
 pub entries_of : (d : Description) (e : Entry) → Contains (entries d) e → IsOf d e

@@ -28,7 +28,8 @@ holds_named first es are = record {
       let size : length (slots_of es) ≡ 32 = length_each (λ s. s.index) slot_held es void_slots ∙ length-replicate 32 void_held in
       slice_get-get_or (slots_of es) i void_held (subst (λ n. i < n) (sym size) lt)
       ∙ ap Some
-      (each_at (λ s. s.index) slot_held es void_slots i void_held are.distinct (λ k d inside. subst (λ n. (slice_index_or es k d).index < n) (sym (length-replicate 32 void_held)) (are.places k d inside).1)
+      (each_at (λ s. s.index) slot_held es void_slots i void_held are.distinct
+      (λ k d inside. subst (λ n. (slice_index_or es k d).index < n) (sym (length-replicate 32 void_held)) (are.places k d inside).1)
       ∙ ap (λ v. first_named (λ s. s.index) slot_held v es i) (same_at 32 i void_held)
       ∙ first_map (λ s. s.index) (λ s. unwrap_or s.capability Void) fresh_cap Void es i);
 }
@@ -41,7 +42,8 @@ holds_words es are = record {
       let size : length (words_of es) ≡ 512 = length_each (λ w. w.index) (λ w. w.word) es zeros ∙ length-replicate {A = ℕ} 512 0 in
       slice_get-get_or (words_of es) i 0 (subst (λ n. i < n) (sym size) lt)
       ∙ ap Some
-      (each_at (λ w. w.index) (λ w. w.word) es zeros i 0 are.distinct (λ k d inside. subst (λ n. (slice_index_or es k d).index < n) (sym (length-replicate {A = ℕ} 512 0)) (are.places k d inside))
+      (each_at (λ w. w.index) (λ w. w.word) es zeros i 0 are.distinct
+      (λ k d inside. subst (λ n. (slice_index_or es k d).index < n) (sym (length-replicate {A = ℕ} 512 0)) (are.places k d inside))
       ∙ ap (λ v. first_named (λ w. w.index) (λ w. w.word) v es i) (same_at 512 i 0));
 }
 
@@ -78,11 +80,13 @@ follows g (Resume p) is formed target = ((target, node_fits g p is target), no_c
 follows g (Bank b) is formed target = ((target, node_fits g b is target), no_count)
 follows g Discrim is formed target = refl
 
-slot_kept : (g : Geometry) (o : Option Capability) → IsGeometry g → IsSomeCapability o → IsTarget g (unwrap_or o Void) → IsKeptCap g 0 (fresh_cap (unwrap_or o Void))
+slot_kept : (g : Geometry) (o : Option Capability) → IsGeometry g → IsSomeCapability o → IsTarget g (unwrap_or o Void) →
+    IsKeptCap g 0 (fresh_cap (unwrap_or o Void))
 slot_kept g None is formed target = absurd formed
 slot_kept g (Some c) is formed target = follows g c is formed target
 
-space_kept : (g : Geometry) (o : Option Capability) → IsGeometry g → IsSpaceEntry o → IsTarget g (unwrap_or o Void) → IsKeptCap g 0 (fresh_cap (unwrap_or o Void)) × IsSpace (unwrap_or o Void)
+space_kept : (g : Geometry) (o : Option Capability) → IsGeometry g → IsSpaceEntry o → IsTarget g (unwrap_or o Void) →
+    IsKeptCap g 0 (fresh_cap (unwrap_or o Void)) × IsSpace (unwrap_or o Void)
 space_kept g None is formed target = absurd formed
 space_kept g (Some c) is formed target = (follows g c is formed.0 target, formed.1)
 
@@ -96,7 +100,8 @@ slots_kept g first es is are targets = record {
 
 -- The frame of an object.
 
-kept_entry : (d : Description) (e : Entry) → IsGeometry d.geometry → HasNumbers d → HasFields d → HasTargets d.geometry d → IsOf d e → Fits e → IsKept d.geometry 0 (frame_of e)
+kept_entry : (d : Description) (e : Entry) → IsGeometry d.geometry → HasNumbers d → HasFields d → HasTargets d.geometry d → IsOf d e → Fits e →
+    IsKept d.geometry 0 (frame_of e)
 kept_entry d (OfBank b) is numbers fields targets of fits = record {
   role = refl;
   allocations = no_count;
@@ -259,13 +264,16 @@ laid_same entry xs ys old new same is = subst (λ zs. IsLaid (map entry zs) old 
 
 pub laid_five : (d : Description) (bs : List BankEntry) (rs annexes : List ProcessEntry) (ns : List NodeEntry) (ps : List PageEntry) (w0 w1 w2 w3 w4 w5 : World)
     → bs ≡ d.banks.items → rs ≡ d.processes.items → annexes ≡ d.processes.items → ns ≡ d.nodes.items → ps ≡ d.pages.items
-    → IsLaid (map OfBank bs) w0 w1 → IsLaid (map OfRoot rs) w1 w2 → IsLaid (map OfAnnex annexes) w2 w3 → IsLaid (map OfNode ns) w3 w4 → IsLaid (map OfPage ps) w4 w5
+    → IsLaid (map OfBank bs) w0 w1 → IsLaid (map OfRoot rs) w1 w2 → IsLaid (map OfAnnex annexes) w2 w3 → IsLaid (map OfNode ns) w3 w4 →
+    IsLaid (map OfPage ps) w4 w5
     → IsLaid (entries d) w0 w5
 laid_five d bs rs annexes ns ps w0 w1 w2 w3 w4 w5 eb er ea en ep b r a n p =
     let one = laid_same OfBank bs d.banks.items w0 w1 eb b in
     let two = laid_both (map OfBank d.banks.items) (map OfRoot d.processes.items) w0 w1 w2 one (laid_same OfRoot rs d.processes.items w1 w2 er r) in
-    let three = laid_both (map OfBank d.banks.items ++ map OfRoot d.processes.items) (map OfAnnex d.processes.items) w0 w2 w3 two (laid_same OfAnnex annexes d.processes.items w2 w3 ea a) in
+    let three = laid_both (map OfBank d.banks.items ++ map OfRoot d.processes.items) (map OfAnnex d.processes.items) w0 w2 w3 two
+    (laid_same OfAnnex annexes d.processes.items w2 w3 ea a) in
     let four = laid_both (map OfBank d.banks.items ++ map OfRoot d.processes.items ++ map OfAnnex d.processes.items) (map OfNode d.nodes.items) w0 w3 w4 three
     (laid_same OfNode ns d.nodes.items w3 w4 en n) in
-    laid_both (map OfBank d.banks.items ++ map OfRoot d.processes.items ++ map OfAnnex d.processes.items ++ map OfNode d.nodes.items) (map OfPage d.pages.items) w0 w4 w5 four
+    laid_both (map OfBank d.banks.items ++ map OfRoot d.processes.items ++ map OfAnnex d.processes.items ++ map OfNode d.nodes.items) (map OfPage d.pages.items)
+    w0 w4 w5 four
     (laid_same OfPage ps d.pages.items w4 w5 ep p)

@@ -38,7 +38,8 @@ more_laid entry es old now next i e split fits put was = record {
   contents = put.contents ∙ was.contents;
 }
 
-pub all_laid : {E : Type 0} → (entry : E → Entry) (es : List E) (old now : World) (i : ℕ) → length es ≤ i → IsLaying entry es old now i → IsLaid (map entry es) old now
+pub all_laid : {E : Type 0} → (entry : E → Entry) (es : List E) (old now : World) (i : ℕ) → length es ≤ i → IsLaying entry es old now i →
+    IsLaid (map entry es) old now
 unfolding laid
 all_laid entry es old now i done was = record {
   frames = sym (ap (λ fs. laid (map entry fs) (frames_of now)) (drop_all i es done)) ∙ was.frames;
@@ -56,5 +57,6 @@ pub still_within : (n count old : ℕ) → n < old → count ≡ old → n < cou
 still_within n count old within same = omega arith
 
 -- a frame put with a content is one put with an equal content
-pub put_same : (n owner : ℕ) (one other : Content Cap) (old new : World) → one ≡ other → IsPut n (first_frame owner one) old new → IsPut n (first_frame owner other) old new
+pub put_same : (n owner : ℕ) (one other : Content Cap) (old new : World) → one ≡ other → IsPut n (first_frame owner one) old new →
+    IsPut n (first_frame owner other) old new
 put_same n owner one other old new same put = subst (λ held. IsPut n (first_frame owner held) old new) same put

@@ -53,7 +53,8 @@ module _ {E V : Type 0} (index : E → ℕ) (value : E → V) where
   pub first_there : (default : V) (e : E) (es : List E) (i : ℕ) → index e ≡ i → first_named index value default (e ∷ es) i ≡ value e
   first_there default e es i is = grind (arith, nat_tests)
 
-  pub first_beyond : (default : V) (e : E) (es : List E) (i : ℕ) → index e ≢ i → first_named index value default (e ∷ es) i ≡ first_named index value default es i
+  pub first_beyond : (default : V) (e : E) (es : List E) (i : ℕ) → index e ≢ i → first_named index value default (e ∷ es) i ≡ first_named index value default es
+      i
   first_beyond default e es i differ = grind (arith, nat_tests)
 
   -- nothing is named for an index that isn't there
@@ -79,7 +80,8 @@ module _ {E V : Type 0} (index : E → ℕ) (value : E → V) where
   length_each (e ∷ es) xs = length_each es (slice_set xs (index e) (value e)) ∙ length-set xs (index e) (value e)
 
   -- what isn't named stays
-  pub each_other : (es : List E) (xs : List V) (i : ℕ) (d : V) → (Contains (map index es) i → ⊥) → slice_index_or (set_each index value es xs) i d ≡ slice_index_or xs i d
+  pub each_other : (es : List E) (xs : List V) (i : ℕ) (d : V) → (Contains (map index es) i → ⊥) →
+      slice_index_or (set_each index value es xs) i d ≡ slice_index_or xs i d
   each_other [] xs i d none = refl
   each_other (e ∷ es) xs i d none =
       each_other es (slice_set xs (index e) (value e)) i d (λ h. none (contains_there i (index e) (map index es) h))
@@ -93,7 +95,8 @@ module _ {E V : Type 0} (index : E → ℕ) (value : E → V) where
       let next : List V = slice_set xs (index e) (value e) in
       let size : length next ≡ length xs = length-set xs (index e) (value e) in
       let lt : index e < length xs = All-head (λ e. index e < length xs) e es within in
-      let rest : All (λ e. index e < length next) es = λ k f inside. subst (λ n. index (slice_index_or es k f) < n) (sym size) (All-tail (λ e. index e < length xs) e es within k f inside) in
+      let rest : All (λ e. index e < length next) es = λ k f inside. subst (λ n. index (slice_index_or es k f) < n) (sym size)
+      (All-tail (λ e. index e < length xs) e es within k f inside) in
       elim (cases_eq (index e) i) [
         | inl is ↦
             each_other es next i d (λ h. distinct.0 (subst (Contains (map index es)) (sym is) h))
@@ -115,7 +118,8 @@ pub first_map : {E V W : Type 0} → (index : E → ℕ) (value : E → V) (f : 
 first_map index value f default [] i = refl
 first_map index value f default (e ∷ es) i = elim (cases_eq (index e) i) [
   | inl is ↦ first_there index (λ e. f (value e)) (f default) e es i is ∙ ap f (sym (first_there index value default e es i is))
-  | inr differ ↦ first_beyond index (λ e. f (value e)) (f default) e es i differ ∙ first_map index value f default es i ∙ ap f (sym (first_beyond index value default e es i differ))
+  | inr differ ↦ first_beyond index (λ e. f (value e)) (f default) e es i differ ∙ first_map index value f default es i ∙
+      ap f (sym (first_beyond index value default e es i differ))
 ]
 
 module _ {E V : Type 0} (index : E → ℕ) (value : E → V) where
@@ -132,7 +136,8 @@ module _ {E V : Type 0} (index : E → ℕ) (value : E → V) where
   pub each_holds : (P : V → Type 0) (es : List E) (xs : List V) → All P xs → All (λ e. P (value e)) es → All P (set_each index value es xs)
   each_holds P [] xs old new = old
   each_holds P (e ∷ es) xs old new =
-      each_holds P es (slice_set xs (index e) (value e)) (All-set P xs (index e) (value e) (All-head (λ f. P (value f)) e es new) old) (All-tail (λ f. P (value f)) e es new)
+      each_holds P es (slice_set xs (index e) (value e)) (All-set P xs (index e) (value e) (All-head (λ f. P (value f)) e es new) old)
+      (All-tail (λ f. P (value f)) e es new)
 
 -- a slice from an index on is what is left from there
 pub rest_is : {X : Type 0} → (xs : List X) (k : ℕ) → take (length xs - k) (drop k xs) ≡ drop k xs
@@ -149,7 +154,8 @@ pub number_apart : (ns : List ℕ) (i : ℕ) → i < length ns → (AreDistinct 
     → (Any (λ m. m ≡ slice_index_or ns i 0) (take (length ns - (i + 1)) (drop (i + 1) ns)) → ⊥) → AreDistinct ns ↔ AreDistinct (drop (i + 1) ns)
 number_apart ns i lt was apart = (
   λ distinct. (subst AreDistinct (drop_more ns i 0 lt) (was.0 distinct)).1,
-  λ rest. was.1 (subst AreDistinct (sym (drop_more ns i 0 lt)) ((λ h. apart (subst (Any (λ m. m ≡ slice_index_or ns i 0)) (sym (rest_is ns (i + 1))) (h.0, slice_index_or ns i 0, h.1, h.2, refl))), rest)),
+  λ rest. was.1 (subst AreDistinct (sym (drop_more ns i 0 lt))
+      ((λ h. apart (subst (Any (λ m. m ≡ slice_index_or ns i 0)) (sym (rest_is ns (i + 1))) (h.0, slice_index_or ns i 0, h.1, h.2, refl))), rest)),
 )
 
 pub numbers_done : (ns : List ℕ) (i : ℕ) → length ns ≤ i → (AreDistinct ns ↔ AreDistinct (drop i ns)) → AreDistinct ns
@@ -181,15 +187,20 @@ module _ {E : Type 0} (index : E → ℕ) where
       → Any (λ e. index e ≡ index (slice_index_or es i d)) (take (length es - (i + 1)) (drop (i + 1) es)) → AreDistinct (map index es) → ⊥
   index_twice es i d lt was found distinct =
       let there = subst (Any (λ e. index e ≡ index (slice_index_or es i d))) (rest_is es (i + 1)) found in
-      let now : AreDistinct (map index (slice_index_or es i d ∷ drop (i + 1) es)) = subst (λ (t : List E). AreDistinct (map index t)) (drop_more es i d lt) (was.0 distinct) in
+      let now : AreDistinct (map index (slice_index_or es i d ∷ drop (i + 1) es)) = subst (λ (t : List E). AreDistinct (map index t)) (drop_more es i d lt)
+      (was.0 distinct) in
       now.0 (any_index (drop (i + 1) es) (index (slice_index_or es i d)) there)
 
   pub index_apart : (es : List E) (i : ℕ) (d : E) → i < length es → (AreDistinct (map index es) ↔ AreDistinct (map index (drop i es)))
-      → (Any (λ e. index e ≡ index (slice_index_or es i d)) (take (length es - (i + 1)) (drop (i + 1) es)) → ⊥) → AreDistinct (map index es) ↔ AreDistinct (map index (drop (i + 1) es))
+      → (Any (λ e. index e ≡ index (slice_index_or es i d)) (take (length es - (i + 1)) (drop (i + 1) es)) → ⊥) →
+      AreDistinct (map index es) ↔ AreDistinct (map index (drop (i + 1) es))
   index_apart es i d lt was apart = (
     λ distinct. (subst (λ (t : List E). AreDistinct (map index t)) (drop_more es i d lt) (was.0 distinct)).1,
-    λ rest. was.1 (subst (λ (t : List E). AreDistinct (map index t)) (sym (drop_more es i d lt))
-        ((λ h. apart (subst (Any (λ e. index e ≡ index (slice_index_or es i d))) (sym (rest_is es (i + 1))) (index_any (drop (i + 1) es) (index (slice_index_or es i d)) h))), rest)),
+    λ rest. was.1 (subst (λ (t : List E). AreDistinct (map index t)) (sym (drop_more es i d lt)) (
+      (λ h. apart (subst (Any (λ e. index e ≡ index (slice_index_or es i d))) (sym (rest_is es (i + 1)))
+          (index_any (drop (i + 1) es) (index (slice_index_or es i d)) h))),
+      rest,
+    )),
   )
 
   pub index_done : (es : List E) (i : ℕ) → length es ≤ i → (AreDistinct (map index es) ↔ AreDistinct (map index (drop i es))) → AreDistinct (map index es)

@@ -135,7 +135,8 @@ module _ (d : Description) (fs : List Frame) (numbers : HasNumbers d) (is : IsDe
   held_target c named = role_target c (named.live (never_raised d fs c numbers is))
 
   -- the capabilities of slots
-  slots_targets : (first : ℕ) (es : List SlotEntry) (slots : List Cap) → AreSlots first es → HoldsNamed es slots → All (IsNamed fs) slots → AreTargets d.geometry es
+  slots_targets : (first : ℕ) (es : List SlotEntry) (slots : List Cap) → AreSlots first es → HoldsNamed es slots → All (IsNamed fs) slots →
+      AreTargets d.geometry es
   slots_targets first es slots are holds named = all_from _ es (λ s of.
       let place = All-contains (λ t. (first ≤ t.index) × (t.index < 32)) es s are.places of in
       let what = first_of (λ t. t.index) (λ t. unwrap_or t.capability Void) Void es s are.distinct of in

@@ -1,5 +1,5 @@
 -- The names that the proofs here cite: of other crates, and of the definitions of this one.
-pub use Rattle.capability.proofs.Frames.{set_in}
+pub use Rattle.capability.proofs.FrameLists.{set_in}
 pub use Rattle.capability.specs.Plain.{fresh_cap}
 pub use Rattle.consistency.specs.Consistency.{AreNamed, AreWholeProcesses, IsAnnexFor, IsNamed, IsRootOf, NamesItsRole, annex_in, is_waiting_root, owner_of}
 pub use Rattle.consistency.specs.Consistency.{role_at}

@@ -19,7 +19,8 @@ annex_of f = annex_in f.content
 abbrev role_in : Frame → Role
 role_in f = f.header.role
 
-rooted : (d : Description) (e : Entry) (f : Frame) (p a : ℕ) → IsOf d e → number_of e ≡ p → IsFrameOf e f → annex_of f ≡ Some a → (q : ProcessEntry) × IsProcess d q p a
+rooted : (d : Description) (e : Entry) (f : Frame) (p a : ℕ) → IsOf d e → number_of e ≡ p → IsFrameOf e f → annex_of f ≡ Some a →
+    (q : ProcessEntry) × IsProcess d q p a
 rooted d (OfBank b) f p a of is frame root = let none : None ≡ Some a = sym (ap annex_of frame) ∙ root in absurd cc
 rooted d (OfRoot q) f p a of is frame root =
     let same : Some q.annex ≡ Some a = sym (ap annex_of frame.4) ∙ root in

@@ -15,7 +15,8 @@ abbrev pub first_header : Role → ℕ → ObjectHeader
 first_header role owner = record { role = role; allocations = 0; calls = 0; owner = owner }
 
 -- a header and a content at a number are a frame put there
-pub put_there : (w : World) (n owner : ℕ) (held : Content Cap) (role : Role) → role ≡ role_of held → n < vec_len w.headers → vec_len w.contents ≡ vec_len w.headers
+pub put_there : (w : World) (n owner : ℕ) (held : Content Cap) (role : Role) → role ≡ role_of held → n < vec_len w.headers →
+    vec_len w.contents ≡ vec_len w.headers
     → IsPut n (first_frame owner held) w (record { headers = with_item w.headers n (first_header role owner); contents = with_item w.contents n held })
 put_there w n owner held role is within even = record {
   frames = set_in w.headers.items w.contents.items n (first_header role owner) held (omega (arith, within, even, w.contents.ok.0))

@@ -101,13 +101,16 @@ IsDescribedRoot p f = (state : State) × (space : Capability) × (p.state ≡ So
     (record { state = state; words = p.words; key = p.key; annex = p.annex; space = fresh_cap space })))
 
 abbrev pub IsDescribedAnnex : ProcessEntry → Frame → Type 0
-IsDescribedAnnex p f = (slots : List Cap) × HoldsNamed p.registers.items slots × (f ≡ first_frame p.owner (content.Annex slots))
+IsDescribedAnnex p f = (slots : List Cap) × HoldsNamed p.registers.items slots ×
+    (f ≡ first_frame p.owner (content.Annex slots))
 
 abbrev pub IsDescribedNode : NodeEntry → Frame → Type 0
-IsDescribedNode n f = (slots : List Cap) × HoldsNamed n.slots.items slots × (f ≡ first_frame n.owner (content.Node slots))
+IsDescribedNode n f = (slots : List Cap) × HoldsNamed n.slots.items slots ×
+    (f ≡ first_frame n.owner (content.Node slots))
 
 abbrev pub IsDescribedPage : PageEntry → Frame → Type 0
-IsDescribedPage p f = (words : List ℕ) × HasNamedWords p.words.items words × (f ≡ first_frame p.owner (content.Page words))
+IsDescribedPage p f = (words : List ℕ) × HasNamedWords p.words.items words ×
+    (f ≡ first_frame p.owner (content.Page words))
 
 -- the frames of a description: the objects that it names, and all else free
 pub record IsDescribed (d : Description) (frames : List Frame) : Type 0 where
@@ -121,7 +124,8 @@ pub record IsDescribed (d : Description) (frames : List Frame) : Type 0 where
 
 -- The faults.
 
--- the least fault of a description: of a number, else of a field, else a capability that can't name an object of its kind
+-- the least fault of a description: of a number, else of a field, else a capability that can't name an object of its
+-- kind
 abbrev pub IsWorldFault : Description → WorldFault → Type 0
 IsWorldFault d fault.Number = HasNumbers d → ⊥
 IsWorldFault d fault.Field = HasNumbers d × (HasFields d → ⊥)

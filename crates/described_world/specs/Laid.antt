@@ -19,7 +19,8 @@ pub data Entry : Type 0 where
 
 -- all of them
 abbrev pub entries : Description → List Entry
-entries d = map OfBank d.banks.items ++ map OfRoot d.processes.items ++ map OfAnnex d.processes.items ++ map OfNode d.nodes.items
+entries d = map OfBank d.banks.items ++ map OfRoot d.processes.items ++ map OfAnnex d.processes.items ++ map OfNode
+    d.nodes.items
     ++ map OfPage d.pages.items
 
 abbrev pub number_of : Entry → ℕ

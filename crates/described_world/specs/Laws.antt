@@ -4,4 +4,5 @@ use Rattle.described_world.specs.Described.{HasFields, HasNumbers, IsDescribed}
 
 -- each process that is named has its annex, and there is no other annex
 abbrev pub DescribedIsWhole : Type 0
-DescribedIsWhole = (d : Description) (fs : List Frame) → HasNumbers d → HasFields d → IsDescribed d fs → AreWholeProcesses fs
+DescribedIsWhole = (d : Description) (fs : List Frame) → HasNumbers d → HasFields d → IsDescribed d fs →
+    AreWholeProcesses fs

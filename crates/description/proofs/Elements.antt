@@ -28,24 +28,28 @@ count_read P (item d ds) (x ∷ xs) are = ap suc (count_read P ds xs are.1)
 pub same_length : {A : Type 0} (P : Data → A → Type 0) (d : Data) (xs ys : List A) → IsList P d xs → IsList P d ys → length xs ≡ length ys
 same_length P d xs ys a b = count_read P a.0 xs a.2 ∙ ap item_count (same_items a.0 b.0 (sym a.1 ∙ b.1)) ∙ sym (count_read P b.0 ys b.2)
 
-pub last_read : {A : Type 0} (P : Data → A → Type 0) (vs : List Value) (xs : List A) (v : Value) (x : A) → AreItems P (items_view vs) xs → P (view v) x → AreItems P (items_view (vs ++ v ∷ [])) (xs ++ x ∷ [])
+pub last_read : {A : Type 0} (P : Data → A → Type 0) (vs : List Value) (xs : List A) (v : Value) (x : A) → AreItems P (items_view vs) xs → P (view v) x →
+    AreItems P (items_view (vs ++ v ∷ [])) (xs ++ x ∷ [])
 last_read P [] [] v x are is = (is, tt)
 last_read P [] (y ∷ ys) v x are is = absurd are
 last_read P (w ∷ ws) [] v x are is = absurd are
 last_read P (w ∷ ws) (y ∷ ys) v x are is = (are.0, last_read P ws ys v x are.1 is)
 
 -- one more is read
-pub one_more : {A : Type 0} (P : Data → A → Type 0) (vs : List Value) (i : ℕ) (xs : List A) (v : Value) (x : A) → i < length vs → get_or vs i v ≡ v → AreItems P (items_view (take i vs)) xs → P (view v) x → AreItems P (items_view (take (i + 1) vs)) (xs ++ x ∷ [])
+pub one_more : {A : Type 0} (P : Data → A → Type 0) (vs : List Value) (i : ℕ) (xs : List A) (v : Value) (x : A) → i < length vs → get_or vs i v ≡ v →
+    AreItems P (items_view (take i vs)) xs → P (view v) x → AreItems P (items_view (take (i + 1) vs)) (xs ++ x ∷ [])
 one_more P vs i xs v x within at are is = rw (take_more vs i v within, at) (last_read P (take i vs) xs v x are is)
 
-element : {A : Type 0} (P : Data → A → Type 0) (vs : List Value) (i : ℕ) (xs : List A) (v : Value) → i < length vs → AreItems P (items_view vs) xs → (x : A) × P (view (get_or vs i v)) x
+element : {A : Type 0} (P : Data → A → Type 0) (vs : List Value) (i : ℕ) (xs : List A) (v : Value) → i < length vs → AreItems P (items_view vs) xs →
+    (x : A) × P (view (get_or vs i v)) x
 element P [] i xs v within are = absurd (omega arith)
 element P (w ∷ ws) i [] v within are = absurd are
 element P (w ∷ ws) zero (x ∷ xs) v within are = (x, are.0)
 element P (w ∷ ws) (suc i) (x ∷ xs) v within are = element P ws i xs v (omega arith) are.1
 
 -- each value of a list that is read is one that can be
-pub each_read : {A : Type 0} (P : Data → A → Type 0) (d : Data) (vs : List Value) (i : ℕ) (xs : List A) (v : Value) → d ≡ array (items_view vs) → i < length vs → get_or vs i v ≡ v → IsList P d xs → (x : A) × P (view v) x
+pub each_read : {A : Type 0} (P : Data → A → Type 0) (d : Data) (vs : List Value) (i : ℕ) (xs : List A) (v : Value) → d ≡ array (items_view vs) →
+    i < length vs → get_or vs i v ≡ v → IsList P d xs → (x : A) × P (view v) x
 each_read P d vs i xs v is within at list =
     let are : AreItems P (items_view vs) xs = rw (← same_items (items_view vs) list.0 (sym is ∙ list.1)) at list.2 in
     let found = element P vs i xs v within are in

@@ -12,12 +12,14 @@ defaulted P None is x = refl
 defaulted P (Some d) is x = absurd (none-some d is)
 
 -- a list at a key
-pub list_held : {A : Type 0} (P : Data → List A → Type 0) (default : List A) (o : Option Data) (d : Data) (r : Result (Vec A Global) DescriptionFault) → Some d ≡ o → ReadsList (P d) r → ReadsList (λ xs. MatchOption o (xs ≡ default) (λ d. P d xs)) r
+pub list_held : {A : Type 0} (P : Data → List A → Type 0) (default : List A) (o : Option Data) (d : Data) (r : Result (Vec A Global) DescriptionFault) →
+    Some d ≡ o → ReadsList (P d) r → ReadsList (λ xs. MatchOption o (xs ≡ default) (λ d. P d xs)) r
 list_held P default None d r is reads = absurd (none-some d (sym is))
 list_held P default (Some e) d r is reads = rw (same_Some d e is) at reads
 
 -- where a key may be left out, what is said with one default is said with another
-other_default : {A : Type 0} (P : Data → A → Type 0) (o : Option Data) (x y a : A) → MatchOption o (a ≡ x) (λ d. P d a) → (b : A) × MatchOption o (b ≡ y) (λ d. P d b)
+other_default : {A : Type 0} (P : Data → A → Type 0) (o : Option Data) (x y a : A) → MatchOption o (a ≡ x) (λ d. P d a) →
+    (b : A) × MatchOption o (b ≡ y) (λ d. P d b)
 other_default P None x y a is = (y, refl)
 other_default P (Some d) x y a is = (a, is)
 

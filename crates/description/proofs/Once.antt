@@ -64,7 +64,8 @@ number_spelled_once n d e (inr one) (inr other) = one.1.2 ∙ sym other.1.2
 
 abbrev state_found : List ℕ → Option State
 state_found text =
-    if bytes_eq text (codes "available") then Some Available else if bytes_eq text (codes "running") then Some Running else if bytes_eq text (codes "waiting") then Some Waiting else None
+    if bytes_eq text (codes "available") then Some Available else if bytes_eq text (codes "running") then Some Running else if bytes_eq text (codes "waiting")
+    then Some Waiting else None
 
 state_again : (s : State) → state_found (state_text s) ≡ Some s
 state_again Available = refl
@@ -157,7 +158,8 @@ number_at ms = at_once IsNumber ◌≡◌ number_once ms
 wide_at : (ms : Members) (key : List ℕ) (m n : ℕ) → At key IsWideNumber ms m → At key IsWideNumber ms n → m ≡ n
 wide_at ms = at_once IsWideNumber ◌≡◌ wide_once ms
 
-list_at : {A : Type 0} (P : Data → A → Type 0) → Once P ◌≡◌ → (ms : Members) (key : List ℕ) (xs ys : List A) → AtOr [] key (IsList P) ms xs → AtOr [] key (IsList P) ms ys → xs ≡ ys
+list_at : {A : Type 0} (P : Data → A → Type 0) → Once P ◌≡◌ → (ms : Members) (key : List ℕ) (xs ys : List A) → AtOr [] key (IsList P) ms xs →
+    AtOr [] key (IsList P) ms ys → xs ≡ ys
 list_at P once ms = or_once (IsList P) ◌≡◌ (list_same P once) ms [] refl
 
 tables_at : {A : Type 0} (P : Members → A → Type 0) (R : A → A → Type 0) → Once P R → (ms : Members) (key : List ℕ) (xs ys : List A) →
@@ -213,7 +215,8 @@ description_once ms d e one other =
       age = or_once IsNumber ◌≡◌ number_once ms 0 refl (codes "age") d.age e.age one.age other.age;
       ranges = or_once (IsList IsRange) ◌≡◌ (list_same IsRange range_once) ms (whole_ranges e.geometry) refl (codes "ranges") d.ranges.items e.ranges.items
           (subst (λ (g : Geometry). AtOr (whole_ranges g) (codes "ranges") (IsList IsRange) ms d.ranges.items) same one.ranges) other.ranges;
-      banks = or_once (IsList (IsTable IsBank)) ◌≡◌ (list_same (IsTable IsBank) (table_once IsBank ◌≡◌ bank_once)) ms [] refl (codes "bank") d.banks.items e.banks.items one.banks other.banks;
+      banks = or_once (IsList (IsTable IsBank)) ◌≡◌ (list_same (IsTable IsBank) (table_once IsBank ◌≡◌ bank_once)) ms [] refl (codes "bank") d.banks.items
+          e.banks.items one.banks other.banks;
       processes = tables_at IsProcess IsSameProcess process_once ms (codes "process") d.processes.items e.processes.items one.processes other.processes;
       nodes = tables_at IsNode IsSameNode node_once ms (codes "node") d.nodes.items e.nodes.items one.nodes other.nodes;
       pages = tables_at IsPage IsSamePage page_once ms (codes "page") d.pages.items e.pages.items one.pages other.pages;

@@ -59,7 +59,8 @@ unfolding IsWideNumber
 wide_text d n large text = inr (large, text)
 
 -- a value that says another capability, or none, or no text, says no number
-pub other_text : (d : Data) (r : Option Capability) → as_integer d ≡ None → IsCapability d r → ((n : ℕ) → 2 ^ 63 ≤ n → r ≢ Some (Number n)) → (n : ℕ) → IsWideNumber d n → ⊥
+pub other_text : (d : Data) (r : Option Capability) → as_integer d ≡ None → IsCapability d r → ((n : ℕ) → 2 ^ 63 ≤ n → r ≢ Some (Number n)) → (n : ℕ) →
+    IsWideNumber d n → ⊥
 other_text d r none said other n number =
     let text = no_integer d none n number in other n text.0 (capability_once d r (Some (Number n)) said text.1)
 
@@ -79,11 +80,14 @@ wide_read d (Ok n) some reads = inl reads
 wide_read d (Err fault) some reads = fails_wide d fault some reads
 
 -- what is found to a text
-pub capability_reported : (d : Data) (text : List ℕ) (r : Option Capability) → Some text ≡ as_str d → IfSome r (λ c. IsWellFormed c × IfSome (named c) (λ n. n < 2 ^ 64) × (capability_text c ≡ text)) → IfNone r ((c : Capability) → IsWellFormed c → IfSome (named c) (λ n. n < 2 ^ 64) → capability_text c ≢ text) → IsCapability d r
+pub capability_reported : (d : Data) (text : List ℕ) (r : Option Capability) → Some text ≡ as_str d →
+    IfSome r (λ c. IsWellFormed c × IfSome (named c) (λ n. n < 2 ^ 64) × (capability_text c ≡ text)) →
+    IfNone r ((c : Capability) → IsWellFormed c → IfSome (named c) (λ n. n < 2 ^ 64) → capability_text c ≢ text) → IsCapability d r
 capability_reported d text None is some none = (text, string_is d text is, none)
 capability_reported d text (Some c) is some none = (some.0, some.1, string_is d text is ∙ ap string (sym some.2))
 
-pub state_reported : (d : Data) (text : List ℕ) (r : Option State) → Some text ≡ as_str d → IfSome r (λ s. state_text s ≡ text) → IfNone r ((s : State) → state_text s ≢ text) → IsState d r
+pub state_reported : (d : Data) (text : List ℕ) (r : Option State) → Some text ≡ as_str d → IfSome r (λ s. state_text s ≡ text) →
+    IfNone r ((s : State) → state_text s ≢ text) → IsState d r
 state_reported d text None is some none = (text, string_is d text is, none)
 state_reported d text (Some s) is some none = string_is d text is ∙ ap string (sym some)
 

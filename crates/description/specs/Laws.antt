@@ -54,7 +54,8 @@ NumberIsSpelledOnce = (n : ℕ) (d e : Data) → IsWideNumber d n → IsWideNumb
 
 -- no two capabilities within their bounds have one text
 abbrev pub TextIsOfOne : Type 0
-TextIsOfOne = (c d : Capability) → IsWellFormed c × IfSome (named c) (λ n. n < 2 ^ 64) → IsWellFormed d × IfSome (named d) (λ n. n < 2 ^ 64) → capability_text c ≡ capability_text d → c ≡ d
+TextIsOfOne = (c d : Capability) → IsWellFormed c × IfSome (named c) (λ n. n < 2 ^ 64) →
+    IsWellFormed d × IfSome (named d) (λ n. n < 2 ^ 64) → capability_text c ≡ capability_text d → c ≡ d
 
 -- no table is that of two descriptions
 abbrev pub TableIsOfOne : Type 0

@@ -24,7 +24,8 @@ use Rattle.description.specs.declared.entry.WordEntry.{WordEntry}
 -- a text, and the capability that has it, or none where none has it; numbers of objects have 64 bits
 abbrev pub IsCapability : Data → Option Capability → Type 0
 IsCapability d (Some c) = IsWellFormed c × IfSome (named c) (λ n. n < 2 ^ 64) × (d ≡ string (capability_text c))
-IsCapability d None = (text : List ℕ) × (d ≡ string text) × ((c : Capability) → IsWellFormed c → IfSome (named c) (λ n. n < 2 ^ 64) → capability_text c ≢ text)
+IsCapability d None = (text : List ℕ) × (d ≡ string text) ×
+    ((c : Capability) → IsWellFormed c → IfSome (named c) (λ n. n < 2 ^ 64) → capability_text c ≢ text)
 
 -- a number; those of TOML end below 2^63
 abbrev pub IsNumber : Data → ℕ → Type 0
@@ -98,7 +99,9 @@ pub record IsBank (ms : Members) (bank : BankEntry) : Type 0 where
   pub limit : At (codes "limit") IsWideNumber ms bank.limit
 
 pub record IsProcess (ms : Members) (process : ProcessEntry) : Type 0 where
-  pub known : IsTrue (has_only (codes "root" ∷ codes "annex" ∷ codes "owner" ∷ codes "state" ∷ codes "key" ∷ codes "words" ∷ codes "space" ∷ codes "registers" ∷ []) ms)
+  pub known : IsTrue (has_only
+      (codes "root" ∷ codes "annex" ∷ codes "owner" ∷ codes "state" ∷ codes "key" ∷ codes "words" ∷ codes "space" ∷
+      codes "registers" ∷ []) ms)
   pub root : At (codes "root") IsNumber ms process.root
   pub annex : At (codes "annex") IsNumber ms process.annex
   pub owner : At (codes "owner") IsNumber ms process.owner
@@ -131,7 +134,9 @@ whole_ranges g = record { first = 0; count = g.nodes } ∷ record { first = g.no
 
 -- a table is that of a description
 pub record IsDescription (ms : Members) (d : Description) : Type 0 where
-  pub known : IsTrue (has_only (codes "nodes" ∷ codes "pages" ∷ codes "log" ∷ codes "layout" ∷ codes "age" ∷ codes "ranges" ∷ codes "bank" ∷ codes "process" ∷ codes "node" ∷ codes "page" ∷ []) ms)
+  pub known : IsTrue (has_only
+      (codes "nodes" ∷ codes "pages" ∷ codes "log" ∷ codes "layout" ∷ codes "age" ∷ codes "ranges" ∷ codes "bank" ∷
+      codes "process" ∷ codes "node" ∷ codes "page" ∷ []) ms)
   pub geometry : IsGeometry ms d.geometry
   pub layout : AtOr 1 (codes "layout") IsNumber ms d.layout
   pub age : AtOr 0 (codes "age") IsNumber ms d.age

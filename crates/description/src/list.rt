@@ -41,8 +41,8 @@ pub(crate) fn list_of<T: FromValue>(
     Ok(list)
 }
 
-/// The values of the list at a key, none if the key is missing. `Shape` if another value is there, or a value in the list
-/// isn't of its form; `NoMemory` if memory ran out.
+/// The values of the list at a key, none if the key is missing. `Shape` if another value is there, or a value
+/// in the list isn't of its form; `NoMemory` if memory ran out.
 pub fn list_or_empty<T: FromValue>(
     alloc: Global,
     table: &Table,
@@ -75,7 +75,8 @@ fn four_of(alloc: Global, value: &Value) -> Result<[u64; 4], DescriptionFault>
     Ok([numbers[0], numbers[1], numbers[2], numbers[3]])
 }
 
-/// The four words at a key, zeros if the key is missing. `Shape` if another value is there, `NoMemory` if memory ran out.
+/// The four words at a key, zeros if the key is missing. `Shape` if another value is there, `NoMemory` if
+/// memory ran out.
 pub fn four_or_zeros(alloc: Global, table: &Table, key: &str) -> Result<[u64; 4], DescriptionFault>
     ensures { Reads (AtOr (0 ∷ 0 ∷ 0 ∷ 0 ∷ []) key.now AreFour (table_view table.now)) result }
 {

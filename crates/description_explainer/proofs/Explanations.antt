@@ -24,7 +24,8 @@ module _ (d : Description) where
 
       module _ (fields : HasFields d) where
         explains_target : (at : Held) → BreaksTarget d at → ExplainsDescription d (Some (rule.Target at))
-        explains_target at broken = (broken, λ sectors. target_broken d sectors limits numbers fields (λ rule. target_refuted d at numbers fields broken rule.0 rule.1 rule.2))
+        explains_target at broken =
+            (broken, λ sectors. target_broken d sectors limits numbers fields (λ rule. target_refuted d at numbers fields broken rule.0 rule.1 rule.2))
 
         pub explains_kind : (at : Held) → OneLacks (IsTarget d.geometry) d at → ExplainsDescription d (Some (rule.Target at))
         explains_kind at lacks = explains_target at (kind_broken d at numbers lacks)
@@ -37,22 +38,27 @@ module _ (d : Description) where
           explains_owner unbanked named why = (
             λ gs described. subst (λ (hs : List Frame). IsUnbanked hs unbanked) (described_once d fs gs is described) why,
             λ sectors. owner_broken d sectors limits numbers fields (fs, is, named)
-                (λ rule. unbanked_refuted rule.0 unbanked (subst (λ (hs : List Frame). IsUnbanked hs unbanked) (described_once d fs rule.0 is rule.1) why) rule.2),
+                (λ rule. unbanked_refuted rule.0 unbanked (subst (λ (hs : List Frame). IsUnbanked hs unbanked) (described_once d fs rule.0 is rule.1) why)
+                rule.2),
           )
 
 -- what the search of all capabilities finds in described frames
 module _ (d : Description) (fs gs : List Frame) (same : gs ≡ fs) (is : IsDescribed d fs) where
-  pub unnamed_none : (found : Option Held) → MatchOption found (AllHave (NamesItsRole gs) d) (λ at. OneLacks (NamesItsRole gs) d at) → IfNone found (AreNamed fs)
+  pub unnamed_none : (found : Option Held) → MatchOption found (AllHave (NamesItsRole gs) d) (λ at. OneLacks (NamesItsRole gs) d at) →
+      IfNone found (AreNamed fs)
   unnamed_none None all = all_named d fs is (subst (λ (hs : List Frame). AllHave (NamesItsRole hs) d) same all)
   unnamed_none (Some at) lacks = tt
 
-  pub unnamed_some : IsWithinLimits d → HasNumbers d → HasFields d → (found : Option Held) → MatchOption found (AllHave (NamesItsRole gs) d) (λ at. OneLacks (NamesItsRole gs) d at)
+  pub unnamed_some : IsWithinLimits d → HasNumbers d → HasFields d → (found : Option Held) →
+      MatchOption found (AllHave (NamesItsRole gs) d) (λ at. OneLacks (NamesItsRole gs) d at)
       → IfSome found (λ at. ExplainsDescription d (Some (rule.Target at)))
   unnamed_some limits numbers fields None all = tt
-  unnamed_some limits numbers fields (Some at) lacks = explains_role d limits numbers fields fs is at (subst (λ (hs : List Frame). OneLacks (NamesItsRole hs) d at) same lacks)
+  unnamed_some limits numbers fields (Some at) lacks = explains_role d limits numbers fields fs is at
+      (subst (λ (hs : List Frame). OneLacks (NamesItsRole hs) d at) same lacks)
 
 -- a table is refused as its description is
-pub refused_rule : (ms : Members) (d : Description) (sectors : ℕ) (r : Rule) → IsDescription ms d → IsFirstBroken d sectors (rule_fault r) → Refuses ms sectors (rule_fault r)
+pub refused_rule : (ms : Members) (d : Description) (sectors : ℕ) (r : Rule) → IsDescription ms d → IsFirstBroken d sectors (rule_fault r) →
+    Refuses ms sectors (rule_fault r)
 refused_rule ms d sectors (rule.Limit l) is first = (d, is, first)
 refused_rule ms d sectors (rule.Number n) is first = (d, is, first)
 refused_rule ms d sectors (rule.Field p) is first = (d, is, first)

@@ -10,9 +10,12 @@ limit_refuted d limit.Pages broken within = broken (within.laid.geometry.least_p
 limit_refuted d limit.Log broken within = broken (within.laid.geometry.least_log, within.laid.geometry.most_log)
 limit_refuted d limit.Age broken within = omega (arith, broken, within.age)
 limit_refuted d limit.Layout broken within = broken within.layout.0 within.layout.1
-limit_refuted d limit.RangeCount broken within = ranges_refuted d.geometry d.ranges.items limit.RangeCount broken (within.laid.some, within.laid.few) within.laid.cover
-limit_refuted d (limit.Range i n) broken within = ranges_refuted d.geometry d.ranges.items (limit.Range i n) broken (within.laid.some, within.laid.few) within.laid.cover
-limit_refuted d (limit.RangesEnd n) broken within = ranges_refuted d.geometry d.ranges.items (limit.RangesEnd n) broken (within.laid.some, within.laid.few) within.laid.cover
+limit_refuted d limit.RangeCount broken within = ranges_refuted d.geometry d.ranges.items limit.RangeCount broken (within.laid.some, within.laid.few)
+    within.laid.cover
+limit_refuted d (limit.Range i n) broken within = ranges_refuted d.geometry d.ranges.items (limit.Range i n) broken (within.laid.some, within.laid.few)
+    within.laid.cover
+limit_refuted d (limit.RangesEnd n) broken within = ranges_refuted d.geometry d.ranges.items (limit.RangesEnd n) broken (within.laid.some, within.laid.few)
+    within.laid.cover
 
 pub count_broken : (d : Description) (l : Limit) → BreaksGeometry d.geometry l → BreaksLimit d l
 count_broken d limit.Nodes broken = broken
@@ -35,7 +38,8 @@ ranges_broken d limit.Age broken = absurd broken
 ranges_broken d limit.Layout broken = absurd broken
 
 -- what the ranges decide where all else is within the limits
-pub ranges_decide : (d : Description) (rs : List NumberRange) (found : Option Limit) (v : Version) → rs ≡ d.ranges.items → d.layout ≡ version_number v → d.age ≤ 2 ^ 62
+pub ranges_decide : (d : Description) (rs : List NumberRange) (found : Option Limit) (v : Version) → rs ≡ d.ranges.items → d.layout ≡ version_number v →
+    d.age ≤ 2 ^ 62
     → MatchOption found (MayBeLaid d.geometry rs) (λ l. BreaksRanges d.geometry rs l) → MatchOption found (IsWithinLimits d) (λ l. BreaksLimit d l)
 ranges_decide d rs None v same layout age laid = record { layout = (v, layout); laid = subst (λ ts. MayBeLaid d.geometry ts) same laid; age = age }
 ranges_decide d rs (Some l) v same layout age broken = ranges_broken d l (subst (λ ts. BreaksRanges d.geometry ts l) same broken)

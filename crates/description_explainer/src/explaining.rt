@@ -89,7 +89,8 @@ fn lay_whole(alloc: Global, description: &Description) -> Result<World, AllocErr
     }
 }
 
-// The rule that a description breaks beyond those of its numbers, fields and the kinds of capabilities, if it breaks one.
+// The rule that a description breaks beyond those of its numbers, fields and the kinds of capabilities, if it
+// breaks one.
 fn explain_world(alloc: Global, description: &Description) -> Result<Option<Rule>, AllocError>
     requires limits { IsWithinLimits description.now }
     requires numbers { HasNumbers description.now }
@@ -98,7 +99,7 @@ fn explain_world(alloc: Global, description: &Description) -> Result<Option<Rule
     ensures { IfOk result (λ found. ExplainsDescription description.now found) }
 {
     let World { headers, contents } = lay_whole(alloc, description)?;
-    let mut frames = Plain::new(alloc, description.geometry, headers, contents)?;
+    let mut frames = Plain::new(description.geometry, headers, contents);
     explain_frames(alloc, description, &mut frames)
 }
 
@@ -173,8 +174,8 @@ fn explain_shape<'a>(alloc: Global, table: &'a Table) -> Result<Option<Place<'a>
     Ok(Some(Place::Shape(shape)))
 }
 
-/// Where a table breaks the first rule that `build` refuses it for. Nothing if `build` accepts it on a device that is large
-/// enough. Fails only where memory runs out.
+/// Where a table breaks the first rule that `build` refuses it for. Nothing if `build` accepts it on a device
+/// that is large enough. Fails only where memory runs out.
 pub fn explain<'a>(alloc: Global, table: &'a Table) -> Result<Option<Place<'a>>, AllocError>
     ensures { IfOk result (Explains (table_view table.entry.now)) }
 {

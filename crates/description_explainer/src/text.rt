@@ -211,8 +211,8 @@ fn number_text(
     }
 }
 
-// What is wrong with the index of an entry: the key of the list and what its entries are, their indexes, and which indexes
-// there are.
+// What is wrong with the index of an entry: the key of the list and what its entries are, their indexes, and
+// which indexes there are.
 fn indexed_text(
     alloc: Global,
     list: &str,
@@ -438,8 +438,8 @@ fn fault_text(alloc: Global, table: &Table, place: &Place<'_>) -> Result<String,
     }
 }
 
-/// The line that names a place in the table of a description, says what has to stand there, and ends with the number of the
-/// fault that `build` answers. Fails only where memory runs out.
+/// The line that names a place in the table of a description, says what has to stand there, and ends with the
+/// number of the fault that `build` answers. Fails only where memory runs out.
 pub fn explanation(alloc: Global, table: &Table, place: &Place<'_>) -> Result<String, AllocError>
     ensures { IfOk result (λ text. IsExplanation place.now (string_bytes text)) }
 {

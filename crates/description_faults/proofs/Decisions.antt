@@ -13,7 +13,8 @@ reads_decided P (Ok x) out is reads = rw is (λ _. (x, reads), λ _. refl)
 reads_decided P (Err Shape) out is reads = rw is (λ so. absurd (false≢true so), λ p. absurd (reads p.0 p.1))
 reads_decided P (Err NoMemory) out is reads = rw is tt
 
-pub list_decided : {A : Type 0} (P : List A → Type 0) (r : Result (Vec A Global) DescriptionFault) (out : Result Bool AllocError) → out ≡ decided r → ReadsList P r →
+pub list_decided : {A : Type 0} (P : List A → Type 0) (r : Result (Vec A Global) DescriptionFault) (out : Result Bool AllocError) → out ≡ decided r →
+    ReadsList P r →
     IfOk out (λ fits. IsTrue fits ↔ ((v : Vec A Global) × P v.items))
 list_decided P (Ok v) out is reads = rw is (λ _. (v, reads), λ _. refl)
 list_decided P (Err Shape) out is reads = rw is (λ so. absurd (false≢true so), λ p. absurd (reads p.0.items p.1))
@@ -36,10 +37,12 @@ pub unsaid_at : {A : Type 0} (P : Data → A → Type 0) (key : List ℕ) (ms : 
     (v : Vec A Global) → IsList P d v.items → ⊥
 unsaid_at P key ms d is none v list = none (v, subst (λ (o : Option Data). MatchOption o (v.items ≡ []) (λ e. IsList P e v.items)) is list)
 
-pub bad_at : {A : Type 0} (P : Data → A → Type 0) (key : List ℕ) (ms : Members) (i : ℕ) (e d : Data) → Some d ≡ get_member key ms → IsBadAt P i e d → HasBadItem P key i e ms
+pub bad_at : {A : Type 0} (P : Data → A → Type 0) (key : List ℕ) (ms : Members) (i : ℕ) (e d : Data) → Some d ≡ get_member key ms → IsBadAt P i e d →
+    HasBadItem P key i e ms
 bad_at P key ms i e d is bad = (bad.0, sym is ∙ ap Some bad.1, bad.2, bad.3)
 
-pub unlisted_at : (key : List ℕ) (ms : Members) (d : Data) → Some d ≡ get_member key ms → ((ds : Items) → d ≡ array ds → ⊥) → (ds : Items) → get_member key ms ≡ Some (array ds) → ⊥
+pub unlisted_at : (key : List ℕ) (ms : Members) (d : Data) → Some d ≡ get_member key ms → ((ds : Items) → d ≡ array ds → ⊥) → (ds : Items) →
+    get_member key ms ≡ Some (array ds) → ⊥
 unlisted_at key ms d is none ds at = none ds (same_Some d (array ds) (is ∙ at))
 
 -- a list with another default

@@ -29,7 +29,8 @@ apart_distinct (m ∷ ns) n past apart = (
     first (x ∷ xs) (suc k) lt is = first xs k (omega arith) is
 
 -- one more that holds
-pub one_more : {A : Type 0} (P : A → Type 0) (xs : List A) (i : ℕ) (x : A) → i < length xs → x ≡ get_or xs i x → All P (take i xs) → P x → All P (take (i + 1) xs)
+pub one_more : {A : Type 0} (P : A → Type 0) (xs : List A) (i : ℕ) (x : A) → i < length xs → x ≡ get_or xs i x → All P (take i xs) → P x →
+    All P (take (i + 1) xs)
 one_more P xs i x within is all holds = All-more P xs i x within all (subst P is holds)
 
 -- what holds of what is made of each holds of each so made

@@ -54,7 +54,8 @@ module _ (ms : Members) where
       let layout : Fits Layout ms = all 3 Nodes (omega arith) in
       let age : Fits Age ms = all 4 Nodes (omega arith) in
       let ranges : Fits Ranges ms = all 5 Nodes (omega arith) in
-      let ranged = with_default (IsList IsRange) (get_member (codes "ranges") ms) (whole_ranges (record { nodes = nodes.0; pages = pages.0; log = log.0 })) (omega arith) ranges.0 ranges.1 in
+      let ranged = with_default (IsList IsRange) (get_member (codes "ranges") ms) (whole_ranges (record { nodes = nodes.0; pages = pages.0; log = log.0 }))
+      (omega arith) ranges.0 ranges.1 in
       let banks : Fits Banks ms = all 6 Nodes (omega arith) in
       let processes : Fits Processes ms = all 7 Nodes (omega arith) in
       let plain : Fits NodeList ms = all 8 Nodes (omega arith) in
@@ -129,24 +130,29 @@ module _ (ms : Members) where
       (record { number = number.0; owner = owner.0; words = words.0 }, record { known = known; number = number.1; owner = owner.1; words = words.1 })
 
 -- what was found in the list at a key
-pub item_found : {A : Type 0} (P : Data → A → Type 0) (text : List ℕ) (ms : Members) (r : Result (Option (ℕ × Bor Value)) AllocError) (Without : Type 0) (Q : Data → Type 0)
+pub item_found : {A : Type 0} (P : Data → A → Type 0) (text : List ℕ) (ms : Members) (r : Result (Option (ℕ × Bor Value)) AllocError) (Without : Type 0)
+    (Q : Data → Type 0)
     → ((e : Data) → Q e → (x : A) × P e x) → (((ds : Items) → get_member text ms ≡ Some (array ds) → ⊥) → Without)
     → IfOk r (λ found. MatchOption found ((ds : Items) → get_member text ms ≡ Some (array ds) → ⊥) (λ p. HasBadItem P text p.0 (view p.1.now) ms))
-    → IfOk r (λ found. MatchOption found Without (λ p. (ds : Items) × (get_member text ms ≡ Some (array ds)) × (get_item p.0 ds ≡ Some (view p.1.now)) × (Q (view p.1.now) → ⊥)))
+    → IfOk r (λ found. MatchOption found Without
+    (λ p. (ds : Items) × (get_member text ms ≡ Some (array ds)) × (get_item p.0 ds ≡ Some (view p.1.now)) × (Q (view p.1.now) → ⊥)))
 item_found P text ms (Ok None) Without Q part none found = none found
 item_found P text ms (Ok (Some p)) Without Q part none found = (found.0, found.1, found.2, λ q. let x = part (view p.1.now) q in found.3 x.0 x.1)
 item_found P text ms (Err e) Without Q part none found = tt
 
-pub has_item : (key : List ℕ) (i : ℕ) (ms : Members) (e : Data) (P : Data → Type 0) (ds : Items) → get_member key ms ≡ Some (array ds) → get_item i ds ≡ Some e → P e → HasItem key i P ms
+pub has_item : (key : List ℕ) (i : ℕ) (ms : Members) (e : Data) (P : Data → Type 0) (ds : Items) → get_member key ms ≡ Some (array ds) →
+    get_item i ds ≡ Some e → P e → HasItem key i P ms
 has_item key i ms e P ds at there holds = (ds, at, subst (λ (o : Option Data). IsSomeAnd o P) (sym there) holds)
 
-pub flaw_of : (which : TableName) (key : Key) (ms : Members) (flaw : Flaw) → Contains (keys_of which) key → IsFlawAt key ms flaw → IsFlaw (keys_of which) ms flaw
+pub flaw_of : (which : TableName) (key : Key) (ms : Members) (flaw : Flaw) → Contains (keys_of which) key → IsFlawAt key ms flaw →
+    IsFlaw (keys_of which) ms flaw
 flaw_of which key ms (Unknown k) there is = absurd is
 flaw_of which key ms (Misfit k) there is = subst (λ j. Contains (keys_of which) j × (Fits j ms → ⊥) × IsUnlisted j ms) (sym is.0) (there, is.1, is.2)
 flaw_of which key ms (Item k i) there is = subst (λ j. Contains (keys_of which) j × HasItem (key_name j) i (λ d. IsItem j d → ⊥) ms) (sym is.0) (there, is.1)
 
 -- the same of the value at the key
-pub bad_found : {A : Type 0} (P : Data → A → Type 0) (key : List ℕ) (ms : Members) (d : Data) (r : Result (Option (ℕ × Bor Value)) AllocError) → Some d ≡ get_member key ms
+pub bad_found : {A : Type 0} (P : Data → A → Type 0) (key : List ℕ) (ms : Members) (d : Data) (r : Result (Option (ℕ × Bor Value)) AllocError) →
+    Some d ≡ get_member key ms
     → IfOk r (λ found. MatchOption found ((ds : Items) → d ≡ array ds → ⊥) (λ p. IsBadAt P p.0 (view p.1.now) d))
     → IfOk r (λ found. MatchOption found ((ds : Items) → get_member key ms ≡ Some (array ds) → ⊥) (λ p. HasBadItem P key p.0 (view p.1.now) ms))
 bad_found P key ms d (Ok None) is found = unlisted_at key ms d is found
@@ -159,7 +165,8 @@ flaw_found key ms found i b plain is known =
     let h = at_some (IsUnlisted key ms) (λ (p : ℕ × Bor Value). HasItemAs key p.0 (view p.1.now) ms) found (i, b) is known in
     (refl, has_item (key_name key) i ms (view b.now) (λ d. IsItem key d → ⊥) h.0 h.1 h.2 (λ item. h.3 (plain_item key 0 (plain 0) (view b.now) item)))
 
-pub flaw_passed : (which : TableName) (key : Key) (ms : Members) (r : Result Flaw AllocError) → Contains (keys_of which) key → IfOk r (λ flaw. IsFlawAt key ms flaw)
+pub flaw_passed : (which : TableName) (key : Key) (ms : Members) (r : Result Flaw AllocError) → Contains (keys_of which) key →
+    IfOk r (λ flaw. IsFlawAt key ms flaw)
     → IfOk r (λ flaw. IsFlaw (keys_of which) ms flaw)
 flaw_passed which key ms (Ok flaw) there is = flaw_of which key ms flaw there is
 flaw_passed which key ms (Err e) there is = tt
@@ -173,17 +180,22 @@ item_has key i ms e P at holds = (at.0, at.1, go (get_item i at.0) at.2)
     go (Some d) is = subst P (sym is) holds
 
 -- the table of an object says nothing where its item in the list doesn't
-pub table_refused : (key : Key) (i : ℕ) (which : TableName) (d : Data) (t : Members) → object_at key i ≡ Some which → d ≡ table t → (IsWholeItem key d → ⊥) → IsTableOf which t → ⊥
+pub table_refused : (key : Key) (i : ℕ) (which : TableName) (d : Data) (t : Members) → object_at key i ≡ Some which → d ≡ table t → (IsWholeItem key d → ⊥) →
+    IsTableOf which t → ⊥
 table_refused Nodes i which d t object is none said = absurd (none-some which object)
 table_refused Pages i which d t object is none said = absurd (none-some which object)
 table_refused Log i which d t object is none said = absurd (none-some which object)
 table_refused Layout i which d t object is none said = absurd (none-some which object)
 table_refused Age i which d t object is none said = absurd (none-some which object)
 table_refused Ranges i which d t object is none said = absurd (none-some which object)
-table_refused Banks i which d t object is none said = let x = subst (λ w. IsTableOf w t) (sym (same_Some (name.Bank i) which object)) said in none (x.0, (t, is, x.1))
-table_refused Processes i which d t object is none said = let x = subst (λ w. IsTableOf w t) (sym (same_Some (name.Process i) which object)) said in none (x.0, (t, is, x.1))
-table_refused NodeList i which d t object is none said = let x = subst (λ w. IsTableOf w t) (sym (same_Some (name.Node i) which object)) said in none (x.0, (t, is, x.1))
-table_refused PageList i which d t object is none said = let x = subst (λ w. IsTableOf w t) (sym (same_Some (name.Page i) which object)) said in none (x.0, (t, is, x.1))
+table_refused Banks i which d t object is none said = let x = subst (λ w. IsTableOf w t) (sym (same_Some (name.Bank i) which object)) said in none
+    (x.0, (t, is, x.1))
+table_refused Processes i which d t object is none said = let x = subst (λ w. IsTableOf w t) (sym (same_Some (name.Process i) which object)) said in none
+    (x.0, (t, is, x.1))
+table_refused NodeList i which d t object is none said = let x = subst (λ w. IsTableOf w t) (sym (same_Some (name.Node i) which object)) said in none
+    (x.0, (t, is, x.1))
+table_refused PageList i which d t object is none said = let x = subst (λ w. IsTableOf w t) (sym (same_Some (name.Page i) which object)) said in none
+    (x.0, (t, is, x.1))
 table_refused BankNumber i which d t object is none said = absurd (none-some which object)
 table_refused BankOwner i which d t object is none said = absurd (none-some which object)
 table_refused BankLimit i which d t object is none said = absurd (none-some which object)
@@ -202,17 +214,22 @@ table_refused PageNumber i which d t object is none said = absurd (none-some whi
 table_refused PageOwner i which d t object is none said = absurd (none-some which object)
 table_refused PageWords i which d t object is none said = absurd (none-some which object)
 
-pub table_there : (key : Key) (i : ℕ) (which : TableName) (ms : Members) (d : Data) (t : Members) → object_at key i ≡ Some which → HasItem (key_name key) i (λ x. x ≡ d) ms → d ≡ table t → IsTableAt ms which t
+pub table_there : (key : Key) (i : ℕ) (which : TableName) (ms : Members) (d : Data) (t : Members) → object_at key i ≡ Some which →
+    HasItem (key_name key) i (λ x. x ≡ d) ms → d ≡ table t → IsTableAt ms which t
 table_there Nodes i which ms d t object at is = absurd (none-some which object)
 table_there Pages i which ms d t object at is = absurd (none-some which object)
 table_there Log i which ms d t object at is = absurd (none-some which object)
 table_there Layout i which ms d t object at is = absurd (none-some which object)
 table_there Age i which ms d t object at is = absurd (none-some which object)
 table_there Ranges i which ms d t object at is = absurd (none-some which object)
-table_there Banks i which ms d t object at is = subst (λ w. IsTableAt ms w t) (same_Some (name.Bank i) which object) (item_has (key_name Banks) i ms d (λ x. x ≡ table t) at is)
-table_there Processes i which ms d t object at is = subst (λ w. IsTableAt ms w t) (same_Some (name.Process i) which object) (item_has (key_name Processes) i ms d (λ x. x ≡ table t) at is)
-table_there NodeList i which ms d t object at is = subst (λ w. IsTableAt ms w t) (same_Some (name.Node i) which object) (item_has (key_name NodeList) i ms d (λ x. x ≡ table t) at is)
-table_there PageList i which ms d t object at is = subst (λ w. IsTableAt ms w t) (same_Some (name.Page i) which object) (item_has (key_name PageList) i ms d (λ x. x ≡ table t) at is)
+table_there Banks i which ms d t object at is = subst (λ w. IsTableAt ms w t) (same_Some (name.Bank i) which object)
+    (item_has (key_name Banks) i ms d (λ x. x ≡ table t) at is)
+table_there Processes i which ms d t object at is = subst (λ w. IsTableAt ms w t) (same_Some (name.Process i) which object)
+    (item_has (key_name Processes) i ms d (λ x. x ≡ table t) at is)
+table_there NodeList i which ms d t object at is = subst (λ w. IsTableAt ms w t) (same_Some (name.Node i) which object)
+    (item_has (key_name NodeList) i ms d (λ x. x ≡ table t) at is)
+table_there PageList i which ms d t object at is = subst (λ w. IsTableAt ms w t) (same_Some (name.Page i) which object)
+    (item_has (key_name PageList) i ms d (λ x. x ≡ table t) at is)
 table_there BankNumber i which ms d t object at is = absurd (none-some which object)
 table_there BankOwner i which ms d t object at is = absurd (none-some which object)
 table_there BankLimit i which ms d t object at is = absurd (none-some which object)
@@ -261,10 +278,12 @@ not_table PageOwner i which d object none said = absurd (none-some which object)
 not_table PageWords i which d object none said = absurd (none-some which object)
 
 -- the place of an item that isn't of its form, and of an object in whose table something is wrong
-pub item_place : (key : Key) (i : ℕ) (e : Data) → Contains (keys_of name.Whole) key → (IsItem key e → ⊥) → (ms : Members) → HasItem (key_name key) i (λ d. d ≡ e) ms
+pub item_place : (key : Key) (i : ℕ) (e : Data) → Contains (keys_of name.Whole) key → (IsItem key e → ⊥) → (ms : Members) →
+    HasItem (key_name key) i (λ d. d ≡ e) ms
     → BreaksShape ms (record { table = name.Whole; flaw = Item key i })
 item_place key i e there none ms at = (ms, refl, (there, item_has (key_name key) i ms e (λ d. IsItem key d → ⊥) at none))
 
-pub object_place : (key : Key) (i : ℕ) (which : TableName) (e : Data) (t : Members) (flaw : Flaw) → object_at key i ≡ Some which → e ≡ table t → IsFlaw (keys_of which) t flaw → (ms : Members)
+pub object_place : (key : Key) (i : ℕ) (which : TableName) (e : Data) (t : Members) (flaw : Flaw) → object_at key i ≡ Some which → e ≡ table t →
+    IsFlaw (keys_of which) t flaw → (ms : Members)
     → HasItem (key_name key) i (λ d. d ≡ e) ms → BreaksShape ms (record { table = which; flaw = flaw })
 object_place key i which e t flaw object is wrong ms at = (t, table_there key i which ms e t object at is, wrong)

@@ -87,11 +87,13 @@ module _ (d : Description) (fs : List Frame) (is : IsDescribed d fs) where
     named_in : (n : ℕ) (f : Frame) → frame_at fs n ≡ f → All (IsNamed fs) (caps_in f.content)
     named_in n f same = subst (λ (g : Frame). All (IsNamed fs) (caps_in g.content)) same (named n)
 
-    slots_roles : (first : ℕ) (es : List SlotEntry) (slots : List Cap) → AreSlots first es → HoldsNamed es slots → All (IsNamed fs) slots → AllIn (NamesItsRole fs) es
+    slots_roles : (first : ℕ) (es : List SlotEntry) (slots : List Cap) → AreSlots first es → HoldsNamed es slots → All (IsNamed fs) slots →
+        AllIn (NamesItsRole fs) es
     slots_roles first es slots are holds held = all_from (λ (s : SlotEntry). IfNamed (NamesItsRole fs) s.capability) es (λ s of.
         let place = All-contains (λ t. (first ≤ t.index) × (t.index < 32)) es s are.places of in
         let what = first_of (λ t. t.index) (λ t. unwrap_or t.capability Void) Void es s are.distinct of in
-        let there : IsNamed fs (fresh_cap (unwrap_or s.capability Void)) = all_got (IsNamed fs) slots s.index _ held (holds.each s.index place.1 ∙ ap (λ c. Some (fresh_cap c)) what) in
+        let there : IsNamed fs (fresh_cap (unwrap_or s.capability Void)) = all_got (IsNamed fs) slots s.index _ held
+        (holds.each s.index place.1 ∙ ap (λ c. Some (fresh_cap c)) what) in
         if_some (NamesItsRole fs) s.capability (names_role (unwrap_or s.capability Void) there))
 
     pub all_roles : AllHave (NamesItsRole fs) d
@@ -100,23 +102,28 @@ module _ (d : Description) (fs : List Frame) (is : IsDescribed d fs) where
           let good : IsProcessEntry p = All-contains IsProcessEntry d.processes.items p fields.processes of in
           let root = described_of d fs (OfRoot p) is of in
           let annex = described_of d fs (OfAnnex p) is of in
-          let held : IsNamed fs (fresh_cap root.1) = All-head (IsNamed fs) (fresh_cap root.1) [] (named_in p.root _ root.4) in
-          (subst (IfNamed (NamesItsRole fs)) (sym root.3) (names_role root.1 held), slots_roles 1 p.registers.items annex.0 good.registers annex.1 (named_in p.annex _ annex.2)));
+          let held : IsNamed fs (fresh_cap root.1) = All-head (IsNamed fs) (fresh_cap root.1) [] (named_in p.root _ root.4) in (
+            subst (IfNamed (NamesItsRole fs)) (sym root.3) (names_role root.1 held),
+            slots_roles 1 p.registers.items annex.0 good.registers annex.1 (named_in p.annex _ annex.2),
+          ));
       nodes = all_from (λ (m : NodeEntry). AllIn (NamesItsRole fs) m.slots.items) d.nodes.items (λ n of.
           let node = described_of d fs (OfNode n) is of in
-          slots_roles 0 n.slots.items node.0 (All-contains (λ (m : NodeEntry). AreSlots 0 m.slots.items) d.nodes.items n fields.nodes of) node.1 (named_in n.number _ node.2));
+          slots_roles 0 n.slots.items node.0 (All-contains (λ (m : NodeEntry). AreSlots 0 m.slots.items) d.nodes.items n fields.nodes of) node.1
+          (named_in n.number _ node.2));
     }
 
 -- no capability lacks what all have
 pub lacks_refuted : (P : Capability → Type 0) (d : Description) (at : Held) → AllHave P d → OneLacks P d at → ⊥
 lacks_refuted P d (held.Space k) all lacks =
-    all_refuted (AllOfProcess P) (λ p. p.space ≡ Some lacks.0) d.processes.items k lacks.1 (λ p have is. lacks.2 (of_some P p.space lacks.0 is have.0)) all.processes
+    all_refuted (AllOfProcess P) (λ p. p.space ≡ Some lacks.0) d.processes.items k lacks.1 (λ p have is. lacks.2 (of_some P p.space lacks.0 is have.0))
+    all.processes
 lacks_refuted P d (held.Register k i) all lacks =
     all_refuted (AllOfProcess P) (λ p. IsSomeAnd (slice_get p.registers.items i) (λ s. s.capability ≡ Some lacks.0)) d.processes.items k lacks.1
     (λ p have there. all_refuted (λ (s : SlotEntry). IfNamed P s.capability) (λ s. s.capability ≡ Some lacks.0) p.registers.items i there
     (λ s held is. lacks.2 (of_some P s.capability lacks.0 is held)) have.1) all.processes
 lacks_refuted P d (held.Slot k i) all lacks =
-    all_refuted (λ (n : NodeEntry). AllIn P n.slots.items) (λ n. IsSomeAnd (slice_get n.slots.items i) (λ s. s.capability ≡ Some lacks.0)) d.nodes.items k lacks.1
+    all_refuted (λ (n : NodeEntry). AllIn P n.slots.items) (λ n. IsSomeAnd (slice_get n.slots.items i) (λ s. s.capability ≡ Some lacks.0)) d.nodes.items k
+    lacks.1
     (λ n have there. all_refuted (λ (s : SlotEntry). IfNamed P s.capability) (λ s. s.capability ≡ Some lacks.0) n.slots.items i there
     (λ s held is. lacks.2 (of_some P s.capability lacks.0 is held)) have) all.nodes
 
@@ -125,7 +132,9 @@ pub kind_broken : (d : Description) (at : Held) → HasNumbers d → OneLacks (I
 kind_broken d at numbers lacks = (lacks.0, lacks.1, λ fs is names. lacks.2 (role_target d fs numbers is lacks.0 names))
 
 pub role_broken : (d : Description) (at : Held) (fs : List Frame) → IsDescribed d fs → OneLacks (NamesItsRole fs) d at → BreaksTarget d at
-role_broken d at fs described lacks = (lacks.0, lacks.1, λ gs is names. lacks.2 (subst (λ (hs : List Frame). NamesItsRole hs lacks.0) (described_once d gs fs is described) names))
+role_broken d at fs described lacks =
+    (lacks.0, lacks.1, λ gs is names. lacks.2 (subst (λ (hs : List Frame). NamesItsRole hs lacks.0) (described_once d gs fs is described) names))
 
 pub target_refuted : (d : Description) (at : Held) → HasNumbers d → HasFields d → BreaksTarget d at → (fs : List Frame) → IsDescribed d fs → AreNamed fs → ⊥
-target_refuted d at numbers fields broken fs is named = lacks_refuted (NamesItsRole fs) d at (all_roles d fs is numbers fields named) (broken.0, broken.1, broken.2 fs is)
+target_refuted d at numbers fields broken fs is named = lacks_refuted (NamesItsRole fs) d at (all_roles d fs is numbers fields named)
+    (broken.0, broken.1, broken.2 fs is)

@@ -26,5 +26,6 @@ module _ (d : Description) (k : ℕ) (p : ProcessEntry) (there : slice_get d.pro
     lacking (Some c) is = (c, refl, is)
 
 -- the part that is found in a list of objects
-pub process_at : (ps : List ProcessEntry) (k : ℕ) (p : ProcessEntry) (which : Part) → k < length ps → p ≡ get_or ps k p → BreaksProcess k p which → BreaksProcesses ps which
+pub process_at : (ps : List ProcessEntry) (k : ℕ) (p : ProcessEntry) (which : Part) → k < length ps → p ≡ get_or ps k p → BreaksProcess k p which →
+    BreaksProcesses ps which
 process_at ps k p which within is broken = (k, element_at (λ q. BreaksProcess k q which) ps k p within is broken)

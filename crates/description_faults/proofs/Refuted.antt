@@ -34,7 +34,8 @@ twice_refuted (m ∷ ns) (suc i) zero twice distinct = omega (arith, twice.0)
 twice_refuted (m ∷ ns) (suc i) (suc j) twice distinct = twice_refuted ns i j (omega (arith, twice.0), twice.1, twice.2, twice.3) distinct.1
 
 indexed_refuted : (first end : ℕ) (ns : List ℕ) (flaw : Indexed) → BreaksIndexed first end ns flaw → All (λ n. (first ≤ n) × (n < end)) ns → AreDistinct ns → ⊥
-indexed_refuted first end ns (indexed.OutOfRange i) broken within distinct = all_refuted (λ n. (first ≤ n) × (n < end)) _ ns i broken (λ x is out. out is) within
+indexed_refuted first end ns (indexed.OutOfRange i) broken within distinct = all_refuted (λ n. (first ≤ n) × (n < end)) _ ns i broken (λ x is out. out is)
+    within
 indexed_refuted first end ns (indexed.Twice i j) broken within distinct = twice_refuted ns i j broken distinct
 
 slots_refuted : (first : ℕ) (slots : List SlotEntry) (flaw : SlotFlaw) → BreaksSlots first slots flaw → AreSlots first slots → ⊥
@@ -61,7 +62,8 @@ module _ (g : Geometry) where
   cover_count n [] covers = omega (arith, covers)
   cover_count n (r ∷ rs) covers = omega (arith, cover_count (n + r.count) rs covers.1)
 
-  cover_at : (n : ℕ) (rs : List NumberRange) (i : ℕ) (r : NumberRange) → Cover g n (map (placed 0) rs) → slice_get rs i ≡ Some r → GoesOn g r (n + count_in (take i rs))
+  cover_at : (n : ℕ) (rs : List NumberRange) (i : ℕ) (r : NumberRange) → Cover g n (map (placed 0) rs) → slice_get rs i ≡ Some r →
+      GoesOn g r (n + count_in (take i rs))
   cover_at n [] i r covers is = absurd (none-some r is)
   cover_at n (s ∷ rs) zero r covers is =
       let same : s ≡ r = same_Some s r is in

@@ -5,8 +5,10 @@ use Rattle.std.proofs.Common.{◌≡◌, ◌<◌, ◌≤◌}
 use Rattle.description_faults.specs.declared.place.SlotFlaw.TheVariants as slot
 use Rattle.description_faults.proofs.Elements.{all_unmapped}
 
-pub slots_end : (first : ℕ) (slots : List SlotEntry) (ns : List ℕ) (found : Option SlotFlaw) → ns ≡ map (λ s. s.index) slots → All (λ n. (first ≤ n) × (n < 32)) ns × AreDistinct ns
-    → MatchOption found (All (λ s. IsSomeCapability s.capability) slots) (λ flaw. (i : ℕ) × (flaw ≡ slot.Text i) × IsSomeAnd (slice_get slots i) (λ s. IsSomeCapability s.capability → ⊥))
+pub slots_end : (first : ℕ) (slots : List SlotEntry) (ns : List ℕ) (found : Option SlotFlaw) → ns ≡ map (λ s. s.index) slots →
+    All (λ n. (first ≤ n) × (n < 32)) ns × AreDistinct ns
+    → MatchOption found (All (λ s. IsSomeCapability s.capability) slots)
+    (λ flaw. (i : ℕ) × (flaw ≡ slot.Text i) × IsSomeAnd (slice_get slots i) (λ s. IsSomeCapability s.capability → ⊥))
     → MatchOption found (AreSlots first slots) (λ flaw. BreaksSlots first slots flaw)
 slots_end first slots ns None is indexed held = record {
   places = all_unmapped (λ n. (first ≤ n) × (n < 32)) (λ s. s.index) slots (subst (All (λ n. (first ≤ n) × (n < 32))) is indexed.0);
@@ -15,7 +17,8 @@ slots_end first slots ns None is indexed held = record {
 }
 slots_end first slots ns (Some flaw) is indexed found = subst (λ f. BreaksSlots first slots f) (sym found.1) found.2
 
-pub slots_begin : (first : ℕ) (slots : List SlotEntry) (ns : List ℕ) (flaw : Indexed) → ns ≡ map (λ s. s.index) slots → BreaksIndexed first 32 ns flaw → BreaksSlots first slots (slot.Index flaw)
+pub slots_begin : (first : ℕ) (slots : List SlotEntry) (ns : List ℕ) (flaw : Indexed) → ns ≡ map (λ s. s.index) slots → BreaksIndexed first 32 ns flaw →
+    BreaksSlots first slots (slot.Index flaw)
 slots_begin first slots ns flaw is broken = subst (λ ms. BreaksIndexed first 32 ms flaw) is broken
 
 pub words_end : (words : List WordEntry) (ns : List ℕ) (found : Option Indexed) → ns ≡ map (λ w. w.index) words

@@ -39,7 +39,8 @@ BreaksGeometry g _ = ⊥
 -- the numbers of the ranges before one are as many as `next`, where it has to begin
 abbrev pub BreaksRanges : Geometry → List NumberRange → Limit → Type 0
 BreaksRanges g rs limit.RangeCount = (1 ≤ length rs) × (length rs ≤ 8) → ⊥
-BreaksRanges g rs (limit.Range index next) = (next ≡ count_in (take index rs)) × IsSomeAnd (slice_get rs index) (λ r. GoesOn g r next → ⊥)
+BreaksRanges g rs (limit.Range index next) = (next ≡ count_in (take index rs)) × IsSomeAnd (slice_get rs index)
+    (λ r. GoesOn g r next → ⊥)
 BreaksRanges g rs (limit.RangesEnd next) = (next ≡ count_in rs) × (next < object_count g)
 BreaksRanges g rs _ = ⊥
 
@@ -75,7 +76,8 @@ IsOfItsKind g _ n = n < g.nodes
 
 abbrev pub BreaksNumber : Description → Misnumbered → Type 0
 BreaksNumber d (misnumbered.OutOfRange who) = (n : ℕ) × (number_at d who ≡ Some n) × (IsOfItsKind d.geometry who n → ⊥)
-BreaksNumber d (misnumbered.Twice who other) = (who ≢ other) × (n : ℕ) × (number_at d who ≡ Some n) × (number_at d other ≡ Some n)
+BreaksNumber d (misnumbered.Twice who other) = (who ≢ other) × (n : ℕ) × (number_at d who ≡ Some n) ×
+    (number_at d other ≡ Some n)
 
 -- Fields.
 
@@ -91,21 +93,26 @@ abbrev pub BreaksField : Description → Part → Type 0
 BreaksField d (part.State k) = IsSomeAnd (slice_get d.processes.items k) (λ p. p.state ≡ None)
 BreaksField d (part.Key k) = IsSomeAnd (slice_get d.processes.items k) (λ p. 2 ^ 16 ≤ p.key)
 BreaksField d (part.Space k) = IsSomeAnd (slice_get d.processes.items k) (λ p. IsSpaceEntry p.space → ⊥)
-BreaksField d (part.Registers k flaw) = IsSomeAnd (slice_get d.processes.items k) (λ p. BreaksSlots 1 p.registers.items flaw)
+BreaksField d (part.Registers k flaw) = IsSomeAnd (slice_get d.processes.items k)
+    (λ p. BreaksSlots 1 p.registers.items flaw)
 BreaksField d (part.Slots k flaw) = IsSomeAnd (slice_get d.nodes.items k) (λ n. BreaksSlots 0 n.slots.items flaw)
-BreaksField d (part.Words k flaw) = IsSomeAnd (slice_get d.pages.items k) (λ p. BreaksIndexed 0 512 (map (λ w. w.index) p.words.items) flaw)
+BreaksField d (part.Words k flaw) = IsSomeAnd (slice_get d.pages.items k)
+    (λ p. BreaksIndexed 0 512 (map (λ w. w.index) p.words.items) flaw)
 
 -- Capabilities.
 
 -- a process or a node holds a capability
 abbrev pub HoldsAt : Description → Held → Capability → Type 0
 HoldsAt d (held.Space k) c = IsSomeAnd (slice_get d.processes.items k) (λ p. p.space ≡ Some c)
-HoldsAt d (held.Register k i) c = IsSomeAnd (slice_get d.processes.items k) (λ p. IsSomeAnd (slice_get p.registers.items i) (λ s. s.capability ≡ Some c))
-HoldsAt d (held.Slot k i) c = IsSomeAnd (slice_get d.nodes.items k) (λ n. IsSomeAnd (slice_get n.slots.items i) (λ s. s.capability ≡ Some c))
+HoldsAt d (held.Register k i) c = IsSomeAnd (slice_get d.processes.items k)
+    (λ p. IsSomeAnd (slice_get p.registers.items i) (λ s. s.capability ≡ Some c))
+HoldsAt d (held.Slot k i) c = IsSomeAnd (slice_get d.nodes.items k)
+    (λ n. IsSomeAnd (slice_get n.slots.items i) (λ s. s.capability ≡ Some c))
 
 -- it names no object of its kind, or resumes a process that isn't waiting
 abbrev pub BreaksTarget : Description → Held → Type 0
-BreaksTarget d at = (c : Capability) × HoldsAt d at c × ((frames : List Frame) → IsDescribed d frames → NamesItsRole frames c → ⊥)
+BreaksTarget d at = (c : Capability) × HoldsAt d at c ×
+    ((frames : List Frame) → IsDescribed d frames → NamesItsRole frames c → ⊥)
 
 -- Owners.
 

@@ -48,7 +48,8 @@ abbrev pub IsBadAt : {A : Type 0} → (Data → A → Type 0) → ℕ → Data �
 IsBadAt {A = A} P i e d = (ds : Items) × (d ≡ array ds) × (get_item i ds ≡ Some e) × ((x : A) → P e x → ⊥)
 
 abbrev pub HasBadItem : {A : Type 0} → (Data → A → Type 0) → List ℕ → ℕ → Data → Members → Type 0
-HasBadItem {A = A} P key i e ms = (ds : Items) × (get_member key ms ≡ Some (array ds)) × (get_item i ds ≡ Some e) × ((x : A) → P e x → ⊥)
+HasBadItem {A = A} P key i e ms = (ds : Items) × (get_member key ms ≡ Some (array ds)) × (get_item i ds ≡ Some e) ×
+    ((x : A) → P e x → ⊥)
 
 -- what is wrong at a key
 abbrev pub IsFlawAt : Key → Members → Flaw → Type 0
@@ -58,7 +59,8 @@ IsFlawAt key ms (Item k i) = (k ≡ key) × HasItem (key_name key) i (λ d. IsIt
 
 -- the item of an index in the list at a key, which says no value of its type
 abbrev pub HasItemAs : Key → ℕ → Data → Members → Type 0
-HasItemAs key i e ms = (ds : Items) × (get_member (key_name key) ms ≡ Some (array ds)) × (get_item i ds ≡ Some e) × (IsWholeItem key e → ⊥)
+HasItemAs key i e ms = (ds : Items) × (get_member (key_name key) ms ≡ Some (array ds)) × (get_item i ds ≡ Some e) ×
+    (IsWholeItem key e → ⊥)
 
 -- the part that is named of a process, and of one in a list, breaks the rule for fields
 abbrev pub BreaksProcess : ℕ → ProcessEntry → Part → Type 0
@@ -76,7 +78,8 @@ BreaksNodes ns (part.Slots k flaw) = IsSomeAnd (slice_get ns k) (λ n. BreaksSlo
 BreaksNodes ns _ = ⊥
 
 abbrev pub BreaksPages : List PageEntry → Part → Type 0
-BreaksPages ps (part.Words k flaw) = IsSomeAnd (slice_get ps k) (λ p. BreaksIndexed 0 512 (map (λ w. w.index) p.words.items) flaw)
+BreaksPages ps (part.Words k flaw) = IsSomeAnd (slice_get ps k)
+    (λ p. BreaksIndexed 0 512 (map (λ w. w.index) p.words.items) flaw)
 BreaksPages ps _ = ⊥
 
 -- a capability that is named has a property, or lacks it

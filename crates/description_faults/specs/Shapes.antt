@@ -53,7 +53,8 @@ key_name PageWords = codes "words"
 abbrev pub keys_of : TableName → List Key
 keys_of name.Whole = Nodes ∷ Pages ∷ Log ∷ Layout ∷ Age ∷ Ranges ∷ Banks ∷ Processes ∷ NodeList ∷ PageList ∷ []
 keys_of (name.Bank i) = BankNumber ∷ BankOwner ∷ BankLimit ∷ []
-keys_of (name.Process i) = ProcessRoot ∷ ProcessAnnex ∷ ProcessOwner ∷ ProcessState ∷ ProcessKey ∷ ProcessWords ∷ ProcessSpace ∷ ProcessRegisters ∷ []
+keys_of (name.Process i) = ProcessRoot ∷ ProcessAnnex ∷ ProcessOwner ∷ ProcessState ∷ ProcessKey ∷ ProcessWords ∷
+    ProcessSpace ∷ ProcessRegisters ∷ []
 keys_of (name.Node i) = NodeNumber ∷ NodeOwner ∷ NodeSlots ∷ []
 keys_of (name.Page i) = PageNumber ∷ PageOwner ∷ PageWords ∷ []
 

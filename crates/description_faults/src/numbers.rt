@@ -94,7 +94,8 @@ fn named_twice(description: &Description, nodes: usize, numbers: &[u64]) -> Opti
     }
 }
 
-/// Which number of a description is none of its kind, or comes twice, if there is one. Fails only where memory runs out.
+/// Which number of a description is none of its kind, or comes twice, if there is one. Fails only where
+/// memory runs out.
 pub fn misnumbered(
     alloc: Global,
     description: &Description,

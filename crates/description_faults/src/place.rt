@@ -38,7 +38,8 @@ pub enum Limit {
     Log,
     /// There is no range, or there are more than eight.
     RangeCount,
-    /// The range of this index doesn't go on at this number, is empty, has nodes and pages, or goes beyond the last number.
+    /// The range of this index doesn't go on at this number, is empty, has nodes and pages, or goes beyond
+    /// the last number.
     Range { index: usize, next: u64 },
     /// The ranges end before this number.
     RangesEnd { next: u64 },

@@ -30,7 +30,8 @@ module _ (bytes from : List ℕ) (at n : ℕ) (size : length from ≡ 512 * n) (
       ∙ ap (λ (all : List ℕ). image_of all i) (take-append-drop (512 * at) bytes)
 
   put_after : (i : ℕ) → at + n ≤ i → image_of (put_mid (512 * at) (512 * n) bytes from) i ≡ image_of bytes i
-  put_after i le = ap (λ (rest : List ℕ). take 512 rest) (drop-put_mid (512 * at) (512 * n) bytes from (512 * i) (omega (arith, le)) (omega (arith, inside)) size)
+  put_after i le = ap (λ (rest : List ℕ). take 512 rest)
+      (drop-put_mid (512 * at) (512 * n) bytes from (512 * i) (omega (arith, le)) (omega (arith, inside)) size)
 
   put_inside : (i : ℕ) → i < n → image_of from i ≡ image_of (put_mid (512 * at) (512 * n) bytes from) (at + i)
   put_inside i lt =
@@ -66,7 +67,8 @@ rewritten n new old n_is same =
     ∙ take_all n new (omega (arith, same, n_is))
 
 -- what is read of a part of the list, as the code finds it
-pub got_inside : (bytes got : List ℕ) (at a k : ℕ) → got ≡ take k (drop a bytes) → a ≡ 512 * at → k ≡ length got → length got % 512 ≡ 0 → 512 * (at + sectors_of got) ≤ length bytes
+pub got_inside : (bytes got : List ℕ) (at a k : ℕ) → got ≡ take k (drop a bytes) → a ≡ 512 * at → k ≡ length got → length got % 512 ≡ 0 →
+    512 * (at + sectors_of got) ≤ length bytes
     → (i : ℕ) → i < sectors_of got → image_of got i ≡ image_of bytes (at + i)
 got_inside bytes got at a k is a_is k_is whole inside i lt =
     let place : 512 * (at + i) ≡ a + 512 * i = omega (arith, a_is) in

@@ -33,7 +33,8 @@ goes_on {old} {mid} {new} {P} so_far time here = record {
 }
 
 -- one call alone
-pub in_one_call : {old new : Disk} (P : Image → Type 0) → OnlyNow old → Elapses old new → ((c : Image) → old.may_leave c → P c) → ((c : Image) → new.may_leave c → P c) → LeavesOnly old new P
+pub in_one_call : {old new : Disk} (P : Image → Type 0) → OnlyNow old → Elapses old new → ((c : Image) → old.may_leave c → P c) →
+    ((c : Image) → new.may_leave c → P c) → LeavesOnly old new P
 in_one_call {old} {new} P only_now time first here = goes_on {old = old} {mid = old} {new = new} {P = P} (started old P only_now first) time here
 
 -- the same run, with a weaker statement
@@ -60,10 +61,12 @@ ends {old} {new} run counts_now c left = run.each c (counts_now old.moment c run
 
 -- a call more after which a crash leaves nothing new, as a read or a sync
 pub narrowed : {old mid new : Disk} {P : Image → Type 0} → LeavesOnly old mid P → CountsNow mid → Elapses mid new → Narrows mid new → LeavesOnly old new P
-narrowed {old} {mid} {new} {P} so_far counts_now time narrows = goes_on {old = old} {mid = mid} {new = new} {P = P} so_far time (λ c left. ends so_far counts_now c (narrows c left))
+narrowed {old} {mid} {new} {P} so_far counts_now time narrows = goes_on {old = old} {mid = mid} {new = new} {P = P} so_far time
+    (λ c left. ends so_far counts_now c (narrows c left))
 
 -- a power cut more: what it left could have been left before
-pub goes_on_cut : {old mid new : Disk} {P : Image → Type 0} → LeavesOnly old mid P → CountsNow mid → Elapses mid new → mid.may_leave new.seen → Only new.seen new → LeavesOnly old new P
+pub goes_on_cut : {old mid new : Disk} {P : Image → Type 0} → LeavesOnly old mid P → CountsNow mid → Elapses mid new → mid.may_leave new.seen →
+    Only new.seen new → LeavesOnly old new P
 goes_on_cut {old} {mid} {new} {P} so_far counts_now time left only =
     goes_on {old = old} {mid = mid} {new = new} {P = P} so_far time
     (λ c now. subst P (sym (agrees_is c new.seen (only c now))) (ends so_far counts_now new.seen left))

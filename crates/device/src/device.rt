@@ -82,13 +82,16 @@ pub trait Device: Drop {
     ghost seen_left: { (device : Self) → (disk device).may_leave (disk device).seen };
 
     /// This moment is one of those since an earlier one.
-    ghost counts_now: { (device : Self) (t : ℕ) (c : Image) → t ≤ (disk device).moment → (disk device).may_leave c → (disk device).left_since t c };
+    ghost counts_now: { (device : Self) (t : ℕ) (c : Image) → t ≤ (disk device).moment → (disk device).may_leave c
+        → (disk device).left_since t c };
 
     /// Since this moment there is no other.
-    ghost only_now: { (device : Self) (c : Image) → (disk device).left_since (disk device).moment c → (disk device).may_leave c };
+    ghost only_now: { (device : Self) (c : Image) → (disk device).left_since (disk device).moment c
+        → (disk device).may_leave c };
 
     /// A crash leaves whole sectors, as many as there are.
-    ghost left_whole: { (device : Self) (t : ℕ) (c : Image) → (disk device).left_since t c → IsWhole (disk device).sectors c };
+    ghost left_whole: { (device : Self) (t : ℕ) (c : Image) → (disk device).left_since t c
+        → IsWhole (disk device).sectors c };
 
     /// There are at most `MAX_SECTORS`.
     ghost few_sectors: { (device : Self) → (disk device).sectors ≤ 131072 };

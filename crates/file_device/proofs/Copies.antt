@@ -7,7 +7,8 @@ use Rattle.memory_device.specs.Past.{synced}
 use Rattle.memory_device.proofs.Disks as Disks
 
 -- a file to which nothing has been done
-pub copy_fresh : (sectors : ℕ) (copy first : List ℕ) (events : List Event) → sectors ≤ 131072 → length copy ≡ 512 * sectors → All (λ b. b < 256) copy → first ≡ copy → events ≡ [] → IsCopy sectors copy first events
+pub copy_fresh : (sectors : ℕ) (copy first : List ℕ) (events : List Event) → sectors ≤ 131072 → length copy ≡ 512 * sectors → All (λ b. b < 256) copy →
+    first ≡ copy → events ≡ [] → IsCopy sectors copy first events
 copy_fresh sectors copy first events few size fits first_is events_is =
     subst (λ (f : List ℕ). IsCopy sectors copy f events) (sym first_is)
     (subst (λ (es : List Event). IsCopy sectors copy copy es) (sym events_is) (record {
@@ -19,11 +20,13 @@ copy_fresh sectors copy first events few size fits first_is events_is =
     }))
 
 -- a crash leaves what it held
-pub fresh_only : (sectors : ℕ) (first : List ℕ) (events : List Event) (failures : ℕ) → events ≡ [] → Only (now_of first events).present (disk_of sectors (image_of first) events failures)
+pub fresh_only : (sectors : ℕ) (first : List ℕ) (events : List Event) (failures : ℕ) → events ≡ [] →
+    Only (now_of first events).present (disk_of sectors (image_of first) events failures)
 fresh_only sectors first events failures is =
     subst (λ (es : List Event). Only (now_of first es).present (disk_of sectors (image_of first) es failures)) (sym is) (λ c left i. left.untouched i refl)
 
-module _ (sectors : ℕ) (copy first : List ℕ) (events : List Event) (sound : IsCopy sectors copy first events) (again : List ℕ) (again_is : again ≡ first) (more : List Event) where
+module _ (sectors : ℕ) (copy first : List ℕ) (events : List Event) (sound : IsCopy sectors copy first events) (again : List ℕ) (again_is : again ≡ first)
+    (more : List Event) where
   abbrev old : State
   old = now_of first events
 
@@ -35,7 +38,8 @@ module _ (sectors : ℕ) (copy first : List ℕ) (events : List Event) (sound : 
     unwritten : Elsewhere at (sectors_of from) old.present (now_of first more).present
     unwritten = Disks.write_elsewhere sectors (image_of first) events more at from is
 
-    present_written : AreSectors (image_of put) at from → Elsewhere at (sectors_of from) (image_of copy) (image_of put) → (i : ℕ) → image_of put i ≡ (now_of first more).present i
+    present_written : AreSectors (image_of put) at from → Elsewhere at (sectors_of from) (image_of copy) (image_of put) → (i : ℕ) →
+        image_of put i ≡ (now_of first more).present i
     present_written has elsewhere i =
         ⊎_elim
         (λ lt. elsewhere.before i lt ∙ sound.present_is i ∙ sym (unwritten.before i lt))
@@ -57,7 +61,8 @@ module _ (sectors : ℕ) (copy first : List ℕ) (events : List Event) (sound : 
         ∙ ap (λ (s : State). s.durable) (replay-append (at_first (image_of first)) events (writes_of at (sectors_of from) from))
         ∙ written-durable old at (sectors_of from) from
 
-    pub copy_written : length put ≡ length copy → All (λ b. b < 256) put → AreSectors (image_of put) at from → Elsewhere at (sectors_of from) (image_of copy) (image_of put) → IsCopy sectors put again more
+    pub copy_written : length put ≡ length copy → All (λ b. b < 256) put → AreSectors (image_of put) at from →
+        Elsewhere at (sectors_of from) (image_of copy) (image_of put) → IsCopy sectors put again more
     copy_written size fits has elsewhere = subst (λ (f : List ℕ). IsCopy sectors put f more) (sym again_is) (record {
       few = sound.few;
       size = size ∙ sound.size;
@@ -66,7 +71,8 @@ module _ (sectors : ℕ) (copy first : List ℕ) (events : List Event) (sound : 
       durable_whole = subst (IsWhole sectors) (sym durable_kept) sound.durable_whole;
     })
 
-    pub copy_tears : (failures risen : ℕ) → Tears at (sectors_of from) (disk_of sectors (image_of first) events failures) (disk_of sectors (image_of again) more risen)
+    pub copy_tears : (failures risen : ℕ) → Tears at (sectors_of from) (disk_of sectors (image_of first) events failures)
+        (disk_of sectors (image_of again) more risen)
     copy_tears failures risen = rw again_is (Disks.write_crash sectors (image_of first) events more at from is sound.durable_whole failures risen)
 
     pub write_elapses : (failures risen : ℕ) → Elapses (disk_of sectors (image_of first) events failures) (disk_of sectors (image_of again) more risen)
@@ -104,7 +110,8 @@ module _ (sectors : ℕ) (copy first : List ℕ) (events : List Event) (sound : 
   copy_synced (Ok x) ok err = copy_ok ok
   copy_synced (Err e) ok err = copy_err err
 
-  pub synced_only : {T E : Type 0} (r : Result T E) (risen : ℕ) → OnOk r (more ≡ events ++ synced ∷ []) → OnOk r (Only (now_of again more).present (disk_of sectors (image_of again) more risen))
+  pub synced_only : {T E : Type 0} (r : Result T E) (risen : ℕ) → OnOk r (more ≡ events ++ synced ∷ []) →
+      OnOk r (Only (now_of again more).present (disk_of sectors (image_of again) more risen))
   synced_only (Ok x) risen ok = only_ok ok risen
   synced_only (Err e) risen ok = tt
 
@@ -131,7 +138,8 @@ module _ (sectors : ℕ) (copy first : List ℕ) (events : List Event) (sound : 
     cut_left =
         rw again_is
         (Disks.cut_may_leave sectors Keep old (now_of first more).present
-        (subst (IsWhole sectors) (sym (ap (λ (s : State). s.present) now_cut)) (present_whole sectors copy first events sound)) (unwritten_same (image_of first) events)
+        (subst (IsWhole sectors) (sym (ap (λ (s : State). s.present) now_cut)) (present_whole sectors copy first events sound))
+        (unwritten_same (image_of first) events)
         (λ i. ap (λ (s : State). s.present i) now_cut))
 
     pub cut_only : (risen : ℕ) → Only (now_of again more).present (disk_of sectors (image_of again) more risen)

@@ -23,7 +23,8 @@ pub takes_none : (byte : ℕ) (a : Option (List Call)) → Takes byte a a []
 takes_none byte None = ([], refl, refl)
 takes_none byte (Some calls) = ([], refl, sym (append-nil calls))
 
-takes_more : (byte : ℕ) (a b c : Option (List Call)) (xs ys : List ℕ) → Takes byte a b xs → Adds b c (took (byte + length xs) ys ∷ []) → Takes byte a c (xs ++ ys)
+takes_more : (byte : ℕ) (a b c : Option (List Call)) (xs ys : List ℕ) → Takes byte a b xs → Adds b c (took (byte + length xs) ys ∷ []) →
+    Takes byte a c (xs ++ ys)
 takes_more byte a b c xs ys t adds =
     let behind : Adds b c (took (byte + length (concat t.0)) ys ∷ []) = subst (λ (l : List ℕ). Adds b c (took (byte + length l) ys ∷ [])) (sym t.1) adds in (
       t.0 ++ ys ∷ [],
@@ -38,7 +39,8 @@ takes_on byte a b c bytes i n within t adds =
     let whole = take_rest bytes i in
     let there : i ≡ length (take i bytes) = omega (arith, length-take {A = ℕ}, within) in
     let adds' : Adds b c (took (byte + length (take i bytes)) (take n (drop i bytes)) ∷ []) =
-    subst (λ (m : ℕ). Adds b c (took (byte + m) (take n (drop i bytes)) ∷ [])) there (subst (λ (xs : List ℕ). Adds b c (took (byte + i) (take n xs) ∷ [])) whole adds) in
+    subst (λ (m : ℕ). Adds b c (took (byte + m) (take n (drop i bytes)) ∷ [])) there
+    (subst (λ (xs : List ℕ). Adds b c (took (byte + i) (take n xs) ∷ [])) whole adds) in
     subst (Takes byte a c) (sym (take-add i n bytes)) (takes_more byte a b c (take i bytes) (take n (drop i bytes)) t adds')
 
 -- one more deed
@@ -52,7 +54,8 @@ tells_known events (Some calls) (Some now) d tells adds = (
   adds ∙ sym (simp (flat_map-append calls_of tells.0 (d ∷ []), append-nil) (ap (λ (l : List Call). l ++ calls_of d) (sym tells.2))),
 )
 
-pub tells_more : (events : List Event) (old new : Option (List Call)) (d : Deed) → ∥ Tells events old ∥₁ → Adds old new (calls_of d) → ∥ Tells (events ++ events_by d) new ∥₁
+pub tells_more : (events : List Event) (old new : Option (List Call)) (d : Deed) → ∥ Tells events old ∥₁ → Adds old new (calls_of d) →
+    ∥ Tells (events ++ events_by d) new ∥₁
 tells_more events old new d tells adds = ∥∥₁_map tells (λ t. tells_known events old new d t adds)
 
 pub tells_write : (events : List Event) (old new : Option (List Call)) (at : ℕ) (bytes : List ℕ) → ∥ Tells events old ∥₁ → Takes (512 * at) old new bytes

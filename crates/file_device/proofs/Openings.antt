@@ -38,9 +38,6 @@ reads_more byte (p ∷ ps) y =
 reads_one : (ps : List (List ℕ)) (y : List ℕ) → reads 0 (ps ++ y ∷ []) ≡ reads 0 ps ++ got (length (concat ps)) y ∷ []
 reads_one ps y = reads_more 0 ps y ∙ ap (λ (n : ℕ). reads 0 ps ++ got n y ∷ []) (omega arith)
 
-pub gets_none : (a : Calls) → Gets a a []
-gets_none a = ([], refl, adds_none a)
-
 gets_more : (a b c : Calls) (xs ys : List ℕ) → Gets a b xs → Adds b c (got (length xs) ys ∷ []) → Gets a c (xs ++ ys)
 gets_more a b c xs ys gets adds =
     let behind : Adds b c (got (length (concat gets.0)) ys ∷ []) = subst (λ (l : List ℕ). Adds b c (got (length l) ys ∷ [])) (sym gets.1) adds in (

@@ -10,5 +10,6 @@ abbrev pub file_disk : {F : Type 0} {g : files.Ghosts F} → CopiedFile F g → 
 file_disk {g = g} d = disk_of d.sectors (image_of (g.first d.file)) (g.events d.file) (g.failures d.file)
 
 -- the file of the system beneath
-abbrev pub raw_file : {F : Type 0} {r : raws.Ghosts F} {g : files.Ghosts (HostFile F r)} → CopiedFile (HostFile F r) g → F
+abbrev pub raw_file : {F : Type 0} {r : raws.Ghosts F} {g : files.Ghosts (HostFile F r)} → CopiedFile (HostFile F r) g →
+    F
 raw_file d = d.file.file

@@ -14,7 +14,8 @@ Adds None now more = now ≡ None
 Adds (Some calls) None more = ⊥
 Adds (Some calls) (Some now) more = now ≡ calls ++ more
 
--- what happens to a file of sectors: these bytes are written from a sector on, in pieces; it is synced; or the power is cut
+-- what happens to a file of sectors: these bytes are written from a sector on, in pieces; it is synced; or the power is
+-- cut
 pub data Deed : Type 0 where
   writes : ℕ → List (List ℕ) → Deed
   syncs : Deed
@@ -44,4 +45,5 @@ Takes byte old new bytes = (pieces : List (List ℕ)) × (concat pieces ≡ byte
 -- known calls, and no others, did these events
 abbrev pub Tells : List Event → Option (List Call) → Type 0
 Tells events None = ⊤
-Tells events (Some calls) = (deeds : List Deed) × (events ≡ flat_map events_by deeds) × (calls ≡ flat_map calls_of deeds)
+Tells events (Some calls) = (deeds : List Deed) × (events ≡ flat_map events_by deeds) ×
+    (calls ≡ flat_map calls_of deeds)

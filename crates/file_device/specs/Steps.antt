@@ -25,4 +25,8 @@ fresh bytes = record { first = bytes; events = []; failures = 0 }
 
 -- the history after one more step
 abbrev pub stepped : History → Step → History
-stepped h step = record { first = h.first; events = h.events ++ events_of step; failures = h.failures + failures_of step }
+stepped h step = record {
+  first = h.first;
+  events = h.events ++ events_of step;
+  failures = h.failures + failures_of step;
+}

@@ -5,7 +5,7 @@ use thiserror::Error;
 
 /// Why nothing is read.
 #[derive(Clone, Copy, PartialEq, Eq, Debug, Error)]
-pub enum ReadFault {
+pub enum Unreadable {
     /// The device failed.
     #[error("the device failed")]
     Failed,
@@ -14,24 +14,24 @@ pub enum ReadFault {
     Bad(BadImage),
 }
 
-impl From<Failed> for ReadFault {
+impl From<Failed> for Unreadable {
     ghost use Rattle.std.specs.Prelude.{◌≡◌};
-    ghost use Rattle.frame_io.specs.declared.fault.ReadFault.TheVariants.{Failed};
+    ghost use Rattle.frame_io.specs.declared.fault.Unreadable.TheVariants.{Failed};
 
     ghost from_gives = { λ _ e. e ≡ Failed };
 
-    fn from(_failed: Failed) -> ReadFault {
-        ReadFault::Failed
+    fn from(_failed: Failed) -> Unreadable {
+        Unreadable::Failed
     }
 }
 
-impl From<BadImage> for ReadFault {
+impl From<BadImage> for Unreadable {
     ghost use Rattle.std.specs.Prelude.{◌≡◌};
-    ghost use Rattle.frame_io.specs.declared.fault.ReadFault.TheVariants.{Bad};
+    ghost use Rattle.frame_io.specs.declared.fault.Unreadable.TheVariants.{Bad};
 
     ghost from_gives = { λ reason e. e ≡ Bad reason };
 
-    fn from(reason: BadImage) -> ReadFault {
-        ReadFault::Bad(reason)
+    fn from(reason: BadImage) -> Unreadable {
+        Unreadable::Bad(reason)
     }
 }

@@ -10,16 +10,17 @@ ghost use Rattle.frame_io.specs.Calls.{ReadsOnly, WritesAt};
 ghost use Rattle.frame_io.specs.Clusters.{HasZerosBeside, IsAlone};
 ghost use Rattle.frame_io.specs.Fault.{CountsFailed};
 ghost use Rattle.frame_io.specs.Frames.{IsHeaderAt, IsObject, IsRefused};
+ghost use Rattle.model.specs.Frame.{content_behind};
 
 use crate::clusters::blank_behind;
-use crate::fault::ReadFault;
+use crate::fault::Unreadable;
 use crate::sectors::{read_sectors, write_sectors};
 use device::{Device, Failed, SECTOR_SIZE};
 use layout::{
     Body, CLUSTER_BYTES, NODE_FRAME_BYTES, PAGE_FRAME_BYTES, Scratch, Shape, decode_frame,
     encode_frame, encode_page, header_in, pack_node, unpack_node,
 };
-use model::{Cap, Content, Geometry, ObjectHeader};
+use model::{Cap, ContentRef, Geometry, ObjectHeader};
 
 // The places for nodes in a cluster.
 const PLACES: u64 = 5;
@@ -32,7 +33,7 @@ fn read_node_frame<D: Device>(
     number: u64,
     age: u64,
     scratch: &mut Scratch,
-) -> Result<(ObjectHeader, Body), ReadFault>
+) -> Result<(ObjectHeader, Body), Unreadable>
     requires node { number < geometry.nodes }
     requires inside { at + 2 ≤ (D.disk device.old).sectors }
     ensures found { IfOk result (λ read. IsFrameOf geometry age number
@@ -80,7 +81,7 @@ fn read_packed_frame<D: Device>(
     number: u64,
     age: u64,
     scratch: &mut Scratch,
-) -> Result<(ObjectHeader, Body), ReadFault>
+) -> Result<(ObjectHeader, Body), Unreadable>
     requires node { number < geometry.nodes }
     requires rank { rank < 5 }
     requires inside { at + 8 ≤ (D.disk device.old).sectors }
@@ -105,7 +106,7 @@ fn read_page_frame<D: Device>(
     number: u64,
     age: u64,
     scratch: &mut Scratch,
-) -> Result<(ObjectHeader, Body), ReadFault>
+) -> Result<(ObjectHeader, Body), Unreadable>
     requires page { geometry.nodes ≤ number }
     requires object { IsObject geometry number }
     requires inside { at + 9 ≤ (D.disk device.old).sectors }
@@ -136,7 +137,7 @@ pub fn read_frame<D: Device>(
     number: u64,
     age: u64,
     scratch: &mut Scratch,
-) -> Result<(ObjectHeader, Body), ReadFault>
+) -> Result<(ObjectHeader, Body), Unreadable>
     requires object { IsObject geometry number }
     requires shape { IsShapeFor geometry number shape }
     requires inside { at + shape_length shape ≤ (D.disk device.old).sectors }
@@ -176,12 +177,12 @@ fn write_node_frame<D: Device>(
     geometry: Geometry,
     number: u64,
     header: ObjectHeader,
-    content: &Content<Cap>,
+    content: ContentRef<'_>,
 ) -> Result<(), Failed>
     requires node { number < geometry.nodes }
     requires inside { at + 2 ≤ (D.disk device.old).sectors }
     ensures written { OnOk result (sectors_from (D.disk device.new).seen at 2
-        ≡ frame_bytes geometry number (record { header = header; content = content.now })) }
+        ≡ frame_bytes geometry number (record { header = header; content = content_behind content.entry })) }
     ensures writes { WritesAt at 2 (D.disk device.old) (D.disk device.new) }
     ensures cause { Counts (D.disk device.old) (D.disk device.new) result }
 {
@@ -198,13 +199,13 @@ fn write_packed_frame<D: Device>(
     geometry: Geometry,
     number: u64,
     header: ObjectHeader,
-    content: &Content<Cap>,
+    content: ContentRef<'_>,
 ) -> Result<(), Failed>
     requires node { number < geometry.nodes }
     requires rank { rank < 5 }
     requires inside { at + 8 ≤ (D.disk device.old).sectors }
     ensures written { OnOk result (shaped_at (D.disk device.new).seen at (shape.Packed rank)
-        ≡ frame_bytes geometry number (record { header = header; content = content.now })) }
+        ≡ frame_bytes geometry number (record { header = header; content = content_behind content.entry })) }
     ensures alone { OnOk result (IsAlone rank (sectors_from (D.disk device.new).seen at 8)) }
     ensures writes { WritesAt at 8 (D.disk device.old) (D.disk device.new) }
     ensures cause { Counts (D.disk device.old) (D.disk device.new) result }
@@ -224,12 +225,12 @@ fn write_page_frame<D: Device>(
     geometry: Geometry,
     number: u64,
     header: ObjectHeader,
-    content: &Content<Cap>,
+    content: ContentRef<'_>,
 ) -> Result<(), Failed>
     requires page { geometry.nodes ≤ number }
     requires inside { at + 9 ≤ (D.disk device.old).sectors }
     ensures written { OnOk result (sectors_from (D.disk device.new).seen at 9
-        ≡ frame_bytes geometry number (record { header = header; content = content.now })) }
+        ≡ frame_bytes geometry number (record { header = header; content = content_behind content.entry })) }
     ensures writes { WritesAt at 9 (D.disk device.old) (D.disk device.new) }
     ensures cause { Counts (D.disk device.old) (D.disk device.new) result }
 {
@@ -271,12 +272,12 @@ pub fn write_frame<D: Device>(
     geometry: Geometry,
     number: u64,
     header: ObjectHeader,
-    content: &Content<Cap>,
+    content: ContentRef<'_>,
 ) -> Result<(), Failed>
     requires shape { IsShapeFor geometry number shape }
     requires inside { at + shape_length shape ≤ (D.disk device.old).sectors }
     ensures written { OnOk result (shaped_at (D.disk device.new).seen at shape
-        ≡ frame_bytes geometry number (record { header = header; content = content.now })) }
+        ≡ frame_bytes geometry number (record { header = header; content = content_behind content.entry })) }
     ensures beside { OnOk result (HasZerosBeside shape
         (sectors_from (D.disk device.new).seen at (shape_length shape))) }
     ensures writes { WritesAt at (shape_length shape) (D.disk device.old) (D.disk device.new) }

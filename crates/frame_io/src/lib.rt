@@ -9,6 +9,6 @@ mod frames;
 mod sectors;
 
 pub use clusters::blank_behind;
-pub use fault::ReadFault;
+pub use fault::Unreadable;
 pub use frames::{read_frame, read_header, read_packed, write_frame, write_page};
 pub use sectors::{read_sectors, write_sectors};

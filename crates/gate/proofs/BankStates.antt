@@ -39,33 +39,37 @@ process_runs os p runs = go (is_process os p) runs
 
 -- what holds of sound frames holds as the order finds them
 module _ (old mid : Parts) (s : BanksState) (sound : AreSound old) (counted : AreCounted old.geometry (objects_in old) s) (op : Operation) (p : ℕ)
-    (runs : IsTrue (is_running_process (objects_in old) p)) (is : objects_in mid ≡ state_before op (objects_in old) p) (geometry : mid.geometry ≡ old.geometry) where
-  pub before_frame : SameFrame (objects_in old) (objects_in mid)
-  before_frame = subst (SameFrame (objects_in old)) (sym is) (frame_before op (objects_in old) p (running_process (objects_in old) p runs))
+    (runs : IsTrue (is_running_process (objects_in old) p)) (is : objects_in mid ≡ state_before op (objects_in old) p) (geometry : mid.geometry ≡ old.geometry)
+  where
+    pub before_frame : SameFrame (objects_in old) (objects_in mid)
+    before_frame = subst (SameFrame (objects_in old)) (sym is) (frame_before op (objects_in old) p (running_process (objects_in old) p runs))
 
-  pub before_counted : AreCounted mid.geometry (objects_in mid) s
-  before_counted = subst (λ (g : Geometry). AreCounted g (objects_in mid) s) (sym geometry) (counted_on old.geometry (objects_in old) (objects_in mid) s before_frame counted)
+    pub before_counted : AreCounted mid.geometry (objects_in mid) s
+    before_counted = subst (λ (g : Geometry). AreCounted g (objects_in mid) s) (sym geometry)
+        (counted_on old.geometry (objects_in old) (objects_in mid) s before_frame counted)
 
-  sound_before : (k : Operation) → (let w : World = record { objects = state_before k (objects_in old) p; age = sound.0 } in IsSound old.geometry w)
-  sound_before Call = sound.1.sound
-  sound_before Return = state_sound old.geometry (objects_in old) p sound.0 sound.1.sound (running_process (objects_in old) p runs) (process_runs (objects_in old) p runs)
-  sound_before Send = sound.1.sound
+    sound_before : (k : Operation) → (let w : World = record { objects = state_before k (objects_in old) p; age = sound.0 } in IsSound old.geometry w)
+    sound_before Call = sound.1.sound
+    sound_before Return = state_sound old.geometry (objects_in old) p sound.0 sound.1.sound (running_process (objects_in old) p runs)
+        (process_runs (objects_in old) p runs)
+    sound_before Send = sound.1.sound
 
-  pub before_sound : AreCurrent (frames_of mid) → AreKeepable old.geometry sound.0 (frames_of mid) → AreSound mid
-  before_sound current keepable = (
-    sound.0,
-    subst (λ (g : Geometry). IsSoundFrames g sound.0 (frames_of mid)) (sym geometry) (record {
-      keepable = keepable;
-      current = current;
-      sound = subst (λ (us : List Object). let w : World = record { objects = us; age = sound.0 } in IsSound old.geometry w) (sym is) (sound_before op);
-    }),
-  )
+    pub before_sound : AreCurrent (frames_of mid) → AreKeepable old.geometry sound.0 (frames_of mid) → AreSound mid
+    before_sound current keepable = (
+      sound.0,
+      subst (λ (g : Geometry). IsSoundFrames g sound.0 (frames_of mid)) (sym geometry) (record {
+        keepable = keepable;
+        current = current;
+        sound = subst (λ (us : List Object). let w : World = record { objects = us; age = sound.0 } in IsSound old.geometry w) (sym is) (sound_before op);
+      }),
+    )
 
-  pub before_may : (i : Invocation) (caller : Caller) (plan : OrderPlan) (list : List ℕ) → IsPlanned old.geometry (objects_in old) i caller plan list → AreSound mid
-      → MayChange mid.geometry (objects_in mid) (drop (writer_count caller.operation) list) plan.change
-  before_may i caller plan list planned there =
-      subst (λ (g : Geometry). MayChange g (objects_in mid) (drop (writer_count caller.operation) list) plan.change) (sym geometry)
-      (planned.plans.may (objects_in mid) before_frame (subst (λ (g : Geometry). IsNow g (objects_in mid)) geometry (now_sound mid there)))
+    pub before_may : (i : Invocation) (caller : Caller) (plan : OrderPlan) (list : List ℕ) → IsPlanned old.geometry (objects_in old) i caller plan list →
+        AreSound mid
+        → MayChange mid.geometry (objects_in mid) (drop (writer_count caller.operation) list) plan.change
+    before_may i caller plan list planned there =
+        subst (λ (g : Geometry). MayChange g (objects_in mid) (drop (writer_count caller.operation) list) plan.change) (sym geometry)
+        (planned.plans.may (objects_in mid) before_frame (subst (λ (g : Geometry). IsNow g (objects_in mid)) geometry (now_sound mid there)))
 
 -- a reply changes no frame
 pub answered_frame : (op : Operation) (us : List Object) (p : ℕ) (replying : Reply) → SameFrame us (answered op p us replying)
@@ -99,7 +103,8 @@ writers_within Return p a rest list is = omega (arith, ap (λ (ns : List ℕ). l
 writers_within Send p a rest list is = omega arith
 
 -- what is counted stays after a read-only call
-pub counted_looked : (old mid : Parts) (s : BanksState) → ReadsAs old mid → AreCounted old.geometry (objects_in old) s → AreCounted mid.geometry (objects_in mid) s
+pub counted_looked : (old mid : Parts) (s : BanksState) → ReadsAs old mid → AreCounted old.geometry (objects_in old) s →
+    AreCounted mid.geometry (objects_in mid) s
 counted_looked old mid s only_reads counted =
     subst (λ (g : Geometry). AreCounted g (objects_in mid) s) (sym only_reads.geometry)
     (subst (λ (us : List Object). AreCounted old.geometry us s) (sym (looked_objects old mid only_reads)) counted)
@@ -125,7 +130,8 @@ module _ (old mid new : Parts) (i : Invocation) (s : BanksState) (sound : AreSou
   counted_same : IsUnchanged mid new → AreCounted new.geometry (objects_in new) s
   counted_same unchanged =
       subst (λ (g : Geometry). AreCounted g (objects_in new) s) (sym geometry)
-      (subst (λ (us : List Object). AreCounted mid.geometry us s) (ap (λ (fs : List Frame). objects_of fs) (sym (same_frames mid new unchanged.headers unchanged.contents))) counted_mid)
+      (subst (λ (us : List Object). AreCounted mid.geometry us s)
+      (ap (λ (fs : List Frame). objects_of fs) (sym (same_frames mid new unchanged.headers unchanged.contents))) counted_mid)
 
   pub counted_after : {T E : Type 0} (r : Result T E) → OnOk r (Invokes mid.geometry i (objects_in mid) mid.touched (objects_in new) new.touched) →
       OnErr r (IsUnchanged mid new) → AreCounted new.geometry (objects_in new) s
@@ -133,7 +139,8 @@ module _ (old mid new : Parts) (i : Invocation) (s : BanksState) (sound : AreSou
   counted_after (Err e) done unchanged = counted_same unchanged
 
 -- what is counted stays whatever is listed
-pub counted_listed : (g : Geometry) (os : List Object) (s t : BanksState) (list : List ℕ) → t ≡ record s { listed = list } → AreCounted g os s → AreCounted g os t
+pub counted_listed : (g : Geometry) (os : List Object) (s t : BanksState) (list : List ℕ) → t ≡ record s { listed = list } → AreCounted g os s →
+    AreCounted g os t
 counted_listed g os s t list kept h = subst (AreCounted g os) (sym kept) (record {
   nodes = h.nodes;
   pages = h.pages;
@@ -149,7 +156,8 @@ counted_listed g os s t list kept h = subst (AreCounted g os) (sym kept) (record
 })
 
 -- an order of the bank that is invoked may be planned
-pub bank_may_ask : (p : Parts) (s : BanksState) (i : Invocation) (caller : Caller) (b : ℕ) (args : Arguments) → AreSound p → AreCounted p.geometry (objects_in p) s →
+pub bank_may_ask : (p : Parts) (s : BanksState) (i : Invocation) (caller : Caller) (b : ℕ) (args : Arguments) → AreSound p →
+    AreCounted p.geometry (objects_in p) s →
     Fits (command.Invoke i) → IsRequested (objects_in p) i caller → args ≡ arguments_of (objects_in p) i → caller.invoked ≡ Bank b → MayAsk p s b args
 bank_may_ask p s i caller b args sound counted fits is args_are invoked =
     let os = objects_in p in
@@ -157,7 +165,8 @@ bank_may_ask p s i caller b args sound counted fits is args_are invoked =
       sound = sound;
       counted = counted;
       bank = subst (NamesItsKind os) invoked (held_to os caller.invoked (invoked_held p.geometry os i (now_sound p sound) caller.invoked is.invoked)).1;
-      sent = held_to os args.capability (subst (λ (a : Arguments). AreArguments os a) (sym args_are) (arguments_held p.geometry os i (now_sound p sound) fits)).held;
+      sent = held_to os args.capability
+          (subst (λ (a : Arguments). AreArguments os a) (sym args_are) (arguments_held p.geometry os i (now_sound p sound) fits)).held;
     }
 
 -- what is planned is planned of the same objects

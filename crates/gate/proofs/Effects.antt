@@ -52,12 +52,15 @@ object_code g os i (Resume p) object = absurd object
 object_code g os i (Bank b) object = refl
 object_code g os i Discrim object = refl
 
-pub object_invoked : (g : Geometry) (os : List Object) (i : Invocation) (caller : Caller) → IsRequested os i caller → IsKernelObject caller.invoked → invoke g os i ≡ Some (on_kernel_object g os i)
+pub object_invoked : (g : Geometry) (os : List Object) (i : Invocation) (caller : Caller) → IsRequested os i caller → IsKernelObject caller.invoked →
+    invoke g os i ≡ Some (on_kernel_object g os i)
 object_invoked g os i caller is object = invoke_is g os i ∙ ap (invoked_by g os i) (sym is.invoked) ∙ object_by g os i caller.invoked object
 
 -- sound frames after an invocation whose objects are those of its effect
-pub sound_after : (g : Geometry) (age : ℕ) (fs gs : List Frame) (i : Invocation) (e : Effect) → age < 2 ^ 62 → Fits (command.Invoke i) → IsTrue (is_running_process (objects_of fs) i.process) →
-    invoke g (objects_of fs) i ≡ Some e → objects_of gs ≡ e.objects → IsSoundFrames g age fs → AreKeepable g (age + 1) gs → AreCurrent gs → IsSoundFrames g (age + 1) gs
+pub sound_after : (g : Geometry) (age : ℕ) (fs gs : List Frame) (i : Invocation) (e : Effect) → age < 2 ^ 62 → Fits (command.Invoke i) →
+    IsTrue (is_running_process (objects_of fs) i.process) →
+    invoke g (objects_of fs) i ≡ Some e → objects_of gs ≡ e.objects → IsSoundFrames g age fs → AreKeepable g (age + 1) gs → AreCurrent gs →
+    IsSoundFrames g (age + 1) gs
 sound_after g age fs gs i e young fits runs is objects sound keepable current = record {
   keepable = keepable;
   current = current;
@@ -66,11 +69,13 @@ sound_after g age fs gs i e young fits runs is objects sound keepable current = 
 }
 
 -- an invocation that wrote what its effect writes
-pub invokes_by : (g : Geometry) (i : Invocation) (os after : List Object) (touched touched_after : List Bool) (e : Effect) → invoke g os i ≡ Some e → after ≡ e.objects →
+pub invokes_by : (g : Geometry) (i : Invocation) (os after : List Object) (touched touched_after : List Bool) (e : Effect) → invoke g os i ≡ Some e →
+    after ≡ e.objects →
     touched_after ≡ touching touched e.written → touched_count touched_after ≤ g.log → Invokes g i os touched after touched_after
 invokes_by g i os after touched touched_after e is objects written within = (e, is, objects, written, within)
 
-pub overfills_by : (g : Geometry) (i : Invocation) (os : List Object) (touched : List Bool) (e : Effect) → invoke g os i ≡ Some e → g.log < touched_count (touching touched e.written) → Overfills g i os touched
+pub overfills_by : (g : Geometry) (i : Invocation) (os : List Object) (touched : List Bool) (e : Effect) → invoke g os i ≡ Some e →
+    g.log < touched_count (touching touched e.written) → Overfills g i os touched
 overfills_by g i os touched e is over = (e, is, over)
 
 -- An invocation of a kernel object, by its operation.
@@ -104,13 +109,18 @@ module _ (g : Geometry) (os : List Object) (i : Invocation) (caller : Caller) (p
   rest = drop (writer_count caller.operation) list
 
   -- by the parts of the caller
-  effect_requested : on_kernel_object g os i ≡ effect_by caller.operation caller.process caller.annex (order g (state_before caller.operation os caller.process) caller.invoked word args)
+  effect_requested : on_kernel_object g os i ≡ effect_by caller.operation caller.process caller.annex
+      (order g (state_before caller.operation os caller.process) caller.invoked word args)
   effect_requested =
       effect_is g os i
-      ∙ ap (λ (op : Operation). effect_by op i.process (annex_at os i.process) (order g (state_before op os i.process) (register_at os i.process i.register) word args)) (sym is.operation)
-      ∙ ap (λ (p : ℕ). effect_by caller.operation p (annex_at os i.process) (order g (state_before caller.operation os p) (register_at os i.process i.register) word args)) (sym is.process)
-      ∙ ap (λ (a : ℕ). effect_by caller.operation caller.process a (order g (state_before caller.operation os caller.process) (register_at os i.process i.register) word args)) (sym is.annex)
-      ∙ ap (λ (c : Capability). effect_by caller.operation caller.process caller.annex (order g (state_before caller.operation os caller.process) c word args)) (sym is.invoked)
+      ∙ ap (λ (op : Operation). effect_by op i.process (annex_at os i.process)
+      (order g (state_before op os i.process) (register_at os i.process i.register) word args)) (sym is.operation)
+      ∙ ap (λ (p : ℕ). effect_by caller.operation p (annex_at os i.process)
+      (order g (state_before caller.operation os p) (register_at os i.process i.register) word args)) (sym is.process)
+      ∙ ap (λ (a : ℕ). effect_by caller.operation caller.process a
+      (order g (state_before caller.operation os caller.process) (register_at os i.process i.register) word args)) (sym is.annex)
+      ∙ ap (λ (c : Capability). effect_by caller.operation caller.process caller.annex (order g (state_before caller.operation os caller.process) c word args))
+      (sym is.invoked)
 
   effect_planned : (op : Operation) → effect_by op caller.process caller.annex (order g (state_before op os caller.process) caller.invoked word args)
       ≡ record {
@@ -121,7 +131,8 @@ module _ (g : Geometry) (os : List Object) (i : Invocation) (caller : Caller) (p
   effect_planned Return =
       let us = with_state os caller.process Available in
       let frame = state_frame os caller.process Available process in
-      ap (λ (vs : List Object). let e : Effect = record { objects = vs; written = writers Return caller.process caller.annex ++ (order g us caller.invoked word args).written } in e)
+      ap (λ (vs : List Object). let e : Effect =
+      record { objects = vs; written = writers Return caller.process caller.annex ++ (order g us caller.invoked word args).written } in e)
       (planned.plans.objects us frame)
       ∙ ap (λ (ns : List ℕ). let e : Effect = record { objects = changed us rest plan.change; written = writers Return caller.process caller.annex ++ ns } in e)
       (planned.plans.written us frame)
@@ -160,7 +171,8 @@ module _ (g : Geometry) (os : List Object) (i : Invocation) (caller : Caller) (p
 
     pub order_after : IsNow g (ordered_by os caller rest plan)
     order_after =
-        subst (IsNow g) (ap (λ (o : OrderOutcome). o.objects) ordered_requested ∙ planned.plans.objects (state_before caller.operation os caller.process) (frame_before caller.operation os caller.process process))
+        subst (IsNow g) (ap (λ (o : OrderOutcome). o.objects) ordered_requested ∙ planned.plans.objects (state_before caller.operation os caller.process)
+        (frame_before caller.operation os caller.process process))
         (ordered_keeps g os i now fits runs).now
 
     pub order_fits : object_count g < 2 ^ 64 → FitsCap g plan.reply.capability
@@ -175,4 +187,5 @@ module _ (g : Geometry) (os : List Object) (i : Invocation) (caller : Caller) (p
     order_code object =
         ap (code_by g os i) (sym is.invoked)
         ∙ object_code g os i caller.invoked object
-        ∙ ap Some (ap (λ (o : OrderOutcome). o.code) ordered_requested ∙ planned.plans.code (state_before caller.operation os caller.process) (frame_before caller.operation os caller.process process))
+        ∙ ap Some (ap (λ (o : OrderOutcome). o.code) ordered_requested ∙ planned.plans.code (state_before caller.operation os caller.process)
+        (frame_before caller.operation os caller.process process))

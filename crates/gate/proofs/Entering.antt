@@ -25,17 +25,20 @@ gate_by g os i q key true zeroth can = ap (λ (k : ℕ). Some (effect_through os
 gate_by g os i q key false zeroth can = ap (λ (b : Bool). if b then Some (through_gate os i q key) else None) can
 
 -- it is carried out where the gate can be entered
-pub gate_invoked : (g : Geometry) (os : List Object) (i : Invocation) (caller : Caller) (gate : Gate) → IsRequested os i caller → caller.invoked ≡ gate_capability gate →
+pub gate_invoked : (g : Geometry) (os : List Object) (i : Invocation) (caller : Caller) (gate : Gate) → IsRequested os i caller →
+    caller.invoked ≡ gate_capability gate →
     (gate.is_resume ≡ true → gate.key ≡ 0) → (gate.is_resume || can_start os i gate.process) ≡ true → invoke g os i ≡ Some (effect_through os i gate)
 gate_invoked g os i caller gate is same zeroth can =
     invoke_is g os i ∙ ap (invoked_by g os i) (sym is.invoked ∙ same) ∙ gate_by g os i gate.process gate.key gate.is_resume zeroth can
 
 -- and else stalls
-stalled_by : (g : Geometry) (os : List Object) (i : Invocation) (q key : ℕ) (b : Bool) → (b || can_start os i q) ≡ false → invoked_by g os i (gate_capability (made q key b)) ≡ None
+stalled_by : (g : Geometry) (os : List Object) (i : Invocation) (q key : ℕ) (b : Bool) → (b || can_start os i q) ≡ false →
+    invoked_by g os i (gate_capability (made q key b)) ≡ None
 stalled_by g os i q key true can = cc
 stalled_by g os i q key false can = ap (λ (b : Bool). if b then Some (through_gate os i q key) else None) can
 
-pub gate_stalled : (g : Geometry) (os : List Object) (i : Invocation) (caller : Caller) (gate : Gate) → IsRequested os i caller → caller.invoked ≡ gate_capability gate →
+pub gate_stalled : (g : Geometry) (os : List Object) (i : Invocation) (caller : Caller) (gate : Gate) → IsRequested os i caller →
+    caller.invoked ≡ gate_capability gate →
     (gate.is_resume || can_start os i gate.process) ≡ false → invoke g os i ≡ None
 gate_stalled g os i caller gate is same can =
     invoke_is g os i ∙ ap (invoked_by g os i) (sym is.invoked ∙ same) ∙ stalled_by g os i gate.process gate.key gate.is_resume can
@@ -45,7 +48,8 @@ no_code : (g : Geometry) (os : List Object) (i : Invocation) (q key : ℕ) (b : 
 no_code g os i q key true = refl
 no_code g os i q key false = refl
 
-pub gate_code : (g : Geometry) (os : List Object) (i : Invocation) (caller : Caller) (gate : Gate) → IsRequested os i caller → caller.invoked ≡ gate_capability gate → result_code g os i ≡ None
+pub gate_code : (g : Geometry) (os : List Object) (i : Invocation) (caller : Caller) (gate : Gate) → IsRequested os i caller →
+    caller.invoked ≡ gate_capability gate → result_code g os i ≡ None
 gate_code g os i caller gate is same = ap (code_by g os i) (sym is.invoked ∙ same) ∙ no_code g os i gate.process gate.key gate.is_resume
 
 -- a gate is that of a process
@@ -53,14 +57,16 @@ gate_names : (os : List Object) (q key : ℕ) (b : Bool) → NamesItsKind os (ga
 gate_names os q key true kind = kind.0
 gate_names os q key false kind = kind
 
-pub gate_process : (p : Parts) (sound : AreSound p) (i : Invocation) (caller : Caller) (gate : Gate) → IsRequested (objects_in p) i caller → caller.invoked ≡ gate_capability gate →
+pub gate_process : (p : Parts) (sound : AreSound p) (i : Invocation) (caller : Caller) (gate : Gate) → IsRequested (objects_in p) i caller →
+    caller.invoked ≡ gate_capability gate →
     IsTrue (is_process (objects_in p) gate.process)
 gate_process p sound i caller gate requested same =
     gate_names (objects_in p) gate.process gate.key gate.is_resume
     (subst (NamesItsKind (objects_in p)) same (register_kind p sound i.process i.register caller.invoked requested.invoked))
 
 -- what is received fits
-pub received_fits : (g : Geometry) (os : List Object) (i : Invocation) (sent : List Capability) → IsNow g os → object_count g < 2 ^ 64 → IsTrue (is_process os i.process) → sent ≡ sent_by os i →
+pub received_fits : (g : Geometry) (os : List Object) (i : Invocation) (sent : List Capability) → IsNow g os → object_count g < 2 ^ 64 →
+    IsTrue (is_process os i.process) → sent ≡ sent_by os i →
     All (FitsCap g) (received i sent)
 received_fits g os i sent now few is same = go i.operation
   where

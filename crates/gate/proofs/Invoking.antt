@@ -1,8 +1,8 @@
 -- The outcome of an invocation, from what its read-only calls, its announcing and its change reported.
-use Rattle.gate.proofs.Names.{ℕ, Bool, true, false, List, Option, None, Some, Result, Ok, Err, refl, sym, ap, subst, ⊎_elim, arith, cases_lt, IfOk, IsErrOf}
-use Rattle.gate.proofs.Names.{IsTrue, OnErr, Invocation, Geometry, Object, ResultCode, Effect, invoke, AreCurrent, AreKeepable, touching, touched_count, Fits}
-use Rattle.gate.proofs.Names.{is_running_process, PrepareFault, IsUnchanged, OnlyReads, Parts, Prepares, Renews, frames_of, objects_in, InvokeFault, Invoked}
-use Rattle.gate.proofs.Names.{Invokes, Overfills, TellsState, fault_of, result_code}
+use Rattle.gate.proofs.Names.{ℕ, Bool, false, List, Option, None, Some, Result, Ok, Err, refl, sym, ap, subst, ⊎_elim, arith, cases_lt, IfOk, IsErrOf, IsTrue}
+use Rattle.gate.proofs.Names.{OnErr, Invocation, Geometry, Object, ResultCode, Effect, invoke, AreCurrent, AreKeepable, touching, touched_count, Fits}
+use Rattle.gate.proofs.Names.{is_running_process, PrepareFault, IsUnchanged, Parts, Prepares, Renews, frames_of, objects_in, InvokeFault, Invoked}
+use Rattle.gate.proofs.Names.{FetchesOrFails, Failed, IsErr, Invokes, Overfills, fault_of, result_code}
 use Rattle.std.proofs.Common.{◌≡◌, ◌+◌, ◌^◌, ◌<◌, ◌≤◌, ◌∙◌}
 use Rattle.model.specs.declared.command.Command.TheVariants as command
 use Rattle.capability.specs.declared.present.PrepareFault.TheVariants as prepare
@@ -13,29 +13,28 @@ use Rattle.gate.proofs.Listed.{full_fault, on_ok}
 use Rattle.gate.proofs.Renewing.{renews_looked}
 use Rattle.gate.proofs.Standing.{ReadsAs, keeps_looked, looked_as, looked_keepable, looked_objects, only_reads_again, prepared_as}
 
--- no want of memory or failure is reported as a process that isn't available
+-- no failure to prepare is reported as a process that isn't available or doesn't run
 never_stalled : (e : PrepareFault) → IsErrOf {T = Option ResultCode} (Err (fault_of e)) fault.Stalled → ⊥
-never_stalled prepare.NoMemory is = cc
 never_stalled prepare.LogFull is = cc
 never_stalled prepare.Failed is = cc
 
 never_stopped : (e : PrepareFault) → IsErrOf {T = Option ResultCode} (Err (fault_of e)) fault.NotRunning → ⊥
-never_stopped prepare.NoMemory is = cc
 never_stopped prepare.LogFull is = cc
 never_stopped prepare.Failed is = cc
 
 failed_fault : {T U : Type 0} (e : PrepareFault) → IsErrOf {T = U} (Err (fault_of e)) fault.Failed → IsErrOf {T = T} (Err e) prepare.Failed
 failed_fault prepare.Failed is = refl
-failed_fault prepare.NoMemory is = cc
 failed_fault prepare.LogFull is = cc
 
 fault_failed : {T U : Type 0} (e : PrepareFault) → IsErrOf {T = T} (Err e) prepare.Failed → IsErrOf {T = U} (Err (fault_of e)) fault.Failed
 fault_failed prepare.Failed is = refl
-fault_failed prepare.NoMemory is = cc
 fault_failed prepare.LogFull is = cc
 
 ok_no_failure : {T : Type 0} (x : T) → (let r : Result T PrepareFault = Ok x in IsErrOf r prepare.Failed) → ⊥
 ok_no_failure x is = cc
+
+ok_no_err : {T : Type 0} (x : T) → IsErr {T = T} {E = Failed} (Ok x) → ⊥
+ok_no_err x is = cc
 
 on_err : {T E : Type 0} (r : Result T E) {P Q : Type 0} → (P → Q) → OnErr r P → OnErr r Q
 on_err (Ok x) f p = tt
@@ -51,11 +50,13 @@ unrisen m n later stayed = ⊎_elim (λ (rose : m < n). absurd (stayed rose)) (�
 
 module _ {S : Type 0} (parts : S → Parts) (Continues : S → S → Type 0) (i : Invocation) where
   -- an invocation after a read-only call
-  module _ (twice : (s t u : S) → Continues s t → Continues t u → Continues s u) (s t u : S) {T : Type 0} (x : T) (only_reads : OnlyReads {T = T} parts Continues s t (Ok x)) where
+  module _ (twice : (s t u : S) → Continues s t → Continues t u → Continues s u) (s t u : S) {T : Type 0} (x : T)
+      (only_reads : FetchesOrFails {T = T} parts Continues s t (Ok x)) where
     still : (parts t).failures ≡ (parts s).failures
-    still = unrisen (parts s).failures (parts t).failures only_reads.later (λ rose. ok_no_failure x (only_reads.cause.1 rose))
+    still = unrisen (parts s).failures (parts t).failures only_reads.later (λ rose. ok_no_err x (only_reads.cause.1 rose))
 
-    before : (P : Geometry → List Object → List Bool → Type 0) → P (parts t).geometry (objects_in (parts t)) (parts t).touched → P (parts s).geometry (objects_in (parts s)) (parts s).touched
+    before : (P : Geometry → List Object → List Bool → Type 0) → P (parts t).geometry (objects_in (parts t)) (parts t).touched →
+        P (parts s).geometry (objects_in (parts s)) (parts s).touched
     before P p =
         subst (λ (g : Geometry). P g (objects_in (parts s)) (parts s).touched) only_reads.snapshots.geometry
         (subst (λ (os : List Object). P (parts t).geometry os (parts s).touched) (looked_objects (parts s) (parts t) (looked_as only_reads.snapshots))
@@ -64,7 +65,8 @@ module _ {S : Type 0} (parts : S → Parts) (Continues : S → S → Type 0) (i 
     -- a refusal that only a read reported
     found : (k : InvokeFault) → (IsErrOf {T = Option ResultCode} (Err k) fault.LogFull → ⊥) → (IsErrOf {T = Option ResultCode} (Err k) fault.Failed → ⊥) →
         (IsErrOf {T = Option ResultCode} (Err k) fault.NotRunning → is_running_process (objects_in (parts s)) i.process ≡ false) →
-        (IsErrOf {T = Option ResultCode} (Err k) fault.Stalled → invoke (parts s).geometry (objects_in (parts s)) i ≡ None) → Invoked parts Continues s t i (Err k)
+        (IsErrOf {T = Option ResultCode} (Err k) fault.Stalled → invoke (parts s).geometry (objects_in (parts s)) i ≡ None) →
+        Invoked parts Continues s t i (Err k)
     found k not_full not_failed stopped stalled = record {
       done = tt;
       code = tt;
@@ -74,7 +76,7 @@ module _ {S : Type 0} (parts : S → Parts) (Continues : S → S → Type 0) (i 
       sound = tt;
       renews = tt;
       unchanged = record { headers = only_reads.snapshots.headers; contents = only_reads.snapshots.contents; touched = only_reads.snapshots.touched };
-      cause = (λ is. absurd (not_failed is), λ rose. absurd (ok_no_failure x (only_reads.cause.1 rose)));
+      cause = (λ is. absurd (not_failed is), λ rose. absurd (ok_no_err x (only_reads.cause.1 rose)));
       later = only_reads.later;
       geometry = only_reads.snapshots.geometry;
       continues = only_reads.snapshots.continues;
@@ -97,7 +99,10 @@ module _ {S : Type 0} (parts : S → Parts) (Continues : S → S → Type 0) (i 
         contents = same.contents ∙ only_reads.snapshots.contents;
         touched = same.touched ∙ only_reads.snapshots.touched;
       }) is.unchanged;
-      cause = (λ e. subst (λ (n : ℕ). n < (parts u).failures) still (is.cause.0 e), λ rose. is.cause.1 (subst (λ (n : ℕ). n < (parts u).failures) (sym still) rose));
+      cause = (
+        λ e. subst (λ (n : ℕ). n < (parts u).failures) still (is.cause.0 e),
+        λ rose. is.cause.1 (subst (λ (n : ℕ). n < (parts u).failures) (sym still) rose),
+      );
       later = subst (λ (n : ℕ). n ≤ (parts u).failures) still is.later;
       geometry = is.geometry ∙ only_reads.snapshots.geometry;
       continues = twice s t u only_reads.snapshots.continues is.continues;
@@ -122,42 +127,48 @@ module _ {S : Type 0} (parts : S → Parts) (Continues : S → S → Type 0) (i 
           contents = replying.contents ∙ only_reads.snapshots.contents;
           touched = replying.untouched ∙ only_reads.snapshots.touched;
         };
-        cause = (λ is. subst (λ (n : ℕ). n < (parts u).failures) still (replying.cause.0 (failed_fault f is)), λ rose. fault_failed f (replying.cause.1 (subst (λ (n : ℕ). n < (parts u).failures) (sym still) rose)));
+        cause = (
+          λ is. subst (λ (n : ℕ). n < (parts u).failures) still (replying.cause.0 (failed_fault f is)),
+          λ rose. fault_failed f (replying.cause.1 (subst (λ (n : ℕ). n < (parts u).failures) (sym still) rose)),
+        );
         later = subst (λ (n : ℕ). n ≤ (parts u).failures) still replying.later;
         geometry = replying.geometry ∙ only_reads.snapshots.geometry;
         continues = twice s t u only_reads.snapshots.continues replying.continues;
       }
 
       -- and numbers that were, and then written
-      module _ {U : Type 0} (m : S) (y : U) (replying : Prepares {T = U} parts Continues t m ns (Ok y)) (failures : (parts u).failures ≡ (parts m).failures) where
-        all_still : (parts u).failures ≡ (parts s).failures
-        all_still = failures ∙ unrisen (parts t).failures (parts m).failures replying.later (λ rose. ok_no_failure y (replying.cause.1 rose)) ∙ still
+      module _ {U : Type 0} (m : S) (y : U) (replying : Prepares {T = U} parts Continues t m ns (Ok y)) (failures : (parts u).failures ≡ (parts m).failures)
+        where
+          all_still : (parts u).failures ≡ (parts s).failures
+          all_still = failures ∙ unrisen (parts t).failures (parts m).failures replying.later (λ rose. ok_no_failure y (replying.cause.1 rose)) ∙ still
 
-        there : ReadsAs (parts s) (parts m)
-        there = only_reads_again (parts s) (parts t) (parts m) (looked_as only_reads.snapshots) (prepared_as replying)
+          there : ReadsAs (parts s) (parts m)
+          there = only_reads_again (parts s) (parts t) (parts m) (looked_as only_reads.snapshots) (prepared_as replying)
 
-        pub carried_out : (parts u).touched ≡ (parts m).touched → (parts u).geometry ≡ (parts m).geometry → Continues m u → objects_in (parts u) ≡ e.objects
-            → Fits (command.Invoke i) → IsTrue (is_running_process (objects_in (parts s)) i.process) → AreCurrent (frames_of (parts u))
-            → ((age : ℕ) → age + 1 < 2 ^ 64 → AreKeepable (parts m).geometry age (frames_of (parts m)) → AreKeepable (parts m).geometry (age + 1) (frames_of (parts u)))
-            → Renews (parts s) (parts u) → (code : Option ResultCode) → code ≡ result_code (parts s).geometry (objects_in (parts s)) i
-            → Invoked parts Continues s u i (Ok code)
-        carried_out touched geometry continues objects fits running current keepable renews code is = record {
-          done = invokes_by (parts s).geometry i (objects_in (parts s)) (objects_in (parts u)) (parts s).touched (parts u).touched e invoked objects
-              (touched ∙ replying.touched ∙ ap (λ (ts : List Bool). touching ts ns) only_reads.snapshots.touched ∙ ap (touching (parts s).touched) written)
-              (subst (λ (ts : List Bool). touched_count ts ≤ (parts s).geometry.log) (sym touched)
-              (subst (λ (g : Geometry). touched_count (parts m).touched ≤ g.log) there.geometry replying.within));
-          code = is;
-          runs = λ is. cc;
-          stalled = λ is. cc;
-          full = λ is. cc;
-          sound = λ age young sound. sound_after (parts s).geometry age (frames_of (parts s)) (frames_of (parts u)) i e young fits running invoked objects sound
-              (in_geometry (parts s).geometry (parts m).geometry (age + 1) (frames_of (parts u)) (sym there.geometry)
-              (keepable age (omega (arith, young)) (looked_keepable (parts s) (parts m) there age sound.keepable)))
-              current;
-          renews = renews;
-          unchanged = tt;
-          cause = (λ is. cc, λ rose. absurd (omega (arith, rose, all_still)));
-          later = omega (arith, all_still);
-          geometry = geometry ∙ there.geometry;
-          continues = twice s t u only_reads.snapshots.continues (twice t m u replying.continues continues);
-        }
+          pub carried_out : (parts u).touched ≡ (parts m).touched → (parts u).geometry ≡ (parts m).geometry → Continues m u → objects_in (parts u) ≡ e.objects
+              → Fits (command.Invoke i) → IsTrue (is_running_process (objects_in (parts s)) i.process) → AreCurrent (frames_of (parts u))
+              → ((age : ℕ) → age + 1 < 2 ^ 64 → AreKeepable (parts m).geometry age (frames_of (parts m)) →
+              AreKeepable (parts m).geometry (age + 1) (frames_of (parts u)))
+              → Renews (parts s) (parts u) → (code : Option ResultCode) → code ≡ result_code (parts s).geometry (objects_in (parts s)) i
+              → Invoked parts Continues s u i (Ok code)
+          carried_out touched geometry continues objects fits running current keepable renews code is = record {
+            done = invokes_by (parts s).geometry i (objects_in (parts s)) (objects_in (parts u)) (parts s).touched (parts u).touched e invoked objects
+                (touched ∙ replying.touched ∙ ap (λ (ts : List Bool). touching ts ns) only_reads.snapshots.touched ∙ ap (touching (parts s).touched) written)
+                (subst (λ (ts : List Bool). touched_count ts ≤ (parts s).geometry.log) (sym touched)
+                (subst (λ (g : Geometry). touched_count (parts m).touched ≤ g.log) there.geometry replying.within));
+            code = is;
+            runs = λ is. cc;
+            stalled = λ is. cc;
+            full = λ is. cc;
+            sound = λ age young sound. sound_after (parts s).geometry age (frames_of (parts s)) (frames_of (parts u)) i e young fits running invoked objects
+                sound
+                (in_geometry (parts s).geometry (parts m).geometry (age + 1) (frames_of (parts u)) (sym there.geometry)
+                (keepable age (omega (arith, young)) (looked_keepable (parts s) (parts m) there age sound.keepable)))
+                current;
+            renews = renews;
+            unchanged = tt;
+            cause = (λ is. cc, λ rose. absurd (omega (arith, rose, all_still)));
+            later = omega (arith, all_still);
+            geometry = geometry ∙ there.geometry;
+            continues = twice s t u only_reads.snapshots.continues (twice t m u replying.continues continues);
+          }

@@ -1,8 +1,8 @@
 -- Which numbers have objects.
-use Rattle.gate.proofs.Names.{ℕ, zero, suc, true, false, Bool, Some, List, [], length, refl, sym, ap, subst, arith, IsTrue, All, Capability, Void, Number, Page}
-use Rattle.gate.proofs.Names.{Node, Space, Process, Start, Resume, Bank, Discrim, Frame, ObjectHeader, Object, named, frames_in, objects_of, is_annex, is_free}
-use Rattle.gate.proofs.Names.{NamesItsKind, annex_at, content_at, is_process, is_running_process, Parts, frames_of, objects_in, annex_used, bank_used}
-use Rattle.gate.proofs.Names.{known_used, node_used, page_used, process_known, root_used}
+use Rattle.gate.proofs.Names.{ℕ, zero, suc, true, false, Bool, Some, List, [], length, refl, ap, subst, arith, IsTrue, All, Capability, Void, Number, Page}
+use Rattle.gate.proofs.Names.{Node, Space, Process, Start, Resume, Bank, Discrim, ObjectHeader, Object, named, frames_in, is_annex, is_free, NamesItsKind}
+use Rattle.gate.proofs.Names.{content_at, is_process, is_running_process, Parts, frames_of, objects_in, annex_used, bank_used, known_used, node_used, page_used}
+use Rattle.gate.proofs.Names.{root_used}
 use Rattle.std.proofs.Common.{◌≡◌, ◌<◌, ◌&&◌, ◌∷◌, ◌∙◌}
 
 pub annex_known : (p : Parts) (n : ℕ) → IsTrue (is_annex (content_at (objects_in p) n)) → n < length p.headers

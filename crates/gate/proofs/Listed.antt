@@ -56,5 +56,4 @@ all_four P a b c d x y z w (suc (suc (suc (suc k)))) e inside = absurd (omega ar
 -- a full log is reported as one
 pub full_fault : {T U : Type 0} (e : PrepareFault) → IsErrOf {T = U} (Err (fault_of e)) invoke_fault.LogFull → IsErrOf {T = T} (Err e) prepare.LogFull
 full_fault prepare.LogFull is = refl
-full_fault prepare.NoMemory is = cc
 full_fault prepare.Failed is = cc

@@ -1,18 +1,19 @@
 -- The names that the proofs here cite: of other crates, and of the definitions of this one.
-pub use Rattle.capability.proofs.Frames.{annex_used, bank_used, content_there, headers_in, known_used, length_objects, node_used, page_used, process_known}
-pub use Rattle.capability.proofs.Frames.{root_used}
+pub use Rattle.capability.proofs.FrameLists.{annex_used, bank_used, content_there, headers_in, known_used, length_objects, node_used, page_used, process_known}
+pub use Rattle.capability.proofs.FrameLists.{root_used}
 pub use Rattle.capability.proofs.Keeping.{keepable_count, keepable_later, keepable_roles}
 pub use Rattle.capability.proofs.KindNumbers.{bank_number, node_number, page_number, root_number}
 pub use Rattle.capability.proofs.SnapshotLaws.{keeps_twice}
 pub use Rattle.capability.specs.Changes.{changed, message_of, outcome_by, target_of, written_of}
 pub use Rattle.capability.specs.Objects.{with_message}
-pub use Rattle.capability.specs.Parts.{AreSound, IsUnchanged, OnlyFetches, OnlyReads, Parts, Prepares, Renews, frames_of, objects_in}
+pub use Rattle.capability.specs.Parts.{AreSound, IsUnchanged, OnlyFetches, Parts, Prepares, Renews, frames_of, objects_in}
 pub use Rattle.capability.specs.declared.order.BankChange.{BankChange}
 pub use Rattle.capability.specs.declared.order.Caller.{Caller}
 pub use Rattle.capability.specs.declared.order.Change.{Change}
 pub use Rattle.capability.specs.declared.order.OrderPlan.{OrderPlan}
 pub use Rattle.capability.specs.declared.order.Reply.{Reply}
 pub use Rattle.capability.specs.declared.present.PrepareFault.{PrepareFault}
+pub use Rattle.device.specs.declared.device.Failed.{Failed}
 unfoldable pub use Rattle.model.specs.Banking.{on_bank}
 pub use Rattle.model.specs.Capability.{named}
 pub use Rattle.model.specs.Frame.{blank_frame, conveyed, current_count, frame_at, header_at, headers, held_at}
@@ -72,9 +73,10 @@ pub use Rattle.std.proofs.lemmas.List.Elements.{All-drop, All-map, All-set}
 pub use Rattle.std.proofs.lemmas.Result.{err_from_is_err_and}
 pub use Rattle.std.specs.List.{All, Contains}
 pub use Rattle.std.specs.Option.{option_to_list}
-pub use Rattle.std.specs.Prelude.{IfOk, IsErrOf, IsTrue, OnErr, OnOk, slice_index, slice_index_or, slice_set}
-pub use Rattle.gate.specs.Invoke.{Invoked, Invokes, IsKernelObject, IsRequested, KeepsSoundFrames, Overfills, TellsState, entered, fault_of, gate_capability}
-pub use Rattle.gate.specs.Invoke.{received, result_code, written_through}
+pub use Rattle.std.specs.Prelude.{IfOk, IsErr, IsErrOf, IsTrue, OnErr, OnOk, slice_index, slice_index_or, slice_set}
+pub use Rattle.capability.specs.Parts.{FetchesOrFails}
+pub use Rattle.gate.specs.Invoke.{Invoked, Invokes, IsKernelObject, IsRequested, KeepsSoundFrames, Overfills, entered, fault_of}
+pub use Rattle.gate.specs.Invoke.{gate_capability, received, result_code, written_through}
 pub use Rattle.gate.specs.Ordering.{IsPlanned, Plans, answered, arguments_of, finished, ordered_by, state_before}
 pub use Rattle.gate.specs.Plan.{ChangesAs, FitsCap, HaveAnnexesOf, IsFor, IsOfProcess, IsWithinObject, MayChange, MayEdit, MayHold, fetched_of, node_named}
 pub use Rattle.gate.specs.Plan.{outcome_of, process_named}

@@ -79,20 +79,26 @@ module _ (os : List Object) (c : Capability) (args : Arguments) (kind : NamesIts
   for_holds g fits small (change.Bank made) for = absurd for
 
   -- what it writes is one of the objects
-  for_target : ((p : ℕ) → IsTrue (is_process os p) → IsTrue (is_annex (content_at os (annex_at os p)))) → (x : Change) → IsFor os c args x → (n : ℕ) → target_of x ≡ Some n → n < length os
+  for_target : ((p : ℕ) → IsTrue (is_process os p) → IsTrue (is_annex (content_at os (annex_at os p)))) → (x : Change) → IsFor os c args x → (n : ℕ) →
+      target_of x ≡ Some n → n < length os
   for_target annexes change.Nothing for n is = cc
   for_target annexes (change.Word page index word) for n is = let e : page ≡ n = cc in used_within os n (named_used os c kind n (for.1 ∙ ap Some e))
   for_target annexes (change.Slot node slot held) for n is =
-      let e : node ≡ n = cc in used_within os n (node_used (content_at os n) (subst (λ (m : ℕ). is_node (content_at os m) ≡ true) e (node_there os c kind node for.1)))
+      let e : node ≡ n = cc in used_within os n
+      (node_used (content_at os n) (subst (λ (m : ℕ). is_node (content_at os m) ≡ true) e (node_there os c kind node for.1)))
   for_target annexes (change.Register process annex register held) for n is =
       let e : annex ≡ n = cc in
-      used_within os n (annex_used (content_at os n) (subst (λ (m : ℕ). is_annex (content_at os m) ≡ true) (sym for.3 ∙ e) (annexes process (process_there os c kind process for.2))))
+      used_within os n (annex_used (content_at os n)
+      (subst (λ (m : ℕ). is_annex (content_at os m) ≡ true) (sym for.3 ∙ e) (annexes process (process_there os c kind process for.2))))
   for_target annexes (change.RootWord process index word) for n is =
-      let e : process ≡ n = cc in used_within os n (root_used (content_at os n) (subst (λ (m : ℕ). is_process os m ≡ true) e (process_there os c kind process for.1)))
+      let e : process ≡ n = cc in used_within os n
+      (root_used (content_at os n) (subst (λ (m : ℕ). is_process os m ≡ true) e (process_there os c kind process for.1)))
   for_target annexes (change.SetState process state) for n is =
-      let e : process ≡ n = cc in used_within os n (root_used (content_at os n) (subst (λ (m : ℕ). is_process os m ≡ true) e (process_there os c kind process for)))
+      let e : process ≡ n = cc in used_within os n
+      (root_used (content_at os n) (subst (λ (m : ℕ). is_process os m ≡ true) e (process_there os c kind process for)))
   for_target annexes (change.Space process held) for n is =
-      let e : process ≡ n = cc in used_within os n (root_used (content_at os n) (subst (λ (m : ℕ). is_process os m ≡ true) e (process_there os c kind process for.0)))
+      let e : process ≡ n = cc in used_within os n
+      (root_used (content_at os n) (subst (λ (m : ℕ). is_process os m ≡ true) e (process_there os c kind process for.0)))
   for_target annexes (change.Bank made) for n is = absurd for
 
 -- an edit that may be made may be made also where the frame is the same
@@ -193,8 +199,10 @@ behind_writers Call p annex ns = refl
 behind_writers Return p annex ns = refl
 behind_writers Send p annex ns = refl
 
-pub planned_by : (g : Geometry) (os : List Object) (i : Invocation) (caller : Caller) (plan : OrderPlan) (args : Arguments) (first list rest : List ℕ) → args ≡ arguments_of os i
-    → first ≡ writers caller.operation caller.process caller.annex → list ≡ first ++ rest → Plans g os caller.invoked (slice_index i.words 0) args rest plan → IsPlanned g os i caller plan list
+pub planned_by : (g : Geometry) (os : List Object) (i : Invocation) (caller : Caller) (plan : OrderPlan) (args : Arguments) (first list rest : List ℕ) →
+    args ≡ arguments_of os i
+    → first ≡ writers caller.operation caller.process caller.annex → list ≡ first ++ rest → Plans g os caller.invoked (slice_index i.words 0) args rest plan →
+    IsPlanned g os i caller plan list
 planned_by g os i caller plan args first list rest args_are first_is is plans =
     let all : list ≡ writers caller.operation caller.process caller.annex ++ rest = is ∙ ap (λ (ns : List ℕ). ns ++ rest) first_is in
     let behind : drop (writer_count caller.operation) list ≡ rest =
@@ -214,11 +222,14 @@ module _ (g : Geometry) (os : List Object) (i : Invocation) (now : IsNow g os) w
   arguments_held fits = record { first = all_words i.words fits.3 1; second = all_words i.words fits.3 2; held = held_sent g os i 0 now }
 
 -- an order that isn't a bank's is planned
-pub object_planned : (g : Geometry) (os us : List Object) (i : Invocation) (caller : Caller) (plan : OrderPlan) (args : Arguments) (first list : List ℕ) → us ≡ os → IsNow g os
-    → object_count g < 2 ^ 64 → Fits (command.Invoke i) → IsRequested os i caller → args ≡ arguments_of os i → first ≡ writers caller.operation caller.process caller.annex
+pub object_planned : (g : Geometry) (os us : List Object) (i : Invocation) (caller : Caller) (plan : OrderPlan) (args : Arguments) (first list : List ℕ) →
+    us ≡ os → IsNow g os
+    → object_count g < 2 ^ 64 → Fits (command.Invoke i) → IsRequested os i caller → args ≡ arguments_of os i →
+    first ≡ writers caller.operation caller.process caller.annex
     → list ≡ first ++ written_of plan.change → IsFor us caller.invoked args plan.change
     → outcome_of us plan ≡ order g us caller.invoked (slice_index i.words 0) args
-    → ((vs : List Object) → HaveAnnexesOf us vs → ChangesAs vs plan (order g vs caller.invoked (slice_index i.words 0) args)) → IsPlanned g os i caller plan list
+    → ((vs : List Object) → HaveAnnexesOf us vs → ChangesAs vs plan (order g vs caller.invoked (slice_index i.words 0) args)) →
+    IsPlanned g os i caller plan list
 object_planned g os us i caller plan args first list same now few fits is args_are first_is listed for as_planned changes =
     let c = caller.invoked in
     let sent = subst (λ (a : Arguments). AreArguments os a) (sym args_are) (arguments_held g os i now fits) in
@@ -227,7 +238,8 @@ object_planned g os us i caller plan args first list same now few fits is args_a
     let may : MayEdit g os (written_of plan.change) plan.change = record {
       within = for_within os c args kind plan.change for_os;
       process = for_process os c args kind plan.change for_os;
-      holds = for_holds os c args kind g (held_fits g os now.frame.kinds few args.capability (held_to os args.capability sent.held)) sent.second plan.change for_os;
+      holds = for_holds os c args kind g (held_fits g os now.frame.kinds few args.capability (held_to os args.capability sent.held)) sent.second plan.change
+          for_os;
       listed = refl;
     } in
     planned_by g os i caller plan args first list (written_of plan.change) args_are first_is listed (record {
@@ -237,15 +249,18 @@ object_planned g os us i caller plan args first list same now few fits is args_a
       written = λ vs frame. (changes vs (λ p. (frame.alike p).annex ∙ ap (λ (ws : List Object). annex_at ws p) (sym same))).written;
       may = λ vs frame then. edit_change g vs (written_of plan.change) plan.change (edit_alike g os vs frame (written_of plan.change) plan.change may);
       annex = λ vs frame p before after. changed_annex vs (written_of plan.change) plan.change may.within p;
-      known = all_target (λ n. n < length os) (target_of plan.change) (for_target os c args kind (λ p process. (now.frame.annexes p process).0) plan.change for_os);
+      known = all_target (λ n. n < length os) (target_of plan.change)
+          (for_target os c args kind (λ p process. (now.frame.annexes p process).0) plan.change for_os);
     })
 
 -- and one of a bank
-bank_ordered : (g : Geometry) (os : List Object) (b w : ℕ) (requested : BankOrder) (args : Arguments) → bank_order w ≡ Some requested → order g os (Bank b) w args ≡ on_bank g os b requested args
+bank_ordered : (g : Geometry) (os : List Object) (b w : ℕ) (requested : BankOrder) (args : Arguments) → bank_order w ≡ Some requested →
+    order g os (Bank b) w args ≡ on_bank g os b requested args
 unfolding order
 bank_ordered g os b w requested args is = ap (λ (found : Option BankOrder). elim found [ None ↦ refused os code.NoOrder | Some k ↦ on_bank g os b k args ]) is
 
-bank_plans : (g : Geometry) (os : List Object) (b w : ℕ) (requested : BankOrder) (args : Arguments) (plan : OrderPlan) (list : List ℕ) → IsNow g os → IsTrue (is_bank (content_at os b))
+bank_plans : (g : Geometry) (os : List Object) (b w : ℕ) (requested : BankOrder) (args : Arguments) (plan : OrderPlan) (list : List ℕ) → IsNow g os →
+    IsTrue (is_bank (content_at os b))
     → NamesItsKind os args.capability → bank_order w ≡ Some requested → list ≡ (on_bank g os b requested args).written → PlansAs g os b requested args list plan
     → Plans g os (Bank b) w args list plan
 bank_plans g os b w requested args plan list now bank names is listed plans =
@@ -264,14 +279,16 @@ bank_plans g os b w requested args plan list now bank names is listed plans =
       known = subst (λ (ns : List ℕ). All (λ n. n < length os) ns) (sym listed) (written_within g os b requested args now bank names);
     }
 
-pub bank_planned : (g : Geometry) (os : List Object) (i : Invocation) (caller : Caller) (plan : OrderPlan) (args : Arguments) (b : ℕ) (requested : BankOrder) (first list : List ℕ)
+pub bank_planned : (g : Geometry) (os : List Object) (i : Invocation) (caller : Caller) (plan : OrderPlan) (args : Arguments) (b : ℕ) (requested : BankOrder)
+    (first list : List ℕ)
     → IsNow g os → Fits (command.Invoke i) → IsRequested os i caller → args ≡ arguments_of os i → first ≡ writers caller.operation caller.process caller.annex
     → caller.invoked ≡ Bank b → bank_order (slice_index i.words 0) ≡ Some requested → list ≡ first ++ (on_bank g os b requested args).written
     → PlansAs g os b requested args (on_bank g os b requested args).written plan → IsPlanned g os i caller plan list
 bank_planned g os i caller plan args b requested first list now fits is args_are first_is invoked order_is listed plans =
     let ws = (on_bank g os b requested args).written in
     let sent = subst (λ (a : Arguments). AreArguments os a) (sym args_are) (arguments_held g os i now fits) in
-    let bank : IsTrue (is_bank (content_at os b)) = subst (NamesItsKind os) invoked (held_to os caller.invoked (invoked_held g os i now caller.invoked is.invoked)).1 in
+    let bank : IsTrue (is_bank (content_at os b)) = subst (NamesItsKind os) invoked
+    (held_to os caller.invoked (invoked_held g os i now caller.invoked is.invoked)).1 in
     planned_by g os i caller plan args first list ws args_are first_is listed
     (subst (λ (c : Capability). Plans g os c (slice_index i.words 0) args ws plan) (sym invoked)
     (bank_plans g os b (slice_index i.words 0) requested args plan ws now bank (held_to os args.capability sent.held).1 order_is refl plans))

@@ -13,7 +13,8 @@ module _ {X : Type 0} (field : Content Capability → X) where
   abbrev field_of : Object → X
   field_of o = field o.content
 
-  field_kept : (os : List Object) (n : ℕ) (c : Content Capability) → field c ≡ field (content_at os n) → (m : ℕ) → field (content_at (with_content os n c) m) ≡ field (content_at os m)
+  field_kept : (os : List Object) (n : ℕ) (c : Content Capability) → field c ≡ field (content_at os n) → (m : ℕ) →
+      field (content_at (with_content os n c) m) ≡ field (content_at os m)
   unfolding with_content
   field_kept os n c same m =
       sym (get_or-map field_of (with_content os n c) m free)
@@ -50,7 +51,8 @@ state_annex os p s q = field_kept annex_in os p (content.Root (record (root_at o
 pub after_process : (os : List Object) (i : Invocation) → IsTrue (is_process os i.process) → (q : ℕ) → is_process (after_gate os i) q ≡ is_process os q
 after_process os i is q = go i.operation
   where
-    go : (o : Operation) → is_process (elim o [ Call ↦ with_state os i.process Waiting | Return ↦ with_state os i.process Available | Send ↦ os ]) q ≡ is_process os q
+    go : (o : Operation) → is_process (elim o [ Call ↦ with_state os i.process Waiting | Return ↦ with_state os i.process Available | Send ↦ os ]) q ≡
+        is_process os q
     go Call = state_process os i.process Waiting is q
     go Return = state_process os i.process Available is q
     go Send = refl
@@ -58,7 +60,8 @@ after_process os i is q = go i.operation
 pub after_annex : (os : List Object) (i : Invocation) (q : ℕ) → annex_at (after_gate os i) q ≡ annex_at os q
 after_annex os i q = go i.operation
   where
-    go : (o : Operation) → annex_at (elim o [ Call ↦ with_state os i.process Waiting | Return ↦ with_state os i.process Available | Send ↦ os ]) q ≡ annex_at os q
+    go : (o : Operation) → annex_at (elim o [ Call ↦ with_state os i.process Waiting | Return ↦ with_state os i.process Available | Send ↦ os ]) q ≡ annex_at os
+        q
     go Call = state_annex os i.process Waiting q
     go Return = state_annex os i.process Available q
     go Send = refl
@@ -101,7 +104,8 @@ changed_annex os list change.Nothing within q = refl
 changed_annex os list (change.Word page index word) within q = field_kept annex_in os page _ (word_annex (content_at os page) index word) q
 changed_annex os list (change.Slot node slot held) within q = field_kept annex_in os node _ (slot_annex (content_at os node) slot held) q
 changed_annex os list (change.Register process annex slot held) within q = field_kept annex_in os annex _ (slot_annex (content_at os annex) slot held) q
-changed_annex os list (change.RootWord process index word) within q = field_kept annex_in os process (content.Root (with_root_word (root_at os process) index word)) refl q
+changed_annex os list (change.RootWord process index word) within q = field_kept annex_in os process
+    (content.Root (with_root_word (root_at os process) index word)) refl q
 changed_annex os list (change.SetState process state) within q = consume_annex process (with_state os process state) q ∙ state_annex os process state q
 changed_annex os list (change.Space process held) within q = field_kept annex_in os process (content.Root (with_space (root_at os process) held)) refl q
 changed_annex os list (change.Bank made) within q = absurd within

@@ -3,7 +3,7 @@ use Rattle.gate.specs.Names.{ℕ, Bool, true, false, List, [], Option, None, Som
 use Rattle.gate.specs.Names.{OnErr, IsErrOf, Capability, Start, Resume, Invocation, Operation, Call, Send, Geometry}
 use Rattle.gate.specs.Names.{Object, ResultCode, Effect, invoke, after_gate, deliver, ordered, IsSoundFrames, touching}
 use Rattle.gate.specs.Names.{touched_count, consume, annex_at, is_running_process, register_at, Caller, PrepareFault}
-use Rattle.gate.specs.Names.{IsUnchanged, Parts, Renews, frames_of, objects_in}
+use Rattle.gate.specs.Names.{IsUnchanged, Parts, Renews, frames_of, objects_in, Failed, IsErr, OnlyFetches}
 use Rattle.std.specs.Prelude.{◌≡◌, ◌↔◌, ◌+◌, ◌^◌, ◌<◌, ◌≤◌, ◌∷◌, if◌then◌else◌}
 use Rattle.capability.specs.declared.present.PrepareFault.TheVariants as prepare
 use Rattle.gate.specs.declared.fault.InvokeFault.{InvokeFault}
@@ -12,7 +12,6 @@ use Rattle.gate.specs.declared.gates.Gate.{Gate}
 
 -- why an invocation wasn't carried out, where it is that objects weren't prepared
 abbrev pub fault_of : PrepareFault → InvokeFault
-fault_of prepare.NoMemory = fault.NoMemory
 fault_of prepare.LogFull = fault.LogFull
 fault_of prepare.Failed = fault.Failed
 
@@ -47,11 +46,13 @@ pub record IsRequested (os : List Object) (i : Invocation) (caller : Caller) : T
 
 -- the result code of an invocation: its order's, or none through a gate
 abbrev pub result_code : Geometry → List Object → Invocation → Option ResultCode
-result_code g os i = elim (register_at os i.process i.register) [ Start q key ↦ None | Resume q ↦ None | _ ↦ Some (ordered g os i).code ]
+result_code g os i = elim (register_at os i.process i.register)
+    [ Start q key ↦ None | Resume q ↦ None | _ ↦ Some (ordered g os i).code ]
 
 -- frames that are sound at an age are sound at the next
 abbrev pub KeepsSoundFrames : Parts → Parts → Type 0
-KeepsSoundFrames old new = (age : ℕ) → age < 2 ^ 62 → IsSoundFrames old.geometry age (frames_of old) → IsSoundFrames old.geometry (age + 1) (frames_of new)
+KeepsSoundFrames old new = (age : ℕ) → age < 2 ^ 62 → IsSoundFrames old.geometry age (frames_of old) →
+    IsSoundFrames old.geometry (age + 1) (frames_of new)
 
 -- whether the process runs, where a result says so
 abbrev pub TellsState : List Object → Invocation → Result (Option ResultCode) InvokeFault → Type 0
@@ -59,16 +60,20 @@ TellsState os i (Ok code) = is_running_process os i.process ≡ true
 TellsState os i (Err fault.NotRunning) = is_running_process os i.process ≡ false
 TellsState os i (Err fault.Stalled) = is_running_process os i.process ≡ true
 TellsState os i (Err fault.LogFull) = is_running_process os i.process ≡ true
-TellsState os i (Err _) = Unit {0}
+TellsState os i (Err fault.Failed) = Unit {0}
 
 -- The outcome of an invocation. After an error nothing has changed. The parameters are ghost members of a store of
 -- present frames.
-pub record Invoked {S : Type 0} (parts : S → Parts) (Continues : S → S → Type 0) (old new : S) (i : Invocation) (result : Result (Option ResultCode) InvokeFault) : Type 0 where
-  pub done : OnOk result (Invokes (parts old).geometry i (objects_in (parts old)) (parts old).touched (objects_in (parts new)) (parts new).touched)
+pub record Invoked {S : Type 0} (parts : S → Parts) (Continues : S → S → Type 0) (old new : S) (i : Invocation)
+    (result : Result (Option ResultCode) InvokeFault) : Type 0 where
+  pub done : OnOk result
+      (Invokes (parts old).geometry i (objects_in (parts old)) (parts old).touched (objects_in (parts new))
+      (parts new).touched)
   pub code : IfOk result (λ code. code ≡ result_code (parts old).geometry (objects_in (parts old)) i)
   pub runs : IsErrOf result fault.NotRunning → is_running_process (objects_in (parts old)) i.process ≡ false
   pub stalled : IsErrOf result fault.Stalled → invoke (parts old).geometry (objects_in (parts old)) i ≡ None
-  pub full : IsErrOf result fault.LogFull → Overfills (parts old).geometry i (objects_in (parts old)) (parts old).touched
+  pub full : IsErrOf result fault.LogFull → Overfills (parts old).geometry i (objects_in (parts old))
+      (parts old).touched
   pub sound : OnOk result (KeepsSoundFrames (parts old) (parts new))
   pub renews : OnOk result (Renews (parts old) (parts new))
   pub unchanged : OnErr result (IsUnchanged (parts old) (parts new))
@@ -88,5 +93,6 @@ gate_capability gate = if gate.is_resume then Resume gate.process else Start gat
 -- the objects after a message went through a gate; a resume capability is consumed last
 abbrev pub entered : List Object → Invocation → Gate → List Capability → List Object
 entered os i gate sent =
-    let delivered = deliver (after_gate os i) gate.process (record { words = i.words; key = gate.key; capabilities = received i sent }) in
+    let delivered = deliver (after_gate os i) gate.process
+    (record { words = i.words; key = gate.key; capabilities = received i sent }) in
     if gate.is_resume then consume gate.process delivered else delivered

@@ -9,7 +9,11 @@ use Rattle.gate.specs.Plan.{MayChange}
 
 -- the arguments that an invocation gives its order
 abbrev pub arguments_of : List Object → Invocation → Arguments
-arguments_of os i = record { first = slice_index i.words 1; second = slice_index i.words 2; capability = slice_index_or (sent_by os i) 0 Void }
+arguments_of os i = record {
+  first = slice_index i.words 1;
+  second = slice_index i.words 2;
+  capability = slice_index_or (sent_by os i) 0 Void;
+}
 
 -- the objects that the order finds: a process that returns is available
 abbrev pub state_before : Operation → List Object → ℕ → List Object
@@ -17,7 +21,8 @@ state_before operation os p = elim operation [ Return ↦ with_state os p Availa
 
 -- the objects after the reply to a process that called; the reply is dropped if the process doesn't run any more
 abbrev pub answered : Operation → ℕ → List Object → Reply → List Object
-answered operation p os reply = elim operation [ Call ↦ if is_running_process os p then deliver os p (message_of reply) else os | _ ↦ os ]
+answered operation p os reply = elim operation
+    [ Call ↦ if is_running_process os p then deliver os p (message_of reply) else os | _ ↦ os ]
 
 -- the objects after a caller's order, which writes the listed numbers
 abbrev pub ordered_by : List Object → Caller → List ℕ → OrderPlan → List Object
@@ -29,22 +34,27 @@ finished os caller list plan = answered caller.operation caller.process (ordered
 
 -- The plan of an order that writes the listed numbers. Words, slots and states may change before the order is carried
 -- out: it still has the plan's code, makes the plan's change, and may make it.
-pub record Plans (g : Geometry) (os : List Object) (c : Capability) (word : ℕ) (args : Arguments) (list : List ℕ) (plan : OrderPlan) : Type 0 where
+pub record Plans (g : Geometry) (os : List Object) (c : Capability) (word : ℕ) (args : Arguments) (list : List ℕ)
+    (plan : OrderPlan) : Type 0 where
   pub here : order g os c word args ≡ outcome_by os list plan
   pub code : (us : List Object) → SameFrame os us → (order g us c word args).code ≡ plan.reply.code
   pub objects : (us : List Object) → SameFrame os us → (order g us c word args).objects ≡ changed us list plan.change
   pub written : (us : List Object) → SameFrame os us → (order g us c word args).written ≡ list
   pub may : (us : List Object) → SameFrame os us → IsNow g us → MayChange g us list plan.change
-  pub annex : (us : List Object) → SameFrame os us → (p : ℕ) → is_process us p ≡ true → is_process (changed us list plan.change) p ≡ true
+  pub annex : (us : List Object) → SameFrame os us → (p : ℕ) → is_process us p ≡ true →
+      is_process (changed us list plan.change) p ≡ true
       → annex_at (changed us list plan.change) p ≡ annex_at us p
   pub known : All (λ n. n < length os) list
 
 -- a plan, and the list: the numbers that the invocation writes itself, then those that its order writes
-pub record IsPlanned (g : Geometry) (os : List Object) (i : Invocation) (caller : Caller) (plan : OrderPlan) (list : List ℕ) : Type 0 where
-  pub plans : Plans g os caller.invoked (slice_index i.words 0) (arguments_of os i) (drop (writer_count caller.operation) list) plan
+pub record IsPlanned (g : Geometry) (os : List Object) (i : Invocation) (caller : Caller) (plan : OrderPlan)
+    (list : List ℕ) : Type 0 where
+  pub plans : Plans g os caller.invoked (slice_index i.words 0) (arguments_of os i)
+      (drop (writer_count caller.operation) list) plan
   pub listed : list ≡ writers caller.operation caller.process caller.annex ++ drop (writer_count caller.operation) list
 
--- The geometry, the touched numbers and the failures stay, and a count of allocations rises where its object is given up.
+-- The geometry, the touched numbers and the failures stay, and a count of allocations rises where its object is given
+-- up.
 -- The parameters are ghost members of a store of present frames.
 pub record GoesOnBeside {S : Type 0} (parts : S → Parts) (Continues : S → S → Type 0) (old new : S) : Type 0 where
   pub renews : Renews (parts old) (parts new)

@@ -34,9 +34,11 @@ process_named _ = None
 abbrev pub IsFor : List Object → Capability → Arguments → Change → Type 0
 IsFor os c args change.Nothing = Unit {0}
 IsFor os c args (change.Word page index word) = (index < 512) × (named c ≡ Some page)
-IsFor os c args (change.Slot node slot held) = (slot < 32) × (node_named c ≡ Some node) × ((held ≡ args.capability) ⊎ (held ≡ Number args.second))
+IsFor os c args (change.Slot node slot held) = (slot < 32) × (node_named c ≡ Some node) ×
+    ((held ≡ args.capability) ⊎ (held ≡ Number args.second))
 IsFor os c args (change.Register process annex register held) =
-    (register < 32) × (1 ≤ register) × (process_named c ≡ Some process) × (annex ≡ annex_at os process) × (held ≡ args.capability)
+    (register < 32) × (1 ≤ register) × (process_named c ≡ Some process) × (annex ≡ annex_at os process) ×
+    (held ≡ args.capability)
 IsFor os c args (change.RootWord process index word) = (index < 4) × (process_named c ≡ Some process)
 IsFor os c args (change.SetState process state) = process_named c ≡ Some process
 IsFor os c args (change.Space process held) = (process_named c ≡ Some process) × (held ≡ args.capability) × IsSpace held

@@ -1,5 +1,6 @@
 // Why an invocation isn't carried out.
 use capability::PrepareFault;
+use device::Failed;
 use thiserror::Error;
 
 /// Why an invocation wasn't carried out. Nothing was changed.
@@ -14,12 +15,20 @@ pub enum InvokeFault {
     /// More numbers would be written since the last checkpoint than half of the log holds.
     #[error("log full")]
     LogFull,
-    /// Memory ran out.
-    #[error("no memory")]
-    NoMemory,
     /// The device failed.
     #[error("the device failed")]
     Failed,
+}
+
+impl From<Failed> for InvokeFault {
+    ghost use Rattle.std.specs.Prelude.{◌≡◌};
+    ghost use Rattle.gate.specs.declared.fault.InvokeFault.TheVariants as fault;
+
+    ghost from_gives = { λ _ f. f ≡ fault.Failed };
+
+    fn from(_failed: Failed) -> InvokeFault {
+        InvokeFault::Failed
+    }
 }
 
 impl From<PrepareFault> for InvokeFault {
@@ -30,7 +39,6 @@ impl From<PrepareFault> for InvokeFault {
 
     fn from(fault: PrepareFault) -> InvokeFault {
         match fault {
-            PrepareFault::NoMemory => InvokeFault::NoMemory,
             PrepareFault::LogFull => InvokeFault::LogFull,
             PrepareFault::Failed => InvokeFault::Failed,
         }

@@ -17,10 +17,9 @@ use crate::delivery::deliver;
 use crate::fault::InvokeFault;
 use crate::looking::{all_sent, look_at_process};
 use crate::written::Written;
-use capability::{Caller, PrepareFault, PresentFrames, objects, roots};
+use capability::{Caller, Frames, PrepareFault, PresentFrames, objects, roots};
 use model::{Capability, Invocation, Message, Operation, ResultCode, State};
 use space_bank::Banks;
-use std::alloc::Global;
 
 /// An invoked gate: its process, its key, and whether it works only once.
 #[derive(Clone, Copy, Debug)]
@@ -71,7 +70,6 @@ fn message(invocation: &Invocation, sent: [Capability; 4], key: u16) -> Message
 
 // Announces what an invocation through a gate writes, and fetches it.
 fn announce<F: PresentFrames>(
-    alloc: Global,
     store: &mut F,
     invocation: &Invocation,
     receiver: u64,
@@ -93,7 +91,7 @@ fn announce<F: PresentFrames>(
 {
     let process = invocation.process;
     let written = Written::through(invocation.operation, process, receiver, annex);
-    store.prepare(alloc, &[process, receiver, annex], written.as_slice())
+    store.prepare(&[process, receiver, annex], written.as_slice())
 }
 
 // The state of the process that invokes changes: one that calls waits, and one that returns is
@@ -161,7 +159,7 @@ fn enter<F: PresentFrames>(
 
 // Whether a gate can be entered: it resumes a process, or its process is available, or a process
 // returns to itself.
-fn can_enter<F: PresentFrames>(store: &F, invocation: &Invocation, gate: Gate) -> bool
+fn can_enter<F: Frames>(store: &F, invocation: &Invocation, gate: Gate) -> bool
     requires fetched { F.IsFetched store.now gate.process }
     requires process { IsTrue (is_process
         (objects_in (F.parts store.now)) gate.process) }
@@ -177,7 +175,6 @@ fn can_enter<F: PresentFrames>(store: &F, invocation: &Invocation, gate: Gate) -
 /// An invocation by a running process through a gate. A start capability needs an available
 /// process, or one that returns to itself.
 pub fn invoke_gate<F: PresentFrames>(
-    alloc: Global,
     store: &mut F,
     banks: &Banks,
     invocation: &Invocation,
@@ -198,11 +195,11 @@ pub fn invoke_gate<F: PresentFrames>(
     ensures { Invoked F.parts F.ContinuesTo store.old store.new invocation.now result }
 {
     let sent = all_sent(store, invocation, caller.annex);
-    let annex = look_at_process(alloc, store, banks, gate.process)?;
+    let annex = look_at_process(store, banks, gate.process)?;
     if !can_enter(store, invocation, gate) {
         return Err(InvokeFault::Stalled);
     }
-    announce(alloc, store, invocation, gate.process, annex)?;
+    announce(store, invocation, gate.process, annex)?;
     enter(store, invocation, gate, annex, sent);
     Ok(None)
 }

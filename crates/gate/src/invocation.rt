@@ -13,7 +13,6 @@ use crate::looking::{ask, numbers_fit};
 use capability::{PresentFrames, roots};
 use model::{Invocation, ResultCode};
 use space_bank::Banks;
-use std::alloc::Global;
 
 /// Carries out the invocation of a capability by a process (EROS, KeyKOS: call, return and send).
 ///
@@ -24,11 +23,10 @@ use std::alloc::Global;
 /// `banks` keeps the usages of the banks as they are after it. The count of allocations of a number
 /// rises by one if its object is given up.
 ///
-/// An error changes nothing. `NotRunning`: the process doesn't run. `Stalled`: the process behind the start capability isn't available.
-/// `LogFull`: with what the invocation writes, more numbers were written since the last checkpoint
-/// than half of the log holds. `NoMemory`: memory ran out. `Failed`: the device failed.
+/// An error changes nothing. `NotRunning`: the process doesn't run. `Stalled`: the process behind
+/// the start capability isn't available. `LogFull`: with what the invocation writes, more numbers
+/// were written since the last checkpoint than half of the log holds. `Failed`: the device failed.
 pub fn invoke<F: PresentFrames>(
-    alloc: Global,
     store: &mut F,
     banks: &mut Banks,
     invocation: &Invocation,
@@ -45,12 +43,12 @@ pub fn invoke<F: PresentFrames>(
 {
     invocation.can_be_spelt();
     numbers_fit(store);
-    let caller = ask(alloc, store, banks, invocation)?;
+    let caller = ask(store, banks, invocation)?;
     if !roots::is_running(store, invocation.process) {
         return Err(InvokeFault::NotRunning);
     }
     match gate_of(caller.invoked) {
-        Some(gate) => invoke_gate(alloc, store, banks, invocation, caller, gate),
-        None => invoke_order(alloc, store, banks, invocation, caller),
+        Some(gate) => invoke_gate(store, banks, invocation, caller, gate),
+        None => invoke_order(store, banks, invocation, caller),
     }
 }

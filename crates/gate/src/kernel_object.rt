@@ -7,10 +7,11 @@ ghost use Rattle.model.specs.Order.{IsNoBankOrder};
 ghost use Rattle.model.specs.Text.{Fits};
 ghost use Rattle.model.specs.World.{is_running_process};
 ghost use Rattle.capability.specs.Changes.{written_of};
-ghost use Rattle.capability.specs.Parts.{AreSound, OnlyReads, frames_of, objects_in, Prepares};
+ghost use Rattle.capability.specs.Parts.{AreSound, frames_of, objects_in, Prepares};
 ghost use Rattle.space_bank.specs.Allocating.{numbers_of};
 ghost use Rattle.space_bank.specs.Banks.{AreCounted};
 ghost use Rattle.space_bank.specs.Planning.{writers};
+ghost use Rattle.capability.specs.Parts.{FetchesOrFails};
 ghost use Rattle.gate.specs.Invoke.{IsRequested, IsKernelObject, Invoked};
 ghost use Rattle.gate.specs.Ordering.{IsPlanned, arguments_of};
 ghost use Rattle.gate.specs.Plan.{fetched_of};
@@ -20,10 +21,10 @@ use crate::carrying::carry_out;
 use crate::fault::InvokeFault;
 use crate::looking::{look_at_named, order_arguments};
 use crate::orders::plan;
-use capability::{BankChange, Caller, Change, OrderPlan, PrepareFault, PresentFrames};
+use capability::{BankChange, Caller, Change, Frames, OrderPlan, PrepareFault, PresentFrames};
+use device::Failed;
 use model::{Arguments, Invocation, ResultCode};
 use space_bank::Banks;
-use std::alloc::Global;
 
 // Lists the object that the change of an order writes, if it writes one.
 fn list_target(banks: &mut Banks, change: Change)
@@ -37,14 +38,13 @@ fn list_target(banks: &mut Banks, change: Change)
 }
 
 // Plans an order that isn't a bank's, and lists what it writes. First fetches what it reads.
-fn plan_object_order<F: PresentFrames>(
-    alloc: Global,
+fn plan_object_order<F: Frames>(
     store: &mut F,
     banks: &mut Banks,
     invocation: &Invocation,
     caller: Caller,
     arguments: Arguments,
-) -> Result<OrderPlan, PrepareFault>
+) -> Result<OrderPlan, Failed>
     requires sound { AreSound (F.parts store.old) }
     requires counted { AreCounted (F.parts store.old).geometry
         (objects_in (F.parts store.old)) banks.old }
@@ -55,24 +55,25 @@ fn plan_object_order<F: PresentFrames>(
     requires arguments { arguments ≡ arguments_of (objects_in (F.parts store.old)) invocation.now }
     requires listed { banks.old.listed ≡ writers caller.operation caller.process caller.annex }
     requires room { length banks.old.listed < banks.old.room }
-    ensures planned { IfOk result (λ plan. IsPlanned (F.parts store.old).geometry (objects_in (F.parts store.old)) invocation.now caller plan banks.new.listed) }
+    ensures planned { IfOk result
+        (λ plan. IsPlanned (F.parts store.old).geometry (objects_in (F.parts store.old)) invocation.now caller plan
+        banks.new.listed) }
     ensures kept { banks.new ≡ record banks.old { listed = banks.new.listed } }
-    ensures only_reads { OnlyReads F.parts F.ContinuesTo store.old store.new result }
+    ensures fetches { FetchesOrFails F.parts F.ContinuesTo store.old store.new result }
 {
-    look_at_named(alloc, store, banks, caller.invoked)?;
+    look_at_named(store, banks, caller.invoked)?;
     let plan = plan(store, caller.invoked, invocation.words[0], arguments);
     list_target(banks, plan.change);
     Ok(plan)
 }
 
 // Plans the order of an invocation and lists every number that the invocation writes.
-fn plan_order<F: PresentFrames>(
-    alloc: Global,
+fn plan_order<F: Frames>(
     store: &mut F,
     banks: &mut Banks,
     invocation: &Invocation,
     caller: Caller,
-) -> Result<OrderPlan, PrepareFault>
+) -> Result<OrderPlan, Failed>
     requires sound { AreSound (F.parts store.old) }
     requires running { IsTrue (is_running_process
         (objects_in (F.parts store.old)) invocation.now.process) }
@@ -82,15 +83,17 @@ fn plan_order<F: PresentFrames>(
     requires few { length (F.parts store.old).headers < 2 ^ 64 }
     requires requested { IsRequested (objects_in (F.parts store.old)) invocation.now caller }
     requires fetched { F.IsFetched store.old caller.annex }
-    ensures planned { IfOk result (λ plan. IsPlanned (F.parts store.old).geometry (objects_in (F.parts store.old)) invocation.now caller plan banks.new.listed) }
+    ensures planned { IfOk result
+        (λ plan. IsPlanned (F.parts store.old).geometry (objects_in (F.parts store.old)) invocation.now caller plan
+        banks.new.listed) }
     ensures kept { banks.new ≡ record banks.old { listed = banks.new.listed } }
-    ensures only_reads { OnlyReads F.parts F.ContinuesTo store.old store.new result }
+    ensures fetches { FetchesOrFails F.parts F.ContinuesTo store.old store.new result }
 {
     let arguments = order_arguments(store, invocation, caller.annex);
     banks.list_writers(caller);
     match requested_bank(caller.invoked, invocation.words[0]) {
         Some((bank, order)) => Ok(banks.plan(store, bank, order, arguments)),
-        None => plan_object_order(alloc, store, banks, invocation, caller, arguments),
+        None => plan_object_order(store, banks, invocation, caller, arguments),
     }
 }
 
@@ -135,7 +138,6 @@ fn fetched_by(caller: Caller, change: Change) -> [u64; 4]
 
 // Announces the listed numbers. Fetches the process, its annex, and what the change needs.
 fn announce<F: PresentFrames>(
-    alloc: Global,
     store: &mut F,
     listed: &[u64],
     caller: Caller,
@@ -153,13 +155,12 @@ fn announce<F: PresentFrames>(
     ensures prepares { Prepares F.parts F.ContinuesTo store.old store.new listed.now result }
 {
     let fetched = fetched_by(caller, change);
-    store.prepare(alloc, &fetched, listed)
+    store.prepare(&fetched, listed)
 }
 
 /// An invocation of a kernel object by a running process. The order is carried out. A `call` gets
 /// the reply, unless the order gave the caller up. The result is the order's code.
 pub fn invoke_order<F: PresentFrames>(
-    alloc: Global,
     store: &mut F,
     banks: &mut Banks,
     invocation: &Invocation,
@@ -180,8 +181,8 @@ pub fn invoke_order<F: PresentFrames>(
     ensures counted { AreCounted (F.parts store.new).geometry
         (objects_in (F.parts store.new)) banks.new }
 {
-    let plan = plan_order(alloc, store, banks, invocation, caller)?;
-    announce(alloc, store, banks.listed(), caller, plan.change)?;
+    let plan = plan_order(store, banks, invocation, caller)?;
+    announce(store, banks.listed(), caller, plan.change)?;
     carry_out(store, banks, invocation, caller, plan);
     Ok(Some(plan.reply.code))
 }

@@ -6,35 +6,20 @@ ghost use Rattle.model.specs.Keepable.{AreKeepable};
 ghost use Rattle.model.specs.Object.{is_annex};
 ghost use Rattle.model.specs.Sound.{NamesItsKind};
 ghost use Rattle.model.specs.World.{annex_at, content_at, is_process};
-ghost use Rattle.capability.specs.Parts.{OnlyReads, frames_of, objects_in};
+ghost use Rattle.capability.specs.Parts.{frames_of, objects_in};
 ghost use Rattle.space_bank.specs.Banks.{AreCounted};
 ghost use Rattle.gate.specs.Ordering.{arguments_of};
+ghost use Rattle.capability.specs.Parts.{FetchesOrFails};
 ghost use Rattle.gate.specs.Invoke.{IsRequested};
 ghost use Rattle.gate.specs.Plan.{process_named};
 
-use capability::{Caller, PrepareFault, PresentFrames, objects};
+use capability::{Caller, Frames, objects};
+use device::Failed;
 use model::{Arguments, Capability, Invocation};
 use space_bank::Banks;
-use std::alloc::Global;
-
-// Fetches one object.
-fn look<F: PresentFrames>(alloc: Global, store: &mut F, number: u64) -> Result<(), PrepareFault>
-    requires known { number < length (F.parts store.old).headers }
-    requires keepable { AreKeepable (F.parts store.old).geometry u64.MAX
-        (frames_of (F.parts store.old)) }
-    ensures fetched { OnOk result (F.IsFetched store.new number) }
-    ensures only_reads { OnlyReads F.parts F.ContinuesTo store.old store.new result }
-{
-    objects::fetch(store, alloc, &[number])
-}
 
 /// Fetches a process and its annex. Returns the annex.
-pub fn look_at_process<F: PresentFrames>(
-    alloc: Global,
-    store: &mut F,
-    banks: &Banks,
-    process: u64,
-) -> Result<u64, PrepareFault>
+pub fn look_at_process<F: Frames>(store: &mut F, banks: &Banks, process: u64) -> Result<u64, Failed>
     requires keepable { AreKeepable (F.parts store.old).geometry u64.MAX
         (frames_of (F.parts store.old)) }
     requires process { IsTrue (is_process (objects_in (F.parts store.old)) process) }
@@ -44,51 +29,51 @@ pub fn look_at_process<F: PresentFrames>(
     requires counted { AreCounted (F.parts store.old).geometry
         (objects_in (F.parts store.old)) banks.now }
     ensures root { OnOk result (F.IsFetched store.new process) }
-    ensures annex { IfOk result (λ annex. (annex ≡ annex_at (objects_in (F.parts store.old)) process) × F.IsFetched store.new annex) }
-    ensures only_reads { OnlyReads F.parts F.ContinuesTo store.old store.new result }
+    ensures annex { IfOk result (λ annex. (annex ≡ annex_at (objects_in (F.parts store.old)) process)
+        × F.IsFetched store.new annex) }
+    ensures fetches { FetchesOrFails F.parts F.ContinuesTo store.old store.new result }
 {
     let annex = banks.annex(process);
-    objects::fetch(store, alloc, &[process, annex])?;
+    store.fetch(&[process, annex])?;
     Ok(annex)
 }
 
 /// Fetches what an order on a capability reads: the object that it names, and the annex of a
 /// process.
-pub fn look_at_named<F: PresentFrames>(
-    alloc: Global,
+pub fn look_at_named<F: Frames>(
     store: &mut F,
     banks: &Banks,
     capability: Capability,
-) -> Result<(), PrepareFault>
+) -> Result<(), Failed>
     requires keepable { AreKeepable (F.parts store.old).geometry u64.MAX
         (frames_of (F.parts store.old)) }
     requires counted { AreCounted (F.parts store.old).geometry
         (objects_in (F.parts store.old)) banks.now }
     requires kind { NamesItsKind (objects_in (F.parts store.old)) capability }
     requires annex { (p : ℕ) → process_named capability ≡ Some p
-        → IsTrue (is_annex (content_at (objects_in (F.parts store.old)) (annex_at (objects_in (F.parts store.old)) p))) }
+        → IsTrue (is_annex (content_at (objects_in (F.parts store.old))
+        (annex_at (objects_in (F.parts store.old)) p))) }
     ensures object { OnOk result ((n : ℕ) → named capability ≡ Some n → F.IsFetched store.new n) }
     ensures annex { OnOk result ((p : ℕ) → process_named capability ≡ Some p
         → F.IsFetched store.new (annex_at (objects_in (F.parts store.old)) p)) }
-    ensures only_reads { OnlyReads F.parts F.ContinuesTo store.old store.new result }
+    ensures fetches { FetchesOrFails F.parts F.ContinuesTo store.old store.new result }
 {
     if let Capability::Process(process) = capability {
-        look_at_process(alloc, store, banks, process)?;
+        look_at_process(store, banks, process)?;
         return Ok(());
     }
     match capability.named() {
-        Some(object) => look(alloc, store, object),
+        Some(object) => store.fetch(&[object]),
         None => Ok(()),
     }
 }
 
 /// Fetches the process that invokes and its annex, and reads what it invokes.
-pub fn ask<F: PresentFrames>(
-    alloc: Global,
+pub fn ask<F: Frames>(
     store: &mut F,
     banks: &Banks,
     invocation: &Invocation,
-) -> Result<Caller, PrepareFault>
+) -> Result<Caller, Failed>
     requires keepable { AreKeepable (F.parts store.old).geometry u64.MAX
         (frames_of (F.parts store.old)) }
     requires process { IsTrue (is_process
@@ -101,9 +86,9 @@ pub fn ask<F: PresentFrames>(
     ensures requested { IfOk result (λ caller. IsRequested (objects_in (F.parts store.old)) invocation.now caller) }
     ensures fetched { IfOk result (λ caller. F.IsFetched store.new caller.annex) }
     ensures root { OnOk result (F.IsFetched store.new invocation.now.process) }
-    ensures only_reads { OnlyReads F.parts F.ContinuesTo store.old store.new result }
+    ensures fetches { FetchesOrFails F.parts F.ContinuesTo store.old store.new result }
 {
-    let annex = look_at_process(alloc, store, banks, invocation.process)?;
+    let annex = look_at_process(store, banks, invocation.process)?;
     Ok(Caller {
         process: invocation.process,
         annex,
@@ -114,11 +99,7 @@ pub fn ask<F: PresentFrames>(
 
 /// The arguments of an order: two words, and the first capability that is sent. The annex of the
 /// process is fetched.
-pub fn order_arguments<F: PresentFrames>(
-    store: &F,
-    invocation: &Invocation,
-    annex: u64,
-) -> Arguments
+pub fn order_arguments<F: Frames>(store: &F, invocation: &Invocation, annex: u64) -> Arguments
     requires fetched { F.IsFetched store.now annex }
     requires annex { annex
         ≡ annex_at (objects_in (F.parts store.now)) invocation.now.process }
@@ -132,7 +113,7 @@ pub fn order_arguments<F: PresentFrames>(
 }
 
 /// The four capabilities that are sent. The annex of the process is fetched.
-pub fn all_sent<F: PresentFrames>(store: &F, invocation: &Invocation, annex: u64) -> [Capability; 4]
+pub fn all_sent<F: Frames>(store: &F, invocation: &Invocation, annex: u64) -> [Capability; 4]
     requires fetched { F.IsFetched store.now annex }
     requires annex { annex
         ≡ annex_at (objects_in (F.parts store.now)) invocation.now.process }
@@ -150,7 +131,7 @@ pub fn all_sent<F: PresentFrames>(store: &F, invocation: &Invocation, annex: u64
 }
 
 /// The numbers of objects have 64 bits. This does nothing; its contract is the fact.
-pub fn numbers_fit<F: PresentFrames>(store: &F)
+pub fn numbers_fit<F: Frames>(store: &F)
     ensures { length (F.parts store.now).headers < 2 ^ 64 }
 {
     let _count = store.table().count();

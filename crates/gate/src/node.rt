@@ -8,7 +8,7 @@ ghost use Rattle.gate.specs.Plan.{outcome_of, ChangesAs, IsFor};
 
 use crate::page::reduction;
 use bitflags::Flags;
-use capability::{Change, OrderPlan, PresentFrames, objects};
+use capability::{Change, Frames, OrderPlan, objects};
 use model::{Access, Arguments, Capability, MAX_HEIGHT, NodeOrder, ResultCode, SLOTS};
 
 /// The node order with a number.
@@ -63,7 +63,7 @@ fn stored(object: u64, access: Access, arguments: Arguments, capability: Capabil
 
 /// Plans an order on a node, which is fetched.
 #[tactic(auto, unfolding(model::specs::Order::on_node))]
-pub fn on_node<F: PresentFrames>(
+pub fn on_node<F: Frames>(
     store: &F,
     object: u64,
     access: Access,

@@ -13,7 +13,7 @@ use crate::node::{node_order, on_node};
 use crate::page::{on_page, page_order, reduction};
 use crate::process::{on_process, process_order};
 use bitflags::Flags;
-use capability::{OrderPlan, PresentFrames};
+use capability::{Frames, OrderPlan};
 use model::{Access, Arguments, Capability, ResultCode};
 
 // The order that reads a number.
@@ -102,7 +102,7 @@ fn on_plain(word: u64, capability: Capability, arguments: Arguments) -> OrderPla
 /// Plans an order on a kernel object, with the number `word`. It isn't a bank's order. The object
 /// is fetched, and so is the annex of a process.
 #[tactic(auto, unfolding(model::specs::Order::order))]
-pub fn plan<F: PresentFrames>(
+pub fn plan<F: Frames>(
     store: &F,
     capability: Capability,
     word: u64,

@@ -7,7 +7,7 @@ ghost use Rattle.capability.specs.Parts.{objects_in};
 ghost use Rattle.gate.specs.Plan.{outcome_of, ChangesAs, IsFor};
 
 use bitflags::Flags;
-use capability::{Change, OrderPlan, PresentFrames, objects};
+use capability::{Change, Frames, OrderPlan, objects};
 use model::{Access, Arguments, Capability, PageOrder, ResultCode, WORDS};
 
 /// The page order with a number.
@@ -35,7 +35,7 @@ pub fn reduction(word: u64) -> Option<Access>
 
 /// Plans an order on a page, which is fetched.
 #[tactic(auto, unfolding(model::specs::Order::on_page))]
-pub fn on_page<F: PresentFrames>(
+pub fn on_page<F: Frames>(
     store: &F,
     object: u64,
     access: Access,

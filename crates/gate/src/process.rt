@@ -6,7 +6,7 @@ ghost use Rattle.model.specs.World.{annex_at, is_process};
 ghost use Rattle.capability.specs.Parts.{objects_in};
 ghost use Rattle.gate.specs.Plan.{outcome_of, ChangesAs, HaveAnnexesOf, IsFor};
 
-use capability::{Change, OrderPlan, PresentFrames, objects, roots};
+use capability::{Change, Frames, OrderPlan, objects, roots};
 use model::{Arguments, Capability, ProcessOrder, REGISTERS, ResultCode, State};
 
 // How many words a process is delivered.
@@ -70,7 +70,7 @@ fn set_space(process: u64, arguments: Arguments) -> OrderPlan
 
 /// Plans an order on a process, whose root and annex are fetched.
 #[tactic(auto, unfolding(model::specs::Order::on_process))]
-pub fn on_process<F: PresentFrames>(
+pub fn on_process<F: Frames>(
     store: &F,
     process: u64,
     order: ProcessOrder,

@@ -9,7 +9,8 @@ use Rattle.std.specs.Prelude.{if◌then◌else◌}
 pub beside_here : (p : Plan) (e : Entry) (es : List Entry) (n : ℕ) → home_place p e.object ≡ home_place p n → slot_beside p (e ∷ es) n ≡ Some e.slot
 beside_here p e es n is = ap (λ (b : Bool). if b then Some e.slot else slot_beside p es n) (eq-eqb (home_place p e.object) (home_place p n) is)
 
-pub beside_behind : (p : Plan) (e : Entry) (es : List Entry) (n : ℕ) → (home_place p e.object ≡ home_place p n → ⊥) → slot_beside p (e ∷ es) n ≡ slot_beside p es n
+pub beside_behind : (p : Plan) (e : Entry) (es : List Entry) (n : ℕ) → (home_place p e.object ≡ home_place p n → ⊥) →
+    slot_beside p (e ∷ es) n ≡ slot_beside p es n
 beside_behind p e es n other = ap (λ (b : Bool). if b then Some e.slot else slot_beside p es n) (ne_eqb (home_place p e.object) (home_place p n) other)
 
 -- the entry of such a slot

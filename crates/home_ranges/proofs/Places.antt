@@ -52,7 +52,8 @@ find_in g n number (r ∷ rs) c low high = elim (cases_lt number (n + r.count)) 
         record {
           within = omega arith;
           has = record { low = low; high = high; kind = c.0.2 };
-          found = if_true (nat_le r.first number && nat_lt number (r.first + r.count)) (Some r) (range_with rs number) (in_true r.first number (r.first + r.count) low high);
+          found = if_true (nat_le r.first number && nat_lt number (r.first + r.count)) (Some r) (range_with rs number)
+              (in_true r.first number (r.first + r.count) low high);
         },
       )
   | inr le ↦
@@ -62,7 +63,8 @@ find_in g n number (r ∷ rs) c low high = elim (cases_lt number (n + r.count)) 
         record {
           within = omega (arith, rest.1.within);
           has = rest.1.has;
-          found = if_false (nat_le r.first number && nat_lt number (r.first + r.count)) (Some r) (range_with rs number) (in_false r.first number (r.first + r.count) past) ∙ rest.1.found;
+          found = if_false (nat_le r.first number && nat_lt number (r.first + r.count)) (Some r) (range_with rs number)
+              (in_false r.first number (r.first + r.count) past) ∙ rest.1.found;
         },
       )
 ]
@@ -102,7 +104,8 @@ inside_range v g r number has = elim has.kind [
 ]
 
 -- of two nodes of a range one begins behind the other, or where it does
-node_apart : (v : Version) (i j a b : ℕ) → (node_offset v i ≡ node_offset v j → ⊥) → (node_offset v i + shape_length (node_shape v a) ≤ node_offset v j) ⊎ (node_offset v j + shape_length (node_shape v b) ≤ node_offset v i)
+node_apart : (v : Version) (i j a b : ℕ) → (node_offset v i ≡ node_offset v j → ⊥) → (node_offset v i + shape_length (node_shape v a) ≤ node_offset v j) ⊎
+    (node_offset v j + shape_length (node_shape v b) ≤ node_offset v i)
 node_apart One i j a b differ = elim (cases_lt i j) [
   | inl lt ↦ inl (omega (arith, lt))
   | inr le ↦ inr (omega (arith, le, differ))
@@ -112,12 +115,14 @@ node_apart Two i j a b differ = elim (cases_lt (i / 5) (j / 5)) [
   | inr le ↦ inr (omega (arith, le, differ))
 ]
 
-apart_in_one : (v : Version) (g : Geometry) (r : HomeRange) (a b : ℕ) → Has g r a → Has g r b → (place_in v g r a ≡ place_in v g r b → ⊥) → IsApart (extent_in v g r a) (extent_in v g r b)
+apart_in_one : (v : Version) (g : Geometry) (r : HomeRange) (a b : ℕ) → Has g r a → Has g r b → (place_in v g r a ≡ place_in v g r b → ⊥) →
+    IsApart (extent_in v g r a) (extent_in v g r b)
 apart_in_one v g r a b has_a has_b = elim has_a.kind [
   | inl nodes ↦
       let a_lt : nat_lt a g.nodes ≡ true = lt_true a g.nodes (omega (arith, nodes, has_a.high)) in
       let b_lt : nat_lt b g.nodes ≡ true = lt_true b g.nodes (omega (arith, nodes, has_b.high)) in
-      rw (a_lt, b_lt) (λ differ. elim (node_apart v (a - r.first) (b - r.first) ((a - r.first) % 5) ((b - r.first) % 5) (λ same. differ (ap (λ (offset : ℕ). r.sector + offset) same))) [
+      rw (a_lt, b_lt) (λ differ. elim
+      (node_apart v (a - r.first) (b - r.first) ((a - r.first) % 5) ((b - r.first) % 5) (λ same. differ (ap (λ (offset : ℕ). r.sector + offset) same))) [
         | inl before ↦ inl (omega (arith, before))
         | inr behind ↦ inr (omega (arith, behind))
       ])
@@ -148,36 +153,45 @@ same_number v g r a b first has_a has_b = elim has_a.kind [
 ranges_extent : (p : Plan) (i : ℕ) → i < length p.ranges → extent_at (extents p) i ≡ range_extent p.version p.geometry (range_at p.ranges i)
 ranges_extent p i lt =
     let size : length (map (range_extent p.version p.geometry) p.ranges) ≡ length p.ranges = length-map p.ranges (range_extent p.version p.geometry) in
-    get_or_append_left (map (range_extent p.version p.geometry) p.ranges) (half_extent p.geometry p.half_0 ∷ half_extent p.geometry p.half_1 ∷ []) (record { sector = 0; length = 0 }) i (omega arith)
+    get_or_append_left (map (range_extent p.version p.geometry) p.ranges) (half_extent p.geometry p.half_0 ∷ half_extent p.geometry p.half_1 ∷ [])
+    (record { sector = 0; length = 0 }) i (omega arith)
     ∙ get_or-map (range_extent p.version p.geometry) p.ranges i (record { first = 0; count = 0; sector = 0 }) (record { sector = 0; length = 0 }) lt
 
 range_within : (p : Plan) (i : ℕ) → IsPlan p → i < length p.ranges → IsWithin p.total (range_extent p.version p.geometry (range_at p.ranges i))
 range_within p i fits lt = subst (IsWithin p.total) (ranges_extent p i lt) (fits.within i (record { sector = 0; length = 0 }) (omega (arith, many p)))
 
-ranges_apart : (p : Plan) (i j : ℕ) → IsPlan p → i < j → j < length p.ranges → IsApart (range_extent p.version p.geometry (range_at p.ranges i)) (range_extent p.version p.geometry (range_at p.ranges j))
+ranges_apart : (p : Plan) (i j : ℕ) → IsPlan p → i < j → j < length p.ranges → IsApart (range_extent p.version p.geometry (range_at p.ranges i))
+    (range_extent p.version p.geometry (range_at p.ranges j))
 ranges_apart p i j fits lt within =
     let apart = fits.apart i j lt (omega (arith, many p)) in
     let in_i : i < length p.ranges = omega arith in
-    subst (λ (e : Extent). IsApart e (range_extent p.version p.geometry (range_at p.ranges j))) (ranges_extent p i in_i) (subst (IsApart (extent_at (extents p) i)) (ranges_extent p j within) apart)
+    subst (λ (e : Extent). IsApart e (range_extent p.version p.geometry (range_at p.ranges j))) (ranges_extent p i in_i)
+    (subst (IsApart (extent_at (extents p) i)) (ranges_extent p j within) apart)
 
-range_spares_half : (p : Plan) (i k : ℕ) → IsPlan p → i < length p.ranges → k < 2 → IsApart (range_extent p.version p.geometry (range_at p.ranges i)) (extent_at (half_extent p.geometry p.half_0 ∷ half_extent p.geometry p.half_1 ∷ []) k)
+range_spares_half : (p : Plan) (i k : ℕ) → IsPlan p → i < length p.ranges → k < 2 → IsApart (range_extent p.version p.geometry (range_at p.ranges i))
+    (extent_at (half_extent p.geometry p.half_0 ∷ half_extent p.geometry p.half_1 ∷ []) k)
 range_spares_half p i k fits lt few =
     let apart = fits.apart i (length p.ranges + k) (omega arith) (omega (arith, many p)) in
-    subst (λ (e : Extent). IsApart e (extent_at (half_extent p.geometry p.half_0 ∷ half_extent p.geometry p.half_1 ∷ []) k)) (ranges_extent p i lt) (subst (IsApart (extent_at (extents p) i)) (half_at p k) apart)
+    subst (λ (e : Extent). IsApart e (extent_at (half_extent p.geometry p.half_0 ∷ half_extent p.geometry p.half_1 ∷ []) k)) (ranges_extent p i lt)
+    (subst (IsApart (extent_at (extents p) i)) (half_at p k) apart)
 
 -- ---- the laws
 
 -- the place of a number is that in its range,
-pub place_is : (p : Plan) (number i : ℕ) → IsFound p.geometry p.ranges number i → home_place p number ≡ place_in p.version p.geometry (range_at p.ranges i) number
+pub place_is : (p : Plan) (number i : ℕ) → IsFound p.geometry p.ranges number i → home_place p number ≡ place_in p.version p.geometry (range_at p.ranges i)
+    number
 place_is p number i at = ap (λ (r : Option HomeRange). place_by p.version p.geometry r number) at.found
 
 -- and so are its sectors
 home_is : (p : Plan) (number i : ℕ) → IsFound p.geometry p.ranges number i → home_extent p number ≡ extent_in p.version p.geometry (range_at p.ranges i) number
 home_is p number i at =
-    ap (λ (r : Option HomeRange). extent_of (place_by p.version p.geometry r number) (shape_length (if nat_lt number p.geometry.nodes then node_shape p.version (rank_in r number) else Page))) at.found
+    ap (λ (r : Option HomeRange). extent_of (place_by p.version p.geometry r number)
+    (shape_length (if nat_lt number p.geometry.nodes then node_shape p.version (rank_in r number) else Page))) at.found
 
-home_inside : (p : Plan) (number i : ℕ) → IsFound p.geometry p.ranges number i → IsInside (home_extent p number) (range_extent p.version p.geometry (range_at p.ranges i))
-home_inside p number i at = subst (λ (e : Extent). IsInside e (range_extent p.version p.geometry (range_at p.ranges i))) (sym (home_is p number i at)) (inside_range p.version p.geometry (range_at p.ranges i) number at.has)
+home_inside : (p : Plan) (number i : ℕ) → IsFound p.geometry p.ranges number i →
+    IsInside (home_extent p number) (range_extent p.version p.geometry (range_at p.ranges i))
+home_inside p number i at = subst (λ (e : Extent). IsInside e (range_extent p.version p.geometry (range_at p.ranges i))) (sym (home_is p number i at))
+    (inside_range p.version p.geometry (range_at p.ranges i) number at.has)
 
 pub places_within : PlacesAreWithin
 places_within p a fits is =
@@ -188,7 +202,8 @@ places_within p a fits is =
 
 -- two homes are apart where they are in each range that has both
 apart_by : (p : Plan) (a b : ℕ) → IsPlan p → IsObject p.geometry a → IsObject p.geometry b
-    → ((i : ℕ) → IsFound p.geometry p.ranges a i → IsFound p.geometry p.ranges b i → IsApart (extent_in p.version p.geometry (range_at p.ranges i) a) (extent_in p.version p.geometry (range_at p.ranges i) b))
+    → ((i : ℕ) → IsFound p.geometry p.ranges a i → IsFound p.geometry p.ranges b i → IsApart (extent_in p.version p.geometry (range_at p.ranges i) a)
+    (extent_in p.version p.geometry (range_at p.ranges i) b))
     → IsApart (home_extent p a) (home_extent p b)
 apart_by p a b fits is_a is_b in_one =
     let at_a = found p a fits is_a in
@@ -200,12 +215,14 @@ apart_by p a b fits is_a is_b in_one =
     elim (cases_lt at_a.0 at_b.0) [
       | inl lt ↦ apart_inside (home_extent p a) (home_extent p b) range_a range_b in_a in_b (ranges_apart p at_a.0 at_b.0 fits lt at_b.1.within)
       | inr le ↦ elim (cases_lt at_b.0 at_a.0) [
-        | inl lt ↦ apart_turned (home_extent p b) (home_extent p a) (apart_inside (home_extent p b) (home_extent p a) range_b range_a in_b in_a (ranges_apart p at_b.0 at_a.0 fits lt at_a.1.within))
+        | inl lt ↦ apart_turned (home_extent p b) (home_extent p a)
+            (apart_inside (home_extent p b) (home_extent p a) range_b range_a in_b in_a (ranges_apart p at_b.0 at_a.0 fits lt at_a.1.within))
         | inr ge ↦
             let one : at_b.0 ≡ at_a.0 = omega (arith, le, ge) in
             let b_there : IsFound p.geometry p.ranges b at_a.0 = subst (IsFound p.geometry p.ranges b) one at_b.1 in
             subst (IsApart (home_extent p a)) (sym (home_is p b at_a.0 b_there))
-            (subst (λ (e : Extent). IsApart e (extent_in p.version p.geometry (range_at p.ranges at_a.0) b)) (sym (home_is p a at_a.0 at_a.1)) (in_one at_a.0 at_a.1 b_there))
+            (subst (λ (e : Extent). IsApart e (extent_in p.version p.geometry (range_at p.ranges at_a.0) b)) (sym (home_is p a at_a.0 at_a.1))
+            (in_one at_a.0 at_a.1 b_there))
       ]
     ]
 
@@ -215,16 +232,19 @@ places_apart p a b fits is_a is_b differ = apart_by p a b fits is_a is_b (λ i a
 
 pub numbers_apart : NumbersAreApart
 numbers_apart p a b fits first is_a is_b differ = apart_by p a b fits is_a is_b (λ i at_a at_b.
-    apart_in_one p.version p.geometry (range_at p.ranges i) a b at_a.has at_b.has (λ same. differ (same_number p.version p.geometry (range_at p.ranges i) a b first at_a.has at_b.has same)))
+    apart_in_one p.version p.geometry (range_at p.ranges i) a b at_a.has at_b.has
+    (λ same. differ (same_number p.version p.geometry (range_at p.ranges i) a b first at_a.has at_b.has same)))
 
 spares_half : (p : Plan) (a : ℕ) (h : Half) → IsPlan p → IsObject p.geometry a → IsApart (home_extent p a) (half_extent p.geometry (half_start p h))
 spares_half p a First fits is =
     let at = found p a fits is in
-    apart_inside (home_extent p a) (half_extent p.geometry p.half_0) (range_extent p.version p.geometry (range_at p.ranges at.0)) (half_extent p.geometry p.half_0)
+    apart_inside (home_extent p a) (half_extent p.geometry p.half_0) (range_extent p.version p.geometry (range_at p.ranges at.0))
+    (half_extent p.geometry p.half_0)
     (home_inside p a at.0 at.1) (itself (half_extent p.geometry p.half_0)) (range_spares_half p at.0 0 fits at.1.within (omega arith))
 spares_half p a Second fits is =
     let at = found p a fits is in
-    apart_inside (home_extent p a) (half_extent p.geometry p.half_1) (range_extent p.version p.geometry (range_at p.ranges at.0)) (half_extent p.geometry p.half_1)
+    apart_inside (home_extent p a) (half_extent p.geometry p.half_1) (range_extent p.version p.geometry (range_at p.ranges at.0))
+    (half_extent p.geometry p.half_1)
     (home_inside p a at.0 at.1) (itself (half_extent p.geometry p.half_1)) (range_spares_half p at.0 1 fits at.1.within (omega arith))
 
 pub places_spare_log : PlacesSpareLog
@@ -243,7 +263,8 @@ found_too g n i number [] c lt has = absurd (omega (arith, lt))
 found_too g n zero number (r ∷ rs) c lt has = record {
   within = lt;
   has = has;
-  found = if_true (nat_le r.first number && nat_lt number (r.first + r.count)) (Some r) (range_with rs number) (in_true r.first number (r.first + r.count) has.low has.high);
+  found = if_true (nat_le r.first number && nat_lt number (r.first + r.count)) (Some r) (range_with rs number)
+      (in_true r.first number (r.first + r.count) has.low has.high);
 }
 found_too g n (suc i) number (r ∷ rs) c lt has =
     let rest = found_too g (n + r.count) i number rs c.1 (omega (arith, lt)) has in
@@ -251,7 +272,8 @@ found_too g n (suc i) number (r ∷ rs) c lt has =
     let past : r.first + r.count ≤ number = omega (arith, c.0.0, later, has.low) in record {
       within = lt;
       has = has;
-      found = if_false (nat_le r.first number && nat_lt number (r.first + r.count)) (Some r) (range_with rs number) (in_false r.first number (r.first + r.count) past) ∙ rest.found;
+      found = if_false (nat_le r.first number && nat_lt number (r.first + r.count)) (Some r) (range_with rs number)
+          (in_false r.first number (r.first + r.count) past) ∙ rest.found;
     }
 
 some_sectors : (s : Shape) → 1 ≤ shape_length s
@@ -314,21 +336,25 @@ lengths_in v g r a b has_a has_b = elim has_a.kind [
 ]
 
 -- what has one home has as many sectors
-pub one_length : (p : Plan) (a b : ℕ) → IsPlan p → IsObject p.geometry a → IsObject p.geometry b → home_place p a ≡ home_place p b → place_length p a ≡ place_length p b
+pub one_length : (p : Plan) (a b : ℕ) → IsPlan p → IsObject p.geometry a → IsObject p.geometry b → home_place p a ≡ home_place p b →
+    place_length p a ≡ place_length p b
 one_length p a b fits is_a is_b same =
     let there = one_range p a b fits is_a is_b same in
     let at = there.1 in
-    ap shape_length (shape_is p a there.0 at.one) ∙ lengths_in p.version p.geometry (range_at p.ranges there.0) a b at.one.has at.other.has ∙ ap shape_length (sym (shape_is p b there.0 at.other))
+    ap shape_length (shape_is p a there.0 at.one) ∙ lengths_in p.version p.geometry (range_at p.ranges there.0) a b at.one.has at.other.has ∙
+    ap shape_length (sym (shape_is p b there.0 at.other))
 
 -- so the bytes of a home are the frames of all that have it
-pub home_held : (p : Plan) (number at n : ℕ) (s : Shape) (bytes : List ℕ) (image : Image) → IsPlan p → IsObject p.geometry number → at ≡ home_place p number → s ≡ shape_of p number → n ≡ shape_length s
+pub home_held : (p : Plan) (number at n : ℕ) (s : Shape) (bytes : List ℕ) (image : Image) → IsPlan p → IsObject p.geometry number → at ≡ home_place p number →
+    s ≡ shape_of p number → n ≡ shape_length s
     → sectors_from image at n ≡ bytes → HoldsHome p number bytes image
 home_held p number at n s bytes image fits is place shape length held a is_a same =
     let length_is : place_length p a ≡ n = one_length p a number fits is_a is same ∙ ap shape_length (sym shape) ∙ sym length in
     ap (λ (k : ℕ). shape_bytes (shape_of p a) (sectors_from image k (place_length p a))) (same ∙ sym place)
     ∙ ap (λ (k : ℕ). shape_bytes (shape_of p a) (sectors_from image at k)) length_is ∙ ap (shape_bytes (shape_of p a)) held
 
-pub written_home : {T E : Type 0} (result : Result T E) (p : Plan) (number at n : ℕ) (s : Shape) (bytes : List ℕ) (image : Image) → IsPlan p → IsObject p.geometry number → at ≡ home_place p number → s ≡ shape_of p number
+pub written_home : {T E : Type 0} (result : Result T E) (p : Plan) (number at n : ℕ) (s : Shape) (bytes : List ℕ) (image : Image) → IsPlan p →
+    IsObject p.geometry number → at ≡ home_place p number → s ≡ shape_of p number
     → n ≡ shape_length s → OnOk result (sectors_from image at n ≡ bytes) → OnOk result (HoldsHome p number bytes image)
 written_home (Ok value) p number at n s bytes image fits is place shape length held = home_held p number at n s bytes image fits is place shape length held
 written_home (Err error) p number at n s bytes image fits is place shape length held = tt
@@ -357,13 +383,15 @@ range_of p number r fits is reported =
     }
 
 -- the plan is written in two ways, `p` and `q`
-pub range_reported : (p q : Plan) (number : ℕ) (r : HomeRange) → p ≡ q → IsPlan p → IsObject q.geometry number → Some r ≡ range_with p.ranges number → IsRangeOf q number r
+pub range_reported : (p q : Plan) (number : ℕ) (r : HomeRange) → p ≡ q → IsPlan p → IsObject q.geometry number → Some r ≡ range_with p.ranges number →
+    IsRangeOf q number r
 range_reported p q number r e fits is reported =
     subst (λ (x : Plan). IsObject x.geometry number → IsRangeOf x number r) e (λ is_p. range_of p number r fits is_p reported) is
 
 pub no_range_reported : (p q : Plan) (number : ℕ) → p ≡ q → IsPlan p → IsObject q.geometry number → None ≡ range_with p.ranges number → ⊥
 no_range_reported p q number e fits is reported =
-    subst (λ (x : Plan). IsObject x.geometry number → ⊥) e (λ is_p. let at = found p number fits is_p in let never : None ≡ Some (range_at p.ranges at.0) = reported ∙ at.1.found in cc) is
+    subst (λ (x : Plan). IsObject x.geometry number → ⊥) e
+    (λ is_p. let at = found p number fits is_p in let never : None ≡ Some (range_at p.ranges at.0) = reported ∙ at.1.found in cc) is
 
 -- a place of a number, behind the headers and before the end
 pub record IsPlace (p : Plan) (number place : ℕ) : Type 0 where
@@ -376,12 +404,14 @@ place_lies p number place fits is same =
     let within = places_within p number fits is in
     record { value = same; behind = omega (arith, within.0, same); inside = omega (arith, within.1, same) }
 
-pub place_reported : (p q : Plan) (v : Version) (g : Geometry) (number place : ℕ) (r : HomeRange) → v ≡ p.version → g ≡ p.geometry → p ≡ q → IsPlan p → IsObject q.geometry number → Some r ≡ range_with p.ranges number
+pub place_reported : (p q : Plan) (v : Version) (g : Geometry) (number place : ℕ) (r : HomeRange) → v ≡ p.version → g ≡ p.geometry → p ≡ q → IsPlan p →
+    IsObject q.geometry number → Some r ≡ range_with p.ranges number
     → place ≡ place_in v g r number → IsPlace q number place
 place_reported p q v g number place r version geometry e fits is reported made =
     subst (λ (x : Plan). IsObject x.geometry number → IsPlace x number place) e
     (λ is_p. place_lies p number place fits is_p
-    (made ∙ ap (λ (w : Version). place_in w g r number) version ∙ ap (λ (h : Geometry). place_in p.version h r number) geometry ∙ sym (range_of p number r fits is_p reported).place)) is
+    (made ∙ ap (λ (w : Version). place_in w g r number) version ∙ ap (λ (h : Geometry). place_in p.version h r number) geometry ∙
+    sym (range_of p number r fits is_p reported).place)) is
 
 -- ---- who has a home
 
@@ -406,7 +436,8 @@ ranked_node : (v : Version) (rank i : ℕ) → node_shape v i ≡ Packed rank �
 ranked_node One rank i e = let never : Node ≡ Packed rank = e in cc
 ranked_node Two rank i e = (refl, sym (ap rank_or_0 e))
 
-pub ranked_in : (v : Version) (g : Geometry) (r : HomeRange) (number rank : ℕ) → Has g r number → shape_in v g r number ≡ Packed rank → IsRanked v g r number rank
+pub ranked_in : (v : Version) (g : Geometry) (r : HomeRange) (number rank : ℕ) → Has g r number → shape_in v g r number ≡ Packed rank →
+    IsRanked v g r number rank
 ranked_in v g r number rank has e = elim has.kind [
   | inl nodes ↦
       let is = ranked_node v rank ((number - r.first) % 5) (rw (lt_true number g.nodes (omega (arith, nodes, has.high))) at e) in
@@ -415,7 +446,8 @@ ranked_in v g r number rank has e = elim has.kind [
 ]
 
 -- the place of a rank's cluster
-cluster_place : (v : Version) (g : Geometry) (r : HomeRange) (number rank : ℕ) → Has g r number → IsRanked v g r number rank → place_in v g r number ≡ r.sector + 8 * ((number - r.first) / 5)
+cluster_place : (v : Version) (g : Geometry) (r : HomeRange) (number rank : ℕ) → Has g r number → IsRanked v g r number rank →
+    place_in v g r number ≡ r.sector + 8 * ((number - r.first) / 5)
 cluster_place v g r number rank has is =
     let number_lt : nat_lt number g.nodes ≡ true = lt_true number g.nodes (omega (arith, is.nodes, has.high)) in
     rw (is.second, number_lt) refl
@@ -424,34 +456,40 @@ cluster_place v g r number rank has is =
 same_ranked : (v : Version) (g : Geometry) (r : HomeRange) (a number rank : ℕ) → IsRanked v g r number rank → IsRanked v g r a ((a - r.first) % 5)
 same_ranked v g r a number rank is = record { second = is.second; nodes = is.nodes; value = refl }
 
-ranked_shape : (v : Version) (g : Geometry) (r : HomeRange) (number rank : ℕ) → Has g r number → IsRanked v g r number rank → shape_in v g r number ≡ Packed rank
+ranked_shape : (v : Version) (g : Geometry) (r : HomeRange) (number rank : ℕ) → Has g r number → IsRanked v g r number rank →
+    shape_in v g r number ≡ Packed rank
 ranked_shape v g r number rank has is =
     let number_lt : nat_lt number g.nodes ≡ true = lt_true number g.nodes (omega (arith, is.nodes, has.high)) in
     rw (is.second, number_lt) (ap (λ (k : ℕ). Packed k) (sym is.value))
 
 -- in a range, what has the home of a number
-pub one_cluster : (v : Version) (g : Geometry) (r : HomeRange) (a number rank : ℕ) → Has g r a → Has g r number → IsRanked v g r number rank → place_in v g r a ≡ place_in v g r number → (a - r.first) / 5 ≡ (number - r.first) / 5
+pub one_cluster : (v : Version) (g : Geometry) (r : HomeRange) (a number rank : ℕ) → Has g r a → Has g r number → IsRanked v g r number rank →
+    place_in v g r a ≡ place_in v g r number → (a - r.first) / 5 ≡ (number - r.first) / 5
 one_cluster v g r a number rank has_a has is same =
     let place_a = cluster_place v g r a ((a - r.first) % 5) has_a (same_ranked v g r a number rank is) in
     let place = cluster_place v g r number rank has is in
     omega (arith, place_a, place, same)
 
-alone_in : (v : Version) (g : Geometry) (r : HomeRange) (a number : ℕ) → Has g r a → Has g r number → IsOwn (shape_in v g r number) → place_in v g r a ≡ place_in v g r number → a ≡ number
+alone_in : (v : Version) (g : Geometry) (r : HomeRange) (a number : ℕ) → Has g r a → Has g r number → IsOwn (shape_in v g r number) →
+    place_in v g r a ≡ place_in v g r number → a ≡ number
 alone_in One g r a number has_a has = λ own same. same_number One g r a number refl has_a has same
 alone_in Two g r a number has_a has = elim has.kind [
   | inl nodes ↦ rw (lt_true number g.nodes (omega (arith, nodes, has.high))) (λ own same. absurd own)
-  | inr pages ↦ rw (lt_false a g.nodes (omega (arith, pages, has_a.low)), lt_false number g.nodes (omega (arith, pages, has.low))) (λ own same. omega (arith, same, has_a.low, has.low))
+  | inr pages ↦ rw (lt_false a g.nodes (omega (arith, pages, has_a.low)), lt_false number g.nodes (omega (arith, pages, has.low)))
+      (λ own same. omega (arith, same, has_a.low, has.low))
 ]
 
 -- no other number has the home of a frame in sectors of its own
-pub alone : (p : Plan) (a number : ℕ) → IsPlan p → IsObject p.geometry a → IsObject p.geometry number → IsOwn (shape_of p number) → home_place p a ≡ home_place p number → a ≡ number
+pub alone : (p : Plan) (a number : ℕ) → IsPlan p → IsObject p.geometry a → IsObject p.geometry number → IsOwn (shape_of p number) →
+    home_place p a ≡ home_place p number → a ≡ number
 alone p a number fits is_a is own same =
     let there = one_range p a number fits is_a is same in
     let at = there.1 in
     alone_in p.version p.geometry (range_at p.ranges there.0) a number at.one.has at.other.has (subst IsOwn (shape_is p number there.0 at.other) own) at.place
 
 -- what has the home of the first of a cluster lies there by its rank
-pub ranked : (p : Plan) (a number : ℕ) → IsPlan p → IsObject p.geometry a → IsObject p.geometry number → shape_of p number ≡ Packed 0 → home_place p a ≡ home_place p number → (number ≤ a) × (a < number + 5) × (shape_of p a ≡ Packed (a - number)) × (a < p.geometry.nodes)
+pub ranked : (p : Plan) (a number : ℕ) → IsPlan p → IsObject p.geometry a → IsObject p.geometry number → shape_of p number ≡ Packed 0 →
+    home_place p a ≡ home_place p number → (number ≤ a) × (a < number + 5) × (shape_of p a ≡ Packed (a - number)) × (a < p.geometry.nodes)
 ranked p a number fits is_a is shape same =
     let there = one_range p a number fits is_a is same in
     let at = there.1 in
@@ -462,13 +500,15 @@ ranked p a number fits is_a is shape same =
     let rank : a - number ≡ (a - r.first) % 5 = omega (arith, one, first.value, at.one.has.low, at.other.has.low) in (
       low,
       omega (arith, one, first.value, at.one.has.low, at.other.has.low),
-      shape_is p a there.0 at.one ∙ ranked_shape p.version p.geometry r a (a - number) at.one.has (record { second = first.second; nodes = first.nodes; value = rank }),
+      shape_is p a there.0 at.one ∙
+          ranked_shape p.version p.geometry r a (a - number) at.one.has (record { second = first.second; nodes = first.nodes; value = rank }),
       omega (arith, first.nodes, at.one.has.high),
     )
 
 -- ---- the numbers of a cluster
 
-module _ (p : Plan) (number rank i : ℕ) (fits : IsPlan p) (at : IsFound p.geometry p.ranges number i) (is : IsRanked p.version p.geometry (range_at p.ranges i) number rank) where
+module _ (p : Plan) (number rank i : ℕ) (fits : IsPlan p) (at : IsFound p.geometry p.ranges number i)
+    (is : IsRanked p.version p.geometry (range_at p.ranges i) number rank) where
   abbrev r : HomeRange
   r = range_at p.ranges i
 
@@ -481,14 +521,16 @@ module _ (p : Plan) (number rank i : ℕ) (fits : IsPlan p) (at : IsFound p.geom
       ∙ ap (λ (k : ℕ). r.sector + 8 * k) one ∙ sym (cluster_place p.version p.geometry r number rank at.has is) ∙ sym (place_is p number i at)
 
 -- a number of a cluster but the first of it has the home of the number before
-pub one_before : (p : Plan) (number rank : ℕ) → IsPlan p → IsObject p.geometry number → shape_of p number ≡ Packed rank → 1 ≤ rank → (1 ≤ number) × (home_place p (number - 1) ≡ home_place p number)
+pub one_before : (p : Plan) (number rank : ℕ) → IsPlan p → IsObject p.geometry number → shape_of p number ≡ Packed rank → 1 ≤ rank →
+    (1 ≤ number) × (home_place p (number - 1) ≡ home_place p number)
 one_before p number rank fits is shape some =
     let there = found p number fits is in
     let at = there.1 in
     let r : HomeRange = range_at p.ranges there.0 in
     let here = ranked_in p.version p.geometry r number rank at.has (sym (shape_is p number there.0 at) ∙ shape) in (
       omega (arith, here.value, some, at.has.low),
-      beside p number rank there.0 fits at here (number - 1) (omega (arith, here.value, some, at.has.low)) (omega (arith, at.has.high, here.value, some)) (omega (arith, here.value, some, at.has.low)),
+      beside p number rank there.0 fits at here (number - 1) (omega (arith, here.value, some, at.has.low)) (omega (arith, at.has.high, here.value, some))
+          (omega (arith, here.value, some, at.has.low)),
     )
 
 module _ (p : Plan) (number : ℕ) (fits : IsPlan p) (is : IsObject p.geometry number) where
@@ -501,7 +543,8 @@ module _ (p : Plan) (number : ℕ) (fits : IsPlan p) (is : IsObject p.geometry n
   }
 
   -- a node of a cluster shares it with those behind it, up to the fifth or to the end of the range
-  cluster_shared : (r : HomeRange) (rank n : ℕ) → Some r ≡ range_with p.ranges number → shape_of p number ≡ Packed rank → n ≡ min (r.count - (number - r.first)) (5 - rank) → HaveHome p number n
+  cluster_shared : (r : HomeRange) (rank n : ℕ) → Some r ≡ range_with p.ranges number → shape_of p number ≡ Packed rank →
+      n ≡ min (r.count - (number - r.first)) (5 - rank) → HaveHome p number n
   cluster_shared r rank n reported shape count =
       let there = found p number fits is in
       let at = there.1 in
@@ -510,12 +553,14 @@ module _ (p : Plan) (number : ℕ) (fits : IsPlan p) (is : IsObject p.geometry n
       let few : n ≡ min (q.count - (number - q.first)) (5 - rank) = subst (λ (x : HomeRange). n ≡ min (x.count - (number - x.first)) (5 - rank)) one count in
       let here = ranked_in p.version p.geometry q number rank at.has (sym (shape_is p number there.0 at) ∙ shape) in record {
         object = λ k lt. omega (arith, lt, few, here.nodes, at.has.low, at.has.high);
-        same = λ k lt. beside p number rank there.0 fits at here (number + k) (omega (arith, at.has.low)) (omega (arith, lt, few, at.has.low, at.has.high)) (omega (arith, lt, few, here.value, at.has.low));
+        same = λ k lt. beside p number rank there.0 fits at here (number + k) (omega (arith, at.has.low)) (omega (arith, lt, few, at.has.low, at.has.high))
+            (omega (arith, lt, few, here.value, at.has.low));
         all = λ a is_a low same.
             let both = one_range p a number fits is_a is same in
             let other : range_at p.ranges both.0 ≡ q = same_range (range_at p.ranges both.0) q (sym both.1.other.found ∙ at.found) in
             let a_has : Has p.geometry q a = subst (λ (x : HomeRange). Has p.geometry x a) other both.1.one.has in
-            let place : place_in p.version p.geometry q a ≡ place_in p.version p.geometry q number = subst (λ (x : HomeRange). place_in p.version p.geometry x a ≡ place_in p.version p.geometry x number) other both.1.place in
+            let place : place_in p.version p.geometry q a ≡ place_in p.version p.geometry q number = subst
+            (λ (x : HomeRange). place_in p.version p.geometry x a ≡ place_in p.version p.geometry x number) other both.1.place in
             let five = one_cluster p.version p.geometry q a number rank a_has at.has here place in
             omega (arith, few, five, here.value, low, a_has.low, a_has.high, at.has.low);
       }
@@ -524,9 +569,11 @@ module _ (p : Plan) (number : ℕ) (fits : IsPlan p) (is : IsObject p.geometry n
 pub own_reported : (p q : Plan) (number : ℕ) (s : Shape) → p ≡ q → IsPlan p → IsObject q.geometry number → IsOwn s → s ≡ shape_of q number → HaveHome q number 1
 own_reported p q number s e fits is own reported = itself_alone q number (subst IsPlan e fits) is (subst IsOwn reported own)
 
-pub cluster_reported : (p q : Plan) (number rank n : ℕ) (r : HomeRange) → p ≡ q → IsPlan p → IsObject q.geometry number → Some r ≡ range_with p.ranges number → Packed rank ≡ shape_of q number → n ≡ min (r.count - (number - r.first)) (5 - rank)
+pub cluster_reported : (p q : Plan) (number rank n : ℕ) (r : HomeRange) → p ≡ q → IsPlan p → IsObject q.geometry number → Some r ≡ range_with p.ranges number →
+    Packed rank ≡ shape_of q number → n ≡ min (r.count - (number - r.first)) (5 - rank)
     → HaveHome q number n
-cluster_reported p q number rank n r e fits is reported shape count = cluster_shared q number (subst IsPlan e fits) is r rank n (reported ∙ ap (λ (x : Plan). range_with x.ranges number) e) (sym shape) count
+cluster_reported p q number rank n r e fits is reported shape count = cluster_shared q number (subst IsPlan e fits) is r rank n
+    (reported ∙ ap (λ (x : Plan). range_with x.ranges number) e) (sym shape) count
 
 -- the frames of all that have the home of the first node stay where those in the places of these do
 pub cluster_stays : (p : Plan) (first n : ℕ) (old new : List ℕ) → IsPlan p → IsObject p.geometry first → shape_of p first ≡ Packed 0 → HaveHome p first n
@@ -538,18 +585,22 @@ cluster_stays p first n old new fits is shape have stays a is_a same =
     ap (λ (s : Shape). shape_bytes s new) at.2 ∙ stays (a - first) (omega (arith, few, at.0)) ∙ ap (λ (s : Shape). shape_bytes s old) (sym at.2)
 
 -- what was written to a home, said in two ways
-pub written_bytes : {T E : Type 0} (result : Result T E) (p : Plan) (number at n : ℕ) (s : Shape) (bytes : List ℕ) (image : Image) → at ≡ home_place p number → s ≡ shape_of p number → n ≡ shape_length s
+pub written_bytes : {T E : Type 0} (result : Result T E) (p : Plan) (number at n : ℕ) (s : Shape) (bytes : List ℕ) (image : Image) → at ≡ home_place p number →
+    s ≡ shape_of p number → n ≡ shape_length s
     → OnOk result (sectors_from image at n ≡ bytes) → OnOk result (sectors_from image (home_place p number) (place_length p number) ≡ bytes)
 written_bytes (Ok done) p number at n s bytes image place shape size written =
-    ap (λ (k : ℕ). sectors_from image k (place_length p number)) (sym place) ∙ ap (λ (k : ℕ). sectors_from image at k) (ap shape_length (sym shape) ∙ sym size) ∙ written
+    ap (λ (k : ℕ). sectors_from image k (place_length p number)) (sym place) ∙ ap (λ (k : ℕ). sectors_from image at k) (ap shape_length (sym shape) ∙ sym size)
+    ∙ written
 written_bytes (Err error) p number at n s bytes image place shape size written = tt
 
 -- the zeros of a cluster stand where it was written
-pub zeros_in : {T E : Type 0} (result : Result T E) (p : Plan) (first : ℕ) (there bytes : List ℕ) → OnOk result (there ≡ bytes) → EndsInZeros p first bytes → OnOk result (EndsInZeros p first there)
+pub zeros_in : {T E : Type 0} (result : Result T E) (p : Plan) (first : ℕ) (there bytes : List ℕ) → OnOk result (there ≡ bytes) → EndsInZeros p first bytes →
+    OnOk result (EndsInZeros p first there)
 zeros_in (Ok done) p first there bytes written zeros = subst (EndsInZeros p first) (sym written) zeros
 zeros_in (Err error) p first there bytes written zeros = tt
 
-pub zeros_home : {T E : Type 0} (result : Result T E) (p : Plan) (first : ℕ) (new : Image) (bytes : List ℕ) → shape_of p first ≡ Packed 0 → OnOk result (sectors_from new (home_place p first) (place_length p first) ≡ bytes)
+pub zeros_home : {T E : Type 0} (result : Result T E) (p : Plan) (first : ℕ) (new : Image) (bytes : List ℕ) → shape_of p first ≡ Packed 0 →
+    OnOk result (sectors_from new (home_place p first) (place_length p first) ≡ bytes)
     → EndsInZeros p first bytes → OnOk result (EndsInZeros p first (sectors_from new (home_place p first) 8))
 zeros_home (Ok done) p first new bytes shape written zeros =
     subst (EndsInZeros p first) (sym written ∙ ap (λ (s : Shape). sectors_from new (home_place p first) (shape_length s)) shape) zeros

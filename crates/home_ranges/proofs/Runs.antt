@@ -4,7 +4,8 @@ use Rattle.std.proofs.Common.{◌+◌}
 
 pub frames_stay : FramesStay
 frames_stay old new p a at n apart elsewhere = same_shaped (home_place p a) (shape_of p a) old new (λ i lt.
-    ⊎_elim (λ before. elsewhere.before (home_place p a + i) (omega (arith, before))) (λ after. elsewhere.after (home_place p a + i) (omega (arith, after))) apart)
+    ⊎_elim (λ before. elsewhere.before (home_place p a + i) (omega (arith, before))) (λ after. elsewhere.after (home_place p a + i) (omega (arith, after)))
+    apart)
 
 pub frames_are_home : FramesAreHome
 frames_are_home image p generation es a none = rw none

@@ -11,13 +11,16 @@ offset_between : (v : Version) (i j k : ℕ) → i ≤ j → j ≤ k → node_of
 offset_between One i j k low high same = omega (arith, low, high, same)
 offset_between Two i j k low high same = omega (arith, low, high, same)
 
-place_between : (v : Version) (g : Geometry) (r : HomeRange) (a b n : ℕ) → Has g r a → Has g r n → n ≤ b → b ≤ a → place_in v g r a ≡ place_in v g r n → place_in v g r b ≡ place_in v g r n
+place_between : (v : Version) (g : Geometry) (r : HomeRange) (a b n : ℕ) → Has g r a → Has g r n → n ≤ b → b ≤ a → place_in v g r a ≡ place_in v g r n →
+    place_in v g r b ≡ place_in v g r n
 place_between v g r a b n has_a has_n low high = elim has_a.kind [
   | inl nodes ↦
       let a_lt : nat_lt a g.nodes ≡ true = lt_true a g.nodes (omega (arith, nodes, has_a.high)) in
       let b_lt : nat_lt b g.nodes ≡ true = lt_true b g.nodes (omega (arith, nodes, has_a.high, high)) in
       let n_lt : nat_lt n g.nodes ≡ true = lt_true n g.nodes (omega (arith, nodes, has_n.high)) in
-      rw (a_lt, b_lt, n_lt) (λ same. ap (λ (offset : ℕ). r.sector + offset) (offset_between v (n - r.first) (b - r.first) (a - r.first) (omega (arith, low)) (omega (arith, high)) (omega (arith, same))))
+      rw (a_lt, b_lt, n_lt)
+      (λ same. ap (λ (offset : ℕ). r.sector + offset)
+      (offset_between v (n - r.first) (b - r.first) (a - r.first) (omega (arith, low)) (omega (arith, high)) (omega (arith, same))))
   | inr pages ↦
       let a_ge : nat_lt a g.nodes ≡ false = lt_false a g.nodes (omega (arith, pages, has_a.low)) in
       let b_ge : nat_lt b g.nodes ≡ false = lt_false b g.nodes (omega (arith, pages, has_n.low, low)) in
@@ -25,12 +28,14 @@ place_between v g r a b n has_a has_n low high = elim has_a.kind [
       rw (a_ge, b_ge, n_ge) (λ same. omega (arith, same, low, high, has_a.low, has_n.low))
 ]
 
-pub home_between : (p : Plan) (a b n : ℕ) → IsPlan p → IsObject p.geometry a → IsObject p.geometry n → n ≤ b → b ≤ a → home_place p a ≡ home_place p n → home_place p b ≡ home_place p n
+pub home_between : (p : Plan) (a b n : ℕ) → IsPlan p → IsObject p.geometry a → IsObject p.geometry n → n ≤ b → b ≤ a → home_place p a ≡ home_place p n →
+    home_place p b ≡ home_place p n
 home_between p a b n fits is_a is_n low high same =
     let there = one_range p a n fits is_a is_n same in
     let both = there.1 in
     let r : HomeRange = range_at p.ranges there.0 in
-    let has_b : Has p.geometry r b = record { low = omega (arith, both.other.has.low, low); high = omega (arith, both.one.has.high, high); kind = both.one.has.kind } in
+    let has_b : Has p.geometry r b =
+    record { low = omega (arith, both.other.has.low, low); high = omega (arith, both.one.has.high, high); kind = both.one.has.kind } in
     place_is p b there.0 (found_too p.geometry 0 there.0 b p.ranges fits.cover both.one.within has_b)
     ∙ place_between p.version p.geometry r a b n both.one.has both.other.has low high both.place
     ∙ sym (place_is p n there.0 both.other)
@@ -44,7 +49,9 @@ pub record Begins (p : Plan) (n rank : ℕ) : Type 0 where
   pub first : shape_of p (n - rank) ≡ Packed 0
   pub least : (a : ℕ) → IsObject p.geometry a → home_place p a ≡ home_place p n → n - rank ≤ a
 
-first_shape : (p : Plan) (first : ℕ) (r : HomeRange) → p.version ≡ Two → shape_of p first ≡ (if nat_lt first p.geometry.nodes then node_shape p.version ((first - r.first) % 5) else Page) → first < p.geometry.nodes → (first - r.first) % 5 ≡ 0
+first_shape : (p : Plan) (first : ℕ) (r : HomeRange) → p.version ≡ Two →
+    shape_of p first ≡ (if nat_lt first p.geometry.nodes then node_shape p.version ((first - r.first) % 5) else Page) → first < p.geometry.nodes →
+    (first - r.first) % 5 ≡ 0
     → shape_of p first ≡ Packed 0
 first_shape p first r two is node rank =
     is ∙ ap (λ (test : Bool). if test then node_shape p.version ((first - r.first) % 5) else Page) (lt_true first p.geometry.nodes node)
@@ -56,12 +63,14 @@ begins p n rank fits is shape =
     let at = there.1 in
     let r : HomeRange = range_at p.ranges there.0 in
     let here = ranked_in p.version p.geometry r n rank at.has (sym (shape_is p n there.0 at) ∙ shape) in
-    let has_first : Has p.geometry r (n - rank) = record { low = omega (arith, here.value, at.has.low); high = omega (arith, at.has.high); kind = at.has.kind } in
+    let has_first : Has p.geometry r (n - rank) = record { low = omega (arith, here.value, at.has.low); high = omega (arith, at.has.high); kind = at.has.kind }
+    in
     let found_first = found_too p.geometry 0 there.0 (n - rank) p.ranges fits.cover at.within has_first in
     record {
       below = omega (arith, here.value);
       home = beside p n rank there.0 fits at here (n - rank) has_first.low has_first.high (omega (arith, here.value, at.has.low));
-      first = first_shape p (n - rank) r here.second (shape_is p (n - rank) there.0 found_first) (omega (arith, here.nodes, at.has.high)) (omega (arith, here.value, at.has.low));
+      first = first_shape p (n - rank) r here.second (shape_is p (n - rank) there.0 found_first) (omega (arith, here.nodes, at.has.high))
+          (omega (arith, here.value, at.has.low));
       least = λ a is_a same.
           let shared = one_range p a n fits is_a is same in
           let both = shared.1 in

@@ -5,7 +5,8 @@ use Rattle.std.specs.Prelude.{◌≡◌, ◌+◌, ◌<◌, ◌≤◌}
 
 -- the bytes of a home are the frames of all that have it
 abbrev pub HoldsHome : Plan → ℕ → List ℕ → Image → Type 0
-HoldsHome p number bytes image = (n : ℕ) → IsObject p.geometry n → home_place p n ≡ home_place p number → bytes_at image (home_place p n) p n ≡ shape_bytes (shape_of p n) bytes
+HoldsHome p number bytes image = (n : ℕ) → IsObject p.geometry n → home_place p n ≡ home_place p number →
+    bytes_at image (home_place p n) p n ≡ shape_bytes (shape_of p n) bytes
 
 -- the `n` numbers from `number` on have its home, and none behind them has it
 pub record HaveHome (p : Plan) (number n : ℕ) : Type 0 where

@@ -14,20 +14,25 @@ PlacesAreWithin = (p : Plan) (a : ℕ) → IsPlan p → IsObject p.geometry a �
 
 -- no sector is one of two homes
 abbrev pub PlacesAreApart : Type 0
-PlacesAreApart = (p : Plan) (a b : ℕ) → IsPlan p → IsObject p.geometry a → IsObject p.geometry b → (home_place p a ≡ home_place p b → ⊥) → IsApart (home_extent p a) (home_extent p b)
+PlacesAreApart = (p : Plan) (a b : ℕ) → IsPlan p → IsObject p.geometry a → IsObject p.geometry b →
+    (home_place p a ≡ home_place p b → ⊥) → IsApart (home_extent p a) (home_extent p b)
 
 -- by version 1 no two numbers have one home
 abbrev pub NumbersAreApart : Type 0
-NumbersAreApart = (p : Plan) (a b : ℕ) → IsPlan p → p.version ≡ One → IsObject p.geometry a → IsObject p.geometry b → (a ≡ b → ⊥) → IsApart (home_extent p a) (home_extent p b)
+NumbersAreApart = (p : Plan) (a b : ℕ) → IsPlan p → p.version ≡ One → IsObject p.geometry a → IsObject p.geometry b →
+    (a ≡ b → ⊥) → IsApart (home_extent p a) (home_extent p b)
 
 -- no sector of a home is one of the log, in the half of any generation
 abbrev pub PlacesSpareLog : Type 0
-PlacesSpareLog = (p : Plan) (a generation : ℕ) → IsPlan p → IsObject p.geometry a → IsApart (home_extent p a) (half_extent p.geometry (half_sector p generation))
+PlacesSpareLog = (p : Plan) (a generation : ℕ) → IsPlan p → IsObject p.geometry a →
+    IsApart (home_extent p a) (half_extent p.geometry (half_sector p generation))
 
 -- what is changed apart from the home of a number leaves its frame
 abbrev pub FramesStay : Type 0
-FramesStay = (old new : Image) (p : Plan) (a at n : ℕ) → IsApart (home_extent p a) (record { sector = at; length = n }) → Elsewhere at n old new → bytes_at new (home_place p a) p a ≡ bytes_at old (home_place p a) p a
+FramesStay = (old new : Image) (p : Plan) (a at n : ℕ) → IsApart (home_extent p a) (record { sector = at; length = n })
+    → Elsewhere at n old new → bytes_at new (home_place p a) p a ≡ bytes_at old (home_place p a) p a
 
 -- the frame of a number that has no slot of the log, nor has any that shares its home, is the one at home
 abbrev pub FramesAreHome : Type 0
-FramesAreHome = (image : Image) (p : Plan) (generation : ℕ) (es : List Entry) (a : ℕ) → frame_slot_in p es a ≡ None → frame_in image p generation es a ≡ bytes_at image (home_place p a) p a
+FramesAreHome = (image : Image) (p : Plan) (generation : ℕ) (es : List Entry) (a : ℕ) → frame_slot_in p es a ≡ None →
+    frame_in image p generation es a ≡ bytes_at image (home_place p a) p a

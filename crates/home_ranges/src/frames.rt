@@ -11,7 +11,7 @@ ghost use Rattle.home_ranges.specs.Home.{HoldsHome};
 
 use crate::home::Home;
 use device::{Device, Failed};
-use frame_io::{ReadFault, read_frame, write_sectors};
+use frame_io::{Unreadable, read_frame, write_sectors};
 use layout::{Body, Scratch};
 use model::ObjectHeader;
 
@@ -28,7 +28,7 @@ impl<'a> Home<'a> {
         number: u64,
         age: u64,
         scratch: &mut Scratch,
-    ) -> Result<(ObjectHeader, Body), ReadFault>
+    ) -> Result<(ObjectHeader, Body), Unreadable>
         requires object { IsObject self.now.geometry number }
         requires inside { self.now.total ≤ (D.disk device.old).sectors }
         ensures found { IfOk result (λ read. IsFrameOf self.now.geometry age number

@@ -34,12 +34,15 @@ module _ (d : Description) (hs : List ObjectHeader) (cs : List (Content Cap)) (l
       frames_in hs cs,
       laid.described,
       subst (λ (fs : List Frame). IsSoundFrames d.geometry d.age fs) (described_once d s.frames (frames_in hs cs) s.described laid.described) s.sound,
-      holds_one old.sectors c saved (first_saved p.geometry d.age (frames_in hs cs)) holds whole ∙ ap (λ (q : Plan). first_saved q.geometry d.age (frames_in hs cs)) is,
+      holds_one old.sectors c saved (first_saved p.geometry d.age (frames_in hs cs)) holds whole ∙
+          ap (λ (q : Plan). first_saved q.geometry d.age (frames_in hs cs)) is,
     )
 
-    pub left_writing : (p : Plan) → p ≡ plan_for d → LeavesOnly old new (λ c. IsLeftWriting old (first_saved p.geometry d.age (frames_in hs cs)) c) → LeavesOnly old new (λ c. IsLeftBuilding d old c)
+    pub left_writing : (p : Plan) → p ≡ plan_for d → LeavesOnly old new (λ c. IsLeftWriting old (first_saved p.geometry d.age (frames_in hs cs)) c) →
+        LeavesOnly old new (λ c. IsLeftBuilding d old c)
     left_writing p is run =
-        leaves_weaker {old = old} {new = new} {P = λ c. IsLeftWriting old (first_saved p.geometry d.age (frames_in hs cs)) c} (λ c. IsLeftBuilding d old c) (λ c left. left_by p is c left) run
+        leaves_weaker {old = old} {new = new} {P = λ c. IsLeftWriting old (first_saved p.geometry d.age (frames_in hs cs)) c} (λ c. IsLeftBuilding d old c)
+        (λ c left. left_by p is c left) run
 
 -- ---- where nothing was written
 
@@ -50,7 +53,8 @@ pub nothing_written_of : (ms : Members) (disk : Disk) → OnlyNow disk → Leave
 nothing_written_of ms disk only_now = started disk (λ c. IsLeftOf ms disk c) only_now (λ c left saved holds. inl (c, left, holds))
 
 -- what is left of a description is left of its table
-pub left_of : (ms : Members) (d : Description) {old new : Disk} → IsDescription ms d → LeavesOnly old new (λ c. IsLeftBuilding d old c) → LeavesOnly old new (λ c. IsLeftOf ms old c)
+pub left_of : (ms : Members) (d : Description) {old new : Disk} → IsDescription ms d → LeavesOnly old new (λ c. IsLeftBuilding d old c) →
+    LeavesOnly old new (λ c. IsLeftOf ms old c)
 left_of ms d {old} {new} is run =
     leaves_weaker {old = old} {new = new} {P = λ c. IsLeftBuilding d old c} (λ c. IsLeftOf ms old c)
     (λ c left saved holds. ⊎_elim (λ before. inl before) (λ described. inr (d, is, described)) (left saved holds)) run

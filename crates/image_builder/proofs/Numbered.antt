@@ -20,7 +20,8 @@ length_numbered at [] = refl
 length_numbered at (e ∷ es) = ap suc (length_numbered (at + 1) es)
 
 -- the entry of an index has it as its slot
-entry_numbered : (at : ℕ) (es : List Entry) (d : Entry) (i : ℕ) → i < length es → slice_index_or (numbered at es) i d ≡ record { object = (entry_at es i).object; slot = at + i }
+entry_numbered : (at : ℕ) (es : List Entry) (d : Entry) (i : ℕ) → i < length es →
+    slice_index_or (numbered at es) i d ≡ record { object = (entry_at es i).object; slot = at + i }
 unfolding numbered
 entry_numbered at [] d i lt = absurd (omega (arith, lt))
 entry_numbered at (e ∷ es) d zero lt = let same : at ≡ at + 0 = omega arith in ap (λ (n : ℕ). let x : Entry = record { object = e.object; slot = n } in x) same
@@ -33,7 +34,8 @@ directory_numbered g es is few most = record {
   each = λ i d lt.
       let within : i < length es = omega (arith, lt, length_numbered 0 es) in
       let one = is.each i none within in
-      rw (entry_numbered 0 es d i within) (record { object = one.object; slot = omega (arith, within, few); object_fits = one.object_fits; slot_fits = omega (arith, within, few, most) });
+      rw (entry_numbered 0 es d i within)
+      (record { object = one.object; slot = omega (arith, within, few); object_fits = one.object_fits; slot_fits = omega (arith, within, few, most) });
   rising = λ i lt.
       let within : i + 1 < length es = omega (arith, lt, length_numbered 0 es) in
       let one = is.rising i within in

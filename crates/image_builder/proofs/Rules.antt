@@ -41,7 +41,8 @@ accepted_has_none d sectors fault accepted refused = refused.broken (accepted fa
 abbrev pub AreKept : Description → ℕ → ℕ → Type 0
 AreKept d sectors count = (fault : BuildFault) → fault_number fault < count → Rule d sectors fault
 
-one_more : (d : Description) (sectors : ℕ) (fault : BuildFault) → AreKept d sectors (fault_number fault) → Rule d sectors fault → AreKept d sectors (fault_number fault + 1)
+one_more : (d : Description) (sectors : ℕ) (fault : BuildFault) → AreKept d sectors (fault_number fault) → Rule d sectors fault →
+    AreKept d sectors (fault_number fault + 1)
 one_more d sectors fault below kept other within = elim (cases_lt (fault_number other) (fault_number fault)) [
   | inl lesser ↦ below other lesser
   | inr least ↦ subst (λ (f : BuildFault). Rule d sectors f) (same_fault fault other (omega (arith, within, least))) kept

@@ -23,30 +23,44 @@ module _ (image : Image) (size : ℕ) (s : SavedState) (is : Encodes image size 
   directory_count = length_numbered 0 s.directory ∙ is.directory.count
 
   pub header_fits : IsHeader s.plan.geometry.log (record s.header { sequence = 0 })
-  header_fits = record { entries = is.header.fits.entries; age = is.header.fits.age; generation = is.header.fits.generation; sequence = omega arith; entries_fit = is.header.fits.entries_fit }
+  header_fits = record {
+    entries = is.header.fits.entries;
+    age = is.header.fits.age;
+    generation = is.header.fits.generation;
+    sequence = omega arith;
+    entries_fit = is.header.fits.entries_fit;
+  }
 
 -- it has the same state but for the places
-pub same_state : (s : SavedState) (p : Plan) (generation entries age : ℕ) (es : List Entry) (fs : List Frame) → p ≡ laid_again Two s.plan → generation ≡ s.header.generation → entries ≡ s.header.entries → age ≡ s.header.age
-    → es ≡ numbered 0 s.directory → fs ≡ s.frames → state_of p (record { sequence = 0; generation = generation; entries = entries; age = age }) es fs ≡ upgraded s
+pub same_state : (s : SavedState) (p : Plan) (generation entries age : ℕ) (es : List Entry) (fs : List Frame) → p ≡ laid_again Two s.plan →
+    generation ≡ s.header.generation → entries ≡ s.header.entries → age ≡ s.header.age
+    → es ≡ numbered 0 s.directory → fs ≡ s.frames → state_of p (record { sequence = 0; generation = generation; entries = entries; age = age }) es fs ≡ upgraded
+    s
 same_state s p generation entries age es fs plan_is generation_is entries_is age_is directory_is frames_is =
     ap (λ (q : Plan). state_of q (record { sequence = 0; generation = generation; entries = entries; age = age }) es fs) plan_is
     ∙ ap (λ (n : ℕ). state_of (laid_again Two s.plan) (record { sequence = 0; generation = n; entries = entries; age = age }) es fs) generation_is
     ∙ ap (λ (n : ℕ). state_of (laid_again Two s.plan) (record { sequence = 0; generation = s.header.generation; entries = n; age = age }) es fs) entries_is
-    ∙ ap (λ (n : ℕ). state_of (laid_again Two s.plan) (record { sequence = 0; generation = s.header.generation; entries = s.header.entries; age = n }) es fs) age_is
+    ∙ ap (λ (n : ℕ). state_of (laid_again Two s.plan) (record { sequence = 0; generation = s.header.generation; entries = s.header.entries; age = n }) es fs)
+    age_is
     ∙ ap (λ (xs : List Entry). state_of (laid_again Two s.plan) (record s.header { sequence = 0 }) xs fs) directory_is
     ∙ ap (λ (xs : List Frame). state_of (laid_again Two s.plan) (record s.header { sequence = 0 }) (numbered 0 s.directory) xs) frames_is
 
 -- ---- what is reported of it
 
-pub counted : (result : Result ℕ UpgradeFault) (old before new : Disk) (s : SavedState) → Encodes old.seen old.sectors s → IsSoundSaved s.plan.geometry (kept_of s) → IfOk result (λ total. total ≡ (laid_again Two s.plan).total)
-    → OnOk result (Encodes new.seen new.sectors (upgraded s)) → OnOk result ((c : Image) → new.may_leave c → Encodes c new.sectors (upgraded s)) → OnOk result (Elsewhere 0 (laid_again Two s.plan).total before.seen new.seen)
+pub counted : (result : Result ℕ UpgradeFault) (old before new : Disk) (s : SavedState) → Encodes old.seen old.sectors s →
+    IsSoundSaved s.plan.geometry (kept_of s) → IfOk result (λ total. total ≡ (laid_again Two s.plan).total)
+    → OnOk result (Encodes new.seen new.sectors (upgraded s)) → OnOk result ((c : Image) → new.may_leave c → Encodes c new.sectors (upgraded s)) →
+    OnOk result (Elsewhere 0 (laid_again Two s.plan).total before.seen new.seen)
     → IfOk result (λ total. (done : Upgrades old before new) × (total ≡ (laid_again Two done.state.plan).total))
-counted (Ok total) old before new s was sound reported encodes crash elsewhere = (record { state = s; was = was; sound = sound; encodes = encodes; crash = crash; elsewhere = elsewhere }, reported)
+counted (Ok total) old before new s was sound reported encodes crash elsewhere =
+    (record { state = s; was = was; sound = sound; encodes = encodes; crash = crash; elsewhere = elsewhere }, reported)
 counted (Err fault) old before new s was sound reported encodes crash elsewhere = tt
 
 -- and of why it isn't written
-pub not_upgraded : {D : Type 0} (result : Result ℕ UpgradeFault) (disk : D → Disk) (old : D) (sectors : ℕ) (s : SavedState) → Encodes (disk old).seen (disk old).sectors s → IsSoundSaved s.plan.geometry (kept_of s)
-    → (IsErrOf result fault.Small → sectors < (laid_again Two s.plan).total) → IfErr result (λ why. (opening : OpenFault) → why ≢ fault.Old opening) → IfErr result (λ why. IsNotUpgraded disk old sectors why)
+pub not_upgraded : {D : Type 0} (result : Result ℕ UpgradeFault) (disk : D → Disk) (old : D) (sectors : ℕ) (s : SavedState) →
+    Encodes (disk old).seen (disk old).sectors s → IsSoundSaved s.plan.geometry (kept_of s)
+    → (IsErrOf result fault.Small → sectors < (laid_again Two s.plan).total) → IfErr result (λ why. (opening : OpenFault) → why ≢ fault.Old opening) →
+    IfErr result (λ why. IsNotUpgraded disk old sectors why)
 not_upgraded (Ok total) disk old sectors s was sound small opened = tt
 not_upgraded (Err (fault.Old why)) disk old sectors s was sound small opened = absurd (opened why refl)
 not_upgraded (Err fault.Small) disk old sectors s was sound small opened = (s, was, sound, small refl)
@@ -56,7 +70,8 @@ not_upgraded (Err fault.NoMemory) disk old sectors s was sound small opened = tt
 -- ---- what is done to the old device
 
 -- it was opened, and no call of it failed
-pub read_where_opened : (result : Result ℕ UpgradeFault) (old new : Disk) → IfErr result (λ why. (opening : OpenFault) → why ≢ fault.Old opening) → OnlyReads old new → new.failures ≡ old.failures
+pub read_where_opened : (result : Result ℕ UpgradeFault) (old new : Disk) → IfErr result (λ why. (opening : OpenFault) → why ≢ fault.Old opening) →
+    OnlyReads old new → new.failures ≡ old.failures
     → IsOnlyRead old new (IsErrOf result (fault.Old opening.Failed))
 read_where_opened result old new opened only_reads same = record {
   only_reads = only_reads;
@@ -71,18 +86,22 @@ read_where_opened result old new opened only_reads same = record {
 -- ---- what a crash leaves
 
 -- an image that a crash leaves of a device is what it holds, where a read gives it
-pub seen_encodes : (old new : Disk) (s : SavedState) → ((c : Image) → new.may_leave c → Encodes c new.sectors s) → new.may_leave new.seen → Agrees new.seen old.seen → new.sectors ≡ old.sectors → Encodes old.seen old.sectors s
+pub seen_encodes : (old new : Disk) (s : SavedState) → ((c : Image) → new.may_leave c → Encodes c new.sectors s) → new.may_leave new.seen →
+    Agrees new.seen old.seen → new.sectors ≡ old.sectors → Encodes old.seen old.sectors s
 seen_encodes old new s leaves left same size =
     subst (λ (n : ℕ). Encodes old.seen n s) size (subst (λ (c : Image). Encodes c new.sectors s) (agrees_is new.seen old.seen same) (leaves new.seen left))
 
-left_by : (old before : Disk) (s : SavedState) → Encodes old.seen old.sectors s → (c : Image) → IsLeftWriting before (kept_of s) c → IsLeftUpgrading old before c
+left_by : (old before : Disk) (s : SavedState) → Encodes old.seen old.sectors s → (c : Image) → IsLeftWriting before (kept_of s) c →
+    IsLeftUpgrading old before c
 left_by old before s was c (inl (d, left, kept)) saved holds = inl (d, left, (kept_holds_the_same before.sectors d c saved kept).1 holds)
 left_by old before s was c (inr (inl none)) saved holds = absurd (none_is_held before.sectors c saved none holds)
 left_by old before s was c (inr (inr whole)) saved holds = inr (s, was, sym (holds_one before.sectors c saved (kept_of s) holds whole))
 
-pub left_upgrading : (old : Disk) (s : SavedState) {before new : Disk} → Encodes old.seen old.sectors s → LeavesOnly before new (λ c. IsLeftWriting before (kept_of s) c) → LeavesOnly before new (λ c. IsLeftUpgrading old before c)
+pub left_upgrading : (old : Disk) (s : SavedState) {before new : Disk} → Encodes old.seen old.sectors s →
+    LeavesOnly before new (λ c. IsLeftWriting before (kept_of s) c) → LeavesOnly before new (λ c. IsLeftUpgrading old before c)
 left_upgrading old s {before} {new} was run =
-    leaves_weaker {old = before} {new = new} {P = λ c. IsLeftWriting before (kept_of s) c} (λ c. IsLeftUpgrading old before c) (λ c left. left_by old before s was c left) run
+    leaves_weaker {old = before} {new = new} {P = λ c. IsLeftWriting before (kept_of s) c} (λ c. IsLeftUpgrading old before c)
+    (λ c left. left_by old before s was c left) run
 
 -- where nothing was written
 pub untouched : (old before : Disk) → OnlyNow before → LeavesOnly before before (λ c. IsLeftUpgrading old before c)

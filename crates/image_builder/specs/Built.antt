@@ -85,14 +85,17 @@ pub record Builds (d : Description) (old new : Disk) : Type 0 where
 
 -- frames are those described, which stand for a sound world, saved as `build` does
 abbrev pub IsSavedOf : Description → SavedFrames → Type 0
-IsSavedOf d saved = (frames : List Frame) × IsDescribed d frames × IsSoundFrames d.geometry d.age frames × (saved ≡ first_saved d.geometry d.age frames)
+IsSavedOf d saved = (frames : List Frame) × IsDescribed d frames × IsSoundFrames d.geometry d.age frames ×
+    (saved ≡ first_saved d.geometry d.age frames)
 
 -- so is that of a table
 abbrev pub BuildsFrom : Members → Disk → Disk → Type 0
 BuildsFrom ms old new = (d : Description) × IsDescription ms d × Builds d old new
 
--- What a crash leaves while an image of a table is built: what saved frames it holds, if any, it could have left before,
+-- What a crash leaves while an image of a table is built: what saved frames it holds, if any, it could have left
+-- before,
 -- or they are those described.
 abbrev pub IsLeftOf : Members → Disk → Image → Type 0
 IsLeftOf ms old c = (saved : SavedFrames) → Holds old.sectors c saved →
-    ((before : Image) × old.may_leave before × Holds old.sectors before saved) ⊎ ((d : Description) × IsDescription ms d × IsSavedOf d saved)
+    ((before : Image) × old.may_leave before × Holds old.sectors before saved) ⊎
+    ((d : Description) × IsDescription ms d × IsSavedOf d saved)

@@ -31,4 +31,5 @@ pub record IsSoundDescription (d : Description) : Type 0 where
 
 -- what a crash leaves while an image of a description is built
 abbrev pub IsLeftBuilding : Description → Disk → Image → Type 0
-IsLeftBuilding d old c = (saved : SavedFrames) → Holds old.sectors c saved → ((before : Image) × old.may_leave before × Holds old.sectors before saved) ⊎ IsSavedOf d saved
+IsLeftBuilding d old c = (saved : SavedFrames) → Holds old.sectors c saved →
+    ((before : Image) × old.may_leave before × Holds old.sectors before saved) ⊎ IsSavedOf d saved

@@ -14,9 +14,15 @@ numbered at (e ∷ es) = record { object = e.object; slot = at } ∷ numbered (a
 
 -- the same checkpoint by version 2 of the layout: ranges from sector 5 on, slots in order, the sequence number 0
 abbrev pub upgraded : SavedState → SavedState
-upgraded s = record { plan = laid_again Two s.plan; header = record s.header { sequence = 0 }; directory = numbered 0 s.directory; frames = s.frames }
+upgraded s = record {
+  plan = laid_again Two s.plan;
+  header = record s.header { sequence = 0 };
+  directory = numbered 0 s.directory;
+  frames = s.frames;
+}
 
--- what an old device saves, which stands for a sound world, is written over what a new one held; a crash leaves the same
+-- what an old device saves, which stands for a sound world, is written over what a new one held; a crash leaves the
+-- same
 pub record Upgrades (old before new : Disk) : Type 0 where
   pub state : SavedState
   pub was : Encodes old.seen old.sectors state
@@ -61,7 +67,8 @@ pub record IsOpenedFrom {D : Type 0} (disk : D → Disk) (old : D) (s : StoreSta
   pub only_reads : OnlyReads (disk old) (disk s.durable.beneath)
   pub failures : (disk s.durable.beneath).failures ≡ (disk old).failures
 
--- What a crash leaves while an image is upgraded: what saved frames it holds, if any, it could have left before, or they
+-- What a crash leaves while an image is upgraded: what saved frames it holds, if any, it could have left before, or
+-- they
 -- are those of the old device.
 abbrev pub IsLeftUpgrading : Disk → Disk → Image → Type 0
 IsLeftUpgrading old before c = (saved : SavedFrames) → Holds before.sectors c saved →

@@ -121,8 +121,8 @@ fn write_over<D: Device, E: Device>(
     }
 }
 
-// Writes what a store has of its device's checkpoint, which is all in memory; answers how many sectors the image has, and
-// gives the store's device back.
+// Writes what a store has of its device's checkpoint, which is all in memory; answers how many sectors the
+// image has, and gives the store's device back.
 fn write_store<D: Device, E: Device>(
     alloc: Global,
     store: PlainStore<D>,

@@ -67,13 +67,8 @@ pub(crate) fn lay_sound(alloc: Global, description: &Description) -> Result<Worl
     ensures refused { IfErr result (λ fault. IsRefusedEarly description.now fault) }
 {
     let World { headers, contents } = lay(alloc, description)?;
-    match Plain::new(alloc, description.geometry, headers, contents) {
-        Ok(frames) => {
-            let mut frames = frames;
-            check_frames(alloc, description, &mut frames)?;
-            let (headers, contents) = frames.into_parts();
-            Ok(World { headers, contents })
-        }
-        Err(_) => Err(BuildFault::NoMemory),
-    }
+    let mut frames = Plain::new(description.geometry, headers, contents);
+    check_frames(alloc, description, &mut frames)?;
+    let (headers, contents) = frames.into_parts();
+    Ok(World { headers, contents })
 }

@@ -13,13 +13,16 @@ added old new (f ∷ fs) adds =
     added adds.0 new fs adds.2 ∙ ap (λ (text : List ℕ). text ++ field_lines fs) adds.1 ∙ append_assoc old (field_line f) (field_lines fs)
 
 -- and behind the header of an object
-pub object_added : (old begun new name : List ℕ) (fs : List Field) → begun ≡ old ++ begin_line name → Adds begun fs new → new ≡ old ++ (begin_line name ++ field_lines fs)
+pub object_added : (old begun new name : List ℕ) (fs : List Field) → begun ≡ old ++ begin_line name → Adds begun fs new →
+    new ≡ old ++ (begin_line name ++ field_lines fs)
 object_added old begun new name fs header adds =
     added begun new fs adds ∙ ap (λ (text : List ℕ). text ++ field_lines fs) header ∙ append_assoc old (begin_line name) (field_lines fs)
 
 -- a value that was written is another by name
-pub same_list : {A : Type 0} (old new key : List ℕ) (f : A → List ℕ) (xs ys : List A) → new ≡ old ++ field_line (key, list_unless_empty f xs) → xs ≡ ys → new ≡ old ++ field_line (key, list_unless_empty f ys)
+pub same_list : {A : Type 0} (old new key : List ℕ) (f : A → List ℕ) (xs ys : List A) → new ≡ old ++ field_line (key, list_unless_empty f xs) → xs ≡ ys →
+    new ≡ old ++ field_line (key, list_unless_empty f ys)
 same_list {A = A} old new key f xs ys made is = made ∙ ap (λ (zs : List A). old ++ field_line (key, list_unless_empty f zs)) is
 
-pub same_value : {A : Type 0} (old new key : List ℕ) (f : A → List ℕ) (x y : A) → new ≡ old ++ field_line (key, Some (f x)) → y ≡ x → new ≡ old ++ field_line (key, Some (f y))
+pub same_value : {A : Type 0} (old new key : List ℕ) (f : A → List ℕ) (x y : A) → new ≡ old ++ field_line (key, Some (f x)) → y ≡ x →
+    new ≡ old ++ field_line (key, Some (f y))
 same_value {A = A} old new key f x y made is = made ∙ ap (λ (z : A). old ++ field_line (key, Some (f z))) (sym is)

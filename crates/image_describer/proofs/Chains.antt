@@ -52,19 +52,23 @@ apart_at k [] i d apart inside = absurd (omega (arith, inside))
 apart_at k (p ∷ ps) zero d apart inside =
     falsely (same_key p.0 k) (left (not (same_key p.0 k)) (is_apart k ps) (right (not (same_key k p.0)) (not (same_key p.0 k) && is_apart k ps) apart))
 apart_at k (p ∷ ps) (suc i) d apart inside =
-    apart_at k ps i d (right (not (same_key p.0 k)) (is_apart k ps) (right (not (same_key k p.0)) (not (same_key p.0 k) && is_apart k ps) apart)) (omega (arith, inside))
+    apart_at k ps i d (right (not (same_key p.0 k)) (is_apart k ps) (right (not (same_key k p.0)) (not (same_key p.0 k) && is_apart k ps) apart))
+    (omega (arith, inside))
 
 -- each key has what was put there
-pub chain_at : (ps : List Pair) (i : ℕ) (d : Pair) (old new : Members) → Chain ps old new → IsTrue (are_apart ps) → i < length ps → get_member (slice_index_or ps i d).0 old ≡ None
+pub chain_at : (ps : List Pair) (i : ℕ) (d : Pair) (old new : Members) → Chain ps old new → IsTrue (are_apart ps) → i < length ps →
+    get_member (slice_index_or ps i d).0 old ≡ None
     → get_member (slice_index_or ps i d).0 new ≡ (slice_index_or ps i d).1
 chain_at [] i d old new chain apart inside none = absurd (omega (arith, inside))
-chain_at (p ∷ ps) zero d old new chain apart inside none = chain_other ps p.0 chain.0 new chain.2 (left (is_apart p.0 ps) (are_apart ps) apart) ∙ chain.1.found none
+chain_at (p ∷ ps) zero d old new chain apart inside none = chain_other ps p.0 chain.0 new chain.2 (left (is_apart p.0 ps) (are_apart ps) apart) ∙
+    chain.1.found none
 chain_at (p ∷ ps) (suc i) d old new chain apart inside none =
     let within : i < length ps = omega (arith, inside) in
     chain_at ps i d chain.0 new chain.2 (right (is_apart p.0 ps) (are_apart ps) apart) within
     (chain.1.others (slice_index_or ps i d).0 (apart_at p.0 ps i d (left (is_apart p.0 ps) (are_apart ps) apart) within) ∙ none)
 
-pub chain_only : (ps : List Pair) (keys : List (List ℕ)) (old new : Members) → Chain ps old new → IsTrue (are_known keys ps) → IsTrue (has_only keys old) → IsTrue (has_only keys new)
+pub chain_only : (ps : List Pair) (keys : List (List ℕ)) (old new : Members) → Chain ps old new → IsTrue (are_known keys ps) → IsTrue (has_only keys old) →
+    IsTrue (has_only keys new)
 chain_only [] keys old new chain known all = subst (λ (ms : Members). IsTrue (has_only keys ms)) (sym chain) all
 chain_only (p ∷ ps) keys old new chain known all =
     chain_only ps keys chain.0 new chain.2 (right (list_any (same_key p.0) keys) (are_known keys ps) known)

@@ -68,14 +68,17 @@ filled_at k (Some d) ps ns pair none rest =
     (new, rw (pair, put_new k d ns none) made, (close mid, puts, chain))
 
 -- the values of a table are put one after the other
-pub filled : (ps : List Pair) (ns : Nodes) → ArePairs ps → IsTrue (are_apart ps) → AreNew ps (close ns) → (new : Nodes) × (fill_pairs (keyed ps) ns ≡ Some new) × Chain ps (close ns) (close new)
+pub filled : (ps : List Pair) (ns : Nodes) → ArePairs ps → IsTrue (are_apart ps) → AreNew ps (close ns) →
+    (new : Nodes) × (fill_pairs (keyed ps) ns ≡ Some new) × Chain ps (close ns) (close new)
 filled [] ns pairs apart fresh = (ns, refl, refl)
 filled (p ∷ ps) ns pairs apart fresh =
     filled_at p.0 p.1 ps ns pairs.0 fresh.0 (λ mid puts.
-    filled ps mid pairs.1 (right (is_apart p.0 ps) (are_apart ps) apart) (new_kept ps p.0 p.1 (close ns) (close mid) puts (left (is_apart p.0 ps) (are_apart ps) apart) fresh.1))
+    filled ps mid pairs.1 (right (is_apart p.0 ps) (are_apart ps) apart)
+    (new_kept ps p.0 p.1 (close ns) (close mid) puts (left (is_apart p.0 ps) (are_apart ps) apart) fresh.1))
 
 -- and nothing stands under a header
-not_under : (k : List ℕ) (o : Option Data) (ms : Members) (n : Nodes) → IfSome o (λ d. is_section d ≡ false) → fill_sections ms n ≡ Some n → fill_sections (member_or k o ms) n ≡ Some n
+not_under : (k : List ℕ) (o : Option Data) (ms : Members) (n : Nodes) → IfSome o (λ d. is_section d ≡ false) → fill_sections ms n ≡ Some n →
+    fill_sections (member_or k o ms) n ≡ Some n
 not_under k None ms n pair none = none
 not_under k (Some d) ms n pair none = rw pair none
 
@@ -97,7 +100,8 @@ no_section key (table ms) is = absurd cc
 no_section key (array no_items) is = refl
 no_section key (array (item d ds)) is = rw (the_false (are_tables (item d ds)) is)
 
-no_section_at : (path : List (List ℕ)) (k : List ℕ) (o : Option Data) (ms : Members) → IfSome o (λ d. is_section d ≡ false) → sections path ms ≡ [] → sections path (member_or k o ms) ≡ []
+no_section_at : (path : List (List ℕ)) (k : List ℕ) (o : Option Data) (ms : Members) → IfSome o (λ d. is_section d ≡ false) → sections path ms ≡ [] →
+    sections path (member_or k o ms) ≡ []
 no_section_at path k None ms pair none = none
 no_section_at path k (Some d) ms pair none = rw (no_section (path, k) d pair, none)
 
@@ -114,7 +118,8 @@ pub all_tables : {A : Type 0} (f : A → List Pair) (xs : List A) → are_tables
 all_tables f [] = refl
 all_tables f (x ∷ xs) = all_tables f xs
 
-pushed : {A : Type 0} (P : Data → A → Type 0) (ds : Items) (d : Data) (ys : List A) (y : A) → AreItems P ds ys → P d y → AreItems P (push_item ds d) (ys ++ y ∷ [])
+pushed : {A : Type 0} (P : Data → A → Type 0) (ds : Items) (d : Data) (ys : List A) (y : A) → AreItems P ds ys → P d y →
+    AreItems P (push_item ds d) (ys ++ y ∷ [])
 pushed P no_items d [] y are is = (is, tt)
 pushed P no_items d (z ∷ zs) y are is = absurd are
 pushed P (item e ds) d [] y are is = absurd are
@@ -125,7 +130,8 @@ first_table : (k : List ℕ) (root : Nodes) → get_member k (close root) ≡ No
 unfolding at_key
 first_table k root none = rw (no_node k root none)
 
-next_table : (k : List ℕ) (done : Items) (last root : Nodes) → at_key k array_table (insert k (open_array done last) root) ≡ Some (insert k (open_array (push_item done (table (close last))) no_nodes) root)
+next_table : (k : List ℕ) (done : Items) (last root : Nodes) → at_key k array_table (insert k (open_array done last) root) ≡ Some
+    (insert k (open_array (push_item done (table (close last))) no_nodes) root)
 unfolding at_key
 next_table k done last root =
     rw (get_node-insert k (open_array done last) root, replace-insert k (open_array done last) (open_array (push_item done (table (close last))) no_nodes) root)
@@ -154,14 +160,17 @@ module _ {A : Type 0} (f : A → List Pair) (P : Members → A → Type 0) where
       let (n, made, chain) = filled (f x) no_nodes is.pairs is.apart (all_new (f x)) in
       (n, rw made (none_under (f x) n is.pairs), is.reads (close n) chain)
 
-  more_read : (xs : List A) (k : List ℕ) (done : Items) (last root : Nodes) (ys : List A) → AreRead xs → AreItems (IsTable P) (push_item done (table (close last))) ys
+  more_read : (xs : List A) (k : List ℕ) (done : Items) (last root : Nodes) (ys : List A) → AreRead xs →
+      AreItems (IsTable P) (push_item done (table (close last))) ys
       → (all : Items) × (end : Nodes) × (fill_elements k (tables f xs) (insert k (open_array done last) root) ≡ Some (insert k (open_array all end) root))
       × AreItems (IsTable P) (push_item all (table (close end))) (ys ++ xs)
-  more_read [] k done last root ys are items = (done, last, refl, subst (AreItems (IsTable P) (push_item done (table (close last)))) (sym (append-nil ys)) items)
+  more_read [] k done last root ys are items =
+      (done, last, refl, subst (AreItems (IsTable P) (push_item done (table (close last)))) (sym (append-nil ys)) items)
   more_read (x ∷ xs) k done last root ys are items =
       let next = push_item done (table (close last)) in
       let (n, made, is) = one_read x are.0 in
-      let (all, end, made_all, all_items) = more_read xs k next n root (ys ++ x ∷ []) are.1 (pushed (IsTable P) next (table (close n)) ys x items (close n, refl, is)) in (
+      let (all, end, made_all, all_items) = more_read xs k next n root (ys ++ x ∷ []) are.1
+      (pushed (IsTable P) next (table (close n)) ys x items (close n, refl, is)) in (
         all,
         end,
         rw (next_table k done last root, into_last k next root (fill (keyed (f x))) n made) made_all,
@@ -170,7 +179,8 @@ module _ {A : Type 0} (f : A → List Pair) (P : Members → A → Type 0) where
 
   -- a list of tables is put at its key, where there are some
   pub list_read : (xs : List A) (k : List ℕ) (root : Nodes) → AreRead xs → get_member k (close root) ≡ None
-      → (new : Nodes) × (fill_elements k (tables f xs) root ≡ Some new) × (o : Option Data) × Puts k o (close root) (close new) × MatchOption o (xs ≡ []) (λ d. IsList (IsTable P) d xs)
+      → (new : Nodes) × (fill_elements k (tables f xs) root ≡ Some new) × (o : Option Data) × Puts k o (close root) (close new) × MatchOption o (xs ≡ [])
+      (λ d. IsList (IsTable P) d xs)
   list_read [] k root are none = (root, refl, None, puts_none k (close root), refl)
   list_read (x ∷ xs) k root are none =
       let (n, made, is) = one_read x are.0 in
@@ -187,7 +197,8 @@ from_roots : (o : Option Document) (n : Nodes) → roots o ≡ Some n → (s : L
 from_roots None n is = absurd (none-some n is)
 from_roots (Some doc) n is = (doc.1, ap (λ (m : Nodes). let x : Option Document = Some (m, doc.1) in x) (same_Some doc.0 n is))
 
-pub run_list : (root : Nodes) (s : List (List ℕ)) (k : List ℕ) (ds : Items) (es : List Expression) (n : Nodes) → are_tables ds ≡ true → fill_elements k ds root ≡ Some n
+pub run_list : (root : Nodes) (s : List (List ℕ)) (k : List ℕ) (ds : Items) (es : List Expression) (n : Nodes) → are_tables ds ≡ true →
+    fill_elements k ds root ≡ Some n
     → (t : List (List ℕ)) × (run (root, s) (elements ([], k) ds ++ es) ≡ run (n, t) es)
 unfolding along_header
 run_list root s k ds es n all made =

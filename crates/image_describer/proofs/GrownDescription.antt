@@ -23,10 +23,14 @@ module _ (at : ℕ → ℕ) where
       → first_frame p.owner (content.Root (record { state = state; words = p.words; key = p.key; annex = p.annex; space = fresh_cap c }))
       ≡ first_frame q.owner (content.Root (record { state = state; words = q.words; key = q.key; annex = q.annex; space = fresh_cap c }))
   root_is p q same state c =
-      ap (λ (n : ℕ). first_frame n (content.Root (record { state = state; words = p.words; key = p.key; annex = p.annex; space = fresh_cap c }))) (sym same.owner)
-      ∙ ap (λ (ws : List ℕ). first_frame q.owner (content.Root (record { state = state; words = ws; key = p.key; annex = p.annex; space = fresh_cap c }))) (sym same.words)
-      ∙ ap (λ (n : ℕ). first_frame q.owner (content.Root (record { state = state; words = q.words; key = n; annex = p.annex; space = fresh_cap c }))) (sym same.key)
-      ∙ ap (λ (n : ℕ). first_frame q.owner (content.Root (record { state = state; words = q.words; key = q.key; annex = n; space = fresh_cap c }))) (sym same.annex)
+      ap (λ (n : ℕ). first_frame n (content.Root (record { state = state; words = p.words; key = p.key; annex = p.annex; space = fresh_cap c })))
+      (sym same.owner)
+      ∙ ap (λ (ws : List ℕ). first_frame q.owner (content.Root (record { state = state; words = ws; key = p.key; annex = p.annex; space = fresh_cap c })))
+      (sym same.words)
+      ∙ ap (λ (n : ℕ). first_frame q.owner (content.Root (record { state = state; words = q.words; key = n; annex = p.annex; space = fresh_cap c })))
+      (sym same.key)
+      ∙ ap (λ (n : ℕ). first_frame q.owner (content.Root (record { state = state; words = q.words; key = q.key; annex = n; space = fresh_cap c })))
+      (sym same.annex)
 
   pub root_moved : (p q : ProcessEntry) (f : Frame) → IsMovedProcess at p q → IsDescribedRoot p f → IsDescribedRoot q (moved_frame at f)
   root_moved p q f same is = (
@@ -100,7 +104,8 @@ module _ (d e : Description) (same : IsRenumbered d e) where
   -- the numbers
   pub nodes_named : node_numbers e ≡ node_numbers d
   nodes_named =
-      ap (λ (v : Vec BankEntry Global). map (λ b. b.number) v.items ++ map (λ p. p.root) e.processes.items ++ map (λ p. p.annex) e.processes.items ++ map (λ n. n.number) e.nodes.items) same.banks
+      ap (λ (v : Vec BankEntry Global). map (λ b. b.number) v.items ++ map (λ p. p.root) e.processes.items ++ map (λ p. p.annex) e.processes.items ++ map
+      (λ n. n.number) e.nodes.items) same.banks
       ∙ ap (λ (ns : List ℕ). map (λ b. b.number) d.banks.items ++ ns ++ map (λ p. p.annex) e.processes.items ++ map (λ n. n.number) e.nodes.items)
       (zip_map (IsMovedProcess at) (λ p. p.root) (λ p. p.root) (λ p q is. is.root) d.processes.items e.processes.items same.processes)
       ∙ ap (λ (ns : List ℕ). map (λ b. b.number) d.banks.items ++ map (λ p. p.root) d.processes.items ++ ns ++ map (λ n. n.number) e.nodes.items)
@@ -114,7 +119,8 @@ module _ (d e : Description) (same : IsRenumbered d e) where
   module _ (has : HasNumbers d) (nodes : NamesNodes new.nodes d) (pages : NamesPages old new d) where
     nodes_below : All (λ n. n < new.nodes) (node_numbers d)
     nodes_below =
-        All-append (λ n. n < new.nodes) (map (λ b. b.number) d.banks.items ++ map (λ p. p.root) d.processes.items ++ map (λ p. p.annex) d.processes.items) (map (λ n. n.number) d.nodes.items)
+        All-append (λ n. n < new.nodes) (map (λ b. b.number) d.banks.items ++ map (λ p. p.root) d.processes.items ++ map (λ p. p.annex) d.processes.items)
+        (map (λ n. n.number) d.nodes.items)
         (All-append (λ n. n < new.nodes) (map (λ b. b.number) d.banks.items ++ map (λ p. p.root) d.processes.items) (map (λ p. p.annex) d.processes.items)
         (All-append (λ n. n < new.nodes) (map (λ b. b.number) d.banks.items) (map (λ p. p.root) d.processes.items)
         (All-map (λ n. n < new.nodes) (λ b. b.number) d.banks.items nodes.banks)
@@ -123,7 +129,8 @@ module _ (d e : Description) (same : IsRenumbered d e) where
         (All-map (λ n. n < new.nodes) (λ n. n.number) d.nodes.items nodes.nodes)
 
     page_range : (p : PageEntry) → Contains d.pages.items p → (old.nodes ≤ p.number) × (p.number < object_count old)
-    page_range p there = All-contains (λ (k : ℕ). (old.nodes ≤ k) × (k < object_count old)) (page_numbers d) p.number has.pages (contains_map (λ q. q.number) p d.pages.items there)
+    page_range p there = All-contains (λ (k : ℕ). (old.nodes ≤ k) × (k < object_count old)) (page_numbers d) p.number has.pages
+        (contains_map (λ q. q.number) p d.pages.items there)
 
     page_fits : (p : PageEntry) → Contains d.pages.items p → at p.number < object_count new
     page_fits p there = All-contains (λ (q : PageEntry). at q.number < object_count new) d.pages.items p pages there
@@ -136,7 +143,8 @@ module _ (d e : Description) (same : IsRenumbered d e) where
         (omega (arith, is), page_fits p there)))
 
     pages_distinct : AreDistinct (map (λ p. at p.number) d.pages.items)
-    pages_distinct = distinct_other (λ p. p.number) (λ p. at p.number) d.pages.items (distinct_rest (node_numbers d) (page_numbers d) has.distinct) (λ p q here there is.
+    pages_distinct = distinct_other (λ p. p.number) (λ p. at p.number) d.pages.items (distinct_rest (node_numbers d) (page_numbers d) has.distinct)
+        (λ p q here there is.
         let one = page_range p here in
         let other = page_range q there in
         let one_is = page_moves old new p.number one.0 one.1 in
@@ -149,7 +157,8 @@ module _ (d e : Description) (same : IsRenumbered d e) where
       pages = subst (All (λ n. (new.nodes ≤ n) × (n < object_count new))) (sym pages_named) pages_above;
       distinct = subst (λ (ns : List ℕ). AreDistinct (ns ++ page_numbers e)) (sym nodes_named)
           (subst (λ (ms : List ℕ). AreDistinct (node_numbers d ++ ms)) (sym pages_named)
-          (distinct_both (node_numbers d) (map (λ p. at p.number) d.pages.items) (distinct_first (node_numbers d) (page_numbers d) has.distinct) pages_distinct (λ n left right.
+          (distinct_both (node_numbers d) (map (λ p. at p.number) d.pages.items) (distinct_first (node_numbers d) (page_numbers d) has.distinct) pages_distinct
+          (λ n left right.
           let below = All-contains (λ (k : ℕ). k < new.nodes) (node_numbers d) n nodes_below left in
           let above = All-contains (λ (k : ℕ). (new.nodes ≤ k) × (k < object_count new)) (map (λ p. at p.number) d.pages.items) n pages_above right in
           omega (arith, below, above.0))));
@@ -170,7 +179,8 @@ module _ (d e : Description) (same : IsRenumbered d e) where
 
       banks_grown : All (λ b. frame_at (plain_frames vs) b.number ≡ first_frame b.owner (content.Bank b.limit)) d.banks.items
       banks_grown = all_from (λ (b : BankEntry). frame_at (plain_frames vs) b.number ≡ first_frame b.owner (content.Bank b.limit)) d.banks.items (λ b there.
-          entry_frame b.number (first_frame b.owner (content.Bank b.limit)) (in_range d (OfBank b) has there) (All-contains (λ (c : BankEntry). c.number < new.nodes) d.banks.items b nodes.banks there)
+          entry_frame b.number (first_frame b.owner (content.Bank b.limit)) (in_range d (OfBank b) has there)
+          (All-contains (λ (c : BankEntry). c.number < new.nodes) d.banks.items b nodes.banks there)
           (described_of d (plain_frames os) (OfBank b) is there))
 
       abbrev RootOk : ProcessEntry → Type 0
@@ -216,7 +226,8 @@ module _ (d e : Description) (same : IsRenumbered d e) where
           )))
 
       abbrev PageOk : PageEntry → Type 0
-      PageOk p = IsDescribedPage p (frame_at (plain_frames os) p.number) × (old.nodes ≤ p.number) × (p.number < object_count old) × (at p.number < object_count new)
+      PageOk p = IsDescribedPage p (frame_at (plain_frames os) p.number) × (old.nodes ≤ p.number) × (p.number < object_count old) ×
+          (at p.number < object_count new)
 
       pages_grown : All (λ p. IsDescribedPage p (frame_at (plain_frames vs) p.number)) e.pages.items
       pages_grown = zip_all (IsMovedPage at) PageOk (λ (p : PageEntry). IsDescribedPage p (frame_at (plain_frames vs) p.number))
@@ -229,7 +240,8 @@ module _ (d e : Description) (same : IsRenumbered d e) where
           (described_of d (plain_frames os) (OfPage p) is there, range.0, range.1, page_fits p there)))
 
       -- what is named of the number from which an object comes is named there
-      comes_named : (m : ℕ) → m < object_count new → Contains (node_numbers d ++ page_numbers d) (origin old new m) → Contains (node_numbers e ++ page_numbers e) m
+      comes_named : (m : ℕ) → m < object_count new → Contains (node_numbers d ++ page_numbers d) (origin old new m) →
+          Contains (node_numbers e ++ page_numbers e) m
       comes_named m below there = elim (Contains-append_cases (node_numbers d) (page_numbers d) (origin old new m) there) [
         | inl node ↦
             let small : origin old new m < old.nodes = All-contains (λ (k : ℕ). k < old.nodes) (node_numbers d) (origin old new m) has.nodes node in
@@ -257,7 +269,8 @@ module _ (d e : Description) (same : IsRenumbered d e) where
       pub frames_grown : IsDescribed e (plain_frames vs)
       frames_grown = record {
         count = plain_length vs ∙ grown_length old new os count;
-        banks = subst (λ (v : Vec BankEntry Global). All (λ b. frame_at (plain_frames vs) b.number ≡ first_frame b.owner (content.Bank b.limit)) v.items) (sym same.banks) banks_grown;
+        banks = subst (λ (v : Vec BankEntry Global). All (λ b. frame_at (plain_frames vs) b.number ≡ first_frame b.owner (content.Bank b.limit)) v.items)
+            (sym same.banks) banks_grown;
         roots = roots_grown;
         annexes = annexes_grown;
         nodes = nodes_grown;
@@ -267,16 +280,21 @@ module _ (d e : Description) (same : IsRenumbered d e) where
 
   pub fields_grown : HasFields d → HasFields e
   fields_grown fields = record {
-    processes = zip_all (IsMovedProcess at) IsProcessEntry IsProcessEntry (process_fields at) d.processes.items e.processes.items same.processes fields.processes;
-    nodes = zip_all (IsMovedNode at) (λ (n : NodeEntry). AreSlots 0 n.slots.items) (λ (n : NodeEntry). AreSlots 0 n.slots.items) (node_fields at) d.nodes.items e.nodes.items same.nodes fields.nodes;
-    pages = zip_all (IsMovedPage at) (λ (p : PageEntry). AreWords p.words.items) (λ (p : PageEntry). AreWords p.words.items) (page_fields at) d.pages.items e.pages.items same.pages fields.pages;
+    processes = zip_all (IsMovedProcess at) IsProcessEntry IsProcessEntry (process_fields at) d.processes.items e.processes.items same.processes
+        fields.processes;
+    nodes = zip_all (IsMovedNode at) (λ (n : NodeEntry). AreSlots 0 n.slots.items) (λ (n : NodeEntry). AreSlots 0 n.slots.items) (node_fields at) d.nodes.items
+        e.nodes.items same.nodes fields.nodes;
+    pages = zip_all (IsMovedPage at) (λ (p : PageEntry). AreWords p.words.items) (λ (p : PageEntry). AreWords p.words.items) (page_fields at) d.pages.items
+        e.pages.items same.pages fields.pages;
   }
 
-  rising_pages : (ps : List PageEntry) → ((p : PageEntry) → Contains ps p → (old.nodes ≤ p.number) × (p.number < object_count old)) → AreRising (map (λ p. p.number) ps) → AreRising (map (λ p. at p.number) ps)
+  rising_pages : (ps : List PageEntry) → ((p : PageEntry) → Contains ps p → (old.nodes ≤ p.number) × (p.number < object_count old)) →
+      AreRising (map (λ p. p.number) ps) → AreRising (map (λ p. at p.number) ps)
   rising_pages [] range rising = tt
   rising_pages (p ∷ ps) range rising = (
     All-map (λ n. at p.number < n) (λ q. at q.number) ps (all_from (λ (q : PageEntry). at p.number < at q.number) ps (λ q there.
-        let less : p.number < q.number = All-contains (λ (n : ℕ). p.number < n) (map (λ r. r.number) ps) q.number rising.0 (contains_map (λ r. r.number) q ps there) in
+        let less : p.number < q.number = All-contains (λ (n : ℕ). p.number < n) (map (λ r. r.number) ps) q.number rising.0
+        (contains_map (λ r. r.number) q ps there) in
         let one = range p (contains_here p ps) in
         let other = range q (contains_there q p ps there) in
         let one_is = page_moves old new p.number one.0 one.1 in
@@ -288,14 +306,20 @@ module _ (d e : Description) (same : IsRenumbered d e) where
   pub brief_grown : HasNumbers d → IsBrief d → IsBrief e
   brief_grown has brief = record {
     banks = subst (λ (v : Vec BankEntry Global). AreRising (map (λ b. b.number) v.items)) (sym same.banks) brief.banks;
-    processes = subst AreRising (sym (zip_map (IsMovedProcess at) (λ p. p.root) (λ p. p.root) (λ p q moves. moves.root) d.processes.items e.processes.items same.processes)) brief.processes;
-    nodes = subst AreRising (sym (zip_map (IsMovedNode at) (λ n. n.number) (λ n. n.number) (λ m n moves. moves.number) d.nodes.items e.nodes.items same.nodes)) brief.nodes;
+    processes = subst AreRising
+        (sym (zip_map (IsMovedProcess at) (λ p. p.root) (λ p. p.root) (λ p q moves. moves.root) d.processes.items e.processes.items same.processes))
+        brief.processes;
+    nodes = subst AreRising (sym (zip_map (IsMovedNode at) (λ n. n.number) (λ n. n.number) (λ m n moves. moves.number) d.nodes.items e.nodes.items same.nodes))
+        brief.nodes;
     pages = subst AreRising (sym pages_named) (rising_pages d.pages.items
-        (λ p there. All-contains (λ (k : ℕ). (old.nodes ≤ k) × (k < object_count old)) (page_numbers d) p.number has.pages (contains_map (λ q. q.number) p d.pages.items there)) brief.pages);
+        (λ p there. All-contains (λ (k : ℕ). (old.nodes ≤ k) × (k < object_count old)) (page_numbers d) p.number has.pages
+        (contains_map (λ q. q.number) p d.pages.items there)) brief.pages);
     registers = zip_all (IsMovedProcess at) (λ (p : ProcessEntry). AreBriefSlots p.registers.items) (λ (p : ProcessEntry). AreBriefSlots p.registers.items)
-        (λ p q moves good. subst AreBriefSlots (sym moves.registers) (brief_moved at p.registers.items good)) d.processes.items e.processes.items same.processes brief.registers;
+        (λ p q moves good. subst AreBriefSlots (sym moves.registers) (brief_moved at p.registers.items good)) d.processes.items e.processes.items same.processes
+        brief.registers;
     slots = zip_all (IsMovedNode at) (λ (n : NodeEntry). AreBriefSlots n.slots.items) (λ (n : NodeEntry). AreBriefSlots n.slots.items)
         (λ m n moves good. subst AreBriefSlots (sym moves.slots) (brief_moved at m.slots.items good)) d.nodes.items e.nodes.items same.nodes brief.slots;
     words = zip_all (IsMovedPage at) (λ (p : PageEntry). AreBriefWords p.words.items) (λ (p : PageEntry). AreBriefWords p.words.items)
-        (λ p q moves good. subst (λ (v : Vec WordEntry Global). AreBriefWords v.items) (sym moves.words) good) d.pages.items e.pages.items same.pages brief.words;
+        (λ p q moves good. subst (λ (v : Vec WordEntry Global). AreBriefWords v.items) (sym moves.words) good) d.pages.items e.pages.items same.pages
+        brief.words;
   }

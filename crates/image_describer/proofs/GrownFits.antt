@@ -44,23 +44,29 @@ module _ (old new : Geometry) (d : Description) (w : World) (describes : Describ
 
   pub named_not_free : (e : Entry) → IsOf d e → is_free (content_at w.objects (number_of e)) ≡ false
   named_not_free e there = role_not_free (content_at w.objects (number_of e)) (λ is.
-      entry_not_free e (frame_at (plain_frames w.objects) (number_of e)) (described_of d (plain_frames w.objects) e describes.frames there) (role_is (number_of e) ∙ is))
+      entry_not_free e (frame_at (plain_frames w.objects) (number_of e)) (described_of d (plain_frames w.objects) e describes.frames there)
+      (role_is (number_of e) ∙ is))
 
   pub is_named : (n : ℕ) → is_free (content_at w.objects n) ≡ false → (e : Entry) × IsOf d e × (number_of e ≡ n)
   is_named n some = elim (described_cases d (plain_frames w.objects) n describes.frames) [
     | inl found ↦ (found.0, found.1, found.2)
     | inr blank ↦
-        let free : is_free (content_at w.objects n) ≡ true = free_has_role (content_at w.objects n) (sym (role_is n) ∙ ap (λ (f : Frame). f.header.role) blank) in
+        let free : is_free (content_at w.objects n) ≡ true = free_has_role (content_at w.objects n) (sym (role_is n) ∙ ap (λ (f : Frame). f.header.role) blank)
+        in
         absurd (true≢false (sym free ∙ some))
   ]
 
   nodes_of : (n : ℕ) (e : Entry) → IsOf d e → number_of e ≡ n → n < old.nodes → NamesNodes new.nodes d → n < new.nodes
-  nodes_of n (OfBank b) there is below names = subst (λ (k : ℕ). k < new.nodes) is (All-contains (λ (c : BankEntry). c.number < new.nodes) d.banks.items b names.banks there)
+  nodes_of n (OfBank b) there is below names = subst (λ (k : ℕ). k < new.nodes) is
+      (All-contains (λ (c : BankEntry). c.number < new.nodes) d.banks.items b names.banks there)
   nodes_of n (OfRoot p) there is below names =
-      subst (λ (k : ℕ). k < new.nodes) is (All-contains (λ (q : ProcessEntry). (q.root < new.nodes) × (q.annex < new.nodes)) d.processes.items p names.processes there).0
+      subst (λ (k : ℕ). k < new.nodes) is
+      (All-contains (λ (q : ProcessEntry). (q.root < new.nodes) × (q.annex < new.nodes)) d.processes.items p names.processes there).0
   nodes_of n (OfAnnex p) there is below names =
-      subst (λ (k : ℕ). k < new.nodes) is (All-contains (λ (q : ProcessEntry). (q.root < new.nodes) × (q.annex < new.nodes)) d.processes.items p names.processes there).1
-  nodes_of n (OfNode m) there is below names = subst (λ (k : ℕ). k < new.nodes) is (All-contains (λ (k : NodeEntry). k.number < new.nodes) d.nodes.items m names.nodes there)
+      subst (λ (k : ℕ). k < new.nodes) is
+      (All-contains (λ (q : ProcessEntry). (q.root < new.nodes) × (q.annex < new.nodes)) d.processes.items p names.processes there).1
+  nodes_of n (OfNode m) there is below names = subst (λ (k : ℕ). k < new.nodes) is
+      (All-contains (λ (k : NodeEntry). k.number < new.nodes) d.nodes.items m names.nodes there)
   nodes_of n (OfPage p) there is below names =
       let range = in_range d (OfPage p) describes.numbers there in
       absurd (omega (arith, range.0, is, below, ap (λ (g : Geometry). g.nodes) describes.geometry))
@@ -79,7 +85,8 @@ module _ (old new : Geometry) (d : Description) (w : World) (describes : Describ
       let range = in_range d (OfNode m) describes.numbers there in
       absurd (omega (arith, range, is, above, ap (λ (g : Geometry). g.nodes) describes.geometry))
   pages_of n (OfPage p) there is above names =
-      subst (λ (k : ℕ). moved old new k < object_count new) is (All-contains (λ (q : PageEntry). moved old new q.number < object_count new) d.pages.items p names there)
+      subst (λ (k : ℕ). moved old new k < object_count new) is
+      (All-contains (λ (q : PageEntry). moved old new q.number < object_count new) d.pages.items p names there)
 
   pub nodes_fit : NamesNodes new.nodes d → NodesFit old new w
   nodes_fit names n some below = let found = is_named n some in nodes_of n found.0 found.1 found.2 below names
@@ -92,17 +99,20 @@ module _ (old new : Geometry) (d : Description) (w : World) (describes : Describ
 
   pub fit_nodes : NodesFit old new w → NamesNodes new.nodes d
   fit_nodes fits = record {
-    banks = all_from (λ (b : BankEntry). b.number < new.nodes) d.banks.items (λ b there. fits b.number (named_not_free (OfBank b) there) (below_old b.number (in_range d (OfBank b) describes.numbers there)));
+    banks = all_from (λ (b : BankEntry). b.number < new.nodes) d.banks.items
+        (λ b there. fits b.number (named_not_free (OfBank b) there) (below_old b.number (in_range d (OfBank b) describes.numbers there)));
     processes = all_from (λ (p : ProcessEntry). (p.root < new.nodes) × (p.annex < new.nodes)) d.processes.items (λ p there. (
       fits p.root (named_not_free (OfRoot p) there) (below_old p.root (in_range d (OfRoot p) describes.numbers there)),
       fits p.annex (named_not_free (OfAnnex p) there) (below_old p.annex (in_range d (OfAnnex p) describes.numbers there)),
     ));
-    nodes = all_from (λ (n : NodeEntry). n.number < new.nodes) d.nodes.items (λ n there. fits n.number (named_not_free (OfNode n) there) (below_old n.number (in_range d (OfNode n) describes.numbers there)));
+    nodes = all_from (λ (n : NodeEntry). n.number < new.nodes) d.nodes.items
+        (λ n there. fits n.number (named_not_free (OfNode n) there) (below_old n.number (in_range d (OfNode n) describes.numbers there)));
   }
 
   pub fit_pages : PagesFit old new w → NamesPages old new d
   fit_pages fits = all_from (λ (p : PageEntry). moved old new p.number < object_count new) d.pages.items (λ p there.
-      fits p.number (named_not_free (OfPage p) there) (subst (λ (g : Geometry). g.nodes ≤ p.number) describes.geometry (in_range d (OfPage p) describes.numbers there).0))
+      fits p.number (named_not_free (OfPage p) there)
+      (subst (λ (g : Geometry). g.nodes ≤ p.number) describes.geometry (in_range d (OfPage p) describes.numbers there).0))
 
   -- a description isn't renumbered for what its world has no image for
   pub not_suited : (why : GrowthFault) → IsNotRenumbered d new why → IsUnsuited old new w why

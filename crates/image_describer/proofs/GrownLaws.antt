@@ -47,7 +47,8 @@ module _ (at : ℕ → ℕ) (stays : (n : ℕ) → at n ≡ n) where
   content_stays (content.Page words) = refl
   content_stays (content.Node slots) = ap (λ (cs : List Capability). let x : Content Capability = content.Node cs in x) (slots_stay slots)
   content_stays (content.Root r) =
-      ap (λ (c : Capability). let x : Content Capability = content.Root (record { state = r.state; words = r.words; key = r.key; annex = r.annex; space = c }) in x) (capability_stays r.space)
+      ap (λ (c : Capability). let x : Content Capability = content.Root (record { state = r.state; words = r.words; key = r.key; annex = r.annex; space = c })
+      in x) (capability_stays r.space)
   content_stays (content.Annex registers) = ap (λ (cs : List Capability). let x : Content Capability = content.Annex cs in x) (slots_stay registers)
   content_stays (content.Bank limit) = refl
 

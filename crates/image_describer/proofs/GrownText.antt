@@ -12,7 +12,8 @@ either_spelled : (b : Bool) (rs ss : List NumberRange) → All SpellsRange rs �
 either_spelled true rs ss one other = one
 either_spelled false rs ss one other = other
 
-module _ (d e : Description) (same : IsRenumbered d e) (limits : IsGeometry e.geometry) (few : object_count d.geometry ≤ 8192) (pages : NamesPages d.geometry e.geometry d) (spelled : CanBeSpelled d) where
+module _ (d e : Description) (same : IsRenumbered d e) (limits : IsGeometry e.geometry) (few : object_count d.geometry ≤ 8192)
+    (pages : NamesPages d.geometry e.geometry d) (spelled : CanBeSpelled d) where
   abbrev at : ℕ → ℕ
   at = moved d.geometry e.geometry
 
@@ -23,7 +24,8 @@ module _ (d e : Description) (same : IsRenumbered d e) (limits : IsGeometry e.ge
   whole_spelled =
       All-cons SpellsRange (record { first = 0; count = e.geometry.nodes }) (record { first = e.geometry.nodes; count = e.geometry.pages } ∷ [])
       (omega arith, omega (arith, limits.most_nodes))
-      (All-cons SpellsRange (record { first = e.geometry.nodes; count = e.geometry.pages }) [] (omega (arith, limits.most_nodes), omega (arith, limits.most_pages)) (All-nil SpellsRange))
+      (All-cons SpellsRange (record { first = e.geometry.nodes; count = e.geometry.pages }) []
+      (omega (arith, limits.most_nodes), omega (arith, limits.most_pages)) (All-nil SpellsRange))
 
   process_spelled : (p q : ProcessEntry) → IsMovedProcess at p q → SpellsProcess p → SpellsProcess q
   process_spelled p q moves is = record {
@@ -62,7 +64,8 @@ module _ (d e : Description) (same : IsRenumbered d e) (limits : IsGeometry e.ge
     layout = subst IsShort (sym same.layout) spelled.layout;
     age = subst IsShort (sym same.age) spelled.age;
     ranges = subst (All SpellsRange) (sym same.ranges)
-        (either_spelled (d.geometry.nodes == e.geometry.nodes && d.geometry.pages == e.geometry.pages) d.ranges.items (whole_ranges e.geometry) spelled.ranges whole_spelled);
+        (either_spelled (d.geometry.nodes == e.geometry.nodes && d.geometry.pages == e.geometry.pages) d.ranges.items (whole_ranges e.geometry) spelled.ranges
+        whole_spelled);
     banks = subst (λ (v : Vec BankEntry Global). All SpellsBank v.items) (sym same.banks) spelled.banks;
     processes = zip_all (IsMovedProcess at) SpellsProcess SpellsProcess process_spelled d.processes.items e.processes.items same.processes spelled.processes;
     nodes = zip_all (IsMovedNode at) SpellsNode SpellsNode node_spelled d.nodes.items e.nodes.items same.nodes spelled.nodes;

@@ -48,12 +48,14 @@ module _ (old new : Geometry) where
     arrived n is = grown_inside (moved old new n) is.0 ∙ ap (λ (k : ℕ). moved_object (moved old new) (object_at os k)) is.1
 
     -- the same of frames
-    pub frame_arrived : (n : ℕ) → Arrives n → frame_at (plain_frames grown_objects) (moved old new n) ≡ moved_frame (moved old new) (frame_at (plain_frames os) n)
+    pub frame_arrived : (n : ℕ) → Arrives n → frame_at (plain_frames grown_objects) (moved old new n) ≡ moved_frame (moved old new)
+        (frame_at (plain_frames os) n)
     frame_arrived n is =
         plain_at grown_objects (moved old new n) ∙ ap (λ (o : Object). plain_frame o) (arrived n is) ∙ plain_moved (moved old new) (object_at os n)
         ∙ ap (λ (f : Frame). moved_frame (moved old new) f) (sym (plain_at os n))
 
-    pub frame_inside : (m : ℕ) → m < object_count new → frame_at (plain_frames grown_objects) m ≡ moved_frame (moved old new) (frame_at (plain_frames os) (origin m))
+    pub frame_inside : (m : ℕ) → m < object_count new → frame_at (plain_frames grown_objects) m ≡ moved_frame (moved old new)
+        (frame_at (plain_frames os) (origin m))
     frame_inside m inside =
         plain_at grown_objects m ∙ ap (λ (o : Object). plain_frame o) (grown_inside m inside) ∙ plain_moved (moved old new) (object_at os (origin m))
         ∙ ap (λ (f : Frame). moved_frame (moved old new) f) (sym (plain_at os (origin m)))

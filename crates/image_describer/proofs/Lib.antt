@@ -11,7 +11,6 @@ pub mod GrownRanges
 pub mod GrownText
 pub mod GrownWorld
 mod Lines
-mod Looking
 mod Moved
 mod Naming
 pub mod Pairs

@@ -56,7 +56,8 @@ module _ {A : Type 0} (f : A → List ℕ) (g : A → Data) (levels : ℕ) where
   further (x ∷ xs) spell = (
     f x,
     flat_map (λ y. codes ", " ++ f y) xs ++ codes "]",
-    append_assoc (codes ", " ++ f x) (flat_map (λ y. codes ", " ++ f y) xs) (codes "]") ∙ append_assoc (codes ", ") (f x) (flat_map (λ y. codes ", " ++ f y) xs ++ codes "]"),
+    append_assoc (codes ", " ++ f x) (flat_map (λ y. codes ", " ++ f y) xs) (codes "]") ∙
+        append_assoc (codes ", ") (f x) (flat_map (λ y. codes ", " ++ f y) xs ++ codes "]"),
     spell.0.text_is,
     further xs spell.1,
   )
@@ -143,7 +144,8 @@ are_pairs [] (p ∷ ps) spell = absurd spell
 are_pairs (f ∷ fs) [] spell = absurd spell
 are_pairs (f ∷ fs) (p ∷ ps) spell = (pair_option f.1 p.1 spell.2, are_pairs fs ps spell.3)
 
-line_of_field : (started : Bool) (k l : List ℕ) (o : Option (List ℕ)) (d : Option Data) (ms : Members) (text : List ℕ) → k ≡ l → key_text l ≡ l → SpellsOption o d
+line_of_field : (started : Bool) (k l : List ℕ) (o : Option (List ℕ)) (d : Option Data) (ms : Members) (text : List ℕ) → k ≡ l → key_text l ≡ l →
+    SpellsOption o d
     → ((begun : Bool) → IsLinesText false begun (pairs ms) text) → IsLinesText false started (pairs (member_or l d ms)) (field_line (k, o) ++ text)
 line_of_field started k l None None ms text same bare spells rest = rest started
 line_of_field started k l None (Some d) ms text same bare spells rest = absurd spells
@@ -168,7 +170,8 @@ lines_of_fields (f ∷ fs) [] started spell = absurd spell
 lines_of_fields (f ∷ fs) (p ∷ ps) started spell =
     line_of_field started f.0 p.0 f.1 p.1 (keyed ps) (field_lines fs) spell.0 spell.1 spell.2 (λ begun. lines_of_fields fs ps begun spell.3)
 
-printed_field : (l : List ℕ) (o : Option (List ℕ)) (d : Option Data) (ms : Members) → SpellsOption o d → AllPrinted (pairs ms) → AllPrinted (pairs (member_or l d ms))
+printed_field : (l : List ℕ) (o : Option (List ℕ)) (d : Option Data) (ms : Members) → SpellsOption o d → AllPrinted (pairs ms) →
+    AllPrinted (pairs (member_or l d ms))
 printed_field l None None ms spells rest = rest
 printed_field l None (Some d) ms spells rest = absurd spells
 printed_field l (Some value) None ms spells rest = absurd spells
@@ -182,7 +185,8 @@ printed_fields (f ∷ fs) (p ∷ ps) spell = printed_field p.0 f.1 p.1 (keyed ps
 
 -- ---- lists of lines
 
-pub append_lines : (started : Bool) (es fs : List Expression) (t u : List ℕ) → (es ≡ [] → started ≡ true) → IsLinesText false started es t → IsLinesText false true fs u
+pub append_lines : (started : Bool) (es fs : List Expression) (t u : List ℕ) → (es ≡ [] → started ≡ true) → IsLinesText false started es t →
+    IsLinesText false true fs u
     → IsLinesText false started (es ++ fs) (t ++ u)
 append_lines started [] fs t u starts one other =
     subst (λ (b : Bool). IsLinesText false b fs (t ++ u)) (sym (starts refl))
@@ -197,7 +201,8 @@ append_printed (e ∷ es) fs one other = (one.0, append_printed es fs one.1 othe
 
 -- ---- tables
 
-module _ {A : Type 0} (f : A → List Pair) (g : A → List Field) (t : A → List ℕ) (name : List ℕ) (bare : key_text name ≡ name) (is : (x : A) → t x ≡ begin_line name ++ field_lines (g x)) where
+module _ {A : Type 0} (f : A → List Pair) (g : A → List Field) (t : A → List ℕ) (name : List ℕ) (bare : key_text name ≡ name)
+    (is : (x : A) → t x ≡ begin_line name ++ field_lines (g x)) where
   abbrev pub AllFields : List A → Type 0
   AllFields [] = Unit {0}
   AllFields (x ∷ xs) = SpellFields (g x) (f x) × AllFields xs

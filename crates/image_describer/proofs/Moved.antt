@@ -107,21 +107,25 @@ module _ (at : ℕ → ℕ) where
     places = All-map (λ (s : SlotEntry). (first ≤ s.index) × (s.index < 32)) (moved_slot at) es are.places;
     distinct = subst AreDistinct (sym (indexes_moved es)) are.distinct;
     held = All-map (λ (s : SlotEntry). IsSomeCapability s.capability) (moved_slot at) es
-        (All-weaker (λ (s : SlotEntry). IsSomeCapability s.capability) (λ (s : SlotEntry). IsSomeCapability (moved_held at s.capability)) (λ s h. some_moved s.capability h) es are.held);
+        (All-weaker (λ (s : SlotEntry). IsSomeCapability s.capability) (λ (s : SlotEntry). IsSomeCapability (moved_held at s.capability))
+        (λ s h. some_moved s.capability h) es are.held);
   }
 
   pub spelled_moved : ((n : ℕ) → IsWide n → IsWide (at n)) → (es : List SlotEntry) → All SpellsSlot es → All SpellsSlot (map (moved_slot at) es)
   spelled_moved on es all =
-      All-map SpellsSlot (moved_slot at) es (All-weaker SpellsSlot (λ (s : SlotEntry). SpellsSlot (moved_slot at s)) (λ s h. (h.0, wide_moved on s.capability h.1)) es all)
+      All-map SpellsSlot (moved_slot at) es
+      (All-weaker SpellsSlot (λ (s : SlotEntry). SpellsSlot (moved_slot at s)) (λ s h. (h.0, wide_moved on s.capability h.1)) es all)
 
   pub brief_moved : (es : List SlotEntry) → AreBriefSlots es → AreBriefSlots (map (moved_slot at) es)
   brief_moved es brief = (
     subst AreRising (sym (indexes_moved es)) brief.0,
     All-map (λ (s : SlotEntry). s.capability ≢ Some Void) (moved_slot at) es
-        (All-weaker (λ (s : SlotEntry). s.capability ≢ Some Void) (λ (s : SlotEntry). moved_held at s.capability ≢ Some Void) (λ s h. not_void_moved s.capability h) es brief.1),
+        (All-weaker (λ (s : SlotEntry). s.capability ≢ Some Void) (λ (s : SlotEntry). moved_held at s.capability ≢ Some Void)
+        (λ s h. not_void_moved s.capability h) es brief.1),
   )
 
-  chosen : (b : Bool) (c d : Capability) (o : Option Capability) → c ≡ moved_capability at d → (if b then unwrap_or (moved_held at o) Void else c) ≡ moved_capability at (if b then unwrap_or o Void else d)
+  chosen : (b : Bool) (c d : Capability) (o : Option Capability) → c ≡ moved_capability at d →
+      (if b then unwrap_or (moved_held at o) Void else c) ≡ moved_capability at (if b then unwrap_or o Void else d)
   chosen true c d o is = held_moved o
   chosen false c d o is = is
 
@@ -150,14 +154,18 @@ module _ (at : ℕ → ℕ) where
   fresh_moved (c ∷ cs) = ap (λ (ds : List Cap). fresh_cap (moved_capability at c) ∷ ds) (fresh_moved cs)
 
   plain_content : (owner : ℕ) (c : Content Capability)
-      → plain_frame (record { owner = owner; content = map_content (moved_capability at) c }) ≡ moved_frame (plain_frame (record { owner = owner; content = c }))
+      → plain_frame (record { owner = owner; content = map_content (moved_capability at) c }) ≡ moved_frame
+      (plain_frame (record { owner = owner; content = c }))
   plain_content owner content.Free = refl
   plain_content owner (content.Page words) = refl
   plain_content owner (content.Node slots) =
-      ap (λ (cs : List Cap). let f : Frame = record { header = (plain_frame (record { owner = owner; content = content.Node slots })).header; content = content.Node cs } in f) (fresh_moved slots)
+      ap (λ (cs : List Cap). let f : Frame =
+      record { header = (plain_frame (record { owner = owner; content = content.Node slots })).header; content = content.Node cs } in f) (fresh_moved slots)
   plain_content owner (content.Root r) = refl
   plain_content owner (content.Annex registers) =
-      ap (λ (cs : List Cap). let f : Frame = record { header = (plain_frame (record { owner = owner; content = content.Annex registers })).header; content = content.Annex cs } in f) (fresh_moved registers)
+      ap (λ (cs : List Cap). let f : Frame =
+      record { header = (plain_frame (record { owner = owner; content = content.Annex registers })).header; content = content.Annex cs } in f)
+      (fresh_moved registers)
   plain_content owner (content.Bank limit) = refl
 
   pub plain_moved : (o : Object) → plain_frame (moved_object at o) ≡ moved_frame (plain_frame o)

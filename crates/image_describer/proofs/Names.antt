@@ -1,12 +1,12 @@
 -- The names that the proofs here cite: of other crates, and of the definitions of this one.
-pub use Rattle.capability.proofs.Frames.{annex_used, known_used, object_past}
-pub use Rattle.capability.proofs.Keeping.{keepable_later, keepable_roles}
+pub use Rattle.capability.proofs.FrameLists.{annex_used, known_used, object_past}
+pub use Rattle.capability.proofs.Keeping.{keepable_later}
 pub use Rattle.capability.proofs.Mapped.{kind_map, mapped}
 pub use Rattle.capability.proofs.Roles.{role_read}
-pub use Rattle.capability.proofs.SnapshotLaws.{only_reads_twice}
-pub use Rattle.capability.specs.Parts.{AreSound, HaveTheirRoles, OnlyFetches, OnlyReads, Parts, frames_of, objects_in}
+pub use Rattle.capability.specs.Parts.{Parts, frames_of, objects_in}
 pub use Rattle.capability.specs.Plain.{fresh_cap}
-pub use Rattle.capability.specs.declared.present.PrepareFault.{PrepareFault}
+pub use Rattle.consistency.proofs.Looking.{HasLooked}
+pub use Rattle.consistency.proofs.Tables.{frames_looked}
 pub use Rattle.consistency.proofs.Unsound.{sound_named}
 pub use Rattle.described_world.proofs.DescribedOnce.{described_once}
 pub use Rattle.described_world.proofs.Entries.{IsFrameOf, IsOf, described_cases, described_of, in_range}
@@ -35,7 +35,7 @@ pub use Rattle.layout.specs.declared.version.Version.{Version}
 pub use Rattle.layout.specs.declared.version.Version.TheVariants.{One, Two}
 pub use Rattle.model.specs.Capability.{IsWellFormed, named}
 pub use Rattle.model.specs.Frame.{blank_frame, conveyed, current_count, frame_at, header_at, headers, object_of, void_held}
-unfoldable pub use Rattle.model.specs.Frame.{frames_in, objects_of}
+unfoldable pub use Rattle.model.specs.Frame.{objects_of}
 pub use Rattle.model.specs.Keepable.{AreCurrent, AreKeepable, AreKeptSlots, AreKeptWords, Follows, IsCurrent, IsKeepable, IsKeptCap, IsSoundFrames, MayBeKept}
 pub use Rattle.model.specs.Keepable.{caps_in, world_at}
 pub use Rattle.model.specs.Object.{free, is_annex, is_bank, is_free, is_root, map_content, role_of, root_in, slots_in}
@@ -76,7 +76,7 @@ pub use Rattle.std.proofs.lemmas.Str.Parse.{digit_from_value}
 pub use Rattle.std.specs.Cmp.Lexicographic.{slice_cmp}
 pub use Rattle.std.specs.List.{All, AllZip, Contains, flat_map, join_by, list_all, list_any, range_with_len}
 pub use Rattle.std.specs.Ordering.{match_ordering}
-pub use Rattle.std.specs.Prelude.{Err, IsErrOf, IsTrue, Ok, Result, Vec}
+pub use Rattle.std.specs.Prelude.{IsTrue, Vec}
 pub use Rattle.std.specs.Str.Parse.{AllDigits}
 pub use Rattle.std.specs.declared.alloc.Global.{Global}
 pub use Rattle.toml.proofs.Fill.{Exists, fill, fill_elements, fill_pairs, fill_sections, roots, run-append, run_elements, run_pairs}

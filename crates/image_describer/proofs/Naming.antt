@@ -54,7 +54,8 @@ module _ {E V : Type 0} (index : E → ℕ) (value : E → V) (default : V) wher
   }
 
   -- another is named
-  pub names_more : (xs : List V) (i : ℕ) (es : List E) (e : E) → NamesBefore xs i es → i < length xs → index e ≡ i → value e ≡ slice_index_or xs i default → value e ≢ default
+  pub names_more : (xs : List V) (i : ℕ) (es : List E) (e : E) → NamesBefore xs i es → i < length xs → index e ≡ i → value e ≡ slice_index_or xs i default →
+      value e ≢ default
       → NamesBefore xs (i + 1) (es ++ e ∷ [])
   names_more xs i es e names inside at is some = record {
     each = λ j under. elim (cases_lt j i) [
@@ -64,7 +65,8 @@ module _ {E V : Type 0} (index : E → ℕ) (value : E → V) (default : V) wher
           subst (λ k. first_named index value default (es ++ e ∷ []) k ≡ slice_index_or xs k default) same (first_last es e i names.below at ∙ is)
     ];
     some = All-push (λ f. value f ≢ default) es e names.some some;
-    below = All-push (λ f. index f < i + 1) es e (All-weaker (λ f. index f < i) (λ f. index f < i + 1) (λ f under. omega (arith, under)) es names.below) (omega (arith, at));
+    below = All-push (λ f. index f < i + 1) es e (All-weaker (λ f. index f < i) (λ f. index f < i + 1) (λ f under. omega (arith, under)) es names.below)
+        (omega (arith, at));
     within = All-push (λ f. index f < length xs) es e names.within (omega (arith, at, inside));
     rising = subst AreRising (sym (map_both index es (e ∷ [])))
         (rising_more (map index es) (index e) names.rising
@@ -72,7 +74,8 @@ module _ {E V : Type 0} (index : E → ℕ) (value : E → V) (default : V) wher
   }
 
   -- the next one is named or left out
-  pub names_next : (xs : List V) (i : ℕ) (es next : List E) (o : Option E) (x : V) → NamesBefore xs i es → i < length xs → x ≡ slice_index_or xs i default → MayName index value default i x o
+  pub names_next : (xs : List V) (i : ℕ) (es next : List E) (o : Option E) (x : V) → NamesBefore xs i es → i < length xs → x ≡ slice_index_or xs i default →
+      MayName index value default i x o
       → next ≡ es ++ option_to_list o → NamesBefore xs (i + 1) next
   names_next xs i es next None x names inside is may made =
       subst (NamesBefore xs (i + 1)) (sym (made ∙ append-nil es)) (names_less xs i es names (sym is ∙ may))

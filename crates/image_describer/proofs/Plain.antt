@@ -49,14 +49,16 @@ module _ (hs : List ObjectHeader) (same : (c : Capability) → conveyed hs (fres
   content_same (content.Page words) = refl
   content_same (content.Node slots) = ap (λ (cs : List Capability). let x : Content Capability = content.Node cs in x) (caps_same slots)
   content_same (content.Root r) =
-      ap (λ (c : Capability). let x : Content Capability = content.Root (record { state = r.state; words = r.words; key = r.key; annex = r.annex; space = c }) in x) (same r.space)
+      ap (λ (c : Capability). let x : Content Capability = content.Root (record { state = r.state; words = r.words; key = r.key; annex = r.annex; space = c })
+      in x) (same r.space)
   content_same (content.Annex registers) = ap (λ (cs : List Capability). let x : Content Capability = content.Annex cs in x) (caps_same registers)
   content_same (content.Bank limit) = refl
 
   objects_same : (us : List Object) → map (object_of hs) (map plain_frame us) ≡ us
   objects_same [] = refl
   objects_same (u ∷ us) =
-      ap (λ (c : Content Capability). let x : Object = record { owner = u.owner; content = c } in x ∷ map (object_of hs) (map plain_frame us)) (content_same u.content)
+      ap (λ (c : Content Capability). let x : Object = record { owner = u.owner; content = c } in x ∷ map (object_of hs) (map plain_frame us))
+      (content_same u.content)
       ∙ ap (λ (vs : List Object). u ∷ vs) (objects_same us)
 
 pub objects_plain : (os : List Object) → objects_of (plain_frames os) ≡ os
@@ -96,7 +98,8 @@ module _ (g : Geometry) (age : ℕ) (hs : List ObjectHeader) where
         (All-weaker (IsKeptCap g age) (λ (c : Cap). IsKeptCap g age (fresh_cap (conveyed hs c))) kept_plain slots kept.each));
   }
 
-  first_plain : (registers : List Cap) → slice_index_or registers 0 void_held ≡ void_held → slice_index_or (map fresh_cap (map (conveyed hs) registers)) 0 void_held ≡ void_held
+  first_plain : (registers : List Cap) → slice_index_or registers 0 void_held ≡ void_held →
+      slice_index_or (map fresh_cap (map (conveyed hs) registers)) 0 void_held ≡ void_held
   first_plain registers void =
       get_or-map fresh_cap (map (conveyed hs) registers) 0 Void
       ∙ ap fresh_cap (get_or-map (conveyed hs) registers 0 void_held ∙ ap (conveyed hs) void)

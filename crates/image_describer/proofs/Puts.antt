@@ -76,7 +76,8 @@ only_at keys Equal k l x y ns next known all rest = all
 only_at keys Greater k l x y ns next known all rest =
     both (list_any (same_key l) keys) (has_only keys (close next)) (first_true (list_any (same_key l) keys) (has_only keys (close ns)) all) rest
 
-inserted_only : (keys : List (List ℕ)) (k : List ℕ) (x : Node) (ns : Nodes) → IsTrue (list_any (same_key k) keys) → IsTrue (has_only keys (close ns)) → IsTrue (has_only keys (close (insert k x ns)))
+inserted_only : (keys : List (List ℕ)) (k : List ℕ) (x : Node) (ns : Nodes) → IsTrue (list_any (same_key k) keys) → IsTrue (has_only keys (close ns)) →
+    IsTrue (has_only keys (close (insert k x ns)))
 inserted_only keys k x no_nodes known all = both (list_any (same_key k) keys) true known refl
 inserted_only keys k x (node l y ns) known all =
     only_at keys (slice_cmp nat_cmp k l) k l x y ns (insert k x ns) known all

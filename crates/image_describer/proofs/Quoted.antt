@@ -26,7 +26,8 @@ safe_digit c least most = grind (arith, nat_tests, least, most)
 
 safe_digits : (ds : List ℕ) → AllDigits 10 ds → are_safe ds ≡ true
 safe_digits [] digits = refl
-safe_digits (c ∷ cs) digits = let range = digit_from_value c digits.0 in rw (safe_digit c (omega (arith, range)) (omega (arith, range))) (safe_digits cs digits.1)
+safe_digits (c ∷ cs) digits = let range = digit_from_value c digits.0 in rw (safe_digit c (omega (arith, range)) (omega (arith, range)))
+    (safe_digits cs digits.1)
 
 safe_decimal : (n : ℕ) → n < 2 ^ 64 → are_safe (decimal n) ≡ true
 safe_decimal n small = safe_digits (decimal n) (decimal_is_IsNumeral n small).0.1
@@ -96,7 +97,8 @@ safe_capability (Number n) well small = safe_decimal n well
 safe_capability (Page o a) well small = safe_append (decimal o) (access_text a) (safe_decimal o small) (safe_access a)
 safe_capability (Node o a) well small = safe_append (decimal o) (access_text a) (safe_decimal o small) (safe_access a)
 safe_capability (Space o h a) well small =
-    safe_append (decimal o ++ 32 ∷ decimal h) (access_text a) (safe_append (decimal o) (32 ∷ decimal h) (safe_decimal o small) (safe_decimal h (omega (arith, well.1)))) (safe_access a)
+    safe_append (decimal o ++ 32 ∷ decimal h) (access_text a)
+    (safe_append (decimal o) (32 ∷ decimal h) (safe_decimal o small) (safe_decimal h (omega (arith, well.1)))) (safe_access a)
 safe_capability (Process p) well small = safe_decimal p small
 safe_capability (Start p key) well small = safe_append (decimal p) (32 ∷ decimal key) (safe_decimal p small) (safe_decimal key (omega (arith, well)))
 safe_capability (Resume p) well small = safe_decimal p small

@@ -29,7 +29,8 @@ no_skip : (text : List ℕ) → (first text == 239) ≡ false → skip_bom text 
 unfolding skip_bom
 no_skip text is = rw is
 
-parsed : (es : List Expression) (text : List ℕ) (n : Nodes) (s : List (List ℕ)) → IsLinesText false false es text → AllPrinted es → run (no_nodes, []) es ≡ Some (n, s) → parse_document text ≡ Some (close n)
+parsed : (es : List Expression) (text : List ℕ) (n : Nodes) (s : List (List ℕ)) → IsLinesText false false es text → AllPrinted es →
+    run (no_nodes, []) es ≡ Some (n, s) → parse_document text ≡ Some (close n)
 parsed es text n s is printed ran =
     let read = read_lines false false es text text (no_nodes, []) (suc (length text)) is printed refl (omega arith) in
     document_some text (n, s) (rw (no_skip text (not_bom false es text is printed)) (read ∙ ran))
@@ -37,7 +38,8 @@ parsed es text n s is printed ran =
 -- parts of a text, one behind the other
 joined : (a b c d e : List ℕ) → a ++ (b ++ (c ++ (d ++ (e ++ [])))) ≡ a ++ b ++ c ++ d ++ e
 joined a b c d e =
-    ap (λ (t : List ℕ). a ++ (b ++ (c ++ (d ++ t)))) (append-nil e) ∙ sym (append_assoc (a ++ b ++ c) d e ∙ append_assoc (a ++ b) c (d ++ e) ∙ append_assoc a b (c ++ (d ++ e)))
+    ap (λ (t : List ℕ). a ++ (b ++ (c ++ (d ++ t)))) (append-nil e) ∙
+    sym (append_assoc (a ++ b ++ c) d e ∙ append_assoc (a ++ b) c (d ++ e) ∙ append_assoc a b (c ++ (d ++ e)))
 
 -- ---- a description
 
@@ -51,7 +53,8 @@ module _ {A : Type 0} (f : A → List Pair) (P : Members → A → Type 0) (May 
   are_read [] may = tt
   are_read (x ∷ xs) may = (one x may.0, are_read xs may.1)
 
-module _ {A : Type 0} (f : A → List Pair) (g : A → List (List ℕ × Option (List ℕ))) (t : A → List ℕ) (name : List ℕ) (is_bare : key_text name ≡ name) (is : (x : A) → t x ≡ codes "\n[[" ++ name ++ codes "]]\n" ++ field_lines (g x))
+module _ {A : Type 0} (f : A → List Pair) (g : A → List (List ℕ × Option (List ℕ))) (t : A → List ℕ) (name : List ℕ) (is_bare : key_text name ≡ name)
+    (is : (x : A) → t x ≡ codes "\n[[" ++ name ++ codes "]]\n" ++ field_lines (g x))
     (May : A → Type 0) (one : (x : A) → May x → SpellFields (g x) (f x)) where
   all_fields : (xs : List A) → ByRecursion May xs → AllFields f g t name is_bare is xs
   all_fields [] may = tt
@@ -124,7 +127,8 @@ module _ (d : Description) (fields : HasFields d) (may : CanBeSpelled d) where
   bank_fields_all = all_fields bank_pairs bank_fields bank_text (codes "bank") bare_bank bank_is SpellsBank bank_spelled d.banks.items banks_may
 
   process_fields_all : AllFields process_pairs process_fields process_text (codes "process") bare_process process_is d.processes.items
-  process_fields_all = all_fields process_pairs process_fields process_text (codes "process") bare_process process_is MayProcess (λ p m. process_spelled p m.0 m.1) d.processes.items processes_may
+  process_fields_all = all_fields process_pairs process_fields process_text (codes "process") bare_process process_is MayProcess
+      (λ p m. process_spelled p m.0 m.1) d.processes.items processes_may
 
   node_fields_all : AllFields node_pairs node_fields node_text (codes "node") bare_node node_is d.nodes.items
   node_fields_all = all_fields node_pairs node_fields node_text (codes "node") bare_node node_is MayNode (λ n m. node_spelled n m.0 m.1) d.nodes.items nodes_may
@@ -133,12 +137,15 @@ module _ (d : Description) (fields : HasFields d) (may : CanBeSpelled d) where
   page_fields_all = all_fields page_pairs page_fields page_text (codes "page") bare_page page_is SpellsPage page_spelled d.pages.items pages_may
 
   abbrev parts : List ℕ
-  parts = field_lines (image_fields d) ++ (flat_map bank_text d.banks.items ++ (flat_map process_text d.processes.items ++ (flat_map node_text d.nodes.items ++ (flat_map page_text d.pages.items ++ []))))
+  parts = field_lines (image_fields d) ++
+      (flat_map bank_text d.banks.items ++
+      (flat_map process_text d.processes.items ++ (flat_map node_text d.nodes.items ++ (flat_map page_text d.pages.items ++ []))))
 
   lines_are : IsLinesText false false all_lines parts
   lines_are =
       append_lines false top_lines (bank_lines ++ (process_lines ++ (node_lines ++ (page_lines ++ [])))) (field_lines (image_fields d))
-      (flat_map bank_text d.banks.items ++ (flat_map process_text d.processes.items ++ (flat_map node_text d.nodes.items ++ (flat_map page_text d.pages.items ++ []))))
+      (flat_map bank_text d.banks.items ++
+      (flat_map process_text d.processes.items ++ (flat_map node_text d.nodes.items ++ (flat_map page_text d.pages.items ++ []))))
       (λ none. absurd cc) (lines_of_fields (image_fields d) (image_pairs d) false (image_spelled d may))
       (append_lines true bank_lines (process_lines ++ (node_lines ++ (page_lines ++ []))) (flat_map bank_text d.banks.items)
       (flat_map process_text d.processes.items ++ (flat_map node_text d.nodes.items ++ (flat_map page_text d.pages.items ++ [])))
@@ -153,10 +160,14 @@ module _ (d : Description) (fields : HasFields d) (may : CanBeSpelled d) where
 
   lines_printed : AllPrinted all_lines
   lines_printed =
-      append_printed top_lines (bank_lines ++ (process_lines ++ (node_lines ++ (page_lines ++ [])))) (printed_fields (image_fields d) (image_pairs d) (image_spelled d may))
-      (append_printed bank_lines (process_lines ++ (node_lines ++ (page_lines ++ []))) (printed_tables bank_pairs bank_fields bank_text (codes "bank") bare_bank bank_is d.banks.items bank_fields_all)
-      (append_printed process_lines (node_lines ++ (page_lines ++ [])) (printed_tables process_pairs process_fields process_text (codes "process") bare_process process_is d.processes.items process_fields_all)
-      (append_printed node_lines (page_lines ++ []) (printed_tables node_pairs node_fields node_text (codes "node") bare_node node_is d.nodes.items node_fields_all)
+      append_printed top_lines (bank_lines ++ (process_lines ++ (node_lines ++ (page_lines ++ []))))
+      (printed_fields (image_fields d) (image_pairs d) (image_spelled d may))
+      (append_printed bank_lines (process_lines ++ (node_lines ++ (page_lines ++ [])))
+      (printed_tables bank_pairs bank_fields bank_text (codes "bank") bare_bank bank_is d.banks.items bank_fields_all)
+      (append_printed process_lines (node_lines ++ (page_lines ++ []))
+      (printed_tables process_pairs process_fields process_text (codes "process") bare_process process_is d.processes.items process_fields_all)
+      (append_printed node_lines (page_lines ++ [])
+      (printed_tables node_pairs node_fields node_text (codes "node") bare_node node_is d.nodes.items node_fields_all)
       (append_printed page_lines [] (printed_tables page_pairs page_fields page_text (codes "page") bare_page page_is d.pages.items page_fields_all) tt))))
 
   -- what the reader has in the end
@@ -185,7 +196,8 @@ module _ (d : Description) (fields : HasFields d) (may : CanBeSpelled d) where
       ∙ chain_other ps (codes "page") no_members (close n0) chain refl) in
       let top : run (no_nodes, []) top_lines ≡ Some (n0, []) =
       run_pairs (keyed ps) [] no_nodes refl ∙ ap (λ (o : Option Nodes). option_map (λ r. (r, [])) o) made0 in
-      let (t1, ran1) = run_list n0 [] (codes "bank") banks (process_lines ++ (node_lines ++ (page_lines ++ []))) n1 (all_tables bank_pairs d.banks.items) made1 in
+      let (t1, ran1) = run_list n0 [] (codes "bank") banks (process_lines ++ (node_lines ++ (page_lines ++ []))) n1 (all_tables bank_pairs d.banks.items) made1
+      in
       let (t2, ran2) = run_list n1 t1 (codes "process") processes (node_lines ++ (page_lines ++ [])) n2 (all_tables process_pairs d.processes.items) made2 in
       let (t3, ran3) = run_list n2 t2 (codes "node") nodes (page_lines ++ []) n3 (all_tables node_pairs d.nodes.items) made3 in
       let (t4, ran4) = run_list n3 t3 (codes "page") pages [] n4 (all_tables page_pairs d.pages.items) made4 in (

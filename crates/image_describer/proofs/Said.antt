@@ -17,7 +17,8 @@ use Rattle.image_describer.proofs.Written.{spells_slots, spells_space, spells_st
 said_at : {A : Type 0} (P : Data → A → Type 0) (o : Option Data) (d : Data) (x : A) → o ≡ Some d → P d x → IsSomeAnd o (λ e. P e x)
 said_at P o d x is says = subst (λ (r : Option Data). IsSomeAnd r (λ e. P e x)) (sym is) says
 
-said_or : {A : Type 0} (default : A) (P : Data → A → Type 0) (o r : Option Data) (x : A) → o ≡ r → MatchOption r (x ≡ default) (λ e. P e x) → MatchOption o (x ≡ default) (λ e. P e x)
+said_or : {A : Type 0} (default : A) (P : Data → A → Type 0) (o r : Option Data) (x : A) → o ≡ r → MatchOption r (x ≡ default) (λ e. P e x) →
+    MatchOption o (x ≡ default) (λ e. P e x)
 said_or default P o r x is says = subst (λ (r : Option Data). MatchOption r (x ≡ default) (λ e. P e x)) (sym is) says
 
 -- a key of letters stands for itself
@@ -127,15 +128,21 @@ module _ (p : ProcessEntry) (entry : IsProcessEntry p) (may : SpellsProcess p) w
         let at_space : get_member (codes "space") ms ≡ space_data p.space = value_at ps ms chain refl 6 (omega arith) in
         let at_registers : get_member (codes "registers") ms ≡ list_data slot_data p.registers.items = value_at ps ms chain refl 7 (omega arith) in
         record {
-          known = chain_only ps (codes "root" ∷ codes "annex" ∷ codes "owner" ∷ codes "state" ∷ codes "key" ∷ codes "words" ∷ codes "space" ∷ codes "registers" ∷ []) no_members ms chain refl refl;
+          known = chain_only ps
+              (codes "root" ∷ codes "annex" ∷ codes "owner" ∷ codes "state" ∷ codes "key" ∷ codes "words" ∷ codes "space" ∷ codes "registers" ∷ []) no_members
+              ms chain refl refl;
           root = said_at IsNumber (get_member (codes "root") ms) (number_data p.root) p.root at_root ((may.numbers.0, refl));
           annex = said_at IsNumber (get_member (codes "annex") ms) (number_data p.annex) p.annex at_annex ((may.numbers.1, refl));
           owner = said_at IsNumber (get_member (codes "owner") ms) (number_data p.owner) p.owner at_owner ((may.numbers.2, refl));
           state = said_at IsState (get_member (codes "state") ms) (state_data p.state) p.state at_state (says_state p.state entry.state);
-          key = said_or 0 IsNumber (get_member (codes "key") ms) (data_unless (p.key == 0) (number_data p.key)) p.key at_key (says_number_unless 0 p.key may.numbers.3);
-          words = said_or (0 ∷ 0 ∷ 0 ∷ 0 ∷ []) AreFour (get_member (codes "words") ms) (words_data p.words) p.words at_words (says_four p.words may.words.0 may.words.1);
-          space = said_or (Some Void) IsCapability (get_member (codes "space") ms) (space_data p.space) p.space at_space (says_space p.space entry.space may.space);
-          registers = said_or [] (IsList IsSlot) (get_member (codes "registers") ms) (list_data slot_data p.registers.items) p.registers.items at_registers (says_slots p.registers.items entry.registers.held may.registers);
+          key = said_or 0 IsNumber (get_member (codes "key") ms) (data_unless (p.key == 0) (number_data p.key)) p.key at_key
+              (says_number_unless 0 p.key may.numbers.3);
+          words = said_or (0 ∷ 0 ∷ 0 ∷ 0 ∷ []) AreFour (get_member (codes "words") ms) (words_data p.words) p.words at_words
+              (says_four p.words may.words.0 may.words.1);
+          space = said_or (Some Void) IsCapability (get_member (codes "space") ms) (space_data p.space) p.space at_space
+              (says_space p.space entry.space may.space);
+          registers = said_or [] (IsList IsSlot) (get_member (codes "registers") ms) (list_data slot_data p.registers.items) p.registers.items at_registers
+              (says_slots p.registers.items entry.registers.held may.registers);
         };
   }
 
@@ -172,7 +179,8 @@ module _ (n : NodeEntry) (entry : AreSlots 0 n.slots.items) (may : SpellsNode n)
           known = chain_only ps (codes "number" ∷ codes "owner" ∷ codes "slots" ∷ []) no_members ms chain refl refl;
           number = said_at IsNumber (get_member (codes "number") ms) (number_data n.number) n.number at_number ((may.0, refl));
           owner = said_at IsNumber (get_member (codes "owner") ms) (number_data n.owner) n.owner at_owner ((may.1, refl));
-          slots = said_or [] (IsList IsSlot) (get_member (codes "slots") ms) (list_data slot_data n.slots.items) n.slots.items at_slots (says_slots n.slots.items entry.held may.2);
+          slots = said_or [] (IsList IsSlot) (get_member (codes "slots") ms) (list_data slot_data n.slots.items) n.slots.items at_slots
+              (says_slots n.slots.items entry.held may.2);
         };
   }
 
@@ -209,7 +217,8 @@ module _ (p : PageEntry) (may : SpellsPage p) where
           known = chain_only ps (codes "number" ∷ codes "owner" ∷ codes "words" ∷ []) no_members ms chain refl refl;
           number = said_at IsNumber (get_member (codes "number") ms) (number_data p.number) p.number at_number ((may.0, refl));
           owner = said_at IsNumber (get_member (codes "owner") ms) (number_data p.owner) p.owner at_owner ((may.1, refl));
-          words = said_or [] (IsList IsWord) (get_member (codes "words") ms) (list_data word_data p.words.items) p.words.items at_words (says_words p.words.items may.2);
+          words = said_or [] (IsList IsWord) (get_member (codes "words") ms) (list_data word_data p.words.items) p.words.items at_words
+              (says_words p.words.items may.2);
         };
   }
 
@@ -274,15 +283,19 @@ module _ (d : Description) (may : CanBeSpelled d) (banks processes nodes pages :
       let at_node : get_member (codes "node") ms ≡ nodes = value_at ps ms chain refl 8 (omega arith) in
       let at_page : get_member (codes "page") ms ≡ pages = value_at ps ms chain refl 9 (omega arith) in
       record {
-        known = chain_only ps (codes "nodes" ∷ codes "pages" ∷ codes "log" ∷ codes "layout" ∷ codes "age" ∷ codes "ranges" ∷ codes "bank" ∷ codes "process" ∷ codes "node" ∷ codes "page" ∷ []) no_members ms chain refl refl;
+        known = chain_only ps
+            (codes "nodes" ∷ codes "pages" ∷ codes "log" ∷ codes "layout" ∷ codes "age" ∷ codes "ranges" ∷ codes "bank" ∷ codes "process" ∷ codes "node" ∷ codes
+            "page" ∷ []) no_members ms chain refl refl;
         geometry = record {
           nodes = said_at IsNumber (get_member (codes "nodes") ms) (number_data d.geometry.nodes) d.geometry.nodes at_nodes ((may.geometry.0, refl));
           pages = said_at IsNumber (get_member (codes "pages") ms) (number_data d.geometry.pages) d.geometry.pages at_pages ((may.geometry.1, refl));
           log = said_at IsNumber (get_member (codes "log") ms) (number_data d.geometry.log) d.geometry.log at_log ((may.geometry.2, refl));
         };
-        layout = said_or 1 IsNumber (get_member (codes "layout") ms) (data_unless (d.layout == 1) (number_data d.layout)) d.layout at_layout (says_number_unless 1 d.layout may.layout);
+        layout = said_or 1 IsNumber (get_member (codes "layout") ms) (data_unless (d.layout == 1) (number_data d.layout)) d.layout at_layout
+            (says_number_unless 1 d.layout may.layout);
         age = said_or 0 IsNumber (get_member (codes "age") ms) (data_unless (d.age == 0) (number_data d.age)) d.age at_age (says_number_unless 0 d.age may.age);
-        ranges = said_or (whole_ranges d.geometry) (IsList IsRange) (get_member (codes "ranges") ms) (ranges_data d.geometry d.ranges.items) d.ranges.items at_ranges (says_ranges d.geometry d.ranges.items may.ranges);
+        ranges = said_or (whole_ranges d.geometry) (IsList IsRange) (get_member (codes "ranges") ms) (ranges_data d.geometry d.ranges.items) d.ranges.items
+            at_ranges (says_ranges d.geometry d.ranges.items may.ranges);
         banks = said_or [] (IsList (IsTable IsBank)) (get_member (codes "bank") ms) banks d.banks.items at_bank says_banks;
         processes = said_or [] (IsList (IsTable IsProcess)) (get_member (codes "process") ms) processes d.processes.items at_process says_processes;
         nodes = said_or [] (IsList (IsTable IsNode)) (get_member (codes "node") ms) nodes d.nodes.items at_node says_nodes;

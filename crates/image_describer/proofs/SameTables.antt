@@ -14,7 +14,8 @@ all_same R P back (x ∷ xs) (y ∷ ys) each all =
     All-cons P x xs (back x y each.0 (all 0 y (omega arith))) (all_same R P back xs ys each.1 (λ k d inside. all (suc k) d (omega (arith, inside))))
 
 -- and their numbers are the same
-numbers_same : {A : Type 0} (R : A → A → Type 0) (number : A → ℕ) → ((x y : A) → R x y → number x ≡ number y) → (xs ys : List A) → Each R xs ys → map number xs ≡ map number ys
+numbers_same : {A : Type 0} (R : A → A → Type 0) (number : A → ℕ) → ((x y : A) → R x y → number x ≡ number y) → (xs ys : List A) → Each R xs ys →
+    map number xs ≡ map number ys
 numbers_same R number same [] [] each = refl
 numbers_same R number same [] (y ∷ ys) each = absurd each
 numbers_same R number same (x ∷ xs) [] each = absurd each
@@ -29,10 +30,14 @@ same_root p q f g same frames is = (
   same.state ∙ is.2,
   same.space ∙ is.3,
   frames ∙ is.4
-      ∙ ap (λ (n : ℕ). first_frame n (content.Root (record { state = is.0; words = q.words; key = q.key; annex = q.annex; space = fresh_cap is.1 }))) (sym same.owner)
-      ∙ ap (λ (ws : List ℕ). first_frame p.owner (content.Root (record { state = is.0; words = ws; key = q.key; annex = q.annex; space = fresh_cap is.1 }))) (sym same.words)
-      ∙ ap (λ (n : ℕ). first_frame p.owner (content.Root (record { state = is.0; words = p.words; key = n; annex = q.annex; space = fresh_cap is.1 }))) (sym same.key)
-      ∙ ap (λ (n : ℕ). first_frame p.owner (content.Root (record { state = is.0; words = p.words; key = p.key; annex = n; space = fresh_cap is.1 }))) (sym same.annex),
+      ∙ ap (λ (n : ℕ). first_frame n (content.Root (record { state = is.0; words = q.words; key = q.key; annex = q.annex; space = fresh_cap is.1 })))
+      (sym same.owner)
+      ∙ ap (λ (ws : List ℕ). first_frame p.owner (content.Root (record { state = is.0; words = ws; key = q.key; annex = q.annex; space = fresh_cap is.1 })))
+      (sym same.words)
+      ∙ ap (λ (n : ℕ). first_frame p.owner (content.Root (record { state = is.0; words = p.words; key = n; annex = q.annex; space = fresh_cap is.1 })))
+      (sym same.key)
+      ∙ ap (λ (n : ℕ). first_frame p.owner (content.Root (record { state = is.0; words = p.words; key = p.key; annex = n; space = fresh_cap is.1 })))
+      (sym same.annex),
 )
 
 same_annex : (p q : ProcessEntry) (f g : Frame) → IsSameProcess p q → f ≡ g → IsDescribedAnnex q g → IsDescribedAnnex p f
@@ -63,10 +68,14 @@ module _ (d e : Description) (same : IsSame d e) where
       let annexes = numbers_same IsSameProcess (λ p. p.annex) (λ p q is. is.annex) d.processes.items e.processes.items same.processes in
       let nodes = numbers_same IsSameNode (λ n. n.number) (λ m n is. is.number) d.nodes.items e.nodes.items same.nodes in
       let pages = numbers_same IsSamePage (λ p. p.number) (λ p q is. is.number) d.pages.items e.pages.items same.pages in
-      ap (λ (bs : List BankEntry). map (λ b. b.number) bs ++ map (λ p. p.root) d.processes.items ++ map (λ p. p.annex) d.processes.items ++ map (λ n. n.number) d.nodes.items ++ page_numbers d) same.banks
-      ∙ ap (λ (ns : List ℕ). map (λ b. b.number) e.banks.items ++ ns ++ map (λ p. p.annex) d.processes.items ++ map (λ n. n.number) d.nodes.items ++ page_numbers d) roots
-      ∙ ap (λ (ns : List ℕ). map (λ b. b.number) e.banks.items ++ map (λ p. p.root) e.processes.items ++ ns ++ map (λ n. n.number) d.nodes.items ++ page_numbers d) annexes
-      ∙ ap (λ (ns : List ℕ). map (λ b. b.number) e.banks.items ++ map (λ p. p.root) e.processes.items ++ map (λ p. p.annex) e.processes.items ++ ns ++ page_numbers d) nodes
+      ap (λ (bs : List BankEntry). map (λ b. b.number) bs ++ map (λ p. p.root) d.processes.items ++ map (λ p. p.annex) d.processes.items ++ map (λ n. n.number)
+      d.nodes.items ++ page_numbers d) same.banks
+      ∙ ap (λ (ns : List ℕ). map (λ b. b.number) e.banks.items ++ ns ++ map (λ p. p.annex) d.processes.items ++ map (λ n. n.number) d.nodes.items ++
+      page_numbers d) roots
+      ∙ ap (λ (ns : List ℕ). map (λ b. b.number) e.banks.items ++ map (λ p. p.root) e.processes.items ++ ns ++ map (λ n. n.number) d.nodes.items ++ page_numbers
+      d) annexes
+      ∙ ap (λ (ns : List ℕ). map (λ b. b.number) e.banks.items ++ map (λ p. p.root) e.processes.items ++ map (λ p. p.annex) e.processes.items ++ ns ++
+      page_numbers d) nodes
       ∙ ap (λ (ns : List ℕ). node_numbers e ++ ns) pages
 
   -- what is described by one of two descriptions that name the same is by the other
@@ -75,12 +84,16 @@ module _ (d e : Description) (same : IsSame d e) where
     count = is.count ∙ ap (λ (g : Geometry). object_count g) (sym same.geometry);
     banks = subst (λ (bs : List BankEntry). All (λ b. frame_at frames b.number ≡ first_frame b.owner (content.Bank b.limit)) bs) (sym same.banks) is.banks;
     roots = all_same IsSameProcess (λ p. IsDescribedRoot p (frame_at frames p.root))
-        (λ p q one root. same_root p q (frame_at frames p.root) (frame_at frames q.root) one (ap (frame_at frames) one.root) root) d.processes.items e.processes.items same.processes is.roots;
+        (λ p q one root. same_root p q (frame_at frames p.root) (frame_at frames q.root) one (ap (frame_at frames) one.root) root) d.processes.items
+        e.processes.items same.processes is.roots;
     annexes = all_same IsSameProcess (λ p. IsDescribedAnnex p (frame_at frames p.annex))
-        (λ p q one annex. same_annex p q (frame_at frames p.annex) (frame_at frames q.annex) one (ap (frame_at frames) one.annex) annex) d.processes.items e.processes.items same.processes is.annexes;
+        (λ p q one annex. same_annex p q (frame_at frames p.annex) (frame_at frames q.annex) one (ap (frame_at frames) one.annex) annex) d.processes.items
+        e.processes.items same.processes is.annexes;
     nodes = all_same IsSameNode (λ n. IsDescribedNode n (frame_at frames n.number))
-        (λ m n one node. same_node m n (frame_at frames m.number) (frame_at frames n.number) one (ap (frame_at frames) one.number) node) d.nodes.items e.nodes.items same.nodes is.nodes;
+        (λ m n one node. same_node m n (frame_at frames m.number) (frame_at frames n.number) one (ap (frame_at frames) one.number) node) d.nodes.items
+        e.nodes.items same.nodes is.nodes;
     pages = all_same IsSamePage (λ p. IsDescribedPage p (frame_at frames p.number))
-        (λ p q one page. same_page p q (frame_at frames p.number) (frame_at frames q.number) one (ap (frame_at frames) one.number) page) d.pages.items e.pages.items same.pages is.pages;
+        (λ p q one page. same_page p q (frame_at frames p.number) (frame_at frames q.number) one (ap (frame_at frames) one.number) page) d.pages.items
+        e.pages.items same.pages is.pages;
     others = λ n out. is.others n (λ named. out (subst (λ (ns : List ℕ). Contains ns n) (sym same_numbers) named));
   }

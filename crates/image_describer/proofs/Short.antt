@@ -43,19 +43,24 @@ bank_kind g n (content.Bank limit) bank kind = kind
 
 -- the entries of slots and of words that a frame holds
 module _ (g : Geometry) (age : ℕ) where
-  pub slots_short : (first : ℕ) (entries : List SlotEntry) (slots : List Cap) → AreSlots first entries → HoldsNamed entries slots → AreKeptSlots g age slots → All SpellsSlot entries
+  pub slots_short : (first : ℕ) (entries : List SlotEntry) (slots : List Cap) → AreSlots first entries → HoldsNamed entries slots → AreKeptSlots g age slots →
+      All SpellsSlot entries
   slots_short first entries slots are holds kept = all_from SpellsSlot entries (λ s there.
       let place = All-contains (λ (t : SlotEntry). (first ≤ t.index) × (t.index < 32)) entries s are.places there in
-      let held : IsKeptCap g age (fresh_cap (named_at entries s.index)) = all_got (IsKeptCap g age) slots s.index (fresh_cap (named_at entries s.index)) kept.each (holds.each s.index place.1) in
-      let is : named_at entries s.index ≡ unwrap_or s.capability Void = first_of (λ t. t.index) (λ t. unwrap_or t.capability Void) Void entries s are.distinct there in (
+      let held : IsKeptCap g age (fresh_cap (named_at entries s.index)) = all_got (IsKeptCap g age) slots s.index (fresh_cap (named_at entries s.index))
+      kept.each (holds.each s.index place.1) in
+      let is : named_at entries s.index ≡ unwrap_or s.capability Void = first_of (λ t. t.index) (λ t. unwrap_or t.capability Void) Void entries s are.distinct
+      there in (
         omega (arith, place.1),
         held_wide g age s.capability (subst (Follows g age 0) is held),
       ))
 
-  pub words_short : (entries : List WordEntry) (words : List ℕ) → AreWords entries → HasNamedWords entries words → AreKeptWords 512 words → All SpellsWord entries
+  pub words_short : (entries : List WordEntry) (words : List ℕ) → AreWords entries → HasNamedWords entries words → AreKeptWords 512 words →
+      All SpellsWord entries
   words_short entries words are holds kept = all_from SpellsWord entries (λ w there.
       let place = All-contains (λ (v : WordEntry). v.index < 512) entries w are.places there in
-      let wide : word_named_at entries w.index < 2 ^ 64 = all_got (λ (v : ℕ). v < 2 ^ 64) words w.index (word_named_at entries w.index) kept.each (holds.each w.index place) in
+      let wide : word_named_at entries w.index < 2 ^ 64 = all_got (λ (v : ℕ). v < 2 ^ 64) words w.index (word_named_at entries w.index) kept.each
+      (holds.each w.index place) in
       let is : word_named_at entries w.index ≡ w.word = first_of (λ v. v.index) (λ v. v.word) 0 entries w are.distinct there in (
         omega (arith, place),
         subst (λ (v : ℕ). v < 2 ^ 64) is wide,
@@ -85,7 +90,8 @@ version_short : (v : Version) → IsShort (version_number v)
 version_short One = omega arith
 version_short Two = omega arith
 
-module _ (p : Plan) (plan : IsPlan p) (age : ℕ) (fs : List Frame) (d : Description) (sound : IsSoundFrames p.geometry age fs) (describes : Describes p.geometry (world_at age fs) d) where
+module _ (p : Plan) (plan : IsPlan p) (age : ℕ) (fs : List Frame) (d : Description) (sound : IsSoundFrames p.geometry age fs)
+    (describes : Describes p.geometry (world_at age fs) d) where
   abbrev g : Geometry
   g = p.geometry
 
@@ -122,7 +128,8 @@ module _ (p : Plan) (plan : IsPlan p) (age : ℕ) (fs : List Frame) (d : Descrip
 
   -- the numbers that are named
   node_named : (n : ℕ) → Contains (node_numbers d) n → n < g.nodes
-  node_named n there = subst (λ (h : Geometry). n < h.nodes) describes.geometry (All-contains (λ (k : ℕ). k < d.geometry.nodes) (node_numbers d) n describes.numbers.nodes there)
+  node_named n there = subst (λ (h : Geometry). n < h.nodes) describes.geometry
+      (All-contains (λ (k : ℕ). k < d.geometry.nodes) (node_numbers d) n describes.numbers.nodes there)
 
   abbrev bank_numbers : List ℕ
   bank_numbers = map (λ b. b.number) d.banks.items
@@ -151,16 +158,19 @@ module _ (p : Plan) (plan : IsPlan p) (age : ℕ) (fs : List Frame) (d : Descrip
       (Contains-append_right (bank_numbers ++ root_numbers) annex_numbers q.annex (contains_map (λ p. p.annex) q d.processes.items there)))
 
   node_number : (n : NodeEntry) → Contains d.nodes.items n → n.number < g.nodes
-  node_number n there = node_named n.number (Contains-append_right (bank_numbers ++ root_numbers ++ annex_numbers) plain_numbers n.number (contains_map (λ m. m.number) n d.nodes.items there))
+  node_number n there = node_named n.number
+      (Contains-append_right (bank_numbers ++ root_numbers ++ annex_numbers) plain_numbers n.number (contains_map (λ m. m.number) n d.nodes.items there))
 
   page_number : (q : PageEntry) → Contains d.pages.items q → q.number < object_count g
   page_number q there = subst (λ (h : Geometry). q.number < object_count h) describes.geometry
-      (All-contains (λ (k : ℕ). (d.geometry.nodes ≤ k) × (k < object_count d.geometry)) (page_numbers d) q.number describes.numbers.pages (contains_map (λ p. p.number) q d.pages.items there)).1
+      (All-contains (λ (k : ℕ). (d.geometry.nodes ≤ k) × (k < object_count d.geometry)) (page_numbers d) q.number describes.numbers.pages
+      (contains_map (λ p. p.number) q d.pages.items there)).1
 
   -- the objects
   banks_short : All SpellsBank d.banks.items
   banks_short = all_from SpellsBank d.banks.items (λ b there.
-      let is = All-contains (λ (c : BankEntry). frame_at (plain_frames os) c.number ≡ first_frame c.owner (content.Bank c.limit)) d.banks.items b describes.frames.banks there in
+      let is = All-contains (λ (c : BankEntry). frame_at (plain_frames os) c.number ≡ first_frame c.owner (content.Bank c.limit)) d.banks.items b
+      describes.frames.banks there in
       let few = bank_number b there in (
         omega (arith, few, plan.geometry.most_nodes),
         owner_short b.number b.owner (content.Bank b.limit) is (λ same. absurd cc),
@@ -170,8 +180,10 @@ module _ (p : Plan) (plan : IsPlan p) (age : ℕ) (fs : List Frame) (d : Descrip
   processes_short : All SpellsProcess d.processes.items
   processes_short = all_from SpellsProcess d.processes.items (λ q there.
       let entry = All-contains IsProcessEntry d.processes.items q describes.fields.processes there in
-      let (state, space, is_state, is_space, is) = All-contains (λ (r : ProcessEntry). IsDescribedRoot r (frame_at (plain_frames os) r.root)) d.processes.items q describes.frames.roots there in
-      let (slots, holds, annex_is) = All-contains (λ (r : ProcessEntry). IsDescribedAnnex r (frame_at (plain_frames os) r.annex)) d.processes.items q describes.frames.annexes there in
+      let (state, space, is_state, is_space, is) = All-contains (λ (r : ProcessEntry). IsDescribedRoot r (frame_at (plain_frames os) r.root)) d.processes.items
+      q describes.frames.roots there in
+      let (slots, holds, annex_is) = All-contains (λ (r : ProcessEntry). IsDescribedAnnex r (frame_at (plain_frames os) r.annex)) d.processes.items q
+      describes.frames.annexes there in
       let few = root_number q there in
       let few_annex = annex_number q there in
       let root : Content Cap = content.Root (record { state = state; words = q.words; key = q.key; annex = q.annex; space = fresh_cap space }) in
@@ -192,7 +204,8 @@ module _ (p : Plan) (plan : IsPlan p) (age : ℕ) (fs : List Frame) (d : Descrip
   nodes_short : All SpellsNode d.nodes.items
   nodes_short = all_from SpellsNode d.nodes.items (λ n there.
       let entry = All-contains (λ (m : NodeEntry). AreSlots 0 m.slots.items) d.nodes.items n describes.fields.nodes there in
-      let (slots, holds, is) = All-contains (λ (m : NodeEntry). IsDescribedNode m (frame_at (plain_frames os) m.number)) d.nodes.items n describes.frames.nodes there in
+      let (slots, holds, is) = All-contains (λ (m : NodeEntry). IsDescribedNode m (frame_at (plain_frames os) m.number)) d.nodes.items n describes.frames.nodes
+      there in
       let few = node_number n there in (
         omega (arith, few, plan.geometry.most_nodes),
         owner_short n.number n.owner (content.Node slots) is (λ same. absurd cc),
@@ -202,7 +215,8 @@ module _ (p : Plan) (plan : IsPlan p) (age : ℕ) (fs : List Frame) (d : Descrip
   pages_short : All SpellsPage d.pages.items
   pages_short = all_from SpellsPage d.pages.items (λ q there.
       let entry = All-contains (λ (r : PageEntry). AreWords r.words.items) d.pages.items q describes.fields.pages there in
-      let (words, holds, is) = All-contains (λ (r : PageEntry). IsDescribedPage r (frame_at (plain_frames os) r.number)) d.pages.items q describes.frames.pages there in
+      let (words, holds, is) = All-contains (λ (r : PageEntry). IsDescribedPage r (frame_at (plain_frames os) r.number)) d.pages.items q describes.frames.pages
+      there in
       let few = page_number q there in
       let most = numbers_few in (
         omega (arith, few, most),
@@ -214,7 +228,8 @@ module _ (p : Plan) (plan : IsPlan p) (age : ℕ) (fs : List Frame) (d : Descrip
   ranges_short are =
       let most = numbers_few in
       let inside : All (IsInside g) p.ranges = All-from_recursion (IsInside g) p.ranges (ranges_inside g 0 p.ranges plan.cover) in
-      let short : All (λ (r : HomeRange). SpellsRange (numbers_of r)) p.ranges = All-weaker (IsInside g) (λ (r : HomeRange). SpellsRange (numbers_of r)) (λ r in_it. (omega (arith, in_it, most), omega (arith, in_it, most))) p.ranges inside in
+      let short : All (λ (r : HomeRange). SpellsRange (numbers_of r)) p.ranges = All-weaker (IsInside g) (λ (r : HomeRange). SpellsRange (numbers_of r))
+      (λ r in_it. (omega (arith, in_it, most), omega (arith, in_it, most))) p.ranges inside in
       subst (All SpellsRange) (sym are) (All-map SpellsRange numbers_of p.ranges short)
 
 pub described_has_text : DescribedHasText

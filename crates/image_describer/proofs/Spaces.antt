@@ -3,7 +3,8 @@ use Rattle.image_describer.proofs.Names.{ℕ, List, decimal, append_assoc, sym, 
 use Rattle.std.proofs.Common.{◌≡◌, ◌∷◌, ◌++◌, ◌∙◌}
 
 -- as its parts are joined
-pub space_text : (o h : ℕ) (a : Access) (word : List ℕ) → word ≡ access_text a → 115 ∷ 112 ∷ 97 ∷ 99 ∷ 101 ∷ 32 ∷ (decimal o ++ 32 ∷ (decimal h ++ word)) ≡ capability_text (Space o h a)
+pub space_text : (o h : ℕ) (a : Access) (word : List ℕ) → word ≡ access_text a → 115 ∷ 112 ∷ 97 ∷ 99 ∷ 101 ∷ 32 ∷ (decimal o ++ 32 ∷ (decimal h ++ word)) ≡
+    capability_text (Space o h a)
 unfolding capability_text
 space_text o h a word is =
     ap (λ (t : List ℕ). 115 ∷ 112 ∷ 97 ∷ 99 ∷ 101 ∷ 32 ∷ (decimal o ++ 32 ∷ (decimal h ++ t))) is

@@ -45,19 +45,23 @@ module _ {E : Type 0} (number : E → ℕ) (Tells : E → Type 0) (kind : Role) 
           let same : number e ≡ n = omega (arith, under, past, at) in
           Contains-append_right (map number es) (number e ∷ []) n (subst (Contains (number e ∷ [])) same (contains_here (number e) []))
     ]);
-    below = All-push (λ f. number f < count + 1) es e (All-weaker (λ f. number f < count) (λ f. number f < count + 1) (λ f under. omega (arith, under)) es tell.below) (omega (arith, at));
+    below = All-push (λ f. number f < count + 1) es e
+        (All-weaker (λ f. number f < count) (λ f. number f < count + 1) (λ f under. omega (arith, under)) es tell.below) (omega (arith, at));
     rising = subst AreRising (sym (map_both number es (e ∷ [])))
         (rising_more (map number es) (number e) tell.rising
-        (All-map (λ n. n < number e) number es (All-weaker (λ f. number f < count) (λ f. number f < number e) (λ f under. omega (arith, under, at)) es tell.below)));
+        (All-map (λ n. n < number e) number es
+        (All-weaker (λ f. number f < count) (λ f. number f < number e) (λ f under. omega (arith, under, at)) es tell.below)));
   }
 
   -- the next number is described
-  pub tell_next : (count : ℕ) (es next : List E) (o : Option E) → TellBelow count es → MayTell number Tells kind os count o → next ≡ es ++ option_to_list o → TellBelow (count + 1) next
+  pub tell_next : (count : ℕ) (es next : List E) (o : Option E) → TellBelow count es → MayTell number Tells kind os count o → next ≡ es ++ option_to_list o →
+      TellBelow (count + 1) next
   tell_next count es next None tell may made = subst (TellBelow (count + 1)) (sym (made ∙ append-nil es)) (tell_less count es tell may)
   tell_next count es next (Some e) tell may made = subst (TellBelow (count + 1)) (sym made) (tell_more count es e tell may.0 may.1)
 
   -- all are described where all else is free
-  pub tell_all : (count : ℕ) (es : List E) → TellBelow count es → kind ≢ role.Free → ((n : ℕ) → count ≤ n → role_of (content_at os n) ≡ role.Free) → TellAll number Tells kind os es
+  pub tell_all : (count : ℕ) (es : List E) → TellBelow count es → kind ≢ role.Free → ((n : ℕ) → count ≤ n → role_of (content_at os n) ≡ role.Free) →
+      TellAll number Tells kind os es
   tell_all count es tell some free = record {
     each = tell.each;
     whole = λ n is. elim (cases_lt n count) [
@@ -68,7 +72,8 @@ module _ {E : Type 0} (number : E → ℕ) (Tells : E → Type 0) (kind : Role) 
   }
 
 -- past the last header all is free
-pub role_past : (p : Parts) (hs : List ObjectHeader) (count : ℕ) → hs ≡ p.headers → length hs ≤ count → (n : ℕ) → count ≤ n → role_of (content_at (objects_in p) n) ≡ role.Free
+pub role_past : (p : Parts) (hs : List ObjectHeader) (count : ℕ) → hs ≡ p.headers → length hs ≤ count → (n : ℕ) → count ≤ n →
+    role_of (content_at (objects_in p) n) ≡ role.Free
 role_past p hs count same all n past =
     let total : length hs ≡ length p.headers = ap (λ (ks : List ObjectHeader). length ks) same in
     let over : length p.headers ≤ n = omega (arith, all, past, total) in

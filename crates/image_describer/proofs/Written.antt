@@ -81,26 +81,30 @@ abbrev pub MaySlot : SlotEntry → Type 0
 MaySlot s = IsSomeCapability s.capability × SpellsSlot s
 
 spells_slot : (s : SlotEntry) → MaySlot s → Spells 1 (slot_text s) (slot_data s)
-spells_slot s may = spells_pair (decimal s.index) (held_text s.capability) (number_data s.index) (held_data s.capability) (spells_number s.index may.1.0) (spells_held s.capability may.0 may.1.1)
+spells_slot s may = spells_pair (decimal s.index) (held_text s.capability) (number_data s.index) (held_data s.capability) (spells_number s.index may.1.0)
+    (spells_held s.capability may.0 may.1.1)
 
 says_slot : (s : SlotEntry) → MaySlot s → IsSlot (slot_data s) s
 says_slot s may = (number_data s.index, held_data s.capability, refl, (may.1.0, refl), says_held s.capability may.0 may.1.1)
 
 spells_word : (w : WordEntry) → SpellsWord w → Spells 1 (word_text w) (word_data w)
-spells_word w may = spells_pair (decimal w.index) (wide_text w.word) (number_data w.index) (wide_data w.word) (spells_number w.index may.0) (spells_wide w.word may.1)
+spells_word w may = spells_pair (decimal w.index) (wide_text w.word) (number_data w.index) (wide_data w.word) (spells_number w.index may.0)
+    (spells_wide w.word may.1)
 
 says_word : (w : WordEntry) → SpellsWord w → IsWord (word_data w) w
 says_word w may = (number_data w.index, wide_data w.word, refl, (may.0, refl), says_wide w.word may.1)
 
 spells_range : (r : NumberRange) → SpellsRange r → Spells 1 (range_text r) (range_data r)
-spells_range r may = spells_pair (decimal r.first) (decimal r.count) (number_data r.first) (number_data r.count) (spells_number r.first may.0) (spells_number r.count may.1)
+spells_range r may = spells_pair (decimal r.first) (decimal r.count) (number_data r.first) (number_data r.count) (spells_number r.first may.0)
+    (spells_number r.count may.1)
 
 says_range : (r : NumberRange) → SpellsRange r → IsRange (range_data r) r
 says_range r may = (number_data r.first, number_data r.count, refl, (may.0, refl), (may.1, refl))
 
 -- ---- lists
 
-module _ {A : Type 0} (f : A → List ℕ) (g : A → Data) (levels : ℕ) (P : Data → A → Type 0) (May : A → Type 0) (spell : (x : A) → May x → Spells levels (f x) (g x)) (say : (x : A) → May x → P (g x) x) where
+module _ {A : Type 0} (f : A → List ℕ) (g : A → Data) (levels : ℕ) (P : Data → A → Type 0) (May : A → Type 0)
+    (spell : (x : A) → May x → Spells levels (f x) (g x)) (say : (x : A) → May x → P (g x) x) where
   all_spell : (xs : List A) → ByRecursion May xs → AllSpell f g levels xs
   all_spell [] may = tt
   all_spell (x ∷ xs) may = (spell x may.0, all_spell xs may.1)
@@ -119,7 +123,8 @@ abbrev pub list_data : {A : Type 0} → (A → Data) → List A → Option Data
 list_data g [] = None
 list_data g (x ∷ xs) = Some (array (items g (x ∷ xs)))
 
-module _ {A : Type 0} (f : A → List ℕ) (g : A → Data) (P : Data → A → Type 0) (May : A → Type 0) (spell : (x : A) → May x → Spells 1 (f x) (g x)) (say : (x : A) → May x → P (g x) x) where
+module _ {A : Type 0} (f : A → List ℕ) (g : A → Data) (P : Data → A → Type 0) (May : A → Type 0) (spell : (x : A) → May x → Spells 1 (f x) (g x))
+    (say : (x : A) → May x → P (g x) x) where
   spells_some : (xs : List A) → All May xs → SpellsOption (list_unless_empty f xs) (list_data g xs)
   spells_some [] may = tt
   spells_some (x ∷ xs) may = spells_all f g 1 P May spell say (x ∷ xs) may
@@ -157,7 +162,8 @@ spells_unless : (b : Bool) (text : List ℕ) (d : Data) → Spells 2 text d → 
 spells_unless true text d spells = tt
 spells_unless false text d spells = spells
 
-says_unless : {A : Type 0} (b : Bool) (d : Data) (x default : A) (P : Data → A → Type 0) → (b ≡ true → x ≡ default) → P d x → MatchOption (data_unless b d) (x ≡ default) (λ e. P e x)
+says_unless : {A : Type 0} (b : Bool) (d : Data) (x default : A) (P : Data → A → Type 0) → (b ≡ true → x ≡ default) → P d x →
+    MatchOption (data_unless b d) (x ≡ default) (λ e. P e x)
 says_unless true d x default P is says = is refl
 says_unless false d x default P is says = says
 
@@ -165,7 +171,8 @@ same_number : (m n : ℕ) → (m == n) ≡ true → m ≡ n
 same_number m n is = grind (arith, nat_tests, is)
 
 pub spells_number_unless : (default n : ℕ) → IsShort n → SpellsOption (number_unless default n) (data_unless (n == default) (number_data n))
-spells_number_unless default n short = spells_unless (n == default) (decimal n) (number_data n) (deeper 0 2 (decimal n) (number_data n) (omega arith) (spells_number n short))
+spells_number_unless default n short = spells_unless (n == default) (decimal n) (number_data n)
+    (deeper 0 2 (decimal n) (number_data n) (omega arith) (spells_number n short))
 
 pub says_number_unless : (default n : ℕ) → IsShort n → MatchOption (data_unless (n == default) (number_data n)) (n ≡ default) (λ d. IsNumber d n)
 says_number_unless default n short = says_unless (n == default) (number_data n) n default IsNumber (same_number n default) (short, refl)
@@ -185,7 +192,8 @@ words_data words = data_unless (list_all (λ w. w == 0) words) (array (items wid
 module _ (words : List ℕ) (four : length words ≡ 4) (wide : All IsWide words) where
   pub spells_four : SpellsOption (words_unless_zeros words) (words_data words)
   spells_four = spells_unless (list_all (λ w. w == 0) words) (list_text wide_text words) (array (items wide_data words))
-      (deeper 1 2 (list_text wide_text words) (array (items wide_data words)) (omega arith) (spells_all wide_text wide_data 0 IsWideNumber IsWide spells_wide says_wide words wide))
+      (deeper 1 2 (list_text wide_text words) (array (items wide_data words)) (omega arith)
+      (spells_all wide_text wide_data 0 IsWideNumber IsWide spells_wide says_wide words wide))
 
   pub says_four : MatchOption (words_data words) (words ≡ 0 ∷ 0 ∷ 0 ∷ 0 ∷ []) (λ d. AreFour d words)
   says_four = says_unless (list_all (λ w. w == 0) words) (array (items wide_data words)) words (0 ∷ 0 ∷ 0 ∷ 0 ∷ []) AreFour (four_zeros words four)
@@ -200,16 +208,19 @@ pub spells_space : (space : Option Capability) → IsSpaceEntry space → NamesW
 spells_space None is wide = absurd is
 spells_space (Some Void) is wide = tt
 spells_space (Some (Number n)) is wide = absurd is.1
-spells_space (Some (Page o a)) is wide = deeper 0 2 (held_text (Some (Page o a))) (held_data (Some (Page o a))) (omega arith) (spells_held (Some (Page o a)) is.0 wide)
+spells_space (Some (Page o a)) is wide = deeper 0 2 (held_text (Some (Page o a))) (held_data (Some (Page o a))) (omega arith)
+    (spells_held (Some (Page o a)) is.0 wide)
 spells_space (Some (Node o a)) is wide = absurd is.1
-spells_space (Some (Space o h a)) is wide = deeper 0 2 (held_text (Some (Space o h a))) (held_data (Some (Space o h a))) (omega arith) (spells_held (Some (Space o h a)) is.0 wide)
+spells_space (Some (Space o h a)) is wide = deeper 0 2 (held_text (Some (Space o h a))) (held_data (Some (Space o h a))) (omega arith)
+    (spells_held (Some (Space o h a)) is.0 wide)
 spells_space (Some (Process p)) is wide = absurd is.1
 spells_space (Some (Start p key)) is wide = absurd is.1
 spells_space (Some (Resume p)) is wide = absurd is.1
 spells_space (Some (Bank b)) is wide = absurd is.1
 spells_space (Some Discrim) is wide = absurd is.1
 
-pub says_space : (space : Option Capability) → IsSpaceEntry space → NamesWide space → MatchOption (space_data space) (space ≡ Some Void) (λ d. IsCapability d space)
+pub says_space : (space : Option Capability) → IsSpaceEntry space → NamesWide space →
+    MatchOption (space_data space) (space ≡ Some Void) (λ d. IsCapability d space)
 says_space None is wide = absurd is
 says_space (Some Void) is wide = refl
 says_space (Some (Number n)) is wide = absurd is.1
@@ -227,7 +238,8 @@ range_is : (r : NumberRange) (n count : ℕ) → (r.first == n && r.count == cou
 range_is r n count is =
     let at : r.first ≡ n = grind (arith, nat_tests, is) in
     let long : r.count ≡ count = grind (arith, nat_tests, is) in
-    ap (λ (k : ℕ). let s : NumberRange = record { first = k; count = r.count } in s) at ∙ ap (λ (k : ℕ). let s : NumberRange = record { first = n; count = k } in s) long
+    ap (λ (k : ℕ). let s : NumberRange = record { first = k; count = r.count } in s) at ∙
+    ap (λ (k : ℕ). let s : NumberRange = record { first = n; count = k } in s) long
 
 left : (a b : Bool) → (a && b) ≡ true → a ≡ true
 left true b is = refl
@@ -243,10 +255,12 @@ whole_is g (n ∷ []) is = absurd cc
 whole_is g (n ∷ p ∷ q ∷ rs) is = absurd cc
 whole_is g (n ∷ p ∷ []) is =
     ap (λ (r : NumberRange). r ∷ p ∷ []) (range_is n 0 g.nodes (left (is_range n 0 g.nodes) (is_range p g.nodes g.pages) is))
-    ∙ ap (λ (r : NumberRange). record { first = 0; count = g.nodes } ∷ r ∷ []) (range_is p g.nodes g.pages (right (is_range n 0 g.nodes) (is_range p g.nodes g.pages) is))
+    ∙ ap (λ (r : NumberRange). record { first = 0; count = g.nodes } ∷ r ∷ [])
+    (range_is p g.nodes g.pages (right (is_range n 0 g.nodes) (is_range p g.nodes g.pages) is))
 
 -- as the code tests them
-two_ranges : (g : Geometry) (rs : List NumberRange) (x : NumberRange) → 2 ≤ length rs → length rs < 3 → are_whole g rs ≡ (is_range (get_or rs 0 x) 0 g.nodes && is_range (get_or rs 1 x) g.nodes g.pages)
+two_ranges : (g : Geometry) (rs : List NumberRange) (x : NumberRange) → 2 ≤ length rs → length rs < 3 →
+    are_whole g rs ≡ (is_range (get_or rs 0 x) 0 g.nodes && is_range (get_or rs 1 x) g.nodes g.pages)
 two_ranges g [] x least most = absurd (omega (arith, least))
 two_ranges g (n ∷ []) x least most = absurd (omega (arith, least))
 two_ranges g (n ∷ p ∷ []) x least most = refl
@@ -261,7 +275,9 @@ ranges_data g rs = data_unless (are_whole g rs) (array (items range_data rs))
 
 module _ (g : Geometry) (rs : List NumberRange) (short : All SpellsRange rs) where
   pub spells_ranges : SpellsOption (unless (are_whole g rs) (list_text range_text rs)) (ranges_data g rs)
-  spells_ranges = spells_unless (are_whole g rs) (list_text range_text rs) (array (items range_data rs)) (spells_all range_text range_data 1 IsRange SpellsRange spells_range says_range rs short)
+  spells_ranges = spells_unless (are_whole g rs) (list_text range_text rs) (array (items range_data rs))
+      (spells_all range_text range_data 1 IsRange SpellsRange spells_range says_range rs short)
 
   pub says_ranges : MatchOption (ranges_data g rs) (rs ≡ whole_ranges g) (λ d. IsList IsRange d rs)
-  says_ranges = says_unless (are_whole g rs) (array (items range_data rs)) rs (whole_ranges g) (IsList IsRange) (whole_is g rs) (says_all range_text range_data 1 IsRange SpellsRange spells_range says_range rs short)
+  says_ranges = says_unless (are_whole g rs) (array (items range_data rs)) rs (whole_ranges g) (IsList IsRange) (whole_is g rs)
+      (says_all range_text range_data 1 IsRange SpellsRange spells_range says_range rs short)

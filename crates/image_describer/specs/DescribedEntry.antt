@@ -17,10 +17,12 @@ abbrev pub TellsBank : List Object → BankEntry → Type 0
 TellsBank os b = object_at os b.number ≡ record { owner = b.owner; content = content.Bank b.limit }
 
 abbrev pub TellsNode : List Object → NodeEntry → Type 0
-TellsNode os n = (slots : List Capability) × NamesSlots slots n.slots.items × (object_at os n.number ≡ record { owner = n.owner; content = content.Node slots })
+TellsNode os n = (slots : List Capability) × NamesSlots slots n.slots.items ×
+    (object_at os n.number ≡ record { owner = n.owner; content = content.Node slots })
 
 abbrev pub TellsPage : List Object → PageEntry → Type 0
-TellsPage os p = (words : List ℕ) × NamesWords words p.words.items × (object_at os p.number ≡ record { owner = p.owner; content = content.Page words })
+TellsPage os p = (words : List ℕ) × NamesWords words p.words.items ×
+    (object_at os p.number ≡ record { owner = p.owner; content = content.Page words })
 
 -- that of a process the root and the annex
 abbrev pub TellsRoot : List Object → ProcessEntry → Type 0
@@ -43,7 +45,8 @@ MayTell number Tells kind os n (Some e) = (number e ≡ n) × Tells e
 MayTell number Tells kind os n None = role_of (content_at os n) ≢ kind
 
 -- entries describe all objects of a kind, in order
-pub record TellAll {E : Type 0} (number : E → ℕ) (Tells : E → Type 0) (kind : Role) (os : List Object) (es : List E) : Type 0 where
+pub record TellAll {E : Type 0} (number : E → ℕ) (Tells : E → Type 0) (kind : Role) (os : List Object) (es : List E) :
+    Type 0 where
   pub each : All Tells es
   pub whole : (n : ℕ) → role_of (content_at os n) ≡ kind → Contains (map number es) n
   pub rising : AreRising (map number es)

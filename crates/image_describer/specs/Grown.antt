@@ -38,20 +38,24 @@ moved_capability at Discrim = Discrim
 abbrev pub moved_object : (ℕ → ℕ) → Object → Object
 moved_object at o = record { owner = o.owner; content = map_content (moved_capability at) o.content }
 
--- The objects of a world in an image of other sizes: each at its number there, with its capabilities renumbered, and all
+-- The objects of a world in an image of other sizes: each at its number there, with its capabilities renumbered, and
+-- all
 -- else free.
 pub record IsGrown (old new : Geometry) (w v : World) : Type 0 where
   pub count : length v.objects ≡ object_count new
   pub age : v.age ≡ w.age
-  pub each : (n : ℕ) → is_free (content_at w.objects n) ≡ false → object_at v.objects (moved old new n) ≡ moved_object (moved old new) (object_at w.objects n)
-  pub others : (m : ℕ) → ((n : ℕ) → is_free (content_at w.objects n) ≡ false → moved old new n ≢ m) → object_at v.objects m ≡ free
+  pub each : (n : ℕ) → is_free (content_at w.objects n) ≡ false → object_at v.objects (moved old new n) ≡ moved_object
+      (moved old new) (object_at w.objects n)
+  pub others : (m : ℕ) → ((n : ℕ) → is_free (content_at w.objects n) ≡ false → moved old new n ≢ m) →
+      object_at v.objects m ≡ free
 
 -- each object has a number in the other image
 abbrev pub NodesFit : Geometry → Geometry → World → Type 0
 NodesFit old new w = (n : ℕ) → is_free (content_at w.objects n) ≡ false → n < old.nodes → n < new.nodes
 
 abbrev pub PagesFit : Geometry → Geometry → World → Type 0
-PagesFit old new w = (n : ℕ) → is_free (content_at w.objects n) ≡ false → old.nodes ≤ n → moved old new n < object_count new
+PagesFit old new w = (n : ℕ) → is_free (content_at w.objects n) ≡ false → old.nodes ≤ n →
+    moved old new n < object_count new
 
 -- the least reason why a world has no image of other sizes; the last isn't one
 abbrev pub IsUnsuited : Geometry → Geometry → World → GrowthFault → Type 0

@@ -11,25 +11,30 @@ use Rattle.image_describer.specs.Text.{description_text}
 
 -- any frames of the description of a world are sound, and stand for that world at that age
 abbrev pub DescribedIsSame : Type 0
-DescribedIsSame = (g : Geometry) (age : ℕ) (fs gs : List Frame) (d : Description) → IsSoundFrames g age fs → Describes g (world_at age fs) d → IsDescribed d gs →
+DescribedIsSame = (g : Geometry) (age : ℕ) (fs gs : List Frame) (d : Description) → IsSoundFrames g age fs →
+    Describes g (world_at age fs) d → IsDescribed d gs →
     IsSoundFrames d.geometry d.age gs × (world_at d.age gs ≡ world_at age fs)
 
 -- and laying the description can only fail for want of memory
 abbrev pub DescribedIsLaid : Type 0
-DescribedIsLaid = (g : Geometry) (age : ℕ) (fs : List Frame) (d : Description) (fault : WorldFault) → IsSoundFrames g age fs → Describes g (world_at age fs) d → IsWorldFault d fault → fault ≡ NoMemory
+DescribedIsLaid = (g : Geometry) (age : ℕ) (fs : List Frame) (d : Description) (fault : WorldFault) →
+    IsSoundFrames g age fs → Describes g (world_at age fs) d → IsWorldFault d fault → fault ≡ NoMemory
 
 -- With the home ranges and the version of a plan it has a text.
 abbrev pub DescribedHasText : Type 0
-DescribedHasText = (p : Plan) (age : ℕ) (fs : List Frame) (d : Description) → IsPlan p → IsSoundFrames p.geometry age fs → Describes p.geometry (world_at age fs) d →
+DescribedHasText = (p : Plan) (age : ℕ) (fs : List Frame) (d : Description) → IsPlan p →
+    IsSoundFrames p.geometry age fs → Describes p.geometry (world_at age fs) d →
     d.ranges.items ≡ map numbers_of p.ranges → d.layout ≡ version_number p.version → CanBeSpelled d
 
 -- What is read from the text of a description is that description.
 abbrev pub TextIsRead : Type 0
-TextIsRead = (d : Description) → HasFields d → CanBeSpelled d → (table : Members) × (parse_document (description_text d) ≡ Some table) × IsDescription table d
+TextIsRead = (d : Description) → HasFields d → CanBeSpelled d →
+    (table : Members) × (parse_document (description_text d) ≡ Some table) × IsDescription table d
 
 -- The description of a sound world, renumbered for an image of other sizes, is that of its objects there.
 abbrev pub GrownIsDescribed : Type 0
-GrownIsDescribed = (w : World) (d e : Description) → IsSound d.geometry w → Describes d.geometry w d → IsRenumbered d e → NamesNodes e.geometry.nodes d → NamesPages d.geometry e.geometry d →
+GrownIsDescribed = (w : World) (d e : Description) → IsSound d.geometry w → Describes d.geometry w d →
+    IsRenumbered d e → NamesNodes e.geometry.nodes d → NamesPages d.geometry e.geometry d →
     (v : World) × IsGrown d.geometry e.geometry w v × Describes e.geometry v e
 
 -- A sound world in an image of the same sizes is the same world.

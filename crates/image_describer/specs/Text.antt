@@ -85,19 +85,25 @@ are_whole g _ = false
 -- Objects
 
 abbrev pub bank_fields : BankEntry → List Field
-bank_fields b = (codes "number", Some (decimal b.number)) ∷ (codes "owner", Some (decimal b.owner)) ∷ (codes "limit", Some (wide_text b.limit)) ∷ []
+bank_fields b = (codes "number", Some (decimal b.number)) ∷ (codes "owner", Some (decimal b.owner)) ∷
+    (codes "limit", Some (wide_text b.limit)) ∷ []
 
 abbrev pub process_fields : ProcessEntry → List Field
 process_fields p =
-    (codes "root", Some (decimal p.root)) ∷ (codes "annex", Some (decimal p.annex)) ∷ (codes "owner", Some (decimal p.owner))
-    ∷ (codes "state", Some (state_value p.state)) ∷ (codes "key", number_unless 0 p.key) ∷ (codes "words", words_unless_zeros p.words)
-    ∷ (codes "space", space_unless_void p.space) ∷ (codes "registers", list_unless_empty slot_text p.registers.items) ∷ []
+    (codes "root", Some (decimal p.root)) ∷ (codes "annex", Some (decimal p.annex)) ∷
+    (codes "owner", Some (decimal p.owner))
+    ∷ (codes "state", Some (state_value p.state)) ∷ (codes "key", number_unless 0 p.key) ∷
+    (codes "words", words_unless_zeros p.words)
+    ∷ (codes "space", space_unless_void p.space) ∷ (codes "registers", list_unless_empty slot_text p.registers.items) ∷
+    []
 
 abbrev pub node_fields : NodeEntry → List Field
-node_fields n = (codes "number", Some (decimal n.number)) ∷ (codes "owner", Some (decimal n.owner)) ∷ (codes "slots", list_unless_empty slot_text n.slots.items) ∷ []
+node_fields n = (codes "number", Some (decimal n.number)) ∷ (codes "owner", Some (decimal n.owner)) ∷
+    (codes "slots", list_unless_empty slot_text n.slots.items) ∷ []
 
 abbrev pub page_fields : PageEntry → List Field
-page_fields p = (codes "number", Some (decimal p.number)) ∷ (codes "owner", Some (decimal p.owner)) ∷ (codes "words", list_unless_empty word_text p.words.items) ∷ []
+page_fields p = (codes "number", Some (decimal p.number)) ∷ (codes "owner", Some (decimal p.owner)) ∷
+    (codes "words", list_unless_empty word_text p.words.items) ∷ []
 
 abbrev pub bank_text : BankEntry → List ℕ
 bank_text b = begin_line (codes "bank") ++ field_lines (bank_fields b)
@@ -115,11 +121,13 @@ page_text p = begin_line (codes "page") ++ field_lines (page_fields p)
 
 abbrev pub image_fields : Description → List Field
 image_fields d =
-    (codes "nodes", Some (decimal d.geometry.nodes)) ∷ (codes "pages", Some (decimal d.geometry.pages)) ∷ (codes "log", Some (decimal d.geometry.log))
+    (codes "nodes", Some (decimal d.geometry.nodes)) ∷ (codes "pages", Some (decimal d.geometry.pages)) ∷
+    (codes "log", Some (decimal d.geometry.log))
     ∷ (codes "layout", number_unless 1 d.layout) ∷ (codes "age", number_unless 0 d.age)
     ∷ (codes "ranges", unless (are_whole d.geometry d.ranges.items) (list_text range_text d.ranges.items)) ∷ []
 
 -- the keys of the image, and behind them its objects
 unfoldable pub description_text : Description → List ℕ
-description_text d = field_lines (image_fields d) ++ flat_map bank_text d.banks.items ++ flat_map process_text d.processes.items
+description_text d = field_lines (image_fields d) ++ flat_map bank_text d.banks.items ++ flat_map process_text
+    d.processes.items
     ++ flat_map node_text d.nodes.items ++ flat_map page_text d.pages.items

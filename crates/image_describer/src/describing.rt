@@ -8,19 +8,19 @@ ghost use Rattle.image_describer.specs.DescribedEntry.{HasNoObjects, IsSameBesid
 
 use crate::adding::add;
 use crate::objects::DescribedEntry;
-use capability::{PrepareFault, PresentFrames};
+use capability::{Frames, ReadFault};
 use description::Description;
 use image_writer::NumberRange;
 use layout::Version;
 use std::alloc::Global;
 
-// Describes all objects of a kind, in order. It is `Failed` exactly where the device failed, and
-// else no fault but `NoMemory`; so is the one below.
-fn tell_all<F: PresentFrames, E: DescribedEntry>(
+// Describes all objects of a kind, in order. It is `Failed` exactly where the device failed; so is
+// the one below.
+fn tell_all<F: Frames, E: DescribedEntry>(
     alloc: Global,
     store: &mut F,
     entries: &mut Vec<E>,
-) -> Result<(), PrepareFault>
+) -> Result<(), ReadFault>
     requires sound { AreSound (F.parts store.old) }
     requires none { entries.old.items ≡ [] }
     ensures entry_of { let objects = objects_in (F.parts store.old) in
@@ -29,19 +29,17 @@ fn tell_all<F: PresentFrames, E: DescribedEntry>(
 {
     for number in 0..store.table().count() {
         let entry = E::entry_of(alloc, store, number)?;
-        if add(entries, entry).is_err() {
-            return Err(PrepareFault::NoMemory);
-        }
+        add(entries, entry)?;
     }
     Ok(())
 }
 
 // Describes all objects in a description that has none yet.
-fn tell_objects<F: PresentFrames>(
+fn tell_objects<F: Frames>(
     alloc: Global,
     store: &mut F,
     description: &mut Description,
-) -> Result<(), PrepareFault>
+) -> Result<(), ReadFault>
     requires sound { AreSound (F.parts store.old) }
     requires none { HasNoObjects description.old }
     ensures entry_of { OnOk result (TellsObjects (objects_in (F.parts store.old)) description.new) }
@@ -59,15 +57,14 @@ fn tell_objects<F: PresentFrames>(
 /// no slot that is void or stale, and no word that is 0. An image built from it has the same
 /// objects, with counts of 0.
 ///
-/// `NoMemory` where memory ran out, and `Failed` exactly where the device failed; no other fault
-/// occurs. No object changes.
-pub fn describe<F: PresentFrames>(
+/// `NoMemory` where memory ran out, and `Failed` exactly where the device failed. No object changes.
+pub fn describe<F: Frames>(
     alloc: Global,
     store: &mut F,
     age: u64,
     ranges: Vec<NumberRange>,
     version: Version,
-) -> Result<Description, PrepareFault>
+) -> Result<Description, ReadFault>
     requires { IsSoundFrames (F.parts store.old).geometry age (frames_of (F.parts store.old)) }
     ensures describes { let parts = F.parts store.old in
         IfOk result (Describes parts.geometry (world_at age (frames_of parts))) }

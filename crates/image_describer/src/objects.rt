@@ -11,13 +11,13 @@ ghost use Rattle.image_describer.specs.Describes.{NamesSlots};
 ghost use Rattle.image_describer.specs.DescribedEntry.{MayTell, TellsBank, TellsNode, TellsPage, TellsProcess};
 
 use crate::entries::{slot_entries, word_entries};
-use capability::{PrepareFault, PresentFrames, objects, view};
+use capability::{Frames, ReadFault, view};
 use description::{BankEntry, NodeEntry, PageEntry, ProcessEntry, SlotEntry};
 use model::{Content, Object, Role};
 use std::alloc::Global;
 
 // Whether an object is of a kind, by the table of headers. Nothing is fetched.
-fn has_role<F: PresentFrames>(store: &F, number: u64, role: Role) -> bool
+fn has_role<F: Frames>(store: &F, number: u64, role: Role) -> bool
     requires { HaveTheirRoles (frames_of (F.parts store.now)) }
     ensures { IsTrue result
         ↔ (role_of (content_at (objects_in (F.parts store.now)) number) ≡ role) }
@@ -26,30 +26,23 @@ fn has_role<F: PresentFrames>(store: &F, number: u64, role: Role) -> bool
 }
 
 // An object, fetched, its stale capabilities void.
-fn object<F: PresentFrames>(
-    alloc: Global,
-    store: &mut F,
-    number: u64,
-) -> Result<Object, PrepareFault>
+fn object<F: Frames>(alloc: Global, store: &mut F, number: u64) -> Result<Object, ReadFault>
     requires sound { AreSound (F.parts store.old) }
     requires known { number < length (F.parts store.old).headers }
     ensures object { IfOk result (λ object.
         object ≡ object_at (objects_in (F.parts store.old)) number) }
     ensures only_reads { OnlyReads F.parts F.ContinuesTo store.old store.new result }
 {
-    objects::fetch(store, alloc, &[number])?;
-    match view::object(alloc, store, number) {
-        Ok(object) => Ok(object),
-        Err(_) => Err(PrepareFault::NoMemory),
-    }
+    store.fetch(&[number])?;
+    Ok(view::object(alloc, store, number)?)
 }
 
 // The registers of a process that aren't void, by its annex, which is fetched.
-fn registers<F: PresentFrames>(
+fn registers<F: Frames>(
     alloc: Global,
     store: &mut F,
     annex: u64,
-) -> Result<Vec<SlotEntry>, PrepareFault>
+) -> Result<Vec<SlotEntry>, ReadFault>
     requires sound { AreSound (F.parts store.old) }
     requires annex { IsTrue (is_annex
         (content_at (objects_in (F.parts store.old)) annex)) }
@@ -57,14 +50,9 @@ fn registers<F: PresentFrames>(
         NamesSlots (slots_in (content_at (objects_in (F.parts store.old)) annex)) registers.items) }
     ensures only_reads { OnlyReads F.parts F.ContinuesTo store.old store.new result }
 {
-    objects::fetch(store, alloc, &[annex])?;
-    let Ok(slots) = view::registers(alloc, store, annex) else {
-        return Err(PrepareFault::NoMemory);
-    };
-    match slot_entries(alloc, slots.as_slice()) {
-        Ok(registers) => Ok(registers),
-        Err(_) => Err(PrepareFault::NoMemory),
-    }
+    store.fetch(&[annex])?;
+    let slots = view::registers(alloc, store, annex)?;
+    Ok(slot_entries(alloc, slots.as_slice())?)
 }
 
 /// An entry that describes an object of a kind.
@@ -78,12 +66,12 @@ pub(crate) trait DescribedEntry: Drop {
     ghost kind: { Role };
 
     /// The entry for a number, or nothing where no object of this kind is there. It is `Failed`
-    /// exactly where the device failed, and else no fault but `NoMemory`.
-    fn entry_of<F: PresentFrames>(
+    /// exactly where the device failed.
+    fn entry_of<F: Frames>(
         alloc: Global,
         store: &mut F,
         number: u64,
-    ) -> Result<Option<Self>, PrepareFault>
+    ) -> Result<Option<Self>, ReadFault>
         requires sound { AreSound (F.parts store.old) }
         requires known { number < length (F.parts store.old).headers }
         ensures entry_of { let objects = objects_in (F.parts store.old) in
@@ -103,11 +91,11 @@ impl DescribedEntry for BankEntry {
 
     ghost is_kept = { Prim.search rules };
 
-    fn entry_of<F: PresentFrames>(
+    fn entry_of<F: Frames>(
         alloc: Global,
         store: &mut F,
         number: u64,
-    ) -> Result<Option<BankEntry>, PrepareFault> {
+    ) -> Result<Option<BankEntry>, ReadFault> {
         if !has_role(store, number, Role::Bank) {
             return Ok(None);
         }
@@ -133,11 +121,11 @@ impl DescribedEntry for ProcessEntry {
 
     ghost is_kept = { Prim.search rules };
 
-    fn entry_of<F: PresentFrames>(
+    fn entry_of<F: Frames>(
         alloc: Global,
         store: &mut F,
         number: u64,
-    ) -> Result<Option<ProcessEntry>, PrepareFault> {
+    ) -> Result<Option<ProcessEntry>, ReadFault> {
         if !has_role(store, number, Role::Root) {
             return Ok(None);
         }
@@ -169,11 +157,11 @@ impl DescribedEntry for NodeEntry {
 
     ghost is_kept = { Prim.search rules };
 
-    fn entry_of<F: PresentFrames>(
+    fn entry_of<F: Frames>(
         alloc: Global,
         store: &mut F,
         number: u64,
-    ) -> Result<Option<NodeEntry>, PrepareFault> {
+    ) -> Result<Option<NodeEntry>, ReadFault> {
         if !has_role(store, number, Role::Node) {
             return Ok(None);
         }
@@ -181,14 +169,12 @@ impl DescribedEntry for NodeEntry {
         let Content::Node(slots) = content else {
             unreachable!()
         };
-        match slot_entries(alloc, slots.as_slice()) {
-            Ok(slots) => Ok(Some(NodeEntry {
-                number,
-                owner,
-                slots,
-            })),
-            Err(_) => Err(PrepareFault::NoMemory),
-        }
+        let slots = slot_entries(alloc, slots.as_slice())?;
+        Ok(Some(NodeEntry {
+            number,
+            owner,
+            slots,
+        }))
     }
 }
 
@@ -201,11 +187,11 @@ impl DescribedEntry for PageEntry {
 
     ghost is_kept = { Prim.search rules };
 
-    fn entry_of<F: PresentFrames>(
+    fn entry_of<F: Frames>(
         alloc: Global,
         store: &mut F,
         number: u64,
-    ) -> Result<Option<PageEntry>, PrepareFault> {
+    ) -> Result<Option<PageEntry>, ReadFault> {
         if !has_role(store, number, Role::Page) {
             return Ok(None);
         }
@@ -213,13 +199,11 @@ impl DescribedEntry for PageEntry {
         let Content::Page(words) = content else {
             unreachable!()
         };
-        match word_entries(alloc, words.as_slice()) {
-            Ok(words) => Ok(Some(PageEntry {
-                number,
-                owner,
-                words,
-            })),
-            Err(_) => Err(PrepareFault::NoMemory),
-        }
+        let words = word_entries(alloc, words.as_slice())?;
+        Ok(Some(PageEntry {
+            number,
+            owner,
+            words,
+        }))
     }
 }

@@ -22,7 +22,8 @@ in_arrow_to holder at c None a h = absurd (contains_none a h)
 in_arrow_to holder at c (Some target) a h = (
   target,
   refl,
-  elim (contains_cases a (record { holder = holder; place = at; capability = c; target = target }) [] h) [ inl is ↦ is | inr none ↦ absurd (contains_none a none) ],
+  elim (contains_cases a (record { holder = holder; place = at; capability = c; target = target }) [] h)
+      [ inl is ↦ is | inr none ↦ absurd (contains_none a none) ],
 )
 
 arrow_to_has : (holder : ℕ) (at : Place) (c : Capability) (o : Option ℕ) (target : ℕ) → o ≡ Some target
@@ -63,23 +64,26 @@ in_slots : (holder : ℕ) (at : ℕ → Place) (slots : List SlotEntry) (a : Arr
     → (s : SlotEntry) × Contains slots s × Contains (arrow_of holder (at s.index) (value_of s)) a
 in_slots holder at slots a h = contains_flat (λ s. arrow_of holder (at s.index) (value_of s)) a slots h
 
-slots_once : (holder : ℕ) (at : ℕ → Place) (slots : List SlotEntry) → ((i : ℕ) → index_of (at i) ≡ i) → AreDistinct (map (λ s. s.index) slots) → IsOnce (arrows_at holder at slots)
+slots_once : (holder : ℕ) (at : ℕ → Place) (slots : List SlotEntry) → ((i : ℕ) → index_of (at i) ≡ i) → AreDistinct (map (λ s. s.index) slots) →
+    IsOnce (arrows_at holder at slots)
 slots_once holder at slots same distinct =
     once_flat (λ s. arrow_of holder (at s.index) (value_of s)) (λ a. index_of a.place) (λ s. s.index) slots (once_distinct (map (λ s. s.index) slots) distinct)
     (λ s there. arrow_once holder (at s.index) (value_of s) (named (value_of s)))
     (λ s a there. ap index_of (holder_is holder (at s.index) (value_of s) a there).1 ∙ same s.index)
 
-slots_holder : (holder : ℕ) (at : ℕ → Place) (slots : List SlotEntry) (a : Arrow) → Contains (arrows_at holder at slots) a → (a.holder ≡ holder) × (i : ℕ) × (a.place ≡ at i)
+slots_holder : (holder : ℕ) (at : ℕ → Place) (slots : List SlotEntry) (a : Arrow) → Contains (arrows_at holder at slots) a →
+    (a.holder ≡ holder) × (i : ℕ) × (a.place ≡ at i)
 slots_holder holder at slots a h =
     let found = in_slots holder at slots a h in
     let is = holder_is holder (at found.0.index) (value_of found.0) a found.2 in
     (is.0, found.0.index, is.1)
 
 process_holder : (p : ProcessEntry) (a : Arrow) → Contains (process_arrows p) a → a.holder ≡ p.root
-process_holder p a h = elim (Contains-append_cases (arrow_of p.root place.Space (unwrap_or p.space Void)) (arrows_at p.root place.Register p.registers.items) a h) [
-  | inl space ↦ (holder_is p.root place.Space (unwrap_or p.space Void) a space).0
-  | inr register ↦ (slots_holder p.root place.Register p.registers.items a register).0
-]
+process_holder p a h = elim
+    (Contains-append_cases (arrow_of p.root place.Space (unwrap_or p.space Void)) (arrows_at p.root place.Register p.registers.items) a h) [
+      | inl space ↦ (holder_is p.root place.Space (unwrap_or p.space Void) a space).0
+      | inr register ↦ (slots_holder p.root place.Register p.registers.items a register).0
+    ]
 
 -- whether it begins at a slot
 abbrev IsAtSlot : Place → Type 0
@@ -91,10 +95,11 @@ IsAtRegister (place.Register i) = Unit {0}
 IsAtRegister _ = ⊥
 
 not_at_slot : (p : ProcessEntry) (a : Arrow) → Contains (process_arrows p) a → IsAtSlot a.place → ⊥
-not_at_slot p a h slot = elim (Contains-append_cases (arrow_of p.root place.Space (unwrap_or p.space Void)) (arrows_at p.root place.Register p.registers.items) a h) [
-  | inl space ↦ subst IsAtSlot (holder_is p.root place.Space (unwrap_or p.space Void) a space).1 slot
-  | inr register ↦ let is = slots_holder p.root place.Register p.registers.items a register in subst IsAtSlot is.2 slot
-]
+not_at_slot p a h slot = elim
+    (Contains-append_cases (arrow_of p.root place.Space (unwrap_or p.space Void)) (arrows_at p.root place.Register p.registers.items) a h) [
+      | inl space ↦ subst IsAtSlot (holder_is p.root place.Space (unwrap_or p.space Void) a space).1 slot
+      | inr register ↦ let is = slots_holder p.root place.Register p.registers.items a register in subst IsAtSlot is.2 slot
+    ]
 
 process_once : (p : ProcessEntry) → AreDistinct (map (λ s. s.index) p.registers.items) → IsOnce (process_arrows p)
 process_once p distinct =
@@ -133,7 +138,8 @@ module _ (g : Geometry) (w : World) (d : Description) (describes : Describes g w
   arrows_once : IsOnce (arrows d)
   arrows_once =
       once_append (flat_map process_arrows d.processes.items) (flat_map node_arrows d.nodes.items)
-      (once_flat process_arrows (λ a. a.holder) (λ p. p.root) d.processes.items (once_distinct (map (λ p. p.root) d.processes.items) roots_distinct) (λ p there. process_once p (registers_are p there).distinct) process_holder)
+      (once_flat process_arrows (λ a. a.holder) (λ p. p.root) d.processes.items (once_distinct (map (λ p. p.root) d.processes.items) roots_distinct)
+      (λ p there. process_once p (registers_are p there).distinct) process_holder)
       (once_flat node_arrows (λ a. a.holder) (λ n. n.number) d.nodes.items (once_distinct (map (λ n. n.number) d.nodes.items) nodes_distinct)
       (λ n there. slots_once n.number place.Slot n.slots.items (λ i. refl) (slots_are n there).distinct)
       (λ n a there. (slots_holder n.number place.Slot n.slots.items a there).0))
@@ -155,12 +161,14 @@ module _ (g : Geometry) (w : World) (d : Description) (describes : Describes g w
   annex_is : (p : ProcessEntry) → Contains d.processes.items p → annex_at w.objects p.root ≡ p.annex
   annex_is p there = ap (λ (o : Object). (root_in o.content).annex) (root_reported g w d describes p there).3
 
-  register_is : (p : ProcessEntry) (there : Contains d.processes.items p) (i : ℕ) → register_at w.objects p.root i ≡ slice_index_or (annex_reported g w d describes p there).0 i Void
+  register_is : (p : ProcessEntry) (there : Contains d.processes.items p) (i : ℕ) →
+      register_at w.objects p.root i ≡ slice_index_or (annex_reported g w d describes p there).0 i Void
   register_is p there i =
       ap (λ (n : ℕ). slot_at w.objects n i) (annex_is p there)
       ∙ ap (λ (o : Object). slice_index_or (slots_in o.content) i Void) (annex_reported g w d describes p there).2
 
-  slot_is : (n : NodeEntry) (there : Contains d.nodes.items n) (i : ℕ) → slot_at w.objects n.number i ≡ slice_index_or (node_reported g w d describes n there).0 i Void
+  slot_is : (n : NodeEntry) (there : Contains d.nodes.items n) (i : ℕ) → slot_at w.objects n.number i ≡ slice_index_or (node_reported g w d describes n there).0
+      i Void
   slot_is n there i = ap (λ (o : Object). slice_index_or (slots_in o.content) i Void) (node_reported g w d describes n there).2
 
   node_is : (n : NodeEntry) → Contains d.nodes.items n → IsTrue (is_node (content_at w.objects n.number))
@@ -168,14 +176,15 @@ module _ (g : Geometry) (w : World) (d : Description) (describes : Describes g w
 
   -- each arrow is held
   of_process : (p : ProcessEntry) (a : Arrow) → Contains d.processes.items p → Contains (process_arrows p) a → IsArrow w.objects a
-  of_process p a there h = elim (Contains-append_cases (arrow_of p.root place.Space (unwrap_or p.space Void)) (arrows_at p.root place.Register p.registers.items) a h) [
-    | inl space ↦ arrow_held w.objects p.root place.Space (unwrap_or p.space Void) a (root_is p there, space_is p there) space
-    | inr register ↦
-        let found = in_slots p.root place.Register p.registers.items a register in
-        let annex = annex_reported g w d describes p there in
-        arrow_held w.objects p.root (place.Register found.0.index) (value_of found.0) a
-        (root_is p there, register_is p there found.0.index ∙ slot_said 1 p.registers.items annex.0 (registers_are p there) annex.1 found.0 found.1) found.2
-  ]
+  of_process p a there h = elim
+      (Contains-append_cases (arrow_of p.root place.Space (unwrap_or p.space Void)) (arrows_at p.root place.Register p.registers.items) a h) [
+        | inl space ↦ arrow_held w.objects p.root place.Space (unwrap_or p.space Void) a (root_is p there, space_is p there) space
+        | inr register ↦
+            let found = in_slots p.root place.Register p.registers.items a register in
+            let annex = annex_reported g w d describes p there in
+            arrow_held w.objects p.root (place.Register found.0.index) (value_of found.0) a
+            (root_is p there, register_is p there found.0.index ∙ slot_said 1 p.registers.items annex.0 (registers_are p there) annex.1 found.0 found.1) found.2
+      ]
 
   of_node : (n : NodeEntry) (a : Arrow) → Contains d.nodes.items n → Contains (node_arrows n) a → IsArrow w.objects a
   of_node n a there h =
@@ -198,7 +207,8 @@ module _ (g : Geometry) (w : World) (d : Description) (describes : Describes g w
   process_of (OfNode n) there is = absurd (not_both _ is (ap (λ (o : Object). is_root o.content) (node_reported g w d describes n there).2))
   process_of (OfPage p) there is = absurd (not_both _ is (ap (λ (o : Object). is_root o.content) (page_reported g w d describes p there).1))
 
-  node_of : (e : Entry) → IsOf d e → IsTrue (is_node (content_at w.objects (number_of e))) → (n : NodeEntry) × Contains d.nodes.items n × (n.number ≡ number_of e)
+  node_of : (e : Entry) → IsOf d e → IsTrue (is_node (content_at w.objects (number_of e))) →
+      (n : NodeEntry) × Contains d.nodes.items n × (n.number ≡ number_of e)
   node_of (OfBank b) there is = absurd (not_both _ is (ap (λ (o : Object). is_node o.content) (bank_reported g w d describes b there)))
   node_of (OfRoot p) there is = absurd (not_both _ is (ap (λ (o : Object). is_node o.content) (root_reported g w d describes p there).3))
   node_of (OfAnnex p) there is = absurd (not_both _ is (ap (λ (o : Object). is_node o.content) (annex_reported g w d describes p there).2))
@@ -227,17 +237,21 @@ module _ (g : Geometry) (w : World) (d : Description) (describes : Describes g w
 
   process_has : (p : ProcessEntry) (a : Arrow) → Contains d.processes.items p → Contains (process_arrows p) a → Contains (arrows d) a
   process_has p a there h =
-      Contains-append_left (flat_map process_arrows d.processes.items) (flat_map node_arrows d.nodes.items) a (flat_contains process_arrows p a d.processes.items there h)
+      Contains-append_left (flat_map process_arrows d.processes.items) (flat_map node_arrows d.nodes.items) a
+      (flat_contains process_arrows p a d.processes.items there h)
 
-  space_has : (p : ProcessEntry) (c : Capability) (target : ℕ) → Contains d.processes.items p → (root_at w.objects p.root).space ≡ c → named c ≡ Some target → HasArrow p.root place.Space c target
+  space_has : (p : ProcessEntry) (c : Capability) (target : ℕ) → Contains d.processes.items p → (root_at w.objects p.root).space ≡ c → named c ≡ Some target →
+      HasArrow p.root place.Space c target
   space_has p c target there is names =
       let value : unwrap_or p.space Void ≡ c = sym (space_is p there) ∙ is in
       process_has p _ there
       (Contains-append_left (arrow_of p.root place.Space (unwrap_or p.space Void)) (arrows_at p.root place.Register p.registers.items) _
-      (subst (λ (k : Capability). Contains (arrow_of p.root place.Space k) (record { holder = p.root; place = place.Space; capability = c; target = target })) (sym value)
+      (subst (λ (k : Capability). Contains (arrow_of p.root place.Space k) (record { holder = p.root; place = place.Space; capability = c; target = target }))
+      (sym value)
       (arrow_to_has p.root place.Space c (named c) target names)))
 
-  slot_has : (holder : ℕ) (at : ℕ → Place) (slots : List SlotEntry) (s : SlotEntry) (i : ℕ) (c : Capability) (target : ℕ) → Contains slots s → s.index ≡ i → value_of s ≡ c → named c ≡ Some target
+  slot_has : (holder : ℕ) (at : ℕ → Place) (slots : List SlotEntry) (s : SlotEntry) (i : ℕ) (c : Capability) (target : ℕ) → Contains slots s → s.index ≡ i →
+      value_of s ≡ c → named c ≡ Some target
       → Contains (arrows_at holder at slots) (record { holder = holder; place = at i; capability = c; target = target })
   slot_has holder at slots s i c target there is value names =
       flat_contains (λ s. arrow_of holder (at s.index) (value_of s)) s (record { holder = holder; place = at i; capability = c; target = target }) slots there
@@ -245,7 +259,8 @@ module _ (g : Geometry) (w : World) (d : Description) (describes : Describes g w
       (subst (λ (k : Capability). Contains (arrow_of holder (at i) k) (record { holder = holder; place = at i; capability = c; target = target })) (sym value)
       (arrow_to_has holder (at i) c (named c) target names)))
 
-  register_has : (p : ProcessEntry) (i : ℕ) (c : Capability) (target : ℕ) → Contains d.processes.items p → register_at w.objects p.root i ≡ c → named c ≡ Some target → HasArrow p.root (place.Register i) c target
+  register_has : (p : ProcessEntry) (i : ℕ) (c : Capability) (target : ℕ) → Contains d.processes.items p → register_at w.objects p.root i ≡ c →
+      named c ≡ Some target → HasArrow p.root (place.Register i) c target
   register_has p i c target there is names =
       let annex = annex_reported g w d describes p there in
       let found = said_slot 1 p.registers.items annex.0 (registers_are p there) annex.1 i c target (sym (register_is p there i) ∙ is) names in
@@ -253,7 +268,8 @@ module _ (g : Geometry) (w : World) (d : Description) (describes : Describes g w
       (Contains-append_right (arrow_of p.root place.Space (unwrap_or p.space Void)) (arrows_at p.root place.Register p.registers.items) _
       (slot_has p.root place.Register p.registers.items found.0 i c target found.1 found.2 found.3 names))
 
-  node_has : (n : NodeEntry) (i : ℕ) (c : Capability) (target : ℕ) → Contains d.nodes.items n → slot_at w.objects n.number i ≡ c → named c ≡ Some target → HasArrow n.number (place.Slot i) c target
+  node_has : (n : NodeEntry) (i : ℕ) (c : Capability) (target : ℕ) → Contains d.nodes.items n → slot_at w.objects n.number i ≡ c → named c ≡ Some target →
+      HasArrow n.number (place.Slot i) c target
   node_has n i c target there is names =
       let node = node_reported g w d describes n there in
       let found = said_slot 0 n.slots.items node.0 (slots_are n there) node.1 i c target (sym (slot_is n there i) ∙ is) names in

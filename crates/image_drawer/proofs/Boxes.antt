@@ -38,18 +38,26 @@ boxes_are d =
     map_both owned (bank_parts d ++ root_parts d ++ node_parts d) (page_parts d)
     ∙ ap (λ (ns : List ℕ). ns ++ map owned (page_parts d)) (map_both owned (bank_parts d ++ root_parts d) (node_parts d))
     ∙ ap (λ (ns : List ℕ). (ns ++ map owned (node_parts d)) ++ map owned (page_parts d)) (map_both owned (bank_parts d) (root_parts d))
-    ∙ ap (λ (ns : List ℕ). ((ns ++ map owned (root_parts d)) ++ map owned (node_parts d)) ++ map owned (page_parts d)) (map_again owned (λ b. (b.owner, b.number)) d.banks.items)
-    ∙ ap (λ (ns : List ℕ). ((map (λ b. b.number) d.banks.items ++ ns) ++ map owned (node_parts d)) ++ map owned (page_parts d)) (map_again owned (λ p. (p.owner, p.root)) d.processes.items)
-    ∙ ap (λ (ns : List ℕ). ((map (λ b. b.number) d.banks.items ++ map (λ p. p.root) d.processes.items) ++ ns) ++ map owned (page_parts d)) (map_again owned (λ n. (n.owner, n.number)) d.nodes.items)
-    ∙ ap (λ (ns : List ℕ). ((map (λ b. b.number) d.banks.items ++ map (λ p. p.root) d.processes.items) ++ map (λ n. n.number) d.nodes.items) ++ ns) (map_again owned (λ p. (p.owner, p.number)) d.pages.items)
+    ∙ ap (λ (ns : List ℕ). ((ns ++ map owned (root_parts d)) ++ map owned (node_parts d)) ++ map owned (page_parts d))
+    (map_again owned (λ b. (b.owner, b.number)) d.banks.items)
+    ∙ ap (λ (ns : List ℕ). ((map (λ b. b.number) d.banks.items ++ ns) ++ map owned (node_parts d)) ++ map owned (page_parts d))
+    (map_again owned (λ p. (p.owner, p.root)) d.processes.items)
+    ∙ ap (λ (ns : List ℕ). ((map (λ b. b.number) d.banks.items ++ map (λ p. p.root) d.processes.items) ++ ns) ++ map owned (page_parts d))
+    (map_again owned (λ n. (n.owner, n.number)) d.nodes.items)
+    ∙ ap (λ (ns : List ℕ). ((map (λ b. b.number) d.banks.items ++ map (λ p. p.root) d.processes.items) ++ map (λ n. n.number) d.nodes.items) ++ ns)
+    (map_again owned (λ p. (p.owner, p.number)) d.pages.items)
 
 owners_are : (d : Description) → flat_map joined_part (parts d) ≡ owners d
 owners_are d =
     flat_map-four joined_part (bank_parts d) (root_parts d) (node_parts d) (page_parts d)
-    ∙ ap (λ (ps : List (ℕ × ℕ)). ps ++ flat_map joined_part (root_parts d) ++ flat_map joined_part (node_parts d) ++ flat_map joined_part (page_parts d)) (flat_map-map joined_part (λ b. (b.owner, b.number)) d.banks.items)
-    ∙ ap (λ (ps : List (ℕ × ℕ)). flat_map (λ b. joined b.owner b.number) d.banks.items ++ ps ++ flat_map joined_part (node_parts d) ++ flat_map joined_part (page_parts d)) (flat_map-map joined_part (λ p. (p.owner, p.root)) d.processes.items)
-    ∙ ap (λ (ps : List (ℕ × ℕ)). flat_map (λ b. joined b.owner b.number) d.banks.items ++ flat_map (λ p. joined p.owner p.root) d.processes.items ++ ps ++ flat_map joined_part (page_parts d)) (flat_map-map joined_part (λ n. (n.owner, n.number)) d.nodes.items)
-    ∙ ap (λ (ps : List (ℕ × ℕ)). flat_map (λ b. joined b.owner b.number) d.banks.items ++ flat_map (λ p. joined p.owner p.root) d.processes.items ++ flat_map (λ n. joined n.owner n.number) d.nodes.items ++ ps) (flat_map-map joined_part (λ p. (p.owner, p.number)) d.pages.items)
+    ∙ ap (λ (ps : List (ℕ × ℕ)). ps ++ flat_map joined_part (root_parts d) ++ flat_map joined_part (node_parts d) ++ flat_map joined_part (page_parts d))
+    (flat_map-map joined_part (λ b. (b.owner, b.number)) d.banks.items)
+    ∙ ap (λ (ps : List (ℕ × ℕ)). flat_map (λ b. joined b.owner b.number) d.banks.items ++ ps ++ flat_map joined_part (node_parts d) ++ flat_map joined_part
+    (page_parts d)) (flat_map-map joined_part (λ p. (p.owner, p.root)) d.processes.items)
+    ∙ ap (λ (ps : List (ℕ × ℕ)). flat_map (λ b. joined b.owner b.number) d.banks.items ++ flat_map (λ p. joined p.owner p.root) d.processes.items ++ ps ++
+    flat_map joined_part (page_parts d)) (flat_map-map joined_part (λ n. (n.owner, n.number)) d.nodes.items)
+    ∙ ap (λ (ps : List (ℕ × ℕ)). flat_map (λ b. joined b.owner b.number) d.banks.items ++ flat_map (λ p. joined p.owner p.root) d.processes.items ++ flat_map
+    (λ n. joined n.owner n.number) d.nodes.items ++ ps) (flat_map-map joined_part (λ p. (p.owner, p.number)) d.pages.items)
 
 -- no box comes twice, since no number does
 boxes_once : (d : Description) → AreDistinct (node_numbers d ++ page_numbers d) → IsOnce (boxes d)
@@ -83,7 +91,8 @@ in_joined : (owner number : ℕ) (p : ℕ × ℕ) → Contains (joined owner num
 in_joined owner number p h = elim (cases_eq owner number) [
   | inl is ↦ absurd (contains_none p (subst (λ (ps : List (ℕ × ℕ)). Contains ps p) (joined_none owner number is) h))
   | inr differ ↦ (
-    elim (contains_cases p (owner, number) [] (subst (λ (ps : List (ℕ × ℕ)). Contains ps p) (joined_some owner number differ) h)) [ inl is ↦ is | inr none ↦ absurd (contains_none p none) ],
+    elim (contains_cases p (owner, number) [] (subst (λ (ps : List (ℕ × ℕ)). Contains ps p) (joined_some owner number differ) h))
+        [ inl is ↦ is | inr none ↦ absurd (contains_none p none) ],
     differ,
   )
 ]
@@ -111,17 +120,22 @@ module _ (g : Geometry) (w : World) (d : Description) (describes : Describes g w
 
   part_reported : (p : ℕ × ℕ) → Contains (parts d) p → IsPart p
   part_reported p h = elim (Contains-append_cases (bank_parts d ++ root_parts d ++ node_parts d) (page_parts d) p h) [
-    | inr page ↦ part_from (λ p. (p.owner, p.number)) d.pages.items p (λ p there. let reported = page_reported g w d describes p there in has_box p.number p.owner (content.Page reported.0) reported.1 refl refl) page
+    | inr page ↦ part_from (λ p. (p.owner, p.number)) d.pages.items p
+        (λ p there. let reported = page_reported g w d describes p there in has_box p.number p.owner (content.Page reported.0) reported.1 refl refl) page
     | inl rest ↦ elim (Contains-append_cases (bank_parts d ++ root_parts d) (node_parts d) p rest) [
-      | inr node ↦ part_from (λ n. (n.owner, n.number)) d.nodes.items p (λ n there. let reported = node_reported g w d describes n there in has_box n.number n.owner (content.Node reported.0) reported.2 refl refl) node
+      | inr node ↦ part_from (λ n. (n.owner, n.number)) d.nodes.items p
+          (λ n there. let reported = node_reported g w d describes n there in has_box n.number n.owner (content.Node reported.0) reported.2 refl refl) node
       | inl more ↦ elim (Contains-append_cases (bank_parts d) (root_parts d) p more) [
-        | inr root ↦ part_from (λ p. (p.owner, p.root)) d.processes.items p (λ p there. let reported = root_reported g w d describes p there in has_box p.root p.owner _ reported.3 refl refl) root
-        | inl bank ↦ part_from (λ b. (b.owner, b.number)) d.banks.items p (λ b there. has_box b.number b.owner (content.Bank b.limit) (bank_reported g w d describes b there) refl refl) bank
+        | inr root ↦ part_from (λ p. (p.owner, p.root)) d.processes.items p
+            (λ p there. let reported = root_reported g w d describes p there in has_box p.root p.owner _ reported.3 refl refl) root
+        | inl bank ↦ part_from (λ b. (b.owner, b.number)) d.banks.items p
+            (λ b there. has_box b.number b.owner (content.Bank b.limit) (bank_reported g w d describes b there) refl refl) bank
       ]
     ]
   ]
 
-  same_owner : (n owner : ℕ) (c : Content Capability) → object_at w.objects n ≡ record { owner = owner; content = c } → Contains (parts d) (owner, n) → Contains (parts d) (owner_at w.objects n, n)
+  same_owner : (n owner : ℕ) (c : Content Capability) → object_at w.objects n ≡ record { owner = owner; content = c } → Contains (parts d) (owner, n) →
+      Contains (parts d) (owner_at w.objects n, n)
   same_owner n owner c is there = subst (λ (m : ℕ). Contains (parts d) (m, n)) (sym (ap (λ (o : Object). o.owner) is)) there
 
   entry_part : (e : Entry) → IsOf d e → HasBox w.objects (number_of e) → Contains (parts d) (owner_at w.objects (number_of e), number_of e)
@@ -139,7 +153,8 @@ module _ (g : Geometry) (w : World) (d : Description) (describes : Describes g w
       (Contains-append_left (bank_parts d ++ root_parts d ++ node_parts d) (page_parts d) (n.owner, n.number)
       (Contains-append_right (bank_parts d ++ root_parts d) (node_parts d) (n.owner, n.number) (contains_map (λ n. (n.owner, n.number)) n d.nodes.items there)))
   entry_part (OfPage p) there has = same_owner p.number p.owner _ (page_reported g w d describes p there).1
-      (Contains-append_right (bank_parts d ++ root_parts d ++ node_parts d) (page_parts d) (p.owner, p.number) (contains_map (λ p. (p.owner, p.number)) p d.pages.items there))
+      (Contains-append_right (bank_parts d ++ root_parts d ++ node_parts d) (page_parts d) (p.owner, p.number)
+      (contains_map (λ p. (p.owner, p.number)) p d.pages.items there))
 
   reported_part : (n : ℕ) → HasBox w.objects n → Contains (parts d) (owner_at w.objects n, n)
   reported_part n has = elim (described_cases d (plain_frames w.objects) n describes.frames) [

@@ -21,7 +21,8 @@ listed_map f n [] = refl
 listed_map f n (x ∷ xs) = ap (λ (b : Bool). (f x == n) || b) (listed_map f n xs)
 
 pub box_listed : (n : ℕ) (d : Description) → is_listed n (boxes d)
-    ≡ (list_any (λ b. b.number == n) d.banks.items || list_any (λ p. p.root == n) d.processes.items || list_any (λ m. m.number == n) d.nodes.items || list_any (λ p. p.number == n) d.pages.items)
+    ≡ (list_any (λ b. b.number == n) d.banks.items || list_any (λ p. p.root == n) d.processes.items || list_any (λ m. m.number == n) d.nodes.items || list_any
+    (λ p. p.number == n) d.pages.items)
 box_listed n d =
     let banks : List ℕ = map (λ b. b.number) d.banks.items in
     let roots : List ℕ = map (λ p. p.root) d.processes.items in
@@ -52,26 +53,34 @@ module _ (d : Description) (numbers : HasNumbers d) where
   Below n = n < object_count d.geometry
 
   roots_below : All (λ p. Below p.root) d.processes.items
-  roots_below = all_from (λ (p : ProcessEntry). Below p.root) d.processes.items (λ p there. let below = in_range d (OfRoot p) numbers there in omega (arith, below))
+  roots_below = all_from (λ (p : ProcessEntry). Below p.root) d.processes.items
+      (λ p there. let below = in_range d (OfRoot p) numbers there in omega (arith, below))
 
   nodes_below : All (λ n. Below n.number) d.nodes.items
   nodes_below = all_from (λ (n : NodeEntry). Below n.number) d.nodes.items (λ n there. let below = in_range d (OfNode n) numbers there in omega (arith, below))
 
   boxes_below : All Below (boxes d)
   boxes_below =
-      All-append Below (map (λ b. b.number) d.banks.items ++ map (λ p. p.root) d.processes.items ++ map (λ n. n.number) d.nodes.items) (map (λ p. p.number) d.pages.items)
+      All-append Below (map (λ b. b.number) d.banks.items ++ map (λ p. p.root) d.processes.items ++ map (λ n. n.number) d.nodes.items)
+      (map (λ p. p.number) d.pages.items)
       (All-append Below (map (λ b. b.number) d.banks.items ++ map (λ p. p.root) d.processes.items) (map (λ n. n.number) d.nodes.items)
       (All-append Below (map (λ b. b.number) d.banks.items) (map (λ p. p.root) d.processes.items)
-      (All-map Below (λ b. b.number) d.banks.items (all_from (λ (b : BankEntry). Below b.number) d.banks.items (λ b there. let below = in_range d (OfBank b) numbers there in omega (arith, below))))
+      (All-map Below (λ b. b.number) d.banks.items
+      (all_from (λ (b : BankEntry). Below b.number) d.banks.items (λ b there. let below = in_range d (OfBank b) numbers there in omega (arith, below))))
       (All-map Below (λ p. p.root) d.processes.items roots_below))
       (All-map Below (λ n. n.number) d.nodes.items nodes_below))
-      (All-map Below (λ p. p.number) d.pages.items (all_from (λ (p : PageEntry). Below p.number) d.pages.items (λ p there. (in_range d (OfPage p) numbers there).1)))
+      (All-map Below (λ p. p.number) d.pages.items
+      (all_from (λ (p : PageEntry). Below p.number) d.pages.items (λ p there. (in_range d (OfPage p) numbers there).1)))
 
   pub holders_below : (o : ℕ) → is_listed o (boxes d) ≡ true → All Below (holders o d)
   holders_below o drawn =
       let processes : List ProcessEntry = filter (λ (p : ProcessEntry). names o p.space || holds_in o p.registers.items) d.processes.items in
       let nodes : List NodeEntry = filter (λ (n : NodeEntry). holds_in o n.slots.items) d.nodes.items in
-      All-cons Below o (map (λ p. p.root) processes ++ map (λ n. n.number) nodes) (All-contains Below (boxes d) o boxes_below (listed_contains o (boxes d) drawn))
+      All-cons Below o (map (λ p. p.root) processes ++ map (λ n. n.number) nodes)
+      (All-contains Below (boxes d) o boxes_below (listed_contains o (boxes d) drawn))
       (All-append Below (map (λ p. p.root) processes) (map (λ n. n.number) nodes)
-      (All-map Below (λ p. p.root) processes (All-filter (λ (p : ProcessEntry). names o p.space || holds_in o p.registers.items) (λ (p : ProcessEntry). Below p.root) d.processes.items roots_below))
-      (All-map Below (λ n. n.number) nodes (All-filter (λ (n : NodeEntry). holds_in o n.slots.items) (λ (n : NodeEntry). Below n.number) d.nodes.items nodes_below)))
+      (All-map Below (λ p. p.root) processes
+      (All-filter (λ (p : ProcessEntry). names o p.space || holds_in o p.registers.items) (λ (p : ProcessEntry). Below p.root) d.processes.items
+      roots_below))
+      (All-map Below (λ n. n.number) nodes
+      (All-filter (λ (n : NodeEntry). holds_in o n.slots.items) (λ (n : NodeEntry). Below n.number) d.nodes.items nodes_below)))

@@ -31,7 +31,8 @@ pub once_flat : {X Y : Type 0} (f : X → List Y) (key : Y → ℕ) (index : X �
     → ((x : X) → Contains xs x → IsOnce (f x)) → ((x : X) (y : Y) → Contains (f x) y → key y ≡ index x) → IsOnce (flat_map f xs)
 once_flat f key index [] distinct once keyed = tt
 once_flat f key index (x ∷ xs) distinct once keyed =
-    once_append (f x) (flat_map f xs) (once x (contains_here x xs)) (once_flat f key index xs distinct.1 (λ z there. once z (contains_there z x xs there)) keyed)
+    once_append (f x) (flat_map f xs) (once x (contains_here x xs))
+    (once_flat f key index xs distinct.1 (λ z there. once z (contains_there z x xs there)) keyed)
     (λ y one two.
     let found = contains_flat f y xs two in
     distinct.0 (subst (Contains (map index xs)) (sym (keyed found.0 y found.2) ∙ keyed x y one) (contains_map index found.0 xs found.1)))

@@ -25,9 +25,11 @@ content_back (content.Annex registers) = ap (λ (cs : List Capability). let x : 
 content_back (content.Bank limit) = refl
 
 -- the object of a plain frame
-pub object_back : (o : Object) (owner : ℕ) (held : Content Cap) → plain_frame o ≡ first_frame owner held → o ≡ record { owner = owner; content = map_content what held }
+pub object_back : (o : Object) (owner : ℕ) (held : Content Cap) → plain_frame o ≡ first_frame owner held →
+    o ≡ record { owner = owner; content = map_content what held }
 object_back o owner held is =
-    ap (λ (c : Content Capability). let x : Object = record { owner = o.owner; content = c } in x) (sym (content_back o.content) ∙ ap (λ (f : Frame). map_content what f.content) is)
+    ap (λ (c : Content Capability). let x : Object = record { owner = o.owner; content = c } in x)
+    (sym (content_back o.content) ∙ ap (λ (f : Frame). map_content what f.content) is)
     ∙ ap (λ (n : ℕ). let x : Object = record { owner = n; content = map_content what held } in x) (ap (λ (f : Frame). f.header.owner) is)
 
 pub plain_at : (os : List Object) (n : ℕ) → frame_at (plain_frames os) n ≡ plain_frame (object_at os n)
@@ -42,14 +44,16 @@ pub record SaysSlots (entries : List SlotEntry) (slots : List Capability) : Type
 slots_said : (entries : List SlotEntry) (caps : List Cap) → HoldsNamed entries caps → SaysSlots entries (map what caps)
 slots_said entries caps holds = record {
   count = length-map caps what ∙ holds.count;
-  each = λ i lt. get_or-map what caps i (fresh_cap Void) ∙ ap what (get_or_from_slice_get caps i (fresh_cap (named_at entries i)) (fresh_cap Void) (holds.each i lt));
+  each = λ i lt. get_or-map what caps i (fresh_cap Void) ∙
+      ap what (get_or_from_slice_get caps i (fresh_cap (named_at entries i)) (fresh_cap Void) (holds.each i lt));
 }
 
 abbrev value_of : SlotEntry → Capability
 value_of s = unwrap_or s.capability Void
 
 -- what is named for an index is what an entry has
-entry_of : (entries : List SlotEntry) (i : ℕ) → named_at entries i ≢ Void → (s : SlotEntry) × Contains entries s × (s.index ≡ i) × (value_of s ≡ named_at entries i)
+entry_of : (entries : List SlotEntry) (i : ℕ) → named_at entries i ≢ Void →
+    (s : SlotEntry) × Contains entries s × (s.index ≡ i) × (value_of s ≡ named_at entries i)
 entry_of [] i some = absurd (some refl)
 entry_of (s ∷ entries) i some = elim (cases_eq s.index i) [
   | inl is ↦ (s, contains_here s entries, is, sym (first_there (λ t. t.index) value_of Void s entries i is))
@@ -81,7 +85,9 @@ module _ (g : Geometry) (w : World) (d : Description) (describes : Describes g w
   pub bank_reported : (b : BankEntry) → Contains d.banks.items b → object_at w.objects b.number ≡ record { owner = b.owner; content = content.Bank b.limit }
   bank_reported b there =
       object_back (object_at w.objects b.number) b.owner (content.Bank b.limit)
-      (sym (plain_at w.objects b.number) ∙ All-contains (λ (b : BankEntry). frame_at (plain_frames w.objects) b.number ≡ first_frame b.owner (content.Bank b.limit)) d.banks.items b describes.frames.banks there)
+      (sym (plain_at w.objects b.number) ∙
+      All-contains (λ (b : BankEntry). frame_at (plain_frames w.objects) b.number ≡ first_frame b.owner (content.Bank b.limit)) d.banks.items b
+      describes.frames.banks there)
 
   pub root_reported : (p : ProcessEntry) → Contains d.processes.items p → (state : State) × (space : Capability) × (p.space ≡ Some space)
       × (object_at w.objects p.root ≡ record {
@@ -89,24 +95,38 @@ module _ (g : Geometry) (w : World) (d : Description) (describes : Describes g w
         content = content.Root (record { state = state; words = p.words; key = p.key; annex = p.annex; space = space });
       })
   root_reported p there =
-      let root = All-contains (λ (p : ProcessEntry). IsDescribedRoot p (frame_at (plain_frames w.objects) p.root)) d.processes.items p describes.frames.roots there in
+      let root = All-contains (λ (p : ProcessEntry). IsDescribedRoot p (frame_at (plain_frames w.objects) p.root)) d.processes.items p describes.frames.roots
+      there in
       (root.0, root.1, root.3, object_back (object_at w.objects p.root) p.owner _ (sym (plain_at w.objects p.root) ∙ root.4))
 
   pub annex_reported : (p : ProcessEntry) → Contains d.processes.items p
-      → (registers : List Capability) × SaysSlots p.registers.items registers × (object_at w.objects p.annex ≡ record { owner = p.owner; content = content.Annex registers })
+      → (registers : List Capability) × SaysSlots p.registers.items registers ×
+      (object_at w.objects p.annex ≡ record { owner = p.owner; content = content.Annex registers })
   annex_reported p there =
-      let annex = All-contains (λ (p : ProcessEntry). IsDescribedAnnex p (frame_at (plain_frames w.objects) p.annex)) d.processes.items p describes.frames.annexes there in
-      (map what annex.0, slots_said p.registers.items annex.0 annex.1, object_back (object_at w.objects p.annex) p.owner (content.Annex annex.0) (sym (plain_at w.objects p.annex) ∙ annex.2))
+      let annex = All-contains (λ (p : ProcessEntry). IsDescribedAnnex p (frame_at (plain_frames w.objects) p.annex)) d.processes.items p
+      describes.frames.annexes there in (
+        map what annex.0,
+        slots_said p.registers.items annex.0 annex.1,
+        object_back (object_at w.objects p.annex) p.owner (content.Annex annex.0)
+            (sym (plain_at w.objects p.annex) ∙ annex.2),
+      )
 
   pub node_reported : (n : NodeEntry) → Contains d.nodes.items n
       → (slots : List Capability) × SaysSlots n.slots.items slots × (object_at w.objects n.number ≡ record { owner = n.owner; content = content.Node slots })
   node_reported n there =
-      let node = All-contains (λ (n : NodeEntry). IsDescribedNode n (frame_at (plain_frames w.objects) n.number)) d.nodes.items n describes.frames.nodes there in
-      (map what node.0, slots_said n.slots.items node.0 node.1, object_back (object_at w.objects n.number) n.owner (content.Node node.0) (sym (plain_at w.objects n.number) ∙ node.2))
+      let node = All-contains (λ (n : NodeEntry). IsDescribedNode n (frame_at (plain_frames w.objects) n.number)) d.nodes.items n describes.frames.nodes there
+      in (
+        map what node.0,
+        slots_said n.slots.items node.0 node.1,
+        object_back (object_at w.objects n.number) n.owner (content.Node node.0)
+            (sym (plain_at w.objects n.number) ∙ node.2),
+      )
 
-  pub page_reported : (p : PageEntry) → Contains d.pages.items p → (words : List ℕ) × (object_at w.objects p.number ≡ record { owner = p.owner; content = content.Page words })
+  pub page_reported : (p : PageEntry) → Contains d.pages.items p →
+      (words : List ℕ) × (object_at w.objects p.number ≡ record { owner = p.owner; content = content.Page words })
   page_reported p there =
-      let page = All-contains (λ (p : PageEntry). IsDescribedPage p (frame_at (plain_frames w.objects) p.number)) d.pages.items p describes.frames.pages there in
+      let page = All-contains (λ (p : PageEntry). IsDescribedPage p (frame_at (plain_frames w.objects) p.number)) d.pages.items p describes.frames.pages there
+      in
       (page.0, object_back (object_at w.objects p.number) p.owner (content.Page page.0) (sym (plain_at w.objects p.number) ∙ page.2))
 
   -- what isn't named is free

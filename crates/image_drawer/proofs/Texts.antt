@@ -34,14 +34,16 @@ module _ {A : Type 0} (text : A → List ℕ) (xs : List A) where
   item_fails a b c e i x whole is lt here before one = place_fails a b c e i x whole is lt before (subst (λ (y : A). Writes b c (Err e) (text y)) here one)
 
   -- all were written
-  pub all_written : (a b : Option (List ℕ)) (i : ℕ) (whole : List ℕ) → whole ≡ flat_map text xs → length xs ≤ i → Appends a b (flat_map text (take i xs)) → Appends a b whole
+  pub all_written : (a b : Option (List ℕ)) (i : ℕ) (whole : List ℕ) → whole ≡ flat_map text xs → length xs ≤ i → Appends a b (flat_map text (take i xs)) →
+      Appends a b whole
   all_written a b i whole is le before = subst (Appends a b) (ap (λ (l : List A). flat_map text l) (take_all i xs le) ∙ sym is) before
 
 -- a text could not be written, and another was to follow
 pub fails_before : (a b : Option (List ℕ)) (e : RunFault) (first second : List ℕ) → Writes a b (Err e) first → Writes a b (Err e) (first ++ second)
 fails_before a b e first second w = text_fails a b e first second (first ++ second) refl w
 
-pub fails_after : (a b c : Option (List ℕ)) (e : RunFault) (first second : List ℕ) → Appends a b first → Writes b c (Err e) second → Writes a c (Err e) (first ++ second)
+pub fails_after : (a b c : Option (List ℕ)) (e : RunFault) (first second : List ℕ) → Appends a b first → Writes b c (Err e) second →
+    Writes a c (Err e) (first ++ second)
 fails_after a b c e first second one w = writes_after a b c (Err e) first second one w
 
 -- Four texts, each after the one before it.
@@ -55,19 +57,23 @@ module _ (A B C D whole : List ℕ) (is : whole ≡ ((A ++ B) ++ C) ++ D) (a b :
   pub third_fails : (c d : Option (List ℕ)) (e : RunFault) → Appends a b A → Appends b c B → Writes c d (Err e) C → Writes a d (Err e) whole
   third_fails c d e one two w = text_fails a d e ((A ++ B) ++ C) D whole is (writes_after a c d (Err e) (A ++ B) C (Appends-trans a b c A B one two) w)
 
-  pub fourth_written : (c d f : Option (List ℕ)) (r : Result (Unit {0}) RunFault) → Appends a b A → Appends b c B → Appends c d C → Writes d f r D → Writes a f r whole
+  pub fourth_written : (c d f : Option (List ℕ)) (r : Result (Unit {0}) RunFault) → Appends a b A → Appends b c B → Appends c d C → Writes d f r D →
+      Writes a f r whole
   fourth_written c d f r one two three w =
       writes_same a f r (((A ++ B) ++ C) ++ D) whole (sym is)
       (writes_after a d f r ((A ++ B) ++ C) D (Appends-trans a c d (A ++ B) C (Appends-trans a b c A B one two) three) w)
 
 -- two and three texts
-pub two_written : (a b c : Option (List ℕ)) (r : Result (Unit {0}) RunFault) (A B whole : List ℕ) → whole ≡ A ++ B → Appends a b A → Writes b c r B → Writes a c r whole
+pub two_written : (a b c : Option (List ℕ)) (r : Result (Unit {0}) RunFault) (A B whole : List ℕ) → whole ≡ A ++ B → Appends a b A → Writes b c r B →
+    Writes a c r whole
 two_written a b c r A B whole is one w = writes_same a c r (A ++ B) whole (sym is) (writes_after a b c r A B one w)
 
-pub three_written : (a b c d : Option (List ℕ)) (r : Result (Unit {0}) RunFault) (A B C whole : List ℕ) → whole ≡ (A ++ B) ++ C → Appends a b A → Appends b c B → Writes c d r C → Writes a d r whole
+pub three_written : (a b c d : Option (List ℕ)) (r : Result (Unit {0}) RunFault) (A B C whole : List ℕ) → whole ≡ (A ++ B) ++ C → Appends a b A →
+    Appends b c B → Writes c d r C → Writes a d r whole
 three_written a b c d r A B C whole is one two w = two_written a c d r (A ++ B) C whole is (Appends-trans a b c A B one two) w
 
-pub flat_map-four : {A B : Type 0} (f : A → List B) (ps qs rs ss : List A) → flat_map f (ps ++ qs ++ rs ++ ss) ≡ flat_map f ps ++ flat_map f qs ++ flat_map f rs ++ flat_map f ss
+pub flat_map-four : {A B : Type 0} (f : A → List B) (ps qs rs ss : List A) → flat_map f (ps ++ qs ++ rs ++ ss) ≡ flat_map f ps ++ flat_map f qs ++ flat_map f rs
+    ++ flat_map f ss
 flat_map-four {A} {B} f ps qs rs ss =
     flat_map-append f (ps ++ qs ++ rs) ss
     ∙ ap (λ (l : List B). l ++ flat_map f ss) (flat_map-append f (ps ++ qs) rs)
@@ -88,13 +94,18 @@ pub arrow_put : (holder target : ℕ) (place kind style : List ℕ)
     ≡ spaced (decimal holder ∷ codes "->" ∷ decimal target ∷ (codes "[label=\"" ++ place ++ kind ++ codes "\"" ++ style ++ codes "]") ∷ [])
 arrow_put holder target place kind style =
     nine_joined (decimal holder) (32 ∷ codes "->") (32 ∷ decimal target) (32 ∷ codes "[label=\"") place kind (codes "\"") style (codes "]")
-    ∙ ap (λ (l : List ℕ). decimal holder ++ ((32 ∷ codes "->") ++ ((32 ∷ decimal target) ++ ((32 ∷ codes "[label=\"") ++ l)))) (sym (five_joined place kind (codes "\"") style (codes "]")))
+    ∙ ap (λ (l : List ℕ). decimal holder ++ ((32 ∷ codes "->") ++ ((32 ∷ decimal target) ++ ((32 ∷ codes "[label=\"") ++ l))))
+    (sym (five_joined place kind (codes "\"") style (codes "]")))
 
 pub process_put : (root annex key : ℕ) (state : List ℕ)
-    → (((((((decimal root ++ 32 ∷ codes "[label=\"process") ++ 32 ∷ decimal root) ++ 32 ∷ codes "annex") ++ 32 ∷ decimal annex) ++ codes "\\n") ++ state) ++ 32 ∷ codes "key") ++ 32 ∷ decimal key
-    ≡ spaced (decimal root ∷ (codes "[label=\"" ++ spaced (codes "process" ∷ decimal root ∷ codes "annex" ∷ decimal annex ∷ []) ++ next_line (spaced (state ∷ codes "key" ∷ decimal key ∷ []))) ∷ [])
+    → (((((((decimal root ++ 32 ∷ codes "[label=\"process") ++ 32 ∷ decimal root) ++ 32 ∷ codes "annex") ++ 32 ∷ decimal annex) ++ codes "\\n") ++ state) ++ 32
+    ∷ codes "key") ++ 32 ∷ decimal key
+    ≡ spaced (decimal root ∷
+    (codes "[label=\"" ++ spaced (codes "process" ∷ decimal root ∷ codes "annex" ∷ decimal annex ∷ []) ++ next_line
+    (spaced (state ∷ codes "key" ∷ decimal key ∷ []))) ∷ [])
 process_put root annex key state =
-    nine_joined (decimal root) (32 ∷ codes "[label=\"process") (32 ∷ decimal root) (32 ∷ codes "annex") (32 ∷ decimal annex) (codes "\\n") state (32 ∷ codes "key") (32 ∷ decimal key)
+    nine_joined (decimal root)
+    (32 ∷ codes "[label=\"process") (32 ∷ decimal root) (32 ∷ codes "annex") (32 ∷ decimal annex) (codes "\\n") state (32 ∷ codes "key") (32 ∷ decimal key)
     ∙ ap (λ (l : List ℕ). decimal root ++ ((32 ∷ codes "[label=\"process") ++ 32 ∷ l))
     (sym (four_joined (decimal root) (32 ∷ codes "annex") (32 ∷ decimal annex) (codes "\\n" ++ (state ++ ((32 ∷ codes "key") ++ 32 ∷ decimal key)))))
 
@@ -102,10 +113,12 @@ seven_joined : (a b c d e f g : List ℕ) → (((((a ++ b) ++ c) ++ d) ++ e) ++ 
 seven_joined a b c d e f g = simp append_assoc
 
 pub cluster_put : (owner number : ℕ)
-    → (((((codes "subgraph cluster_" ++ decimal owner) ++ 32 ∷ codes "{ label=\"bank") ++ 32 ∷ decimal owner) ++ codes "\"") ++ 32 ∷ decimal number) ++ 32 ∷ codes "}"
+    → (((((codes "subgraph cluster_" ++ decimal owner) ++ 32 ∷ codes "{ label=\"bank") ++ 32 ∷ decimal owner) ++ codes "\"") ++ 32 ∷ decimal number) ++ 32 ∷
+    codes "}"
     ≡ spaced ((codes "subgraph cluster_" ++ decimal owner) ∷ codes "{" ∷ codes "label=\"bank" ∷ (decimal owner ++ codes "\"") ∷ decimal number ∷ codes "}" ∷ [])
 cluster_put owner number =
-    seven_joined (codes "subgraph cluster_") (decimal owner) (32 ∷ codes "{ label=\"bank") (32 ∷ decimal owner) (codes "\"") (32 ∷ decimal number) (32 ∷ codes "}")
+    seven_joined (codes "subgraph cluster_") (decimal owner)
+    (32 ∷ codes "{ label=\"bank") (32 ∷ decimal owner) (codes "\"") (32 ∷ decimal number) (32 ∷ codes "}")
     ∙ sym (spaced_out (decimal owner) (decimal number))
   where
     spaced_out : (o n : List ℕ) → spaced ((codes "subgraph cluster_" ++ o) ∷ codes "{" ∷ codes "label=\"bank" ∷ (o ++ codes "\"") ∷ n ∷ codes "}" ∷ [])
@@ -114,5 +127,6 @@ cluster_put owner number =
 
 -- a box in three pieces
 pub box_pieces : (number : ℕ) (first more shape : List ℕ)
-    → box_line number (first ++ more) shape ≡ (spaced (decimal number ∷ (codes "[label=\"" ++ first) ∷ []) ++ more) ++ (codes "\" shape=" ++ shape ++ codes "]\n")
+    → box_line number (first ++ more) shape ≡
+    (spaced (decimal number ∷ (codes "[label=\"" ++ first) ∷ []) ++ more) ++ (codes "\" shape=" ++ shape ++ codes "]\n")
 box_pieces number first more shape = simp append_assoc

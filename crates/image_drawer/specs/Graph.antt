@@ -21,7 +21,8 @@ joined owner number = if owner == number then [] else (owner, number) ∷ []
 
 -- what is owned by another, each behind its owner
 abbrev pub owners : Description → List (ℕ × ℕ)
-owners d = flat_map (λ b. joined b.owner b.number) d.banks.items ++ flat_map (λ p. joined p.owner p.root) d.processes.items
+owners d = flat_map (λ b. joined b.owner b.number) d.banks.items ++ flat_map (λ p. joined p.owner p.root)
+    d.processes.items
     ++ flat_map (λ n. joined n.owner n.number) d.nodes.items ++ flat_map (λ p. joined p.owner p.number) d.pages.items
 
 -- a capability at a place of a holder, where it names a target
@@ -38,7 +39,8 @@ arrows_at holder at slots = flat_map (λ s. arrow_of holder (at s.index) (unwrap
 
 -- those of a process, its space first, and of a node
 abbrev pub process_arrows : ProcessEntry → List Arrow
-process_arrows p = arrow_of p.root place.Space (unwrap_or p.space Void) ++ arrows_at p.root place.Register p.registers.items
+process_arrows p = arrow_of p.root place.Space (unwrap_or p.space Void) ++ arrows_at p.root place.Register
+    p.registers.items
 
 abbrev pub node_arrows : NodeEntry → List Arrow
 node_arrows n = arrows_at n.number place.Slot n.slots.items
@@ -55,7 +57,8 @@ next_line text = codes "\\n" ++ text
 
 -- a box with these lines, of this shape
 abbrev pub box_line : ℕ → List ℕ → List ℕ → List ℕ
-box_line number lines shape = line_of (spaced (decimal number ∷ (codes "[label=\"" ++ lines ++ codes "\" shape=" ++ shape ++ codes "]") ∷ []))
+box_line number lines shape = line_of
+    (spaced (decimal number ∷ (codes "[label=\"" ++ lines ++ codes "\" shape=" ++ shape ++ codes "]") ∷ []))
 
 -- what names nothing and isn't void is a line of its holder's box
 abbrev pub plain_line : List ℕ → ℕ → Capability → List ℕ
@@ -73,21 +76,27 @@ word_of_state (Some state) = state_text state
 
 -- the box of each kind
 unfoldable pub bank_box : BankEntry → List ℕ
-bank_box b = box_line b.number (spaced (codes "bank" ∷ decimal b.number ∷ []) ++ next_line (spaced (codes "limit" ∷ decimal b.limit ∷ []))) (codes "house")
+bank_box b = box_line b.number
+    (spaced (codes "bank" ∷ decimal b.number ∷ []) ++ next_line (spaced (codes "limit" ∷ decimal b.limit ∷ [])))
+    (codes "house")
 
 unfoldable pub process_box : ProcessEntry → List ℕ
 process_box p = box_line p.root (spaced (codes "process" ∷ decimal p.root ∷ codes "annex" ∷ decimal p.annex ∷ [])
-    ++ next_line (spaced (word_of_state p.state ∷ codes "key" ∷ decimal p.key ∷ [])) ++ plain_lines (codes "r") p.registers.items) (codes "ellipse")
+    ++ next_line (spaced (word_of_state p.state ∷ codes "key" ∷ decimal p.key ∷ [])) ++ plain_lines (codes "r")
+    p.registers.items) (codes "ellipse")
 
 unfoldable pub node_box : NodeEntry → List ℕ
-node_box n = box_line n.number (spaced (codes "node" ∷ decimal n.number ∷ []) ++ plain_lines (codes "s") n.slots.items) (codes "box")
+node_box n = box_line n.number (spaced (codes "node" ∷ decimal n.number ∷ []) ++ plain_lines (codes "s") n.slots.items)
+    (codes "box")
 
 unfoldable pub page_box : PageEntry → List ℕ
 page_box p = box_line p.number (spaced (codes "page" ∷ decimal p.number ∷ [])) (codes "note")
 
 -- what is owned lies in the cluster of its owner
 unfoldable pub owner_line : ℕ × ℕ → List ℕ
-owner_line p = line_of (spaced ((codes "subgraph cluster_" ++ decimal p.0) ∷ codes "{" ∷ codes "label=\"bank" ∷ (decimal p.0 ++ codes "\"") ∷ decimal p.1 ∷ codes "}" ∷ []))
+owner_line p = line_of
+    (spaced ((codes "subgraph cluster_" ++ decimal p.0) ∷ codes
+    "{" ∷ codes "label=\"bank" ∷ (decimal p.0 ++ codes "\"") ∷ decimal p.1 ∷ codes "}" ∷ []))
 
 abbrev pub place_text : Place → List ℕ
 place_text place.Space = codes "space"
@@ -108,11 +117,13 @@ style_text access = if access == 0 then [] else if access == 1 then codes " styl
 -- an arrow with its label
 unfoldable pub arrow_line : Arrow → List ℕ
 arrow_line a = line_of (spaced (decimal a.holder ∷ codes "->" ∷ decimal a.target
-    ∷ (codes "[label=\"" ++ place_text a.place ++ kind_text a.capability ++ codes "\"" ++ style_text (access_bits a.capability) ++ codes "]") ∷ []))
+    ∷ (codes "[label=\"" ++ place_text a.place ++ kind_text a.capability ++ codes "\"" ++ style_text
+    (access_bits a.capability) ++ codes "]") ∷ []))
 
 -- the lines of the boxes, of the owners and of the arrows
 abbrev pub box_lines : Description → List ℕ
-box_lines d = flat_map bank_box d.banks.items ++ flat_map process_box d.processes.items ++ flat_map node_box d.nodes.items ++ flat_map page_box d.pages.items
+box_lines d = flat_map bank_box d.banks.items ++ flat_map process_box d.processes.items ++ flat_map node_box
+    d.nodes.items ++ flat_map page_box d.pages.items
 
 abbrev pub owner_lines : Description → List ℕ
 owner_lines d = flat_map owner_line (owners d)

@@ -83,7 +83,8 @@ pub fn draw<W: Write>(description: &Description, writer: &mut W) -> Result<(), R
 {
     write_fully(
         writer,
-        b"digraph eros {\ngraph [rankdir=LR newrank=true]\nnode [fontsize=10 height=0 margin=0.05]\nedge [fontsize=8]\n",
+        b"digraph eros {\ngraph [rankdir=LR newrank=true]\nnode [fontsize=10 height=0 margin=0.05]\n\
+          edge [fontsize=8]\n",
     )?;
     draw_all_boxes(description, writer)?;
     draw_all_owners(description, writer)?;

@@ -14,14 +14,14 @@ pub fn owners_are_owners()
     ensures { OwnersAreOwners }
 {}
 
-/// Each capability of the world that names an object is drawn once, from where it is held to what it names, and there are
-/// no other arrows.
+/// Each capability of the world that names an object is drawn once, from where it is held to what it names,
+/// and there are no other arrows.
 pub fn arrows_are_held()
     ensures { ArrowsAreHeld }
 {}
 
-/// In the graph of a description that `restrict` restricted to a set, the boxes are those of the set, and the arrows those
-/// between them.
+/// In the graph of a description that `restrict` restricted to a set, the boxes are those of the set, and the
+/// arrows those between them.
 pub fn part_is_shown()
     ensures { PartIsShown }
 {}

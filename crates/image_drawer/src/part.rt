@@ -82,7 +82,8 @@ fn word_of(state: Option<State>) -> &'static [u8]
 // The box of a process: the part that is the same for all.
 fn begin_process(process: &ProcessEntry) -> LineText
     ensures text { result ≡ spaced (decimal process.now.root
-        ∷ (codes "[label=\"" ++ spaced (codes "process" ∷ decimal process.now.root ∷ codes "annex" ∷ decimal process.now.annex ∷ [])
+        ∷ (codes "[label=\"" ++ spaced (codes "process" ∷ decimal process.now.root ∷ codes "annex"
+        ∷ decimal process.now.annex ∷ [])
         ++ next_line (spaced (word_of_state process.now.state ∷ codes "key" ∷ decimal process.now.key ∷ []))) ∷ []) }
     ensures short { length result ≤ 200 }
 {
@@ -121,7 +122,8 @@ impl Part for ProcessEntry {
 
 // The box of a node: the part that is the same for all.
 fn begin_node(number: u64) -> LineText
-    ensures text { result ≡ spaced (decimal number ∷ (codes "[label=\"" ++ spaced (codes "node" ∷ decimal number ∷ [])) ∷ []) }
+    ensures text { result
+        ≡ spaced (decimal number ∷ (codes "[label=\"" ++ spaced (codes "node" ∷ decimal number ∷ [])) ∷ []) }
     ensures short { length result ≤ 100 }
 {
     let mut line = begin(number);

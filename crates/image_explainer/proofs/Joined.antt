@@ -16,10 +16,12 @@ module _ (l a b m n : List ℕ) (first : m ≡ l ++ a) (second : n ≡ m ++ b) w
 
       pub joined_6 : (e f q r : List ℕ) → q ≡ p ++ e → r ≡ q ++ f → r ≡ l ++ (a ++ b ++ c ++ d ++ e ++ f)
       joined_6 e f q r fifth sixth =
-          sixth ∙ ap (λ (x : List ℕ). x ++ f) (fifth ∙ ap (λ (x : List ℕ). x ++ e) joined_4 ∙ append_assoc l (a ++ b ++ c ++ d) e) ∙ append_assoc l (a ++ b ++ c ++ d ++ e) f
+          sixth ∙ ap (λ (x : List ℕ). x ++ f) (fifth ∙ ap (λ (x : List ℕ). x ++ e) joined_4 ∙ append_assoc l (a ++ b ++ c ++ d) e) ∙
+          append_assoc l (a ++ b ++ c ++ d ++ e) f
 
 -- the place, and the number of the reason
-pub said : (fault : ImageFault) (reason : BadImage) (number : ℕ) (l m n o : List ℕ) → l ≡ place_text fault → m ≡ l ++ codes " (bad image" → reason ≡ reason_of fault → number ≡ reason_number reason
+pub said : (fault : ImageFault) (reason : BadImage) (number : ℕ) (l m n o : List ℕ) → l ≡ place_text fault →
+    m ≡ l ++ codes " (bad image" → reason ≡ reason_of fault → number ≡ reason_number reason
     → n ≡ m ++ 32 ∷ decimal number → o ≡ n ++ codes ")" → o ≡ fault_text fault
 unfolding fault_text
 said fault reason number l m n o place words is reported digits end =

@@ -1,4 +1,5 @@
 -- The names that the proofs here cite: of other crates, and of the definitions of this one.
+pub use Rattle.capability.proofs.References.{not_annex, not_node, not_root}
 pub use Rattle.capability.specs.Parts.{Parts, frames_of}
 pub use Rattle.checkpoint.specs.Opened.{CountsOpen, OnlyReads, Refuses}
 pub use Rattle.checkpoint.specs.Saved.{Holds, SavedFrames}
@@ -24,12 +25,13 @@ pub use Rattle.layout.proofs.Denoted.{frames_not_bad}
 pub use Rattle.layout.specs.Image.{IsBadBy}
 pub use Rattle.layout.specs.declared.bad_image.BadImage.{BadImage}
 pub use Rattle.migrator.specs.Durable.{DurableState}
-pub use Rattle.model.specs.Frame.{current_count, frame_at, header_at, void_held}
+pub use Rattle.model.specs.Frame.{content_behind, current_count, frame_at, header_at, void_held}
 pub use Rattle.model.specs.Keepable.{AreKeepable, caps_in}
 pub use Rattle.model.specs.declared.capability.Cap.{Cap}
 pub use Rattle.model.specs.declared.frame.Frame.{Frame}
 pub use Rattle.model.specs.declared.frame.ObjectHeader.{ObjectHeader}
 pub use Rattle.model.specs.declared.object.Content.{Content}
+pub use Rattle.model.specs.declared.object.ContentRef.{ContentRef}
 pub use Rattle.object_cache.specs.StoreState.{StoreState, parts_of, view_of}
 pub use Rattle.object_store.specs.Store.{OpensStore}
 pub use Rattle.recovery.proofs.Denoted.{holds_one}

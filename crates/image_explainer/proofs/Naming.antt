@@ -5,8 +5,10 @@ use Rattle.image_explainer.proofs.Names.{table_read, Misnamed, IsMisnamed}
 use Rattle.std.proofs.Common.{◌≡◌, ◌<◌, ◌∙◌}
 
 -- the capability of an index, which was read with the table
-pub misnamed_here : (p : Parts) (n i : ℕ) (held : List Cap) (d : Cap) (hs ks : List ObjectHeader) (h : ObjectHeader) (current : ℕ) → held ≡ caps_in (frame_at (frames_of p) n).content → i < length held
-    → hs ≡ p.headers → h ≡ header_at hs n → ks ≡ p.headers → current ≡ current_count ks (slice_index_or held i d).what → (IsNamed (frames_of p) (slice_index_or held i d) → ⊥)
+pub misnamed_here : (p : Parts) (n i : ℕ) (held : List Cap) (d : Cap) (hs ks : List ObjectHeader) (h : ObjectHeader) (current : ℕ) →
+    held ≡ caps_in (frame_at (frames_of p) n).content → i < length held
+    → hs ≡ p.headers → h ≡ header_at hs n → ks ≡ p.headers → current ≡ current_count ks (slice_index_or held i d).what →
+    (IsNamed (frames_of p) (slice_index_or held i d) → ⊥)
     → IsMisnamed (frames_of p) (record { holder = n; role = h.role; index = i; held = slice_index_or held i d; current = current })
 misnamed_here p n i held d hs ks h current all inside table is other reported broken = record {
   within = omega (arith, inside, ap (λ (cs : List Cap). length cs) all);
@@ -18,11 +20,12 @@ misnamed_here p n i held d hs ks h current all inside table is other reported br
 
 -- what an object holds
 module _ (fs : List Frame) (c : Content Cap) (n : ℕ) (is : c ≡ (frame_at fs n).content) where
-  pub held_there : (slots held : List Cap) → caps_in c ≡ slots → held ≡ slots → held ≡ caps_in (frame_at fs n).content
-  held_there slots held all same = same ∙ sym all ∙ ap (λ (d : Content Cap). caps_in d) is
+  pub held_there : (held : List Cap) → caps_in c ≡ held → held ≡ caps_in (frame_at fs n).content
+  held_there held all = sym all ∙ ap (λ (d : Content Cap). caps_in d) is
 
-  pub none_there : (slots held : List Cap) (found : Option Misnamed) → caps_in c ≡ slots → held ≡ slots → IfNone found (All (IsNamed fs) held) → IfNone found (All (IsNamed fs) (caps_in (frame_at fs n).content))
-  none_there slots held found all same named = subst (λ (cs : List Cap). IfNone found (All (IsNamed fs) cs)) (held_there slots held all same) named
+  pub none_there : (held : List Cap) (found : Option Misnamed) → caps_in c ≡ held → IfNone found (All (IsNamed fs) held) →
+      IfNone found (All (IsNamed fs) (caps_in (frame_at fs n).content))
+  none_there held found all named = subst (λ (cs : List Cap). IfNone found (All (IsNamed fs) cs)) (held_there held all) named
 
   pub nothing_there : caps_in c ≡ [] → All (IsNamed fs) (caps_in (frame_at fs n).content)
   nothing_there none =

@@ -27,7 +27,8 @@ unfit fs (fault.Capability m) is = (BadCapability, refl, unnamed fs m is)
 unfit fs (fault.Process u) is = (BadProcess, refl, (is.0, unwhole fs u is.1))
 unfit fs (fault.Bank u) is = (BadBank, refl, (is.0, is.1, unbanked_refuted fs u is.2))
 
-explained_frames : (size : ℕ) (c : Image) (saved : SavedFrames) (f : ImageFault) → Holds size c saved → BreaksFrames saved.frames f → IsExplainedBy size c (Some f)
+explained_frames : (size : ℕ) (c : Image) (saved : SavedFrames) (f : ImageFault) → Holds size c saved → BreaksFrames saved.frames f →
+    IsExplainedBy size c (Some f)
 explained_frames size c saved (fault.Sectors f) holds is = absurd is
 explained_frames size c saved (fault.Capability m) holds is = (inr (saved, holds, unfit saved.frames (fault.Capability m) is), (saved, holds, is))
 explained_frames size c saved (fault.Process u) holds is = (inr (saved, holds, unfit saved.frames (fault.Process u) is), (saved, holds, is))
@@ -46,31 +47,41 @@ pub within_age : (size : ℕ) (c : Image) (saved : SavedFrames) → Holds size c
 within_age size c saved holds = subst (λ (x : SavedFrames). x.age ≤ 2 ^ 62) holds.2 holds.1.header.fits.age
 
 -- what was found among the frames of a store is so of the device beneath
-explained_found : (size : ℕ) (c : Image) (saved : SavedFrames) (found : Option ImageFault) → Holds size c saved → IsConsistentOr saved.frames found → IsExplainedBy size c found
+explained_found : (size : ℕ) (c : Image) (saved : SavedFrames) (found : Option ImageFault) → Holds size c saved → IsConsistentOr saved.frames found →
+    IsExplainedBy size c found
 explained_found size c saved None holds is = (
   saved.geometry,
   saved_of saved,
   record {
     frames = saved;
     holds = holds;
-    sound = record { geometry = refl; sound = consistent_is_sound saved.geometry saved.age saved.frames (keepable size c saved holds) (within_age size c saved holds) is.0 is.1 is.2 };
+    sound = record {
+      geometry = refl;
+      sound = consistent_is_sound saved.geometry saved.age saved.frames (keepable size c saved holds)
+          (within_age size c saved holds) is.0 is.1 is.2;
+    };
     stands = refl;
   },
 )
 explained_found size c saved (Some f) holds is = explained_frames size c saved f holds is
 
 -- a store that was made of a device, and the device beneath it after a read
-module _ {D : Type 0} (disk : D → Disk) (device back : D) (s : StoreState D) (opens : OpensStore disk device (parts_of disk s) (view_of disk s)) (same : back ≡ s.durable.beneath) where
+module _ {D : Type 0} (disk : D → Disk) (device back : D) (s : StoreState D) (opens : OpensStore disk device (parts_of disk s) (view_of disk s))
+    (same : back ≡ s.durable.beneath) where
   looked : OnlyReads (disk device) (disk back)
   looked = subst (λ (d : D). OnlyReads (disk device) (disk d)) (sym same) opens.only_reads
 
   unfailed : (disk back).failures ≡ (disk device).failures
   unfailed = ap (λ (d : D). (disk d).failures) same ∙ opens.failures
 
-  pub explains_found : (found : Option ImageFault) → IsConsistentOr (frames_of (parts_of disk s)) found → (let r : Result (Option ImageFault) OpenFault = Ok found in Explains disk device back r)
+  pub explains_found : (found : Option ImageFault) → IsConsistentOr (frames_of (parts_of disk s)) found →
+      (let r : Result (Option ImageFault) OpenFault = Ok found in Explains disk device back r)
   explains_found found is =
-      let saved = (view_of disk s).snapshots.saved in
-      (explained_found (disk device).sectors (disk device).seen saved found opens.holds (subst (λ (fs : List Frame). IsConsistentOr fs found) opens.frames is), looked, unfailed)
+      let saved = (view_of disk s).snapshots.saved in (
+        explained_found (disk device).sectors (disk device).seen saved found opens.holds (subst (λ (fs : List Frame). IsConsistentOr fs found) opens.frames is),
+        looked,
+        unfailed,
+      )
 
 -- frames are inconsistent for one reason
 one_inconsistency : (fs : List Frame) (a b : Inconsistency) → IsInconsistent fs a → IsInconsistent fs b → a ≡ b
@@ -96,6 +107,7 @@ one_reason size c a b x y = ⊎_elim
     y)
     (λ first. ⊎_elim
     (λ second. absurd (frames_not_bad c size first.1.0 first.1.1 b second))
-    (λ second. one_unfit second.0.frames a b (subst (λ (s : SavedFrames). IsUnfit s.frames (open_fault.Bad a)) (holds_one size c first.0 second.0 first.1 second.1) first.2) second.2)
+    (λ second. one_unfit second.0.frames a b
+    (subst (λ (s : SavedFrames). IsUnfit s.frames (open_fault.Bad a)) (holds_one size c first.0 second.0 first.1 second.1) first.2) second.2)
     y)
     x

@@ -9,13 +9,15 @@ use Rattle.image_explainer.specs.declared.fault.ImageFault.TheVariants as fault
 use Rattle.image_explainer.proofs.Reasons.{explained_sectors}
 
 -- a device that was refused is still bad
-pub bad_still : {D : Type 0} (disk : D → Disk) (before mid : D) (reason : BadImage) → Refuses disk before mid (open_fault.Bad reason) → IsBadBy (disk mid).seen (disk mid).sectors reason
+pub bad_still : {D : Type 0} (disk : D → Disk) (before mid : D) (reason : BadImage) → Refuses disk before mid (open_fault.Bad reason) →
+    IsBadBy (disk mid).seen (disk mid).sectors reason
 bad_still disk before mid reason refuses =
     subst (λ (n : ℕ). IsBadBy (disk mid).seen n reason) (sym refuses.only_reads.size)
     (subst (λ (c : Image). IsBadBy c (disk before).sectors reason) (sym (agrees_is (disk mid).seen (disk before).seen refuses.only_reads.seen)) refuses.why.1)
 
 -- and was then only read
-module _ {D : Type 0} (disk : D → Disk) (before mid back : D) (reason : BadImage) (refuses : Refuses disk before mid (open_fault.Bad reason)) (reads : ReadsOnly (disk mid) (disk back)) (now : CountsNow (disk mid)) where
+module _ {D : Type 0} (disk : D → Disk) (before mid back : D) (reason : BadImage) (refuses : Refuses disk before mid (open_fault.Bad reason))
+    (reads : ReadsOnly (disk mid) (disk back)) (now : CountsNow (disk mid)) where
   looked : OnlyReads (disk before) (disk back)
   looked = record {
     size = reads.size ∙ refuses.only_reads.size;
@@ -24,7 +26,8 @@ module _ {D : Type 0} (disk : D → Disk) (before mid back : D) (reason : BadIma
     any_moment = peeks_on refuses.only_reads.any_moment now reads.time reads.crash;
   }
 
-  pub sectors_found : (f : SectorFault) → IsFault (disk mid).sectors (disk mid).seen f → (let r : Result SectorFault OpenFault = Ok f in CountsOpen (disk mid) (disk back) r)
+  pub sectors_found : (f : SectorFault) → IsFault (disk mid).sectors (disk mid).seen f →
+      (let r : Result SectorFault OpenFault = Ok f in CountsOpen (disk mid) (disk back) r)
       → (let r : Result (Option ImageFault) OpenFault = Ok (Some (fault.Sectors f)) in Explains disk before back r)
   sectors_found f is counts =
       let there : IsFault (disk before).sectors (disk before).seen f =
@@ -32,7 +35,8 @@ module _ {D : Type 0} (disk : D → Disk) (before mid back : D) (reason : BadIma
       (subst (λ (c : Image). IsFault (disk mid).sectors c f) (agrees_is (disk mid).seen (disk before).seen refuses.only_reads.seen) is) in (
         explained_sectors (disk before).sectors (disk before).seen f there,
         looked,
-        ⊎_elim (λ rose. let never = counts.cause.1 rose in cc) (λ le. omega (arith, le, counts.never_falls, refuses.why.0)) (cases_lt (disk mid).failures (disk back).failures),
+        ⊎_elim (λ rose. let never = counts.cause.1 rose in cc) (λ le. omega (arith, le, counts.never_falls, refuses.why.0))
+            (cases_lt (disk mid).failures (disk back).failures),
       )
 
   pub sectors_failed : (why : OpenFault) → IsNoReason why → (let r : Result SectorFault OpenFault = Err why in CountsOpen (disk mid) (disk back) r)
@@ -40,7 +44,8 @@ module _ {D : Type 0} (disk : D → Disk) (before mid back : D) (reason : BadIma
   sectors_failed open_fault.Failed other counts = (record { is_why = omega (arith, counts.cause.0 refl, refuses.why.0); only_reads = looked }, tt)
   sectors_failed open_fault.NoMemory other counts = (
     record {
-      is_why = ⊎_elim (λ rose. let never = counts.cause.1 rose in cc) (λ le. omega (arith, le, counts.never_falls, refuses.why.0)) (cases_lt (disk mid).failures (disk back).failures);
+      is_why = ⊎_elim (λ rose. let never = counts.cause.1 rose in cc) (λ le. omega (arith, le, counts.never_falls, refuses.why.0))
+          (cases_lt (disk mid).failures (disk back).failures);
       only_reads = looked;
     },
     tt,

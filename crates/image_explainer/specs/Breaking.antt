@@ -36,7 +36,8 @@ pub record IsMisnamed (fs : List Frame) (m : Misnamed) : Type 0 where
 -- reason 9: a root and an annex that don't belong together
 abbrev pub IsUnmatched : List Frame → Unmatched → Type 0
 IsUnmatched fs (unmatched.Annex root annex) = IsRootOf fs root annex × (IsAnnexFor fs root annex → ⊥)
-IsUnmatched fs (unmatched.Shared first second annex) = IsRootOf fs first annex × IsRootOf fs second annex × (first ≢ second)
+IsUnmatched fs (unmatched.Shared first second annex) = IsRootOf fs first annex × IsRootOf fs second annex ×
+    (first ≢ second)
 IsUnmatched fs (unmatched.Rootless annex) = (role_at fs annex ≡ role.Annex) × ((p : ℕ) → IsRootOf fs p annex → ⊥)
 
 -- the reason of a fault holds for what it names among frames, and no lesser reason holds

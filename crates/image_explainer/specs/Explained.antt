@@ -20,7 +20,8 @@ IsExplainedBy size c (Some f) = IsBad size c (reason_of f) × Breaks size c f
 -- a device was only read and didn't fail, and this is so of what it holds; or it failed, or memory ran out
 abbrev pub Explains : {D : Type 0} → (D → Disk) → D → D → Result (Option ImageFault) OpenFault → Type 0
 Explains disk device back (Ok found) =
-    IsExplainedBy (disk device).sectors (disk device).seen found × OnlyReads (disk device) (disk back) × ((disk back).failures ≡ (disk device).failures)
+    IsExplainedBy (disk device).sectors (disk device).seen found × OnlyReads (disk device) (disk back) ×
+    ((disk back).failures ≡ (disk device).failures)
 Explains disk device back (Err why) = RefusesToOpen disk device back why × IsNoReason why
 
 -- an image is bad for one reason, so that the number of a fault is the one that a check answers

@@ -61,16 +61,21 @@ geometry_text geometry.Places = codes "superblock: a home range or a half of the
 
 abbrev pub not_counted_text : NotCounted → List ℕ
 not_counted_text uncounted.Closed = codes " has a closed gate"
-not_counted_text (uncounted.Misplaced sequence) = codes " has the sequence number" ++ 32 ∷ decimal sequence ++ codes " of the other slot"
+not_counted_text (uncounted.Misplaced sequence) = codes " has the sequence number" ++ 32 ∷ decimal sequence ++ codes
+    " of the other slot"
 
 abbrev pub no_header_text : NotCounted → NotCounted → List ℕ
-no_header_text first second = codes "header 0" ++ not_counted_text first ++ codes ", and header 1" ++ not_counted_text second
+no_header_text first second = codes "header 0" ++ not_counted_text first ++ codes ", and header 1" ++ not_counted_text
+    second
 
 abbrev pub header_part_text : HeaderPart → List ℕ
-header_part_text (header.Entries entries slots) = codes ": entries" ++ 32 ∷ decimal entries ++ codes " is above the slots" ++ 32 ∷ decimal slots
+header_part_text (header.Entries entries slots) = codes ": entries" ++ 32 ∷ decimal entries ++ codes
+    " is above the slots" ++ 32 ∷ decimal slots
 header_part_text (header.Age age) = codes ": age" ++ 32 ∷ decimal age ++ codes " is above 4611686018427387904"
-header_part_text (header.Generation generation age) = codes ": generation" ++ 32 ∷ decimal generation ++ codes " is above twice the age" ++ 32 ∷ decimal age
-header_part_text (header.Sequence sequence age) = codes ": sequence number" ++ 32 ∷ decimal sequence ++ codes " is too great for the age" ++ 32 ∷ decimal age
+header_part_text (header.Generation generation age) = codes ": generation" ++ 32 ∷ decimal generation ++ codes
+    " is above twice the age" ++ 32 ∷ decimal age
+header_part_text (header.Sequence sequence age) = codes ": sequence number" ++ 32 ∷ decimal sequence ++ codes
+    " is too great for the age" ++ 32 ∷ decimal age
 header_part_text header.Bytes = codes ": the magic is not EROSHEAD, or a byte is not 0"
 
 abbrev pub header_text : ℕ → HeaderPart → List ℕ
@@ -78,23 +83,32 @@ header_text sector part = numbered (codes "header in sector") sector ++ header_p
 
 -- entries count from 0
 abbrev pub directory_part_text : DirectoryPart → List ℕ
-directory_part_text (entry.Object k object) = numbered (codes ", entry") k ++ codes ": there is no object" ++ 32 ∷ decimal object
-directory_part_text (entry.Slot k slot) = numbered (codes ", entry") k ++ codes ": there is no slot" ++ 32 ∷ decimal slot
-directory_part_text (entry.Order k object before) = numbered (codes ", entry") k ++ codes ": object" ++ 32 ∷ decimal object ++ codes " is not above the object" ++ 32 ∷ decimal before ++ codes " of the entry before"
-directory_part_text (entry.Shared j k slot) = numbered (codes ", entry") k ++ codes ": slot" ++ 32 ∷ decimal slot ++ codes " is also that of entry" ++ 32 ∷ decimal j
+directory_part_text (entry.Object k object) = numbered (codes ", entry") k ++ codes ": there is no object" ++ 32 ∷
+    decimal object
+directory_part_text (entry.Slot k slot) = numbered (codes ", entry") k ++ codes ": there is no slot" ++ 32 ∷ decimal
+    slot
+directory_part_text (entry.Order k object before) = numbered (codes ", entry") k ++ codes ": object" ++ 32 ∷ decimal
+    object ++ codes " is not above the object" ++ 32 ∷ decimal before ++ codes " of the entry before"
+directory_part_text (entry.Shared j k slot) = numbered (codes ", entry") k ++ codes ": slot" ++ 32 ∷ decimal slot ++
+    codes " is also that of entry" ++ 32 ∷ decimal j
 
 abbrev pub directory_text : ℕ → DirectoryPart → List ℕ
 directory_text sector part = numbered (codes "directory in sector") sector ++ directory_part_text part
 
 abbrev pub frame_part_text : FramePart → List ℕ
-frame_part_text (frame.Allocations count age) = codes ": allocation count" ++ 32 ∷ decimal count ++ codes " is above the age" ++ 32 ∷ decimal age
-frame_part_text (frame.Calls count age) = codes ": call count" ++ 32 ∷ decimal count ++ codes " is above the age" ++ 32 ∷ decimal age
-frame_part_text (frame.Count slot count age) = codes ", slot" ++ 32 ∷ decimal slot ++ codes ": count" ++ 32 ∷ decimal count ++ codes " is above the age" ++ 32 ∷ decimal age
-frame_part_text (frame.Slot slot) = codes ", slot" ++ 32 ∷ decimal slot ++ codes ": not a capability that this image can hold"
+frame_part_text (frame.Allocations count age) = codes ": allocation count" ++ 32 ∷ decimal count ++ codes
+    " is above the age" ++ 32 ∷ decimal age
+frame_part_text (frame.Calls count age) = codes ": call count" ++ 32 ∷ decimal count ++ codes " is above the age" ++ 32
+    ∷ decimal age
+frame_part_text (frame.Count slot count age) = codes ", slot" ++ 32 ∷ decimal slot ++ codes ": count" ++ 32 ∷ decimal
+    count ++ codes " is above the age" ++ 32 ∷ decimal age
+frame_part_text (frame.Slot slot) = codes ", slot" ++ 32 ∷ decimal slot ++ codes
+    ": not a capability that this image can hold"
 frame_part_text frame.Body = codes ": its role, owner and content do not fit together"
 
 abbrev pub frame_text : ℕ → Bool → FramePart → List ℕ
-frame_text number is_page part = numbered (if is_page then codes "page" else codes "node") number ++ frame_part_text part
+frame_text number is_page part = numbered (if is_page then codes "page" else codes "node") number ++ frame_part_text
+    part
 
 -- the address space of a process, a register of an annex, or a slot of a node
 abbrev pub holder_text : Role → ℕ → ℕ → List ℕ
@@ -116,22 +130,29 @@ kind_text _ = codes "object"
 abbrev pub misnamed_text : Misnamed → List ℕ
 misnamed_text m =
     if nat_lt m.current m.held.count
-    then codes ": count" ++ 32 ∷ decimal m.held.count ++ codes " is above the count" ++ 32 ∷ decimal m.current ++ codes " of its object"
+    then codes ": count" ++ 32 ∷ decimal m.held.count ++ codes " is above the count" ++ 32 ∷ decimal m.current ++ codes
+    " of its object"
     else codes ":" ++ 32 ∷ capability_text m.held.what ++ codes " names no " ++ kind_text m.held.what
 
 abbrev pub unmatched_text : Unmatched → List ℕ
-unmatched_text (unmatched.Annex root annex) = numbered (codes "process") root ++ codes ": number" ++ 32 ∷ decimal annex ++ codes " is not an annex with its owner"
-unmatched_text (unmatched.Shared first second annex) = numbered (codes "process") first ++ codes ": annex" ++ 32 ∷ decimal annex ++ codes " is also that of process" ++ 32 ∷ decimal second
+unmatched_text (unmatched.Annex root annex) = numbered (codes "process") root ++ codes ": number" ++ 32 ∷ decimal annex
+    ++ codes " is not an annex with its owner"
+unmatched_text (unmatched.Shared first second annex) = numbered (codes "process") first ++ codes ": annex" ++ 32 ∷
+    decimal annex ++ codes " is also that of process" ++ 32 ∷ decimal second
 unmatched_text (unmatched.Rootless annex) = numbered (codes "annex") annex ++ codes ": no process names it"
 
 abbrev pub unbanked_text : Unbanked → List ℕ
 unbanked_text unbanked.Prime = codes "number 0: not a bank that owns itself"
-unbanked_text (unbanked.Owner number owner) = numbered (codes "number") number ++ codes ": its owner" ++ 32 ∷ decimal owner ++ codes " is not a bank"
-unbanked_text (unbanked.Chain bank) = numbered (codes "bank") bank ++ codes ": its owners do not reach bank 0 within 16 banks"
-unbanked_text (unbanked.Limit bank used limit) = numbered (codes "bank") bank ++ codes ": usage" ++ 32 ∷ decimal used ++ codes " is above the limit" ++ 32 ∷ decimal limit
+unbanked_text (unbanked.Owner number owner) = numbered (codes "number") number ++ codes ": its owner" ++ 32 ∷ decimal
+    owner ++ codes " is not a bank"
+unbanked_text (unbanked.Chain bank) = numbered (codes "bank") bank ++ codes
+    ": its owners do not reach bank 0 within 16 banks"
+unbanked_text (unbanked.Limit bank used limit) = numbered (codes "bank") bank ++ codes ": usage" ++ 32 ∷ decimal used ++
+    codes " is above the limit" ++ 32 ∷ decimal limit
 
 abbrev pub sectors_text : SectorFault → List ℕ
-sectors_text (sectors.Small size needed) = numbered (codes "there are") size ++ codes " sectors, and the image needs" ++ 32 ∷ decimal needed
+sectors_text (sectors.Small size needed) = numbered (codes "there are") size ++ codes " sectors, and the image needs" ++
+    32 ∷ decimal needed
 sectors_text (sectors.Superblock part) = superblock_text part
 sectors_text (sectors.Geometry part) = geometry_text part
 sectors_text (sectors.NoHeader first second) = no_header_text first second

@@ -10,13 +10,12 @@ ghost use Rattle.image_explainer.specs.Breaking.{IsMisnamed};
 ghost use Rattle.image_explainer.specs.Finding.{NamesOr};
 
 use crate::fault::Misnamed;
-use capability::{PrepareFault, PresentFrames, objects};
+use capability::{Frames, ReadFault};
 use consistency::{Noted, is_named};
-use model::{Cap, Content};
-use std::alloc::Global;
+use model::{Cap, ContentRef};
 
 // The first of the capabilities that an object holds, which are these, that names what it can't.
-fn find_in<F: PresentFrames>(
+fn find_in<F: Frames>(
     store: &F,
     notes: &[Option<Noted>],
     number: u64,
@@ -42,7 +41,7 @@ fn find_in<F: PresentFrames>(
 }
 
 // The first that an object holds, which is fetched.
-fn find_there<F: PresentFrames>(store: &F, notes: &[Option<Noted>], number: u64) -> Option<Misnamed>
+fn find_there<F: Frames>(store: &F, notes: &[Option<Noted>], number: u64) -> Option<Misnamed>
     requires fetched { F.IsFetched store.now number }
     requires notes { AreNoted (frames_of (F.parts store.now)) notes.now }
     ensures found { IfSome result (IsMisnamed (frames_of (F.parts store.now))) }
@@ -50,20 +49,19 @@ fn find_there<F: PresentFrames>(store: &F, notes: &[Option<Noted>], number: u64)
         IfNone result (All (IsNamed frames) (caps_in (frame_at frames number).content)) }
 {
     match store.frame(number) {
-        Content::Node(slots) => find_in(store, notes, number, slots.as_slice()),
-        Content::Root(root) => find_in(store, notes, number, &[root.space]),
-        Content::Annex(registers) => find_in(store, notes, number, registers.as_slice()),
+        ContentRef::Node(slots) => find_in(store, notes, number, &slots[..]),
+        ContentRef::Root(root) => find_in(store, notes, number, &[root.space]),
+        ContentRef::Annex(registers) => find_in(store, notes, number, &registers[..]),
         _ => None,
     }
 }
 
 // The first that an object holds, which is fetched for it.
-fn find_at<F: PresentFrames>(
-    alloc: Global,
+fn find_at<F: Frames>(
     store: &mut F,
     notes: &[Option<Noted>],
     number: u64,
-) -> Result<Option<Misnamed>, PrepareFault>
+) -> Result<Option<Misnamed>, ReadFault>
     requires known { number < length (F.parts store.old).headers }
     requires keepable { AreKeepable (F.parts store.old).geometry u64.MAX
         (frames_of (F.parts store.old)) }
@@ -73,19 +71,16 @@ fn find_at<F: PresentFrames>(
         IfNone found (All (IsNamed frames) (caps_in (frame_at frames number).content))) }
     ensures only_reads { OnlyReads F.parts F.ContinuesTo store.old store.new result }
 {
-    match objects::fetch(store, alloc, &[number]) {
-        Err(fault) => Err(fault),
-        Ok(()) => Ok(find_there(store, notes, number)),
-    }
+    store.fetch(&[number])?;
+    Ok(find_there(store, notes, number))
 }
 
 /// The first held capability, by holder and slot, whose count is greater than that of the object
 /// that it names, or that is live and names what it isn't for. Objects are fetched one at a time.
-pub(crate) fn find_misnamed<F: PresentFrames>(
-    alloc: Global,
+pub(crate) fn find_misnamed<F: Frames>(
     store: &mut F,
     notes: &[Option<Noted>],
-) -> Result<Option<Misnamed>, PrepareFault>
+) -> Result<Option<Misnamed>, ReadFault>
     requires keepable { AreKeepable (F.parts store.old).geometry u64.MAX
         (frames_of (F.parts store.old)) }
     requires notes { AreNoted (frames_of (F.parts store.old)) notes.now }
@@ -93,10 +88,8 @@ pub(crate) fn find_misnamed<F: PresentFrames>(
     ensures only_reads { OnlyReads F.parts F.ContinuesTo store.old store.new result }
 {
     for number in 0..store.table().count() {
-        match find_at(alloc, store, notes, number) {
-            Err(fault) => return Err(fault),
-            Ok(Some(misnamed)) => return Ok(Some(misnamed)),
-            Ok(None) => {}
+        if let Some(misnamed) = find_at(store, notes, number)? {
+            return Ok(Some(misnamed));
         }
     }
     Ok(None)

@@ -12,7 +12,7 @@ ghost use Rattle.image_explainer.specs.Explained.{Explains};
 
 use crate::fault::ImageFault;
 use crate::objects::find_in_objects;
-use capability::PrepareFault;
+use capability::ReadFault;
 use checkpoint::OpenFault;
 use device::{Device, SECTOR_SIZE};
 use layout::{Entry, MAX_LOG, Scratch};
@@ -22,15 +22,13 @@ use sector_faults::{SectorFault, find_in_sectors};
 use std::alloc::{AllocError, Global};
 
 // Why a search among objects ends without an answer.
-fn fault_of(fault: PrepareFault) -> OpenFault
-    requires { fault ≡ PrepareFault.LogFull → ⊥ }
-    ensures failed { (result ≡ OpenFault.Failed) ↔ (fault ≡ PrepareFault.Failed) }
+fn fault_of(fault: ReadFault) -> OpenFault
+    ensures failed { (result ≡ OpenFault.Failed) ↔ (fault ≡ ReadFault.Failed) }
     ensures other { IsNoReason result }
 {
     match fault {
-        PrepareFault::Failed => OpenFault::Failed,
-        PrepareFault::NoMemory => OpenFault::NoMemory,
-        PrepareFault::LogFull => unreachable!(),
+        ReadFault::NoMemory => OpenFault::NoMemory,
+        ReadFault::Failed => OpenFault::Failed,
     }
 }
 
@@ -123,8 +121,9 @@ fn explain_sectors<D: Device>(
     }
 }
 
-/// Why the image on a device is refused: `None` if a kernel opens it, else what is wrong, and where. The reason of the fault
-/// is the least of the ten that holds, and holds for what it names. Copies the sectors into memory.
+/// Why the image on a device is refused: `None` if a kernel opens it, else what is wrong, and where. The
+/// reason of the fault is the least of the ten that holds, and holds for what it names. Copies the sectors
+/// into memory.
 ///
 /// The device is given back, and nothing was written to it, at no moment. `Failed` exactly if the device failed, and
 /// `NoMemory` if memory ran out; never `Bad`.

@@ -6,7 +6,7 @@ ghost use Rattle.image_explainer.specs.Breaking.{IsUnmatched};
 ghost use Rattle.image_explainer.specs.Finding.{HasRoot, IsMatched, MatchesOr, annex_noted};
 
 use crate::fault::Unmatched;
-use capability::PresentFrames;
+use capability::Frames;
 use consistency::{Noted, has_role, is_annex_for};
 use model::Role;
 
@@ -34,11 +34,7 @@ fn root_of(notes: &[Option<Noted>], from: usize, annex: u64) -> Option<usize>
 }
 
 // What a root has to do with its annex, and with another root of that.
-fn flaw_of_root<F: PresentFrames>(
-    store: &F,
-    notes: &[Option<Noted>],
-    root: usize,
-) -> Option<Unmatched>
+fn flaw_of_root<F: Frames>(store: &F, notes: &[Option<Noted>], root: usize) -> Option<Unmatched>
     requires { AreNoted (frames_of (F.parts store.now)) notes.now }
     ensures found { IfSome result (IsUnmatched (frames_of (F.parts store.now))) }
     ensures none { IfNone result (IsMatched (frames_of (F.parts store.now)) root) }
@@ -61,7 +57,7 @@ fn flaw_of_root<F: PresentFrames>(
 }
 
 // The first root that doesn't belong to an annex of its own.
-fn find_root<F: PresentFrames>(store: &F, notes: &[Option<Noted>]) -> Option<Unmatched>
+fn find_root<F: Frames>(store: &F, notes: &[Option<Noted>]) -> Option<Unmatched>
     requires { AreNoted (frames_of (F.parts store.now)) notes.now }
     ensures found { IfSome result (IsUnmatched (frames_of (F.parts store.now))) }
     ensures none { IfNone result ((p : ℕ) → IsMatched (frames_of (F.parts store.now)) p) }
@@ -76,11 +72,7 @@ fn find_root<F: PresentFrames>(store: &F, notes: &[Option<Noted>]) -> Option<Unm
 }
 
 // Whether an annex has no root.
-fn flaw_of_annex<F: PresentFrames>(
-    store: &F,
-    notes: &[Option<Noted>],
-    annex: u64,
-) -> Option<Unmatched>
+fn flaw_of_annex<F: Frames>(store: &F, notes: &[Option<Noted>], annex: u64) -> Option<Unmatched>
     requires { AreNoted (frames_of (F.parts store.now)) notes.now }
     ensures found { IfSome result (IsUnmatched (frames_of (F.parts store.now))) }
     ensures none { IfNone result (HasRoot (frames_of (F.parts store.now)) annex) }
@@ -95,7 +87,7 @@ fn flaw_of_annex<F: PresentFrames>(
 }
 
 // The first annex that no root names.
-fn find_annex<F: PresentFrames>(store: &F, notes: &[Option<Noted>]) -> Option<Unmatched>
+fn find_annex<F: Frames>(store: &F, notes: &[Option<Noted>]) -> Option<Unmatched>
     requires { AreNoted (frames_of (F.parts store.now)) notes.now }
     ensures found { IfSome result (IsUnmatched (frames_of (F.parts store.now))) }
     ensures none { IfNone result ((a : ℕ) → HasRoot (frames_of (F.parts store.now)) a) }
@@ -110,10 +102,7 @@ fn find_annex<F: PresentFrames>(store: &F, notes: &[Option<Noted>]) -> Option<Un
 }
 
 /// A root and an annex that don't belong together: roots come first, by number, and then annexes.
-pub(crate) fn find_unmatched<F: PresentFrames>(
-    store: &F,
-    notes: &[Option<Noted>],
-) -> Option<Unmatched>
+pub(crate) fn find_unmatched<F: Frames>(store: &F, notes: &[Option<Noted>]) -> Option<Unmatched>
     requires { AreNoted (frames_of (F.parts store.now)) notes.now }
     ensures { MatchesOr (frames_of (F.parts store.now)) result }
 {

@@ -27,10 +27,12 @@ leaves_closed at n {old} {new} beside closed writes = λ c left. torn_closed at 
 -- at each of its moments
 pub closed_run : (at n : ℕ) {old new : Disk} → AreBeside at n → LeavesClosed old → WritesAt at n old new → LeavesOnly old new (λ c. AreClosed c)
 closed_run at n {old} {new} beside closed writes =
-    leaves_weaker {old = old} {new = new} {P = λ c. IsTorn at n old c} (λ c. AreClosed c) (λ c torn. torn_closed at n old beside closed c torn) writes.any_moment
+    leaves_weaker {old = old} {new = new} {P = λ c. IsTorn at n old c} (λ c. AreClosed c) (λ c torn. torn_closed at n old beside closed c torn)
+    writes.any_moment
 
 -- one more of them
-pub closed_on : (at n : ℕ) {old mid new : Disk} → LeavesOnly old mid (λ c. AreClosed c) → AreBeside at n → LeavesClosed mid → WritesAt at n mid new → LeavesOnly old new (λ c. AreClosed c)
+pub closed_on : (at n : ℕ) {old mid new : Disk} → LeavesOnly old mid (λ c. AreClosed c) → AreBeside at n → LeavesClosed mid → WritesAt at n mid new →
+    LeavesOnly old new (λ c. AreClosed c)
 closed_on at n {old} {mid} {new} first beside closed writes =
     leaves_on {old = old} {mid = mid} {new = new} {P = λ c. AreClosed c} first (closed_run at n {old = mid} {new = new} beside closed writes)
 
@@ -41,10 +43,12 @@ before_or_none disk c (d, left, kept) = ⊎_elim (λ same. inl (d, left, record 
 
 -- the closing
 pub closing : {old new : Disk} → LeavesOnly old new (λ c. WasKeptOrHasNone old c) → LeavesOnly old new (λ c. IsBeforeOrNone old c)
-closing {old} {new} run = leaves_weaker {old = old} {new = new} {P = λ c. WasKeptOrHasNone old c} (λ c. IsBeforeOrNone old c) (λ c is. before_or_none old c is) run
+closing {old} {new} run = leaves_weaker {old = old} {new = new} {P = λ c. WasKeptOrHasNone old c} (λ c. IsBeforeOrNone old c) (λ c is. before_or_none old c is)
+    run
 
 -- and what is written after it
-pub after_closing : {old mid new : Disk} → LeavesOnly old mid (λ c. IsBeforeOrNone old c) → LeavesOnly mid new (λ c. AreClosed c) → LeavesOnly old new (λ c. IsBeforeOrNone old c)
+pub after_closing : {old mid new : Disk} → LeavesOnly old mid (λ c. IsBeforeOrNone old c) → LeavesOnly mid new (λ c. AreClosed c) →
+    LeavesOnly old new (λ c. IsBeforeOrNone old c)
 after_closing {old} {mid} {new} first second =
     leaves_on {old = old} {mid = mid} {new = new} {P = λ c. IsBeforeOrNone old c} first
     (leaves_weaker {old = mid} {new = new} {P = λ c. AreClosed c} (λ c. IsBeforeOrNone old c) (λ c closed. inr (none_committed c closed)) second)

@@ -21,7 +21,8 @@ five p fits = let within = half_within p 0 fits in omega (arith, within.0, withi
 behind : (at n : ℕ) (old new : Image) → 5 ≤ at → Elsewhere 2 1 old new → sectors_from new at n ≡ sectors_from old at n
 behind at n old new low change = same_sectors at n old new (λ i lt. change.after (at + i) (omega (arith, low)))
 
-module _ (p : Plan) (h : CheckpointHeader) (es : List Entry) (frames : List Frame) (old new : Image) (is : IsWritten p h es frames old) (first : h.sequence ≡ 0) (change : Elsewhere 2 1 old new) (gate : is_open (new 2) ≡ true) where
+module _ (p : Plan) (h : CheckpointHeader) (es : List Entry) (frames : List Frame) (old new : Image) (is : IsWritten p h es frames old) (first : h.sequence ≡ 0)
+    (change : Elsewhere 2 1 old new) (gate : is_open (new 2) ≡ true) where
   header_is : new 1 ≡ header_bytes h
   header_is = change.before 1 (omega arith) ∙ is.opening.header
 
@@ -35,7 +36,8 @@ module _ (p : Plan) (h : CheckpointHeader) (es : List Entry) (frames : List Fram
 
   committed : committed_bytes new ≡ Some (header_bytes h)
   committed =
-      ap (option_at new) (first_alone (does_count (new 1) (new 2) 0) (does_count (new 3) (new 4) 1) (sequence_in (new 1)) (sequence_in (new 3)) header_counts other_does_not)
+      ap (option_at new) (first_alone (does_count (new 1) (new 2) 0) (does_count (new 3) (new 4) 1) (sequence_in (new 1)) (sequence_in (new 3)) header_counts
+      other_does_not)
       ∙ ap (λ (b : List ℕ). Some b) header_is
 
   directory_stays : (n : ℕ) → directory_in new p h.generation n ≡ directory_in old p h.generation n
@@ -45,13 +47,27 @@ module _ (p : Plan) (h : CheckpointHeader) (es : List Entry) (frames : List Fram
 
   frame_stays : (a : ℕ) → a < object_count p.geometry → frame_in new p h.generation es a ≡ frame_in old p h.generation es a
   frame_stays a lt =
-      ap (shape_bytes (shape_of p a)) (behind (frame_sector p h.generation es a) (place_length p a) old new (frames_behind p h.generation es a is.plan (places_within p a is.plan lt).0) change)
+      ap (shape_bytes (shape_of p a))
+      (behind (frame_sector p h.generation es a) (place_length p a) old new (frames_behind p h.generation es a is.plan (places_within p a is.plan lt).0)
+      change)
 
-  pub denotes : (size : ℕ) → IsHeader p.geometry.log h → IsDirectory p.geometry es → length es ≡ h.entries → p.total ≤ size → AreKeepable p.geometry h.age frames → Encodes new size (state_of p h es frames)
+  pub denotes : (size : ℕ) → IsHeader p.geometry.log h → IsDirectory p.geometry es → length es ≡ h.entries → p.total ≤ size →
+      AreKeepable p.geometry h.age frames → Encodes new size (state_of p h es frames)
   denotes size header directory count whole keepable = record {
-    plan = record { least = omega (arith, whole, five p is.plan); whole = whole; fits = is.plan; spelt = change.before 0 (omega arith) ∙ is.opening.superblock };
+    plan = record {
+      least = omega (arith, whole, five p is.plan);
+      whole = whole;
+      fits = is.plan;
+      spelt = change.before 0 (omega arith) ∙
+          is.opening.superblock;
+    };
     header = record { fits = header; spelt = committed };
-    directory = record { count = count; fits = directory; spelt = ap (λ (n : ℕ). directory_in new p h.generation n) (sym count) ∙ directory_stays (length es) ∙ is.directory };
+    directory = record {
+      count = count;
+      fits = directory;
+      spelt = ap (λ (n : ℕ). directory_in new p h.generation n) (sym count) ∙ directory_stays (length es) ∙
+          is.directory;
+    };
     count = keepable.count;
     each = λ a lt. (keepable.each a lt, frame_stays a lt ∙ is.placed a lt);
   }
@@ -59,7 +75,8 @@ module _ (p : Plan) (h : CheckpointHeader) (es : List Entry) (frames : List Fram
 -- ---- while the gate is opened
 
 -- a gate that is torn is open over all of the image, or closed
-module _ (p : Plan) (h : CheckpointHeader) (es : List Entry) (frames : List Frame) (old c : Image) (is : IsWritten p h es frames old) (first : h.sequence ≡ 0) (change : Elsewhere 2 1 old c) (size : ℕ) (header : IsHeader p.geometry.log h)
+module _ (p : Plan) (h : CheckpointHeader) (es : List Entry) (frames : List Frame) (old c : Image) (is : IsWritten p h es frames old) (first : h.sequence ≡ 0)
+    (change : Elsewhere 2 1 old c) (size : ℕ) (header : IsHeader p.geometry.log h)
     (directory : IsDirectory p.geometry es) (count : length es ≡ h.entries) (whole : p.total ≤ size) (keepable : AreKeepable p.geometry h.age frames) where
   opening_by : (b : Bool) → is_open (c 2) ≡ b → HasNoHeader c ⊎ Holds size c (kept_of (state_of p h es frames))
   opening_by true gate = inr (state_of p h es frames, denotes p h es frames old c is first change gate size header directory count whole keepable, refl)
@@ -71,14 +88,18 @@ module _ (p : Plan) (h : CheckpointHeader) (es : List Entry) (frames : List Fram
 -- until the gate is opened
 pub not_yet : {old mid : Disk} (saved : SavedFrames) → LeavesOnly old mid (λ c. IsBeforeOrNone old c) → LeavesOnly old mid (λ c. IsLeftWriting old saved c)
 not_yet {old} {mid} saved run =
-    leaves_weaker {old = old} {new = mid} {P = λ c. IsBeforeOrNone old c} (λ c. IsLeftWriting old saved c) (λ c is. ⊎_elim (λ before. inl before) (λ none. inr (inl none)) is) run
+    leaves_weaker {old = old} {new = mid} {P = λ c. IsBeforeOrNone old c} (λ c. IsLeftWriting old saved c)
+    (λ c is. ⊎_elim (λ before. inl before) (λ none. inr (inl none)) is) run
 
 -- and with it
-pub opening_run : (p : Plan) (h : CheckpointHeader) (es : List Entry) (frames : List Frame) {old mid new : Disk} → IsWritten p h es frames mid.seen → h.sequence ≡ 0 → IsHeader p.geometry.log h → IsDirectory p.geometry es → length es ≡ h.entries
+pub opening_run : (p : Plan) (h : CheckpointHeader) (es : List Entry) (frames : List Frame) {old mid new : Disk} → IsWritten p h es frames mid.seen →
+    h.sequence ≡ 0 → IsHeader p.geometry.log h → IsDirectory p.geometry es → length es ≡ h.entries
     → p.total ≤ old.sectors → AreKeepable p.geometry h.age frames
-    → LeavesOnly old mid (λ c. IsBeforeOrNone old c) → LeavesOnly mid new (λ c. Elsewhere 2 1 mid.seen c) → LeavesOnly old new (λ c. IsLeftWriting old (kept_of (state_of p h es frames)) c)
+    → LeavesOnly old mid (λ c. IsBeforeOrNone old c) → LeavesOnly mid new (λ c. Elsewhere 2 1 mid.seen c) →
+    LeavesOnly old new (λ c. IsLeftWriting old (kept_of (state_of p h es frames)) c)
 opening_run p h es frames {old} {mid} {new} is first_header header directory count whole keepable first second =
-    leaves_on {old = old} {mid = mid} {new = new} {P = λ c. IsLeftWriting old (kept_of (state_of p h es frames)) c} (not_yet {old = old} {mid = mid} (kept_of (state_of p h es frames)) first)
+    leaves_on {old = old} {mid = mid} {new = new} {P = λ c. IsLeftWriting old (kept_of (state_of p h es frames)) c}
+    (not_yet {old = old} {mid = mid} (kept_of (state_of p h es frames)) first)
     (leaves_weaker {old = mid} {new = new} {P = λ c. Elsewhere 2 1 mid.seen c} (λ c. IsLeftWriting old (kept_of (state_of p h es frames)) c)
     (λ c change. inr (opening p h es frames mid.seen c is first_header change old.sectors header directory count whole keepable)) second)
 
@@ -102,21 +123,25 @@ on_ok (Ok value) {P} {Q} follows is = follows is
 on_ok (Err error) {P} {Q} follows is = tt
 
 -- once all is durable, what is seen is what a crash leaves
-pub durable_is : {T E : Type 0} (result : Result T E) (left P : Image → Type 0) (seen : Image) → OnOk result (P seen) → OnOk result ((c : Image) → left c → Agrees c seen) → OnOk result ((c : Image) → left c → P c)
+pub durable_is : {T E : Type 0} (result : Result T E) (left P : Image → Type 0) (seen : Image) → OnOk result (P seen) →
+    OnOk result ((c : Image) → left c → Agrees c seen) → OnOk result ((c : Image) → left c → P c)
 durable_is (Ok value) left P seen is only = λ c may. subst P (sym (agrees_is c seen (only c may))) is
 durable_is (Err error) left P seen is only = tt
 
 -- what was written is whole once it is durable
-pub all_written : (p : Plan) (h : CheckpointHeader) (es : List Entry) (frames : List Frame) (front behind now : Image) → IsPlan p → HasOpeningSectors p h front → Elsewhere 5 (p.total - 5) front behind
-    → directory_in behind p h.generation (length es) ≡ directory_bytes es → ((a : ℕ) → a < object_count p.geometry → frame_in behind p h.generation es a ≡ frame_bytes p.geometry a (frame_at frames a))
+pub all_written : (p : Plan) (h : CheckpointHeader) (es : List Entry) (frames : List Frame) (front behind now : Image) → IsPlan p →
+    HasOpeningSectors p h front → Elsewhere 5 (p.total - 5) front behind
+    → directory_in behind p h.generation (length es) ≡ directory_bytes es →
+    ((a : ℕ) → a < object_count p.geometry → frame_in behind p h.generation es a ≡ frame_bytes p.geometry a (frame_at frames a))
     → AreClosed behind → Agrees now behind → IsWritten p h es frames now
-all_written p h es frames front behind now fits has change directory placed closed same = subst (λ (i : Image). IsWritten p h es frames i) (sym (agrees_is now behind same)) (record {
-  plan = fits;
-  opening = record { superblock = change.before 0 (omega arith) ∙ has.superblock; header = change.before 1 (omega arith) ∙ has.header };
-  closed = closed;
-  directory = directory;
-  placed = placed;
-})
+all_written p h es frames front behind now fits has change directory placed closed same = subst (λ (i : Image). IsWritten p h es frames i)
+    (sym (agrees_is now behind same)) (record {
+      plan = fits;
+      opening = record { superblock = change.before 0 (omega arith) ∙ has.superblock; header = change.before 1 (omega arith) ∙ has.header };
+      closed = closed;
+      directory = directory;
+      placed = placed;
+    })
 
 -- ---- sectors of the image
 

@@ -25,11 +25,13 @@ pub record NumbersTo (rs : List HomeRange) (into : List NumberRange) (i : ℕ) :
 abbrev pub range_at : List HomeRange → ℕ → HomeRange
 range_at rs i = get_or rs i (record { first = 0; count = 0; sector = 0 })
 
-pub numbers_more : (rs : List HomeRange) (into : List NumberRange) (i : ℕ) → i < length rs → NumbersTo rs into i → NumbersTo rs (set into i (numbers_of (range_at rs i))) (i + 1)
+pub numbers_more : (rs : List HomeRange) (into : List NumberRange) (i : ℕ) → i < length rs → NumbersTo rs into i →
+    NumbersTo rs (set into i (numbers_of (range_at rs i))) (i + 1)
 numbers_more rs into i lt was =
     let r : HomeRange = range_at rs i in
     let split : drop i rs ≡ r ∷ drop (i + 1) rs = drop_more rs i (record { first = 0; count = 0; sector = 0 }) lt in
-    let front : take (i + 1) (set into i (numbers_of r)) ≡ take i into ++ numbers_of r ∷ [] = take_more_set into i (numbers_of r) (omega (arith, lt, was.size)) in
+    let front : take (i + 1) (set into i (numbers_of r)) ≡ take i into ++ numbers_of r ∷ [] = take_more_set into i (numbers_of r) (omega (arith, lt, was.size))
+    in
     let back : List NumberRange = map numbers_of (drop (i + 1) rs) in
     record {
       size = length-set into i (numbers_of r) ∙ was.size;
@@ -39,4 +41,5 @@ numbers_more rs into i lt was =
 
 pub all_numbers : (rs : List HomeRange) (into : List NumberRange) (i : ℕ) → length rs ≤ i → NumbersTo rs into i → into ≡ map numbers_of rs
 all_numbers rs into i done was =
-    sym (was.rest ∙ ap (λ (xs : List HomeRange). take i into ++ map numbers_of xs) (drop_all i rs done) ∙ append-nil (take i into) ∙ take_all i into (omega (arith, done, was.size)))
+    sym (was.rest ∙ ap (λ (xs : List HomeRange). take i into ++ map numbers_of xs) (drop_all i rs done) ∙ append-nil (take i into) ∙
+    take_all i into (omega (arith, done, was.size)))

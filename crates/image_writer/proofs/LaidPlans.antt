@@ -30,22 +30,26 @@ starts_later at (e ∷ es) (suc j) follow lt = let rest = starts_later (at + e.l
 follow_apart : (at : ℕ) (es : List Extent) → Follow at es → AreApart es
 follow_apart at [] follow i j lt within = absurd (omega (arith, within))
 follow_apart at (e ∷ es) follow i zero lt within = absurd (omega (arith, lt))
-follow_apart at (e ∷ es) follow zero (suc j) lt within = inl (let rest = starts_later (at + e.length) es j follow.1 (omega (arith, within)) in omega (arith, rest, follow.0))
+follow_apart at (e ∷ es) follow zero (suc j) lt within = inl
+    (let rest = starts_later (at + e.length) es j follow.1 (omega (arith, within)) in omega (arith, rest, follow.0))
 follow_apart at (e ∷ es) follow (suc i) (suc j) lt within = follow_apart (at + e.length) es follow.1 i j (omega (arith, lt)) (omega (arith, within))
 
 follow_within : (total at : ℕ) (es : List Extent) → 5 ≤ at → end_of at es ≤ total → Follow at es → All (IsWithin total) es
 follow_within total at [] low high follow k d lt = absurd (omega (arith, lt))
-follow_within total at (e ∷ es) low high follow zero d lt = let rest = ends_later (at + e.length) es in (omega (arith, follow.0, low), omega (arith, follow.0, rest, high))
+follow_within total at (e ∷ es) low high follow zero d lt = let rest = ends_later (at + e.length) es in
+    (omega (arith, follow.0, low), omega (arith, follow.0, rest, high))
 follow_within total at (e ∷ es) low high follow (suc k) d lt = follow_within total (at + e.length) es (omega (arith, low)) high follow.1 k d (omega (arith, lt))
 
 -- ---- ranges that are laid, and what lies behind them
 
-laid_follow : (v : Version) (g : Geometry) (at : ℕ) (rs : List NumberRange) (es : List Extent) → Follow (behind v g at rs) es → Follow at (map (range_extent v g) (laid v g at rs) ++ es)
+laid_follow : (v : Version) (g : Geometry) (at : ℕ) (rs : List NumberRange) (es : List Extent) → Follow (behind v g at rs) es →
+    Follow at (map (range_extent v g) (laid v g at rs) ++ es)
 laid_follow v g at [] es follow = rw (none_laid v g at) (subst (λ (n : ℕ). Follow n es) (none_behind v g at) follow)
 laid_follow v g at (r ∷ rs) es follow =
     rw (cons_laid v g at r rs) (refl, laid_follow v g (at + sectors_of v g r) rs es (subst (λ (n : ℕ). Follow n es) (cons_behind v g at r rs) follow))
 
-laid_end : (v : Version) (g : Geometry) (at : ℕ) (rs : List NumberRange) (es : List Extent) → end_of at (map (range_extent v g) (laid v g at rs) ++ es) ≡ end_of (behind v g at rs) es
+laid_end : (v : Version) (g : Geometry) (at : ℕ) (rs : List NumberRange) (es : List Extent) → end_of at (map (range_extent v g) (laid v g at rs) ++ es) ≡ end_of
+    (behind v g at rs) es
 laid_end v g at [] es = rw (none_laid v g at, none_behind v g at) refl
 laid_end v g at (r ∷ rs) es = rw (cons_laid v g at r rs, cons_behind v g at r rs) (laid_end v g (at + sectors_of v g r) rs es)
 
@@ -71,11 +75,13 @@ few_more : (v : Version) (count : ℕ) → nodes_length v count ≤ 2 * count + 
 few_more One count = omega arith
 few_more Two count = omega arith
 
-range_takes : (v : Version) (g : Geometry) (r : NumberRange) (n : ℕ) → r.first ≡ n → 0 < r.count → (r.first + r.count ≤ g.nodes) ⊎ (g.nodes ≤ r.first) → n + r.count ≤ g.nodes + g.pages
+range_takes : (v : Version) (g : Geometry) (r : NumberRange) (n : ℕ) → r.first ≡ n → 0 < r.count → (r.first + r.count ≤ g.nodes) ⊎ (g.nodes ≤ r.first) →
+    n + r.count ≤ g.nodes + g.pages
     → sectors_of v g r + sectors_from g (n + r.count) ≤ sectors_from g n + 8
 range_takes v g r n first some kind few = ⊎_elim
     (λ nodes.
-    let is : sectors_of v g r ≡ nodes_length v r.count = ap (λ (b : Bool). if b then nodes_length v r.count else 9 * r.count) (lt-ltb r.first g.nodes (omega (arith, nodes, some))) in
+    let is : sectors_of v g r ≡ nodes_length v r.count = ap (λ (b : Bool). if b then nodes_length v r.count else 9 * r.count)
+    (lt-ltb r.first g.nodes (omega (arith, nodes, some))) in
     let more = few_more v r.count in
     omega (arith, is, more, first, nodes, few))
     (λ pages.
@@ -87,7 +93,8 @@ covered_within : (g : Geometry) (n : ℕ) (rs : List HomeRange) → Cover g n rs
 covered_within g n [] c = omega (arith, c)
 covered_within g n (r ∷ rs) c = let rest = covered_within g (n + r.count) rs c.1 in omega (arith, rest)
 
-behind_few : (v : Version) (g : Geometry) (n at : ℕ) (rs : List NumberRange) → Cover g n (map (placed 0) rs) → behind v g at rs ≤ at + sectors_from g n + 8 * length rs
+behind_few : (v : Version) (g : Geometry) (n at : ℕ) (rs : List NumberRange) → Cover g n (map (placed 0) rs) →
+    behind v g at rs ≤ at + sectors_from g n + 8 * length rs
 behind_few v g n at [] c = let none = none_behind v g at in omega (arith, none)
 behind_few v g n at (r ∷ rs) c =
     let few = covered_within g (n + r.count) (map (placed 0) rs) c.1 in
@@ -130,7 +137,8 @@ may_be v g rs is = record {
 -- ---- version 2 beside version 1
 
 -- a range takes by version 2 no more than 8 sectors above what it takes by version 1
-second_takes : (is_node : Bool) (count : ℕ) → (if is_node then nodes_length Two count else 9 * count) ≤ (if is_node then nodes_length One count else 9 * count) + 8
+second_takes : (is_node : Bool) (count : ℕ) → (if is_node then nodes_length Two count else 9 * count) ≤ (if is_node then nodes_length One count else 9 * count)
+    + 8
 second_takes true count = omega arith
 second_takes false count = omega arith
 

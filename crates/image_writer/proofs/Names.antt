@@ -1,5 +1,5 @@
 -- The names that the proofs here cite: of other crates, and of the definitions of this one.
-pub use Rattle.capability.proofs.Frames.{length_in}
+pub use Rattle.capability.proofs.FrameLists.{length_in}
 pub use Rattle.checkpoint.specs.Saved.{Holds, SavedFrames, kept_of}
 pub use Rattle.ckpt_log.proofs.BesideHeaders.{half_behind, sequences_reported}
 pub use Rattle.ckpt_log.proofs.Closings.{none_committed}

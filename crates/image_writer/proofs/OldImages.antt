@@ -15,15 +15,27 @@ module _ (old new : Image) (kept : KeepsImage old new) where
       let half = half_behind p generation fits in
       ap (λ (bytes : List ℕ). take (16 * n) bytes) (behind (directory_sector p generation) (directory_length n) (omega (arith, half)))
 
-  same_frame : (p : Plan) (generation : ℕ) (es : List Entry) (object : ℕ) → IsPlan p → object < p.geometry.nodes + p.geometry.pages → frame_in new p generation es object ≡ frame_in old p generation es object
+  same_frame : (p : Plan) (generation : ℕ) (es : List Entry) (object : ℕ) → IsPlan p → object < p.geometry.nodes + p.geometry.pages →
+      frame_in new p generation es object ≡ frame_in old p generation es object
   same_frame p generation es object fits lt =
-      ap (shape_bytes (shape_of p object)) (behind (frame_sector p generation es object) (place_length p object) (frames_behind p generation es object fits (places_within p object fits lt).0))
+      ap (shape_bytes (shape_of p object))
+      (behind (frame_sector p generation es object) (place_length p object) (frames_behind p generation es object fits (places_within p object fits lt).0))
 
   encodes : (size : ℕ) (s : SavedState) → Encodes old size s → Encodes new size s
   encodes size s is = record {
-    plan = record { least = is.plan.least; whole = is.plan.whole; fits = is.plan.fits; spelt = kept.elsewhere 0 (λ is. omega (arith, is)) (λ is. omega (arith, is)) ∙ is.plan.spelt };
+    plan = record {
+      least = is.plan.least;
+      whole = is.plan.whole;
+      fits = is.plan.fits;
+      spelt = kept.elsewhere 0 (λ is. omega (arith, is)) (λ is. omega (arith, is)) ∙ is.plan.spelt;
+    };
     header = record { fits = is.header.fits; spelt = kept.committed ∙ is.header.spelt };
-    directory = record { count = is.directory.count; fits = is.directory.fits; spelt = same_directory s.plan s.header.generation s.header.entries is.plan.fits ∙ is.directory.spelt };
+    directory = record {
+      count = is.directory.count;
+      fits = is.directory.fits;
+      spelt = same_directory s.plan s.header.generation s.header.entries is.plan.fits ∙
+          is.directory.spelt;
+    };
     count = is.count;
     each = λ object lt. subst (λ (b : List ℕ). IsFrameOf s.plan.geometry s.header.age object b (frame_at s.frames object))
         (sym (same_frame s.plan s.header.generation s.directory object is.plan.fits lt)) (is.each object lt);

@@ -12,20 +12,25 @@ use Rattle.image_writer.proofs.HomeFrames.{own_at}
 -- ---- the slot of one entry
 
 -- a cluster that was filled from its first node on has the frames of all that share a home with a node of it
-packed_at : (p : Plan) (frames : List Frame) (n rank at : ℕ) (cluster : List ℕ) (image : Image) → IsPlan p → IsObject p.geometry n → shape_of p n ≡ Packed rank → sectors_from image at 8 ≡ cluster → AreFramesOf p frames (n - rank) cluster
+packed_at : (p : Plan) (frames : List Frame) (n rank at : ℕ) (cluster : List ℕ) (image : Image) → IsPlan p → IsObject p.geometry n →
+    shape_of p n ≡ Packed rank → sectors_from image at 8 ≡ cluster → AreFramesOf p frames (n - rank) cluster
     → LieAt p frames n at image
 packed_at p frames n rank at cluster image fits is shape held filled a is_a same =
     let long : place_length p a ≡ 8 = one_length p a n fits is_a is same ∙ ap shape_length shape in
-    ap (λ (k : ℕ). shape_bytes (shape_of p a) (sectors_from image at k)) long ∙ ap (shape_bytes (shape_of p a)) held ∙ filled a is_a (same ∙ sym (begins p n rank fits is shape).home)
+    ap (λ (k : ℕ). shape_bytes (shape_of p a) (sectors_from image at k)) long ∙ ap (shape_bytes (shape_of p a)) held ∙
+    filled a is_a (same ∙ sym (begins p n rank fits is shape).home)
 
-pub packed_written : {T E : Type 0} (result : Result T E) (p : Plan) (frames : List Frame) (n rank at : ℕ) (cluster : List ℕ) (image : Image) → IsPlan p → IsObject p.geometry n → shape_of p n ≡ Packed rank
+pub packed_written : {T E : Type 0} (result : Result T E) (p : Plan) (frames : List Frame) (n rank at : ℕ) (cluster : List ℕ) (image : Image) → IsPlan p →
+    IsObject p.geometry n → shape_of p n ≡ Packed rank
     → OnOk result (sectors_from image at 8 ≡ cluster) → AreFramesOf p frames (n - rank) cluster → OnOk result (LieAt p frames n at image)
 packed_written (Ok value) p frames n rank at cluster image fits is shape held filled = packed_at p frames n rank at cluster image fits is shape held filled
 packed_written (Err error) p frames n rank at cluster image fits is shape held filled = tt
 
 -- and so has a slot that is written with a frame that has sectors of its own
-pub own_written_at : {T E : Type 0} (result : Result T E) (p : Plan) (hs : List ObjectHeader) (cs : List (Content Cap)) (n at : ℕ) (c : Content Cap) (image : Image) → IsPlan p → IsObject p.geometry n → length hs ≡ object_count p.geometry
-    → length cs ≡ object_count p.geometry → c ≡ slice_index_or cs n c → IsOwn (shape_of p n) → OnOk result (bytes_at image at p n ≡ frame_bytes p.geometry n (record { header = header_at hs n; content = c }))
+pub own_written_at : {T E : Type 0} (result : Result T E) (p : Plan) (hs : List ObjectHeader) (cs : List (Content Cap)) (n at : ℕ) (c : Content Cap)
+    (image : Image) → IsPlan p → IsObject p.geometry n → length hs ≡ object_count p.geometry
+    → length cs ≡ object_count p.geometry → c ≡ slice_index_or cs n c → IsOwn (shape_of p n) →
+    OnOk result (bytes_at image at p n ≡ frame_bytes p.geometry n (record { header = header_at hs n; content = c }))
     → OnOk result (LieAt p (frames_in hs cs) n at image)
 own_written_at (Ok value) p hs cs n at c image fits is size same_size held own written = own_at p hs cs n at c image fits is size same_size held own written
 own_written_at (Err error) p hs cs n at c image fits is size same_size held own written = tt
@@ -42,7 +47,8 @@ module _ (p : Plan) (generation : ℕ) (es : List Entry) (i : ℕ) (mid new : Im
   fits j within = (is.each j (record { object = 0; slot = 0 }) within).slot
 
   -- a write of a slot leaves the others
-  other_slot : (j a : ℕ) → j < i → bytes_at new (slot_sector p generation (entry_at es j).slot) p a ≡ bytes_at mid (slot_sector p generation (entry_at es j).slot) p a
+  other_slot : (j a : ℕ) → j < i → bytes_at new (slot_sector p generation (entry_at es j).slot) p a ≡ bytes_at mid
+      (slot_sector p generation (entry_at es j).slot) p a
   other_slot j a before = same_shaped (slot_sector p generation (entry_at es j).slot) (shape_of p a) mid new (λ k inside.
       let few = slot_length p a in
       let own = slot_length p (entry_at es i).object in
@@ -53,7 +59,8 @@ module _ (p : Plan) (generation : ℕ) (es : List Entry) (i : ℕ) (mid new : Im
             change.after (slot_sector p generation (entry_at es j).slot + k) (omega (arith, le, differ, own))
       ])
 
-  pub one_more_slot : (frames : List Frame) → AreInSlots p generation es frames i mid → LieAt p frames (entry_at es i).object (slot_sector p generation (entry_at es i).slot) new → AreInSlots p generation es frames (i + 1) new
+  pub one_more_slot : (frames : List Frame) → AreInSlots p generation es frames i mid →
+      LieAt p frames (entry_at es i).object (slot_sector p generation (entry_at es i).slot) new → AreInSlots p generation es frames (i + 1) new
   one_more_slot frames so_far here j below a is_a same = elim (cases_lt j i) [
     | inl less ↦ other_slot j a less ∙ so_far j less a is_a same
     | inr le ↦
@@ -62,7 +69,8 @@ module _ (p : Plan) (generation : ℕ) (es : List Entry) (i : ℕ) (mid new : Im
   ]
 
   -- and stays in the half
-  pub stays_in_half : (old : Image) → Elsewhere (half_sector p generation) (9 * p.geometry.log) old mid → Elsewhere (half_sector p generation) (9 * p.geometry.log) old new
+  pub stays_in_half : (old : Image) → Elsewhere (half_sector p generation) (9 * p.geometry.log) old mid →
+      Elsewhere (half_sector p generation) (9 * p.geometry.log) old new
   stays_in_half old so_far =
       let slot = fits i lt in
       let few = slot_length p (entry_at es i).object in
@@ -77,23 +85,29 @@ slot_behind p generation slot fits = let within = half_within p generation fits 
 
 -- ---- the directory behind them
 
-pub slots_stay : (p : Plan) (generation at long : ℕ) (es : List Entry) (frames : List Frame) (mid new : Image) → IsDirectory p.geometry es → at ≡ directory_sector p generation → Elsewhere at long mid new
+pub slots_stay : (p : Plan) (generation at long : ℕ) (es : List Entry) (frames : List Frame) (mid new : Image) → IsDirectory p.geometry es →
+    at ≡ directory_sector p generation → Elsewhere at long mid new
     → AreInSlots p generation es frames (length es) mid → AreInSlots p generation es frames (length es) new
 slots_stay p generation at long es frames mid new is place change so_far j lt a is_a same =
     let slot = (is.each j (record { object = 0; slot = 0 }) lt).slot in
     let few = slot_length p a in
-    same_shaped (slot_sector p generation (entry_at es j).slot) (shape_of p a) mid new (λ k inside. change.before (slot_sector p generation (entry_at es j).slot + k) (omega (arith, slot, inside, few, place)))
+    same_shaped (slot_sector p generation (entry_at es j).slot) (shape_of p a) mid new
+    (λ k inside. change.before (slot_sector p generation (entry_at es j).slot + k) (omega (arith, slot, inside, few, place)))
     ∙ so_far j lt a is_a same
 
 -- ---- what an image has of a frame
 
 -- each frame is in a slot or at home
-pub all_slotted : (p : Plan) (generation : ℕ) (es : List Entry) (frames : List Frame) (homes new : Image) → IsPlan p → Elsewhere (half_sector p generation) (half_extent p.geometry 0).length homes new → AreHome p frames (object_count p.geometry) homes
-    → AreInSlots p generation es frames (length es) new → (a : ℕ) → a < object_count p.geometry → frame_in new p generation es a ≡ frame_bytes p.geometry a (frame_at frames a)
+pub all_slotted : (p : Plan) (generation : ℕ) (es : List Entry) (frames : List Frame) (homes new : Image) → IsPlan p →
+    Elsewhere (half_sector p generation) (half_extent p.geometry 0).length homes new → AreHome p frames (object_count p.geometry) homes
+    → AreInSlots p generation es frames (length es) new → (a : ℕ) → a < object_count p.geometry →
+    frame_in new p generation es a ≡ frame_bytes p.geometry a (frame_at frames a)
 all_slotted p generation es frames homes new fits change home slots a lt = by (frame_slot_in p es a) refl where
   by : (o : Option ℕ) → frame_slot_in p es a ≡ o → frame_in new p generation es a ≡ frame_bytes p.geometry a (frame_at frames a)
   by None none = rw none (
-      same_shaped (home_place p a) (shape_of p a) homes new (λ k inside. ⊎_elim (λ before. change.before (home_place p a + k) (omega (arith, before, inside))) (λ after. change.after (home_place p a + k) (omega (arith, after)))
+      same_shaped (home_place p a) (shape_of p a) homes new
+      (λ k inside. ⊎_elim (λ before. change.before (home_place p a + k) (omega (arith, before, inside)))
+      (λ after. change.after (home_place p a + k) (omega (arith, after)))
       (places_spare_log p a generation fits lt))
       ∙ home a lt)
   by (Some slot) some = rw some (
@@ -102,7 +116,8 @@ all_slotted p generation es frames homes new fits change home slots a lt = by (f
       (slots entry.index entry.within a lt (sym entry.home_is)))
 
 -- the log lies between the headers and the end
-pub log_between : (p : Plan) (generation : ℕ) (old mid new : Image) → IsPlan p → Elsewhere 5 (p.total - 5) old mid → Elsewhere (half_sector p generation) (half_extent p.geometry 0).length mid new → Elsewhere 5 (p.total - 5) old new
+pub log_between : (p : Plan) (generation : ℕ) (old mid new : Image) → IsPlan p → Elsewhere 5 (p.total - 5) old mid →
+    Elsewhere (half_sector p generation) (half_extent p.geometry 0).length mid new → Elsewhere 5 (p.total - 5) old new
 log_between p generation old mid new fits first second =
     let within = half_within p generation fits in record {
       before = λ i low. second.before i (omega (arith, low, within.0)) ∙ first.before i low;

@@ -11,12 +11,15 @@ frames_before Page = 0
 
 -- bytes are the frames of all that have the home of a number
 abbrev pub AreFramesOf : Plan → List Frame → ℕ → List ℕ → Type 0
-AreFramesOf p frames number bytes = (a : ℕ) → IsObject p.geometry a → home_place p a ≡ home_place p number → shape_bytes (shape_of p a) bytes ≡ frame_bytes p.geometry a (frame_at frames a)
+AreFramesOf p frames number bytes = (a : ℕ) → IsObject p.geometry a → home_place p a ≡ home_place p number →
+    shape_bytes (shape_of p a) bytes ≡ frame_bytes p.geometry a (frame_at frames a)
 
 -- the frames of all that have it lie in the sectors from one on
 abbrev pub LieAt : Plan → List Frame → ℕ → ℕ → Image → Type 0
-LieAt p frames number at image = (a : ℕ) → IsObject p.geometry a → home_place p a ≡ home_place p number → bytes_at image at p a ≡ frame_bytes p.geometry a (frame_at frames a)
+LieAt p frames number at image = (a : ℕ) → IsObject p.geometry a → home_place p a ≡ home_place p number →
+    bytes_at image at p a ≡ frame_bytes p.geometry a (frame_at frames a)
 
 -- or at that home
 abbrev pub IsHome : Plan → List Frame → ℕ → Image → Type 0
-IsHome p frames number image = (a : ℕ) → IsObject p.geometry a → home_place p a ≡ home_place p number → bytes_at image (home_place p a) p a ≡ frame_bytes p.geometry a (frame_at frames a)
+IsHome p frames number image = (a : ℕ) → IsObject p.geometry a → home_place p a ≡ home_place p number →
+    bytes_at image (home_place p a) p a ≡ frame_bytes p.geometry a (frame_at frames a)

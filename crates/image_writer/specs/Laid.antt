@@ -27,7 +27,8 @@ behind v g at (r ∷ rs) = behind v g (at + sectors_of v g r) rs
 
 -- the plan with ranges from sector 5 on, behind them the halves of the log, and nothing behind those
 abbrev pub plan_from : Version → Geometry → List NumberRange → Plan
-plan_from v g rs = plan_of v g (laid v g 5 rs) (behind v g 5 rs) (behind v g 5 rs + half_length g) (behind v g 5 rs + half_length g + half_length g)
+plan_from v g rs = plan_of v g (laid v g 5 rs) (behind v g 5 rs) (behind v g 5 rs + half_length g)
+    (behind v g 5 rs + half_length g + half_length g)
 
 -- the numbers of a home range
 abbrev pub numbers_of : HomeRange → NumberRange

@@ -1,4 +1,5 @@
--- How many sectors an image takes by version 2; and what is left of one whose gates are closed: it is as before until the
+-- How many sectors an image takes by version 2; and what is left of one whose gates are closed: it is as before until
+-- the
 -- last one is, and then it holds nothing.
 use Rattle.image_writer.specs.Names.{ℕ, List, length, Geometry, Image, HasNoHeader, One, Two, KeepsImage, Holds}
 use Rattle.image_writer.specs.Names.{SavedFrames}
@@ -8,12 +9,14 @@ use Rattle.image_writer.specs.Laid.{plan_from}
 
 -- by version 2 an image takes at most 8 sectors a range more than by version 1
 abbrev pub SecondTakesFewMore : Type 0
-SecondTakesFewMore = (g : Geometry) (rs : List NumberRange) → (plan_from Two g rs).total ≤ (plan_from One g rs).total + 8 * length rs
+SecondTakesFewMore = (g : Geometry) (rs : List NumberRange) → (plan_from Two g rs).total ≤ (plan_from One g rs).total +
+    8 * length rs
 
 -- an image that changed in its gates alone, with the same committed header, holds the same saved frames, or as
 -- before none
 abbrev pub KeptHoldsTheSame : Type 0
-KeptHoldsTheSame = (size : ℕ) (old new : Image) (saved : SavedFrames) → KeepsImage old new → (Holds size old saved ↔ Holds size new saved)
+KeptHoldsTheSame = (size : ℕ) (old new : Image) (saved : SavedFrames) → KeepsImage old new →
+    (Holds size old saved ↔ Holds size new saved)
 
 -- one without a committed header holds none
 abbrev pub NoneIsHeld : Type 0

@@ -29,19 +29,23 @@ pub record HasOpeningSectors (p : Plan) (h : CheckpointHeader) (image : Image) :
 
 -- the frames of the first n numbers lie at home
 abbrev pub AreHome : Plan → List Frame → ℕ → Image → Type 0
-AreHome p frames n image = (a : ℕ) → a < n → bytes_at image (home_place p a) p a ≡ frame_bytes p.geometry a (frame_at frames a)
+AreHome p frames n image = (a : ℕ) → a < n → bytes_at image (home_place p a) p a ≡ frame_bytes p.geometry a
+    (frame_at frames a)
 
 -- in the slots of the first n entries lie the frames of all that have the homes of their objects
 abbrev pub AreInSlots : Plan → ℕ → List Entry → List Frame → ℕ → Image → Type 0
-AreInSlots p generation es frames n image = (j : ℕ) → j < n → LieAt p frames (entry_at es j).object (slot_sector p generation (entry_at es j).slot) image
+AreInSlots p generation es frames n image = (j : ℕ) → j < n →
+    LieAt p frames (entry_at es j).object (slot_sector p generation (entry_at es j).slot) image
 
 -- all of an image, under closed gates: each frame lies where the directory says
-pub record IsWritten (p : Plan) (h : CheckpointHeader) (es : List Entry) (frames : List Frame) (image : Image) : Type 0 where
-  pub plan : IsPlan p
-  pub opening : HasOpeningSectors p h image
-  pub closed : AreClosed image
-  pub directory : directory_in image p h.generation (length es) ≡ directory_bytes es
-  pub placed : (a : ℕ) → a < object_count p.geometry → frame_in image p h.generation es a ≡ frame_bytes p.geometry a (frame_at frames a)
+pub record IsWritten (p : Plan) (h : CheckpointHeader) (es : List Entry) (frames : List Frame) (image : Image) : Type 0
+  where
+    pub plan : IsPlan p
+    pub opening : HasOpeningSectors p h image
+    pub closed : AreClosed image
+    pub directory : directory_in image p h.generation (length es) ≡ directory_bytes es
+    pub placed : (a : ℕ) → a < object_count p.geometry → frame_in image p h.generation es a ≡ frame_bytes p.geometry a
+        (frame_at frames a)
 
 -- ---- what a crash leaves on the way
 

@@ -34,7 +34,7 @@ fn put_node(
     ensures size { length cluster.new ≡ 4096 }
 {
     let mut node = [0; NODE_FRAME_BYTES];
-    encode_frame(geometry, number, header, content, &mut node);
+    encode_frame(geometry, number, header, content.as_ref(), &mut node);
     pack_node(&node, rank as usize, cluster);
 }
 

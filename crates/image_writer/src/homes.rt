@@ -53,7 +53,7 @@ fn write_node<D: Device>(
     ensures cause { Counts (D.disk device.old) (D.disk device.new) result }
 {
     let mut node = [0; NODE_FRAME_BYTES];
-    encode_frame(home.geometry(), number, header, content, &mut node);
+    encode_frame(home.geometry(), number, header, content.as_ref(), &mut node);
     home.write_frame(device, number, &node)
 }
 
@@ -77,7 +77,7 @@ fn write_page<D: Device>(
     ensures cause { Counts (D.disk device.old) (D.disk device.new) result }
 {
     let mut page = [0; PAGE_FRAME_BYTES];
-    encode_frame(home.geometry(), number, header, content, &mut page);
+    encode_frame(home.geometry(), number, header, content.as_ref(), &mut page);
     home.write_frame(device, number, &page)
 }
 

@@ -26,8 +26,8 @@ use model::{Cap, Content, ObjectHeader};
 
 const CLUSTER_SECTORS: usize = 8;
 
-// Writes the slot of an entry whose node has this rank in its cluster: the frames of all nodes of the cluster, and zeros
-// behind them.
+// Writes the slot of an entry whose node has this rank in its cluster: the frames of all nodes of the
+// cluster, and zeros behind them.
 fn write_cluster<D: Device>(
     device: &mut D,
     log: &Log,
@@ -89,8 +89,22 @@ fn write_entry<D: Device>(
         Shape::Packed(rank) => write_cluster(
             device, log, home, generation, entry, rank, headers, contents,
         ),
-        Shape::Node => log.write_slot(device, generation, slot, object, headers[at], &contents[at]),
-        Shape::Page => log.write_slot(device, generation, slot, object, headers[at], &contents[at]),
+        Shape::Node => log.write_slot(
+            device,
+            generation,
+            slot,
+            object,
+            headers[at],
+            contents[at].as_ref(),
+        ),
+        Shape::Page => log.write_slot(
+            device,
+            generation,
+            slot,
+            object,
+            headers[at],
+            contents[at].as_ref(),
+        ),
     }
 }
 

@@ -14,5 +14,6 @@ module _ {D : Type 0} (disk : D → Disk) (ms : Members) (old : D) (output : Opt
     pub built_reported : Appends output output_left (line_of (built_text needed)) → BuildsImage disk ms old new output output_left (Ok tt)
     built_reported reported = (built, (found.0, found.1, subst (λ (n : ℕ). Appends output output_left (line_of (built_text n))) found.3 reported))
 
-    pub built_untold : AppendsFront output output_left (line_of (built_text needed)) → BuildsImage disk ms old new output output_left (Err fault.CannotWriteOutput)
+    pub built_untold : AppendsFront output output_left (line_of (built_text needed)) →
+        BuildsImage disk ms old new output output_left (Err fault.CannotWriteOutput)
     built_untold reported = (built, (found.0, found.1, subst (λ (n : ℕ). AppendsFront output output_left (line_of (built_text n))) found.3 reported))

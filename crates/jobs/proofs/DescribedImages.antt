@@ -7,7 +7,8 @@ use Rattle.jobs.proofs.Names.{IsDescriptionOf, OpensAndDescribes, DescribedIsDen
 use Rattle.std.proofs.Common.{◌≡◌, ◌∙◌}
 
 -- A store that was made of a device.
-module _ {D : Type 0} (disk : D → Disk) (seen_left : (d : D) → (disk d).may_leave (disk d).seen) (device : D) (l : Live (StoreState D)) (wakes : Recovers disk (view_of disk) (parts_of disk) device l) where
+module _ {D : Type 0} (disk : D → Disk) (seen_left : (d : D) → (disk d).may_leave (disk d).seen) (device : D) (l : Live (StoreState D))
+    (wakes : Recovers disk (view_of disk) (parts_of disk) device l) where
   -- what is saved, as the device gives it
   abbrev pub state_of : SavedState
   state_of = saved_state (seen_of disk l.store.durable) l.store.durable.books
@@ -33,7 +34,8 @@ module _ {D : Type 0} (disk : D → Disk) (seen_left : (d : D) → (disk d).may_
     pub looked : OnlyReads (disk device) (disk back)
     looked = subst (λ (d : D). OnlyReads (disk device) (disk d)) (sym same) wakes.only_reads
 
-    pub saved : (age : ℕ) → age ≡ state_of.header.age → (d : Description) → IsDescriptionOf l.store.durable.books.plan age (frames_of (parts_of disk l.store)) d → DescribesSaved disk device back d
+    pub saved : (age : ℕ) → age ≡ state_of.header.age → (d : Description) → IsDescriptionOf l.store.durable.books.plan age (frames_of (parts_of disk l.store)) d
+        → DescribesSaved disk device back d
     saved age age_is d whole = record {
       state = state_of;
       encodes = encodes;
@@ -56,7 +58,8 @@ module _ {D : Type 0} (disk : D → Disk) (seen_left : (d : D) → (disk d).may_
     }
 
 -- what was answered is the description of what is saved
-pub described : {D : Type 0} (disk : D → Disk) (device back : D) (answer : Result Description OpenFault) (d : Description) → answer ≡ Ok d → OpensAndDescribes disk device back answer
+pub described : {D : Type 0} (disk : D → Disk) (device back : D) (answer : Result Description OpenFault) (d : Description) → answer ≡ Ok d →
+    OpensAndDescribes disk device back answer
     → DescribesSaved disk device back d
 described disk device back answer d is reported = subst (λ (r : Result Description OpenFault). OpensAndDescribes disk device back r) is reported
 
@@ -64,7 +67,8 @@ described disk device back answer d is reported = subst (λ (r : Result Descript
 module _ {D : Type 0} (disk : D → Disk) (device back : D) (d : Description) (saved : DescribesSaved disk device back d) where
   -- it has a text
   pub has_text : CanBeSpelled d
-  has_text = described_has_text saved.state.plan saved.state.header.age saved.state.frames d saved.encodes.plan.fits saved.sound saved.whole.describes saved.whole.ranges saved.whole.layout
+  has_text = described_has_text saved.state.plan saved.state.header.age saved.state.frames d saved.encodes.plan.fits saved.sound saved.whole.describes
+      saved.whole.ranges saved.whole.layout
 
 -- What is built of the text denotes the world that it describes.
 pub described_is_denoted : DescribedIsDenoted

@@ -8,7 +8,8 @@ use Rattle.jobs.specs.declared.fault.Fault.TheVariants as fault
 use Rattle.jobs.proofs.ReachedImages.{objects_sound}
 
 -- what was answered is all that is saved
-pub whole_read : {D : Type 0} (disk : D → Disk) (device back : D) (answer : Result Whole OpenFault) (whole : Whole) → answer ≡ Ok whole → OpensWhole disk device back answer
+pub whole_read : {D : Type 0} (disk : D → Disk) (device back : D) (answer : Result Whole OpenFault) (whole : Whole) → answer ≡ Ok whole →
+    OpensWhole disk device back answer
     → DescribesSaved disk device back whole.description × HoldsOfSaved disk device back (λ os. whole.objects.items ≡ os)
 whole_read disk device back answer whole is read = subst (λ (r : Result Whole OpenFault). OpensWhole disk device back r) is read
 
@@ -32,7 +33,8 @@ module _ {D : Type 0} (disk : D → Disk) (device back : D) (whole : Whole)
         → OfWhole disk device back (λ os d. DrawsPart os focus d output output_left outcome)
     of_whole outcome draws = record { description = whole.description; saved = opened.0; objects = whole.objects.items; read = opened.1; reported = draws }
 
-    pub draws_image : (outcome : Result (Unit {0}) Fault) → DrawsPart whole.objects.items focus whole.description output output_left outcome → DrawsImage disk focus device back output output_left outcome
+    pub draws_image : (outcome : Result (Unit {0}) Fault) → DrawsPart whole.objects.items focus whole.description output output_left outcome →
+        DrawsImage disk focus device back output output_left outcome
     draws_image (Ok a) draws = of_whole (Ok a) draws
     draws_image (Err fault.CannotReadDescription) draws = absurd draws.0
     draws_image (Err fault.NotToml) draws = absurd draws.0
@@ -52,7 +54,8 @@ module _ {D : Type 0} (disk : D → Disk) (device back : D) (whole : Whole)
     draws_image (Err (fault.Sizes why)) draws = absurd draws.0
 
 -- A description is restricted twice.
-pub keeps_both : (os : List Object) (focus : Focus) (d m e : Description) → IsHeldTo focus.to d m → (outcome : Result (Unit {0}) Fault) → KeepsReached os focus.from m e outcome → KeepsPart os focus d e outcome
+pub keeps_both : (os : List Object) (focus : Focus) (d m e : Description) → IsHeldTo focus.to d m → (outcome : Result (Unit {0}) Fault) →
+    KeepsReached os focus.from m e outcome → KeepsPart os focus d e outcome
 keeps_both os focus d m e held (Ok a) keeps = (m, held, keeps)
 keeps_both os focus d m e held (Err fault.CannotReadDescription) keeps = keeps
 keeps_both os focus d m e held (Err fault.NotToml) keeps = keeps

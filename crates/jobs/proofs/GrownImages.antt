@@ -17,7 +17,8 @@ grown_is_denoted p g age frames text table e saved size c reported read said bui
     let gs : List Frame = built.0 in
     let tables : reported.table ≡ table = same_Some reported.table table (sym reported.read ∙ read) in
     let same : IsSame d e = description_once table d e (subst (λ (ms : Members). IsDescription ms d) tables reported.said) said in
-    let frames_are : plain_frames v.objects ≡ gs = described_once d (plain_frames v.objects) gs reported.whole.describes.frames (same_described d e same gs built.1) in
+    let frames_are : plain_frames v.objects ≡ gs = described_once d (plain_frames v.objects) gs reported.whole.describes.frames
+    (same_described d e same gs built.1) in
     let age_is : e.age ≡ v.age = sym same.age ∙ reported.whole.describes.age in
     let world : world_at e.age gs ≡ v =
     ap (λ (n : ℕ). world_at n gs) age_is ∙ ap (λ (hs : List Frame). world_at v.age hs) (sym frames_are)
@@ -38,7 +39,8 @@ same_ranges g rs = grind (arith, nat_tests)
 
 pub unsized_is_whole : UnsizedIsWhole
 unsized_is_whole p age frames text sound reported =
-    let same : reported.whole.world ≡ world_at age frames = grown_to_itself p.geometry (world_at age frames) reported.whole.world sound.sound reported.whole.grown in
+    let same : reported.whole.world ≡ world_at age frames = grown_to_itself p.geometry (world_at age frames) reported.whole.world sound.sound
+    reported.whole.grown in
     record {
       table = reported.table;
       read = reported.read;
@@ -115,7 +117,8 @@ module _ {D : Type 0} (disk : D → Disk) (device back : D) (d : Description) (s
 
   -- what is reported of it
   module _ (output output_left : Option (List ℕ)) where
-    pub describes_image : (outcome : Result (Unit {0}) Fault) → TellsGrown d sizes output output_left outcome → DescribesImage disk sizes device back output output_left outcome
+    pub describes_image : (outcome : Result (Unit {0}) Fault) → TellsGrown d sizes output output_left outcome →
+        DescribesImage disk sizes device back output output_left outcome
     describes_image (Ok a) tells = tells_grown tells.0 tells.1 (Appends output output_left) tells.2
     describes_image (Err fault.CannotReadDescription) tells = absurd tells
     describes_image (Err fault.NotToml) tells = absurd tells

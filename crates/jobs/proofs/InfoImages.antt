@@ -25,11 +25,13 @@ module _ (hs : List ObjectHeader) (r : Role) where
   role_sum [] (c ∷ cs) n same = absurd (omega (arith, same))
   role_sum (k ∷ ks) [] n same = absurd (omega (arith, same))
   role_sum (k ∷ ks) (c ∷ cs) n same =
-      ap (λ (b : Bool). fold (λ (k : ℕ) (o : Object). k + cond (has_role r o.content) 1 0) (n + cond b 1 0) (map (object_of hs) (frames_in ks cs))) (same_role c)
+      ap (λ (b : Bool). fold (λ (k : ℕ) (o : Object). k + cond (has_role r o.content) 1 0) (n + cond b 1 0) (map (object_of hs) (frames_in ks cs)))
+      (same_role c)
       ∙ role_sum ks cs (n + cond (has_role r c) 1 0) (omega (arith, same))
 
 -- as many objects as contents have a role
-pub role_counted : (ks : List ObjectHeader) (cs : List (Content Cap)) (age : ℕ) (r : Role) → length cs ≡ length ks → objects_with r (world_at age (frames_in ks cs)) ≡ count_by (λ c. has_role r c) cs
+pub role_counted : (ks : List ObjectHeader) (cs : List (Content Cap)) (age : ℕ) (r : Role) → length cs ≡ length ks →
+    objects_with r (world_at age (frames_in ks cs)) ≡ count_by (λ c. has_role r c) cs
 unfolding objects_of
 role_counted ks cs age r same = role_sum (headers (frames_in ks cs)) r ks cs 0 same
 
@@ -38,8 +40,10 @@ pub lines_same : (p : Plan) (saved : Checkpoint) (f g : Role → ℕ) → ((r : 
 lines_same p saved f g same = rw (same role.Free, same role.Page, same role.Node, same role.Root, same role.Bank) refl
 
 -- the lines about what was read of a store are those about what its device saves
-pub lines_saved : (p : Plan) (reported : Checkpoint) (s : SavedState) (hs : List ObjectHeader) (cs ds : List (Content Cap)) → p ≡ s.plan → reported.generation ≡ s.header.generation → reported.age ≡ s.header.age
-    → reported.entries ≡ s.header.entries → ds ≡ cs → length cs ≡ length hs → frames_in hs cs ≡ s.frames → lines_over p reported ds ≡ info_lines s.plan (saved_of (kept_of s))
+pub lines_saved : (p : Plan) (reported : Checkpoint) (s : SavedState) (hs : List ObjectHeader) (cs ds : List (Content Cap)) → p ≡ s.plan →
+    reported.generation ≡ s.header.generation → reported.age ≡ s.header.age
+    → reported.entries ≡ s.header.entries → ds ≡ cs → length cs ≡ length hs → frames_in hs cs ≡ s.frames →
+    lines_over p reported ds ≡ info_lines s.plan (saved_of (kept_of s))
 lines_saved p reported s hs cs ds plan generation age entries contents whole frames =
     let saved : Checkpoint = record { generation = s.header.generation; age = s.header.age; entries = s.header.entries } in
     ap (λ (q : Plan). lines_over q reported ds) plan
@@ -51,16 +55,20 @@ lines_saved p reported s hs cs ds plan generation age entries contents whole fra
     (λ r. sym (role_counted hs cs s.header.age r whole) ∙ ap (λ (fs : List Frame). objects_with r (world_at s.header.age fs)) frames)
 
 -- objects that were taken out of a store
-pub objects_found : {D E : Type 0} (s : StoreState D) (found : Result AllObjects E) (os : AllObjects) → found ≡ Ok os → IfOk found (λ (o : AllObjects). AreObjectsOf s o) → AreObjectsOf s os
+pub objects_found : {D E : Type 0} (s : StoreState D) (found : Result AllObjects E) (os : AllObjects) → found ≡ Ok os →
+    IfOk found (λ (o : AllObjects). AreObjectsOf s o) → AreObjectsOf s os
 objects_found {D} {E} s found os is each = subst (λ (r : Result AllObjects E). IfOk r (λ (o : AllObjects). AreObjectsOf s o)) is each
 
 -- lines that were found
-pub lines_found : {E : Type 0} (found : Result (Vec InfoLine Global) E) (lines : Vec InfoLine Global) (are : List InfoLine) → found ≡ Ok lines → IfOk found (λ v. v.items ≡ are) → lines.items ≡ are
+pub lines_found : {E : Type 0} (found : Result (Vec InfoLine Global) E) (lines : Vec InfoLine Global) (are : List InfoLine) → found ≡ Ok lines →
+    IfOk found (λ v. v.items ≡ are) → lines.items ≡ are
 lines_found {E} found lines are is each = subst (λ (r : Result (Vec InfoLine Global) E). IfOk r (λ v. v.items ≡ are)) is each
 
 -- what is reported of a store that was made of a device
-module _ {D : Type 0} (disk : D → Disk) (seen_left : (d : D) → (disk d).may_leave (disk d).seen) (device : D) (l : Live (StoreState D)) (wakes : Recovers disk (view_of disk) (parts_of disk) device l) where
-  pub informed : (back : D) → back ≡ l.store.durable.beneath → (lines : List InfoLine) → lines ≡ info_lines (saved_by disk l.store).plan (saved_of (kept_of (saved_by disk l.store))) → InfoOf disk device back lines
+module _ {D : Type 0} (disk : D → Disk) (seen_left : (d : D) → (disk d).may_leave (disk d).seen) (device : D) (l : Live (StoreState D))
+    (wakes : Recovers disk (view_of disk) (parts_of disk) device l) where
+  pub informed : (back : D) → back ≡ l.store.durable.beneath → (lines : List InfoLine) →
+      lines ≡ info_lines (saved_by disk l.store).plan (saved_of (kept_of (saved_by disk l.store))) → InfoOf disk device back lines
   informed back same lines are = record {
     state = saved_by disk l.store;
     encodes = encodes disk seen_left device l wakes;

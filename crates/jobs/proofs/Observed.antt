@@ -13,7 +13,8 @@ goes_on_to_end sees always first last (t ∷ ts) on seen =
     ⊎_elim (λ goes. goes_on_to_end sees always goes.0 last ts on goes.2) (λ ends. ends.1 ∙ always t first last false ends.2) seen
 
 -- where a tracer ended a run
-has_ended : {V : Type 0} (contents : V → Option (List ℕ)) (g : Geometry) (first last : Tracer V) (turns : List Turn) (on : Bool) → AreSeen (Sees contents g) first last turns on → on ≡ false →
+has_ended : {V : Type 0} (contents : V → Option (List ℕ)) (g : Geometry) (first last : Tracer V) (turns : List Turn) (on : Bool) →
+    AreSeen (Sees contents g) first last turns on → on ≡ false →
     (stop : Stop) × (last.stop ≡ Some stop)
 has_ended contents g first last [] on seen ended = let never : true ≡ false = sym seen.1 ∙ ended in absurd cc
 has_ended contents g first last (t ∷ ts) on seen ended =
@@ -27,7 +28,8 @@ has_ended contents g first last (t ∷ ts) on seen ended =
 module _ {D S : Type 0} (disk : D → Disk) (view : S → View D) (parts : S → Parts) (device back : D) where
   module _ {O : Type 0} (sees : Geometry → Turn → O → O → Bool → Type 0) (before after : O) (input input_left output output_left : Option (List ℕ)) where
     -- such an observer needs no place where it ended the run
-    pub needs_no_stop : ((g : Geometry) (t : Turn) (old new : O) (on : Bool) → sees g t old new on → on ≡ true) → (outcome : Result (Result (Unit {0}) RunFault) OpenFault) →
+    pub needs_no_stop : ((g : Geometry) (t : Turn) (old new : O) (on : Bool) → sees g t old new on → on ≡ true) →
+        (outcome : Result (Result (Unit {0}) RunFault) OpenFault) →
         SeesImage disk view parts sees device back before after input input_left output output_left outcome → HasStop outcome None
     needs_no_stop always (Ok (Ok a)) seen = tt
     needs_no_stop always (Ok (Err run.Read)) seen = tt
@@ -37,20 +39,29 @@ module _ {D S : Type 0} (disk : D → Disk) (view : S → View D) (parts : S →
         let never : true ≡ false = sym (goes_on_to_end (sees seen.2.geometry) (always seen.2.geometry) before after r.0 r.3 r.4) ∙ r.5 in absurd cc
     needs_no_stop always (Err why) seen = tt
 
-    opens_and_runs : (outcome : Result (Unit {0}) RunFault) → OpensAndSees disk view parts sees device back before after input input_left output output_left outcome →
+    opens_and_runs : (outcome : Result (Unit {0}) RunFault) → OpensAndSees disk view parts sees device back before after input input_left output output_left
+        outcome →
         OpensAndRuns disk view parts device back input input_left output output_left outcome
     opens_and_runs outcome seen = (seen.0, seen.1, seen.2, λ g m stands. let r = seen.3 g m stands in (r.0, r.1, r.2), seen.4)
 
     pub runs_unseen : (outcome : Result (Result (Unit {0}) RunFault) OpenFault) (end : Result (Unit {0}) Fault) → IsRunEnd outcome None end →
-        SeesImage disk view parts sees device back before after input input_left output output_left outcome → RunsImage disk view parts device back input input_left output output_left end
-    runs_unseen (Ok (Ok a)) end is seen = subst (λ (e : Result (Unit {0}) Fault). RunsImage disk view parts device back input input_left output output_left e) (sym is) (opens_and_runs (Ok a) seen)
-    runs_unseen (Ok (Err run.Read)) end is seen = subst (λ (e : Result (Unit {0}) Fault). RunsImage disk view parts device back input input_left output output_left e) (sym is) (opens_and_runs (Err run.Read) seen)
-    runs_unseen (Ok (Err run.Write)) end is seen = subst (λ (e : Result (Unit {0}) Fault). RunsImage disk view parts device back input input_left output output_left e) (sym is) (opens_and_runs (Err run.Write) seen)
+        SeesImage disk view parts sees device back before after input input_left output output_left outcome →
+        RunsImage disk view parts device back input input_left output output_left end
+    runs_unseen (Ok (Ok a)) end is seen = subst (λ (e : Result (Unit {0}) Fault). RunsImage disk view parts device back input input_left output output_left e)
+        (sym is) (opens_and_runs (Ok a) seen)
+    runs_unseen (Ok (Err run.Read)) end is seen = subst
+        (λ (e : Result (Unit {0}) Fault). RunsImage disk view parts device back input input_left output output_left e) (sym is)
+        (opens_and_runs (Err run.Read) seen)
+    runs_unseen (Ok (Err run.Write)) end is seen = subst
+        (λ (e : Result (Unit {0}) Fault). RunsImage disk view parts device back input input_left output output_left e) (sym is)
+        (opens_and_runs (Err run.Write) seen)
     runs_unseen (Ok (Err run.Stopped)) end is seen = absurd is
-    runs_unseen (Err why) end is seen = subst (λ (e : Result (Unit {0}) Fault). RunsImage disk view parts device back input input_left output output_left e) (sym is) (seen.0, seen.1, seen.2)
+    runs_unseen (Err why) end is seen = subst (λ (e : Result (Unit {0}) Fault). RunsImage disk view parts device back input input_left output output_left e)
+        (sym is) (seen.0, seen.1, seen.2)
 
   -- a tracer that ended a run has the place
-  pub tracer_has_stop : {V : Type 0} (contents : V → Option (List ℕ)) (before after : Tracer V) (input input_left output output_left : Option (List ℕ)) (outcome : Result (Result (Unit {0}) RunFault) OpenFault) →
+  pub tracer_has_stop : {V : Type 0} (contents : V → Option (List ℕ)) (before after : Tracer V) (input input_left output output_left : Option (List ℕ))
+      (outcome : Result (Result (Unit {0}) RunFault) OpenFault) →
       SeesImage disk view parts (Sees contents) device back before after input input_left output output_left outcome → HasStop outcome after.stop
   tracer_has_stop contents before after input input_left output output_left (Ok (Ok a)) seen = tt
   tracer_has_stop contents before after input input_left output output_left (Ok (Err run.Read)) seen = tt

@@ -6,7 +6,8 @@ use Rattle.checkpoint.specs.declared.open_fault.OpenFault.TheVariants as opening
 use Rattle.jobs.specs.declared.fault.Fault.TheVariants as fault
 
 -- what was answered is all objects that are saved
-pub objects_read : {D : Type 0} (disk : D → Disk) (device back : D) (answer : Result (Vec Object Global) OpenFault) (objects : Vec Object Global) → answer ≡ Ok objects → OpensAndReads disk device back answer
+pub objects_read : {D : Type 0} (disk : D → Disk) (device back : D) (answer : Result (Vec Object Global) OpenFault) (objects : Vec Object Global) →
+    answer ≡ Ok objects → OpensAndReads disk device back answer
     → HoldsOfSaved disk device back (λ os. objects.items ≡ os)
 objects_read disk device back answer objects is read = subst (λ (r : Result (Vec Object Global) OpenFault). OpensAndReads disk device back r) is read
 
@@ -17,7 +18,8 @@ module _ {D : Type 0} (disk : D → Disk) (device back : D) (objects : List Obje
 
   module _ (starts : List ℕ) (shows : Option ℕ) (output output_left : Option (List ℕ)) where
     -- what is reported of them is reported of the objects that are saved
-    reported_of_saved : (outcome : Result (Unit {0}) Fault) → TellsReach objects starts shows output output_left outcome → HoldsOfSaved disk device back (λ os. TellsReach os starts shows output output_left outcome)
+    reported_of_saved : (outcome : Result (Unit {0}) Fault) → TellsReach objects starts shows output output_left outcome →
+        HoldsOfSaved disk device back (λ os. TellsReach os starts shows output output_left outcome)
     reported_of_saved outcome tells = record {
       state = read.state;
       encodes = read.encodes;
@@ -27,7 +29,8 @@ module _ {D : Type 0} (disk : D → Disk) (device back : D) (objects : List Obje
       only_reads = read.only_reads;
     }
 
-    pub reaches_image : (outcome : Result (Unit {0}) Fault) → TellsReach objects starts shows output output_left outcome → ReachesImage disk starts shows device back output output_left outcome
+    pub reaches_image : (outcome : Result (Unit {0}) Fault) → TellsReach objects starts shows output output_left outcome →
+        ReachesImage disk starts shows device back output output_left outcome
     reaches_image (Ok a) tells = reported_of_saved (Ok a) tells
     reaches_image (Err fault.CannotReadDescription) tells = absurd tells
     reaches_image (Err fault.NotToml) tells = absurd tells

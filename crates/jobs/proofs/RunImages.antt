@@ -30,10 +30,28 @@ module _ {D S : Type 0} (disk : D → Disk) (view : S → View D) (parts : S →
   text_reported (power.Down d) reported opens is = absurd opens.stands
   text_reported power.Between reported opens is = absurd opens.stands
 
-  module _ (back : D) (p : Power D S) (reported : Checkpoint) (opens : Opens disk view parts device p) (is : IsReported disk view parts p (Some reported)) (beneath : IsDeviceOf disk view parts p back)
+  module _ (back : D) (p : Power D S) (reported : Checkpoint) (opens : Opens disk view parts device p) (is : IsReported disk view parts p (Some reported))
+      (beneath : IsDeviceOf disk view parts p back)
       (output output_left : Option (List ℕ)) where
-    pub checked : Appends output output_left (line_of (checked_text reported.generation reported.age reported.entries)) → ChecksImage disk device back output output_left (Ok tt)
-    checked written = (opens.geometry, opens.saved, opens.denoted, subst (λ (t : List ℕ). Appends output output_left (line_of t)) (text_reported p reported opens is) written, looked_at back p opens beneath, none_failed back p opens beneath)
+    pub checked : Appends output output_left (line_of (checked_text reported.generation reported.age reported.entries)) →
+        ChecksImage disk device back output output_left (Ok tt)
+    checked written = (
+      opens.geometry,
+      opens.saved,
+      opens.denoted,
+      subst (λ (t : List ℕ). Appends output output_left (line_of t)) (text_reported p reported opens is) written,
+      looked_at back p opens beneath,
+      none_failed back p opens beneath,
+    )
 
-    pub checked_untold : AppendsFront output output_left (line_of (checked_text reported.generation reported.age reported.entries)) → ChecksImage disk device back output output_left (Err fault.CannotWriteOutput)
-    checked_untold written = (opens.geometry, opens.saved, opens.denoted, subst (λ (t : List ℕ). AppendsFront output output_left (line_of t)) (text_reported p reported opens is) written, looked_at back p opens beneath, none_failed back p opens beneath)
+    pub checked_untold : AppendsFront output output_left (line_of (checked_text reported.generation reported.age reported.entries)) →
+        ChecksImage disk device back output output_left (Err fault.CannotWriteOutput)
+    checked_untold written = (
+      opens.geometry,
+      opens.saved,
+      opens.denoted,
+      subst (λ (t : List ℕ). AppendsFront output output_left (line_of t)) (text_reported p reported opens is)
+          written,
+      looked_at back p opens beneath,
+      none_failed back p opens beneath,
+    )

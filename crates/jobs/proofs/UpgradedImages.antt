@@ -15,14 +15,18 @@ module _ {D E : Type 0} (disk : D → Disk) (new_disk : E → Disk) (old : D) (b
   pub upgraded_reported : Appends output output_left (line_of (upgraded_text total)) → UpgradesImage disk new_disk old before new output output_left (Ok tt)
   upgraded_reported reported = (done.0, subst (λ (n : ℕ). Appends output output_left (line_of (upgraded_text n))) done.1 reported)
 
-  pub upgraded_untold : AppendsFront output output_left (line_of (upgraded_text total)) → UpgradesImage disk new_disk old before new output output_left (Err fault.CannotWriteOutput)
+  pub upgraded_untold : AppendsFront output output_left (line_of (upgraded_text total)) →
+      UpgradesImage disk new_disk old before new output output_left (Err fault.CannotWriteOutput)
   upgraded_untold reported = (done.0, subst (λ (n : ℕ). AppendsFront output output_left (line_of (upgraded_text n))) done.1 reported)
 
   -- the total was reported, or couldn't be
-  pub total_reported : (result : Result (Unit {0}) Fault) → OnOk result (Appends output output_left (line_of (upgraded_text total))) → OnErr result (AppendsFront output output_left (line_of (upgraded_text total)))
+  pub total_reported : (result : Result (Unit {0}) Fault) → OnOk result (Appends output output_left (line_of (upgraded_text total))) →
+      OnErr result (AppendsFront output output_left (line_of (upgraded_text total)))
       → IfErr result (λ f. f ≡ fault.CannotWriteOutput) → UpgradesImage disk new_disk old before new output output_left result
   total_reported (Ok a) reported front is = upgraded_reported reported
-  total_reported (Err f) reported front is = subst (λ (x : Fault). let r : Result (Unit {0}) Fault = Err x in UpgradesImage disk new_disk old before new output output_left r) (sym is) (upgraded_untold front)
+  total_reported (Err f) reported front is = subst
+      (λ (x : Fault). let r : Result (Unit {0}) Fault = Err x in UpgradesImage disk new_disk old before new output output_left r) (sym is)
+      (upgraded_untold front)
 
 -- that isn't reported as a failure of the old device
 pub never_old : (result : Result (Unit {0}) Fault) → IfErr result (λ f. f ≡ fault.CannotWriteOutput) → IsErrOf result old_failed → ⊥
@@ -30,7 +34,8 @@ never_old (Ok a) is reported = cc
 never_old (Err f) is reported = let same : f ≡ old_failed = cc in let other : fault.CannotWriteOutput ≡ old_failed = sym is ∙ same in cc
 
 -- an old device that is refused leaves the new one as it was
-pub old_refused : {D E : Type 0} (disk : D → Disk) (new_disk : E → Disk) (old : D) (before : E) (output : Option (List ℕ)) (why : UpgradeFault) → IsRefusedAsOld disk old why
+pub old_refused : {D E : Type 0} (disk : D → Disk) (new_disk : E → Disk) (old : D) (before : E) (output : Option (List ℕ)) (why : UpgradeFault) →
+    IsRefusedAsOld disk old why
     → (let r : Result (Unit {0}) Fault = Err (fault.Upgrade why) in UpgradesImage disk new_disk old before before output output r)
 old_refused disk new_disk old before output (upgrade.Old why) is = (is, (λ _. refl), (λ same. cc, λ rose. absurd (omega (arith, rose))), refl)
 old_refused disk new_disk old before output upgrade.Small is = absurd is
@@ -38,19 +43,29 @@ old_refused disk new_disk old before output upgrade.Failed is = absurd is
 old_refused disk new_disk old before output upgrade.NoMemory is = (tt, (λ _. refl), (λ same. cc, λ rose. absurd (omega (arith, rose))), refl)
 
 -- what was only read was so whichever way its failure is reported
-pub read_reported : {D : Type 0} (disk : D → Disk) (was_closed : D → Type 0) (old : D) (reported other : Type 0) → (other → reported) → (reported → other) → ReadsAndCloses disk was_closed old reported → ReadsAndCloses disk was_closed old other
-read_reported disk was_closed old reported other back on read =
-    (read.0, read.1, record { only_reads = read.2.only_reads; later = read.2.later; cause = (λ is. read.2.cause.0 (back is), λ rose. on (read.2.cause.1 rose)) })
+pub read_reported : {D : Type 0} (disk : D → Disk) (was_closed : D → Type 0) (old : D) (reported other : Type 0) → (other → reported) → (reported → other) →
+    ReadsAndCloses disk was_closed old reported → ReadsAndCloses disk was_closed old other
+read_reported disk was_closed old reported other back on read = (
+  read.0,
+  read.1,
+  record {
+    only_reads = read.2.only_reads;
+    later = read.2.later;
+    cause = (λ is. read.2.cause.0 (back is), λ rose. on (read.2.cause.1 rose));
+  },
+)
 
 -- its failure isn't reported of an upgrade
-pub read_upgraded : {D : Type 0} (disk : D → Disk) (was_closed : D → Type 0) (old : D) (total : ℕ) → (let r : Result ℕ UpgradeFault = Ok total in ReadsAndCloses disk was_closed old (IsErrOf r (upgrade.Old opening.Failed)))
+pub read_upgraded : {D : Type 0} (disk : D → Disk) (was_closed : D → Type 0) (old : D) (total : ℕ) →
+    (let r : Result ℕ UpgradeFault = Ok total in ReadsAndCloses disk was_closed old (IsErrOf r (upgrade.Old opening.Failed)))
     → (reported : Result (Unit {0}) Fault) → (IsErrOf reported old_failed → ⊥) → ReadsAndCloses disk was_closed old (IsErrOf reported old_failed)
 read_upgraded disk was_closed old total read reported never =
     let r : Result ℕ UpgradeFault = Ok total in
     read_reported disk was_closed old (IsErrOf r (upgrade.Old opening.Failed)) (IsErrOf reported old_failed) (λ is. absurd (never is)) (λ is. cc) read
 
 -- of none it is
-pub read_refused : {D T : Type 0} (disk : D → Disk) (was_closed : D → Type 0) (old : D) (why : UpgradeFault) → (let r : Result T UpgradeFault = Err why in ReadsAndCloses disk was_closed old (IsErrOf r (upgrade.Old opening.Failed)))
+pub read_refused : {D T : Type 0} (disk : D → Disk) (was_closed : D → Type 0) (old : D) (why : UpgradeFault) →
+    (let r : Result T UpgradeFault = Err why in ReadsAndCloses disk was_closed old (IsErrOf r (upgrade.Old opening.Failed)))
     → (let reported : Result (Unit {0}) Fault = Err (fault.Upgrade why) in ReadsAndCloses disk was_closed old (IsErrOf reported old_failed))
 read_refused {D} {T} disk was_closed old why read =
     let r : Result T UpgradeFault = Err why in

@@ -24,11 +24,17 @@ without_fault (Err why) = Err why
 
 -- what is wrong with the image on a device, which was only read, is written
 abbrev pub TellsFault : {D : Type 0} → (D → Disk) → D → D → Option ImageFault → (List ℕ → Type 0) → Type 0
-TellsFault disk device back found Reported = (let r : Result (Option ImageFault) OpenFault = Ok found in Explains disk device back r) × Reported (line_of (explanation_text found))
+TellsFault disk device back found Reported =
+    (let r : Result (Option ImageFault) OpenFault = Ok found in Explains disk device back r) × Reported
+    (line_of (explanation_text found))
 
 -- that is written; or it isn't written whole; or the device failed, or memory ran out
-abbrev pub ExplainsImage : {D : Type 0} → (D → Disk) → D → D → Option (List ℕ) → Option (List ℕ) → Result (Option ImageFault) Fault → Type 0
-ExplainsImage disk device back output output_left (Ok found) = TellsFault disk device back found (Appends output output_left)
-ExplainsImage disk device back output output_left (Err fault.CannotWriteOutput) = (found : Option ImageFault) × TellsFault disk device back found (AppendsFront output output_left)
-ExplainsImage disk device back output output_left (Err (fault.Open why)) = (let r : Result (Option ImageFault) OpenFault = Err why in Explains disk device back r) × (output_left ≡ output)
+abbrev pub ExplainsImage : {D : Type 0} → (D → Disk) → D → D → Option (List ℕ) → Option (List ℕ) →
+    Result (Option ImageFault) Fault → Type 0
+ExplainsImage disk device back output output_left (Ok found) = TellsFault disk device back found
+    (Appends output output_left)
+ExplainsImage disk device back output output_left (Err fault.CannotWriteOutput) = (found : Option ImageFault) ×
+    TellsFault disk device back found (AppendsFront output output_left)
+ExplainsImage disk device back output output_left (Err (fault.Open why)) =
+    (let r : Result (Option ImageFault) OpenFault = Err why in Explains disk device back r) × (output_left ≡ output)
 ExplainsImage disk device back output output_left (Err _) = ⊥

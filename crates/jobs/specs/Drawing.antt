@@ -14,12 +14,14 @@ use Rattle.jobs.specs.Reaching.{HoldsOfSaved}
 -- a description is restricted to an object, which has a box, and to its holders, if one is named
 abbrev pub IsHeldTo : Option ℕ → Description → Description → Type 0
 IsHeldTo None d e = e ≡ d
-IsHeldTo (Some o) d e = (is_listed o (boxes d) ≡ true) × (inside : ℕ → Bool) × ((n : ℕ) → inside n ≡ is_listed n (holders o d)) × IsPart inside d e
+IsHeldTo (Some o) d e = (is_listed o (boxes d) ≡ true) × (inside : ℕ → Bool) ×
+    ((n : ℕ) → inside n ≡ is_listed n (holders o d)) × IsPart inside d e
 
 -- and to what a process reaches, if one is named
 abbrev pub IsReachedFrom : List Object → Option ℕ → Description → Description → Type 0
 IsReachedFrom os None d e = e ≡ d
-IsReachedFrom os (Some p) d e = (is_process os p ≡ true) × (inside : ℕ → Bool) × IsReach os (p ∷ []) inside × IsPart inside d e
+IsReachedFrom os (Some p) d e = (is_process os p ≡ true) × (inside : ℕ → Bool) × IsReach os (p ∷ []) inside × IsPart
+    inside d e
 
 -- to both
 abbrev pub IsFocus : List Object → Focus → Description → Description → Type 0
@@ -54,20 +56,24 @@ KeepsPart os focus d e (Err why) = IsNoFocus os focus d why
 abbrev pub TellsPart : List Object → Focus → Description → (List ℕ → Type 0) → Type 0
 TellsPart os focus d Reported = (e : Description) × IsFocus os focus d e × Reported (graph_text e)
 
-abbrev pub DrawsPart : List Object → Focus → Description → Option (List ℕ) → Option (List ℕ) → Result (Unit {0}) Fault → Type 0
+abbrev pub DrawsPart : List Object → Focus → Description → Option (List ℕ) → Option (List ℕ) → Result (Unit {0}) Fault →
+    Type 0
 DrawsPart os focus d output output_left (Ok a) = TellsPart os focus d (Appends output output_left)
-DrawsPart os focus d output output_left (Err fault.CannotWriteOutput) = TellsPart os focus d (AppendsFront output output_left)
+DrawsPart os focus d output output_left (Err fault.CannotWriteOutput) = TellsPart os focus d
+    (AppendsFront output output_left)
 DrawsPart os focus d output output_left (Err (fault.Open opening.NoMemory)) = output_left ≡ output
 DrawsPart os focus d output output_left (Err why) = IsNoFocus os focus d why × (output_left ≡ output)
 
 -- a device was opened with no failure, nothing was written to it at any moment, and these are the description and the
 -- objects that are saved on it; or it wasn't opened, or memory ran out
 abbrev pub OpensWhole : {D : Type 0} → (D → Disk) → D → D → Result Whole OpenFault → Type 0
-OpensWhole disk device back (Ok whole) = DescribesSaved disk device back whole.description × HoldsOfSaved disk device back (λ os. whole.objects.items ≡ os)
+OpensWhole disk device back (Ok whole) = DescribesSaved disk device back whole.description × HoldsOfSaved disk device
+    back (λ os. whole.objects.items ≡ os)
 OpensWhole disk device back (Err why) = RefusesToOpen disk device back why
 
 -- it was opened so, and `Reported` holds of what is saved
-pub record OfWhole {D : Type 0} (disk : D → Disk) (device back : D) (Reported : List Object → Description → Type 0) : Type 0 where
+pub record OfWhole {D : Type 0} (disk : D → Disk) (device back : D) (Reported : List Object → Description → Type 0) :
+    Type 0 where
   pub description : Description
   pub saved : DescribesSaved disk device back description
   pub objects : List Object
@@ -76,6 +82,9 @@ pub record OfWhole {D : Type 0} (disk : D → Disk) (device back : D) (Reported 
 
 -- the graph of a part of what is saved was written; or not whole; or a number of the focus is wrong; or
 -- the device wasn't opened, or memory ran out
-abbrev pub DrawsImage : {D : Type 0} → (D → Disk) → Focus → D → D → Option (List ℕ) → Option (List ℕ) → Result (Unit {0}) Fault → Type 0
-DrawsImage disk focus device back output output_left (Err (fault.Open why)) = RefusesToOpen disk device back why × (output_left ≡ output)
-DrawsImage disk focus device back output output_left outcome = OfWhole disk device back (λ os d. DrawsPart os focus d output output_left outcome)
+abbrev pub DrawsImage : {D : Type 0} → (D → Disk) → Focus → D → D → Option (List ℕ) → Option (List ℕ) →
+    Result (Unit {0}) Fault → Type 0
+DrawsImage disk focus device back output output_left (Err (fault.Open why)) = RefusesToOpen disk device back why ×
+    (output_left ≡ output)
+DrawsImage disk focus device back output output_left outcome = OfWhole disk device back
+    (λ os d. DrawsPart os focus d output output_left outcome)

@@ -45,7 +45,9 @@ TellsGrownText d sizes Reported = (e : Description) × IsGrownFrom sizes d e × 
 -- the text of a renumbered description was written; or a fault
 abbrev pub TellsGrown : Description → Sizes → Option (List ℕ) → Option (List ℕ) → Result (Unit {0}) Fault → Type 0
 TellsGrown d sizes output output_left (Ok a) = TellsGrownText d sizes (Appends output output_left)
-TellsGrown d sizes output output_left (Err fault.CannotWriteOutput) = TellsGrownText d sizes (AppendsFront output output_left)
-TellsGrown d sizes output output_left (Err (fault.Sizes why)) = IsNotRenumbered d (grown_geometry d.geometry sizes) why × (output_left ≡ output)
+TellsGrown d sizes output output_left (Err fault.CannotWriteOutput) = TellsGrownText d sizes
+    (AppendsFront output output_left)
+TellsGrown d sizes output output_left (Err (fault.Sizes why)) = IsNotRenumbered d (grown_geometry d.geometry sizes) why
+    × (output_left ≡ output)
 TellsGrown d sizes output output_left (Err (fault.Open opening.NoMemory)) = output_left ≡ output
 TellsGrown d sizes output output_left (Err _) = ⊥

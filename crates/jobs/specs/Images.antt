@@ -21,18 +21,23 @@ built_text total = spaced (codes "built" ∷ decimal total ∷ codes "sectors" �
 
 abbrev pub checked_text : ℕ → ℕ → ℕ → List ℕ
 checked_text generation age entries =
-    spaced (codes "ok generation" ∷ decimal generation ∷ codes "age" ∷ decimal age ∷ codes "entries" ∷ decimal entries ∷ [])
+    spaced (codes "ok generation" ∷ decimal generation ∷ codes "age" ∷ decimal age ∷ codes "entries" ∷ decimal entries ∷
+    [])
 
 -- the total of the image of a table is written
 abbrev pub TellsTotal : Members → (List ℕ → Type 0) → Type 0
 TellsTotal ms Reported = (d : Description) × IsDescription ms d × Reported (line_of (built_text (plan_for d).total))
 
 -- an image was built and its total written; or it was built, and the total couldn't be written whole; or none was
-abbrev pub BuildsImage : {D : Type 0} → (D → Disk) → Members → D → D → Option (List ℕ) → Option (List ℕ) → Result (Unit {0}) Fault → Type 0
-BuildsImage disk ms old new output output_left (Ok a) = BuildsFrom ms (disk old) (disk new) × TellsTotal ms (Appends output output_left)
-BuildsImage disk ms old new output output_left (Err fault.CannotWriteOutput) = BuildsFrom ms (disk old) (disk new) × TellsTotal ms (AppendsFront output output_left)
+abbrev pub BuildsImage : {D : Type 0} → (D → Disk) → Members → D → D → Option (List ℕ) → Option (List ℕ) →
+    Result (Unit {0}) Fault → Type 0
+BuildsImage disk ms old new output output_left (Ok a) = BuildsFrom ms (disk old) (disk new) × TellsTotal ms
+    (Appends output output_left)
+BuildsImage disk ms old new output output_left (Err fault.CannotWriteOutput) = BuildsFrom ms (disk old) (disk new) ×
+    TellsTotal ms (AppendsFront output output_left)
 BuildsImage disk ms old new output output_left (Err (fault.Build why)) =
-    Refuses ms (disk old).sectors why × (why ≢ build.Failed → new ≡ old) × ((why ≡ build.Failed) ↔ ((disk old).failures < (disk new).failures)) × (output_left ≡ output)
+    Refuses ms (disk old).sectors why × (why ≢ build.Failed → new ≡ old) ×
+    ((why ≡ build.Failed) ↔ ((disk old).failures < (disk new).failures)) × (output_left ≡ output)
 BuildsImage disk ms old new output output_left (Err _) = ⊥
 
 -- the total of an image that was upgraded is written
@@ -41,12 +46,16 @@ upgraded_text total = spaced (codes "upgraded" ∷ decimal total ∷ codes "sect
 
 abbrev pub UpgradesAndTells : {D E : Type 0} → (D → Disk) → (E → Disk) → D → E → E → (List ℕ → Type 0) → Type 0
 UpgradesAndTells disk new_disk old before new Reported =
-    (done : Upgrades (disk old) (new_disk before) (new_disk new)) × Reported (line_of (upgraded_text (laid_again Two done.state.plan).total))
+    (done : Upgrades (disk old) (new_disk before) (new_disk new)) × Reported
+    (line_of (upgraded_text (laid_again Two done.state.plan).total))
 
 -- an image was upgraded and its total written; or the total couldn't be written whole; or no image was upgraded
-abbrev pub UpgradesImage : {D E : Type 0} → (D → Disk) → (E → Disk) → D → E → E → Option (List ℕ) → Option (List ℕ) → Result (Unit {0}) Fault → Type 0
-UpgradesImage disk new_disk old before new output output_left (Ok a) = UpgradesAndTells disk new_disk old before new (Appends output output_left)
-UpgradesImage disk new_disk old before new output output_left (Err fault.CannotWriteOutput) = UpgradesAndTells disk new_disk old before new (AppendsFront output output_left)
+abbrev pub UpgradesImage : {D E : Type 0} → (D → Disk) → (E → Disk) → D → E → E → Option (List ℕ) → Option (List ℕ) →
+    Result (Unit {0}) Fault → Type 0
+UpgradesImage disk new_disk old before new output output_left (Ok a) = UpgradesAndTells disk new_disk old before new
+    (Appends output output_left)
+UpgradesImage disk new_disk old before new output output_left (Err fault.CannotWriteOutput) = UpgradesAndTells disk
+    new_disk old before new (AppendsFront output output_left)
 UpgradesImage disk new_disk old before new output output_left (Err (fault.Upgrade why)) =
     IsNotUpgraded disk old (new_disk before).sectors why × (why ≢ upgrade.Failed → new ≡ before)
     × ((why ≡ upgrade.Failed) ↔ ((new_disk before).failures < (new_disk new).failures)) × (output_left ≡ output)
@@ -60,9 +69,11 @@ old_failed = fault.Upgrade (upgrade.Old opening.Failed)
 module _ {D S : Type 0} (disk : D → Disk) (view : S → View D) (parts : S → Parts) where
   -- a kernel was opened, and a script run over it with this outcome; the device that is given back is that of the
   -- kernel after the run
-  abbrev pub OpensAndRuns : D → D → Option (List ℕ) → Option (List ℕ) → Option (List ℕ) → Option (List ℕ) → Result (Unit {0}) RunFault → Type 0
+  abbrev pub OpensAndRuns : D → D → Option (List ℕ) → Option (List ℕ) → Option (List ℕ) → Option (List ℕ) →
+      Result (Unit {0}) RunFault → Type 0
   OpensAndRuns device back input input_left output output_left outcome =
-      (first : Power D S) × (last : Power D S) × Opens disk view parts device first × RunsOver disk view parts first last input input_left output output_left outcome
+      (first : Power D S) × (last : Power D S) × Opens disk view parts device first × RunsOver disk view parts first
+      last input input_left output output_left outcome
       × IsDeviceOf disk view parts last back
 
   -- so it was, and an observer saw each turn
@@ -70,11 +81,13 @@ module _ {D S : Type 0} (disk : D → Disk) (view : S → View D) (parts : S →
       → Option (List ℕ) → Option (List ℕ) → Option (List ℕ) → Option (List ℕ) → Result (Unit {0}) RunFault → Type 0
   OpensAndSees sees device back before after input input_left output output_left outcome =
       (first : Power D S) × (last : Power D S) × Opens disk view parts device first
-      × RunsSeen disk view parts sees first last before after input input_left output output_left outcome × IsDeviceOf disk view parts last back
+      × RunsSeen disk view parts sees first last before after input input_left output output_left outcome × IsDeviceOf
+      disk view parts last back
 
   -- so it was; or the device wasn't opened, nothing was read or written, and the observer saw nothing
   abbrev pub SeesImage : {O : Type 0} → (Geometry → Turn → O → O → Bool → Type 0) → D → D → O → O
-      → Option (List ℕ) → Option (List ℕ) → Option (List ℕ) → Option (List ℕ) → Result (Result (Unit {0}) RunFault) OpenFault → Type 0
+      → Option (List ℕ) → Option (List ℕ) → Option (List ℕ) → Option (List ℕ) →
+      Result (Result (Unit {0}) RunFault) OpenFault → Type 0
   SeesImage sees device back before after input input_left output output_left (Ok outcome) =
       OpensAndSees sees device back before after input input_left output output_left outcome
   SeesImage sees device back before after input input_left output output_left (Err why) =
@@ -88,25 +101,34 @@ module _ {D S : Type 0} (disk : D → Disk) (view : S → View D) (parts : S →
       × SeesImage sees device back before after input input_left output output_left outcome
 
   -- so it was; or the device wasn't opened, and nothing was read or written, there either
-  abbrev pub RunsImage : D → D → Option (List ℕ) → Option (List ℕ) → Option (List ℕ) → Option (List ℕ) → Result (Unit {0}) Fault → Type 0
-  RunsImage device back input input_left output output_left (Ok a) = OpensAndRuns device back input input_left output output_left (Ok a)
-  RunsImage device back input input_left output output_left (Err fault.CannotReadScript) = OpensAndRuns device back input input_left output output_left (Err run.Read)
-  RunsImage device back input input_left output output_left (Err fault.CannotWriteOutput) = OpensAndRuns device back input input_left output output_left (Err run.Write)
-  RunsImage device back input input_left output output_left (Err (fault.Open why)) = RefusesToOpen disk device back why × (input_left ≡ input) × (output_left ≡ output)
+  abbrev pub RunsImage : D → D → Option (List ℕ) → Option (List ℕ) → Option (List ℕ) → Option (List ℕ) →
+      Result (Unit {0}) Fault → Type 0
+  RunsImage device back input input_left output output_left (Ok a) = OpensAndRuns device back input input_left output
+      output_left (Ok a)
+  RunsImage device back input input_left output output_left (Err fault.CannotReadScript) = OpensAndRuns device back
+      input input_left output output_left (Err run.Read)
+  RunsImage device back input input_left output output_left (Err fault.CannotWriteOutput) = OpensAndRuns device back
+      input input_left output output_left (Err run.Write)
+  RunsImage device back input input_left output output_left (Err (fault.Open why)) = RefusesToOpen disk device back why
+      × (input_left ≡ input) × (output_left ≡ output)
   RunsImage device back input input_left output output_left (Err _) = ⊥
 
 -- a device was opened with no failure, nothing was written to it at any moment, and `Reported` holds of what is saved
 -- on it
 abbrev pub TellsSaved : {D : Type 0} → (D → Disk) → D → D → (List ℕ → Type 0) → Type 0
 TellsSaved disk device back Reported =
-    (geometry : Geometry) × (saved : Saved) × Denotes geometry (disk device).sectors (disk device).seen saved × Reported (line_of (checked_text saved.generation saved.world.age saved.entries))
+    (geometry : Geometry) × (saved : Saved) × Denotes geometry (disk device).sectors (disk device).seen saved × Reported
+    (line_of (checked_text saved.generation saved.world.age saved.entries))
     × OnlyReads (disk device) (disk back) × ((disk back).failures ≡ (disk device).failures)
 
 -- so it was; or that couldn't be written whole; or the device wasn't opened
-abbrev pub ChecksImage : {D : Type 0} → (D → Disk) → D → D → Option (List ℕ) → Option (List ℕ) → Result (Unit {0}) Fault → Type 0
+abbrev pub ChecksImage : {D : Type 0} → (D → Disk) → D → D → Option (List ℕ) → Option (List ℕ) →
+    Result (Unit {0}) Fault → Type 0
 ChecksImage disk device back output output_left (Ok a) = TellsSaved disk device back (Appends output output_left)
-ChecksImage disk device back output output_left (Err fault.CannotWriteOutput) = TellsSaved disk device back (AppendsFront output output_left)
-ChecksImage disk device back output output_left (Err (fault.Open why)) = RefusesToOpen disk device back why × (output_left ≡ output)
+ChecksImage disk device back output output_left (Err fault.CannotWriteOutput) = TellsSaved disk device back
+    (AppendsFront output output_left)
+ChecksImage disk device back output output_left (Err (fault.Open why)) = RefusesToOpen disk device back why ×
+    (output_left ≡ output)
 ChecksImage disk device back output output_left (Err _) = ⊥
 
 -- A description gives each object the state in its frame, at the age of the frames, and nothing else: no default,
@@ -134,13 +156,14 @@ OpensAndDescribes disk device back (Err why) = RefusesToOpen disk device back wh
 
 -- A description has each object that frames stand for, at their age, in an image of these sizes, and nothing else:
 -- nothing at its default, numbers in order, the home ranges there, and the version of a plan.
-pub record IsDescribedIn (p : Plan) (g : Geometry) (age : ℕ) (frames : List Frame) (description : Description) : Type 0 where
-  pub world : World
-  pub grown : IsGrown p.geometry g (world_at age frames) world
-  pub describes : Describes g world description
-  pub brief : IsBrief description
-  pub ranges : description.ranges.items ≡ grown_ranges p.geometry g (map numbers_of p.ranges)
-  pub layout : description.layout ≡ version_number p.version
+pub record IsDescribedIn (p : Plan) (g : Geometry) (age : ℕ) (frames : List Frame) (description : Description) : Type 0
+  where
+    pub world : World
+    pub grown : IsGrown p.geometry g (world_at age frames) world
+    pub describes : Describes g world description
+    pub brief : IsBrief description
+    pub ranges : description.ranges.items ≡ grown_ranges p.geometry g (map numbers_of p.ranges)
+    pub layout : description.layout ≡ version_number p.version
 
 -- A text is that of such a description: the one text of it, and it is read as it.
 pub record IsTextIn (p : Plan) (g : Geometry) (age : ℕ) (frames : List Frame) (text : List ℕ) : Type 0 where
@@ -173,7 +196,8 @@ pub record ReadsSaved {D : Type 0} (disk : D → Disk) (device back : D) (state 
   pub only_reads : OnlyReads (disk device) (disk back)
 
 -- so it was, and the description of all that is saved was written for an image of these sizes
-pub record TellsWhole {D : Type 0} (disk : D → Disk) (sizes : Sizes) (device back : D) (Reported : List ℕ → Type 0) : Type 0 where
+pub record TellsWhole {D : Type 0} (disk : D → Disk) (sizes : Sizes) (device back : D) (Reported : List ℕ → Type 0) :
+    Type 0 where
   pub state : SavedState
   pub saved : ReadsSaved disk device back state
   pub text : List ℕ
@@ -184,12 +208,18 @@ pub record TellsWhole {D : Type 0} (disk : D → Disk) (sizes : Sizes) (device b
 abbrev pub RefusesSizes : {D : Type 0} → (D → Disk) → Sizes → D → D → GrowthFault → Type 0
 RefusesSizes disk sizes device back why =
     (state : SavedState) × ReadsSaved disk device back state
-    × IsUnsuited state.plan.geometry (grown_geometry state.plan.geometry sizes) (world_at state.header.age state.frames) why
+    × IsUnsuited state.plan.geometry (grown_geometry state.plan.geometry sizes) (world_at state.header.age state.frames)
+    why
 
 -- all was written; or not all of it; or there is no such image; or the device wasn't opened, or memory ran out
-abbrev pub DescribesImage : {D : Type 0} → (D → Disk) → Sizes → D → D → Option (List ℕ) → Option (List ℕ) → Result (Unit {0}) Fault → Type 0
-DescribesImage disk sizes device back output output_left (Ok a) = TellsWhole disk sizes device back (Appends output output_left)
-DescribesImage disk sizes device back output output_left (Err fault.CannotWriteOutput) = TellsWhole disk sizes device back (AppendsFront output output_left)
-DescribesImage disk sizes device back output output_left (Err (fault.Sizes why)) = RefusesSizes disk sizes device back why × (output_left ≡ output)
-DescribesImage disk sizes device back output output_left (Err (fault.Open why)) = RefusesToOpen disk device back why × (output_left ≡ output)
+abbrev pub DescribesImage : {D : Type 0} → (D → Disk) → Sizes → D → D → Option (List ℕ) → Option (List ℕ) →
+    Result (Unit {0}) Fault → Type 0
+DescribesImage disk sizes device back output output_left (Ok a) = TellsWhole disk sizes device back
+    (Appends output output_left)
+DescribesImage disk sizes device back output output_left (Err fault.CannotWriteOutput) = TellsWhole disk sizes device
+    back (AppendsFront output output_left)
+DescribesImage disk sizes device back output output_left (Err (fault.Sizes why)) = RefusesSizes disk sizes device back
+    why × (output_left ≡ output)
+DescribesImage disk sizes device back output output_left (Err (fault.Open why)) = RefusesToOpen disk device back why ×
+    (output_left ≡ output)
 DescribesImage disk sizes device back output output_left (Err _) = ⊥

@@ -44,7 +44,8 @@ range_line r = line.Range r.first r.count
 -- the lines about the image of a plan with a checkpoint, and as many objects of each role as a function says
 abbrev pub lines_with : Plan → Checkpoint → (Role → ℕ) → List InfoLine
 lines_with p saved count =
-    ((line.Layout (version_number p.version) ∷ line.Nodes p.geometry.nodes ∷ line.Pages p.geometry.pages ∷ line.Log p.geometry.log ∷ [])
+    ((line.Layout (version_number p.version) ∷ line.Nodes p.geometry.nodes ∷ line.Pages p.geometry.pages ∷ line.Log
+    p.geometry.log ∷ [])
     ++ map range_line p.ranges)
     ++ line.Sectors p.total ∷ line.Generation saved.generation ∷ line.Age saved.age ∷ line.Entries saved.entries
     ∷ line.Free (count role.Free) ∷ line.PageObjects (count role.Page) ∷ line.NodeObjects (count role.Node)
@@ -57,7 +58,9 @@ lines_over p saved contents = lines_with p saved (λ r. count_by (λ c. has_role
 -- The lines about the image of a plan with a saved part: the superblock, the home ranges, the checkpoint, and how many
 -- objects of each kind its world has. A process is counted by its root.
 abbrev pub info_lines : Plan → Saved → List InfoLine
-info_lines p saved = lines_with p (record { generation = saved.generation; age = saved.world.age; entries = saved.entries }) (λ r. objects_with r saved.world)
+info_lines p saved = lines_with p
+    (record { generation = saved.generation; age = saved.world.age; entries = saved.entries })
+    (λ r. objects_with r saved.world)
 
 -- a device was opened with no failure, nothing was written to it at any moment, and these are the lines about the image
 -- that it denotes
@@ -75,11 +78,15 @@ OpensForInfo disk device back (Ok lines) = InfoOf disk device back lines.items
 OpensForInfo disk device back (Err why) = RefusesToOpen disk device back why
 
 abbrev pub TellsInfo : {D : Type 0} → (D → Disk) → D → D → (List ℕ → Type 0) → Type 0
-TellsInfo disk device back Reported = (lines : List InfoLine) × InfoOf disk device back lines × Reported (info_text lines)
+TellsInfo disk device back Reported = (lines : List InfoLine) × InfoOf disk device back lines × Reported
+    (info_text lines)
 
 -- the lines were written; or couldn't be written whole; or the device wasn't opened
-abbrev pub InspectsImage : {D : Type 0} → (D → Disk) → D → D → Option (List ℕ) → Option (List ℕ) → Result (Unit {0}) Fault → Type 0
+abbrev pub InspectsImage : {D : Type 0} → (D → Disk) → D → D → Option (List ℕ) → Option (List ℕ) →
+    Result (Unit {0}) Fault → Type 0
 InspectsImage disk device back output output_left (Ok a) = TellsInfo disk device back (Appends output output_left)
-InspectsImage disk device back output output_left (Err fault.CannotWriteOutput) = TellsInfo disk device back (AppendsFront output output_left)
-InspectsImage disk device back output output_left (Err (fault.Open why)) = RefusesToOpen disk device back why × (output_left ≡ output)
+InspectsImage disk device back output output_left (Err fault.CannotWriteOutput) = TellsInfo disk device back
+    (AppendsFront output output_left)
+InspectsImage disk device back output output_left (Err (fault.Open why)) = RefusesToOpen disk device back why ×
+    (output_left ≡ output)
 InspectsImage disk device back output output_left (Err _) = ⊥

@@ -31,17 +31,22 @@ IsReachText os starts (Some o) text = IsChainText os starts o text
 
 -- the numbers are those of processes, and the text was written
 abbrev pub Reaches : List Object → List ℕ → Option ℕ → (List ℕ → Type 0) → Type 0
-Reaches os starts shows Reported = AreProcesses os starts × ((text : List ℕ) × IsReachText os starts shows text × Reported text)
+Reaches os starts shows Reported = AreProcesses os starts ×
+    ((text : List ℕ) × IsReachText os starts shows text × Reported text)
 
 -- so it was; or that couldn't be written whole; or a number isn't that of a process; or memory ran out
-abbrev pub TellsReach : List Object → List ℕ → Option ℕ → Option (List ℕ) → Option (List ℕ) → Result (Unit {0}) Fault → Type 0
+abbrev pub TellsReach : List Object → List ℕ → Option ℕ → Option (List ℕ) → Option (List ℕ) → Result (Unit {0}) Fault →
+    Type 0
 TellsReach os starts shows output output_left (Ok a) = Reaches os starts shows (Appends output output_left)
-TellsReach os starts shows output output_left (Err fault.CannotWriteOutput) = Reaches os starts shows (AppendsFront output output_left)
-TellsReach os starts shows output output_left (Err (fault.NoProcess p)) = (find (λ n. not (is_process os n)) starts ≡ Some p) × (output_left ≡ output)
+TellsReach os starts shows output output_left (Err fault.CannotWriteOutput) = Reaches os starts shows
+    (AppendsFront output output_left)
+TellsReach os starts shows output output_left (Err (fault.NoProcess p)) =
+    (find (λ n. not (is_process os n)) starts ≡ Some p) × (output_left ≡ output)
 TellsReach os starts shows output output_left (Err (fault.Open opening.NoMemory)) = output_left ≡ output
 TellsReach os starts shows output output_left (Err _) = ⊥
 
--- a device was opened with no failure, nothing was written to it at any moment, and this holds of the objects saved on it
+-- a device was opened with no failure, nothing was written to it at any moment, and this holds of the objects saved on
+-- it
 pub record HoldsOfSaved {D : Type 0} (disk : D → Disk) (device back : D) (Holds : List Object → Type 0) : Type 0 where
   pub state : SavedState
   pub encodes : Encodes (disk device).seen (disk device).sectors state
@@ -56,7 +61,9 @@ OpensAndReads disk device back (Ok objects) = HoldsOfSaved disk device back (λ 
 OpensAndReads disk device back (Err why) = RefusesToOpen disk device back why
 
 -- what processes can ever change was written; or a fault; or the device wasn't opened, or memory ran out
-abbrev pub ReachesImage : {D : Type 0} → (D → Disk) → List ℕ → Option ℕ → D → D → Option (List ℕ) → Option (List ℕ) → Result (Unit {0}) Fault → Type 0
-ReachesImage disk starts shows device back output output_left (Err (fault.Open why)) = RefusesToOpen disk device back why × (output_left ≡ output)
+abbrev pub ReachesImage : {D : Type 0} → (D → Disk) → List ℕ → Option ℕ → D → D → Option (List ℕ) → Option (List ℕ) →
+    Result (Unit {0}) Fault → Type 0
+ReachesImage disk starts shows device back output output_left (Err (fault.Open why)) = RefusesToOpen disk device back
+    why × (output_left ≡ output)
 ReachesImage disk starts shows device back output output_left outcome =
     HoldsOfSaved disk device back (λ os. TellsReach os starts shows output output_left outcome)

@@ -41,10 +41,11 @@ fn explain_and_tell<D: Device, W: Write>(
     }
 }
 
-/// Opens a device as a run does, and writes `ok` if a run opens it; then the status is 0. If a run refuses the image, it
-/// writes one line with the object, slot, field or sector that breaks a rule, what is wrong there, and `(bad image K)` with
-/// the reason that `check` answers; then the status is 1. After a fault one line is written to `errors`, and the status is 1:
-/// `device failed`, `no memory`, or `cannot write output` where the writer fails.
+/// Opens a device as a run does, and writes `ok` if a run opens it; then the status is 0. If a run refuses
+/// the image, it writes one line with the object, slot, field or sector that breaks a rule, what is wrong
+/// there, and `(bad image K)` with the reason that `check` answers; then the status is 1. After a fault one
+/// line is written to `errors`, and the status is 1: `device failed`, `no memory`, or `cannot write output`
+/// where the writer fails.
 ///
 /// The device is given back, and nothing was written to it, at no moment.
 pub fn explain_image<D: Device, W: Write, V: Write>(

@@ -113,7 +113,8 @@ fn draw_part<W: Write>(
     requires few { object_count whole.description.geometry < 2 ^ 64 }
     requires numbers { HasNumbers whole.description }
     requires sound { AreSoundObjects whole.objects.items }
-    ensures { DrawsPart whole.objects.items focus whole.description (W.contents writer.old) (W.contents writer.new) result }
+    ensures { DrawsPart whole.objects.items focus whole.description (W.contents writer.old) (W.contents writer.new)
+        result }
 {
     let Whole {
         description,

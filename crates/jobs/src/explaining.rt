@@ -97,10 +97,11 @@ fn explain_and_tell<W: Write>(alloc: Global, text: &str, writer: &mut W) -> Resu
     }
 }
 
-/// Writes `ok` if `build` accepts the description in a text on a device that is large enough; then the status is 0. Else it
-/// writes one line and the status is 1: the place of the first mistake, what is wrong there, and `(bad description K)` with
-/// the number that `build` answers; or, if the text isn't TOML, the line and the column where it isn't. After a fault one
-/// line is written to `errors`, and the status is 1: `no memory`, or `cannot write output` where the writer fails.
+/// Writes `ok` if `build` accepts the description in a text on a device that is large enough; then the status
+/// is 0. Else it writes one line and the status is 1: the place of the first mistake, what is wrong there,
+/// and `(bad description K)` with the number that `build` answers; or, if the text isn't TOML, the line and
+/// the column where it isn't. After a fault one line is written to `errors`, and the status is 1: `no
+/// memory`, or `cannot write output` where the writer fails.
 pub fn explain_description<W: Write, V: Write>(
     alloc: Global,
     text: &str,

@@ -93,7 +93,8 @@ answer is done; show P prints the result code, the first of its words.\n",
     },
     Topic {
         word: b"node",
-        text: b"Orders of a node: 1 fetch (W1 slot), 2 store (W1 slot, C0), 3 reduce (W1 is 1 or 3), 4 space (W1\nheight), 5 put number (W1 slot, W2 number).\n",
+        text: b"Orders of a node: 1 fetch (W1 slot), 2 store (W1 slot, C0), 3 reduce (W1 is 1 or 3), 4 space
+        (W1\nheight), 5 put number (W1 slot, W2 number).\n",
     },
     Topic {
         word: b"space",
@@ -105,11 +106,13 @@ answer is done; show P prints the result code, the first of its words.\n",
     },
     Topic {
         word: b"process",
-        text: b"Orders of a process: 1 get register (W1), 2 put register (W1, C0), 3 get word (W1), 4 put word (W1, W2),\n5 make start (W1 key), 6 get state, 7 set state (W1 is 0 or 1), 8 get space, 9 set space (C0).\n",
+        text: b"Orders of a process: 1 get register (W1), 2 put register (W1, C0), 3 get word (W1), 4 put word
+        (W1, W2),\n5 make start (W1 key), 6 get state, 7 set state (W1 is 0 or 1), 8 get space, 9 set space (C0).\n",
     },
     Topic {
         word: b"bank",
-        text: b"Orders of a bank: 1 page, 2 node, 3 process, 4 sub-bank (W1 limit), 5 free (C0), 6 destroy,\n7 return to parent, 8 remaining.\n",
+        text: b"Orders of a bank: 1 page, 2 node, 3 process, 4 sub-bank (W1 limit), 5 free (C0), 6 destroy,\n7 return to
+        parent, 8 remaining.\n",
     },
 ];
 

@@ -73,7 +73,8 @@ fn tell_chain<W: Write>(
 ) -> Result<(), Fault>
     requires sound { AreSoundObjects objects.now }
     requires processes { AreProcesses objects.now processes.now }
-    ensures { TellsReach objects.now processes.now (Some object) (W.contents writer.old) (W.contents writer.new) result }
+    ensures { TellsReach objects.now processes.now (Some object) (W.contents writer.old) (W.contents writer.new)
+        result }
 {
     match shortest_chain(alloc, objects, processes, object) {
         Ok(chain) => match print_found(objects, object, chain, writer) {
@@ -112,7 +113,8 @@ fn open_and_reach<D: Device, W: Write>(
     shows: Option<u64>,
     writer: &mut W,
 ) -> (Result<(), Fault>, D)
-    ensures { ReachesImage D.disk processes.now shows device result.1 (W.contents writer.old) (W.contents writer.new) result.0 }
+    ensures { ReachesImage D.disk processes.now shows device result.1 (W.contents writer.old) (W.contents writer.new)
+        result.0 }
 {
     let (read, device) = read_saved(alloc, device);
     match read {
@@ -144,7 +146,8 @@ pub fn reach_image<D: Device, W: Write, V: Write>(
 ) -> Done<D>
     ensures { (outcome : Result (Unit {0}) Fault) × (result.status ≡ status_of outcome)
         × IsReported outcome (V.contents errors.old) (V.contents errors.new)
-        × ReachesImage D.disk processes.now shows device result.device (W.contents writer.old) (W.contents writer.new) outcome }
+        × ReachesImage D.disk processes.now shows device result.device (W.contents writer.old) (W.contents writer.new)
+        outcome }
 {
     let (outcome, device) = open_and_reach(alloc, device, processes, shows, writer);
     Done {

@@ -114,7 +114,8 @@ pub fn run_shell<D: Device, S: ObjectStore<D>, R: Script, W: Output, V: Write>(
     writer: &mut W,
     errors: &mut V,
 ) -> Done<D>
-    ensures { (outcome : Result (Unit {0}) Fault) × (reported : Option (List ℕ)) × (before : Unsaved) × (after : Unsaved)
+    ensures { (outcome : Result (Unit {0}) Fault) × (reported : Option (List ℕ)) × (before : Unsaved)
+        × (after : Unsaved)
         × (result.status ≡ status_of outcome) × (before ≡ nothing_unsaved)
         × TellsUnsaved after (V.contents errors.old) reported × IsReported outcome reported (V.contents errors.new)
         × EndsAs D.disk S.view S.parts Notes (λ _. None) device result.device before after

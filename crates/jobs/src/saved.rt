@@ -14,8 +14,8 @@ use object_store::ObjectStore;
 use recovery::recover;
 use std::alloc::{AllocError, Global};
 
-/// The description of the objects of a store, which are sound at an age, with the ranges and the version that its plan has.
-/// Fails only where memory runs out: it makes no device call.
+/// The description of the objects of a store, which are sound at an age, with the ranges and the version that
+/// its plan has. Fails only where memory runs out: it makes no device call.
 pub(crate) fn description_in<D: Device>(
     alloc: Global,
     store: &mut PlainStore<D>,

@@ -1,12 +1,12 @@
 -- How a command ends: refused, carried out, or in a failure of the device.
-use Rattle.kernel.proofs.Names.{IsErrAnd, inl, inr, ℕ, Bool, Option, None, Some, Result, Ok, Err, List, [], length, refl, sym, ap, subst, arith, Answer}
-use Rattle.kernel.proofs.Names.{Refusal, Command, Frame, Geometry, objects_of, AreKeepable, IsSoundFrames, world_at, Frozen, Running, Saved, Up, touched_count}
-use Rattle.kernel.proofs.Names.{untouched, Step, moved, refusal_of, second, Failed, Image, Disk, IsCommitAnswer, IsFreezeAnswer, IsRefused, Holds, LeavesSaved}
-use Rattle.kernel.proofs.Names.{LeavesEither, Parts, frames_of, objects_in, keepable_count, MayCommit, Snapshots, freezing, left_in, moved_saved, next_saved}
-use Rattle.kernel.proofs.Names.{all_frozen, whole, FrozenFrames, IsStabilizeAnswer, Continues, View, stabilized, AreCounted, BanksState, Performs, answer_of}
-use Rattle.kernel.proofs.Names.{Live, saved_of, LeavesOne, AreSoundTogether, IsUp, base_of, disk_at, frozen_of, renewed_since, running, running_of, IsCaused}
+use Rattle.kernel.proofs.Names.{IsErrAnd, ℕ, Bool, Option, None, Some, Result, Ok, Err, List, [], length, refl, sym, ap, subst, arith, Answer, Refusal, Command}
+use Rattle.kernel.proofs.Names.{Frame, Geometry, objects_of, AreKeepable, IsSoundFrames, world_at, Frozen, Running, Saved, Up, touched_count, untouched, Step}
+use Rattle.kernel.proofs.Names.{moved, refusal_of, second, Failed, Image, Disk, IsCommitAnswer, IsFreezeAnswer, IsRefused, Holds, LeavesSaved, LeavesEither}
+use Rattle.kernel.proofs.Names.{Parts, frames_of, objects_in, keepable_count, MayCommit, Snapshots, freezing, left_in, moved_saved, next_saved, all_frozen}
+use Rattle.kernel.proofs.Names.{whole, FrozenFrames, IsStabilizeAnswer, Continues, View, stabilized, AreCounted, BanksState, Performs, answer_of, Live}
+use Rattle.kernel.proofs.Names.{saved_of, LeavesOne, AreSoundTogether, IsUp, base_of, disk_at, frozen_of, renewed_since, running, running_of, IsCaused}
 use Rattle.kernel.proofs.Names.{ServesUp, leaves_saved, base_frozen, none_renewed, IsUnlooked}
-use Rattle.std.proofs.Common.{◌≡◌, ◌↔◌, ◌⊎◌, ◌+◌, ◌-◌, ◌^◌, ◌<◌, ◌≤◌, ◌∷◌, ◌∙◌}
+use Rattle.std.proofs.Common.{◌≡◌, ◌↔◌, ◌+◌, ◌-◌, ◌^◌, ◌<◌, ◌≤◌, ◌∷◌, ◌∙◌}
 use Rattle.checkpoint.specs.Snapshots as stage
 use Rattle.model.specs.declared.answer.Answer.TheVariants as answer
 use Rattle.model.specs.declared.answer.Refusal.TheVariants as refusal
@@ -31,9 +31,11 @@ with_act l s banks age = record { store = s; banks = banks; age = age; frozen_ag
 -- The parameters are ghost members and laws of a device and of an object store.
 module _ {D S : Type 0} (disk : D → Disk) (view : S → View D) (parts : S → Parts)
     (only_now : (d : D) (c : Image) → (disk d).left_since (disk d).moment c → (disk d).may_leave c)
-    (sound_holds : (s : S) (c : Image) → (view s).is_sound → (disk (view s).beneath).may_leave c → Holds (disk (view s).beneath).sectors c (view s).snapshots.saved) where
+    (sound_holds : (s : S) (c : Image) → (view s).is_sound → (disk (view s).beneath).may_leave c →
+    Holds (disk (view s).beneath).sectors c (view s).snapshots.saved) where
   -- a store that is sound serves
-  pub is_up : (g : Geometry) (l : Live S) → (view l.store).is_sound → AreSoundTogether g (parts l.store) (view l.store).snapshots l.banks l.age l.frozen_age → IsUp disk view parts g l
+  pub is_up : (g : Geometry) (l : Live S) → (view l.store).is_sound → AreSoundTogether g (parts l.store) (view l.store).snapshots l.banks l.age l.frozen_age →
+      IsUp disk view parts g l
   is_up g l store sound = record {
     store = store;
     sound = sound;
@@ -41,18 +43,22 @@ module _ {D S : Type 0} (disk : D → Disk) (view : S → View D) (parts : S →
   }
 
   -- a refusal that applies
-  pub refused : (l : Live S) (c : Command) (why : Refusal) → ((g : Geometry) → IsUp disk view parts g l → refusal_of g (running disk view parts l) c ≡ Some why) →
+  pub refused : (l : Live S) (c : Command) (why : Refusal) → ((g : Geometry) → IsUp disk view parts g l → refusal_of g (running disk view parts l) c ≡ Some why)
+      →
       ServesUp disk view parts l c (answer.Refused why) l
   refused l c why applies g up = record {
     step = λ other. refused_step g (running disk view parts l) c why (applies g up);
     up = λ other. up;
-    leaves = leaves_here g (disk_at disk view parts l) (saved_of (view l.store).snapshots.saved ∷ []) (second (Up (running disk view parts l)) c) (only_now (view l.store).beneath) up.leaves;
+    leaves = leaves_here g (disk_at disk view parts l) (saved_of (view l.store).snapshots.saved ∷ []) (second (Up (running disk view parts l)) c)
+        (only_now (view l.store).beneath) up.leaves;
   }
 
   -- one of a store that is as it was
-  pub refused_again : (l : Live S) (s : S) (c : Command) (why : Refusal) → s ≡ l.store → ((g : Geometry) → IsUp disk view parts g l → refusal_of g (running disk view parts l) c ≡ Some why) →
+  pub refused_again : (l : Live S) (s : S) (c : Command) (why : Refusal) → s ≡ l.store →
+      ((g : Geometry) → IsUp disk view parts g l → refusal_of g (running disk view parts l) c ≡ Some why) →
       ServesUp disk view parts l c (answer.Refused why) (with_store l s)
-  refused_again l s c why same applies = subst (λ (x : S). ServesUp disk view parts l c (answer.Refused why) (with_store l x)) (sym same) (refused l c why applies)
+  refused_again l s c why same applies = subst (λ (x : S). ServesUp disk view parts l c (answer.Refused why) (with_store l x)) (sym same)
+      (refused l c why applies)
 
   -- a failure of the device
   pub failed : (old new : Live S) (c : Command) →
@@ -67,7 +73,8 @@ module _ {D S : Type 0} (disk : D → Disk) (view : S → View D) (parts : S →
     continues_along : (g : Geometry) (c : Command) → IsUp disk view parts g l →
         LeavesOne g (disk_at disk view parts l) (disk (view s).beneath) (saved_of (view l.store).snapshots.saved ∷ second (Up (running disk view parts l)) c)
     continues_along g c up =
-        leaves_along g (disk_at disk view parts l) (disk (view s).beneath) (view l.store).snapshots.saved (second (Up (running disk view parts l)) c) up.sound.saved continues.size (continues.any_moment up.store)
+        leaves_along g (disk_at disk view parts l) (disk (view s).beneath) (view l.store).snapshots.saved (second (Up (running disk view parts l)) c)
+        up.sound.saved continues.size (continues.any_moment up.store)
 
     -- processes act, at an age that doesn't fall
     pub acted : (banks : BanksState) (age : ℕ) (c : Command) (a : Answer) → l.age ≤ age → Performs l.age (parts l.store) c a age (parts s) →
@@ -77,15 +84,19 @@ module _ {D S : Type 0} (disk : D → Disk) (view : S → View D) (parts : S →
         let geometry : (parts s).geometry ≡ g = serves.geometry ∙ up.sound.geometry in
         record {
           step = λ other.
-              subst (λ (x : Snapshots FrozenFrames). Step g (Up (running disk view parts l)) c a (Up (running_of (parts s) x age l.frozen_age))) (sym continues.snapshots)
-              (subst (λ (h : Geometry). Step h (Up (running disk view parts l)) c a (Up (running_of (parts s) (view l.store).snapshots age l.frozen_age))) up.sound.geometry
+              subst (λ (x : Snapshots FrozenFrames). Step g (Up (running disk view parts l)) c a (Up (running_of (parts s) x age l.frozen_age)))
+              (sym continues.snapshots)
+              (subst (λ (h : Geometry). Step h (Up (running disk view parts l)) c a (Up (running_of (parts s) (view l.store).snapshots age l.frozen_age)))
+              up.sound.geometry
               (subst (λ (rs : List Bool). Step (parts l.store).geometry (Up (running disk view parts l)) c a
               (Up (record (running_of (parts s) (view l.store).snapshots age l.frozen_age) { renewed = rs })))
               (renewed_on (base_of (view l.store).snapshots) (parts l.store) (parts s) serves.renews up.sound.risen)
-              (serves.step (renewed_since (base_of (view l.store).snapshots) (frames_of (parts l.store))) (frozen_of l.frozen_age (view l.store).snapshots.frozen) (saved_of (view l.store).snapshots.saved)
+              (serves.step (renewed_since (base_of (view l.store).snapshots) (frames_of (parts l.store)))
+              (frozen_of l.frozen_age (view l.store).snapshots.frozen) (saved_of (view l.store).snapshots.saved)
               (view l.store).snapshots.to_move other)));
           up = λ other. is_up g (record { store = s; banks = banks; age = age; frozen_age = l.frozen_age }) (continues.sound up.store)
-              (acts_sound g (parts l.store) (parts s) (view l.store).snapshots (view s).snapshots l.banks banks l.age age l.frozen_age continues.snapshots later geometry serves.renews
+              (acts_sound g (parts l.store) (parts s) (view l.store).snapshots (view s).snapshots l.banks banks l.age age l.frozen_age continues.snapshots later
+              geometry serves.renews
               (subst (λ (h : Geometry). IsSoundFrames h age (frames_of (parts s))) geometry serves.sound)
               (subst (λ (h : Geometry). AreCounted h (objects_in (parts s)) banks) geometry counted) up.sound);
           leaves = continues_along g c up;
@@ -120,7 +131,8 @@ module _ {D S : Type 0} (disk : D → Disk) (view : S → View D) (parts : S →
   pub begun : (l : Live S) (s : S) (n : ℕ) → l.age < 2 ^ 62 → (view l.store).snapshots.frozen ≡ None → (view l.store).snapshots.saved.entries ≡ 0 →
       frames_of (parts s) ≡ frames_of (parts l.store) → (parts s).touched ≡ untouched (parts l.store).geometry → (parts s).geometry ≡ (parts l.store).geometry →
       n ≡ touched_count (parts l.store).touched →
-      (view s).snapshots ≡ freezing (all_frozen (frames_of (parts l.store)) (touched_count (parts l.store).touched)) (view l.store).snapshots → (view s).beneath ≡ (view l.store).beneath →
+      (view s).snapshots ≡ freezing (all_frozen (frames_of (parts l.store)) (touched_count (parts l.store).touched)) (view l.store).snapshots →
+      (view s).beneath ≡ (view l.store).beneath →
       ((view l.store).is_sound → (view s).is_sound) →
       ServesUp disk view parts l command.Checkpoint (answer.Frozen n) (record { store = s; banks = l.banks; age = l.age + 1; frozen_age = l.age + 1 })
   begun l s n young none home frames touched geometry size beside beneath sound g up =
@@ -130,15 +142,39 @@ module _ {D S : Type 0} (disk : D → Disk) (view : S → View D) (parts : S →
       let before = running disk view parts l in
       record {
         step = λ other.
-            subst (λ (m : ℕ). Step g (Up before) command.Checkpoint (answer.Frozen m) (Up (running_of (parts s) (view s).snapshots (l.age + 1) (l.age + 1)))) (sym size)
-            (subst (λ (x : Snapshots FrozenFrames). Step g (Up before) command.Checkpoint (answer.Frozen k) (Up (running_of (parts s) x (l.age + 1) (l.age + 1)))) (sym beside)
+            subst (λ (m : ℕ). Step g (Up before) command.Checkpoint (answer.Frozen m) (Up (running_of (parts s) (view s).snapshots (l.age + 1) (l.age + 1))))
+            (sym size)
+            (subst (λ (x : Snapshots FrozenFrames). Step g (Up before) command.Checkpoint (answer.Frozen k)
+            (Up (running_of (parts s) x (l.age + 1) (l.age + 1)))) (sym beside)
             (subst (λ fs. Step g (Up before) command.Checkpoint (answer.Frozen k)
-            (Up (record { now = world_at (l.age + 1) fs; touched = (parts s).touched; renewed = renewed_since (frames_of p) fs; frozen = Some (record { world = world_at (l.age + 1) (frames_of p); size = k; left = k }); saved = saved_of a.saved; to_move = a.to_move }))) (sym frames)
+            (Up (record {
+              now = world_at (l.age + 1) fs;
+              touched = (parts s).touched;
+              renewed = renewed_since (frames_of p) fs;
+              frozen = Some (record { world = world_at (l.age + 1) (frames_of p); size = k; left = k });
+              saved = saved_of a.saved;
+              to_move = a.to_move;
+            })))
+            (sym frames)
             (subst (λ (ts : List Bool). Step g (Up before) command.Checkpoint (answer.Frozen k)
-            (Up (record { now = world_at (l.age + 1) (frames_of p); touched = ts; renewed = renewed_since (frames_of p) (frames_of p); frozen = Some (record { world = world_at (l.age + 1) (frames_of p); size = k; left = k }); saved = saved_of a.saved; to_move = a.to_move })))
+            (Up (record {
+              now = world_at (l.age + 1) (frames_of p);
+              touched = ts;
+              renewed = renewed_since (frames_of p) (frames_of p);
+              frozen = Some (record { world = world_at (l.age + 1) (frames_of p); size = k; left = k });
+              saved = saved_of a.saved;
+              to_move = a.to_move;
+            })))
             (sym (touched ∙ ap untouched up.sound.geometry))
             (subst (λ (rs : List Bool). Step g (Up before) command.Checkpoint (answer.Frozen k)
-            (Up (record { now = world_at (l.age + 1) (frames_of p); touched = untouched g; renewed = rs; frozen = Some (record { world = world_at (l.age + 1) (frames_of p); size = k; left = k }); saved = saved_of a.saved; to_move = a.to_move })))
+            (Up (record {
+              now = world_at (l.age + 1) (frames_of p);
+              touched = untouched g;
+              renewed = rs;
+              frozen = Some (record { world = world_at (l.age + 1) (frames_of p); size = k; left = k });
+              saved = saved_of a.saved;
+              to_move = a.to_move;
+            })))
             (sym (none_renewed g (frames_of p) up.sound.now.keepable.count))
             (checkpoint_step g before young (frozen_none a.frozen l.frozen_age none) home)))));
         up = λ other. is_up g (record { store = s; banks = l.banks; age = l.age + 1; frozen_age = l.age + 1 }) (sound up.store)
@@ -149,107 +185,141 @@ module _ {D S : Type 0} (disk : D → Disk) (view : S → View D) (parts : S →
       }
 
   -- a stage that writes: what it leaves of the present objects, and what a crash leaves
-  module _ (l : Live S) (s : S) (same : AreSame (parts l.store) (parts s)) (size : (disk (view s).beneath).sectors ≡ (disk (view l.store).beneath).sectors) where
-    -- it came to another state beside the objects
-    came : (g : Geometry) (b : Snapshots FrozenFrames) → (view s).snapshots ≡ b → (view s).is_sound → AreSoundTogether g (parts l.store) b l.banks l.age l.frozen_age → IsUp disk view parts g (with_store l s)
-    came g b beside store sound = is_up g (with_store l s) store (stays_sound g (parts l.store) (parts s) same b (view s).snapshots beside l.banks l.age l.frozen_age sound)
+  module _ (l : Live S) (s : S) (same : AreSame (parts l.store) (parts s)) (size : (disk (view s).beneath).sectors ≡ (disk (view l.store).beneath).sectors)
+    where
+      -- it came to another state beside the objects
+      came : (g : Geometry) (b : Snapshots FrozenFrames) → (view s).snapshots ≡ b → (view s).is_sound →
+          AreSoundTogether g (parts l.store) b l.banks l.age l.frozen_age → IsUp disk view parts g (with_store l s)
+      came g b beside store sound = is_up g (with_store l s) store
+          (stays_sound g (parts l.store) (parts s) same b (view s).snapshots beside l.banks l.age l.frozen_age sound)
 
-    stepped : (g : Geometry) (b : Snapshots FrozenFrames) (c : Command) (a : Answer) → (view s).snapshots ≡ b → Step g (Up (running disk view parts l)) c a (Up (running_of (parts l.store) b l.age l.frozen_age)) →
-        Step g (Up (running disk view parts l)) c a (Up (running disk view parts (with_store l s)))
-    stepped g b c a beside step =
-        subst (λ (r : Running). Step g (Up (running disk view parts l)) c a (Up r)) (sym (same_running g (parts l.store) (parts s) same b (view s).snapshots beside l.age l.frozen_age)) step
+      stepped : (g : Geometry) (b : Snapshots FrozenFrames) (c : Command) (a : Answer) → (view s).snapshots ≡ b →
+          Step g (Up (running disk view parts l)) c a (Up (running_of (parts l.store) b l.age l.frozen_age)) →
+          Step g (Up (running disk view parts l)) c a (Up (running disk view parts (with_store l s)))
+      stepped g b c a beside step =
+          subst (λ (r : Running). Step g (Up (running disk view parts l)) c a (Up r))
+          (sym (same_running g (parts l.store) (parts s) same b (view s).snapshots beside l.age l.frozen_age)) step
 
-    module _ (f : FrozenFrames) (frozen : (view l.store).snapshots.frozen ≡ Some f) where
-      now_frozen : Frozen
-      now_frozen = record { world = world_at l.frozen_age f.frames; size = f.size; left = f.left }
+      module _ (f : FrozenFrames) (frozen : (view l.store).snapshots.frozen ≡ Some f) where
+        now_frozen : Frozen
+        now_frozen = record { world = world_at l.frozen_age f.frames; size = f.size; left = f.left }
 
-      is_frozen : (running disk view parts l).frozen ≡ Some now_frozen
-      unfolding now_frozen
-      is_frozen = frozen_some (view l.store).snapshots.frozen f l.frozen_age frozen
-
-      -- some more of it is in the log
-      module _ (moments : (view l.store).is_sound → LeavesSaved (disk (view l.store).beneath) (disk (view s).beneath) (view l.store).snapshots.saved) (n : ℕ) where
-        stabilize_along : (g : Geometry) → IsUp disk view parts g l → LeavesOne g (disk_at disk view parts l) (disk (view s).beneath) (saved_of (view l.store).snapshots.saved ∷ [])
-        stabilize_along g up = leaves_along g (disk_at disk view parts l) (disk (view s).beneath) (view l.store).snapshots.saved [] up.sound.saved size (moments up.store)
-
-        pub stabilize_went : (left : ℕ) → left ≡ f.left - n → (view s).snapshots ≡ stabilized n f (view l.store).snapshots → ((view l.store).is_sound → (view s).is_sound) →
-            ServesUp disk view parts l (command.Stabilize n) (answer.Left left) (with_store l s)
+        is_frozen : (running disk view parts l).frozen ≡ Some now_frozen
         unfolding now_frozen
-        stabilize_went left reported beside sound g up = record {
+        is_frozen = frozen_some (view l.store).snapshots.frozen f l.frozen_age frozen
+
+        -- some more of it is in the log
+        module _ (moments : (view l.store).is_sound → LeavesSaved (disk (view l.store).beneath) (disk (view s).beneath) (view l.store).snapshots.saved) (n : ℕ)
+          where
+            stabilize_along : (g : Geometry) → IsUp disk view parts g l →
+                LeavesOne g (disk_at disk view parts l) (disk (view s).beneath) (saved_of (view l.store).snapshots.saved ∷ [])
+            stabilize_along g up = leaves_along g (disk_at disk view parts l) (disk (view s).beneath) (view l.store).snapshots.saved [] up.sound.saved size
+                (moments up.store)
+
+            pub stabilize_went : (left : ℕ) → left ≡ f.left - n → (view s).snapshots ≡ stabilized n f (view l.store).snapshots →
+                ((view l.store).is_sound → (view s).is_sound) →
+                ServesUp disk view parts l (command.Stabilize n) (answer.Left left) (with_store l s)
+            unfolding now_frozen
+            stabilize_went left reported beside sound g up = record {
+              step = λ other.
+                  stepped g (stabilized n f (view l.store).snapshots) (command.Stabilize n) (answer.Left left) beside
+                  (subst (λ (k : ℕ). Step g (Up (running disk view parts l)) (command.Stabilize n) (answer.Left k)
+                  (Up (running_of (parts l.store) (stabilized n f (view l.store).snapshots) l.age l.frozen_age))) (sym reported)
+                  (subst (λ (base : List Frame). Step g (Up (running disk view parts l)) (command.Stabilize n) (answer.Left (f.left - n))
+                  (Up (record (running_of (parts l.store) (stabilized n f (view l.store).snapshots) l.age l.frozen_age) {
+                    renewed = renewed_since base
+                        (frames_of (parts l.store));
+                  })))
+                  (base_frozen (view l.store).snapshots f frozen)
+                  (stabilize_step g (running disk view parts l) n now_frozen is_frozen)));
+              up = λ other. came g (stabilized n f (view l.store).snapshots) beside (sound up.store)
+                  (stabilized_sound g (parts l.store) (view l.store).snapshots l.banks l.age l.frozen_age up.sound n f frozen);
+              leaves = stabilize_along g up;
+            }
+
+            pub stabilize_failed : ServesUp disk view parts l (command.Stabilize n) (answer.Refused refusal.Fault) (with_store l s)
+            stabilize_failed = failed l (with_store l s) (command.Stabilize n) stabilize_along
+
+        -- all of it is saved
+        module _ (stable : f.left ≡ 0)
+            (moments : LeavesEither (disk (view l.store).beneath) (disk (view s).beneath) (view l.store).snapshots.saved
+            (next_saved whole l.frozen_age f (view l.store).snapshots.saved)) where
+          commit_along : (g : Geometry) → IsUp disk view parts g l →
+              LeavesOne g (disk_at disk view parts l) (disk (view s).beneath)
+              (saved_of (view l.store).snapshots.saved ∷ second (Up (running disk view parts l)) command.Commit)
+          unfolding now_frozen
+          commit_along g up =
+              subst (λ (ss : List Saved). LeavesOne g (disk_at disk view parts l) (disk (view s).beneath) (saved_of (view l.store).snapshots.saved ∷ ss))
+              (sym (second_of_commit g (running disk view parts l) now_frozen is_frozen stable))
+              (leaves_either g (disk_at disk view parts l) (disk (view s).beneath) (view l.store).snapshots.saved
+              (next_saved whole l.frozen_age f (view l.store).snapshots.saved) up.sound.saved
+              (next_sound g (parts l.store) (view l.store).snapshots l.banks l.age l.frozen_age up.sound f frozen) size moments)
+
+          pub commit_went : (generation : ℕ) → generation ≡ (view l.store).snapshots.saved.generation + 1 →
+              (view s).snapshots ≡ stage.committed whole l.frozen_age f (view l.store).snapshots → (view s).is_sound →
+              ServesUp disk view parts l command.Commit (answer.Committed generation) (with_store l s)
+          unfolding now_frozen
+          commit_went generation reported beside sound g up = record {
+            step = λ other.
+                stepped g (stage.committed whole l.frozen_age f (view l.store).snapshots) command.Commit (answer.Committed generation) beside
+                (subst (λ (k : ℕ). Step g (Up (running disk view parts l)) command.Commit (answer.Committed k)
+                (Up (running_of (parts l.store) (stage.committed whole l.frozen_age f (view l.store).snapshots) l.age l.frozen_age))) (sym reported)
+                (subst (λ (base : List Frame). Step g (Up (running disk view parts l)) command.Commit
+                (answer.Committed ((view l.store).snapshots.saved.generation + 1))
+                (Up (record (running_of (parts l.store) (stage.committed whole l.frozen_age f (view l.store).snapshots) l.age l.frozen_age) {
+                  renewed =
+                      renewed_since base (frames_of (parts l.store));
+                })))
+                (base_frozen (view l.store).snapshots f frozen)
+                (commit_step g (running disk view parts l) now_frozen is_frozen stable)));
+            up = λ other. came g (stage.committed whole l.frozen_age f (view l.store).snapshots) beside sound
+                (committed_sound g (parts l.store) (view l.store).snapshots l.banks l.age l.frozen_age up.sound f frozen);
+            leaves = commit_along g up;
+          }
+
+          pub commit_failed : ServesUp disk view parts l command.Commit (answer.Refused refusal.Fault) (with_store l s)
+          commit_failed = failed l (with_store l s) command.Commit commit_along
+
+      -- what is saved goes home
+      module _ (n : ℕ) (moments : LeavesEither (disk (view l.store).beneath) (disk (view s).beneath) (view l.store).snapshots.saved
+          (moved_saved n (view l.store).snapshots)) where
+        migrate_along : (g : Geometry) → IsUp disk view parts g l →
+            LeavesOne g (disk_at disk view parts l) (disk (view s).beneath)
+            (saved_of (view l.store).snapshots.saved ∷ second (Up (running disk view parts l)) (command.Migrate n))
+        migrate_along g up = leaves_home g (disk_at disk view parts l) (disk (view s).beneath) (view l.store).snapshots n up.sound.saved size moments
+
+        pub migrate_went : (left : ℕ) → left ≡ (view l.store).snapshots.to_move - n → (view s).snapshots ≡ stage.moved n (view l.store).snapshots →
+            (view s).is_sound →
+            ServesUp disk view parts l (command.Migrate n) (answer.Left left) (with_store l s)
+        migrate_went left reported beside sound g up = record {
           step = λ other.
-              stepped g (stabilized n f (view l.store).snapshots) (command.Stabilize n) (answer.Left left) beside
-              (subst (λ (k : ℕ). Step g (Up (running disk view parts l)) (command.Stabilize n) (answer.Left k) (Up (running_of (parts l.store) (stabilized n f (view l.store).snapshots) l.age l.frozen_age))) (sym reported)
-              (subst (λ (base : List Frame). Step g (Up (running disk view parts l)) (command.Stabilize n) (answer.Left (f.left - n))
-              (Up (record (running_of (parts l.store) (stabilized n f (view l.store).snapshots) l.age l.frozen_age) { renewed = renewed_since base (frames_of (parts l.store)) })))
-              (base_frozen (view l.store).snapshots f frozen)
-              (stabilize_step g (running disk view parts l) n now_frozen is_frozen)));
-          up = λ other. came g (stabilized n f (view l.store).snapshots) beside (sound up.store) (stabilized_sound g (parts l.store) (view l.store).snapshots l.banks l.age l.frozen_age up.sound n f frozen);
-          leaves = stabilize_along g up;
+              stepped g (stage.moved n (view l.store).snapshots) (command.Migrate n) (answer.Left left) beside
+              (subst (λ (k : ℕ). Step g (Up (running disk view parts l)) (command.Migrate n) (answer.Left k)
+              (Up (running_of (parts l.store) (stage.moved n (view l.store).snapshots) l.age l.frozen_age))) (sym reported)
+              (subst (λ (x : Saved). Step g (Up (running disk view parts l)) (command.Migrate n) (answer.Left ((view l.store).snapshots.to_move - n))
+              (Up (record (running_of (parts l.store) (stage.moved n (view l.store).snapshots) l.age l.frozen_age) { saved = x })))
+              (sym (saved_moved (parts l.store) (view l.store).snapshots l.age l.frozen_age n))
+              (subst (λ (base : List Frame). Step g (Up (running disk view parts l)) (command.Migrate n) (answer.Left ((view l.store).snapshots.to_move - n))
+              (Up (record (running_of (parts l.store) (stage.moved n (view l.store).snapshots) l.age l.frozen_age) {
+                saved = moved (running disk view parts l) n;
+                renewed = renewed_since base (frames_of (parts l.store));
+              })))
+              (sym (base_moved (view l.store).snapshots n))
+              (migrate_step g (running disk view parts l) n))));
+          up = λ other. came g (stage.moved n (view l.store).snapshots) beside sound
+              (moved_sound g (parts l.store) (view l.store).snapshots l.banks l.age l.frozen_age up.sound n);
+          leaves = migrate_along g up;
         }
 
-        pub stabilize_failed : ServesUp disk view parts l (command.Stabilize n) (answer.Refused refusal.Fault) (with_store l s)
-        stabilize_failed = failed l (with_store l s) (command.Stabilize n) stabilize_along
-
-      -- all of it is saved
-      module _ (stable : f.left ≡ 0) (moments : LeavesEither (disk (view l.store).beneath) (disk (view s).beneath) (view l.store).snapshots.saved (next_saved whole l.frozen_age f (view l.store).snapshots.saved)) where
-        commit_along : (g : Geometry) → IsUp disk view parts g l →
-            LeavesOne g (disk_at disk view parts l) (disk (view s).beneath) (saved_of (view l.store).snapshots.saved ∷ second (Up (running disk view parts l)) command.Commit)
-        unfolding now_frozen
-        commit_along g up =
-            subst (λ (ss : List Saved). LeavesOne g (disk_at disk view parts l) (disk (view s).beneath) (saved_of (view l.store).snapshots.saved ∷ ss))
-            (sym (second_of_commit g (running disk view parts l) now_frozen is_frozen stable))
-            (leaves_either g (disk_at disk view parts l) (disk (view s).beneath) (view l.store).snapshots.saved (next_saved whole l.frozen_age f (view l.store).snapshots.saved) up.sound.saved
-            (next_sound g (parts l.store) (view l.store).snapshots l.banks l.age l.frozen_age up.sound f frozen) size moments)
-
-        pub commit_went : (generation : ℕ) → generation ≡ (view l.store).snapshots.saved.generation + 1 → (view s).snapshots ≡ stage.committed whole l.frozen_age f (view l.store).snapshots → (view s).is_sound →
-            ServesUp disk view parts l command.Commit (answer.Committed generation) (with_store l s)
-        unfolding now_frozen
-        commit_went generation reported beside sound g up = record {
-          step = λ other.
-              stepped g (stage.committed whole l.frozen_age f (view l.store).snapshots) command.Commit (answer.Committed generation) beside
-              (subst (λ (k : ℕ). Step g (Up (running disk view parts l)) command.Commit (answer.Committed k) (Up (running_of (parts l.store) (stage.committed whole l.frozen_age f (view l.store).snapshots) l.age l.frozen_age))) (sym reported)
-              (subst (λ (base : List Frame). Step g (Up (running disk view parts l)) command.Commit (answer.Committed ((view l.store).snapshots.saved.generation + 1))
-              (Up (record (running_of (parts l.store) (stage.committed whole l.frozen_age f (view l.store).snapshots) l.age l.frozen_age) { renewed = renewed_since base (frames_of (parts l.store)) })))
-              (base_frozen (view l.store).snapshots f frozen)
-              (commit_step g (running disk view parts l) now_frozen is_frozen stable)));
-          up = λ other. came g (stage.committed whole l.frozen_age f (view l.store).snapshots) beside sound (committed_sound g (parts l.store) (view l.store).snapshots l.banks l.age l.frozen_age up.sound f frozen);
-          leaves = commit_along g up;
-        }
-
-        pub commit_failed : ServesUp disk view parts l command.Commit (answer.Refused refusal.Fault) (with_store l s)
-        commit_failed = failed l (with_store l s) command.Commit commit_along
-
-    -- what is saved goes home
-    module _ (n : ℕ) (moments : LeavesEither (disk (view l.store).beneath) (disk (view s).beneath) (view l.store).snapshots.saved (moved_saved n (view l.store).snapshots)) where
-      migrate_along : (g : Geometry) → IsUp disk view parts g l →
-          LeavesOne g (disk_at disk view parts l) (disk (view s).beneath) (saved_of (view l.store).snapshots.saved ∷ second (Up (running disk view parts l)) (command.Migrate n))
-      migrate_along g up = leaves_home g (disk_at disk view parts l) (disk (view s).beneath) (view l.store).snapshots n up.sound.saved size moments
-
-      pub migrate_went : (left : ℕ) → left ≡ (view l.store).snapshots.to_move - n → (view s).snapshots ≡ stage.moved n (view l.store).snapshots → (view s).is_sound →
-          ServesUp disk view parts l (command.Migrate n) (answer.Left left) (with_store l s)
-      migrate_went left reported beside sound g up = record {
-        step = λ other.
-            stepped g (stage.moved n (view l.store).snapshots) (command.Migrate n) (answer.Left left) beside
-            (subst (λ (k : ℕ). Step g (Up (running disk view parts l)) (command.Migrate n) (answer.Left k) (Up (running_of (parts l.store) (stage.moved n (view l.store).snapshots) l.age l.frozen_age))) (sym reported)
-            (subst (λ (x : Saved). Step g (Up (running disk view parts l)) (command.Migrate n) (answer.Left ((view l.store).snapshots.to_move - n))
-            (Up (record (running_of (parts l.store) (stage.moved n (view l.store).snapshots) l.age l.frozen_age) { saved = x })))
-            (sym (saved_moved (parts l.store) (view l.store).snapshots l.age l.frozen_age n))
-            (subst (λ (base : List Frame). Step g (Up (running disk view parts l)) (command.Migrate n) (answer.Left ((view l.store).snapshots.to_move - n))
-            (Up (record (running_of (parts l.store) (stage.moved n (view l.store).snapshots) l.age l.frozen_age) { saved = moved (running disk view parts l) n; renewed = renewed_since base (frames_of (parts l.store)) })))
-            (sym (base_moved (view l.store).snapshots n))
-            (migrate_step g (running disk view parts l) n))));
-        up = λ other. came g (stage.moved n (view l.store).snapshots) beside sound (moved_sound g (parts l.store) (view l.store).snapshots l.banks l.age l.frozen_age up.sound n);
-        leaves = migrate_along g up;
-      }
-
-      pub migrate_failed : ServesUp disk view parts l (command.Migrate n) (answer.Refused refusal.Fault) (with_store l s)
-      migrate_failed = failed l (with_store l s) (command.Migrate n) migrate_along
+        pub migrate_failed : ServesUp disk view parts l (command.Migrate n) (answer.Refused refusal.Fault) (with_store l s)
+        migrate_failed = failed l (with_store l s) (command.Migrate n) migrate_along
 
   -- ---- refusals of a store
 
   module _ (l : Live S) (s : S) where
     -- nothing is frozen
-    pub freeze_refused : (why : Refusal) → s ≡ l.store → l.age < 2 ^ 62 → IsFreezeAnswer {T = ℕ} (left_in whole (view l.store).snapshots) (view l.store).snapshots.saved.entries (Err why) →
+    pub freeze_refused : (why : Refusal) → s ≡ l.store → l.age < 2 ^ 62 →
+        IsFreezeAnswer {T = ℕ} (left_in whole (view l.store).snapshots) (view l.store).snapshots.saved.entries (Err why) →
         ServesUp disk view parts l command.Checkpoint (answer.Refused why) (with_store l s)
     freeze_refused refusal.CheckpointRunning same young reported =
         let f = some_there (view l.store).snapshots.frozen reported in
@@ -257,30 +327,37 @@ module _ {D S : Type 0} (disk : D → Disk) (view : S → View D) (parts : S →
         (λ g up. running_already g (running disk view parts l) young _ (frozen_some (view l.store).snapshots.frozen f.0 l.frozen_age f.1))
     freeze_refused refusal.MigrationPending same young reported =
         refused_again l s command.Checkpoint refusal.MigrationPending same
-        (λ g up. not_home g (running disk view parts l) young (frozen_none (view l.store).snapshots.frozen l.frozen_age (none_there (view l.store).snapshots.frozen reported.0)) reported.1)
+        (λ g up. not_home g (running disk view parts l) young
+        (frozen_none (view l.store).snapshots.frozen l.frozen_age (none_there (view l.store).snapshots.frozen reported.0)) reported.1)
     freeze_refused why same young reported = absurd reported
 
     module _ (same : AreSame (parts l.store) (parts s)) (size : (disk (view s).beneath).sectors ≡ (disk (view l.store).beneath).sectors) where
       -- nothing is written to the log, or not all of it
-      pub stabilize_refused : (why : Refusal) (n : ℕ) → IsStabilizeAnswer (disk (view l.store).beneath) (disk (view s).beneath) (left_in whole (view l.store).snapshots) n (Err why) →
-          (IsRefused {T = ℕ} (Err why) → s ≡ l.store) → ((view l.store).is_sound → LeavesSaved (disk (view l.store).beneath) (disk (view s).beneath) (view l.store).snapshots.saved) →
+      pub stabilize_refused : (why : Refusal) (n : ℕ) → IsStabilizeAnswer (disk (view l.store).beneath) (disk (view s).beneath)
+          (left_in whole (view l.store).snapshots) n (Err why) →
+          (IsRefused {T = ℕ} (Err why) → s ≡ l.store) →
+          ((view l.store).is_sound → LeavesSaved (disk (view l.store).beneath) (disk (view s).beneath) (view l.store).snapshots.saved) →
           ServesUp disk view parts l (command.Stabilize n) (answer.Refused why) (with_store l s)
       stabilize_refused refusal.NoCheckpoint n reported again moments =
           refused_again l s (command.Stabilize n) refusal.NoCheckpoint (again tt)
-          (λ g up. none_to_stabilize g (running disk view parts l) n (frozen_none (view l.store).snapshots.frozen l.frozen_age (none_there (view l.store).snapshots.frozen reported.1)))
+          (λ g up. none_to_stabilize g (running disk view parts l) n
+          (frozen_none (view l.store).snapshots.frozen l.frozen_age (none_there (view l.store).snapshots.frozen reported.1)))
       stabilize_refused refusal.Fault n reported again moments =
           let f = some_there (view l.store).snapshots.frozen reported.1 in
           stabilize_failed l s same size f.0 f.1 moments n
       stabilize_refused why n reported again moments = absurd reported
 
       -- nothing is saved, or it isn't reported
-      pub commit_refused : (why : Refusal) → IsCommitAnswer (disk (view l.store).beneath) (disk (view s).beneath) (left_in whole (view l.store).snapshots) (view l.store).snapshots.saved.generation (Err why) →
+      pub commit_refused : (why : Refusal) → IsCommitAnswer (disk (view l.store).beneath) (disk (view s).beneath) (left_in whole (view l.store).snapshots)
+          (view l.store).snapshots.saved.generation (Err why) →
           (IsRefused {T = ℕ} (Err why) → s ≡ l.store) → ((f : FrozenFrames) → (view l.store).snapshots.frozen ≡ Some f → f.left ≡ 0 →
-          LeavesEither (disk (view l.store).beneath) (disk (view s).beneath) (view l.store).snapshots.saved (next_saved whole l.frozen_age f (view l.store).snapshots.saved)) →
+          LeavesEither (disk (view l.store).beneath) (disk (view s).beneath) (view l.store).snapshots.saved
+          (next_saved whole l.frozen_age f (view l.store).snapshots.saved)) →
           ServesUp disk view parts l command.Commit (answer.Refused why) (with_store l s)
       commit_refused refusal.NoCheckpoint reported again moments =
           refused_again l s command.Commit refusal.NoCheckpoint (again tt)
-          (λ g up. none_to_commit g (running disk view parts l) (frozen_none (view l.store).snapshots.frozen l.frozen_age (none_there (view l.store).snapshots.frozen reported.1)))
+          (λ g up. none_to_commit g (running disk view parts l)
+          (frozen_none (view l.store).snapshots.frozen l.frozen_age (none_there (view l.store).snapshots.frozen reported.1)))
       commit_refused (refusal.NotStable left) reported again moments =
           let f = some_left (view l.store).snapshots.frozen left (sym reported.1) in
           subst (λ (n : ℕ). ServesUp disk view parts l command.Commit (answer.Refused (refusal.NotStable n)) (with_store l s)) f.2
@@ -299,22 +376,26 @@ module _ {D S : Type 0} (disk : D → Disk) (view : S → View D) (parts : S →
 pub failed_cause : (old new : Disk) → old.failures < new.failures → IsCaused old new (answer.Refused refusal.Fault)
 failed_cause old new more = record { later = omega (arith, more); exact = (λ e. more, λ rose. refl) }
 
-pub other_cause : (old new : Disk) (why : Refusal) → new.failures ≡ old.failures → (answer.Refused why ≡ answer.Refused refusal.Fault → ⊥) → IsCaused old new (answer.Refused why)
+pub other_cause : (old new : Disk) (why : Refusal) → new.failures ≡ old.failures → (answer.Refused why ≡ answer.Refused refusal.Fault → ⊥) →
+    IsCaused old new (answer.Refused why)
 other_cause old new why same other = record {
   later = omega (arith, same);
   exact = (λ e. absurd (other e), λ rose. absurd (omega (arith, same, rose)));
 }
 
-pub freeze_cause : (old new : Disk) (left : Option ℕ) (entries : ℕ) (why : Refusal) → IsFreezeAnswer {T = ℕ} left entries (Err why) → new.failures ≡ old.failures → IsCaused old new (answer.Refused why)
+pub freeze_cause : (old new : Disk) (left : Option ℕ) (entries : ℕ) (why : Refusal) → IsFreezeAnswer {T = ℕ} left entries (Err why) →
+    new.failures ≡ old.failures → IsCaused old new (answer.Refused why)
 freeze_cause old new left entries refusal.Fault reported same = absurd reported
 freeze_cause old new left entries why reported same = other_cause old new why same (λ e. cc)
 
-pub stabilize_cause : (old new : Disk) (left : Option ℕ) (count : ℕ) (why : Refusal) → IsStabilizeAnswer old new left count (Err why) → IsCaused old new (answer.Refused why)
+pub stabilize_cause : (old new : Disk) (left : Option ℕ) (count : ℕ) (why : Refusal) → IsStabilizeAnswer old new left count (Err why) →
+    IsCaused old new (answer.Refused why)
 stabilize_cause old new left count refusal.NoCheckpoint reported = other_cause old new refusal.NoCheckpoint reported.0 (λ e. cc)
 stabilize_cause old new left count refusal.Fault reported = failed_cause old new reported.0
 stabilize_cause old new left count why reported = absurd reported
 
-pub commit_cause : (old new : Disk) (left : Option ℕ) (saved : ℕ) (why : Refusal) → IsCommitAnswer old new left saved (Err why) → IsCaused old new (answer.Refused why)
+pub commit_cause : (old new : Disk) (left : Option ℕ) (saved : ℕ) (why : Refusal) → IsCommitAnswer old new left saved (Err why) →
+    IsCaused old new (answer.Refused why)
 commit_cause old new left saved refusal.NoCheckpoint reported = other_cause old new refusal.NoCheckpoint reported.0 (λ e. cc)
 commit_cause old new left saved (refusal.NotStable n) reported = other_cause old new (refusal.NotStable n) reported.0 (λ e. cc)
 commit_cause old new left saved refusal.Fault reported = failed_cause old new reported.0
@@ -326,19 +407,22 @@ freeze_looks left entries refusal.CheckpointRunning reported is = is
 freeze_looks left entries refusal.MigrationPending reported is = is
 freeze_looks left entries why reported is = reported
 
-pub stabilize_looks : (old new : Disk) (left : Option ℕ) (count : ℕ) (why : Refusal) → IsStabilizeAnswer old new left count (Err why) → IsUnlooked (answer.Refused why) → ⊥
+pub stabilize_looks : (old new : Disk) (left : Option ℕ) (count : ℕ) (why : Refusal) → IsStabilizeAnswer old new left count (Err why) →
+    IsUnlooked (answer.Refused why) → ⊥
 stabilize_looks old new left count refusal.NoCheckpoint reported is = is
 stabilize_looks old new left count refusal.Fault reported is = is
 stabilize_looks old new left count why reported is = reported
 
-pub commit_looks : (old new : Disk) (left : Option ℕ) (saved : ℕ) (why : Refusal) → IsCommitAnswer old new left saved (Err why) → IsUnlooked (answer.Refused why) → ⊥
+pub commit_looks : (old new : Disk) (left : Option ℕ) (saved : ℕ) (why : Refusal) → IsCommitAnswer old new left saved (Err why) →
+    IsUnlooked (answer.Refused why) → ⊥
 commit_looks old new left saved refusal.NoCheckpoint reported is = is
 commit_looks old new left saved (refusal.NotStable n) reported is = is
 commit_looks old new left saved refusal.Fault reported is = is
 commit_looks old new left saved why reported is = reported
 
 -- what is frozen can be committed at its age
-pub may_commit : {D S : Type 0} (disk : D → Disk) (view : S → View D) (parts : S → Parts) (l : Live S) → ((g : Geometry) × IsUp disk view parts g l) → (f : FrozenFrames) → (view l.store).snapshots.frozen ≡ Some f →
+pub may_commit : {D S : Type 0} (disk : D → Disk) (view : S → View D) (parts : S → Parts) (l : Live S) → ((g : Geometry) × IsUp disk view parts g l) →
+    (f : FrozenFrames) → (view l.store).snapshots.frozen ≡ Some f →
     MayCommit whole l.frozen_age f (view l.store).snapshots.saved
 may_commit disk view parts l up f frozen =
     let sound = up.1.sound in
@@ -354,10 +438,12 @@ err_answer Q (Ok a) failed = absurd failed
 err_answer Q (Err e) failed = refl
 
 -- the device reports who failed
-pub caused : (p q : Parts) (old new : Disk) (c : Command) (age later : ℕ) (a : Answer) → p.failures ≡ old.failures → q.failures ≡ new.failures → Performs age p c a later q → IsCaused old new a
+pub caused : (p q : Parts) (old new : Disk) (c : Command) (age later : ℕ) (a : Answer) → p.failures ≡ old.failures → q.failures ≡ new.failures →
+    Performs age p c a later q → IsCaused old new a
 caused p q old new c age later a before after serves = record {
   later = subst (λ (n : ℕ). n ≤ new.failures) before (subst (λ (n : ℕ). p.failures ≤ n) after serves.later);
-  exact = subst (λ (n : ℕ). (a ≡ answer.Refused refusal.Fault) ↔ (n < new.failures)) before (subst (λ (n : ℕ). (a ≡ answer.Refused refusal.Fault) ↔ (p.failures < n)) after serves.cause);
+  exact = subst (λ (n : ℕ). (a ≡ answer.Refused refusal.Fault) ↔ (n < new.failures)) before
+      (subst (λ (n : ℕ). (a ≡ answer.Refused refusal.Fault) ↔ (p.failures < n)) after serves.cause);
 }
 
 -- what is counted of banks stays, where the objects do

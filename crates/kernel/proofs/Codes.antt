@@ -1,27 +1,10 @@
 -- Result codes beside answers.
-use Rattle.kernel.proofs.Names.{None, Result, Ok, Err, refl, sym, ap, IfOk, Answer, Command, Invocation, Geometry, Down, Machine, Running, Up, Failed, Disk}
-use Rattle.kernel.proofs.Names.{Parts, objects_in, View, Served, code_with, Live, HasCode, Stands, reported_code, Refusal, ResultCode, Power, done_with}
-use Rattle.kernel.proofs.Names.{Unserved, Option}
+use Rattle.kernel.proofs.Names.{None, Result, Ok, Err, refl, sym, ap, IfOk, Answer, Command, Invocation, Geometry, Down, Machine, Running, Up, Disk, Parts}
+use Rattle.kernel.proofs.Names.{objects_in, View, code_with, Live, HasCode, reported_code, Refusal, ResultCode, Power, done_with, Unserved, Option}
 use Rattle.std.proofs.Common.{◌≡◌, ◌∙◌}
 use Rattle.model.specs.declared.command.Command.TheVariants as command
 use Rattle.model.specs.declared.answer.Answer.TheVariants as answer
 use Rattle.kernel.specs.Power as power
-
--- a command that isn't an invocation has none
-pub other_code : (g : Geometry) (m : Machine) (c : Command) (a : Answer) → ((i : Invocation) → c ≡ command.Invoke i → ⊥) → reported_code g m c a ≡ None
-other_code g (Down saved) c a other = refl
-other_code g (Up r) (command.Invoke i) a other = absurd (other i refl)
-other_code g (Up r) (command.Load p address) a other = refl
-other_code g (Up r) (command.Store p address value) a other = refl
-other_code g (Up r) (command.Show n) a other = refl
-other_code g (Up r) (command.Evict n) a other = refl
-other_code g (Up r) command.Checkpoint a other = refl
-other_code g (Up r) (command.Stabilize n) a other = refl
-other_code g (Up r) command.Commit a other = refl
-other_code g (Up r) (command.Migrate n) a other = refl
-other_code g (Up r) (command.Journal n) a other = refl
-other_code g (Up r) command.Restart a other = refl
-other_code g (Up r) command.Cut a other = refl
 
 -- an invocation by a store that is up has that of its objects
 module _ {D S : Type 0} (disk : D → Disk) (view : S → View D) (parts : S → Parts) where
@@ -33,12 +16,14 @@ module _ {D S : Type 0} (disk : D → Disk) (view : S → View D) (parts : S →
       ∙ ap (λ (x : Running). code_with g x.now.objects i answer.Done) (sym stands.1)
   invoked_code l i code is g (Down saved) stands = absurd stands
 
-  pub up_code : (l : Live S) (i : Invocation) (r : Result (Option ResultCode) Unserved) → IfOk r (λ code. code ≡ code_with (parts l.store).geometry (objects_in (parts l.store)) i answer.Done)
+  pub up_code : (l : Live S) (i : Invocation) (r : Result (Option ResultCode) Unserved) →
+      IfOk r (λ code. code ≡ code_with (parts l.store).geometry (objects_in (parts l.store)) i answer.Done)
       → IfOk r (λ code. HasCode disk view parts (power.Up l) (command.Invoke i) (done_with code))
   up_code l i (Ok code) is = invoked_code l i code is
   up_code l i (Err why) is = tt
 
   -- a refusal has none
-  pub refused_code : (p : Power D S) (i : Invocation) (why : Refusal) → HasCode disk view parts p (command.Invoke i) (record { answer = answer.Refused why; code = None })
+  pub refused_code : (p : Power D S) (i : Invocation) (why : Refusal) →
+      HasCode disk view parts p (command.Invoke i) (record { answer = answer.Refused why; code = None })
   refused_code p i why g (Up r) stands = refl
   refused_code p i why g (Down saved) stands = refl

@@ -18,7 +18,8 @@ leaves_here g disk ss ts only_now here = record {
 }
 
 -- a crash left what was saved all along
-pub leaves_along : (g : Geometry) (old new : Disk) (fs : SavedFrames) (ts : List Saved) → IsSoundSaved g fs → new.sectors ≡ old.sectors → LeavesSaved old new fs → LeavesOne g old new (saved_of fs ∷ ts)
+pub leaves_along : (g : Geometry) (old new : Disk) (fs : SavedFrames) (ts : List Saved) → IsSoundSaved g fs → new.sectors ≡ old.sectors →
+    LeavesSaved old new fs → LeavesOne g old new (saved_of fs ∷ ts)
 leaves_along g old new fs ts sound size moments = record {
   size = size;
   any_moment = leaves_weaker {old = old} {new = new} {P = λ c. Holds old.sectors c fs} (DenotesOne g old.sectors (saved_of fs ∷ ts))
@@ -26,11 +27,13 @@ leaves_along g old new fs ts sound size moments = record {
 }
 
 -- or what is saved next
-pub leaves_either : (g : Geometry) (old new : Disk) (fs next : SavedFrames) → IsSoundSaved g fs → IsSoundSaved g next → new.sectors ≡ old.sectors → LeavesEither old new fs next →
+pub leaves_either : (g : Geometry) (old new : Disk) (fs next : SavedFrames) → IsSoundSaved g fs → IsSoundSaved g next → new.sectors ≡ old.sectors →
+    LeavesEither old new fs next →
     LeavesOne g old new (saved_of fs ∷ saved_of next ∷ [])
 leaves_either g old new fs next sound sound_next size moments = record {
   size = size;
-  any_moment = leaves_weaker {old = old} {new = new} {P = λ c. Holds old.sectors c fs ⊎ Holds old.sectors c next} (DenotesOne g old.sectors (saved_of fs ∷ saved_of next ∷ []))
+  any_moment = leaves_weaker {old = old} {new = new} {P = λ c. Holds old.sectors c fs ⊎ Holds old.sectors c next}
+      (DenotesOne g old.sectors (saved_of fs ∷ saved_of next ∷ []))
       (λ c held. ⊎_elim (λ was. inl (denoted_by g old.sectors c fs sound was)) (λ is. inr (inl (denoted_by g old.sectors c next sound_next is))) held) moments;
 }
 
@@ -42,23 +45,29 @@ leaves_end g old new ss counts_now run c left =
 -- ---- what is saved goes home
 
 home_same : (fs : SavedFrames) → fs.entries ≡ 0 → home_saved fs ≡ fs
-home_same fs none = ap (λ (n : ℕ). let s : SavedFrames = record { geometry = fs.geometry; frames = fs.frames; generation = fs.generation; entries = n; age = fs.age } in s) (sym none)
+home_same fs none = ap
+    (λ (n : ℕ). let s : SavedFrames = record { geometry = fs.geometry; frames = fs.frames; generation = fs.generation; entries = n; age = fs.age } in s)
+    (sym none)
 
-home_or_saved : (g : Geometry) (size : ℕ) (c : Image) (fs : SavedFrames) → IsSoundSaved g fs → (home last : Bool) → (fs.entries == 0) ≡ home → Holds size c (if last then home_saved fs else fs) →
+home_or_saved : (g : Geometry) (size : ℕ) (c : Image) (fs : SavedFrames) → IsSoundSaved g fs → (home last : Bool) → (fs.entries == 0) ≡ home →
+    Holds size c (if last then home_saved fs else fs) →
     DenotesOne g size (saved_of fs ∷ (if home then [] else if last then at_home (saved_of fs) ∷ [] else [])) c
 home_or_saved g size c fs sound home false is holds = inl (denoted_by g size c fs sound holds)
-home_or_saved g size c fs sound false true is holds = inr (inl (denoted_by g size c (home_saved fs) (record { geometry = sound.geometry; sound = sound.sound }) holds))
+home_or_saved g size c fs sound false true is holds = inr
+    (inl (denoted_by g size c (home_saved fs) (record { geometry = sound.geometry; sound = sound.sound }) holds))
 home_or_saved g size c fs sound true true is holds =
     let none : fs.entries ≡ 0 = grind (arith, nat_tests) in
     inl (denoted_by g size c fs sound (subst (Holds size c) (home_same fs none) holds))
 
-pub leaves_home : (g : Geometry) (old new : Disk) (a : Snapshots FrozenFrames) (n : ℕ) → IsSoundSaved g a.saved → new.sectors ≡ old.sectors → LeavesEither old new a.saved (moved_saved n a) →
+pub leaves_home : (g : Geometry) (old new : Disk) (a : Snapshots FrozenFrames) (n : ℕ) → IsSoundSaved g a.saved → new.sectors ≡ old.sectors →
+    LeavesEither old new a.saved (moved_saved n a) →
     LeavesOne g old new (saved_of a.saved ∷ (if a.saved.entries == 0 then [] else if a.to_move - n == 0 then at_home (saved_of a.saved) ∷ [] else []))
 leaves_home g old new a n sound size moments =
     let more : List Saved = if a.saved.entries == 0 then [] else if a.to_move - n == 0 then at_home (saved_of a.saved) ∷ [] else [] in
     record {
       size = size;
-      any_moment = leaves_weaker {old = old} {new = new} {P = λ c. Holds old.sectors c a.saved ⊎ Holds old.sectors c (moved_saved n a)} (DenotesOne g old.sectors (saved_of a.saved ∷ more))
+      any_moment = leaves_weaker {old = old} {new = new} {P = λ c. Holds old.sectors c a.saved ⊎ Holds old.sectors c (moved_saved n a)}
+          (DenotesOne g old.sectors (saved_of a.saved ∷ more))
           (λ c held. ⊎_elim
           (λ was. inl (denoted_by g old.sectors c a.saved sound was))
           (λ is. home_or_saved g old.sectors c a.saved sound (a.saved.entries == 0) (a.to_move - n == 0) refl is)

@@ -32,18 +32,22 @@ module _ (g : Geometry) (s : Running) (n : ℕ) where
   ])
 
   ordered_is : refusal_of g s (command.Journal n)
-      ≡ ordered (nat_lt s.now.age (2 ^ 62)) s.frozen (s.saved.entries == 0) (nat_lt n (object_count g)) (is_page (content_at s.now.objects n)) (machine.is_saved_page s n)
+      ≡ ordered (nat_lt s.now.age (2 ^ 62)) s.frozen (s.saved.entries == 0) (nat_lt n (object_count g)) (is_page (content_at s.now.objects n))
+      (machine.is_saved_page s n)
   unfolding refusal_of
   ordered_is = refl
 
-  by : (young : Bool) (frozen : Option Frozen) (home known page saved : Bool) → nat_lt s.now.age (2 ^ 62) ≡ young → s.frozen ≡ frozen → (s.saved.entries == 0) ≡ home → nat_lt n (object_count g) ≡ known →
-      is_page (content_at s.now.objects n) ≡ page → machine.is_saved_page s n ≡ saved → refusal_of g s (command.Journal n) ≡ ordered young frozen home known page saved
+  by : (young : Bool) (frozen : Option Frozen) (home known page saved : Bool) → nat_lt s.now.age (2 ^ 62) ≡ young → s.frozen ≡ frozen →
+      (s.saved.entries == 0) ≡ home → nat_lt n (object_count g) ≡ known →
+      is_page (content_at s.now.objects n) ≡ page → machine.is_saved_page s n ≡ saved → refusal_of g s (command.Journal n) ≡ ordered young frozen home known
+      page saved
   by young frozen home known page saved a b c d e f = ordered_is ∙ (λ k. ordered (a k) (b k) (c k) (d k) (e k) (f k))
 
   pub journal_worn : 2 ^ 62 ≤ s.now.age → refusal_of g s (command.Journal n) ≡ Some refusal.Worn
   journal_worn old =
       let past : nat_lt s.now.age (2 ^ 62) ≡ false = grind (arith, nat_tests) in
-      by false s.frozen (s.saved.entries == 0) (nat_lt n (object_count g)) (is_page (content_at s.now.objects n)) (machine.is_saved_page s n) past refl refl refl refl refl
+      by false s.frozen (s.saved.entries == 0) (nat_lt n (object_count g)) (is_page (content_at s.now.objects n)) (machine.is_saved_page s n) past refl refl
+      refl refl refl
 
   module _ (young : s.now.age < 2 ^ 62) where
     is_young : nat_lt s.now.age (2 ^ 62) ≡ true
@@ -51,7 +55,8 @@ module _ (g : Geometry) (s : Running) (n : ℕ) where
 
     pub journal_running : (f : Frozen) → s.frozen ≡ Some f → refusal_of g s (command.Journal n) ≡ Some refusal.CheckpointRunning
     journal_running f is =
-        by true (Some f) (s.saved.entries == 0) (nat_lt n (object_count g)) (is_page (content_at s.now.objects n)) (machine.is_saved_page s n) is_young is refl refl refl refl
+        by true (Some f) (s.saved.entries == 0) (nat_lt n (object_count g)) (is_page (content_at s.now.objects n)) (machine.is_saved_page s n) is_young is refl
+        refl refl refl
 
     module _ (none : s.frozen ≡ None) where
       pub journal_pending : (s.saved.entries ≡ 0 → ⊥) → refusal_of g s (command.Journal n) ≡ Some refusal.MigrationPending
@@ -81,7 +86,8 @@ module _ (g : Geometry) (s : Running) (n : ℕ) where
 
             pub journal_step : machine.is_saved_page s n ≡ true →
                 Step g (Up s) (command.Journal n) (answer.Journaled (s.saved.generation + 2))
-                (let now : World = record { objects = s.now.objects; age = s.now.age + 1 } in Up (record s { now = now; saved = machine.journaled s n; to_move = 1 }))
+                (let now : World = record { objects = s.now.objects; age = s.now.age + 1 } in Up
+                (record s { now = now; saved = machine.journaled s n; to_move = 1 }))
             unfolding carried_out
             journal_step saved = done_step g s (command.Journal n) _ _ (by true None true true true true is_young none is_home is_known page saved) refl refl
 
@@ -92,7 +98,8 @@ module _ (g : Geometry) (s : Running) (n : ℕ) where
           | None ↦ unless home refusal.MigrationPending (unless page (refusal.NotJournaled NotPage) (unless saved (refusal.NotJournaled Renewed) None))
         ])) [ None ↦ machine.journaled s n ∷ [] | Some why ↦ [] ]
 
-        pub second_of_journal : is_page (content_at s.now.objects n) ≡ true → machine.is_saved_page s n ≡ true → second (Up s) (command.Journal n) ≡ machine.journaled s n ∷ []
+        pub second_of_journal : is_page (content_at s.now.objects n) ≡ true → machine.is_saved_page s n ≡ true →
+            second (Up s) (command.Journal n) ≡ machine.journaled s n ∷ []
         second_of_journal page saved = λ k. seconds (is_young k) (none k) (is_home k) (page k) (saved k)
 
 -- ---- pages
@@ -192,14 +199,17 @@ module _ (fs : List Frame) (n : ℕ) (words : List ℕ) where
   pub renewed_after : (gs : List Frame) → renewed_since (set fs n (with_words words (frame_at fs n))) gs ≡ renewed_since fs gs
   unfolding renewed_since has_risen
   renewed_after gs =
-      ap (λ (k : ℕ). map (λ m. not ((frame_at gs m).header.allocations == (frame_at (set fs n page) m).header.allocations)) (range_with_len 0 k)) (length-set fs n page)
-      ∙ maps_same (λ m. not ((frame_at gs m).header.allocations == (frame_at (set fs n page) m).header.allocations)) (λ m. not ((frame_at gs m).header.allocations == (frame_at fs m).header.allocations)) (length fs)
+      ap (λ (k : ℕ). map (λ m. not ((frame_at gs m).header.allocations == (frame_at (set fs n page) m).header.allocations)) (range_with_len 0 k))
+      (length-set fs n page)
+      ∙ maps_same (λ m. not ((frame_at gs m).header.allocations == (frame_at (set fs n page) m).header.allocations))
+      (λ m. not ((frame_at gs m).header.allocations == (frame_at fs m).header.allocations)) (length fs)
       (λ m lt. ap (λ (h : ObjectHeader). not ((frame_at gs m).header.allocations == h.allocations)) (same_header m))
 
   pub allocations_after : (m : ℕ) → allocations_at (set fs n (with_words words (frame_at fs n))) m ≡ allocations_at fs m
   allocations_after m = ap (λ (h : ObjectHeader). h.allocations) (same_header m)
 
-  module _ (g : Geometry) (age : ℕ) (sound : IsSoundFrames g age fs) (is : is_page (frame_at fs n).content ≡ true) (lt : n < object_count g) (kept : AreKeptWords 512 words) where
+  module _ (g : Geometry) (age : ℕ) (sound : IsSoundFrames g age fs) (is : is_page (frame_at fs n).content ≡ true) (lt : n < object_count g)
+      (kept : AreKeptWords 512 words) where
     page_keepable : IsKeepable g age n page
     page_keepable =
         let f = sound.keepable.each n lt in
@@ -218,7 +228,8 @@ module _ (fs : List Frame) (n : ℕ) (words : List ℕ) where
     keepable_after : AreKeepable g age (set fs n page)
     keepable_after = record {
       count = length-set fs n page ∙ sound.keepable.count;
-      each = λ m within. at_set (λ k f. k < object_count g → IsKeepable g age k f) fs n m page blank_frame (λ _. page_keepable) (λ less. sound.keepable.each m less) within;
+      each = λ m within. at_set (λ k f. k < object_count g → IsKeepable g age k f) fs n m page blank_frame (λ _. page_keepable)
+          (λ less. sound.keepable.each m less) within;
     }
 
     current_after : AreCurrent (set fs n page)
@@ -226,7 +237,8 @@ module _ (fs : List Frame) (n : ℕ) (words : List ℕ) where
         subst (λ (hs : List ObjectHeader). All (IsCurrent hs) (caps_in (frame_at (set fs n page) m).content)) (sym same_headers)
         (at_set (λ k f. All (IsCurrent (headers fs)) (caps_in f.content)) fs n m page blank_frame (All-nil (IsCurrent (headers fs))) (sound.current m))
 
-    pub sound_after : IsSound g (record { objects = with_content (objects_of fs) n (content.Page words); age = age }) → IsSoundFrames g age (set fs n (with_words words (frame_at fs n)))
+    pub sound_after : IsSound g (record { objects = with_content (objects_of fs) n (content.Page words); age = age }) →
+        IsSoundFrames g age (set fs n (with_words words (frame_at fs n)))
     sound_after world = record {
       keepable = keepable_after;
       current = current_after;
@@ -239,7 +251,8 @@ not_twice : (b : Bool) → not (not b) ≡ b
 not_twice true = refl
 not_twice false = refl
 
-module _ (g : Geometry) (p : Parts) (a : Snapshots FrozenFrames) (banks : BanksState) (age frozen_age : ℕ) (s : AreSoundTogether g p a banks age frozen_age) (n : ℕ) where
+module _ (g : Geometry) (p : Parts) (a : Snapshots FrozenFrames) (banks : BanksState) (age frozen_age : ℕ) (s : AreSoundTogether g p a banks age frozen_age)
+    (n : ℕ) where
   abbrev r : Running
   r = running_of p a age frozen_age
 
@@ -247,7 +260,8 @@ module _ (g : Geometry) (p : Parts) (a : Snapshots FrozenFrames) (banks : BanksS
   now_is = ap (λ (h : ObjectHeader). is_page_role h.role) (sym (header_in p.headers p.contents n)) ∙ page_at g age (frames_of p) n s.now.keepable
 
   module _ (none : a.frozen ≡ None) where
-    same_count : n < object_count g → ((header_at p.headers n).allocations == (frame_at a.saved.frames n).header.allocations) ≡ not (slice_index_or (renewed_since (base_of a) (frames_of p)) n false)
+    same_count : n < object_count g → ((header_at p.headers n).allocations == (frame_at a.saved.frames n).header.allocations) ≡ not
+        (slice_index_or (renewed_since (base_of a) (frames_of p)) n false)
     same_count lt = sym (
         ap (λ (base : List Frame). not (slice_index_or (renewed_since base (frames_of p)) n false)) (base_saved a none)
         ∙ ap not (renewed_at a.saved.frames (frames_of p) n (omega (arith, lt, s.saved.sound.keepable.count)))
@@ -295,11 +309,13 @@ module _ (g : Geometry) (p : Parts) (a : Snapshots FrozenFrames) (banks : BanksS
 
         pub saved_next : saved_of (journaled_saved (a.saved.age + 1) n (words_now p n) a.saved) ≡ machine.journaled (running_of p a age frozen_age) n
         saved_next = ap
-            (λ (os : List Object). let w : World = record { objects = os; age = a.saved.age + 1 } in let x : Saved = record { world = w; generation = a.saved.generation + 2; entries = 1 } in x)
+            (λ (os : List Object). let w : World = record { objects = os; age = a.saved.age + 1 } in let x : Saved =
+            record { world = w; generation = a.saved.generation + 2; entries = 1 } in x)
             (objects_after a.saved.frames n (words_now p n) ∙ ap (with_content (objects_of a.saved.frames) n) (sym words_are))
 
         world_next : IsSound g (record { objects = with_content (objects_of a.saved.frames) n (content.Page (words_now p n)); age = a.saved.age + 1 })
-        world_next = subst (λ (c : Content Capability). IsSound g (record { objects = with_content (objects_of a.saved.frames) n c; age = a.saved.age + 1 })) words_are
+        world_next = subst (λ (c : Content Capability). IsSound g (record { objects = with_content (objects_of a.saved.frames) n c; age = a.saved.age + 1 }))
+            words_are
             (journal_keeps_sound g r n s.now.sound s.saved.sound.sound (omega (arith, s.order, young)) none_refuses)
 
         frames_next : IsSoundFrames g (a.saved.age + 1) a.saved.frames
@@ -329,14 +345,24 @@ module _ (g : Geometry) (p : Parts) (a : Snapshots FrozenFrames) (banks : BanksS
         }
 
         pub running_next : running_of p (journaled (a.saved.age + 1) n (words_now p n) a) (age + 1) frozen_age
-            ≡ (let now : World = record { objects = objects_in p; age = age + 1 } in let x : Running = record (running_of p a age frozen_age) { now = now; saved = machine.journaled (running_of p a age frozen_age) n; to_move = 1 } in x)
+            ≡ (let now : World = record { objects = objects_in p; age = age + 1 } in let x : Running = record
+            (running_of p a age frozen_age) { now = now; saved = machine.journaled (running_of p a age frozen_age) n; to_move = 1 } in x)
         running_next =
-            ap (λ (rs : List Bool). let now : World = record { objects = objects_in p; age = age + 1 } in let x : Running = record (running_of p a age frozen_age) { now = now; renewed = rs; saved = saved_of (journaled_saved (a.saved.age + 1) n (words_now p n) a.saved); to_move = 1 } in x)
-            (ap (λ (fs : List Frame). renewed_since fs (frames_of p)) base_next ∙ renewed_after a.saved.frames n (words_now p n) (frames_of p) ∙ ap (λ (fs : List Frame). renewed_since fs (frames_of p)) (sym (base_saved a none)))
-            ∙ ap (λ (x : Saved). let now : World = record { objects = objects_in p; age = age + 1 } in let y : Running = record (running_of p a age frozen_age) { now = now; saved = x; to_move = 1 } in y) saved_next
+            ap (λ (rs : List Bool). let now : World = record { objects = objects_in p; age = age + 1 } in let x : Running = record
+            (running_of p a age frozen_age) {
+              now = now;
+              renewed = rs;
+              saved = saved_of (journaled_saved (a.saved.age + 1) n (words_now p n) a.saved);
+              to_move = 1;
+            } in x)
+            (ap (λ (fs : List Frame). renewed_since fs (frames_of p)) base_next ∙ renewed_after a.saved.frames n (words_now p n) (frames_of p) ∙
+            ap (λ (fs : List Frame). renewed_since fs (frames_of p)) (sym (base_saved a none)))
+            ∙ ap (λ (x : Saved). let now : World = record { objects = objects_in p; age = age + 1 } in let y : Running = record
+            (running_of p a age frozen_age) { now = now; saved = x; to_move = 1 } in y) saved_next
 
 -- what is saved besides, where nothing but what is saved may refuse it
-pub next_is : {F : Type 0} (age n : ℕ) (words : List ℕ) (o : Option F) (s : SavedFrames) (page saved b : Bool) → o ≡ None → s.entries ≡ 0 → page ≡ true → saved ≡ b →
+pub next_is : {F : Type 0} (age n : ℕ) (words : List ℕ) (o : Option F) (s : SavedFrames) (page saved b : Bool) → o ≡ None → s.entries ≡ 0 → page ≡ true →
+    saved ≡ b →
     next_journaled age n words o s page saved ≡ (if b then Some (journaled_saved age n words s) else None)
 next_is age n words o s page saved b none home is_page is_saved =
     let at_home : (s.entries == 0) ≡ true = grind (arith, nat_tests) in

@@ -40,7 +40,8 @@ sound_still (inl failed) = absurd cc
 sound_still (inr sound) = sound
 
 -- where it is refused with no read of an object, the store is the same
-pub unlooked_same : {S : Type 0} (was now : Disk) (left : Option ℕ) (s : SavedFrames) (known page saved : Bool) (why : Refusal) {old new : S} → IsJournalAnswer was now left s known page saved (Err why) →
+pub unlooked_same : {S : Type 0} (was now : Disk) (left : Option ℕ) (s : SavedFrames) (known page saved : Bool) (why : Refusal) {old new : S} →
+    IsJournalAnswer was now left s known page saved (Err why) →
     (IsTurnedAway (Err why) → new ≡ old) → IsUnlooked (answer.Refused why) → new ≡ old
 unlooked_same was now left s known page saved refusal.BadNumber reported same is = same tt
 unlooked_same was now left s known page saved refusal.NoProcess reported same is = absurd reported
@@ -49,7 +50,8 @@ unlooked_same was now left s known page saved why reported same is = absurd is
 
 module _ {D S : Type 0} (disk : D → Disk) (view : S → View D) (parts : S → Parts)
     (only_now : (d : D) (c : Image) → (disk d).left_since (disk d).moment c → (disk d).may_leave c)
-    (sound_holds : (s : S) (c : Image) → (view s).is_sound → (disk (view s).beneath).may_leave c → Holds (disk (view s).beneath).sectors c (view s).snapshots.saved) where
+    (sound_holds : (s : S) (c : Image) → (view s).is_sound → (disk (view s).beneath).may_leave c →
+    Holds (disk (view s).beneath).sectors c (view s).snapshots.saved) where
   pub too_old : (l : Live S) (n : ℕ) → 2 ^ 62 ≤ l.age → ServesUp disk view parts l (command.Journal n) (answer.Refused refusal.Worn) l
   too_old l n old = refused disk view parts only_now sound_holds l (command.Journal n) refusal.Worn (λ g up. journal_worn g (running disk view parts l) n old)
 
@@ -67,23 +69,30 @@ module _ {D S : Type 0} (disk : D → Disk) (view : S → View D) (parts : S →
     new = disk (view s).beneath
 
     abbrev moments : Type 0
-    moments = LeavesOneOf old new a.saved (next_journaled age n (words_now (parts l.store) n) a.frozen a.saved (is_page_now (parts l.store) n) (is_still_saved (parts l.store) a.saved n))
+    moments = LeavesOneOf old new a.saved
+        (next_journaled age n (words_now (parts l.store) n) a.frozen a.saved (is_page_now (parts l.store) n) (is_still_saved (parts l.store) a.saved n))
 
     -- no device call was made
-    turned_away : (why : Refusal) → s ≡ l.store → ((g : Geometry) → IsUp disk view parts g l → machine.refusal_of g (running disk view parts l) (command.Journal n) ≡ Some why) →
+    turned_away : (why : Refusal) → s ≡ l.store →
+        ((g : Geometry) → IsUp disk view parts g l → machine.refusal_of g (running disk view parts l) (command.Journal n) ≡ Some why) →
         ServesUp disk view parts l (command.Journal n) (answer.Refused why) (with_store l s)
     turned_away why same applies = refused_again disk view parts only_now sound_holds l s (command.Journal n) why same applies
 
-    module _ (same : AreSame (parts l.store) (parts s)) (size : new.sectors ≡ old.sectors) (run : LeavesOneOf (disk (view l.store).beneath) (disk (view s).beneath) (view l.store).snapshots.saved
-        (next_journaled ((view l.store).snapshots.saved.age + 1) n (words_now (parts l.store) n) (view l.store).snapshots.frozen (view l.store).snapshots.saved (is_page_now (parts l.store) n) (is_still_saved (parts l.store) (view l.store).snapshots.saved n)))
+    module _ (same : AreSame (parts l.store) (parts s)) (size : new.sectors ≡ old.sectors)
+        (run : LeavesOneOf (disk (view l.store).beneath) (disk (view s).beneath) (view l.store).snapshots.saved
+        (next_journaled ((view l.store).snapshots.saved.age + 1) n (words_now (parts l.store) n) (view l.store).snapshots.frozen (view l.store).snapshots.saved
+        (is_page_now (parts l.store) n) (is_still_saved (parts l.store) (view l.store).snapshots.saved n)))
         (none : (view l.store).snapshots.frozen ≡ None) (home : (view l.store).snapshots.saved.entries ≡ 0) (page : is_page_now (parts l.store) n ≡ true) where
-      run_by : (b : Bool) → is_still_saved (parts l.store) a.saved n ≡ b → LeavesOneOf old new a.saved (if b then Some (journaled_saved age n (words_now (parts l.store) n) a.saved) else None)
+      run_by : (b : Bool) → is_still_saved (parts l.store) a.saved n ≡ b →
+          LeavesOneOf old new a.saved (if b then Some (journaled_saved age n (words_now (parts l.store) n) a.saved) else None)
       run_by b is = subst (λ (o : Option SavedFrames). LeavesOneOf old new a.saved o)
-          (next_is age n (words_now (parts l.store) n) a.frozen a.saved (is_page_now (parts l.store) n) (is_still_saved (parts l.store) a.saved n) b none home page is) run
+          (next_is age n (words_now (parts l.store) n) a.frozen a.saved (is_page_now (parts l.store) n) (is_still_saved (parts l.store) a.saved n) b none home
+          page is) run
 
       -- what a crash leaves of it
       along : (b : Bool) → is_still_saved (parts l.store) a.saved n ≡ b → (g : Geometry) → IsUp disk view parts g l →
-          LeavesOne g (disk_at disk view parts l) (disk (view s).beneath) (saved_of (view l.store).snapshots.saved ∷ second (Up (running disk view parts l)) (command.Journal n))
+          LeavesOne g (disk_at disk view parts l) (disk (view s).beneath)
+          (saved_of (view l.store).snapshots.saved ∷ second (Up (running disk view parts l)) (command.Journal n))
       along false is g up = leaves_along g old new a.saved (second (Up (running disk view parts l)) (command.Journal n)) up.sound.saved size (run_by false is)
       along true is g up =
           let sound = up.sound in
@@ -92,13 +101,16 @@ module _ {D S : Type 0} (disk : D → Disk) (view : S → View D) (parts : S →
           (ap (λ (x : Saved). x ∷ []) (saved_next g p a l.banks l.age l.frozen_age sound n none page is young)
           ∙ sym (second_of_journal g (running disk view parts l) n young (frozen_none a.frozen l.frozen_age none) home
           (page_now g p a l.banks l.age l.frozen_age sound n none page) (saved_too g p a l.banks l.age l.frozen_age sound n none page is young)))
-          (leaves_either g old new a.saved (journaled_saved age n (words_now p n) a.saved) sound.saved (sound_next g p a l.banks l.age l.frozen_age sound n none page is young) size (run_by true is))
+          (leaves_either g old new a.saved (journaled_saved age n (words_now p n) a.saved) sound.saved
+          (sound_next g p a l.banks l.age l.frozen_age sound n none page is young) size (run_by true is))
 
       pub journal_failed : ServesUp disk view parts l (command.Journal n) (answer.Refused refusal.Fault) (with_store l s)
-      journal_failed = failed disk view parts only_now sound_holds l (with_store l s) (command.Journal n) (along (is_still_saved (parts l.store) a.saved n) refl)
+      journal_failed = failed disk view parts only_now sound_holds l (with_store l s) (command.Journal n)
+          (along (is_still_saved (parts l.store) a.saved n) refl)
 
       -- it isn't saved, or was given up since
-      pub not_saved : is_still_saved (parts l.store) (view l.store).snapshots.saved n ≡ false → (view s).snapshots ≡ (view l.store).snapshots → (view s).is_sound →
+      pub not_saved : is_still_saved (parts l.store) (view l.store).snapshots.saved n ≡ false → (view s).snapshots ≡ (view l.store).snapshots →
+          (view s).is_sound →
           ServesUp disk view parts l (command.Journal n) (answer.Refused (refusal.NotJournaled Renewed)) (with_store l s)
       not_saved other beside sound g up =
           let p = parts l.store in
@@ -106,16 +118,20 @@ module _ {D S : Type 0} (disk : D → Disk) (view : S → View D) (parts : S →
           let known = known_now g p a l.banks l.age l.frozen_age up.sound n none page in
           record {
             step = λ not_fault.
-                subst (λ (x : Running). Step g (Up r) (command.Journal n) (answer.Refused (refusal.NotJournaled Renewed)) (Up x)) (sym (same_running g p (parts s) same a (view s).snapshots beside l.age l.frozen_age))
+                subst (λ (x : Running). Step g (Up r) (command.Journal n) (answer.Refused (refusal.NotJournaled Renewed)) (Up x))
+                (sym (same_running g p (parts s) same a (view s).snapshots beside l.age l.frozen_age))
                 (refused_step g r (command.Journal n) (refusal.NotJournaled Renewed)
-                (journal_renewed g r n young (frozen_none a.frozen l.frozen_age none) home known (page_now g p a l.banks l.age l.frozen_age up.sound n none page)
+                (journal_renewed g r n young (frozen_none a.frozen l.frozen_age none) home known
+                (page_now g p a l.banks l.age l.frozen_age up.sound n none page)
                 (sym (saved_is g p a l.banks l.age l.frozen_age up.sound n none known) ∙ other)));
-            up = λ not_fault. is_up disk view parts only_now sound_holds g (with_store l s) sound (stays_sound g p (parts s) same a (view s).snapshots beside l.banks l.age l.frozen_age up.sound);
+            up = λ not_fault. is_up disk view parts only_now sound_holds g (with_store l s) sound
+                (stays_sound g p (parts s) same a (view s).snapshots beside l.banks l.age l.frozen_age up.sound);
             leaves = along false other g up;
           }
 
       -- it is saved
-      pub journal_went : is_still_saved (parts l.store) (view l.store).snapshots.saved n ≡ true → (generation : ℕ) → generation ≡ (view l.store).snapshots.saved.generation + 2 →
+      pub journal_went : is_still_saved (parts l.store) (view l.store).snapshots.saved n ≡ true → (generation : ℕ) →
+          generation ≡ (view l.store).snapshots.saved.generation + 2 →
           (view s).snapshots ≡ journaled ((view l.store).snapshots.saved.age + 1) n (words_now (parts l.store) n) (view l.store).snapshots → (view s).is_sound →
           ServesUp disk view parts l (command.Journal n) (answer.Journaled generation) (with_age l s (l.age + 1))
       journal_went is generation reported beside sound g up =
@@ -125,25 +141,33 @@ module _ {D S : Type 0} (disk : D → Disk) (view : S → View D) (parts : S →
           record {
             step = λ not_fault.
                 subst (λ (x : Running). Step g (Up r) (command.Journal n) (answer.Journaled generation) (Up x))
-                (sym (same_running g p (parts s) same b (view s).snapshots beside (l.age + 1) l.frozen_age ∙ running_next g p a l.banks l.age l.frozen_age up.sound n none page is young))
-                (subst (λ (k : ℕ). Step g (Up r) (command.Journal n) (answer.Journaled k) (let now : World = record { objects = r.now.objects; age = r.now.age + 1 } in Up (record r { now = now; saved = machine.journaled r n; to_move = 1 }))) (sym reported)
+                (sym (same_running g p (parts s) same b (view s).snapshots beside (l.age + 1) l.frozen_age ∙
+                running_next g p a l.banks l.age l.frozen_age up.sound n none page is young))
+                (subst (λ (k : ℕ). Step g (Up r) (command.Journal n) (answer.Journaled k)
+                (let now : World = record { objects = r.now.objects; age = r.now.age + 1 } in Up
+                (record r { now = now; saved = machine.journaled r n; to_move = 1 }))) (sym reported)
                 (journal_step g r n young (frozen_none a.frozen l.frozen_age none) home (known_now g p a l.banks l.age l.frozen_age up.sound n none page)
                 (page_now g p a l.banks l.age l.frozen_age up.sound n none page) (saved_too g p a l.banks l.age l.frozen_age up.sound n none page is young)));
             up = λ not_fault. is_up disk view parts only_now sound_holds g (with_age l s (l.age + 1)) sound
-                (stays_sound g p (parts s) same b (view s).snapshots beside l.banks (l.age + 1) l.frozen_age (together_next g p a l.banks l.age l.frozen_age up.sound n none page is young));
+                (stays_sound g p (parts s) same b (view s).snapshots beside l.banks (l.age + 1) l.frozen_age
+                (together_next g p a l.banks l.age l.frozen_age up.sound n none page is young));
             leaves = along true is g up;
           }
 
     -- it is refused
     pub journal_refused : (why : Refusal) → AreSame (parts l.store) (parts s) → (disk (view s).beneath).sectors ≡ (disk (view l.store).beneath).sectors →
-        IsJournalAnswer (disk (view l.store).beneath) (disk (view s).beneath) (left_in whole (view l.store).snapshots) (view l.store).snapshots.saved (nat_lt n (length (parts l.store).headers)) (is_page_now (parts l.store) n) (is_still_saved (parts l.store) (view l.store).snapshots.saved n) (Err why) →
+        IsJournalAnswer (disk (view l.store).beneath) (disk (view s).beneath) (left_in whole (view l.store).snapshots) (view l.store).snapshots.saved
+        (nat_lt n (length (parts l.store).headers)) (is_page_now (parts l.store) n) (is_still_saved (parts l.store) (view l.store).snapshots.saved n)
+        (Err why) →
         (IsTurnedAway (Err why) → s ≡ l.store) → (view s).snapshots ≡ (view l.store).snapshots → (IsErrOf {T = ℕ} (Err why) refusal.Fault ⊎ (view s).is_sound) →
         LeavesOneOf (disk (view l.store).beneath) (disk (view s).beneath) (view l.store).snapshots.saved
-        (next_journaled ((view l.store).snapshots.saved.age + 1) n (words_now (parts l.store) n) (view l.store).snapshots.frozen (view l.store).snapshots.saved (is_page_now (parts l.store) n) (is_still_saved (parts l.store) (view l.store).snapshots.saved n)) →
+        (next_journaled ((view l.store).snapshots.saved.age + 1) n (words_now (parts l.store) n) (view l.store).snapshots.frozen (view l.store).snapshots.saved
+        (is_page_now (parts l.store) n) (is_still_saved (parts l.store) (view l.store).snapshots.saved n)) →
         ServesUp disk view parts l (command.Journal n) (answer.Refused why) (with_store l s)
     journal_refused refusal.CheckpointRunning same size reported away beside sound run =
         let f = some_there a.frozen reported.1 in
-        turned_away refusal.CheckpointRunning (away tt) (λ g up. journal_running g (running disk view parts l) n young _ (frozen_some a.frozen f.0 l.frozen_age f.1))
+        turned_away refusal.CheckpointRunning (away tt)
+        (λ g up. journal_running g (running disk view parts l) n young _ (frozen_some a.frozen f.0 l.frozen_age f.1))
     journal_refused refusal.MigrationPending same size reported away beside sound run =
         turned_away refusal.MigrationPending (away tt)
         (λ g up. journal_pending g (running disk view parts l) n young (frozen_none a.frozen l.frozen_age (none_there a.frozen reported.1)) reported.2)
@@ -162,7 +186,8 @@ module _ {D S : Type 0} (disk : D → Disk) (view : S → View D) (parts : S →
     journal_refused why same size reported away beside sound run = absurd reported
 
 -- who failed is reported where a store refuses
-pub journal_cause : (old new : Disk) (left : Option ℕ) (s : SavedFrames) (known page saved : Bool) (why : Refusal) → IsJournalAnswer old new left s known page saved (Err why) → IsCaused old new (answer.Refused why)
+pub journal_cause : (old new : Disk) (left : Option ℕ) (s : SavedFrames) (known page saved : Bool) (why : Refusal) →
+    IsJournalAnswer old new left s known page saved (Err why) → IsCaused old new (answer.Refused why)
 journal_cause old new left s known page saved refusal.Fault reported = failed_cause old new reported.0
 journal_cause old new left s known page saved refusal.CheckpointRunning reported = other_cause old new refusal.CheckpointRunning reported.0 (λ e. cc)
 journal_cause old new left s known page saved refusal.MigrationPending reported = other_cause old new refusal.MigrationPending reported.0 (λ e. cc)

@@ -4,9 +4,8 @@ use Rattle.kernel.proofs.Names.{Answer, Command, Geometry, Machine, Running, Sav
 use Rattle.kernel.proofs.Names.{second, Only, Disk, Elapses, LeavesOnly, agrees_is, CountsNow, OnlyNow, goes_on_cut, leaves_on, leaves_weaker, started}
 use Rattle.kernel.proofs.Names.{OpenFault, Parts, View, Live, Power, power_of, saved_of, DenotesOne, Leaves, LeavesOne, RefusesToOpen, Recovers, IsNoReason}
 use Rattle.kernel.proofs.Names.{IsSomeDown, Opens, ReopensAs, Reopened, IsSomeUp, IsUp, running, IsCaused, IsDeviceOf, IsSomeMachine, Serves, ServesFrom}
-use Rattle.kernel.proofs.Names.{ServesUp, Stands, disk_of, one_denoted, one_not_bad}
+use Rattle.kernel.proofs.Names.{ServesUp, Stands, disk_of, one_denoted, one_not_bad, refused_by, true, takes_memory, wants_memory_to_show}
 use Rattle.std.proofs.Common.{◌≡◌, ◌↔◌, ◌⊎◌, ◌<◌, ◌≤◌, ◌∷◌, ◌++◌, ◌∙◌}
-use Rattle.kernel.specs.Opening.{refused_by}
 use Rattle.model.specs.declared.answer.Answer.TheVariants as answer
 use Rattle.model.specs.declared.answer.Refusal.TheVariants as refusal
 use Rattle.model.specs.declared.command.Command.TheVariants as command
@@ -60,7 +59,8 @@ reopens_step g m c a after (inr is) again = subst (λ (x : Command). Step g m x 
 more_left : (g : Geometry) (old new : Disk) (ss ts : List Saved) → LeavesOne g old new ss → LeavesOne g old new (ss ++ ts)
 more_left g old new ss ts run = record {
   size = run.size;
-  any_moment = leaves_weaker {old = old} {new = new} {P = DenotesOne g old.sectors ss} (DenotesOne g old.sectors (ss ++ ts)) (λ c one. among g old.sectors c ss ts one) run.any_moment;
+  any_moment = leaves_weaker {old = old} {new = new} {P = DenotesOne g old.sectors ss} (DenotesOne g old.sectors (ss ++ ts))
+      (λ c one. among g old.sectors c ss ts one) run.any_moment;
 }
 
 -- one run after another
@@ -72,7 +72,8 @@ left_on g old mid new ss first next = record {
 }
 
 -- the power was cut: a crash leaves what it left
-module _ (g : Geometry) (old new : Disk) (ss : List Saved) (left : old.may_leave new.seen) (durable : Only new.seen new) (size : new.sectors ≡ old.sectors) (before : Leaves g old ss) where
+module _ (g : Geometry) (old new : Disk) (ss : List Saved) (left : old.may_leave new.seen) (durable : Only new.seen new) (size : new.sectors ≡ old.sectors)
+    (before : Leaves g old ss) where
   pub cut_leaves : Leaves g new ss
   cut_leaves c now =
       subst (λ (n : ℕ). DenotesOne g n ss c) (sym size)
@@ -81,14 +82,16 @@ module _ (g : Geometry) (old new : Disk) (ss : List Saved) (left : old.may_leave
   pub cut_left : OnlyNow old → CountsNow old → Elapses old new → LeavesOne g old new ss
   cut_left only_now counts_now time = record {
     size = size;
-    any_moment = goes_on_cut {old = old} {mid = old} {new = new} {P = DenotesOne g old.sectors ss} (started old (DenotesOne g old.sectors ss) only_now before) counts_now time left durable;
+    any_moment = goes_on_cut {old = old} {mid = old} {new = new} {P = DenotesOne g old.sectors ss} (started old (DenotesOne g old.sectors ss) only_now before)
+        counts_now time left durable;
   }
 
 module _ {D S : Type 0} (disk : D → Disk) (view : S → View D) (parts : S → Parts) where
   -- ---- a command that goes on
 
   -- the store of a kernel is up
-  pub some_up : (o : Option (Live S)) (d : Option D) (l : Live S) → o ≡ Some l → IsSomeMachine disk view parts (power_of o d) → IsSomeMachine disk view parts (power.Up l)
+  pub some_up : (o : Option (Live S)) (d : Option D) (l : Live S) → o ≡ Some l → IsSomeMachine disk view parts (power_of o d) →
+      IsSomeMachine disk view parts (power.Up l)
   some_up o d l is some = subst (λ (x : Option (Live S)). IsSomeMachine disk view parts (power_of x d)) is some
 
   pub requested_up : (o : Option (Live S)) (d : Option D) (l : Live S) → o ≡ Some l → IsSomeMachine disk view parts (power_of o d) → IsSomeUp disk view parts l
@@ -99,7 +102,8 @@ module _ {D S : Type 0} (disk : D → Disk) (view : S → View D) (parts : S →
       go (g, Down saved, stands) = absurd stands
 
   -- it answered
-  pub stays_up : (l k : Live S) (c : Command) (a : Answer) → (a ≡ answer.Refused refusal.Fault → ⊥) → ServesUp disk view parts l c a k → Serves disk view parts (power.Up l) c a (power.Up k)
+  pub stays_up : (l k : Live S) (c : Command) (a : Answer) → (a ≡ answer.Refused refusal.Fault → ⊥) → ServesUp disk view parts l c a k →
+      Serves disk view parts (power.Up l) c a (power.Up k)
   stays_up l k c a fine serves g (Up r) stands =
       let s = serves g stands.0 in
       subst (λ (x : Running). ServesFrom disk view parts g (Up x) (power.Up l) c a (power.Up k)) (sym stands.1) (record {
@@ -111,13 +115,15 @@ module _ {D S : Type 0} (disk : D → Disk) (view : S → View D) (parts : S →
   stays_up l k c a fine serves g (Down saved) stands = absurd stands
 
   -- the device failed, and was given back
-  pub goes_down : (l k : Live S) (c : Command) (d : D) → CountsNow (disk d) → ServesUp disk view parts l c (answer.Refused refusal.Fault) k → d ≡ (view k.store).beneath →
+  pub goes_down : (l k : Live S) (c : Command) (d : D) → CountsNow (disk d) → ServesUp disk view parts l c (answer.Refused refusal.Fault) k →
+      d ≡ (view k.store).beneath →
       Serves disk view parts (power.Up l) c (answer.Refused refusal.Fault) (power.Down d)
   goes_down l k c d counts_now serves is g (Up r) stands =
       let s = serves g stands.0 in
       let was : Machine = Up (running disk view parts l) in
       let ss : List Saved = candidates was ++ second was c in
-      let left : LeavesOne g (disk (view l.store).beneath) (disk d) ss = subst (λ (x : D). LeavesOne g (disk (view l.store).beneath) (disk x) ss) (sym is) s.leaves in
+      let left : LeavesOne g (disk (view l.store).beneath) (disk d) ss = subst (λ (x : D). LeavesOne g (disk (view l.store).beneath) (disk x) ss) (sym is)
+      s.leaves in
       subst (λ (x : Running). ServesFrom disk view parts g (Up x) (power.Up l) c (answer.Refused refusal.Fault) (power.Down d)) (sym stands.1) (record {
         after = Down ss;
         step = inr (inr (tt, refl, refl));
@@ -127,8 +133,16 @@ module _ {D S : Type 0} (disk : D → Disk) (view : S → View D) (parts : S →
   goes_down l k c d counts_now serves is g (Down saved) stands = absurd stands
 
   -- a kernel that served a command stands for a machine
-  pub some_after : (p q : Power D S) (c : Command) (a : Answer) → Serves disk view parts p c a q → IsSomeMachine disk view parts p → IsSomeMachine disk view parts q
+  pub some_after : (p q : Power D S) (c : Command) (a : Answer) → Serves disk view parts p c a q → IsSomeMachine disk view parts p →
+      IsSomeMachine disk view parts q
   some_after p q c a serves some = let s = serves some.0 some.1 some.2 in (some.0, s.after, s.stands)
+
+  -- only what shows an object or opens the device may be answered `no memory`
+  pub memory_taken : (p q : Power D S) (c : Command) (a : Answer) → Serves disk view parts p c a q → IsSomeMachine disk view parts p →
+      a ≡ answer.Refused refusal.NoMemory → takes_memory c ≡ true
+  memory_taken p q c a serves some is =
+      let from = serves some.0 some.1 some.2 in
+      wants_memory_to_show some.0 some.1 c from.after (subst (λ (x : Answer). Step some.0 some.1 c x from.after) is from.step)
 
   -- ---- opened, and opened again
 
@@ -149,7 +163,8 @@ module _ {D S : Type 0} (disk : D → Disk) (view : S → View D) (parts : S →
   opened_some device l recovers = let opens = opens_up device l recovers in (opens.geometry, Up (opened opens.geometry opens.saved), opens.stands)
 
   module _ (device : D) (seen_left : (disk device).may_leave (disk device).seen) (g : Geometry) (ss : List Saved) (leaves : Leaves g (disk device) ss) where
-    pub rises : (l : Live S) (generation age : ℕ) → Recovers disk view parts device l → generation ≡ (view l.store).snapshots.saved.generation → age ≡ (view l.store).snapshots.saved.age →
+    pub rises : (l : Live S) (generation age : ℕ) → Recovers disk view parts device l → generation ≡ (view l.store).snapshots.saved.generation →
+        age ≡ (view l.store).snapshots.saved.age →
         Reopened disk view parts g ss device (answer.At generation age) (power.Up l)
     rises l generation age recovers same_generation same_age =
         let fs = (view l.store).snapshots.saved in
@@ -164,17 +179,20 @@ module _ {D S : Type 0} (disk : D → Disk) (view : S → View D) (parts : S →
           );
           leaves = record {
             size = recovers.only_reads.size;
-            any_moment = leaves_weaker {old = disk device} {new = disk (view l.store).beneath} {P = (disk device).may_leave} (DenotesOne g (disk device).sectors ss) leaves recovers.only_reads.any_moment;
+            any_moment = leaves_weaker {old = disk device} {new = disk (view l.store).beneath} {P = (disk device).may_leave}
+                (DenotesOne g (disk device).sectors ss) leaves recovers.only_reads.any_moment;
           };
         }
 
-    pub stays_down : (why : OpenFault) (back : D) → RefusesToOpen disk device back why → Reopened disk view parts g ss device (answer.Refused (refused_by why)) (power.Down back)
+    pub stays_down : (why : OpenFault) (back : D) → RefusesToOpen disk device back why → Reopened disk view parts g ss device (answer.Refused (refused_by why))
+        (power.Down back)
     stays_down why back refuses = reported why refuses
       where
         run : LeavesOne g (disk device) (disk back) ss
         run = record {
           size = refuses.only_reads.size;
-          any_moment = leaves_weaker {old = disk device} {new = disk back} {P = (disk device).may_leave} (DenotesOne g (disk device).sectors ss) leaves refuses.only_reads.any_moment;
+          any_moment = leaves_weaker {old = disk device} {new = disk back} {P = (disk device).may_leave} (DenotesOne g (disk device).sectors ss) leaves
+              refuses.only_reads.any_moment;
         }
 
         still : Leaves g (disk back) ss
@@ -183,10 +201,12 @@ module _ {D S : Type 0} (disk : D → Disk) (view : S → View D) (parts : S →
         reported : (e : OpenFault) → RefusesToOpen disk device back e → Reopened disk view parts g ss device (answer.Refused (refused_by e)) (power.Down back)
         reported fault.Failed r = record { after = Down ss; step = inr (inr (refl, refl)); stands = still; leaves = run }
         reported fault.NoMemory r = record { after = Down ss; step = inr (inl (refl, refl)); stands = still; leaves = run }
-        reported (fault.Bad reason) r = absurd (one_not_bad g (disk device).sectors (disk device).seen ss reason (leaves (disk device).seen seen_left) r.is_why.1)
+        reported (fault.Bad reason) r = absurd
+            (one_not_bad g (disk device).sectors (disk device).seen ss reason (leaves (disk device).seen seen_left) r.is_why.1)
 
   -- a device that a crash of a kernel left is an image
-  pub no_reason : (device back : D) (why : OpenFault) → (disk device).may_leave (disk device).seen → IsSomeDown disk device → RefusesToOpen disk device back why → IsNoReason why
+  pub no_reason : (device back : D) (why : OpenFault) → (disk device).may_leave (disk device).seen → IsSomeDown disk device →
+      RefusesToOpen disk device back why → IsNoReason why
   no_reason device back fault.Failed seen_left down refuses = tt
   no_reason device back fault.NoMemory seen_left down refuses = tt
   no_reason device back (fault.Bad reason) seen_left down refuses =
@@ -195,9 +215,11 @@ module _ {D S : Type 0} (disk : D → Disk) (view : S → View D) (parts : S →
   -- ---- restarts and power cuts
 
   -- what a crash leaves beneath a machine
-  beneath : (g : Geometry) (p : Power D S) (m : Machine) (d : D) → Stands disk view parts g p m → IsDeviceOf disk view parts p d → Leaves g (disk d) (candidates m)
+  beneath : (g : Geometry) (p : Power D S) (m : Machine) (d : D) → Stands disk view parts g p m → IsDeviceOf disk view parts p d →
+      Leaves g (disk d) (candidates m)
   beneath g (power.Up l) (Up r) d stands is =
-      subst (λ (x : Running). Leaves g (disk d) (x.saved ∷ [])) (sym stands.1) (subst (λ (x : D). Leaves g (disk x) (saved_of (view l.store).snapshots.saved ∷ [])) (sym is) stands.0.leaves)
+      subst (λ (x : Running). Leaves g (disk d) (x.saved ∷ [])) (sym stands.1)
+      (subst (λ (x : D). Leaves g (disk x) (saved_of (view l.store).snapshots.saved ∷ [])) (sym is) stands.0.leaves)
   beneath g (power.Down e) (Down saved) d stands is = subst (λ (x : D). Leaves g (disk x) saved) (sym is) stands
   beneath g (power.Up l) (Down saved) d stands is = absurd stands
   beneath g (power.Down e) (Up r) d stands is = absurd stands
@@ -211,7 +233,8 @@ module _ {D S : Type 0} (disk : D → Disk) (view : S → View D) (parts : S →
   pub some_down : (p : Power D S) (d : D) → IsSomeMachine disk view parts p → IsDeviceOf disk view parts p d → IsSomeDown disk d
   some_down p d some is = (some.0, candidates some.1, beneath some.0 p some.1 d some.2 is)
 
-  pub risen_some : (q : Power D S) (e : D) (a : Answer) → IsSomeDown disk e → ((g : Geometry) (ss : List Saved) → Leaves g (disk e) ss → Reopened disk view parts g ss e a q) → IsSomeMachine disk view parts q
+  pub risen_some : (q : Power D S) (e : D) (a : Answer) → IsSomeDown disk e →
+      ((g : Geometry) (ss : List Saved) → Leaves g (disk e) ss → Reopened disk view parts g ss e a q) → IsSomeMachine disk view parts q
   risen_some q e a down again = let r = again down.0 down.1 down.2 in (down.0, r.after, r.stands)
 
   module _ (p q : Power D S) (d : D) (c : Command) (a : Answer) (is : IsDeviceOf disk view parts p d) (which : (c ≡ command.Restart) ⊎ (c ≡ command.Cut)) where
@@ -230,25 +253,30 @@ module _ {D S : Type 0} (disk : D → Disk) (view : S → View D) (parts : S →
               (more_left g (disk d) (disk_of disk view parts q) ss (second m c) (left_on g (disk d) (disk e) (disk_of disk view parts q) ss first.0 r.leaves));
         }
 
-    pub again_caused : (e : D) → (disk e).failures ≡ (disk d).failures → IsCaused (disk e) (disk_of disk view parts q) a → IsCaused (disk_of disk view parts p) (disk_of disk view parts q) a
+    pub again_caused : (e : D) → (disk e).failures ≡ (disk d).failures → IsCaused (disk e) (disk_of disk view parts q) a →
+        IsCaused (disk_of disk view parts p) (disk_of disk view parts q) a
     again_caused e same caused = disk_is p d (λ (x : Disk). IsCaused x (disk_of disk view parts q) a) is (record {
       later = subst (λ (n : ℕ). n ≤ (disk_of disk view parts q).failures) same caused.later;
       exact = subst (λ (n : ℕ). (a ≡ answer.Refused refusal.Fault) ↔ (n < (disk_of disk view parts q).failures)) same caused.exact;
     })
 
   -- the device was left alone, or its power was cut
-  pub left_alone : (d : D) → OnlyNow (disk d) → (g : Geometry) (ss : List Saved) → Leaves g (disk d) ss → LeavesOne g (disk d) (disk d) ss × Leaves g (disk d) ss
+  pub left_alone : (d : D) → OnlyNow (disk d) → (g : Geometry) (ss : List Saved) → Leaves g (disk d) ss →
+      LeavesOne g (disk d) (disk d) ss × Leaves g (disk d) ss
   left_alone d only_now g ss leaves = (
     subst (λ (ts : List Saved). LeavesOne g (disk d) (disk d) ts) (append-nil ss) (leaves_here g (disk d) ss [] only_now leaves),
     leaves,
   )
 
-  pub left_cut : (d e : D) → OnlyNow (disk d) → CountsNow (disk d) → (disk d).may_leave (disk e).seen → Only (disk e).seen (disk e) → (disk e).sectors ≡ (disk d).sectors → Elapses (disk d) (disk e) →
+  pub left_cut : (d e : D) → OnlyNow (disk d) → CountsNow (disk d) → (disk d).may_leave (disk e).seen → Only (disk e).seen (disk e) →
+      (disk e).sectors ≡ (disk d).sectors → Elapses (disk d) (disk e) →
       (g : Geometry) (ss : List Saved) → Leaves g (disk d) ss → LeavesOne g (disk d) (disk e) ss × Leaves g (disk e) ss
   left_cut d e only_now counts_now left durable size time g ss leaves = (
     cut_left g (disk d) (disk e) ss left durable size leaves only_now counts_now time,
     cut_leaves g (disk d) (disk e) ss left durable size leaves,
   )
 
-  pub some_cut : (d e : D) → OnlyNow (disk d) → CountsNow (disk d) → (disk d).may_leave (disk e).seen → Only (disk e).seen (disk e) → (disk e).sectors ≡ (disk d).sectors → Elapses (disk d) (disk e) → IsSomeDown disk d → IsSomeDown disk e
-  some_cut d e only_now counts_now left durable size time down = (down.0, down.1, (left_cut d e only_now counts_now left durable size time down.0 down.1 down.2).1)
+  pub some_cut : (d e : D) → OnlyNow (disk d) → CountsNow (disk d) → (disk d).may_leave (disk e).seen → Only (disk e).seen (disk e) →
+      (disk e).sectors ≡ (disk d).sectors → Elapses (disk d) (disk e) → IsSomeDown disk d → IsSomeDown disk e
+  some_cut d e only_now counts_now left durable size time down =
+      (down.0, down.1, (left_cut d e only_now counts_now left durable size time down.0 down.1 down.2).1)

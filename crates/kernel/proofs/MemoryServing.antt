@@ -1,9 +1,9 @@
 -- The outcome of loads and stores over present frames, from what each part of them reported.
-use Rattle.kernel.proofs.Names.{ℕ, Bool, true, List, [], Option, None, Some, Result, Ok, Err, refl, sym, ap, subst, arith, IsErrOf, Answer, MemoryFault}
-use Rattle.kernel.proofs.Names.{Refusal, Command, Frame, ObjectHeader, Geometry, Object, header_at, objects_of, IsSoundFrames, Frozen, Saved, Machine, touching}
-use Rattle.kernel.proofs.Names.{touched_count, Step, is_process, is_running_process, with_word, none_in_frame, renewing_none, word_frame, SameFrame, frame_refl}
-use Rattle.kernel.proofs.Names.{tests_at, PrepareFault, IsUnchanged, OnlyReads, OnlyFetches, Parts, frames_of, objects_in, IsLoaded, IsStored, KeepsSound}
-use Rattle.kernel.proofs.Names.{OverfillsStore, renews_none, IsEarly, Performs, machine_at, renewed_by, refused_by}
+use Rattle.kernel.proofs.Names.{ℕ, Bool, true, List, [], Option, None, Some, Result, Ok, Err, sym, ap, subst, IsErrOf, Answer, MemoryFault, Refusal, Command}
+use Rattle.kernel.proofs.Names.{Frame, ObjectHeader, Geometry, Object, header_at, objects_of, IsSoundFrames, Frozen, Saved, Machine, touching, touched_count}
+use Rattle.kernel.proofs.Names.{Step, is_process, is_running_process, with_word, none_in_frame, renewing_none, word_frame, SameFrame, frame_refl, tests_at}
+use Rattle.kernel.proofs.Names.{PrepareFault, IsUnchanged, OnlyFetches, Parts, frames_of, objects_in, IsLoaded, IsStored, KeepsSound, OverfillsStore}
+use Rattle.kernel.proofs.Names.{renews_none, IsEarly, Performs, machine_at, renewed_by, FetchesOrFails, IsErr, Failed}
 use Rattle.std.proofs.Common.{◌≡◌, ◌↔◌, ◌%◌, ◌<◌, ◌≤◌, ◌∷◌, ◌∙◌}
 use Rattle.model.specs.declared.answer.Answer.TheVariants as answer
 use Rattle.model.specs.declared.answer.Refusal.TheVariants as refusal
@@ -12,12 +12,13 @@ use Rattle.capability.specs.declared.present.PrepareFault.TheVariants as prepare
 use Rattle.kernel.proofs.Performing.{AreSame, refused_serves, same_frames, same_renews, same_sound, serves_looked, standing, still_machine, reported_cause}
 use Rattle.kernel.proofs.Performing.{unfailed}
 use Rattle.kernel.proofs.ProcessSteps.{early_fine}
-use Rattle.kernel.proofs.MemorySteps.{load_early, load_step, load_without_memory, loaded_answer, store_early, store_fault_step, store_full_step, store_step}
-use Rattle.kernel.proofs.MemorySteps.{store_without_memory}
+use Rattle.kernel.proofs.MemorySteps.{load_early, load_step, loaded_answer, store_early, store_fault_step, store_full_step, store_step}
 
 -- what was only read is the same
-pub looked_same : {S : Type 0} (parts : S → Parts) (Continues : S → S → Type 0) (old new : S) → OnlyFetches parts Continues old new → AreSame (parts old) (parts new)
-looked_same parts Continues old new snapshots = record { headers = snapshots.headers; contents = snapshots.contents; touched = snapshots.touched; geometry = snapshots.geometry }
+pub looked_same : {S : Type 0} (parts : S → Parts) (Continues : S → S → Type 0) (old new : S) → OnlyFetches parts Continues old new →
+    AreSame (parts old) (parts new)
+looked_same parts Continues old new snapshots =
+    record { headers = snapshots.headers; contents = snapshots.contents; touched = snapshots.touched; geometry = snapshots.geometry }
 
 -- and so is what wasn't changed
 unchanged_same : (old new : Parts) → new.geometry ≡ old.geometry → IsUnchanged old new → AreSame old new
@@ -28,8 +29,11 @@ unchanged_same old new geometry unchanged =
 ok_unfailed : {T : Type 0} (t : T) → (let r : Result T PrepareFault = Ok t in IsErrOf r prepare.Failed) → ⊥
 ok_unfailed t e = cc
 
-err_unfailed : {T : Type 0} (f : PrepareFault) → (f ≡ prepare.Failed → ⊥) → (let r : Result T PrepareFault = Err f in IsErrOf r prepare.Failed) → ⊥
-err_unfailed f other e = let d : f ≡ prepare.Failed = cc in other d
+full_unfailed : {T : Type 0} (f : PrepareFault) → f ≡ prepare.LogFull → (let r : Result T PrepareFault = Err f in IsErrOf r prepare.Failed) → ⊥
+full_unfailed f is e = let d : f ≡ prepare.Failed = cc in cc
+
+no_err : {T : Type 0} (t : T) → IsErr {T = T} {E = Failed} (Ok t) → ⊥
+no_err t e = cc
 
 -- what a store answers
 abbrev pub stored_answer : Result (Unit {0}) MemoryFault → Answer
@@ -123,32 +127,11 @@ module _ {S : Type 0} (parts : S → Parts) (Continues : S → S → Type 0) (ag
   })
 
   pub load_answers : (loaded reported : Result ℕ MemoryFault) → loaded ≡ reported → IsLoaded (objects_in mid) p address loaded →
-      (let r : Result (Result ℕ MemoryFault) PrepareFault = Ok loaded in OnlyReads parts Continues between after r) →
+      FetchesOrFails {T = Result ℕ MemoryFault} parts Continues between after (Ok loaded) →
       Performs age old (command.Load p address) (loaded_answer reported) age new
-  load_answers loaded reported is found only_reads =
+  load_answers loaded reported is found fetches =
       subst (λ (r : Result ℕ MemoryFault). Performs age old (command.Load p address) (loaded_answer r) age new) is
-      (load_then loaded found (looked_same parts Continues between after only_reads.snapshots) only_reads.later (λ rose. ok_unfailed loaded (only_reads.cause.1 rose)))
-
-  failed_then : (c : Command) → AreSame mid new → mid.failures < new.failures → Performs age old c (answer.Refused refusal.Fault) age new
-  failed_then c unchanged rose =
-      serves_looked age age old mid new c (answer.Refused refusal.Fault) same failures
-      (refused_serves age mid new c refusal.Fault unchanged mid_sound (omega (arith, rose)) (λ e. rose, λ r. refl)
-      (λ renewed frozen saved to_move other. absurd (other refl)))
-
-  load_by : (f : PrepareFault) → (let r : Result (Result ℕ MemoryFault) PrepareFault = Err f in OnlyReads parts Continues between after r) →
-      Performs age old (command.Load p address) (answer.Refused (refused_by f)) age new
-  load_by prepare.NoMemory only_reads =
-      refused_then (command.Load p address) refusal.NoMemory (λ e. cc) (looked_same parts Continues between after only_reads.snapshots) only_reads.later
-      (λ rose. err_unfailed prepare.NoMemory (λ e. cc) (only_reads.cause.1 rose))
-      (λ renewed frozen saved to_move. load_without_memory mid.geometry _ p address process)
-  load_by prepare.LogFull only_reads = absurd (only_reads.room refl)
-  load_by prepare.Failed only_reads = failed_then (command.Load p address) (looked_same parts Continues between after only_reads.snapshots) (only_reads.cause.0 refl)
-
-  pub load_is_refused : (f : PrepareFault) (a : Answer) → a ≡ answer.Refused (refused_by f) →
-      (let r : Result (Result ℕ MemoryFault) PrepareFault = Err f in OnlyReads parts Continues between after r) →
-      Performs age old (command.Load p address) a age new
-  load_is_refused f a is only_reads =
-      subst (λ (b : Answer). Performs age old (command.Load p address) b age new) (sym is) (load_by f only_reads)
+      (load_then loaded found (looked_same parts Continues between after fetches.snapshots) fetches.later (λ rose. no_err loaded (fetches.cause.1 rose)))
 
   -- a store, after which the count of failures may have risen
   module _ (word : ℕ) (geometry : new.geometry ≡ mid.geometry) (headers : new.headers ≡ mid.headers) (later : mid.failures ≤ new.failures) where
@@ -171,7 +154,8 @@ module _ {S : Type 0} (parts : S → Parts) (Continues : S → S → Type 0) (ag
         (machine_at age new (renewed_by renewed mid new) frozen saved to_move)
     stored_step (Ok done) is renewed frozen saved to_move =
         subst (λ (m : Machine). Step mid.geometry (machine_at age mid renewed frozen saved to_move) (command.Store p address word) answer.Done m)
-        (machine_is age new renewed (renewed_by renewed mid new) frozen saved to_move (with_word (objects_in mid) is.0 (address % 512) word) (touching mid.touched (is.0 ∷ [])) is.2 is.3
+        (machine_is age new renewed (renewed_by renewed mid new) frozen saved to_move (with_word (objects_in mid) is.0 (address % 512) word)
+        (touching mid.touched (is.0 ∷ [])) is.2 is.3
         (sym (none_renewed renewed (stored_frame (Ok done) is))))
         (store_step mid.geometry _ p address word process running is.0 is.1 (subst (λ (ts : List Bool). touched_count ts ≤ mid.geometry.log) is.3 is.4))
     stored_step (Err why) is renewed frozen saved to_move =
@@ -197,27 +181,13 @@ module _ {S : Type 0} (parts : S → Parts) (Continues : S → S → Type 0) (ag
           cause = (λ e. absurd (stored_unfailed stored e), λ rose. absurd (ok_unfailed stored (cause.1 rose)));
         }))
 
-    store_by : (f : PrepareFault) → AreSame mid new →
+    pub store_full : (f : PrepareFault) → f ≡ prepare.LogFull → IsUnchanged mid new →
         (let r : Result (Result (Unit {0}) MemoryFault) PrepareFault = Err f in IsErrOf r prepare.Failed ↔ (mid.failures < new.failures)) →
         (let r : Result (Result (Unit {0}) MemoryFault) PrepareFault = Err f in IsErrOf r prepare.LogFull →
         OverfillsStore mid.geometry.log (objects_in mid) mid.touched p address) →
-        Performs age old (command.Store p address word) (answer.Refused (refused_by f)) age new
-    store_by prepare.NoMemory unchanged cause full =
-        refused_then (command.Store p address word) refusal.NoMemory (λ e. cc) unchanged later
-        (λ rose. err_unfailed prepare.NoMemory (λ e. cc) (cause.1 rose))
-        (λ renewed frozen saved to_move. store_without_memory mid.geometry _ p address word process)
-    store_by prepare.LogFull unchanged cause full =
-        let over = full refl in
-        refused_then (command.Store p address word) refusal.LogFull (λ e. cc) unchanged later
-        (λ rose. err_unfailed prepare.LogFull (λ e. cc) (cause.1 rose))
+        Performs age old (command.Store p address word) (answer.Refused refusal.LogFull) age new
+    store_full f is unchanged cause full =
+        let over = full (ap (λ (k : PrepareFault). let r : Result (Result (Unit {0}) MemoryFault) PrepareFault = Err k in r) is) in
+        refused_then (command.Store p address word) refusal.LogFull (λ e. cc) (unchanged_same mid new geometry unchanged) later
+        (λ rose. full_unfailed f is (cause.1 rose))
         (λ renewed frozen saved to_move. store_full_step mid.geometry _ p address word process running over.0 over.1 over.2)
-    store_by prepare.Failed unchanged cause full = failed_then (command.Store p address word) unchanged (cause.0 refl)
-
-    pub store_is_refused : (f : PrepareFault) (a : Answer) → a ≡ answer.Refused (refused_by f) → IsUnchanged mid new →
-        (let r : Result (Result (Unit {0}) MemoryFault) PrepareFault = Err f in IsErrOf r prepare.Failed ↔ (mid.failures < new.failures)) →
-        (let r : Result (Result (Unit {0}) MemoryFault) PrepareFault = Err f in IsErrOf r prepare.LogFull →
-        OverfillsStore mid.geometry.log (objects_in mid) mid.touched p address) →
-        Performs age old (command.Store p address word) a age new
-    store_is_refused f a is unchanged cause full =
-        subst (λ (b : Answer). Performs age old (command.Store p address word) b age new) (sym is)
-        (store_by f (unchanged_same mid new geometry unchanged) cause full)

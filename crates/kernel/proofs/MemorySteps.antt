@@ -1,10 +1,9 @@
 -- Loads and stores as steps of the machine.
-use Rattle.kernel.proofs.Names.{ℕ, Bool, true, false, not, [], Option, None, Some, Result, Ok, Err, refl, sym, ap, inr, inl, arith, nat_tests, Access, Answer}
-use Rattle.kernel.proofs.Names.{MemoryFault, Refusal, Command, Geometry, Running, Up, Down, candidates, touching, touched_count, Step, Outcome, refusal_of}
-use Rattle.kernel.proofs.Names.{carried_out, of_running, opens, outcome, overfills, gives_way, reached, takes_memory, unless, writable, writing, is_process}
-use Rattle.kernel.proofs.Names.{is_running_process, with_word, word_at, IsLoaded, IsEarly}
+use Rattle.kernel.proofs.Names.{ℕ, Bool, true, false, not, [], Option, None, Some, Result, Ok, Err, refl, sym, ap, arith, nat_tests, Access, Answer}
+use Rattle.kernel.proofs.Names.{MemoryFault, Refusal, Command, Geometry, Running, Up, touching, touched_count, Step, Outcome, refusal_of, carried_out}
+use Rattle.kernel.proofs.Names.{of_running, outcome, overfills, reached, unless, writable, writing, is_process, is_running_process, with_word, word_at}
+use Rattle.kernel.proofs.Names.{IsLoaded, IsEarly}
 use Rattle.std.proofs.Common.{◌≡◌, ◌%◌, ◌<◌, ◌≤◌, ◌∷◌, ◌∙◌}
-use Rattle.std.specs.Prelude.{if◌then◌else◌, ◌&&◌}
 use Rattle.model.specs.declared.answer.Answer.TheVariants as answer
 use Rattle.model.specs.declared.answer.Refusal.TheVariants as refusal
 use Rattle.model.specs.declared.command.Command.TheVariants as command
@@ -18,27 +17,11 @@ module _ (g : Geometry) (s : Running) (c : Command) (p : ℕ) (next : Option Ref
   by : (a b : Bool) → is_process s.now.objects p ≡ a → is_running_process s.now.objects p ≡ b → refusal_of g s c ≡ in_order a b
   by a b as_a as_b = of ∙ ap (λ (x : Bool). in_order x (is_running_process s.now.objects p)) as_a ∙ ap (in_order a) as_b
 
-  module _ (memory : takes_memory c ≡ true) (stays : opens c ≡ false) (gives : gives_way next ≡ true) where
-    gives_way_rest : (b : Bool) → gives_way (in_order true b) ≡ true
-    gives_way_rest false = refl
-    gives_way_rest true = gives
-
-    -- want of memory may stand in place of whatever comes after a process was found
-    pub wants_memory : is_process s.now.objects p ≡ true → Step g (Up s) c (answer.Refused refusal.NoMemory) (Up s)
-    wants_memory process = inr (inl (
-      ap (λ (b : Bool). b && gives_way (refusal_of g s c)) memory
-          ∙ ap gives_way (by true (is_running_process s.now.objects p) process refl)
-          ∙ gives_way_rest (is_running_process s.now.objects p),
-      refl,
-      sym (ap (λ (b : Bool). if b then Down (candidates (Up s)) else Up s) stays),
-    ))
-
-    -- a process that can't act
-    pub cannot_act : (why : Refusal) → IsEarly s.now.objects p (Some why) → Step g (Up s) c (answer.Refused why) (Up s)
-    cannot_act refusal.NoProcess early = refused_step g s c refusal.NoProcess (by false (is_running_process s.now.objects p) early refl)
-    cannot_act refusal.NotRunning early = refused_step g s c refusal.NotRunning (by true false early.0 early.1)
-    cannot_act refusal.NoMemory early = wants_memory early
-    cannot_act _ early = absurd early
+  -- a process that can't act
+  pub cannot_act : (why : Refusal) → IsEarly s.now.objects p (Some why) → Step g (Up s) c (answer.Refused why) (Up s)
+  cannot_act refusal.NoProcess early = refused_step g s c refusal.NoProcess (by false (is_running_process s.now.objects p) early refl)
+  cannot_act refusal.NotRunning early = refused_step g s c refusal.NotRunning (by true false early.0 early.1)
+  cannot_act _ early = absurd early
 
 -- what a load answers
 abbrev pub loaded_answer : Result ℕ MemoryFault → Answer
@@ -51,12 +34,9 @@ module _ (g : Geometry) (s : Running) (p address : ℕ) where
   unfolding refusal_of
   load_order = refl
 
-  pub load_without_memory : is_process s.now.objects p ≡ true → Step g (Up s) (command.Load p address) (answer.Refused refusal.NoMemory) (Up s)
-  load_without_memory = wants_memory g s (command.Load p address) p None load_order refl refl refl
-
   pub load_early : (why : Refusal) → IsEarly s.now.objects p (Some why) →
       Step g (Up s) (command.Load p address) (answer.Refused why) (Up s)
-  load_early = cannot_act g s (command.Load p address) p None load_order refl refl refl
+  load_early = cannot_act g s (command.Load p address) p None load_order
 
   abbrev after_loading : Result (ℕ × Access) MemoryFault → Outcome
   after_loading r = elim r [
@@ -69,14 +49,16 @@ module _ (g : Geometry) (s : Running) (p address : ℕ) where
   loads r is = ap after_loading is
 
   module _ (process : is_process s.now.objects p ≡ true) (running : is_running_process s.now.objects p ≡ true) where
-    load_done : (r : Result (ℕ × Access) MemoryFault) → reached s.now.objects p address ≡ r → (a : Answer) → a ≡ (after_loading r).answer → s ≡ (after_loading r).after →
+    load_done : (r : Result (ℕ × Access) MemoryFault) → reached s.now.objects p address ≡ r → (a : Answer) → a ≡ (after_loading r).answer →
+        s ≡ (after_loading r).after →
         Step g (Up s) (command.Load p address) a (Up s)
     load_done r is a reported stays =
         done_step g s (command.Load p address) a (Up s) (by g s (command.Load p address) p None load_order true true process running)
         (reported ∙ ap (λ (o : Outcome). o.answer) (sym (loads r is)))
         (ap Up (stays ∙ ap (λ (o : Outcome). o.after) (sym (loads r is))))
 
-    pub load_step : (loaded : Result ℕ MemoryFault) → IsLoaded s.now.objects p address loaded → Step g (Up s) (command.Load p address) (loaded_answer loaded) (Up s)
+    pub load_step : (loaded : Result ℕ MemoryFault) → IsLoaded s.now.objects p address loaded →
+        Step g (Up s) (command.Load p address) (loaded_answer loaded) (Up s)
     load_step (Ok word) found = load_done (Ok found.0) found.1 (answer.Value word) (ap answer.Value found.2) refl
     load_step (Err why) is = load_done (Err why) is (answer.MemoryFault why) refl refl
 
@@ -92,24 +74,9 @@ module _ (g : Geometry) (s : Running) (p address word : ℕ) where
   unfolding refusal_of
   store_order = refl
 
-  full_gives : (b : Bool) → gives_way (unless b refusal.LogFull None) ≡ true
-  full_gives true = refl
-  full_gives false = refl
-
-  last_gives : (r : Result ℕ MemoryFault) → gives_way (full_or_none r) ≡ true
-  last_gives (Ok page) = full_gives (not (overfills g s.touched (page ∷ [])))
-  last_gives (Err why) = refl
-
-  pub store_without_memory : is_process s.now.objects p ≡ true → Step g (Up s) (command.Store p address word) (answer.Refused refusal.NoMemory) (Up s)
-  store_without_memory =
-      wants_memory g s (command.Store p address word) p (full_or_none (writable (reached s.now.objects p address))) store_order refl refl
-      (last_gives (writable (reached s.now.objects p address)))
-
   pub store_early : (why : Refusal) → IsEarly s.now.objects p (Some why) →
       Step g (Up s) (command.Store p address word) (answer.Refused why) (Up s)
-  store_early =
-      cannot_act g s (command.Store p address word) p (full_or_none (writable (reached s.now.objects p address))) store_order refl refl
-      (last_gives (writable (reached s.now.objects p address)))
+  store_early = cannot_act g s (command.Store p address word) p (full_or_none (writable (reached s.now.objects p address))) store_order
 
   abbrev after_storing : Result ℕ MemoryFault → Outcome
   after_storing r = elim r [
@@ -135,7 +102,8 @@ module _ (g : Geometry) (s : Running) (p address word : ℕ) where
         (ap (λ (o : Outcome). Up o.after) (sym (stores r is)))
 
     pub store_step : (page : ℕ) → writable (reached s.now.objects p address) ≡ Ok page → touched_count (touching s.touched (page ∷ [])) ≤ g.log →
-        Step g (Up s) (command.Store p address word) answer.Done (Up (writing s (with_word s.now.objects page (address % 512) word) s.now.age (page ∷ []) s.renewed))
+        Step g (Up s) (command.Store p address word) answer.Done
+        (Up (writing s (with_word s.now.objects page (address % 512) word) s.now.age (page ∷ []) s.renewed))
     store_step page is within =
         let fits : overfills g s.touched (page ∷ []) ≡ false = grind (arith, nat_tests) in
         store_done (Ok page) is (ap (λ (b : Bool). unless (not b) refusal.LogFull None) fits)

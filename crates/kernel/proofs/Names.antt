@@ -1,9 +1,11 @@
 -- The names that the proofs here cite: of other crates, and of the definitions of this one.
+pub use Rattle.capability.specs.Parts.{FetchesOrFails}
 pub use Rattle.address_space.specs.References.{IsLoaded, IsStored, KeepsSound, OverfillsStore}
-pub use Rattle.capability.proofs.Frames.{at_set, frame_in, headers_in, process_known}
+pub use Rattle.capability.proofs.FrameLists.{at_set, frame_in, headers_in, process_known}
 pub use Rattle.capability.proofs.Keeping.{keepable_count, keepable_later}
-pub use Rattle.capability.specs.Parts.{IsUnchanged, OnlyFetches, OnlyReads, Parts, Renews, frames_of, objects_in}
+pub use Rattle.capability.specs.Parts.{IsUnchanged, OnlyFetches, Parts, Renews, frames_of, objects_in}
 pub use Rattle.capability.specs.declared.present.PrepareFault.{PrepareFault}
+pub use Rattle.capability.specs.declared.present.ReadFault.{ReadFault}
 pub use Rattle.checkpoint.proofs.Lists.{maps_same}
 pub use Rattle.checkpoint.specs.Refused.{IsCommitAnswer, IsFreezeAnswer, IsJournalAnswer, IsRefused, IsTurnedAway}
 pub use Rattle.checkpoint.specs.Saved.{Holds, LeavesEither, LeavesOneOf, LeavesSaved, SavedFrames, home_saved, journaled_saved, most, with_words}
@@ -16,7 +18,7 @@ pub use Rattle.device.specs.Disk.{Disk, Image}
 pub use Rattle.device.specs.Moments.{Elapses, LeavesOnly}
 pub use Rattle.device.specs.declared.device.Failed.{Failed}
 pub use Rattle.gate.proofs.BankStates.{counted_looked, counted_on}
-pub use Rattle.gate.proofs.Known.{annex_known, one_known, same_frames}
+pub use Rattle.gate.proofs.Known.{annex_known, one_known}
 pub use Rattle.gate.proofs.Standing.{ReadsAs, keepable_most, looked_as}
 pub use Rattle.gate.specs.Invoke.{Invoked, Invokes, KeepsSoundFrames, TellsState}
 pub use Rattle.gate.specs.declared.fault.InvokeFault.{InvokeFault}
@@ -30,7 +32,7 @@ unfoldable pub use Rattle.model.specs.Machine.{renewing, untouched}
 pub use Rattle.model.specs.Object.{is_free, is_page, map_content, role_of, words_in}
 pub use Rattle.model.specs.Revoke.{is_given_up}
 pub use Rattle.model.specs.Sound.{IsOfKind, IsSound, object_count}
-pub use Rattle.model.specs.Step.{Outcome, Reopens, Step, at_home, committed, gives_way, moved, of_running, opens, outcome, overfills, reached, second, shown}
+pub use Rattle.model.specs.Step.{Outcome, Reopens, Step, at_home, committed, gives_way, moved, of_running, outcome, overfills, reached, second, shown}
 pub use Rattle.model.specs.Step.{takes_memory, unjournaled, unless, writable, writing}
 unfoldable pub use Rattle.model.specs.Step.{carried_out, refusal_of}
 pub use Rattle.model.specs.World.{World, content_at, is_process, is_running_process, owner_at, word_at}
@@ -54,6 +56,7 @@ pub use Rattle.model.specs.declared.order.ResultCode.{ResultCode}
 pub use Rattle.model_laws.proofs.GivenUp.{none_given_up, none_in_frame, renewing_none}
 pub use Rattle.model_laws.proofs.InvocationFrame.{word_frame}
 pub use Rattle.model_laws.proofs.Journaling.{journal_keeps_sound}
+pub use Rattle.model_laws.proofs.Stepping.{wants_memory_to_show}
 pub use Rattle.model_laws.proofs.Usage.{SameFrame, frame_refl, tests_at}
 pub use Rattle.object_store.specs.Journal.{is_page_now, is_page_role, is_still_saved, next_journaled, words_now}
 pub use Rattle.object_store.specs.Store.{Continues, FrozenFrames, IsStabilizeAnswer, View, all_frozen, stabilized, whole}
@@ -78,9 +81,8 @@ pub use Rattle.std.proofs.lemmas.List.FromFn.{get_or-map-range_with_len, length-
 pub use Rattle.std.specs.List.{All, Contains, range_with_len}
 pub use Rattle.std.specs.Prelude.{IfOk, IsErr, IsErrAnd, IsErrOf, nat_lt, option_map, slice_index_or}
 pub use Rattle.kernel.specs.Machine.{IsEarly, IsOfEarly, IsUnlooked, Performs, answer_of, answer_with, code_with, machine_at, renewed_by}
-pub use Rattle.kernel.specs.Opening.{IsNoReason, IsSomeDown, Opens, Reopened, ReopensAs}
+pub use Rattle.kernel.specs.Opening.{IsNoReason, IsSomeDown, Opens, Reopened, ReopensAs, refused_by}
 pub use Rattle.kernel.specs.Power.{Power, power_of}
-pub use Rattle.kernel.specs.Prepared.{refusal_by, refused_by}
+pub use Rattle.kernel.specs.Prepared.{refusal_by}
 pub use Rattle.kernel.specs.Standing.{HasCode, IsCaused, IsDeviceOf, IsSomeMachine, Serves, ServesFrom, ServesUp, Stands, disk_of, done_with, reported_code}
-pub use Rattle.kernel.specs.declared.processes.served.Served.{Served}
 pub use Rattle.kernel.specs.declared.processes.unserved.Unserved.{Unserved}

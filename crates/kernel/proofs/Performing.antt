@@ -3,15 +3,15 @@ use Rattle.kernel.proofs.Names.{ℕ, Bool, true, false, List, length, Option, Re
 use Rattle.kernel.proofs.Names.{Command, Invocation, Frame, Geometry, Object, ResultCode, ObjectHeader, frames_in, header_at, objects_of, IsSoundFrames}
 use Rattle.kernel.proofs.Names.{world_at, Frozen, Running, Saved, Machine, Up, renewing, touching, touched_count, is_free, Step, shown, content_at, is_process}
 use Rattle.kernel.proofs.Names.{is_running_process, none_given_up, renewing_none, Parts, Renews, frames_of, objects_in, keepable_count, IsErr, IsErrOf}
-use Rattle.kernel.proofs.Names.{PrepareFault, InvokeFault, Invoked, Invokes, KeepsSoundFrames, TellsState, Failed, renews_after, renews_none, Performs}
-use Rattle.kernel.proofs.Names.{machine_at, renewed_by, refusal_by, refused_by}
+use Rattle.kernel.proofs.Names.{InvokeFault, Invoked, Invokes, KeepsSoundFrames, TellsState, Failed, renews_after, renews_none, Performs, machine_at}
+use Rattle.kernel.proofs.Names.{renewed_by, refusal_by, ReadFault}
 use Rattle.std.proofs.Common.{◌≡◌, ◌↔◌, ◌+◌, ◌^◌, ◌<◌, ◌≤◌, ◌∙◌}
 use Rattle.model.specs.declared.answer.Answer.TheVariants as answer
 use Rattle.model.specs.declared.answer.Refusal.TheVariants as refusal
 use Rattle.model.specs.declared.command.Command.TheVariants as command
-use Rattle.capability.specs.declared.present.PrepareFault.TheVariants as prepare
+use Rattle.capability.specs.declared.present.ReadFault.TheVariants as read
 use Rattle.gate.specs.declared.fault.InvokeFault.TheVariants as fault
-use Rattle.kernel.proofs.ProcessSteps.{bad_number_step, early_step, full_step, invoke_step, no_memory_step, show_no_memory, show_step, stalled_step}
+use Rattle.kernel.proofs.ProcessSteps.{bad_number_step, early_step, full_step, invoke_step, show_no_memory, show_step, stalled_step}
 
 -- the same parts but for failures
 pub record AreSame (old new : Parts) : Type 0 where
@@ -29,10 +29,14 @@ module _ (old new : Parts) (same : AreSame old new) where
       subst (λ (g : Geometry). IsSoundFrames g age (frames_of new)) (sym same.geometry)
       (subst (λ (fs : List Frame). IsSoundFrames old.geometry age fs) (sym same_frames) sound)
 
-  pub same_machine : (age : ℕ) (renewed : List Bool) (frozen : Option Frozen) (saved : Saved) (to_move : ℕ) → machine_at age new renewed frozen saved to_move ≡ machine_at age old renewed frozen saved to_move
+  pub same_machine : (age : ℕ) (renewed : List Bool) (frozen : Option Frozen) (saved : Saved) (to_move : ℕ) →
+      machine_at age new renewed frozen saved to_move ≡ machine_at age old renewed frozen saved to_move
   same_machine age renewed frozen saved to_move =
-      ap (λ (fs : List Frame). let r : Running = record { now = world_at age fs; touched = new.touched; renewed = renewed; frozen = frozen; saved = saved; to_move = to_move } in Up r) same_frames
-      ∙ ap (λ (ts : List Bool). let r : Running = record { now = world_at age (frames_of old); touched = ts; renewed = renewed; frozen = frozen; saved = saved; to_move = to_move } in Up r) same.touched
+      ap (λ (fs : List Frame). let r : Running =
+      record { now = world_at age fs; touched = new.touched; renewed = renewed; frozen = frozen; saved = saved; to_move = to_move } in Up r) same_frames
+      ∙ ap (λ (ts : List Bool). let r : Running =
+      record { now = world_at age (frames_of old); touched = ts; renewed = renewed; frozen = frozen; saved = saved; to_move = to_move } in Up r)
+      same.touched
 
   -- nothing is given up
   pub same_renews : Renews old new
@@ -51,14 +55,16 @@ module _ (old new : Parts) (same : AreSame old new) where
       ap (λ (rs : List Bool). machine_at age new rs frozen saved to_move) (same_renewed renewed) ∙ same_machine age renewed frozen saved to_move
 
 -- a refusal that changes nothing
-pub refused_serves : (age : ℕ) (old new : Parts) (c : Command) (why : Refusal) → AreSame old new → IsSoundFrames old.geometry age (frames_of old) → old.failures ≤ new.failures →
+pub refused_serves : (age : ℕ) (old new : Parts) (c : Command) (why : Refusal) → AreSame old new → IsSoundFrames old.geometry age (frames_of old) →
+    old.failures ≤ new.failures →
     ((why ≡ refusal.Fault) ↔ (old.failures < new.failures)) →
     ((renewed : List Bool) (frozen : Option Frozen) (saved : Saved) (to_move : ℕ) → (why ≡ refusal.Fault → ⊥) →
     Step old.geometry (machine_at age old renewed frozen saved to_move) c (answer.Refused why) (machine_at age old renewed frozen saved to_move)) →
     Performs age old c (answer.Refused why) age new
 refused_serves age old new c why same sound later cause step = record {
   step = λ renewed frozen saved to_move other.
-      subst (λ (m : Machine). Step old.geometry (machine_at age old renewed frozen saved to_move) c (answer.Refused why) m) (sym (still_machine old new same age renewed frozen saved to_move))
+      subst (λ (m : Machine). Step old.geometry (machine_at age old renewed frozen saved to_move) c (answer.Refused why) m)
+      (sym (still_machine old new same age renewed frozen saved to_move))
       (step renewed frozen saved to_move (λ e. other (ap answer.Refused e)));
   renews = same_renews old new same;
   sound = same_sound old new same age sound;
@@ -76,11 +82,14 @@ pub unfailed : (m n : ℕ) → m ≤ n → (m < n → ⊥) → n ≡ m
 unfailed m n later stayed = ⊎_elim (λ (rose : m < n). absurd (stayed rose)) (λ (within : n ≤ m). omega arith) (cases_lt m n)
 
 -- what is answered after a read-only call is answered before it
-pub serves_looked : (age after : ℕ) (old mid new : Parts) (c : Command) (a : Answer) → AreSame old mid → mid.failures ≡ old.failures → Performs age mid c a after new → Performs age old c a after new
+pub serves_looked : (age after : ℕ) (old mid new : Parts) (c : Command) (a : Answer) → AreSame old mid → mid.failures ≡ old.failures →
+    Performs age mid c a after new → Performs age old c a after new
 serves_looked age after old mid new c a same failures serves = record {
   step = λ renewed frozen saved to_move other.
-      subst (λ (g : Geometry). Step g (machine_at age old renewed frozen saved to_move) c a (machine_at after new (renewed_by renewed old new) frozen saved to_move)) same.geometry
-      (subst (λ (m : Machine). Step mid.geometry m c a (machine_at after new (renewed_by renewed old new) frozen saved to_move)) (same_machine old mid same age renewed frozen saved to_move)
+      subst (λ (g : Geometry). Step g (machine_at age old renewed frozen saved to_move) c a
+      (machine_at after new (renewed_by renewed old new) frozen saved to_move)) same.geometry
+      (subst (λ (m : Machine). Step mid.geometry m c a (machine_at after new (renewed_by renewed old new) frozen saved to_move))
+      (same_machine old mid same age renewed frozen saved to_move)
       (subst (λ (fs : List Frame). Step mid.geometry (machine_at age mid renewed frozen saved to_move) c a
       (machine_at after new (renewing renewed (objects_of fs) (objects_in new)) frozen saved to_move)) (same_frames old mid same)
       (serves.step renewed frozen saved to_move other)));
@@ -93,7 +102,8 @@ serves_looked age after old mid new c a same failures serves = record {
 }
 
 abbrev pub standing : ℕ → List Bool → Option Frozen → Saved → ℕ → List Object → List Bool → Machine
-standing age renewed frozen saved to_move os ts = Up (record { now = record { objects = os; age = age }; touched = ts; renewed = renewed; frozen = frozen; saved = saved; to_move = to_move })
+standing age renewed frozen saved to_move os ts = Up
+    (record { now = record { objects = os; age = age }; touched = ts; renewed = renewed; frozen = frozen; saved = saved; to_move = to_move })
 
 -- an invocation that was carried out
 pub done_serves : (age : ℕ) (old new : Parts) (i : Invocation) → age < 2 ^ 62 → is_process (objects_in old) i.process ≡ true →
@@ -102,9 +112,17 @@ pub done_serves : (age : ℕ) (old new : Parts) (i : Invocation) → age < 2 ^ 6
     old.failures ≤ new.failures → (old.failures < new.failures → ⊥) → Performs age old (command.Invoke i) answer.Done (age + 1) new
 done_serves age old new i young process running sound invokes keeps renews geometry later stayed = record {
   step = λ renewed frozen saved to_move other.
-      let s : Running = record { now = world_at age (frames_of old); touched = old.touched; renewed = renewed; frozen = frozen; saved = saved; to_move = to_move } in
+      let s : Running = record {
+        now = world_at age (frames_of old);
+        touched = old.touched;
+        renewed = renewed;
+        frozen = frozen;
+        saved = saved;
+        to_move = to_move;
+      } in
       subst (Step old.geometry (Up s) (command.Invoke i) answer.Done) (made renewed frozen saved to_move)
-      (invoke_step old.geometry s i process running young invokes.0 invokes.1 (subst (λ (ts : List Bool). touched_count ts ≤ old.geometry.log) invokes.3 invokes.4));
+      (invoke_step old.geometry s i process running young invokes.0 invokes.1
+      (subst (λ (ts : List Bool). touched_count ts ≤ old.geometry.log) invokes.3 invokes.4));
   renews = renews;
   sound = subst (λ (g : Geometry). IsSoundFrames g (age + 1) (frames_of new)) (sym geometry) (keeps age young sound);
   geometry = geometry;
@@ -116,31 +134,37 @@ done_serves age old new i young process running sound invokes keeps renews geome
         standing (age + 1) (renewing renewed (objects_in old) invokes.0.objects) frozen saved to_move invokes.0.objects (touching old.touched invokes.0.written)
         ≡ machine_at (age + 1) new (renewed_by renewed old new) frozen saved to_move
     made renewed frozen saved to_move =
-        ap (λ (os : List Object). standing (age + 1) (renewing renewed (objects_in old) os) frozen saved to_move os (touching old.touched invokes.0.written)) (sym invokes.2)
+        ap (λ (os : List Object). standing (age + 1) (renewing renewed (objects_in old) os) frozen saved to_move os (touching old.touched invokes.0.written))
+        (sym invokes.2)
         ∙ ap (standing (age + 1) (renewed_by renewed old new) frozen saved to_move (objects_in new)) (sym invokes.3)
 
 -- what is answered where there is no process
 pub no_process_serves : (p : Parts) (age : ℕ) (i : Invocation) → IsSoundFrames p.geometry age (frames_of p) → is_process (objects_in p) i.process ≡ false →
     Performs age p (command.Invoke i) (answer.Refused refusal.NoProcess) age p
 no_process_serves p age i sound none =
-    refused_serves age p p (command.Invoke i) refusal.NoProcess (record { headers = refl; contents = refl; touched = refl; geometry = refl }) sound (omega arith)
+    refused_serves age p p (command.Invoke i) refusal.NoProcess (record { headers = refl; contents = refl; touched = refl; geometry = refl }) sound
+    (omega arith)
     (reported_cause refusal.NoProcess (λ e. cc) (λ rose. absurd (omega (arith, rose))))
     (λ renewed frozen saved to_move other. early_step p.geometry _ i refusal.NoProcess none)
 
 -- what is answered to an invocation that wasn't carried out
 module _ {S : Type 0} (parts : S → Parts) (Continues : S → S → Type 0) (age : ℕ) (old new : S) (i : Invocation)
-    (process : is_process (objects_in (parts old)) i.process ≡ true) (sound : IsSoundFrames (parts old).geometry age (frames_of (parts old))) (young : age < 2 ^ 62) where
+    (process : is_process (objects_in (parts old)) i.process ≡ true) (sound : IsSoundFrames (parts old).geometry age (frames_of (parts old)))
+    (young : age < 2 ^ 62) where
   module _ (f : InvokeFault) (said : Invoked parts Continues old new i (Err f)) where
     unchanged : AreSame (parts old) (parts new)
     unchanged = record { headers = said.unchanged.headers; contents = said.unchanged.contents; touched = said.unchanged.touched; geometry = said.geometry }
 
     refused : (why : Refusal) → ((why ≡ refusal.Fault) ↔ (f ≡ fault.Failed)) →
         ((renewed : List Bool) (frozen : Option Frozen) (saved : Saved) (to_move : ℕ) → (why ≡ refusal.Fault → ⊥) →
-        Step (parts old).geometry (machine_at age (parts old) renewed frozen saved to_move) (command.Invoke i) (answer.Refused why) (machine_at age (parts old) renewed frozen saved to_move)) →
+        Step (parts old).geometry (machine_at age (parts old) renewed frozen saved to_move) (command.Invoke i) (answer.Refused why)
+        (machine_at age (parts old) renewed frozen saved to_move)) →
         Performs age (parts old) (command.Invoke i) (answer.Refused why) age (parts new)
     refused why same step =
-        refused_serves age (parts old) (parts new) (command.Invoke i) why unchanged sound said.later
-        (λ e. said.cause.0 (ap (λ (k : InvokeFault). let r : Result (Option ResultCode) InvokeFault = Err k in r) (same.0 e)), λ rose. let failed = said.cause.1 rose in same.1 cc) step
+        refused_serves age (parts old) (parts new) (command.Invoke i) why unchanged sound said.later (
+          λ e. said.cause.0 (ap (λ (k : InvokeFault). let r : Result (Option ResultCode) InvokeFault = Err k in r) (same.0 e)),
+          λ rose. let failed = said.cause.1 rose in same.1 cc,
+        ) step
 
   pub fault_serves : (f : InvokeFault) → TellsState (objects_in (parts old)) i (Err f) → Invoked parts Continues old new i (Err f) →
       Performs age (parts old) (command.Invoke i) (answer.Refused (refusal_by f)) age (parts new)
@@ -154,8 +178,6 @@ module _ {S : Type 0} (parts : S → Parts) (Continues : S → S → Type 0) (ag
       let over = said.full refl in
       refused fault.LogFull said refusal.LogFull (λ e. cc, λ e. cc)
       (λ renewed frozen saved to_move other. full_step (parts old).geometry _ i process tells young over.0 over.1 over.2)
-  fault_serves fault.NoMemory tells said =
-      refused fault.NoMemory said refusal.NoMemory (λ e. cc, λ e. cc) (λ renewed frozen saved to_move other. no_memory_step (parts old).geometry _ i process)
   fault_serves fault.Failed tells said =
       refused fault.Failed said refusal.Fault (λ e. refl, λ e. refl) (λ renewed frozen saved to_move other. absurd (other refl))
 
@@ -167,11 +189,13 @@ module _ {S : Type 0} (parts : S → Parts) (Continues : S → S → Type 0) (ag
       (λ rose. let failed = said.cause.1 rose in cc)
 
 -- what is shown of an object
-pub shown_serves : (age : ℕ) (old new : Parts) (n : ℕ) (a : Answer) → n < length old.headers → AreSame old new → IsSoundFrames old.geometry age (frames_of old) →
+pub shown_serves : (age : ℕ) (old new : Parts) (n : ℕ) (a : Answer) → n < length old.headers → AreSame old new →
+    IsSoundFrames old.geometry age (frames_of old) →
     a ≡ shown (objects_in old) n → old.failures ≤ new.failures → (old.failures < new.failures → ⊥) → Performs age old (command.Show n) a age new
 shown_serves age old new n a known same sound reported later stayed = record {
   step = λ renewed frozen saved to_move other.
-      subst (λ (m : Machine). Step old.geometry (machine_at age old renewed frozen saved to_move) (command.Show n) a m) (sym (still_machine old new same age renewed frozen saved to_move))
+      subst (λ (m : Machine). Step old.geometry (machine_at age old renewed frozen saved to_move) (command.Show n) a m)
+      (sym (still_machine old new same age renewed frozen saved to_move))
       (show_step old.geometry _ n (subst (λ (m : ℕ). n < m) (keepable_count old.geometry age old sound.keepable) known) a reported);
   renews = same_renews old new same;
   sound = same_sound old new same age sound;
@@ -180,28 +204,28 @@ shown_serves age old new n a known same sound reported later stayed = record {
   cause = (λ e. let d : shown (objects_in old) n ≡ answer.Refused refusal.Fault = sym reported ∙ e in cc, λ rose. absurd (stayed rose));
 }
 
-module _ (age : ℕ) (old new : Parts) (n : ℕ) (same : AreSame old new) (sound : IsSoundFrames old.geometry age (frames_of old)) (later : old.failures ≤ new.failures) where
-  pub bad_number_serves : length old.headers ≤ n → (old.failures < new.failures → ⊥) → Performs age old (command.Show n) (answer.Refused refusal.BadNumber) age new
+module _ (age : ℕ) (old new : Parts) (n : ℕ) (same : AreSame old new) (sound : IsSoundFrames old.geometry age (frames_of old))
+    (later : old.failures ≤ new.failures) where
+  pub bad_number_serves : length old.headers ≤ n → (old.failures < new.failures → ⊥) → Performs age old (command.Show n) (answer.Refused refusal.BadNumber) age
+      new
   bad_number_serves past stayed =
       refused_serves age old new (command.Show n) refusal.BadNumber same sound later (reported_cause refusal.BadNumber (λ e. cc) stayed)
-      (λ renewed frozen saved to_move other. bad_number_step old.geometry _ n (subst (λ (m : ℕ). m ≤ n) (keepable_count old.geometry age old sound.keepable) past))
+      (λ renewed frozen saved to_move other. bad_number_step old.geometry _ n
+      (subst (λ (m : ℕ). m ≤ n) (keepable_count old.geometry age old sound.keepable) past))
 
-  pub show_no_memory_serves : n < length old.headers → (old.failures < new.failures → ⊥) → Performs age old (command.Show n) (answer.Refused refusal.NoMemory) age new
+  pub show_no_memory_serves : n < length old.headers → (old.failures < new.failures → ⊥) → Performs age old (command.Show n) (answer.Refused refusal.NoMemory)
+      age new
   show_no_memory_serves known stayed =
       refused_serves age old new (command.Show n) refusal.NoMemory same sound later (reported_cause refusal.NoMemory (λ e. cc) stayed)
-      (λ renewed frozen saved to_move other. show_no_memory old.geometry _ n (subst (λ (m : ℕ). n < m) (keepable_count old.geometry age old sound.keepable) known))
-
-  pub show_failed_serves : old.failures < new.failures → Performs age old (command.Show n) (answer.Refused refusal.Fault) age new
-  show_failed_serves rose =
-      refused_serves age old new (command.Show n) refusal.Fault same sound later (λ e. rose, λ r. refl)
-      (λ renewed frozen saved to_move other. absurd (other refl))
+      (λ renewed frozen saved to_move other. show_no_memory old.geometry _ n
+      (subst (λ (m : ℕ). n < m) (keepable_count old.geometry age old sound.keepable) known))
 
 -- what a fault of a read isn't
-pub shown_unfailed : (a : Answer) → (let r : Result Answer PrepareFault = Ok a in IsErrOf r prepare.Failed) → ⊥
+pub shown_unfailed : (a : Answer) → (let r : Result Answer ReadFault = Ok a in IsErrOf r read.Failed) → ⊥
 shown_unfailed a e = cc
 
-pub look_unfailed : (f : PrepareFault) → f ≡ prepare.NoMemory → (let r : Result Answer PrepareFault = Err f in IsErrOf r prepare.Failed) → ⊥
-look_unfailed f is e = let d : f ≡ prepare.Failed = cc in cc
+pub unread_unfailed : (f : ReadFault) → f ≡ read.NoMemory → (let r : Result Answer ReadFault = Err f in IsErrOf r read.Failed) → ⊥
+unread_unfailed f is e = let d : f ≡ read.Failed = cc in cc
 
 -- where a call succeeds no count rises
 pub ok_stayed : {X : Type 0} (early : Option Refusal) → (let r : Result (Option Refusal) Failed = Ok early in IsErr r ↔ X) → X → ⊥
@@ -210,13 +234,3 @@ ok_stayed early cause x = let never : false ≡ true = cause.1 x in cc
 -- what was shown isn't a failure
 pub shown_fine : (os : List Object) (n : ℕ) (a : Answer) → a ≡ shown os n → a ≡ answer.Refused refusal.Fault → ⊥
 shown_fine os n a reported e = let d : shown os n ≡ answer.Refused refusal.Fault = sym reported ∙ e in cc
-
--- an object isn't shown
-pub show_refused : (age : ℕ) (old new : Parts) (n : ℕ) → AreSame old new → IsSoundFrames old.geometry age (frames_of old) → old.failures ≤ new.failures → n < length old.headers → (f : PrepareFault) (a : Answer) →
-    a ≡ answer.Refused (refused_by f) → (let r : Result Answer PrepareFault = Err f in IsErrOf r prepare.Failed ↔ (old.failures < new.failures)) → (let r : Result Answer PrepareFault = Err f in IsErrOf r prepare.LogFull → ⊥) → Performs age old (command.Show n) a age new
-show_refused age old new n same sound later known f a is cause room = subst (λ (b : Answer). Performs age old (command.Show n) b age new) (sym is) (by f cause room)
-  where
-    by : (f : PrepareFault) → (let r : Result Answer PrepareFault = Err f in IsErrOf r prepare.Failed ↔ (old.failures < new.failures)) → (let r : Result Answer PrepareFault = Err f in IsErrOf r prepare.LogFull → ⊥) → Performs age old (command.Show n) (answer.Refused (refused_by f)) age new
-    by prepare.NoMemory cause room = show_no_memory_serves age old new n same sound later known (λ rose. look_unfailed prepare.NoMemory refl (cause.1 rose))
-    by prepare.LogFull cause room = absurd (room refl)
-    by prepare.Failed cause room = show_failed_serves age old new n same sound later (cause.0 refl)

@@ -30,11 +30,13 @@ module _ (g : Geometry) (s : Running) (i : Invocation) where
     | Some effect ↦ unless (not (overfills g s.touched effect.written)) refusal.LogFull None
   ])))
 
-  refusal_is : refusal_of g s (command.Invoke i) ≡ in_order (is_process s.now.objects i.process) (is_running_process s.now.objects i.process) (nat_lt s.now.age (2 ^ 62)) (invoke g s.now.objects i)
+  refusal_is : refusal_of g s (command.Invoke i) ≡ in_order (is_process s.now.objects i.process) (is_running_process s.now.objects i.process)
+      (nat_lt s.now.age (2 ^ 62)) (invoke g s.now.objects i)
   unfolding refusal_of
   refusal_is = refl
 
-  by : (a b c : Bool) (o : Option Effect) → is_process s.now.objects i.process ≡ a → is_running_process s.now.objects i.process ≡ b → nat_lt s.now.age (2 ^ 62) ≡ c →
+  by : (a b c : Bool) (o : Option Effect) → is_process s.now.objects i.process ≡ a → is_running_process s.now.objects i.process ≡ b →
+      nat_lt s.now.age (2 ^ 62) ≡ c →
       invoke g s.now.objects i ≡ o → refusal_of g s (command.Invoke i) ≡ in_order a b c o
   by a b c o as_a as_b as_c as_o =
       refusal_is
@@ -43,25 +45,6 @@ module _ (g : Geometry) (s : Running) (i : Invocation) where
       ∙ ap (λ (x : Bool). in_order a b x (invoke g s.now.objects i)) as_c
       ∙ ap (in_order a b c) as_o
 
-  gives_way_rest : (b c : Bool) (o : Option Effect) → gives_way (in_order true b c o) ≡ true
-  gives_way_rest false c o = refl
-  gives_way_rest true false o = refl
-  gives_way_rest true true None = refl
-  gives_way_rest true true (Some e) = last (not (overfills g s.touched e.written))
-    where
-      last : (d : Bool) → gives_way (unless d refusal.LogFull None) ≡ true
-      last true = refl
-      last false = refl
-
-  -- want of memory may stand in place of whatever comes after a process was found
-  pub no_memory_step : is_process s.now.objects i.process ≡ true → Step g (Up s) (command.Invoke i) (answer.Refused refusal.NoMemory) (Up s)
-  no_memory_step process = inr (inl (
-    ap gives_way (by true (is_running_process s.now.objects i.process) (nat_lt s.now.age (2 ^ 62)) (invoke g s.now.objects i) process refl refl refl)
-        ∙ gives_way_rest (is_running_process s.now.objects i.process) (nat_lt s.now.age (2 ^ 62)) (invoke g s.now.objects i),
-    refl,
-    refl,
-  ))
-
   -- a process that can't act
   pub early_step : (why : Refusal) → IsEarly s.now.objects i.process (Some why) → Step g (Up s) (command.Invoke i) (answer.Refused why) (Up s)
   early_step refusal.NoProcess early =
@@ -69,7 +52,6 @@ module _ (g : Geometry) (s : Running) (i : Invocation) where
       (by false (is_running_process s.now.objects i.process) (nat_lt s.now.age (2 ^ 62)) (invoke g s.now.objects i) early refl refl refl)
   early_step refusal.NotRunning early =
       refused_step g s (command.Invoke i) refusal.NotRunning (by true false (nat_lt s.now.age (2 ^ 62)) (invoke g s.now.objects i) early.0 early.1 refl refl)
-  early_step refusal.NoMemory early = no_memory_step early
   early_step _ early = absurd early
 
   module _ (process : is_process s.now.objects i.process ≡ true) (running : is_running_process s.now.objects i.process ≡ true) where
@@ -95,7 +77,10 @@ module _ (g : Geometry) (s : Running) (i : Invocation) where
       abbrev after_invoking : Option Effect → Outcome
       after_invoking o = elim o [
         | None ↦ record { answer = answer.Done; after = s }
-        | Some effect ↦ record { answer = answer.Done; after = writing s effect.objects (s.now.age + 1) effect.written (renewing s.renewed s.now.objects effect.objects) }
+        | Some effect ↦ record {
+          answer = answer.Done;
+          after = writing s effect.objects (s.now.age + 1) effect.written (renewing s.renewed s.now.objects effect.objects);
+        }
       ]
 
       done_by_effect : (e : Effect) → invoke g s.now.objects i ≡ Some e → carried_out g s (command.Invoke i) ≡ after_invoking (Some e)
@@ -135,11 +120,10 @@ module _ (g : Geometry) (s : Running) (n : ℕ) where
 pub early_fine : (os : List Object) (p : ℕ) (why : Refusal) → IsEarly os p (Some why) → why ≡ refusal.Fault → ⊥
 early_fine os p why early is = subst (λ (w : Refusal). IsEarly os p (Some w)) is early
 
--- and each is one of three
+-- and each is one of two
 pub early_is : (os : List Object) (p : ℕ) (why : Refusal) → IsEarly os p (Some why) → IsOfEarly why
 early_is os p refusal.NoProcess early = tt
 early_is os p refusal.NotRunning early = tt
-early_is os p refusal.NoMemory early = tt
 early_is os p _ early = absurd early
 
 -- one that isn't refused runs

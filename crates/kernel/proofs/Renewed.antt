@@ -8,7 +8,8 @@ use Rattle.std.specs.Prelude.{if◌then◌else◌}
 use Rattle.checkpoint.specs.Snapshots.{moved}
 
 pub header_in : (hs : List ObjectHeader) (cs : List (Content Cap)) (n : ℕ) → (frame_at (frames_in hs cs) n).header ≡ header_at hs n
-header_in hs cs n = sym (get_or-map (λ (f : Frame). f.header) (frames_in hs cs) n blank_frame) ∙ ap (λ (ks : List ObjectHeader). header_at ks n) (headers_in hs cs)
+header_in hs cs n = sym (get_or-map (λ (f : Frame). f.header) (frames_in hs cs) n blank_frame) ∙
+    ap (λ (ks : List ObjectHeader). header_at ks n) (headers_in hs cs)
 
 -- a count differs where it did before, or rises now
 differs : (gone : Bool) (base old new : ℕ) → base ≤ old → new ≡ old + (if gone then 1 else 0) → (not (old == base) || gone) ≡ not (new == base)

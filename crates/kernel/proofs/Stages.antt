@@ -54,8 +54,24 @@ module _ (g : Geometry) (p q : Parts) (same : AreSame p q) (a b : Snapshots Froz
   pub same_running : (age frozen_age : ℕ) → running_of q b age frozen_age ≡ running_of p a age frozen_age
   same_running age frozen_age =
       ap (λ (x : Snapshots FrozenFrames). running_of q x age frozen_age) beside
-      ∙ ap (λ (fs : List Frame). let r : Running = record { now = world_at age fs; touched = q.touched; renewed = renewed_since (base_of a) fs; frozen = frozen_of frozen_age a.frozen; saved = saved_of a.saved; to_move = a.to_move } in r) (same_frames p q same)
-      ∙ ap (λ (ts : List Bool). let r : Running = record { now = world_at age (frames_of p); touched = ts; renewed = renewed_since (base_of a) (frames_of p); frozen = frozen_of frozen_age a.frozen; saved = saved_of a.saved; to_move = a.to_move } in r) same.touched
+      ∙ ap (λ (fs : List Frame). let r : Running =
+      record {
+        now = world_at age fs;
+        touched = q.touched;
+        renewed = renewed_since (base_of a) fs;
+        frozen = frozen_of frozen_age a.frozen;
+        saved = saved_of a.saved;
+        to_move = a.to_move;
+      } in r) (same_frames p q same)
+      ∙ ap (λ (ts : List Bool). let r : Running =
+      record {
+        now = world_at age (frames_of p);
+        touched = ts;
+        renewed = renewed_since (base_of a) (frames_of p);
+        frozen = frozen_of frozen_age a.frozen;
+        saved = saved_of a.saved;
+        to_move = a.to_move;
+      } in r) same.touched
 
   pub stays_sound : (banks : BanksState) (age frozen_age : ℕ) → AreSoundTogether g p a banks age frozen_age → AreSoundTogether g q b banks age frozen_age
   stays_sound banks age frozen_age s = subst (λ (x : Snapshots FrozenFrames). AreSoundTogether g q x banks age frozen_age) (sym beside) (record {
@@ -69,106 +85,112 @@ module _ (g : Geometry) (p q : Parts) (same : AreSame p q) (a b : Snapshots Froz
   })
 
 -- other objects, at an age that didn't fall
-pub acts_sound : (g : Geometry) (p q : Parts) (a b : Snapshots FrozenFrames) (old_banks banks : BanksState) (old_age age frozen_age : ℕ) → b ≡ a → old_age ≤ age → q.geometry ≡ g → Renews p q → IsSoundFrames g age (frames_of q) →
+pub acts_sound : (g : Geometry) (p q : Parts) (a b : Snapshots FrozenFrames) (old_banks banks : BanksState) (old_age age frozen_age : ℕ) → b ≡ a →
+    old_age ≤ age → q.geometry ≡ g → Renews p q → IsSoundFrames g age (frames_of q) →
     AreCounted g (objects_in q) banks → AreSoundTogether g p a old_banks old_age frozen_age → AreSoundTogether g q b banks age frozen_age
-acts_sound g p q a b old_banks banks old_age age frozen_age beside later geometry renews now counted s = subst (λ (x : Snapshots FrozenFrames). AreSoundTogether g q x banks age frozen_age) (sym beside) (record {
-  geometry = geometry;
-  now = now;
-  counted = counted;
-  frozen = λ f is. let h = s.frozen f is in record { after = h.after; before = omega (arith, h.before, later); sound = h.sound };
-  saved = s.saved;
-  order = omega (arith, s.order, later);
-  risen = risen_on (base_of a) p q renews s.risen;
-})
+acts_sound g p q a b old_banks banks old_age age frozen_age beside later geometry renews now counted s = subst
+    (λ (x : Snapshots FrozenFrames). AreSoundTogether g q x banks age frozen_age) (sym beside) (record {
+      geometry = geometry;
+      now = now;
+      counted = counted;
+      frozen = λ f is. let h = s.frozen f is in record { after = h.after; before = omega (arith, h.before, later); sound = h.sound };
+      saved = s.saved;
+      order = omega (arith, s.order, later);
+      risen = risen_on (base_of a) p q renews s.risen;
+    })
 
 -- ---- stages
 
-module _ (g : Geometry) (p : Parts) (a : Snapshots FrozenFrames) (banks : BanksState) (age frozen_age : ℕ) (s : AreSoundTogether g p a banks age frozen_age) where
-  -- all is frozen, one age later
-  pub begun_sound : (q : Parts) (n : ℕ) → q.geometry ≡ p.geometry → frames_of q ≡ frames_of p → age < 2 ^ 62 → AreSoundTogether g q (freezing (all_frozen (frames_of p) n) a) banks (age + 1) (age + 1)
-  begun_sound q n geometry frames young =
-      let now : IsSoundFrames g (age + 1) (frames_of p) = frames_later g age (age + 1) (frames_of p) (omega arith) (omega (arith, young)) s.now in
-      record {
-        geometry = geometry ∙ s.geometry;
-        now = subst (λ (fs : List Frame). IsSoundFrames g (age + 1) fs) (sym frames) now;
-        counted = subst (λ (fs : List Frame). AreCounted g (objects_of fs) banks) (sym frames) s.counted;
-        frozen = λ f is. frozen_now f is now;
-        saved = s.saved;
-        order = omega (arith, s.order);
-        risen = λ n. subst (λ (fs : List Frame). allocations_at (frames_of p) n ≤ allocations_at fs n) (sym frames) (omega arith);
-      }
-    where
-      frozen_now : (f : FrozenFrames) → Some (record { frames = frames_of p; size = n; left = n }) ≡ Some f → IsSoundFrames g (age + 1) (frames_of p) → IsSoundFrozen g a.saved.age (age + 1) (age + 1) f
-      frozen_now f is now =
-          let fs : FrozenFrames = record { frames = frames_of p; size = n; left = n } in
-          let same : fs ≡ f = cc in
-          subst (IsSoundFrozen g a.saved.age (age + 1) (age + 1)) same (record { after = omega (arith, s.order); before = omega arith; sound = now })
+module _ (g : Geometry) (p : Parts) (a : Snapshots FrozenFrames) (banks : BanksState) (age frozen_age : ℕ) (s : AreSoundTogether g p a banks age frozen_age)
+  where
+    -- all is frozen, one age later
+    pub begun_sound : (q : Parts) (n : ℕ) → q.geometry ≡ p.geometry → frames_of q ≡ frames_of p → age < 2 ^ 62 →
+        AreSoundTogether g q (freezing (all_frozen (frames_of p) n) a) banks (age + 1) (age + 1)
+    begun_sound q n geometry frames young =
+        let now : IsSoundFrames g (age + 1) (frames_of p) = frames_later g age (age + 1) (frames_of p) (omega arith) (omega (arith, young)) s.now in
+        record {
+          geometry = geometry ∙ s.geometry;
+          now = subst (λ (fs : List Frame). IsSoundFrames g (age + 1) fs) (sym frames) now;
+          counted = subst (λ (fs : List Frame). AreCounted g (objects_of fs) banks) (sym frames) s.counted;
+          frozen = λ f is. frozen_now f is now;
+          saved = s.saved;
+          order = omega (arith, s.order);
+          risen = λ n. subst (λ (fs : List Frame). allocations_at (frames_of p) n ≤ allocations_at fs n) (sym frames) (omega arith);
+        }
+      where
+        frozen_now : (f : FrozenFrames) → Some (record { frames = frames_of p; size = n; left = n }) ≡ Some f → IsSoundFrames g (age + 1) (frames_of p) →
+            IsSoundFrozen g a.saved.age (age + 1) (age + 1) f
+        frozen_now f is now =
+            let fs : FrozenFrames = record { frames = frames_of p; size = n; left = n } in
+            let same : fs ≡ f = cc in
+            subst (IsSoundFrozen g a.saved.age (age + 1) (age + 1)) same (record { after = omega (arith, s.order); before = omega arith; sound = now })
 
-  -- no count fell since it was frozen
-  risen_frozen : (f : FrozenFrames) → a.frozen ≡ Some f → (n : ℕ) → allocations_at f.frames n ≤ allocations_at (frames_of p) n
-  risen_frozen f is n = subst (λ (fs : List Frame). allocations_at fs n ≤ allocations_at (frames_of p) n) (base_frozen a f is) (s.risen n)
+    -- no count fell since it was frozen
+    risen_frozen : (f : FrozenFrames) → a.frozen ≡ Some f → (n : ℕ) → allocations_at f.frames n ≤ allocations_at (frames_of p) n
+    risen_frozen f is n = subst (λ (fs : List Frame). allocations_at fs n ≤ allocations_at (frames_of p) n) (base_frozen a f is) (s.risen n)
 
-  -- some more of it is in the log
-  pub stabilized_sound : (n : ℕ) (f : FrozenFrames) → a.frozen ≡ Some f → AreSoundTogether g p (stabilized n f a) banks age frozen_age
-  stabilized_sound n f is = record {
-    geometry = s.geometry;
-    now = s.now;
-    counted = s.counted;
-    frozen = λ e same. still e same;
-    saved = s.saved;
-    order = s.order;
-    risen = risen_frozen f is;
-  }
-    where
-      still : (e : FrozenFrames) → Some (record { frames = f.frames; size = f.size; left = f.left - n }) ≡ Some e → IsSoundFrozen g a.saved.age frozen_age age e
-      still e same =
-          let was = s.frozen f is in
-          let fs : FrozenFrames = record { frames = f.frames; size = f.size; left = f.left - n } in
-          let it : fs ≡ e = cc in
-          subst (IsSoundFrozen g a.saved.age frozen_age age) it (record { after = was.after; before = was.before; sound = was.sound })
+    -- some more of it is in the log
+    pub stabilized_sound : (n : ℕ) (f : FrozenFrames) → a.frozen ≡ Some f → AreSoundTogether g p (stabilized n f a) banks age frozen_age
+    stabilized_sound n f is = record {
+      geometry = s.geometry;
+      now = s.now;
+      counted = s.counted;
+      frozen = λ e same. still e same;
+      saved = s.saved;
+      order = s.order;
+      risen = risen_frozen f is;
+    }
+      where
+        still : (e : FrozenFrames) → Some (record { frames = f.frames; size = f.size; left = f.left - n }) ≡ Some e →
+            IsSoundFrozen g a.saved.age frozen_age age e
+        still e same =
+            let was = s.frozen f is in
+            let fs : FrozenFrames = record { frames = f.frames; size = f.size; left = f.left - n } in
+            let it : fs ≡ e = cc in
+            subst (IsSoundFrozen g a.saved.age frozen_age age) it (record { after = was.after; before = was.before; sound = was.sound })
 
-  -- it is saved
-  pub next_sound : (f : FrozenFrames) → a.frozen ≡ Some f → IsSoundSaved g (next_saved whole frozen_age f a.saved)
-  next_sound f is = record { geometry = s.saved.geometry; sound = (s.frozen f is).sound }
+    -- it is saved
+    pub next_sound : (f : FrozenFrames) → a.frozen ≡ Some f → IsSoundSaved g (next_saved whole frozen_age f a.saved)
+    next_sound f is = record { geometry = s.saved.geometry; sound = (s.frozen f is).sound }
 
-  pub committed_sound : (f : FrozenFrames) → a.frozen ≡ Some f → AreSoundTogether g p (stage.committed whole frozen_age f a) banks age frozen_age
-  committed_sound f is = record {
-    geometry = s.geometry;
-    now = s.now;
-    counted = s.counted;
-    frozen = λ e same. none e same;
-    saved = next_sound f is;
-    order = (s.frozen f is).before;
-    risen = risen_frozen f is;
-  }
-    where
-      none : (e : FrozenFrames) → None ≡ Some e → IsSoundFrozen g frozen_age frozen_age age e
-      none e same = cc
+    pub committed_sound : (f : FrozenFrames) → a.frozen ≡ Some f → AreSoundTogether g p (stage.committed whole frozen_age f a) banks age frozen_age
+    committed_sound f is = record {
+      geometry = s.geometry;
+      now = s.now;
+      counted = s.counted;
+      frozen = λ e same. none e same;
+      saved = next_sound f is;
+      order = (s.frozen f is).before;
+      risen = risen_frozen f is;
+    }
+      where
+        none : (e : FrozenFrames) → None ≡ Some e → IsSoundFrozen g frozen_age frozen_age age e
+        none e same = cc
 
-  -- and goes home
-  home_or_not : (b : Bool) → IsSoundSaved g (if b then home_saved a.saved else a.saved)
-  home_or_not true = record { geometry = s.saved.geometry; sound = s.saved.sound }
-  home_or_not false = s.saved
+    -- and goes home
+    home_or_not : (b : Bool) → IsSoundSaved g (if b then home_saved a.saved else a.saved)
+    home_or_not true = record { geometry = s.saved.geometry; sound = s.saved.sound }
+    home_or_not false = s.saved
 
-  age_or_not : (b : Bool) → (if b then home_saved a.saved else a.saved).age ≡ a.saved.age
-  age_or_not true = refl
-  age_or_not false = refl
+    age_or_not : (b : Bool) → (if b then home_saved a.saved else a.saved).age ≡ a.saved.age
+    age_or_not true = refl
+    age_or_not false = refl
 
-  pub moved_saved_sound : (n : ℕ) → IsSoundSaved g (moved_saved n a)
-  moved_saved_sound n = home_or_not (a.to_move - n == 0)
+    pub moved_saved_sound : (n : ℕ) → IsSoundSaved g (moved_saved n a)
+    moved_saved_sound n = home_or_not (a.to_move - n == 0)
 
-  pub moved_sound : (n : ℕ) → AreSoundTogether g p (stage.moved n a) banks age frozen_age
-  moved_sound n =
-      let same : (moved_saved n a).age ≡ a.saved.age = age_or_not (a.to_move - n == 0) in
-      record {
-        geometry = s.geometry;
-        now = s.now;
-        counted = s.counted;
-        frozen = λ f is. subst (λ (k : ℕ). IsSoundFrozen g k frozen_age age f) (sym same) (s.frozen f is);
-        saved = moved_saved_sound n;
-        order = subst (λ (k : ℕ). k ≤ age) (sym same) s.order;
-        risen = λ m. subst (λ (fs : List Frame). allocations_at fs m ≤ allocations_at (frames_of p) m) (sym (base_moved a n)) (s.risen m);
-      }
+    pub moved_sound : (n : ℕ) → AreSoundTogether g p (stage.moved n a) banks age frozen_age
+    moved_sound n =
+        let same : (moved_saved n a).age ≡ a.saved.age = age_or_not (a.to_move - n == 0) in
+        record {
+          geometry = s.geometry;
+          now = s.now;
+          counted = s.counted;
+          frozen = λ f is. subst (λ (k : ℕ). IsSoundFrozen g k frozen_age age f) (sym same) (s.frozen f is);
+          saved = moved_saved_sound n;
+          order = subst (λ (k : ℕ). k ≤ age) (sym same) s.order;
+          risen = λ m. subst (λ (fs : List Frame). allocations_at fs m ≤ allocations_at (frames_of p) m) (sym (base_moved a n)) (s.risen m);
+        }
 
 -- what is saved after a migration is that of the machine
 saved_if : (b : Bool) (fs : SavedFrames) → saved_of (if b then home_saved fs else fs) ≡ (if b then at_home (saved_of fs) else saved_of fs)
@@ -180,7 +202,8 @@ saved_moved p a age frozen_age n = saved_if (a.to_move - n == 0) a.saved
 
 -- ---- the checkpoint on its way
 
-pub frozen_some : (o : Option FrozenFrames) (f : FrozenFrames) (age : ℕ) → o ≡ Some f → frozen_of age o ≡ Some (record { world = world_at age f.frames; size = f.size; left = f.left })
+pub frozen_some : (o : Option FrozenFrames) (f : FrozenFrames) (age : ℕ) → o ≡ Some f →
+    frozen_of age o ≡ Some (record { world = world_at age f.frames; size = f.size; left = f.left })
 frozen_some o f age is = ap (frozen_of age) is
 
 pub frozen_none : (o : Option FrozenFrames) (age : ℕ) → o ≡ None → frozen_of age o ≡ None
@@ -199,6 +222,7 @@ pub some_left : (o : Option FrozenFrames) (n : ℕ) → Some n ≡ option_map (�
 some_left None n reported = let never : None ≡ Some n = sym reported in cc
 some_left (Some f) n reported = (f, refl, let same : n ≡ f.left = cc in sym same)
 
-pub some_left_after : (o : Option FrozenFrames) (count n : ℕ) → option_map (λ (k : ℕ). k - count) (option_map (λ (f : FrozenFrames). f.left) o) ≡ Some n → (f : FrozenFrames) × (o ≡ Some f) × (n ≡ f.left - count)
+pub some_left_after : (o : Option FrozenFrames) (count n : ℕ) → option_map (λ (k : ℕ). k - count) (option_map (λ (f : FrozenFrames). f.left) o) ≡ Some n →
+    (f : FrozenFrames) × (o ≡ Some f) × (n ≡ f.left - count)
 some_left_after None count n reported = cc
 some_left_after (Some f) count n reported = (f, refl, let same : f.left - count ≡ n = cc in sym same)

@@ -66,7 +66,8 @@ module _ (g : Geometry) (s : Running) where
     pub checkpoint_step : s.frozen ≡ None → s.saved.entries ≡ 0 →
         (let now : World = record { objects = s.now.objects; age = s.now.age + 1 } in
         let f : Frozen = record { world = now; size = touched_count s.touched; left = touched_count s.touched } in
-        Step g (Up s) command.Checkpoint (answer.Frozen (touched_count s.touched)) (Up (record { now = now; touched = untouched g; renewed = untouched g; frozen = Some f; saved = s.saved; to_move = s.to_move })))
+        Step g (Up s) command.Checkpoint (answer.Frozen (touched_count s.touched))
+        (Up (record { now = now; touched = untouched g; renewed = untouched g; frozen = Some f; saved = s.saved; to_move = s.to_move })))
     unfolding carried_out
     checkpoint_step none home =
         let there : (s.saved.entries == 0) ≡ true = grind (arith, nat_tests) in
@@ -79,7 +80,8 @@ module _ (g : Geometry) (s : Running) where
 
   pub none_to_commit : s.frozen ≡ None → refusal_of g s command.Commit ≡ Some refusal.NoCheckpoint
   unfolding refusal_of
-  none_to_commit none = ap (λ (o : Option Frozen). elim o [ None ↦ Some refusal.NoCheckpoint | Some f ↦ unless (f.left == 0) (refusal.NotStable f.left) None ]) none
+  none_to_commit none = ap (λ (o : Option Frozen). elim o [ None ↦ Some refusal.NoCheckpoint | Some f ↦ unless (f.left == 0) (refusal.NotStable f.left) None ])
+      none
 
   pub not_stable : (f : Frozen) → s.frozen ≡ Some f → (f.left ≡ 0 → ⊥) → refusal_of g s command.Commit ≡ Some (refusal.NotStable f.left)
   unfolding refusal_of
@@ -89,14 +91,16 @@ module _ (g : Geometry) (s : Running) where
       ∙ ap (λ (b : Bool). unless b (refusal.NotStable f.left) None) away
 
   stabilize_with : (n : ℕ) (f : Frozen) →
-      Step g (Up (with_frozen s (Some f))) (command.Stabilize n) (answer.Left (f.left - n)) (Up (with_frozen s (Some (record { world = f.world; size = f.size; left = f.left - n }))))
+      Step g (Up (with_frozen s (Some f))) (command.Stabilize n) (answer.Left (f.left - n))
+      (Up (with_frozen s (Some (record { world = f.world; size = f.size; left = f.left - n }))))
   unfolding refusal_of carried_out
   stabilize_with n f = done_step g (with_frozen s (Some f)) (command.Stabilize n) _ _ refl refl refl
 
   pub stabilize_step : (n : ℕ) (f : Frozen) → s.frozen ≡ Some f →
       Step g (Up s) (command.Stabilize n) (answer.Left (f.left - n)) (Up (with_frozen s (Some (record { world = f.world; size = f.size; left = f.left - n }))))
   stabilize_step n f is =
-      subst (λ (o : Option Frozen). Step g (Up (with_frozen s o)) (command.Stabilize n) (answer.Left (f.left - n)) (Up (with_frozen s (Some (record { world = f.world; size = f.size; left = f.left - n })))))
+      subst (λ (o : Option Frozen). Step g (Up (with_frozen s o)) (command.Stabilize n) (answer.Left (f.left - n))
+      (Up (with_frozen s (Some (record { world = f.world; size = f.size; left = f.left - n })))))
       (sym is) (stabilize_with n f)
 
   commit_with : (f : Frozen) → f.left ≡ 0 →

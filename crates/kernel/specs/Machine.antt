@@ -12,7 +12,14 @@ use Rattle.kernel.specs.Prepared.{refusal_of}
 -- the machine whose objects now are those of present frames
 abbrev pub machine_at : ℕ → Parts → List Bool → Option Frozen → Saved → ℕ → Machine
 machine_at age p renewed frozen saved to_move =
-    Up (record { now = world_at age (frames_of p); touched = p.touched; renewed = renewed; frozen = frozen; saved = saved; to_move = to_move })
+    Up (record {
+      now = world_at age (frames_of p);
+      touched = p.touched;
+      renewed = renewed;
+      frozen = frozen;
+      saved = saved;
+      to_move = to_move;
+    })
 
 -- those of a set of numbers, and those whose objects are given up from some parts to others
 abbrev pub renewed_by : List Bool → Parts → Parts → List Bool
@@ -53,8 +60,10 @@ IsUnlooked _ = ⊥
 -- from parts at an age to parts at an age a command is answered as the machine answers it, whatever was renewed and is
 -- frozen and saved, unless the device fails: then the machine is down
 pub record Performs (old_age : ℕ) (old : Parts) (c : Command) (a : Answer) (new_age : ℕ) (new : Parts) : Type 0 where
-  pub step : (renewed : List Bool) (frozen : Option Frozen) (saved : Saved) (to_move : ℕ) → (a ≡ answer.Refused refusal.Fault → ⊥) →
-      Step old.geometry (machine_at old_age old renewed frozen saved to_move) c a (machine_at new_age new (renewed_by renewed old new) frozen saved to_move)
+  pub step : (renewed : List Bool) (frozen : Option Frozen) (saved : Saved) (to_move : ℕ) →
+      (a ≡ answer.Refused refusal.Fault → ⊥) →
+      Step old.geometry (machine_at old_age old renewed frozen saved to_move) c a
+      (machine_at new_age new (renewed_by renewed old new) frozen saved to_move)
   pub renews : Renews old new
   pub sound : IsSoundFrames new.geometry new_age (frames_of new)
   pub geometry : new.geometry ≡ old.geometry
@@ -66,12 +75,10 @@ abbrev pub IsEarly : List Object → ℕ → Option Refusal → Type 0
 IsEarly os p None = (is_process os p ≡ true) × (is_running_process os p ≡ true)
 IsEarly os p (Some refusal.NoProcess) = is_process os p ≡ false
 IsEarly os p (Some refusal.NotRunning) = (is_process os p ≡ true) × (is_running_process os p ≡ false)
-IsEarly os p (Some refusal.NoMemory) = is_process os p ≡ true
 IsEarly os p _ = ⊥
 
 -- such a reason
 abbrev pub IsOfEarly : Refusal → Type 0
 IsOfEarly refusal.NoProcess = Unit {0}
 IsOfEarly refusal.NotRunning = Unit {0}
-IsOfEarly refusal.NoMemory = Unit {0}
 IsOfEarly _ = ⊥

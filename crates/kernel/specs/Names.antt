@@ -1,6 +1,5 @@
 -- The names of other crates that the definitions here cite.
 pub use Rattle.capability.specs.Parts.{Parts, Renews, frames_of, objects_in}
-pub use Rattle.capability.specs.declared.present.PrepareFault.{PrepareFault}
 pub use Rattle.checkpoint.specs.Opened.{OnlyReads}
 pub use Rattle.checkpoint.specs.declared.committed.Checkpoint.{Checkpoint}
 pub use Rattle.checkpoint.specs.declared.open_fault.OpenFault.{OpenFault}

@@ -1,22 +1,15 @@
--- The refusals of a failed `prepare`, and of an invocation that isn't carried out.
-use Rattle.kernel.specs.Names.{Refusal, PrepareFault, InvokeFault}
+-- The refusals of an invocation that isn't carried out.
+use Rattle.kernel.specs.Names.{Refusal, InvokeFault}
 use Rattle.model.specs.declared.answer.Refusal.TheVariants as refusal
-use Rattle.capability.specs.declared.present.PrepareFault.TheVariants as prepare
 use Rattle.gate.specs.declared.fault.InvokeFault.TheVariants as fault
 use Rattle.kernel.specs.declared.processes.unserved.Unserved.{Unserved}
 use Rattle.kernel.specs.declared.processes.unserved.Unserved.TheVariants as unserved
 
--- the refusal of a load or a store
-abbrev pub refused_by : PrepareFault → Refusal
-refused_by prepare.NoMemory = refusal.NoMemory
-refused_by prepare.LogFull = refusal.LogFull
-refused_by prepare.Failed = refusal.Fault
-
+-- the refusal of an invocation that began
 abbrev pub refusal_by : InvokeFault → Refusal
 refusal_by fault.NotRunning = refusal.NotRunning
 refusal_by fault.Stalled = refusal.Stalled
 refusal_by fault.LogFull = refusal.LogFull
-refusal_by fault.NoMemory = refusal.NoMemory
 refusal_by fault.Failed = refusal.Fault
 
 -- the refusal of an invocation

@@ -71,7 +71,8 @@ module _ {D S : Type 0} (disk : D → Disk) (view : S → View D) (parts : S →
   -- From a kernel that stands for a machine to one that stands for the machine after it, a command is answered as the
   -- machine may answer it; a crash at any moment in its course leaves what denotes a candidate of the machine before,
   -- or what the command may save besides.
-  pub record ServesFrom (g : Geometry) (m : Machine) (old : Power D S) (c : Command) (a : Answer) (new : Power D S) : Type 0 where
+  pub record ServesFrom (g : Geometry) (m : Machine) (old : Power D S) (c : Command) (a : Answer) (new : Power D S) :
+      Type 0 where
     pub after : Machine
     pub step : Step g m c a after
     pub stands : Stands g new after
@@ -105,7 +106,8 @@ module _ {D S : Type 0} (disk : D → Disk) (view : S → View D) (parts : S →
   -- the checkpoint that is answered is the committed one of the machine that is up
   abbrev pub IsReported : Power D S → Option Checkpoint → Type 0
   IsReported (power.Up l) (Some reported) =
-      (reported.generation ≡ (view l.store).snapshots.saved.generation) × (reported.age ≡ (view l.store).snapshots.saved.age)
+      (reported.generation ≡ (view l.store).snapshots.saved.generation) ×
+      (reported.age ≡ (view l.store).snapshots.saved.age)
       × (reported.entries ≡ (view l.store).snapshots.saved.entries)
   IsReported (power.Up l) None = ⊥
   IsReported _ reported = reported ≡ None

@@ -1,11 +1,11 @@
 // A machine that is up or down, and its steps.
-ghost use Rattle.std.specs.Prelude.{◌≡◌, List, None, false, IfOk, IfErr};
+ghost use Rattle.std.specs.Prelude.{◌≡◌, List, None, false, true, IfOk, IfErr};
 ghost use Rattle.model.specs.declared.command.Command.TheVariants as command;
 ghost use Rattle.model.specs.declared.command.Command.TheVariants.{Invoke};
 ghost use Rattle.model.specs.declared.command.Invocation.{Invocation};
 ghost use Rattle.model.specs.declared.geometry.Geometry.{Geometry};
 ghost use Rattle.model.specs.Machine.{Saved};
-ghost use Rattle.model.specs.Step.{opens};
+ghost use Rattle.model.specs.Step.{opens, takes_memory};
 ghost use Rattle.kernel.specs.Machine.{IsUnlooked, NeedsNoLook};
 ghost use Rattle.recovery.specs.Denotes.{Leaves};
 ghost use Rattle.recovery.specs.Recovered.{RefusesToOpen};
@@ -163,7 +163,7 @@ impl<D: Device, S: ObjectStore<D>> Kernel<D, S> {
     }
 
     // Carries out an invocation. After a failure the machine is down.
-    fn invoke(&mut self, alloc: Global, invocation: &Invocation) -> Served
+    fn invoke(&mut self, invocation: &Invocation) -> Served
         ensures serves { Serves D.disk S.view S.parts self.old (Invoke invocation.now) result.answer self.new }
         ensures untouched { IsUnlooked result.answer
             → SameDevice D.disk S.view S.parts self.old self.new }
@@ -172,7 +172,7 @@ impl<D: Device, S: ObjectStore<D>> Kernel<D, S> {
         ensures code { HasCode D.disk S.view S.parts self.old (Invoke invocation.now) result }
     {
         match &mut self.live {
-            Some(live) => match invoke::<D, S>(alloc, live, invocation) {
+            Some(live) => match invoke::<D, S>(live, invocation) {
                 Ok(code) => Served {
                     answer: Answer::Done,
                     code,
@@ -229,11 +229,11 @@ impl<D: Device, S: ObjectStore<D>> Kernel<D, S> {
 
     /// Serves one command, as the machine does.
     ///
-    /// A refusal changes nothing. If several apply, the answer is the first (see `Refusal`). A command
-    /// that takes memory may be answered `NoMemory` instead. `Fault` is answered exactly if the device
-    /// failed: then the machine is down, and takes only `Restart` and `Cut`, which leave it down if
-    /// they are refused. `BadNumber`, `NoProcess` and `Down` make no call of the device, and neither
-    /// does `Migrate` if everything saved is home.
+    /// A refusal changes nothing. If several apply, the answer is the first (see `Refusal`). Only
+    /// `Show`, `Restart` and `Cut` may be answered `NoMemory`: no other command takes memory. `Fault`
+    /// is answered exactly if the device failed: then the machine is down, and takes only `Restart` and
+    /// `Cut`, which leave it down if they are refused. `BadNumber`, `NoProcess` and `Down` make no call
+    /// of the device, and neither does `Migrate` if everything saved is home.
     ///
     /// A crash at any moment leaves the saved part. In a `Commit`, a `Journal`, or the `Migrate` that
     /// brings the last object home, it may leave the part that this command saves.
@@ -245,6 +245,7 @@ impl<D: Device, S: ObjectStore<D>> Kernel<D, S> {
             → SameDevice D.disk S.view S.parts self.old self.new }
         ensures cause { IsCaused (disk_of D.disk S.view S.parts self.old)
             (disk_of D.disk S.view S.parts self.new) result }
+        ensures memory { result ≡ Answer.Refused Refusal.NoMemory → takes_memory command ≡ true }
     {
         self.step_with_code(alloc, &command).answer
     }
@@ -260,9 +261,12 @@ impl<D: Device, S: ObjectStore<D>> Kernel<D, S> {
         ensures cause { IsCaused (disk_of D.disk S.view S.parts self.old)
             (disk_of D.disk S.view S.parts self.new) result.answer }
         ensures code { HasCode D.disk S.view S.parts self.old command.now result }
+        ensures memory { result.answer ≡ Answer.Refused Refusal.NoMemory → takes_memory command.now ≡ true }
     {
+        // The proof of `memory` needs the invariant.
+        let _ = &self.live;
         match command {
-            Command::Invoke(invocation) => self.invoke(alloc, invocation),
+            Command::Invoke(invocation) => self.invoke(invocation),
             Command::Restart => Served::from(self.restart(alloc)),
             Command::Cut => Served::from(self.cut(alloc)),
             other => Served::from(self.go_on(alloc, *other)),

@@ -17,8 +17,8 @@ use object_store::ObjectStore;
 use recovery::Live;
 use std::alloc::Global;
 
-// Evicts an object from memory. It is refused by `BadNumber` where no object has the number. It
-// takes no memory, and makes no device call then.
+// Evicts an object from memory. It is refused by `BadNumber` if no object has the number, and makes
+// no call of the device then.
 #[inline(never)]
 fn evict<D: Device, S: ObjectStore<D>>(live: &mut Live<S>, number: u64) -> Result<Answer, Failed>
     requires { IsSomeUp D.disk S.view S.parts live.old }
@@ -36,8 +36,8 @@ fn evict<D: Device, S: ObjectStore<D>>(live: &mut Live<S>, number: u64) -> Resul
     Ok(Answer::Done)
 }
 
-/// Serves a command that isn't an invocation and doesn't open the device, by a store that is up.
-/// Fails exactly where the device does.
+/// Serves a command that isn't an invocation and doesn't open the device, by a store that is up. Only
+/// `Show` takes memory. Fails exactly if the device fails.
 #[inline(always)]
 pub fn serve<D: Device, S: ObjectStore<D>>(
     alloc: Global,
@@ -58,13 +58,13 @@ pub fn serve<D: Device, S: ObjectStore<D>>(
 {
     match command {
         Command::Load { process, address } => {
-            processes::load(alloc, &mut live.store, live.age, process, address)
+            processes::load(&mut live.store, live.age, process, address)
         }
         Command::Store {
             process,
             address,
             value,
-        } => processes::store(alloc, &mut live.store, live.age, process, address, value),
+        } => processes::store(&mut live.store, live.age, process, address, value),
         Command::Show { number } => {
             processes::show(alloc, &mut live.store, &live.banks, live.age, number)
         }
@@ -81,7 +81,6 @@ pub fn serve<D: Device, S: ObjectStore<D>>(
 
 /// Carries out an invocation, by a store that is up.
 pub fn invoke<D: Device, S: ObjectStore<D>>(
-    alloc: Global,
     live: &mut Live<S>,
     invocation: &Invocation,
 ) -> Result<Option<ResultCode>, Unserved>
@@ -92,13 +91,8 @@ pub fn invoke<D: Device, S: ObjectStore<D>>(
         (disk_at D.disk S.view S.parts live.new) (answer_with result) }
     ensures untouched { IsUnlooked (answer_with result)
         → (S.view live.new.store).beneath ≡ (S.view live.old.store).beneath }
-    ensures code { IfOk result (λ code. HasCode D.disk S.view S.parts (power.Up live.old) (command.Invoke invocation.now) (done_with code)) }
+    ensures code { IfOk result
+        (λ code. HasCode D.disk S.view S.parts (power.Up live.old) (command.Invoke invocation.now) (done_with code)) }
 {
-    processes::invoke(
-        alloc,
-        &mut live.store,
-        &mut live.banks,
-        &mut live.age,
-        invocation,
-    )
+    processes::invoke(&mut live.store, &mut live.banks, &mut live.age, invocation)
 }

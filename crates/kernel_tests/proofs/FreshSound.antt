@@ -50,7 +50,8 @@ module _ (g : Geometry) (w : World) (few : object_count g < 2 ^ 64) (sound : IsS
       ((k, omega (arith, k)), (omega arith, omega arith))
   held_follows Discrim h = refl
 
-  slots_follow : (slots : List Capability) → length slots ≡ 32 → ((i : ℕ) → MayBeHeld w.objects (slice_index_or slots i Void)) → AreKeptSlots g w.age (map fresh_cap slots)
+  slots_follow : (slots : List Capability) → length slots ≡ 32 → ((i : ℕ) → MayBeHeld w.objects (slice_index_or slots i Void)) →
+      AreKeptSlots g w.age (map fresh_cap slots)
   slots_follow slots count each = record {
     count = length-map slots fresh_cap ∙ count;
     each = All-map (IsKeptCap g w.age) fresh_cap slots
@@ -68,7 +69,8 @@ module _ (g : Geometry) (w : World) (few : object_count g < 2 ^ 64) (sound : IsS
       (λ i. subst (λ (d : Content Capability). MayBeHeld w.objects (slice_index_or (slots_in d) i Void)) is (sound.slots n i))
   content_kept n (content.Root r) is =
       let shape = subst HasShape is (sound.shapes n) in
-      let annex = annex_number g (annex_at w.objects n) (content_at w.objects (annex_at w.objects n)) (sound.kinds (annex_at w.objects n)) (sound.annexes n (ap is_root is)).0 in
+      let annex = annex_number g (annex_at w.objects n) (content_at w.objects (annex_at w.objects n)) (sound.kinds (annex_at w.objects n))
+      (sound.annexes n (ap is_root is)).0 in
       let below = subst (λ (d : Content Capability). (root_in d).annex < g.nodes) is annex in
       let space = subst (λ (d : Content Capability). MayBeHeld w.objects (root_in d).space) is (sound.spaces n).0 in (
         record { count_is = shape.0; each = All-from_get_or (λ v. v < 2 ^ 64) r.words 0 (λ i inside. shape.1 i) },

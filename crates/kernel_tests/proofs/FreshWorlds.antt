@@ -48,7 +48,8 @@ fresh_content hs fresh content.Free = refl
 fresh_content hs fresh (content.Page words) = refl
 fresh_content hs fresh (content.Node slots) = ap content.Node (map_back fresh_cap (conveyed hs) (fresh_conveyed hs fresh) slots)
 fresh_content hs fresh (content.Root r) =
-    ap (λ (space : Capability). content.Root (record { state = r.state; words = r.words; key = r.key; annex = r.annex; space = space })) (fresh_conveyed hs fresh r.space)
+    ap (λ (space : Capability). content.Root (record { state = r.state; words = r.words; key = r.key; annex = r.annex; space = space }))
+    (fresh_conveyed hs fresh r.space)
 fresh_content hs fresh (content.Annex registers) = ap content.Annex (map_back fresh_cap (conveyed hs) (fresh_conveyed hs fresh) registers)
 fresh_content hs fresh (content.Bank limit) = refl
 

@@ -7,7 +7,6 @@ pub use Rattle.capability.specs.Plain.{PlainState, fresh_cap, parts_of}
 pub use Rattle.model.specs.Frame.{blank_frame, conveyed, current_count, header_at, headers, object_of}
 unfoldable pub use Rattle.model.specs.Frame.{frames_in, objects_of}
 pub use Rattle.model.specs.Keepable.{AreKeepable, AreKeptSlots, Follows, IsCurrent, IsKeepable, IsKeptCap, IsSoundFrames, MayBeKept, caps_in, world_at}
-unfoldable pub use Rattle.model.specs.Machine.{untouched}
 pub use Rattle.model.specs.Object.{free, is_annex, is_free, is_root, map_content, role_of, root_in, slots_in, words_in}
 unfoldable pub use Rattle.model.specs.Object.{all_slots, zero_words}
 pub use Rattle.model.specs.Sound.{HasShape, IsOfKind, IsSound, IsSpace, MayBeHeld, object_count}

@@ -8,7 +8,7 @@ ghost use Rattle.checkpoint.specs.Saved.{Holds};
 ghost use Rattle.image_writer.specs.Written.{first_saved};
 
 use crate::worlds::{f0, i0};
-use capability::{Plain, PresentFrames};
+use capability::{Frames, Plain};
 use device::Device;
 use image_writer::{NumberRange, lay_out, write_image};
 use layout::Version;
@@ -50,7 +50,7 @@ fn copy_contents(alloc: Global, plain: &Plain) -> Result<Vec<Content<Cap>>, Allo
 {
     let mut contents = Vec::new(alloc);
     for number in 0..plain.table().count() {
-        contents.push(plain.frame(number).copy(alloc)?)?;
+        contents.push(plain.frame(number).to_content(alloc)?)?;
     }
     Ok(contents)
 }

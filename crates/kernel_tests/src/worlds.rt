@@ -1,10 +1,9 @@
 // The two worlds that tests begin with, as stores in memory.
-ghost use Rattle.std.specs.Prelude.{◌≡◌, [], ◌∷◌, length, map, replicate, slice_set, IfOk};
+ghost use Rattle.std.specs.Prelude.{◌≡◌, [], ◌∷◌, ◌++◌, length, map, replicate, slice_set, IfOk, OnOk};
 ghost use Rattle.model.specs.declared.capability.Capability.TheVariants.{Void, Node, Page, Process, Start, Bank};
 ghost use Rattle.model.specs.declared.object.Content.TheVariants as content;
 ghost use Rattle.model.specs.declared.object.State.TheVariants as states;
 ghost use Rattle.model.specs.Capability.{full};
-ghost use Rattle.model.specs.Machine.{untouched};
 ghost use Rattle.model.specs.Object.{all_slots, free};
 ghost use Rattle.model.specs.Worlds.{small, f0, i0, prime_bank, fresh_root};
 ghost use Rattle.model.specs.Keepable.{world_at};
@@ -13,7 +12,6 @@ ghost use Rattle.capability.specs.Plain.{parts_of, fresh_cap};
 ghost use Rattle.kernel_tests.specs.Fresh.{fresh_header, fresh_held, prime_header};
 
 use capability::Plain;
-use capability::plain::spares::push_free;
 use model::{Access, Cap, Capability, Content, Geometry, ObjectHeader, Root, Slots, State, Words};
 use std::alloc::{AllocError, Global};
 
@@ -34,7 +32,6 @@ pub fn f0(alloc: Global) -> Result<Plain, AllocError>
     ensures headers { IfOk result (λ p. p.headers ≡ map fresh_header f0.objects) }
     ensures contents { IfOk result (λ p. p.contents ≡ map fresh_held f0.objects) }
     ensures geometry { IfOk result (λ p. p.geometry ≡ small) }
-    ensures touched { IfOk result (λ p. p.touched ≡ untouched small) }
 {
     prime_world(alloc, f0_contents(alloc)?)
 }
@@ -46,7 +43,6 @@ pub fn i0(alloc: Global) -> Result<Plain, AllocError>
     ensures headers { IfOk result (λ p. p.headers ≡ map fresh_header i0.objects) }
     ensures contents { IfOk result (λ p. p.contents ≡ map fresh_held i0.objects) }
     ensures geometry { IfOk result (λ p. p.geometry ≡ small) }
-    ensures touched { IfOk result (λ p. p.touched ≡ untouched small) }
 {
     prime_world(alloc, i0_contents(alloc)?)
 }
@@ -58,12 +54,10 @@ fn prime_world(alloc: Global, contents: Vec<Content<Cap>>) -> Result<Plain, Allo
       geometry = small;
       headers = map prime_header contents.items;
       contents = contents.items;
-      touched = untouched small;
-      spares = replicate 24 content.Free;
     }) }
 {
     let headers = prime_headers(alloc, &contents)?;
-    Plain::new(alloc, SMALL, headers, contents)
+    Ok(Plain::new(SMALL, headers, contents))
 }
 
 // The headers of objects of the prime bank, and of free numbers.
@@ -137,6 +131,16 @@ fn void_slots(alloc: Global) -> Result<Slots<Cap>, AllocError>
     ensures { IfOk result (λ slots. slots ≡ map fresh_cap (all_slots Void)) }
 {
     Slots::new(alloc, held(Capability::Void))
+}
+
+// Pushes free numbers.
+fn push_free(contents: &mut Vec<Content<Cap>>, count: usize) -> Result<(), AllocError>
+    ensures { OnOk result (contents.new.items ≡ contents.old.items ++ replicate count content.Free) }
+{
+    for _ in 0..count {
+        contents.push(Content::Free)?;
+    }
+    Ok(())
 }
 
 // The prime bank, and a running process without its annex.

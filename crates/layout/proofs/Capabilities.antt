@@ -46,10 +46,12 @@ head_is k fits = fields_number (tag_of k) (access_bits k) (key_of k) (height_of 
 -- a capability as three numbers
 pub as_numbers : (c : Cap) → HeadFits c.what → capability_bytes c ≡ number (head_number c.what) ++ (number (number_of c.what) ++ number c.count)
 unfolding capability_bytes
-as_numbers c fits = ap (λ (h : List ℕ). h ++ number (number_of c.what) ++ number c.count) (head_is c.what fits) ∙ append_assoc (number (head_number c.what)) (number (number_of c.what)) (number c.count)
+as_numbers c fits = ap (λ (h : List ℕ). h ++ number (number_of c.what) ++ number c.count) (head_is c.what fits) ∙
+    append_assoc (number (head_number c.what)) (number (number_of c.what)) (number c.count)
 
 -- three numbers are read
-pub three_read : (bytes : List ℕ) (a b c : ℕ) → length bytes ≡ 24 → bytes ≡ number a ++ drop 8 bytes → drop 8 bytes ≡ number b ++ drop 16 bytes → drop 16 bytes ≡ number c ++ drop 24 bytes
+pub three_read : (bytes : List ℕ) (a b c : ℕ) → length bytes ≡ 24 → bytes ≡ number a ++ drop 8 bytes → drop 8 bytes ≡ number b ++ drop 16 bytes →
+    drop 16 bytes ≡ number c ++ drop 24 bytes
     → bytes ≡ number a ++ (number b ++ number c)
 three_read bytes a b c len ea eb ec =
     let last : drop 16 bytes ≡ number c = ec ∙ ap (λ (r : List ℕ). number c ++ r) (drop_all 24 bytes (omega arith)) ∙ append-nil (number c) in
@@ -67,16 +69,26 @@ pub record CapFits (c : Cap) : Type 0 where
 
 -- what has a spelling fits its bytes
 pub follows_fits : (g : Geometry) (age count : ℕ) (k : Capability) → Follows g age count k → CapFits (record { what = k; count = count })
-follows_fits g age count Void f = record { head = record { access = omega arith; key = omega arith; height = omega arith }; object = omega arith; count = omega arith }
-follows_fits g age count (Number n) f = record { head = record { access = omega arith; key = omega arith; height = omega arith }; object = omega arith; count = omega arith }
-follows_fits g age count (Page o a) f = record { head = record { access = access_fits a f.0; key = omega arith; height = omega arith }; object = omega arith; count = omega arith }
-follows_fits g age count (Node o a) f = record { head = record { access = access_fits a f.0; key = omega arith; height = omega arith }; object = omega arith; count = omega arith }
-follows_fits g age count (Space o h a) f = record { head = record { access = access_fits a f.0; key = omega arith; height = omega arith }; object = omega arith; count = omega arith }
-follows_fits g age count (Process p) f = record { head = record { access = omega arith; key = omega arith; height = omega arith }; object = omega arith; count = omega arith }
-follows_fits g age count (Start p key) f = record { head = record { access = omega arith; key = omega arith; height = omega arith }; object = omega arith; count = omega arith }
-follows_fits g age count (Resume p) f = record { head = record { access = omega arith; key = omega arith; height = omega arith }; object = omega arith; count = omega arith }
-follows_fits g age count (Bank b) f = record { head = record { access = omega arith; key = omega arith; height = omega arith }; object = omega arith; count = omega arith }
-follows_fits g age count Discrim f = record { head = record { access = omega arith; key = omega arith; height = omega arith }; object = omega arith; count = omega arith }
+follows_fits g age count Void f =
+    record { head = record { access = omega arith; key = omega arith; height = omega arith }; object = omega arith; count = omega arith }
+follows_fits g age count (Number n) f =
+    record { head = record { access = omega arith; key = omega arith; height = omega arith }; object = omega arith; count = omega arith }
+follows_fits g age count (Page o a) f =
+    record { head = record { access = access_fits a f.0; key = omega arith; height = omega arith }; object = omega arith; count = omega arith }
+follows_fits g age count (Node o a) f =
+    record { head = record { access = access_fits a f.0; key = omega arith; height = omega arith }; object = omega arith; count = omega arith }
+follows_fits g age count (Space o h a) f =
+    record { head = record { access = access_fits a f.0; key = omega arith; height = omega arith }; object = omega arith; count = omega arith }
+follows_fits g age count (Process p) f =
+    record { head = record { access = omega arith; key = omega arith; height = omega arith }; object = omega arith; count = omega arith }
+follows_fits g age count (Start p key) f =
+    record { head = record { access = omega arith; key = omega arith; height = omega arith }; object = omega arith; count = omega arith }
+follows_fits g age count (Resume p) f =
+    record { head = record { access = omega arith; key = omega arith; height = omega arith }; object = omega arith; count = omega arith }
+follows_fits g age count (Bank b) f =
+    record { head = record { access = omega arith; key = omega arith; height = omega arith }; object = omega arith; count = omega arith }
+follows_fits g age count Discrim f =
+    record { head = record { access = omega arith; key = omega arith; height = omega arith }; object = omega arith; count = omega arith }
 
 -- a capability is made again of its fields
 assembled_again : (k : Capability) (tag bits key height n : ℕ) → tag ≡ tag_of k → bits ≡ access_bits k → key ≡ key_of k → height ≡ height_of k → n ≡ number_of k
@@ -102,7 +114,8 @@ pub made_again : (k : Capability) (head bits n : ℕ) → HeadFits k → head �
 made_again k head bits n fits eh en eb =
     let p = head_parts (tag_of k) (access_bits k) (key_of k) (height_of k) (tag_fits k) fits.access fits.key fits.height in
     assembled_again k (head % 256) bits (head / 65536 % 65536) (head / 4294967296 % 256) n
-    (ap (λ (x : ℕ). x % 256) eh ∙ p.0) (eb ∙ ap (λ (x : ℕ). x / 256 % 256) eh ∙ p.1) (ap (λ (x : ℕ). x / 65536 % 65536) eh ∙ p.2) (ap (λ (x : ℕ). x / 4294967296 % 256) eh ∙ p.3) en
+    (ap (λ (x : ℕ). x % 256) eh ∙ p.0) (eb ∙ ap (λ (x : ℕ). x / 256 % 256) eh ∙ p.1) (ap (λ (x : ℕ). x / 65536 % 65536) eh ∙ p.2)
+    (ap (λ (x : ℕ). x / 4294967296 % 256) eh ∙ p.3) en
 
 -- the numbers of a spelling
 pub record HasNumbers (c : Cap) (head object count : ℕ) : Type 0 where
@@ -116,7 +129,8 @@ head_below k fits = let t = tag_fits k in omega (arith, fits.access, fits.key, f
 pub spelt_numbers : (c : Cap) (head object count : ℕ) → CapFits c → head < 2 ^ 64 → object < 2 ^ 64 → count < 2 ^ 64
     → number head ++ (number object ++ number count) ≡ capability_bytes c → HasNumbers c head object count
 spelt_numbers c head object count fits fh fo fc e =
-    let a = number_splits head (head_number c.what) (number object ++ number count) (number (number_of c.what) ++ number c.count) fh (head_below c.what fits.head) (e ∙ as_numbers c fits.head) in
+    let a = number_splits head (head_number c.what) (number object ++ number count) (number (number_of c.what) ++ number c.count) fh
+    (head_below c.what fits.head) (e ∙ as_numbers c fits.head) in
     let b = number_splits object (number_of c.what) (number count) (number c.count) fo fits.object a.1 in
     let d = number_splits count c.count [] [] fc fits.count (ap (λ (r : List ℕ). r ++ []) b.1) in
     record { head_is = a.0; object_is = b.0; count_is = d.0 }
@@ -125,10 +139,12 @@ pub same_cap : (b c : Cap) → b.what ≡ c.what → b.count ≡ c.count → b �
 same_cap b c w n = ap (λ (k : Capability). record { what = k; count = b.count }) w ∙ ap (λ (m : ℕ). record { what = c.what; count = m }) n
 
 -- three numbers are written
-pub three_written : (new mid first old : List ℕ) (a b c : ℕ) → length new ≡ 24 → take 24 new ≡ take 16 mid ++ number c → take 16 mid ≡ take 8 first ++ number b → take 8 first ≡ take 0 old ++ number a
+pub three_written : (new mid first old : List ℕ) (a b c : ℕ) → length new ≡ 24 → take 24 new ≡ take 16 mid ++ number c →
+    take 16 mid ≡ take 8 first ++ number b → take 8 first ≡ take 0 old ++ number a
     → new ≡ number a ++ (number b ++ number c)
 three_written new mid first old a b c len ec eb ea =
-    sym (take_all 24 new (omega arith)) ∙ ec ∙ ap (λ (r : List ℕ). r ++ number c) (eb ∙ ap (λ (r : List ℕ). r ++ number b) ea) ∙ append_assoc (number a) (number b) (number c)
+    sym (take_all 24 new (omega arith)) ∙ ec ∙ ap (λ (r : List ℕ). r ++ number c) (eb ∙ ap (λ (r : List ℕ). r ++ number b) ea) ∙
+    append_assoc (number a) (number b) (number c)
 
 -- the numbers that were read of bytes that no capability spells
 pub none_spelt : (g : Geometry) (age : ℕ) (bytes : List ℕ) (head object count bits : ℕ) (what : Capability) → head < 2 ^ 64 → object < 2 ^ 64 → count < 2 ^ 64
@@ -141,14 +157,16 @@ none_spelt g age bytes head object count bits what fh fo fc is eb made hold c fi
     let n = spelt_numbers c head object count all fh fo fc (sym is ∙ e) in
     let same : what ≡ c.what = made ∙ made_again c.what head bits object all.head n.head_is n.object_is eb in
     hold (ap head_number same ∙ sym n.head_is) (ap number_of same ∙ sym n.object_is)
-    (subst (λ (k : Capability). IsKeptCap g age (record { what = k; count = count })) (sym same) (subst (λ (m : ℕ). IsKeptCap g age (record { what = c.what; count = m })) (sym n.count_is) fits))
+    (subst (λ (k : Capability). IsKeptCap g age (record { what = k; count = count })) (sym same)
+    (subst (λ (m : ℕ). IsKeptCap g age (record { what = c.what; count = m })) (sym n.count_is) fits))
 
 -- given bytes spell at most one capability
 pub one_capability : (g : Geometry) (age : ℕ) (b c : Cap) → IsKeptCap g age b → IsKeptCap g age c → capability_bytes b ≡ capability_bytes c → b ≡ c
 one_capability g age b c fb fc e =
     let all = follows_fits g age b.count b.what fb in
     let all' = follows_fits g age c.count c.what fc in
-    let n = spelt_numbers c (head_number b.what) (number_of b.what) b.count all' (head_below b.what all.head) all.object all.count (sym (as_numbers b all.head) ∙ e) in
+    let n = spelt_numbers c (head_number b.what) (number_of b.what) b.count all' (head_below b.what all.head) all.object all.count
+    (sym (as_numbers b all.head) ∙ e) in
     let left = made_again b.what (head_number b.what) (head_number b.what / 256 % 256) (number_of b.what) all.head refl refl refl in
     let right = made_again c.what (head_number b.what) (head_number b.what / 256 % 256) (number_of b.what) all'.head n.head_is n.object_is refl in
     let what : b.what ≡ c.what = sym left ∙ right in

@@ -20,7 +20,8 @@ node_last f bytes e size =
     let front : List ℕ = front_bytes f.header in
     let slots : List ℕ = slots_bytes (slots_of f.content) in
     let whole : bytes ≡ (front ++ slots) ++ zeros 224 = e in
-    ap (drop 800) whole ∙ drop_at (front ++ slots) (zeros 224) 800 (omega (arith, ap length whole, size, length-append (front ++ slots) (zeros 224), length-zeros 224))
+    ap (drop 800) whole ∙
+    drop_at (front ++ slots) (zeros 224) 800 (omega (arith, ap length whole, size, length-append (front ++ slots) (zeros 224), length-zeros 224))
 
 is_node : (n nodes : ℕ) → n < nodes → nat_lt n nodes ≡ true
 is_node n nodes lt = grind (arith, nat_tests)
@@ -31,19 +32,22 @@ node_end g n f bytes lt e size = node_last f bytes (e ∙ ap (λ test. if test t
 -- ---- parts of a cluster
 
 part_is : (xs : List ℕ) (r : ℕ) → take 800 (drop (800 * r) xs) ≡ drop (800 * r) (take (800 * r + 800) xs)
-part_is xs r = let size : 800 * r + 800 - 800 * r ≡ 800 = omega arith in ap (λ (n : ℕ). take n (drop (800 * r) xs)) (sym size) ∙ between_is xs (800 * r) (800 * r + 800)
+part_is xs r = let size : 800 * r + 800 - 800 * r ≡ 800 = omega arith in ap (λ (n : ℕ). take n (drop (800 * r) xs)) (sym size) ∙
+    between_is xs (800 * r) (800 * r + 800)
 
 -- what was put into the place of a rank stands there,
 own_part : (xs ys : List ℕ) (r k : ℕ) → r < 5 → length xs ≡ 4096 → length ys ≡ 800 → take 800 (drop (800 * r) (put_mid (800 * r) k xs ys)) ≡ ys
 own_part xs ys r k lt size few =
     let part : 800 * r + 800 - 800 * r ≡ 800 = omega arith in
-    ap (λ (n : ℕ). take n (drop (800 * r) (put_mid (800 * r) k xs ys))) (sym part) ∙ between-put_mid (800 * r) k xs ys (800 * r + 800) (omega (arith, lt, size)) (omega (arith, few))
+    ap (λ (n : ℕ). take n (drop (800 * r) (put_mid (800 * r) k xs ys))) (sym part) ∙ between-put_mid (800 * r) k xs ys (800 * r + 800) (omega (arith, lt, size))
+    (omega (arith, few))
 
 -- and the places of the others stay
 pub other_part : (xs ys : List ℕ) (r o k : ℕ) → r < 5 → o < 5 → (o ≡ r → ⊥) → length xs ≡ 4096 → length ys ≡ 800 → k ≡ 800
     → shape_bytes (Packed o) (put_mid (800 * r) k xs ys) ≡ shape_bytes (Packed o) xs
 other_part xs ys r o k lt within differ size few whole = ap (λ (part : List ℕ). part ++ zeros 224) (elim (cases_lt o r) [
-  | inl less ↦ part_is (put_mid (800 * r) k xs ys) o ∙ ap (drop (800 * o)) (take-put_mid_below (800 * r) k xs ys (800 * o + 800) (omega (arith, less)) (omega (arith, lt, size))) ∙ sym (part_is xs o)
+  | inl less ↦ part_is (put_mid (800 * r) k xs ys) o ∙
+      ap (drop (800 * o)) (take-put_mid_below (800 * r) k xs ys (800 * o + 800) (omega (arith, less)) (omega (arith, lt, size))) ∙ sym (part_is xs o)
   | inr le ↦ ap (take 800) (drop-put_mid (800 * r) k xs ys (800 * o) (omega (arith, le, differ, whole)) (omega (arith, lt, size)) (few ∙ sym whole))
 ])
 
@@ -62,14 +66,17 @@ front_long node size = length-take-le 800 node (omega (arith, size))
 pub part_long : (cluster : List ℕ) (r : ℕ) → r < 5 → length cluster ≡ 4096 → length (take (800 * r + 800 - 800 * r) (drop (800 * r) cluster)) ≡ 800
 part_long cluster r lt size =
     let whole : 800 * r + 800 - 800 * r ≡ 800 = omega arith in
-    ap (λ (n : ℕ). length (take n (drop (800 * r) cluster))) whole ∙ length-take-le 800 (drop (800 * r) cluster) (omega (arith, lt, size, length-drop (800 * r) cluster))
+    ap (λ (n : ℕ). length (take n (drop (800 * r) cluster))) whole ∙
+    length-take-le 800 (drop (800 * r) cluster) (omega (arith, lt, size, length-drop (800 * r) cluster))
 
 -- the frame of a rank that was copied to the front of a node's bytes, with zeros behind it
-pub unpacked : (cluster node copied bytes : List ℕ) (r : ℕ) → r < 5 → length cluster ≡ 4096 → length node ≡ 1024 → copied ≡ take (800 * r + 800 - 800 * r) (drop (800 * r) cluster)
+pub unpacked : (cluster node copied bytes : List ℕ) (r : ℕ) → r < 5 → length cluster ≡ 4096 → length node ≡ 1024 →
+    copied ≡ take (800 * r + 800 - 800 * r) (drop (800 * r) cluster)
     → bytes ≡ take 800 (copied ++ drop 800 node) ++ zeros (length (copied ++ drop 800 node) - 800) → bytes ≡ shape_bytes (Packed r) cluster
 unpacked cluster node copied bytes r lt size long is written =
     let whole : 800 * r + 800 - 800 * r ≡ 800 = omega arith in
     let few : length copied ≡ 800 = ap length is ∙ part_long cluster r lt size in
     let rest : length (copied ++ drop 800 node) - 800 ≡ 224 = omega (arith, length-append copied (drop 800 node), length-drop 800 node, few, long) in
-    let front : take 800 (copied ++ drop 800 node) ≡ take 800 (drop (800 * r) cluster) = take_at copied (drop 800 node) 800 few ∙ is ∙ ap (λ (n : ℕ). take n (drop (800 * r) cluster)) whole in
+    let front : take 800 (copied ++ drop 800 node) ≡ take 800 (drop (800 * r) cluster) = take_at copied (drop 800 node) 800 few ∙ is ∙
+    ap (λ (n : ℕ). take n (drop (800 * r) cluster)) whole in
     written ∙ ap (λ (n : ℕ). take 800 (copied ++ drop 800 node) ++ zeros n) rest ∙ ap (λ (part : List ℕ). part ++ zeros 224) front

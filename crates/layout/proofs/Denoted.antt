@@ -30,7 +30,8 @@ marked p is =
     (plan_stream p is.few ∙ ap (λ (r : List ℕ). number magic ++ r) (sym a))
     (a ∙ ap (λ (r : List ℕ). number n ++ r) (sym b))
     (omega (arith, is.few, small)) refl (omega (arith, small))
-    (sym (drop-drop 192 64 bytes) ∙ ap (drop 192) last ∙ drop_at (ranges_bytes (eight_ranges p.ranges)) (zeros 256) 192 (length-ranges (eight_ranges p.ranges) ∙ omega (arith, eight_long p.ranges is.few)))
+    (sym (drop-drop 192 64 bytes) ∙ ap (drop 192) last ∙
+    drop_at (ranges_bytes (eight_ranges p.ranges)) (zeros 256) 192 (length-ranges (eight_ranges p.ranges) ∙ omega (arith, eight_long p.ranges is.few)))
 
 abbrev state : Plan → CheckpointHeader → List Entry → List Frame → SavedState
 state p h es fs = record { plan = p; header = h; directory = es; frames = fs }
@@ -67,9 +68,11 @@ module _ (c : Image) (size : ℕ) (s : SavedState) (denoted : Encodes c size s) 
       why.4 s.directory directory.fits directory.count directory.spelt
   frames_not_bad bad.BadFrame why =
       let same : s.plan ≡ why.0 = same_plan c size s.plan why.0 denoted.plan why.3 in
-      let d1 : Encodes c size (state why.0 s.header s.directory s.frames) = subst (λ (p : Plan). Encodes c size (state p s.header s.directory s.frames)) same denoted in
+      let d1 : Encodes c size (state why.0 s.header s.directory s.frames) = subst (λ (p : Plan). Encodes c size (state p s.header s.directory s.frames)) same
+      denoted in
       let same_h : s.header ≡ why.1 = same_header c why.0 s.header why.1 d1.header why.4 in
-      let d2 : Encodes c size (state why.0 why.1 s.directory s.frames) = subst (λ (h : CheckpointHeader). Encodes c size (state why.0 h s.directory s.frames)) same_h d1 in
+      let d2 : Encodes c size (state why.0 why.1 s.directory s.frames) = subst (λ (h : CheckpointHeader). Encodes c size (state why.0 h s.directory s.frames))
+      same_h d1 in
       let same_d : s.directory ≡ why.2 = same_directory c why.0 why.1 s.directory why.2 d2.directory why.5 in
       let d3 : Encodes c size (state why.0 why.1 why.2 s.frames) = subst (λ (es : List Entry). Encodes c size (state why.0 why.1 es s.frames)) same_d d2 in
       let n = why.6 in

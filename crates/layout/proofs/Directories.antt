@@ -19,7 +19,8 @@ cons_entry e es = append_assoc (number e.object) (number e.slot) (directory_byte
 
 push_entry : (es : List Entry) (e : Entry) → directory_bytes (es ++ e ∷ []) ≡ directory_bytes es ++ number e.object ++ number e.slot
 unfolding directory_bytes
-push_entry es e = flat_map-append entry_bytes es (e ∷ []) ∙ ap (λ (r : List ℕ). directory_bytes es ++ r) (append-nil (entry_bytes e)) ∙ sym (append_assoc (directory_bytes es) (number e.object) (number e.slot))
+push_entry es e = flat_map-append entry_bytes es (e ∷ []) ∙ ap (λ (r : List ℕ). directory_bytes es ++ r) (append-nil (entry_bytes e)) ∙
+    sym (append_assoc (directory_bytes es) (number e.object) (number e.slot))
 
 pub length-directory : (es : List Entry) → length (directory_bytes es) ≡ 16 * length es
 length-directory [] = ap length no_entry
@@ -38,7 +39,8 @@ one_directory (d ∷ ds) (x ∷ es) fd fe e =
     let Fits : Entry → Type 0 = λ y. (y.object < 2 ^ 64) × (y.slot < 2 ^ 64) in
     let hd = All-head Fits d ds fd in
     let he = All-head Fits x es fe in
-    let first = number_splits d.object x.object (number d.slot ++ directory_bytes ds) (number x.slot ++ directory_bytes es) hd.0 he.0 (sym (cons_entry d ds) ∙ e ∙ cons_entry x es) in
+    let first = number_splits d.object x.object (number d.slot ++ directory_bytes ds) (number x.slot ++ directory_bytes es) hd.0 he.0
+    (sym (cons_entry d ds) ∙ e ∙ cons_entry x es) in
     let second = number_splits d.slot x.slot (directory_bytes ds) (directory_bytes es) hd.1 he.1 first.1 in
     let others = one_directory ds es (All-tail Fits d ds fd) (All-tail Fits x es fe) second.1 in
     ap (λ (y : Entry). y ∷ ds) (same_entry d x first.0 second.0) ∙ ap (λ (ys : List Entry). x ∷ ys) others
@@ -62,8 +64,11 @@ entry_read bytes into i o s lt before fo fs is_object is_slot =
     let e : Entry = record { object = o; slot = s } in
     let more : take (i + 1) (set into i e) ≡ take i into ++ e ∷ [] = take_more_set into i e lt in
     let next : 16 * (i + 1) ≡ 16 * i + 16 = omega arith in
-    let both : drop (16 * i) bytes ≡ (number o ++ number s) ++ drop (16 * i + 8 + 8) bytes = is_object ∙ ap (λ (r : List ℕ). number o ++ r) is_slot ∙ sym (append_assoc (number o) (number s) (drop (16 * i + 8 + 8) bytes)) in
-    let piece : take 16 (drop (16 * i) bytes) ≡ number o ++ number s = ap (take 16) both ∙ take_at (number o ++ number s) (drop (16 * i + 8 + 8) bytes) 16 (length-append (number o) (number s) ∙ omega (arith, length-number o, length-number s)) in
+    let both : drop (16 * i) bytes ≡ (number o ++ number s) ++ drop (16 * i + 8 + 8) bytes = is_object ∙ ap (λ (r : List ℕ). number o ++ r) is_slot ∙
+    sym (append_assoc (number o) (number s) (drop (16 * i + 8 + 8) bytes)) in
+    let piece : take 16 (drop (16 * i) bytes) ≡ number o ++ number s = ap (take 16) both ∙
+    take_at (number o ++ number s) (drop (16 * i + 8 + 8) bytes) 16 (length-append (number o) (number s) ∙ omega (arith, length-number o, length-number s))
+    in
     record {
       bytes_are = ap (λ (n : ℕ). take n bytes) next ∙ take-add (16 * i) 16 bytes ∙ ap (λ (r : List ℕ). r ++ take 16 (drop (16 * i) bytes)) before.bytes_are
           ∙ ap (λ (r : List ℕ). directory_bytes (take i into) ++ r) piece ∙ sym (append_assoc (directory_bytes (take i into)) (number o) (number s))

@@ -9,7 +9,8 @@ use Rattle.std.proofs.lemmas.List.{append_assoc}
 abbrev pub ApartBelow : List Extent → ℕ → Type 0
 ApartBelow es n = (i j : ℕ) → i < n → i < j → j < length es → IsApart (extent_at es i) (extent_at es j)
 
-pub apart_more : (es : List Extent) (n : ℕ) (e : Extent) → e ≡ extent_at es n → ApartBelow es n → All (IsApart e) (between (n + 1) (length es) es) → ApartBelow es (n + 1)
+pub apart_more : (es : List Extent) (n : ℕ) (e : Extent) → e ≡ extent_at es n → ApartBelow es n → All (IsApart e) (between (n + 1) (length es) es) →
+    ApartBelow es (n + 1)
 apart_more es n e is below here i j lt lt' within = elim (cases_lt i n) [
   | inl less ↦ below i j less lt' within
   | inr le ↦
@@ -56,7 +57,8 @@ cover_within : (g : Geometry) (n : ℕ) (rs : List HomeRange) → Cover g n rs �
 cover_within g n [] c = omega (arith, c)
 cover_within g n (r ∷ rs) c = let rest = cover_within g (n + r.count) rs c.1 in omega arith
 
-pub not_covered : (g : Geometry) (rs : List HomeRange) (i next : ℕ) → i < length rs → CoveredTo g rs i next → (IsNext g (range_at rs i) next → (range_at rs i).count ≤ g.nodes + g.pages - next → ⊥) → Cover g 0 rs → ⊥
+pub not_covered : (g : Geometry) (rs : List HomeRange) (i next : ℕ) → i < length rs → CoveredTo g rs i next →
+    (IsNext g (range_at rs i) next → (range_at rs i).count ≤ g.nodes + g.pages - next → ⊥) → Cover g 0 rs → ⊥
 not_covered g rs i next lt was hold c =
     let here = subst (Cover g next) (drop_more rs i (record { first = 0; count = 0; sector = 0 }) lt) (was.went_on c) in
     hold here.0 (let rest = cover_within g (next + (range_at rs i).count) (drop (i + 1) rs) here.1 in omega arith)

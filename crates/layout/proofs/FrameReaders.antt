@@ -24,7 +24,8 @@ passed n rest bytes e = ap (drop 8) e ∙ drop_at (number n) rest 8 (length-numb
 pub passed_on : (k n : ℕ) (rest bytes : List ℕ) → drop k bytes ≡ number n ++ rest → drop (k + 8) bytes ≡ rest
 passed_on k n rest bytes e = sym (drop-drop 8 k bytes) ∙ passed n rest (drop k bytes) e
 
-cap_is : (head object count : ℕ) (c : Cap) (g : Geometry) (age : ℕ) → IsKeptCap g age c → head ≡ head_number c.what → object ≡ number_of c.what → count ≡ c.count → cap_with head object count ≡ c
+cap_is : (head object count : ℕ) (c : Cap) (g : Geometry) (age : ℕ) → IsKeptCap g age c → head ≡ head_number c.what → object ≡ number_of c.what →
+    count ≡ c.count → cap_with head object count ≡ c
 cap_is head object count c g age kept eh eo ec =
     let all = follows_fits g age c.count c.what kept in
     same_cap (cap_with head object count) c (made_again c.what head (head / 256 % 256) object all.head eh eo refl) ec
@@ -37,7 +38,8 @@ cap_again g age c rest kept =
     let o : List ℕ = number (number_of c.what) in
     let n : List ℕ = number c.count in
     let bytes : List ℕ = capability_bytes c ++ rest in
-    let whole : bytes ≡ h ++ (o ++ (n ++ rest)) = ap (λ (b : List ℕ). b ++ rest) (as_numbers c all.head) ∙ append_assoc h (o ++ n) rest ∙ ap (λ (b : List ℕ). h ++ b) (append_assoc o n rest) in
+    let whole : bytes ≡ h ++ (o ++ (n ++ rest)) = ap (λ (b : List ℕ). b ++ rest) (as_numbers c all.head) ∙ append_assoc h (o ++ n) rest ∙
+    ap (λ (b : List ℕ). h ++ b) (append_assoc o n rest) in
     let second : drop 8 bytes ≡ o ++ (n ++ rest) = passed (head_number c.what) (o ++ (n ++ rest)) bytes whole in
     let third : drop 16 bytes ≡ n ++ rest = passed_on 8 (number_of c.what) (n ++ rest) bytes second in
     cap_is (number_from bytes) (number_from (drop 8 bytes)) (number_from (drop 16 bytes)) c g age kept
@@ -49,9 +51,12 @@ slots_again : (g : Geometry) (age : ℕ) (cs : List Cap) (rest : List ℕ) → A
 unfolding slots_from
 slots_again g age [] rest all = refl
 slots_again g age (c ∷ cs) rest all =
-    let whole : slots_bytes (c ∷ cs) ++ rest ≡ capability_bytes c ++ (slots_bytes cs ++ rest) = ap (λ (b : List ℕ). b ++ rest) (slots_bytes-cons c cs) ∙ append_assoc (capability_bytes c) (slots_bytes cs) rest in
-    let behind : drop 24 (slots_bytes (c ∷ cs) ++ rest) ≡ slots_bytes cs ++ rest = ap (drop 24) whole ∙ drop_at (capability_bytes c) (slots_bytes cs ++ rest) 24 (length-capability c) in
-    ap (λ (x : Cap). x ∷ slots_from (length cs) (drop 24 (slots_bytes (c ∷ cs) ++ rest))) (ap cap_from whole ∙ cap_again g age c (slots_bytes cs ++ rest) (All-head (IsKeptCap g age) c cs all))
+    let whole : slots_bytes (c ∷ cs) ++ rest ≡ capability_bytes c ++ (slots_bytes cs ++ rest) = ap (λ (b : List ℕ). b ++ rest) (slots_bytes-cons c cs) ∙
+    append_assoc (capability_bytes c) (slots_bytes cs) rest in
+    let behind : drop 24 (slots_bytes (c ∷ cs) ++ rest) ≡ slots_bytes cs ++ rest = ap (drop 24) whole ∙
+    drop_at (capability_bytes c) (slots_bytes cs ++ rest) 24 (length-capability c) in
+    ap (λ (x : Cap). x ∷ slots_from (length cs) (drop 24 (slots_bytes (c ∷ cs) ++ rest)))
+    (ap cap_from whole ∙ cap_again g age c (slots_bytes cs ++ rest) (All-head (IsKeptCap g age) c cs all))
     ∙ ap (λ (xs : List Cap). c ∷ xs) (ap (slots_from (length cs)) behind ∙ slots_again g age cs rest (All-tail (IsKeptCap g age) c cs all))
 
 words_again : (ws : List ℕ) (rest : List ℕ) → AllFit ws → words_from (length ws) (stream ws rest) ≡ ws
@@ -72,17 +77,20 @@ pub record FrontTells (first : ℕ) (h : ObjectHeader) (bytes : List ℕ) : Type
   pub first_is : number_from bytes ≡ first
   pub header_is : header_from bytes ≡ h
 
-pub front_tells : (first : ℕ) (h : ObjectHeader) (bytes rest : List ℕ) → AllFit (front_list first h) → role_in first ≡ h.role → bytes ≡ front_numbers first h ++ rest → FrontTells first h bytes
+pub front_tells : (first : ℕ) (h : ObjectHeader) (bytes rest : List ℕ) → AllFit (front_list first h) → role_in first ≡ h.role →
+    bytes ≡ front_numbers first h ++ rest → FrontTells first h bytes
 unfolding header_from
 front_tells first h bytes rest fits is e =
     let whole : bytes ≡ stream (front_list first h) rest = e ∙ front_stream first h rest in
-    let after : drop 8 bytes ≡ stream (h.allocations ∷ h.calls ∷ h.owner ∷ []) rest = passed first (stream (h.allocations ∷ h.calls ∷ h.owner ∷ []) rest) bytes whole in
+    let after : drop 8 bytes ≡ stream (h.allocations ∷ h.calls ∷ h.owner ∷ []) rest = passed first (stream (h.allocations ∷ h.calls ∷ h.owner ∷ []) rest) bytes
+    whole in
     let after' : drop 16 bytes ≡ stream (h.calls ∷ h.owner ∷ []) rest = passed_on 8 h.allocations (stream (h.calls ∷ h.owner ∷ []) rest) bytes after in
     let last : drop 24 bytes ≡ stream (h.owner ∷ []) rest = passed_on 16 h.calls (stream (h.owner ∷ []) rest) bytes after' in
     let role : number_from bytes ≡ first = reported first (stream (h.allocations ∷ h.calls ∷ h.owner ∷ []) rest) bytes fits.0 whole in
     record {
       first_is = role;
-      header_is = same_header (role_in (number_from bytes)) h.role (number_from (drop 8 bytes)) h.allocations (number_from (drop 16 bytes)) h.calls (number_from (drop 24 bytes)) h.owner
+      header_is = same_header (role_in (number_from bytes)) h.role (number_from (drop 8 bytes)) h.allocations (number_from (drop 16 bytes)) h.calls
+          (number_from (drop 24 bytes)) h.owner
           (ap role_in role ∙ is)
           (reported h.allocations (stream (h.calls ∷ h.owner ∷ []) rest) (drop 8 bytes) fits.1.0 after)
           (reported h.calls (stream (h.owner ∷ []) rest) (drop 16 bytes) fits.1.1.0 after')
@@ -95,7 +103,8 @@ record FrontIs (f : Frame) (bytes : List ℕ) : Type 0 where
 
 front_again : (age : ℕ) (f : Frame) (bytes rest : List ℕ) → IsFront age f → bytes ≡ front_numbers (role_number f.header.role) f.header ++ rest → FrontIs f bytes
 front_again age f bytes rest is e =
-    let tells = front_tells (role_number f.header.role) f.header bytes rest (role_fits f.header.role, (is.allocations.1, (is.calls.1, (is.owner, tt)))) (role_again f.header.role) e in
+    let tells = front_tells (role_number f.header.role) f.header bytes rest (role_fits f.header.role, (is.allocations.1, (is.calls.1, (is.owner, tt))))
+    (role_again f.header.role) e in
     record { role = tells.first_is ∙ ap role_number is.role; header = tells.header_is }
 
 abbrev frame_with : ObjectHeader → Content Cap → Frame
@@ -110,12 +119,15 @@ node_again g age f bytes is e =
     let slots : List Cap = slots_of f.content in
     let rest : List ℕ = slots_bytes slots ++ zeros 224 in
     let front = front_again age f bytes rest is.front parts.whole in
-    let behind : drop 32 bytes ≡ rest = ap (drop 32) parts.whole ∙ drop_at (front_numbers (role_number f.header.role) f.header) rest 32 (length-front (role_number f.header.role) f.header) in
+    let behind : drop 32 bytes ≡ rest = ap (drop 32) parts.whole ∙ drop_at (front_numbers (role_number f.header.role) f.header) rest 32
+    (length-front (role_number f.header.role) f.header) in
     let read : slots_from 32 (drop 32 bytes) ≡ slots =
     ap (slots_from 32) behind ∙ subst (λ (n : ℕ). slots_from n rest ≡ slots) is.slots.count (slots_again g age slots (zeros 224) is.slots.each) in
     let content : content_of (body_in (number_from bytes) (slots_from 32 (drop 32 bytes))) (slots_from 32 (drop 32 bytes)) [] ≡ f.content =
-    ap (λ (s : List Cap). content_of (body_in (number_from bytes) s) s []) read ∙ ap (λ (n : ℕ). content_of (body_in n slots) slots []) front.role ∙ content_again f.content is.follows in
-    same_frame (header_from bytes) f.header (content_of (body_in (number_from bytes) (slots_from 32 (drop 32 bytes))) (slots_from 32 (drop 32 bytes)) []) f.content front.header content
+    ap (λ (s : List Cap). content_of (body_in (number_from bytes) s) s []) read ∙ ap (λ (n : ℕ). content_of (body_in n slots) slots []) front.role ∙
+    content_again f.content is.follows in
+    same_frame (header_from bytes) f.header (content_of (body_in (number_from bytes) (slots_from 32 (drop 32 bytes))) (slots_from 32 (drop 32 bytes)) [])
+    f.content front.header content
 
 page_again : (age : ℕ) (f : Frame) (bytes : List ℕ) → IsPageFrame age f → bytes ≡ page_frame_bytes f → page_from bytes ≡ f
 page_again age f bytes is e =
@@ -124,9 +136,11 @@ page_again age f bytes is e =
     let front = front_again age f bytes (zeros 480 ++ words_bytes words) is.front parts.whole in
     let held = page.words_fit f.content is.holds in
     let read : words_from 512 (drop 512 bytes) ≡ words =
-    ap (words_from 512) (parts.last ∙ page.words_stream words) ∙ subst (λ (n : ℕ). words_from n (stream words []) ≡ words) held.count_is (words_again words [] (page.all_fit words held.each)) in
+    ap (words_from 512) (parts.last ∙ page.words_stream words) ∙ subst (λ (n : ℕ). words_from n (stream words []) ≡ words) held.count_is
+    (words_again words [] (page.all_fit words held.each)) in
     let content : content_of (page_body_in (number_from bytes)) [] (words_from 512 (drop 512 bytes)) ≡ f.content =
-    ap (λ (w : List ℕ). content_of (page_body_in (number_from bytes)) [] w) read ∙ ap (λ (n : ℕ). content_of (page_body_in n) [] words) front.role ∙ page.content_again f.content is.holds in
+    ap (λ (w : List ℕ). content_of (page_body_in (number_from bytes)) [] w) read ∙ ap (λ (n : ℕ). content_of (page_body_in n) [] words) front.role ∙
+    page.content_again f.content is.holds in
     same_frame (header_from bytes) f.header (content_of (page_body_in (number_from bytes)) [] (words_from 512 (drop 512 bytes))) f.content front.header content
 
 -- bytes that spell a frame are read as that frame
@@ -156,7 +170,8 @@ number_before xs ys k room =
 pub header_before : (xs ys : List ℕ) → 32 ≤ length xs → header_from (xs ++ ys) ≡ header_from xs
 unfolding header_from
 header_before xs ys room =
-    same_header (role_in (number_from (xs ++ ys))) (role_in (number_from xs)) (number_from (drop 8 (xs ++ ys))) (number_from (drop 8 xs)) (number_from (drop 16 (xs ++ ys))) (number_from (drop 16 xs))
+    same_header (role_in (number_from (xs ++ ys))) (role_in (number_from xs)) (number_from (drop 8 (xs ++ ys))) (number_from (drop 8 xs))
+    (number_from (drop 16 (xs ++ ys))) (number_from (drop 16 xs))
     (number_from (drop 24 (xs ++ ys))) (number_from (drop 24 xs))
     (ap role_in (number_front (xs ++ ys) xs (take-append-le 8 xs ys (omega (arith, room)))))
     (number_before xs ys 8 (omega (arith, room))) (number_before xs ys 16 (omega (arith, room))) (number_before xs ys 24 (omega (arith, room)))
@@ -179,5 +194,6 @@ first_sector true image at room = header_before (image at) (sectors_from image (
 first_sector false image at room = header_before (image at) (sectors_from image (at + 1) 8) room
 
 -- its first sector decides it
-pub reported_first : (g : Geometry) (object : ℕ) (image : Image) (at : ℕ) → 32 ≤ length (image at) → (frame_from g object (sectors_from image at (frame_length g object))).header ≡ header_from (image at)
+pub reported_first : (g : Geometry) (object : ℕ) (image : Image) (at : ℕ) → 32 ≤ length (image at) →
+    (frame_from g object (sectors_from image at (frame_length g object))).header ≡ header_from (image at)
 reported_first g object image at room = header_is g object (sectors_from image at (frame_length g object)) ∙ first_sector (nat_lt object g.nodes) image at room

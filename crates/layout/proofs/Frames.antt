@@ -24,7 +24,8 @@ front_stream role h rest = four (number role) (number h.allocations) (number h.c
 pub four_read : (bytes : List ℕ) (role : ℕ) (h : ObjectHeader) → bytes ≡ number role ++ drop 8 bytes → drop 8 bytes ≡ number h.allocations ++ drop 16 bytes
     → drop 16 bytes ≡ number h.calls ++ drop 24 bytes → drop 24 bytes ≡ number h.owner ++ drop 32 bytes → bytes ≡ front_numbers role h ++ drop 32 bytes
 four_read bytes role h er ea ec eo =
-    er ∙ ap (λ (r : List ℕ). number role ++ r) (ea ∙ ap (λ (r : List ℕ). number h.allocations ++ r) (ec ∙ ap (λ (r : List ℕ). number h.calls ++ r) eo)) ∙ sym (front_stream role h (drop 32 bytes))
+    er ∙ ap (λ (r : List ℕ). number role ++ r) (ea ∙ ap (λ (r : List ℕ). number h.allocations ++ r) (ec ∙ ap (λ (r : List ℕ). number h.calls ++ r) eo)) ∙
+    sym (front_stream role h (drop 32 bytes))
 
 pub front_is : (role : ℕ) (h : ObjectHeader) → ([] ++ number role) ++ number h.allocations ++ number h.calls ++ number h.owner ≡ front_numbers role h
 unfolding front_numbers
@@ -103,11 +104,13 @@ node_written f fronted new caps k before slots all is =
     ∙ ap (λ (r : List ℕ). front_bytes f.header ++ r ++ zeros 224) (sym spelt)
 
 -- slots that were put into a frame
-pub slots_put : (old mid new : List ℕ) (caps : List Cap) (k : ℕ) → length caps ≤ 32 → length old ≡ 1024 → k ≡ 24 * length caps → mid ≡ put_mid 32 k old (slots_bytes caps)
+pub slots_put : (old mid new : List ℕ) (caps : List Cap) (k : ℕ) → length caps ≤ 32 → length old ≡ 1024 → k ≡ 24 * length caps →
+    mid ≡ put_mid 32 k old (slots_bytes caps)
     → new ≡ take (32 + 24 * length caps) mid ++ zeros (1024 - (32 + 24 * length caps)) → new ≡ take 32 old ++ slots_bytes caps ++ zeros (992 - 24 * length caps)
 slots_put old mid new caps k few len size is put =
     let n : ℕ = length caps in
-    let front : length (take 32 old ++ slots_bytes caps) ≡ 32 + 24 * n = length-append (take 32 old) (slots_bytes caps) ∙ omega (arith, length-take-le 32 old (omega arith), length-slots caps) in
+    let front : length (take 32 old ++ slots_bytes caps) ≡ 32 + 24 * n = length-append (take 32 old) (slots_bytes caps) ∙
+    omega (arith, length-take-le 32 old (omega arith), length-slots caps) in
     let less : 1024 - (32 + 24 * n) ≡ 992 - 24 * n = omega arith in
     put ∙ ap (λ (r : List ℕ). take (32 + 24 * n) r ++ zeros (1024 - (32 + 24 * n))) (is ∙ mid_put 32 k old (slots_bytes caps))
     ∙ ap (λ (r : List ℕ). r ++ zeros (1024 - (32 + 24 * n))) (take_at (take 32 old ++ slots_bytes caps) (drop (32 + k) old) (32 + 24 * n) front)
@@ -131,7 +134,8 @@ root_again s (a ∷ b ∷ []) key annex space len fits = absurd (omega (arith, l
 root_again s (a ∷ b ∷ c ∷ []) key annex space len fits = absurd (omega (arith, len))
 root_again s (a ∷ b ∷ c ∷ d ∷ []) key annex space len fits =
     let small : key % 65536 ≡ key = omega arith in
-    ap (λ (t : State). root_of t (a ∷ b ∷ c ∷ d ∷ []) (key % 65536) annex space) (state_again s) ∙ ap (λ (k : ℕ). root_of s (a ∷ b ∷ c ∷ d ∷ []) k annex space) small
+    ap (λ (t : State). root_of t (a ∷ b ∷ c ∷ d ∷ []) (key % 65536) annex space) (state_again s) ∙
+    ap (λ (k : ℕ). root_of s (a ∷ b ∷ c ∷ d ∷ []) k annex space) small
 root_again s (a ∷ b ∷ c ∷ d ∷ e ∷ ws) key annex space len fits = absurd (omega (arith, len))
 
 pub content_again : (c : Content Cap) → FollowsRole c → content_of (body_in (role_number (role_of c)) (slots_of c)) (slots_of c) [] ≡ c
@@ -168,7 +172,8 @@ node_parts g age f bytes fits e =
     let front : List ℕ = front_numbers (role_number f.header.role) f.header in
     let slots : List ℕ = slots_bytes (slots_of f.content) in
     let size : length slots ≡ 768 = length-slots (slots_of f.content) ∙ ap (λ (n : ℕ). 24 * n) fits.slots.count in
-    let whole : bytes ≡ front ++ (slots ++ zeros 224) = e ∙ ap (λ (r : List ℕ). r ++ slots ++ zeros 224) (front_bytes_are f.header) ∙ append_assoc front slots (zeros 224) in
+    let whole : bytes ≡ front ++ (slots ++ zeros 224) = e ∙ ap (λ (r : List ℕ). r ++ slots ++ zeros 224) (front_bytes_are f.header) ∙
+    append_assoc front slots (zeros 224) in
     let behind : drop 32 bytes ≡ slots ++ zeros 224 = ap (drop 32) whole ∙ drop_at front (slots ++ zeros 224) 32 (length-front _ f.header) in
     record {
       whole = whole;
@@ -210,17 +215,22 @@ pub front_reported : (age role : ℕ) (h : ObjectHeader) (f : Frame) (x y : List
     → front_numbers role h ++ x ≡ front_numbers (role_number f.header.role) f.header ++ y → (role ≡ role_number (role_of f.content)) × (h ≡ f.header)
 front_reported age role h f x y fits is front e =
     let n : ℕ = role_number f.header.role in
-    let s = stream_splits (front_list role h) (front_list n f.header) x y fits (role_fits f.header.role, (front.allocations.1, (front.calls.1, (front.owner, tt)))) refl
+    let s = stream_splits (front_list role h) (front_list n f.header) x y fits
+    (role_fits f.header.role, (front.allocations.1, (front.calls.1, (front.owner, tt)))) refl
     (sym (front_stream role h x) ∙ e ∙ front_stream n f.header y) in
-    let same = same_front h.role f.header.role role h.allocations h.calls h.owner n f.header.allocations f.header.calls f.header.owner s.0 is (role_again f.header.role) in
+    let same = same_front h.role f.header.role role h.allocations h.calls h.owner n f.header.allocations f.header.calls f.header.owner s.0 is
+    (role_again f.header.role) in
     (same.0 ∙ ap role_number front.role, same.1)
 
-pub node_reported : (g : Geometry) (age role : ℕ) (h : ObjectHeader) (slots : List Cap) (f : Frame) (bytes rest : List ℕ) → AllFit (front_list role h) → h.role ≡ role_in role → AreKeptSlots g age slots
-    → bytes ≡ front_numbers role h ++ rest → between 32 800 bytes ≡ slots_bytes slots → IsNodeFrame g age f → bytes ≡ node_frame_bytes f → IsReadOf f role h slots
+pub node_reported : (g : Geometry) (age role : ℕ) (h : ObjectHeader) (slots : List Cap) (f : Frame) (bytes rest : List ℕ) → AllFit (front_list role h) →
+    h.role ≡ role_in role → AreKeptSlots g age slots
+    → bytes ≡ front_numbers role h ++ rest → between 32 800 bytes ≡ slots_bytes slots → IsNodeFrame g age f → bytes ≡ node_frame_bytes f →
+    IsReadOf f role h slots
 node_reported g age role h slots f bytes rest fits role_is are front middle is e =
     let parts = node_parts g age f bytes is e in
     let reported = front_reported age role h f rest (slots_bytes (slots_of f.content) ++ zeros 224) fits role_is is.front (sym front ∙ parts.whole) in
-    let same = slots_split g age slots (slots_of f.content) [] [] are.each is.slots.each (are.count ∙ sym is.slots.count) (ap (λ (r : List ℕ). r ++ []) (sym middle ∙ parts.middle)) in
+    let same = slots_split g age slots (slots_of f.content) [] [] are.each is.slots.each (are.count ∙ sym is.slots.count)
+    (ap (λ (r : List ℕ). r ++ []) (sym middle ∙ parts.middle)) in
     record { role_is = reported.0; header_is = reported.1; slots_are = same.0 }
 
 -- the body that is read is that of the frame
@@ -228,9 +238,16 @@ pub body_reported : (f : Frame) (role : ℕ) (h : ObjectHeader) (slots : List Ca
     → IsBody role h.owner slots (content_of (body_in role slots) slots [])
 body_reported f role h slots age read follows front =
     let same : content_of (body_in role slots) slots [] ≡ f.content =
-    ap (λ (r : ℕ). content_of (body_in r slots) slots []) read.role_is ∙ ap (λ (s : List Cap). content_of (body_in (role_number (role_of f.content)) s) s []) read.slots_are ∙ content_again f.content follows in
+    ap (λ (r : ℕ). content_of (body_in r slots) slots []) read.role_is ∙ ap (λ (s : List Cap). content_of (body_in (role_number (role_of f.content)) s) s [])
+    read.slots_are ∙ content_again f.content follows in
     subst (IsBody role h.owner slots) (sym same)
-    (record { role_is = read.role_is; slots_are = read.slots_are; follows = follows; unowned = λ t. ap (λ (x : ObjectHeader). x.owner) read.header_is ∙ front.unowned t })
+    (record {
+      role_is = read.role_is;
+      slots_are = read.slots_are;
+      follows = follows;
+      unowned = λ t. ap (λ (x : ObjectHeader). x.owner) read.header_is ∙
+          front.unowned t;
+    })
 
 -- of a body at a node's number the words don't matter
 same_content : (b : Body) (slots : List Cap) (words : List ℕ) → FollowsRole (content_of b slots []) → content_of b slots [] ≡ content_of b slots words
@@ -241,18 +258,21 @@ same_content (body.Root root) slots words f = refl
 same_content body.Annex slots words f = refl
 same_content (body.Bank limit) slots words f = refl
 
-pub any_words : (role owner : ℕ) (b : Body) (slots : List Cap) (words : List ℕ) → IsBody role owner slots (content_of b slots []) → IsBody role owner slots (content_of b slots words)
+pub any_words : (role owner : ℕ) (b : Body) (slots : List Cap) (words : List ℕ) → IsBody role owner slots (content_of b slots []) →
+    IsBody role owner slots (content_of b slots words)
 any_words role owner b slots words is = subst (IsBody role owner slots) (same_content b slots words is.follows) is
 
 -- the frame that is read
-pub node_found : (g : Geometry) (age role : ℕ) (h : ObjectHeader) (slots : List Cap) (c : Content Cap) (bytes : List ℕ) → AllFit (front_list role h) → h.role ≡ role_in role
+pub node_found : (g : Geometry) (age role : ℕ) (h : ObjectHeader) (slots : List Cap) (c : Content Cap) (bytes : List ℕ) → AllFit (front_list role h) →
+    h.role ≡ role_in role
     → IsCount age h.allocations × IsCount age h.calls → AreKeptSlots g age slots → IsBody role h.owner slots c
     → bytes ≡ front_numbers role h ++ drop 32 bytes → between 32 800 bytes ≡ slots_bytes slots → drop 800 bytes ≡ zeros 224
     → IsNodeFrame g age (record { header = h; content = c }) × (bytes ≡ node_frame_bytes (record { header = h; content = c }))
 unfolding node_frame_bytes
 node_found g age role h slots c bytes fits role_is counts are is front middle last =
     let f : Frame = record { header = h; content = c } in
-    let behind : drop 32 bytes ≡ slots_bytes slots ++ zeros 224 = sym (take-append-drop 768 (drop 32 bytes)) ∙ ap (λ (r : List ℕ). r ++ drop 768 (drop 32 bytes)) middle
+    let behind : drop 32 bytes ≡ slots_bytes slots ++ zeros 224 = sym (take-append-drop 768 (drop 32 bytes)) ∙
+    ap (λ (r : List ℕ). r ++ drop 768 (drop 32 bytes)) middle
     ∙ ap (λ (r : List ℕ). slots_bytes slots ++ r) (drop-drop 768 32 bytes ∙ last) in
     let same_role : h.role ≡ role_of c = role_is ∙ ap role_in is.role_is ∙ role_again (role_of c) in
     let spelt : bytes ≡ front_bytes h ++ (slots_bytes (slots_of c) ++ zeros 224) =
@@ -319,18 +339,22 @@ free_node_spelling g age h f bytes rest fits role_is front is e =
 pub one_node_frame : (g : Geometry) (age : ℕ) (e f : Frame) → IsNodeFrame g age e → IsNodeFrame g age f → node_frame_bytes e ≡ node_frame_bytes f → e ≡ f
 one_node_frame g age e f ie if same =
     let parts = node_parts g age e (node_frame_bytes e) ie refl in
-    let read = node_reported g age (role_number e.header.role) e.header (slots_of e.content) f (node_frame_bytes e) (slots_bytes (slots_of e.content) ++ zeros 224)
-    (role_fits e.header.role, (ie.front.allocations.1, (ie.front.calls.1, (ie.front.owner, tt)))) (sym (role_again e.header.role)) ie.slots parts.whole parts.middle if same in
+    let read = node_reported g age (role_number e.header.role) e.header (slots_of e.content) f (node_frame_bytes e)
+    (slots_bytes (slots_of e.content) ++ zeros 224)
+    (role_fits e.header.role, (ie.front.allocations.1, (ie.front.calls.1, (ie.front.owner, tt)))) (sym (role_again e.header.role)) ie.slots parts.whole
+    parts.middle if same in
     let contents : e.content ≡ f.content = sym (content_again e.content ie.follows)
     ∙ ap (λ (r : ℕ). content_of (body_in r (slots_of e.content)) (slots_of e.content) []) (ap role_number (sym ie.front.role) ∙ read.role_is)
     ∙ ap (λ (s : List Cap). content_of (body_in (role_number (role_of f.content)) s) s []) read.slots_are ∙ content_again f.content if.follows in
-    ap (λ (h : ObjectHeader). record { header = h; content = e.content }) read.header_is ∙ ap (λ (c : Content Cap). record { header = f.header; content = c }) contents
+    ap (λ (h : ObjectHeader). record { header = h; content = e.content }) read.header_is ∙ ap (λ (c : Content Cap). record { header = f.header; content = c })
+    contents
 
 pub root_count : (r : Root Cap) (held : List Cap) → held ≡ root_slots r → length r.words ≡ 4 → length held + 24 ≡ 32
 root_count r held e len =
     omega (arith, ap length e, length-append (map number_cap r.words) (number_cap r.key ∷ r.space ∷ []), length-map r.words number_cap, len)
 
-pub root_tail : (r : Root Cap) (held : List Cap) → held ≡ root_slots r → length r.words ≡ 4 → held ++ replicate (32 - length held) void_held ≡ slots_of (content.Root r)
+pub root_tail : (r : Root Cap) (held : List Cap) → held ≡ root_slots r → length r.words ≡ 4 →
+    held ++ replicate (32 - length held) void_held ≡ slots_of (content.Root r)
 root_tail r held e len =
     let rest : 32 - length held ≡ 24 = omega (arith, root_count r held e len) in
     ap (λ (n : ℕ). held ++ replicate n void_held) rest ∙ ap (λ (s : List Cap). s ++ replicate 24 void_held) e

@@ -9,7 +9,8 @@ pub itself : (e : Extent) → IsInside e e
 itself e = record { starts = omega arith; ends = omega arith }
 
 pub apart_inside : (d e outer_d outer_e : Extent) → IsInside d outer_d → IsInside e outer_e → IsApart outer_d outer_e → IsApart d e
-apart_inside d e outer_d outer_e in_d in_e apart = ⊎_elim (λ le. inl (omega (arith, in_d.ends, in_e.starts, le))) (λ le. inr (omega (arith, in_d.starts, in_e.ends, le))) apart
+apart_inside d e outer_d outer_e in_d in_e apart = ⊎_elim (λ le. inl (omega (arith, in_d.ends, in_e.starts, le)))
+    (λ le. inr (omega (arith, in_d.starts, in_e.ends, le))) apart
 
 pub apart_turned : (d e : Extent) → IsApart d e → IsApart e d
 apart_turned d e apart = ⊎_elim (λ le. inr le) (λ le. inl le) apart
@@ -19,13 +20,20 @@ within_inside total d outer inside within = (omega (arith, inside.starts, within
 
 -- the extents are those of the ranges and of the two halves
 pub many : (p : Plan) → length (extents p) ≡ length p.ranges + 2
-many p = omega (arith, length-append (map (range_extent p.version p.geometry) p.ranges) (half_extent p.geometry p.half_0 ∷ half_extent p.geometry p.half_1 ∷ []), length-map p.ranges (range_extent p.version p.geometry))
+many p = omega (
+  arith,
+  length-append (map (range_extent p.version p.geometry) p.ranges)
+      (half_extent p.geometry p.half_0 ∷ half_extent p.geometry p.half_1 ∷ []),
+  length-map p.ranges (range_extent p.version p.geometry),
+)
 
-pub half_at : (p : Plan) (k : ℕ) → extent_at (extents p) (length p.ranges + k) ≡ extent_at (half_extent p.geometry p.half_0 ∷ half_extent p.geometry p.half_1 ∷ []) k
+pub half_at : (p : Plan) (k : ℕ) →
+    extent_at (extents p) (length p.ranges + k) ≡ extent_at (half_extent p.geometry p.half_0 ∷ half_extent p.geometry p.half_1 ∷ []) k
 half_at p k =
     let size : length (map (range_extent p.version p.geometry) p.ranges) ≡ length p.ranges = length-map p.ranges (range_extent p.version p.geometry) in
     let place : length p.ranges + k - length p.ranges ≡ k = omega arith in
-    get_or-append_right (map (range_extent p.version p.geometry) p.ranges) (half_extent p.geometry p.half_0 ∷ half_extent p.geometry p.half_1 ∷ []) (length p.ranges) (length p.ranges + k) (record { sector = 0; length = 0 }) size (omega arith)
+    get_or-append_right (map (range_extent p.version p.geometry) p.ranges) (half_extent p.geometry p.half_0 ∷ half_extent p.geometry p.half_1 ∷ [])
+    (length p.ranges) (length p.ranges + k) (record { sector = 0; length = 0 }) size (omega arith)
     ∙ ap (extent_at (half_extent p.geometry p.half_0 ∷ half_extent p.geometry p.half_1 ∷ [])) place
 
 within_at : (p : Plan) (k : ℕ) → IsPlan p → k < 2 → IsWithin p.total (extent_at (half_extent p.geometry p.half_0 ∷ half_extent p.geometry p.half_1 ∷ []) k)
@@ -38,9 +46,11 @@ within_by p Second fits = within_at p 1 fits (omega arith)
 halves_apart : (p : Plan) → IsPlan p → IsApart (half_extent p.geometry p.half_0) (half_extent p.geometry p.half_1)
 halves_apart p fits =
     let apart = fits.apart (length p.ranges + 0) (length p.ranges + 1) (omega arith) (omega (arith, many p)) in
-    subst (λ (e : Extent). IsApart e (half_extent p.geometry p.half_1)) (half_at p 0) (subst (IsApart (extent_at (extents p) (length p.ranges + 0))) (half_at p 1) apart)
+    subst (λ (e : Extent). IsApart e (half_extent p.geometry p.half_1)) (half_at p 0)
+    (subst (IsApart (extent_at (extents p) (length p.ranges + 0))) (half_at p 1) apart)
 
-apart_by : (p : Plan) (h other : Half) → IsPlan p → (h ≡ other → ⊥) → IsApart (half_extent p.geometry (half_start p h)) (half_extent p.geometry (half_start p other))
+apart_by : (p : Plan) (h other : Half) → IsPlan p → (h ≡ other → ⊥) →
+    IsApart (half_extent p.geometry (half_start p h)) (half_extent p.geometry (half_start p other))
 apart_by p First First fits differ = absurd (differ refl)
 apart_by p First Second fits differ = halves_apart p fits
 apart_by p Second First fits differ = apart_turned (half_extent p.geometry p.half_0) (half_extent p.geometry p.half_1) (halves_apart p fits)
@@ -63,5 +73,6 @@ pub half_within : (p : Plan) (generation : ℕ) → IsPlan p → IsWithin p.tota
 half_within p generation fits = within_by p (half_of generation) fits
 
 -- and apart from that of the next generation
-pub half_apart : (p : Plan) (a b : ℕ) → IsPlan p → (a % 2 ≡ b % 2 → ⊥) → IsApart (half_extent p.geometry (half_sector p a)) (half_extent p.geometry (half_sector p b))
+pub half_apart : (p : Plan) (a b : ℕ) → IsPlan p → (a % 2 ≡ b % 2 → ⊥) →
+    IsApart (half_extent p.geometry (half_sector p a)) (half_extent p.geometry (half_sector p b))
 half_apart p a b fits differ = apart_by p (half_of a) (half_of b) fits (λ same. differ (same_parity a b same))

@@ -23,10 +23,12 @@ header_stream h =
     ∙ six (number 0x4441_4548_534f_5245) (number h.sequence) (number h.generation) (number h.entries) (number h.age) (zeros 472)
 
 -- five numbers are read
-pub five_read : (bytes : List ℕ) (m a b c d : ℕ) → bytes ≡ number m ++ drop 8 bytes → drop 8 bytes ≡ number a ++ drop 16 bytes → drop 16 bytes ≡ number b ++ drop 24 bytes
+pub five_read : (bytes : List ℕ) (m a b c d : ℕ) → bytes ≡ number m ++ drop 8 bytes → drop 8 bytes ≡ number a ++ drop 16 bytes →
+    drop 16 bytes ≡ number b ++ drop 24 bytes
     → drop 24 bytes ≡ number c ++ drop 32 bytes → drop 32 bytes ≡ number d ++ drop 40 bytes → bytes ≡ stream (m ∷ a ∷ b ∷ c ∷ d ∷ []) (drop 40 bytes)
 five_read bytes m a b c d em ea eb ec ed =
-    em ∙ ap (λ (r : List ℕ). number m ++ r) (ea ∙ ap (λ (r : List ℕ). number a ++ r) (eb ∙ ap (λ (r : List ℕ). number b ++ r) (ec ∙ ap (λ (r : List ℕ). number c ++ r) ed)))
+    em ∙ ap (λ (r : List ℕ). number m ++ r)
+    (ea ∙ ap (λ (r : List ℕ). number a ++ r) (eb ∙ ap (λ (r : List ℕ). number b ++ r) (ec ∙ ap (λ (r : List ℕ). number c ++ r) ed)))
 
 one_more : (b : Bool) → cond b 1 0 ≤ 1
 one_more true = omega arith
@@ -59,20 +61,28 @@ same_fields a b c d a' b' c' d' e =
 pub spelt_header : (room : ℕ) (bytes rest : List ℕ) (m : ℕ) (found h : CheckpointHeader) → AllFit (m ∷ fields found)
     → bytes ≡ stream (m ∷ fields found) rest → IsHeader room h → bytes ≡ header_bytes h → HasFields h m found rest
 spelt_header room bytes rest m found h fits read is e =
-    let s = stream_splits (m ∷ fields found) (0x4441_4548_534f_5245 ∷ fields h) rest (zeros 472) fits (header_fits room h is) refl (sym read ∙ e ∙ header_stream h) in
+    let s = stream_splits (m ∷ fields found) (0x4441_4548_534f_5245 ∷ fields h) rest (zeros 472) fits (header_fits room h is) refl
+    (sym read ∙ e ∙ header_stream h) in
     let lists : m ∷ fields found ≡ 0x4441_4548_534f_5245 ∷ fields h = s.0 in
     let first : m ≡ 0x4441_4548_534f_5245 = cc in
     let others : fields found ≡ fields h = cc in
-    record { magic_is = first; header_is = same_fields found.sequence found.generation found.entries found.age h.sequence h.generation h.entries h.age others; rest_is = s.1 }
+    record {
+      magic_is = first;
+      header_is = same_fields found.sequence found.generation found.entries found.age h.sequence h.generation h.entries h.age others;
+      rest_is = s.1;
+    }
 
 -- given bytes spell at most one header
 pub one_header : (room : ℕ) (g h : CheckpointHeader) → IsHeader room g → IsHeader room h → header_bytes g ≡ header_bytes h → g ≡ h
-one_header room g h ig ih e = (spelt_header room (header_bytes g) (zeros 472) 0x4441_4548_534f_5245 g h (header_fits room g ig) (header_stream g) ih e).header_is
+one_header room g h ig ih e =
+    (spelt_header room (header_bytes g) (zeros 472) 0x4441_4548_534f_5245 g h (header_fits room g ig) (header_stream g) ih e).header_is
 
 pub header_written : (filled now : List ℕ) (h : CheckpointHeader) → filled ≡ zeros 512
-    → IsWritten filled (number 0x4441_4548_534f_5245 ++ number h.sequence ++ number h.generation ++ number h.entries ++ number h.age) now 40 → now ≡ header_bytes h
+    → IsWritten filled (number 0x4441_4548_534f_5245 ++ number h.sequence ++ number h.generation ++ number h.entries ++ number h.age) now 40 →
+    now ≡ header_bytes h
 header_written filled now h blank was =
     written_all filled (number 0x4441_4548_534f_5245 ++ number h.sequence ++ number h.generation ++ number h.entries ++ number h.age) now 40 was
-    ∙ ap (λ (z : List ℕ). number 0x4441_4548_534f_5245 ++ number h.sequence ++ number h.generation ++ number h.entries ++ number h.age ++ z) (drop_filled filled 512 40 blank)
+    ∙ ap (λ (z : List ℕ). number 0x4441_4548_534f_5245 ++ number h.sequence ++ number h.generation ++ number h.entries ++ number h.age ++ z)
+    (drop_filled filled 512 40 blank)
     ∙ six (number 0x4441_4548_534f_5245) (number h.sequence) (number h.generation) (number h.entries) (number h.age) (zeros 472)
     ∙ sym (header_stream h)

@@ -33,7 +33,8 @@ pub same_header : (image : Image) (p : Plan) (g h : CheckpointHeader) → HasHea
 same_header image p g h hg hh = one_header p.geometry.log g h hg.fits hh.fits (same_some (header_bytes g) (header_bytes h) (sym hg.spelt ∙ hh.spelt))
 
 pub same_directory : (image : Image) (p : Plan) (h : CheckpointHeader) (ds es : List Entry) → HasDirectory image p h ds → HasDirectory image p h es → ds ≡ es
-same_directory image p h ds es hd he = one_directory ds es (directory_fits p.geometry ds hd.fits) (directory_fits p.geometry es he.fits) (sym hd.spelt ∙ he.spelt)
+same_directory image p h ds es hd he = one_directory ds es (directory_fits p.geometry ds hd.fits) (directory_fits p.geometry es he.fits)
+    (sym hd.spelt ∙ he.spelt)
 
 -- what two saved states have in common but their frames
 same_frames : (image : Image) (p : Plan) (h : CheckpointHeader) (es : List Entry) (fs gs : List Frame)
@@ -50,17 +51,21 @@ same_frames image p h es fs gs lf lg ef eg = same_lists fs gs (lf ∙ sym lg) (�
 abbrev state : Plan → CheckpointHeader → List Entry → List Frame → SavedState
 state p h es fs = record { plan = p; header = h; directory = es; frames = fs }
 
-frames_equal : (image : Image) (size : ℕ) (p : Plan) (h : CheckpointHeader) (es : List Entry) (fs gs : List Frame) → Encodes image size (state p h es fs) → Encodes image size (state p h es gs) → state p h es fs ≡ state p h es gs
+frames_equal : (image : Image) (size : ℕ) (p : Plan) (h : CheckpointHeader) (es : List Entry) (fs gs : List Frame) → Encodes image size (state p h es fs) →
+    Encodes image size (state p h es gs) → state p h es fs ≡ state p h es gs
 frames_equal image size p h es fs gs s t = ap (state p h es) (same_frames image p h es fs gs s.count t.count s.each t.each)
 
 pub one_state : (image : Image) (size : ℕ) (s t : SavedState) → Encodes image size s → Encodes image size t → s ≡ t
 one_state image size s t ds dt =
     let ep : t.plan ≡ s.plan = same_plan image size t.plan s.plan dt.plan ds.plan in
-    let dt1 : Encodes image size (state s.plan t.header t.directory t.frames) = subst (λ (p : Plan). Encodes image size (state p t.header t.directory t.frames)) ep dt in
+    let dt1 : Encodes image size (state s.plan t.header t.directory t.frames) = subst (λ (p : Plan). Encodes image size (state p t.header t.directory t.frames))
+    ep dt in
     let eh : t.header ≡ s.header = same_header image s.plan t.header s.header dt1.header ds.header in
-    let dt2 : Encodes image size (state s.plan s.header t.directory t.frames) = subst (λ (h : CheckpointHeader). Encodes image size (state s.plan h t.directory t.frames)) eh dt1 in
+    let dt2 : Encodes image size (state s.plan s.header t.directory t.frames) = subst
+    (λ (h : CheckpointHeader). Encodes image size (state s.plan h t.directory t.frames)) eh dt1 in
     let ed : t.directory ≡ s.directory = same_directory image s.plan s.header t.directory s.directory dt2.directory ds.directory in
-    let dt3 : Encodes image size (state s.plan s.header s.directory t.frames) = subst (λ (es : List Entry). Encodes image size (state s.plan s.header es t.frames)) ed dt2 in
+    let dt3 : Encodes image size (state s.plan s.header s.directory t.frames) = subst
+    (λ (es : List Entry). Encodes image size (state s.plan s.header es t.frames)) ed dt2 in
     frames_equal image size s.plan s.header s.directory s.frames t.frames ds dt3
     ∙ ap (λ (p : Plan). state p s.header s.directory t.frames) (sym ep)
     ∙ ap (λ (h : CheckpointHeader). state t.plan h s.directory t.frames) (sym eh)

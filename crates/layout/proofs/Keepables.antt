@@ -26,21 +26,25 @@ state_fits Running = omega arith
 state_fits Waiting = omega arith
 
 numbers_kept : (g : Geometry) (age : ℕ) (ws : List ℕ) → All (λ w. w < 2 ^ 64) ws → Kept g age (map number_cap ws)
-numbers_kept g age ws each = All-map (IsKeptCap g age) number_cap ws (All-weaker (λ (w : ℕ). w < 2 ^ 64) (λ w. IsKeptCap g age (number_cap w)) (number_kept g age) ws each)
+numbers_kept g age ws each = All-map (IsKeptCap g age) number_cap ws
+    (All-weaker (λ (w : ℕ). w < 2 ^ 64) (λ w. IsKeptCap g age (number_cap w)) (number_kept g age) ws each)
 
 abbrev root_of : State → List ℕ → ℕ → ℕ → Cap → Root Cap
 root_of s ws key annex space = record { state = s; words = ws; key = key; annex = annex; space = space }
 
-root_slots_kept : (g : Geometry) (age : ℕ) (r : Root Cap) → AreKeptWords 4 r.words → r.key < 2 ^ 16 → r.annex < 2 ^ 64 → IsKeptCap g age r.space → AreKeptSlots g age (slots_of (content.Root r))
+root_slots_kept : (g : Geometry) (age : ℕ) (r : Root Cap) → AreKeptWords 4 r.words → r.key < 2 ^ 16 → r.annex < 2 ^ 64 → IsKeptCap g age r.space →
+    AreKeptSlots g age (slots_of (content.Root r))
 root_slots_kept g age r words key annex space =
     let P : Cap → Type 0 = IsKeptCap g age in
     let last : List Cap = number_cap r.key ∷ r.space ∷ [] in
     let ends : All P last = All-from_recursion P last (number_kept g age r.key (omega (arith, key)), (space, tt)) in
     let middle : All P (map number_cap r.words ++ last) = All-append P (map number_cap r.words) last (numbers_kept g age r.words words.each) ends in
-    let front : All P (root_slots r) = All-cons P (number_cap r.annex) (number_cap (state_number r.state) ∷ map number_cap r.words ++ last) (number_kept g age r.annex annex)
+    let front : All P (root_slots r) = All-cons P (number_cap r.annex) (number_cap (state_number r.state) ∷ map number_cap r.words ++ last)
+    (number_kept g age r.annex annex)
     (All-cons P (number_cap (state_number r.state)) (map number_cap r.words ++ last) (number_kept g age (state_number r.state) (state_fits r.state)) middle) in
     record {
-      count = length-append (root_slots r) (replicate 24 void_held) ∙ omega (arith, length-append (map number_cap r.words) last, length-map r.words number_cap, words.count_is, length-replicate 24 void_held);
+      count = length-append (root_slots r) (replicate 24 void_held) ∙
+          omega (arith, length-append (map number_cap r.words) last, length-map r.words number_cap, words.count_is, length-replicate 24 void_held);
       each = All-append P (root_slots r) (replicate 24 void_held) front (voids_kept g age 24);
     }
 
@@ -50,7 +54,8 @@ record RootIs (g : Geometry) (age : ℕ) (r : Root Cap) : Type 0 where
   pub annex : r.annex < 2 ^ 64
   pub space : IsKeptCap g age r.space
 
-root_is : (g : Geometry) (age : ℕ) (s : State) (ws : List ℕ) (key annex : ℕ) (space : Cap) → length ws ≡ 4 → AreKeptSlots g age (slots_of (content.Root (root_of s ws key annex space))) → RootIs g age (root_of s ws key annex space)
+root_is : (g : Geometry) (age : ℕ) (s : State) (ws : List ℕ) (key annex : ℕ) (space : Cap) → length ws ≡ 4 →
+    AreKeptSlots g age (slots_of (content.Root (root_of s ws key annex space))) → RootIs g age (root_of s ws key annex space)
 root_is g age s [] key annex space len are = absurd (omega (arith, len))
 root_is g age s (a ∷ []) key annex space len are = absurd (omega (arith, len))
 root_is g age s (a ∷ b ∷ []) key annex space len are = absurd (omega (arith, len))
@@ -58,8 +63,10 @@ root_is g age s (a ∷ b ∷ c ∷ []) key annex space len are = absurd (omega (
 root_is g age s (a ∷ b ∷ c ∷ d ∷ []) key annex space len are = record {
   words = record {
     count_is = refl;
-    each = All-from_recursion (λ (w : ℕ). w < 2 ^ 64) (a ∷ b ∷ c ∷ d ∷ [])
-        ((are.each 2 void_held (omega arith)).0, ((are.each 3 void_held (omega arith)).0, ((are.each 4 void_held (omega arith)).0, ((are.each 5 void_held (omega arith)).0, tt))));
+    each = All-from_recursion (λ (w : ℕ). w < 2 ^ 64) (a ∷ b ∷ c ∷ d ∷ []) (
+      (are.each 2 void_held (omega arith)).0,
+      ((are.each 3 void_held (omega arith)).0, ((are.each 4 void_held (omega arith)).0, ((are.each 5 void_held (omega arith)).0, tt))),
+    );
   };
   annex = (are.each 0 void_held (omega arith)).0;
   space = are.each 7 void_held (omega arith);
@@ -130,10 +137,19 @@ role_free (content.Annex registers) e = absurd cc
 role_free (content.Bank limit) e = absurd cc
 
 front_of : (g : Geometry) (age : ℕ) (f : Frame) → IsKept g age f → IsFront age f
-front_of g age f is = record { role = is.role; allocations = is.allocations; calls = is.calls; owner = is.owner; unowned = λ t. is.unowned (is.role ∙ free_role f.content t) }
+front_of g age f is =
+    record { role = is.role; allocations = is.allocations; calls = is.calls; owner = is.owner; unowned = λ t. is.unowned (is.role ∙ free_role f.content t) }
 
 kept_of : (g : Geometry) (age : ℕ) (f : Frame) → IsFront age f → MayBeKept g age f.content → IsKept g age f
-kept_of g age f is may = record { role = is.role; allocations = is.allocations; calls = is.calls; owner = is.owner; unowned = λ e. is.unowned (role_free f.content (sym is.role ∙ e)); content = may }
+kept_of g age f is may =
+    record {
+      role = is.role;
+      allocations = is.allocations;
+      calls = is.calls;
+      owner = is.owner;
+      unowned = λ e. is.unowned (role_free f.content (sym is.role ∙ e));
+      content = may;
+    }
 
 pub node_keepable : (g : Geometry) (age n : ℕ) (f : Frame) → n < g.nodes → IsNodeFrame g age f → IsKeepable g age n f
 node_keepable g age n f lt is =
@@ -163,14 +179,18 @@ node_bytes g n f lt = ap (λ (b : Bool). if b then node_frame_bytes f else page_
 page_bytes : (g : Geometry) (n : ℕ) (f : Frame) → g.nodes ≤ n → frame_bytes g n f ≡ page_frame_bytes f
 page_bytes g n f le = ap (λ (b : Bool). if b then node_frame_bytes f else page_frame_bytes f) (le-ltb n g.nodes le)
 
-pub frame_of_node : (g : Geometry) (age n : ℕ) (bytes : List ℕ) (f : Frame) → n < g.nodes → IsNodeFrame g age f × (bytes ≡ node_frame_bytes f) → IsFrameOf g age n bytes f
+pub frame_of_node : (g : Geometry) (age n : ℕ) (bytes : List ℕ) (f : Frame) → n < g.nodes → IsNodeFrame g age f × (bytes ≡ node_frame_bytes f) →
+    IsFrameOf g age n bytes f
 frame_of_node g age n bytes f lt is = (node_keepable g age n f lt is.0, is.1 ∙ sym (node_bytes g n f lt))
 
-pub node_of_frame : (g : Geometry) (age n : ℕ) (bytes : List ℕ) (f : Frame) → n < g.nodes → IsFrameOf g age n bytes f → IsNodeFrame g age f × (bytes ≡ node_frame_bytes f)
+pub node_of_frame : (g : Geometry) (age n : ℕ) (bytes : List ℕ) (f : Frame) → n < g.nodes → IsFrameOf g age n bytes f →
+    IsNodeFrame g age f × (bytes ≡ node_frame_bytes f)
 node_of_frame g age n bytes f lt is = (keepable_node g age n f lt is.0, is.1 ∙ node_bytes g n f lt)
 
-pub frame_of_page : (g : Geometry) (age n : ℕ) (bytes : List ℕ) (f : Frame) → g.nodes ≤ n → n < g.nodes + g.pages → IsPageFrame age f × (bytes ≡ page_frame_bytes f) → IsFrameOf g age n bytes f
+pub frame_of_page : (g : Geometry) (age n : ℕ) (bytes : List ℕ) (f : Frame) → g.nodes ≤ n → n < g.nodes + g.pages →
+    IsPageFrame age f × (bytes ≡ page_frame_bytes f) → IsFrameOf g age n bytes f
 frame_of_page g age n bytes f le lt is = (page_keepable g age n f le lt is.0, is.1 ∙ sym (page_bytes g n f le))
 
-pub page_of_frame : (g : Geometry) (age n : ℕ) (bytes : List ℕ) (f : Frame) → g.nodes ≤ n → IsFrameOf g age n bytes f → IsPageFrame age f × (bytes ≡ page_frame_bytes f)
+pub page_of_frame : (g : Geometry) (age n : ℕ) (bytes : List ℕ) (f : Frame) → g.nodes ≤ n → IsFrameOf g age n bytes f →
+    IsPageFrame age f × (bytes ≡ page_frame_bytes f)
 page_of_frame g age n bytes f le is = (keepable_page g age n f le is.0, is.1 ∙ page_bytes g n f le)

@@ -39,7 +39,8 @@ pub number_read : (bytes : List ℕ) (at n : ℕ) → at + 8 ≤ length bytes �
     → drop at bytes ≡ number n ++ drop (at + 8) bytes
 number_read bytes at n room small is =
     let len : length (take 8 (drop at bytes)) ≡ 8 = omega (arith, length-take 8 (drop at bytes), length-drop at bytes) in
-    let front : number n ≡ take 8 (drop at bytes) = ap number (is ∙ sym (little_from-take 0 8 8 (drop at bytes) (omega arith))) ∙ number_back (take 8 (drop at bytes)) len (IsBytes-front bytes at small room) in
+    let front : number n ≡ take 8 (drop at bytes) = ap number (is ∙ sym (little_from-take 0 8 8 (drop at bytes) (omega arith))) ∙
+    number_back (take 8 (drop at bytes)) len (IsBytes-front bytes at small room) in
     front_rest (drop at bytes) (number n) (drop (at + 8) bytes) front (drop-drop 8 at bytes)
 
 -- its bytes decide a number, whatever follows
@@ -58,7 +59,8 @@ pub record IsSum (bytes : List ℕ) (i any : ℕ) : Type 0 where
 pub sum_more : (bytes : List ℕ) (i any : ℕ) → IsSum bytes i any → IsSum bytes (i + 1) (bit_or any (get_or bytes i 0))
 sum_more bytes i any s = record {
   zero_bytes = λ e. below_more _ _ (s.zero_bytes (omega (arith, le_or_l any (get_or bytes i 0)))) (omega (arith, le_or_r any (get_or bytes i 0)));
-  zero_sum = λ all. let here : get_or bytes i 0 ≡ 0 = all i (omega arith) in let before : any ≡ 0 = s.zero_sum (λ k lt. all k (omega arith)) in rw (here, before) refl;
+  zero_sum = λ all. let here : get_or bytes i 0 ≡ 0 = all i (omega arith) in let before : any ≡ 0 = s.zero_sum (λ k lt. all k (omega arith)) in rw
+      (here, before) refl;
 }
 
 pub sum_zeros : (bytes : List ℕ) (any : ℕ) → IsSum bytes (length bytes) any → any ≡ 0 → bytes ≡ zeros (length bytes)
@@ -78,16 +80,21 @@ pub written : (bytes buf : List ℕ) (at n : ℕ) → at + 8 ≤ length bytes �
 written bytes buf at n room is =
     let mid : between at (length bytes) bytes ≡ drop at bytes = take_rest bytes at in
     let past : drop (length bytes - at) (drop at bytes) ≡ [] = drop_all (length bytes - at) (drop at bytes) (omega (arith, length-drop at bytes)) in
-    let whole : buf ≡ number n ++ drop (at + 8) bytes = is ∙ ap (λ (r : List ℕ). number n ++ drop 8 r) mid ∙ ap (λ (r : List ℕ). number n ++ r) (drop-drop 8 at bytes) in
+    let whole : buf ≡ number n ++ drop (at + 8) bytes = is ∙ ap (λ (r : List ℕ). number n ++ drop 8 r) mid ∙
+    ap (λ (r : List ℕ). number n ++ r) (drop-drop 8 at bytes) in
     rw (past, whole, append-nil) (sym (append_assoc (take at bytes) (number n) (drop (at + 8) bytes)))
 
-pub written_before : (bytes new : List ℕ) (at n : ℕ) → at + 8 ≤ length bytes → new ≡ (take at bytes ++ number n) ++ drop (at + 8) bytes → take (at + 8) new ≡ take at bytes ++ number n
+pub written_before : (bytes new : List ℕ) (at n : ℕ) → at + 8 ≤ length bytes → new ≡ (take at bytes ++ number n) ++ drop (at + 8) bytes →
+    take (at + 8) new ≡ take at bytes ++ number n
 written_before bytes new at n room is =
-    ap (take (at + 8)) is ∙ take_at (take at bytes ++ number n) (drop (at + 8) bytes) (at + 8) (omega (arith, length-append (take at bytes) (number n), length-take at bytes, length-number n))
+    ap (take (at + 8)) is ∙ take_at (take at bytes ++ number n) (drop (at + 8) bytes) (at + 8)
+    (omega (arith, length-append (take at bytes) (number n), length-take at bytes, length-number n))
 
-pub written_after : (bytes new : List ℕ) (at n : ℕ) → at + 8 ≤ length bytes → new ≡ (take at bytes ++ number n) ++ drop (at + 8) bytes → drop (at + 8) new ≡ drop (at + 8) bytes
+pub written_after : (bytes new : List ℕ) (at n : ℕ) → at + 8 ≤ length bytes → new ≡ (take at bytes ++ number n) ++ drop (at + 8) bytes →
+    drop (at + 8) new ≡ drop (at + 8) bytes
 written_after bytes new at n room is =
-    ap (drop (at + 8)) is ∙ drop_at (take at bytes ++ number n) (drop (at + 8) bytes) (at + 8) (omega (arith, length-append (take at bytes) (number n), length-take at bytes, length-number n))
+    ap (drop (at + 8)) is ∙ drop_at (take at bytes ++ number n) (drop (at + 8) bytes) (at + 8)
+    (omega (arith, length-append (take at bytes) (number n), length-take at bytes, length-number n))
 
 pub ends_zeros : (bytes : List ℕ) (i any : ℕ) → i ≡ length bytes → IsSum bytes i any → IsTrue (nat_eq any 0) ↔ (bytes ≡ zeros (length bytes))
 ends_zeros bytes i any e s =
@@ -131,7 +138,8 @@ written_more filled front old new at n was before after = record {
 
 -- all that was written, and the rest as it was filled
 pub written_all : (filled front now : List ℕ) (at : ℕ) → IsWritten filled front now at → now ≡ front ++ drop at filled
-written_all filled front now at was = sym (take-append-drop at now) ∙ ap (λ (f : List ℕ). f ++ drop at now) was.before ∙ ap (λ (r : List ℕ). front ++ r) was.after
+written_all filled front now at was = sym (take-append-drop at now) ∙ ap (λ (f : List ℕ). f ++ drop at now) was.before ∙
+    ap (λ (r : List ℕ). front ++ r) was.after
 
 pub drop_filled : (filled : List ℕ) (n at : ℕ) → filled ≡ zeros n → drop at filled ≡ zeros (n - at)
 unfolding zeros

@@ -11,6 +11,10 @@ use borrow.Rule.Slice.PartMut.{put_mid}
 use Rattle.model.specs.declared.object.Content.TheVariants as content
 use Rattle.layout.proofs.Numbers.{length-number, stream, AllFit, stream_splits, IsBytes, number_read}
 use Rattle.layout.proofs.Frames.{length-front, front_list, front_reported, front_bytes_are, role_again, role_fits, drop_zeros}
+use Rattle.std.proofs.Common.{Bor}
+use Rattle.model.specs.Frame.{content_behind}
+use Rattle.model.specs.declared.object.ContentRef.{ContentRef}
+use Rattle.model.specs.declared.object.ContentRef.TheVariants as content_ref
 
 pub words_bytes-nil : words_bytes [] ≡ []
 unfolding words_bytes
@@ -103,7 +107,8 @@ unfolding page_frame_bytes
 page_parts f bytes e =
     let front : List ℕ = front_numbers (role_number f.header.role) f.header in
     let words : List ℕ = words_bytes (page_words f.content) in
-    let whole : bytes ≡ front ++ (zeros 480 ++ words) = e ∙ ap (λ (r : List ℕ). r ++ zeros 480 ++ words) (front_bytes_are f.header) ∙ append_assoc front (zeros 480) words in
+    let whole : bytes ≡ front ++ (zeros 480 ++ words) = e ∙ ap (λ (r : List ℕ). r ++ zeros 480 ++ words) (front_bytes_are f.header) ∙
+    append_assoc front (zeros 480) words in
     let behind : drop 32 bytes ≡ zeros 480 ++ words = ap (drop 32) whole ∙ drop_at front (zeros 480 ++ words) 32 (length-front _ f.header) in
     record {
       whole = whole;
@@ -116,13 +121,15 @@ pub record IsPageReadOf (f : Frame) (role : ℕ) (h : ObjectHeader) (words : Lis
   pub header_is : h ≡ f.header
   pub words_are : words ≡ page_words f.content
 
-pub page_reported : (age role : ℕ) (h : ObjectHeader) (words : List ℕ) (f : Frame) (bytes rest : List ℕ) → AllFit (front_list role h) → h.role ≡ role_in role → AreKeptWords 512 words
+pub page_reported : (age role : ℕ) (h : ObjectHeader) (words : List ℕ) (f : Frame) (bytes rest : List ℕ) → AllFit (front_list role h) → h.role ≡ role_in role →
+    AreKeptWords 512 words
     → bytes ≡ front_numbers role h ++ rest → drop 512 bytes ≡ words_bytes words → IsPageFrame age f → bytes ≡ page_frame_bytes f → IsPageReadOf f role h words
 page_reported age role h words f bytes rest fits role_is are front last is e =
     let parts = page_parts f bytes e in
     let reported = front_reported age role h f rest (zeros 480 ++ words_bytes (page_words f.content)) fits role_is is.front (sym front ∙ parts.whole) in
     let held = words_fit f.content is.holds in
-    let same = stream_splits words (page_words f.content) [] [] (all_fit words are.each) (all_fit (page_words f.content) held.each) (are.count_is ∙ sym held.count_is)
+    let same = stream_splits words (page_words f.content) [] [] (all_fit words are.each) (all_fit (page_words f.content) held.each)
+    (are.count_is ∙ sym held.count_is)
     (sym (words_stream words) ∙ sym last ∙ parts.last ∙ words_stream (page_words f.content)) in
     record { role_is = reported.0; header_is = reported.1; words_are = same.0 }
 
@@ -161,23 +168,30 @@ record IsPageContent (role owner : ℕ) (words : List ℕ) (c : Content Cap) : T
   pub holds : HoldsPage c
   pub unowned : IsTrue (is_free c) → owner ≡ 0
 
-page_content : (role owner : ℕ) (slots : List Cap) (words : List ℕ) → AreKeptWords 512 words → IsPageBody role owner words → IsPageContent role owner words (content_of (page_body_in role) slots words)
+page_content : (role owner : ℕ) (slots : List Cap) (words : List ℕ) → AreKeptWords 512 words → IsPageBody role owner words →
+    IsPageContent role owner words (content_of (page_body_in role) slots words)
 page_content role owner slots words are (inl r) =
-    subst (λ (n : ℕ). IsPageContent n owner words (content_of (page_body_in n) slots words)) (sym r) (record { role_is = refl; words_are = refl; holds = are; unowned = λ t. absurd (false≢true t) })
+    subst (λ (n : ℕ). IsPageContent n owner words (content_of (page_body_in n) slots words)) (sym r)
+    (record { role_is = refl; words_are = refl; holds = are; unowned = λ t. absurd (false≢true t) })
 page_content role owner slots words are (inr is) =
-    subst (λ (n : ℕ). IsPageContent n owner words (content_of (page_body_in n) slots words)) (sym is.0) (record { role_is = refl; words_are = is.2; holds = tt; unowned = λ _. is.1 })
+    subst (λ (n : ℕ). IsPageContent n owner words (content_of (page_body_in n) slots words)) (sym is.0)
+    (record { role_is = refl; words_are = is.2; holds = tt; unowned = λ _. is.1 })
 
-pub page_found : (age role : ℕ) (h : ObjectHeader) (slots : List Cap) (words : List ℕ) (b : Body) (bytes : List ℕ) → AllFit (front_list role h) → h.role ≡ role_in role → b ≡ page_body_in role
+pub page_found : (age role : ℕ) (h : ObjectHeader) (slots : List Cap) (words : List ℕ) (b : Body) (bytes : List ℕ) → AllFit (front_list role h) →
+    h.role ≡ role_in role → b ≡ page_body_in role
     → IsCount age h.allocations × IsCount age h.calls → AreKeptWords 512 words → IsPageBody role h.owner words
     → bytes ≡ front_numbers role h ++ drop 32 bytes → take 480 (drop 32 bytes) ≡ zeros 480 → drop 512 bytes ≡ words_bytes words
-    → IsPageFrame age (record { header = h; content = content_of b slots words }) × (bytes ≡ page_frame_bytes (record { header = h; content = content_of b slots words }))
+    → IsPageFrame age (record { header = h; content = content_of b slots words }) ×
+    (bytes ≡ page_frame_bytes (record { header = h; content = content_of b slots words }))
 unfolding page_frame_bytes
 page_found age role h slots words b bytes fits role_is body_is counts are was front gap last =
     let c : Content Cap = content_of b slots words in
     let f : Frame = record { header = h; content = c } in
-    let is : IsPageContent role h.owner words c = subst (λ (d : Body). IsPageContent role h.owner words (content_of d slots words)) (sym body_is) (page_content role h.owner slots words are was) in
+    let is : IsPageContent role h.owner words c = subst (λ (d : Body). IsPageContent role h.owner words (content_of d slots words)) (sym body_is)
+    (page_content role h.owner slots words are was) in
     let same_role : h.role ≡ role_of c = role_is ∙ ap role_in is.role_is ∙ role_again (role_of c) in
-    let behind : drop 32 bytes ≡ zeros 480 ++ words_bytes words = sym (take-append-drop 480 (drop 32 bytes)) ∙ ap (λ (r : List ℕ). r ++ drop 480 (drop 32 bytes)) gap
+    let behind : drop 32 bytes ≡ zeros 480 ++ words_bytes words = sym (take-append-drop 480 (drop 32 bytes)) ∙
+    ap (λ (r : List ℕ). r ++ drop 480 (drop 32 bytes)) gap
     ∙ ap (λ (r : List ℕ). zeros 480 ++ r) (drop-drop 480 32 bytes ∙ last) in
     let spelt : bytes ≡ front_bytes h ++ (zeros 480 ++ words_bytes (page_words c)) =
     front ∙ ap (λ (r : List ℕ). front_numbers role h ++ r) (behind ∙ ap (λ (w : List ℕ). zeros 480 ++ words_bytes w) is.words_are)
@@ -194,12 +208,15 @@ page_found age role h slots words b bytes fits role_is body_is counts are was fr
 pub one_page_frame : (age : ℕ) (e f : Frame) → IsPageFrame age e → IsPageFrame age f → page_frame_bytes e ≡ page_frame_bytes f → e ≡ f
 one_page_frame age e f ie if same =
     let parts = page_parts e (page_frame_bytes e) refl in
-    let read = page_reported age (role_number e.header.role) e.header (page_words e.content) f (page_frame_bytes e) (zeros 480 ++ words_bytes (page_words e.content))
-    (role_fits e.header.role, (ie.front.allocations.1, (ie.front.calls.1, (ie.front.owner, tt)))) (sym (role_again e.header.role)) (words_fit e.content ie.holds) parts.whole parts.last if same in
+    let read = page_reported age (role_number e.header.role) e.header (page_words e.content) f (page_frame_bytes e)
+    (zeros 480 ++ words_bytes (page_words e.content))
+    (role_fits e.header.role, (ie.front.allocations.1, (ie.front.calls.1, (ie.front.owner, tt)))) (sym (role_again e.header.role))
+    (words_fit e.content ie.holds) parts.whole parts.last if same in
     let contents : e.content ≡ f.content = sym (content_again e.content ie.holds)
     ∙ ap (λ (r : ℕ). content_of (page_body_in r) [] (page_words e.content)) (ap role_number (sym ie.front.role) ∙ read.role_is)
     ∙ ap (λ (w : List ℕ). content_of (page_body_in (role_number (role_of f.content))) [] w) read.words_are ∙ content_again f.content if.holds in
-    ap (λ (h : ObjectHeader). record { header = h; content = e.content }) read.header_is ∙ ap (λ (c : Content Cap). record { header = f.header; content = c }) contents
+    ap (λ (h : ObjectHeader). record { header = h; content = e.content }) read.header_is ∙ ap (λ (c : Content Cap). record { header = f.header; content = c })
+    contents
 
 -- ---- writing
 
@@ -212,7 +229,8 @@ fronted h blanked new blank before after =
     let gap : take 480 (drop 32 new) ≡ zeros 480 = ap (take 480) after ∙ take_gap blanked ∙ ap (drop 32) blank ∙ drop_zeros 32 512 in
     take-add 32 480 new ∙ ap (λ (r : List ℕ). r ++ take 480 (drop 32 new)) (before ∙ sym (front_bytes_are h)) ∙ ap (λ (r : List ℕ). front_bytes h ++ r) gap
 
-pub page_written : (f : Frame) (front new body : List ℕ) → take 512 front ≡ front_bytes f.header ++ zeros 480 → body ≡ words_bytes (page_words f.content) → new ≡ take 512 front ++ body → new ≡ page_frame_bytes f
+pub page_written : (f : Frame) (front new body : List ℕ) → take 512 front ≡ front_bytes f.header ++ zeros 480 → body ≡ words_bytes (page_words f.content) →
+    new ≡ take 512 front ++ body → new ≡ page_frame_bytes f
 unfolding page_frame_bytes
 page_written f front new body before spelt is =
     is ∙ ap (λ (r : List ℕ). r ++ body) before ∙ ap (λ (r : List ℕ). front_bytes f.header ++ zeros 480 ++ r) spelt
@@ -222,19 +240,21 @@ put_last xs ys at =
     let past : drop (length xs - at) (drop at xs) ≡ [] = drop_all (length xs - at) (drop at xs) (omega (arith, length-drop at xs)) in
     rw (past, append-nil) refl
 
-pub default_written : (f : Frame) (front new : List ℕ) → take 512 front ≡ front_bytes f.header ++ zeros 480 → page_words f.content ≡ zero_words → new ≡ take 512 front ++ zeros 4096 → new ≡ page_frame_bytes f
+pub default_written : (f : Frame) (front new : List ℕ) → take 512 front ≡ front_bytes f.header ++ zeros 480 → page_words f.content ≡ zero_words →
+    new ≡ take 512 front ++ zeros 4096 → new ≡ page_frame_bytes f
 default_written f front new before words is = page_written f front new (zeros 4096) before (sym zero_words_bytes ∙ ap words_bytes (sym words)) is
 
-pub blanked_front : (old new : List ℕ) (n : ℕ) → n ≤ length old → new ≡ zeros (length (take n old)) → (take n (new ++ drop n old) ≡ zeros n) × (drop n (new ++ drop n old) ≡ drop n old)
+pub blanked_front : (old new : List ℕ) (n : ℕ) → n ≤ length old → new ≡ zeros (length (take n old)) →
+    (take n (new ++ drop n old) ≡ zeros n) × (drop n (new ++ drop n old) ≡ drop n old)
 blanked_front old new n room e =
     let is : new ≡ zeros n = e ∙ ap zeros (length-take-le n old room) in
     let size : length new ≡ n = ap length is ∙ length-zeros n in
     (take_at new (drop n old) n size ∙ is, drop_at new (drop n old) n size)
 
-pub not_page : (c : Content Cap) → ((words : List ℕ) → c ≡ content.Page words → ⊥) → page_words c ≡ zero_words
-not_page content.Free h = refl
-not_page (content.Page words) h = absurd (h words refl)
-not_page (content.Node slots) h = refl
-not_page (content.Root root) h = refl
-not_page (content.Annex registers) h = refl
-not_page (content.Bank limit) h = refl
+pub not_page : (r : ContentRef) → ((words : Bor (List ℕ)) → r ≡ content_ref.Page words → ⊥) → page_words (content_behind r) ≡ zero_words
+not_page content_ref.Free h = refl
+not_page (content_ref.Page words) h = absurd (h words refl)
+not_page (content_ref.Node slots) h = refl
+not_page (content_ref.Root root) h = refl
+not_page (content_ref.Annex registers) h = refl
+not_page (content_ref.Bank limit) h = refl

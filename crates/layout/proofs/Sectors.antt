@@ -7,7 +7,8 @@ no_bytes [] e = refl
 no_bytes (b ∷ bs) e = absurd (omega (arith, e))
 
 -- each piece of 512 bytes is a sector
-sectors_are : (image : Image) (at n : ℕ) (bytes : List ℕ) → length bytes ≡ 512 * n → ((i : ℕ) → i < n → take 512 (drop (512 * i) bytes) ≡ image (at + i)) → sectors_from image at n ≡ bytes
+sectors_are : (image : Image) (at n : ℕ) (bytes : List ℕ) → length bytes ≡ 512 * n → ((i : ℕ) → i < n → take 512 (drop (512 * i) bytes) ≡ image (at + i)) →
+    sectors_from image at n ≡ bytes
 unfolding sectors_from
 sectors_are image at zero bytes size same = no_bytes bytes (omega (arith, size))
 sectors_are image at (suc n) bytes size same =
@@ -21,7 +22,8 @@ sectors_are image at (suc n) bytes size same =
     ap (λ (front : List ℕ). front ++ sectors_from image (at + 1) n) (sym (first ∙ ap image here))
     ∙ ap (λ (back : List ℕ). take 512 bytes ++ back) rest ∙ take-append-drop 512 bytes
 
-pub whole_sectors : (image : Image) (at : ℕ) (bytes : List ℕ) → length bytes % 512 ≡ 0 → ((i : ℕ) → i < length bytes / 512 → take 512 (drop (512 * i) bytes) ≡ image (at + i)) → sectors_from image at (length bytes / 512) ≡ bytes
+pub whole_sectors : (image : Image) (at : ℕ) (bytes : List ℕ) → length bytes % 512 ≡ 0 →
+    ((i : ℕ) → i < length bytes / 512 → take 512 (drop (512 * i) bytes) ≡ image (at + i)) → sectors_from image at (length bytes / 512) ≡ bytes
 whole_sectors image at bytes whole same = sectors_are image at (length bytes / 512) bytes (omega arith) same
 
 same_rest : (at n : ℕ) (old new : Image) → ((i : ℕ) → i < suc n → new (at + i) ≡ old (at + i)) → (i : ℕ) → i < n → new (at + 1 + i) ≡ old (at + 1 + i)

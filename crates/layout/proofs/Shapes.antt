@@ -12,7 +12,8 @@ few_sectors (Packed rank) = omega arith
 few_sectors Page = omega arith
 
 -- the bytes of a frame are those of its sectors
-pub same_shaped : (at : ℕ) (s : Shape) (old new : Image) → ((i : ℕ) → i < shape_length s → new (at + i) ≡ old (at + i)) → shaped_at new at s ≡ shaped_at old at s
+pub same_shaped : (at : ℕ) (s : Shape) (old new : Image) → ((i : ℕ) → i < shape_length s → new (at + i) ≡ old (at + i)) →
+    shaped_at new at s ≡ shaped_at old at s
 same_shaped at s old new same = ap (shape_bytes s) (same_sectors at (shape_length s) old new same)
 
 -- ---- in version 1

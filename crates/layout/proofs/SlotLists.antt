@@ -25,11 +25,14 @@ unfolding slots_bytes
 slots_bytes-append bs cs = flat_map-append capability_bytes bs cs
 
 pub slots_bytes-push : (cs : List Cap) (c : Cap) → slots_bytes (cs ++ c ∷ []) ≡ slots_bytes cs ++ capability_bytes c
-slots_bytes-push cs c = slots_bytes-append cs (c ∷ []) ∙ ap (λ (r : List ℕ). slots_bytes cs ++ r) (slots_bytes-cons c [] ∙ ap (λ (r : List ℕ). capability_bytes c ++ r) slots_bytes-nil ∙ append-nil (capability_bytes c))
+slots_bytes-push cs c = slots_bytes-append cs (c ∷ []) ∙
+    ap (λ (r : List ℕ). slots_bytes cs ++ r)
+    (slots_bytes-cons c [] ∙ ap (λ (r : List ℕ). capability_bytes c ++ r) slots_bytes-nil ∙ append-nil (capability_bytes c))
 
 pub length-slots : (cs : List Cap) → length (slots_bytes cs) ≡ 24 * length cs
 length-slots [] = ap length slots_bytes-nil
-length-slots (c ∷ cs) = ap length (slots_bytes-cons c cs) ∙ length-append (capability_bytes c) (slots_bytes cs) ∙ omega (arith, length-capability c, length-slots cs)
+length-slots (c ∷ cs) = ap length (slots_bytes-cons c cs) ∙ length-append (capability_bytes c) (slots_bytes cs) ∙
+    omega (arith, length-capability c, length-slots cs)
 
 -- one capability more is written
 pub slot_written : (caps : List Cap) (into buf : List ℕ) (i k : ℕ) (d : Cap) → i < length caps → length into ≡ 24 * length caps → k ≡ 24
@@ -57,16 +60,19 @@ pub slot_read : (g : Geometry) (age : ℕ) (bytes : List ℕ) (into : List Cap) 
 slot_read g age bytes into i c lt before fits is =
     let more : take (i + 1) (set into i c) ≡ take i into ++ c ∷ [] = take_more_set into i c (omega (arith, before.count)) in
     record {
-      bytes_are = take_bytes bytes i ∙ ap (λ (r : List ℕ). r ++ take 24 (drop (24 * i) bytes)) before.bytes_are ∙ ap (λ (r : List ℕ). slots_bytes (take i into) ++ r) is
+      bytes_are = take_bytes bytes i ∙ ap (λ (r : List ℕ). r ++ take 24 (drop (24 * i) bytes)) before.bytes_are ∙
+          ap (λ (r : List ℕ). slots_bytes (take i into) ++ r) is
           ∙ sym (slots_bytes-push (take i into) c) ∙ ap slots_bytes (sym more);
-      each = All-same (IsKeptCap g age) (take (i + 1) (set into i c)) (take i into ++ c ∷ []) more (All-push (IsKeptCap g age) (take i into) c before.each fits);
+      each = All-same (IsKeptCap g age) (take (i + 1) (set into i c)) (take i into ++ c ∷ []) more
+          (All-push (IsKeptCap g age) (take i into) c before.each fits);
       count = length-set into i c ∙ before.count;
     }
 
 pub none_read : (g : Geometry) (age : ℕ) (bytes : List ℕ) (into : List Cap) → length into ≡ 32 → AreRead g age bytes into 0
 none_read g age bytes into len = record { bytes_are = sym slots_bytes-nil; each = All-nil (IsKeptCap g age); count = len }
 
-pub all_read : (g : Geometry) (age : ℕ) (bytes : List ℕ) (into : List Cap) (i : ℕ) → 32 ≤ i → length bytes ≡ 768 → AreRead g age bytes into i → AreKeptSlots g age into × (bytes ≡ slots_bytes into)
+pub all_read : (g : Geometry) (age : ℕ) (bytes : List ℕ) (into : List Cap) (i : ℕ) → 32 ≤ i → length bytes ≡ 768 → AreRead g age bytes into i →
+    AreKeptSlots g age into × (bytes ≡ slots_bytes into)
 all_read g age bytes into i done len was =
     let whole : take i into ≡ into = take_all i into (omega (arith, was.count)) in (
       record { count = was.count; each = All-same (IsKeptCap g age) into (take i into) (sym whole) was.each },
@@ -82,7 +88,8 @@ piece_of cs i d lt =
     let c : Cap = get_or cs i d in
     let parts : cs ≡ take i cs ++ c ∷ drop (i + 1) cs = sym (take-append-drop i cs) ∙ ap (λ (r : List Cap). take i cs ++ r) (drop_more cs i d lt) in
     let bytes_are : slots_bytes cs ≡ slots_bytes (take i cs) ++ (capability_bytes c ++ slots_bytes (drop (i + 1) cs)) =
-    ap slots_bytes parts ∙ slots_bytes-append (take i cs) (c ∷ drop (i + 1) cs) ∙ ap (λ (r : List ℕ). slots_bytes (take i cs) ++ r) (slots_bytes-cons c (drop (i + 1) cs)) in
+    ap slots_bytes parts ∙ slots_bytes-append (take i cs) (c ∷ drop (i + 1) cs) ∙
+    ap (λ (r : List ℕ). slots_bytes (take i cs) ++ r) (slots_bytes-cons c (drop (i + 1) cs)) in
     let size : length (slots_bytes (take i cs)) ≡ 24 * i = length-slots (take i cs) ∙ ap (λ (n : ℕ). 24 * n) (omega (arith, length-take i cs)) in
     ap (λ (bs : List ℕ). take 24 (drop (24 * i) bs)) bytes_are
     ∙ ap (take 24) (drop_at (slots_bytes (take i cs)) (capability_bytes c ++ slots_bytes (drop (i + 1) cs)) (24 * i) size)
@@ -102,20 +109,25 @@ slots_split g age [] [] x y fb fc len e = (refl, ap (λ (r : List ℕ). r ++ x) 
 slots_split g age [] (c ∷ cs) x y fb fc len e = absurd (omega (arith, len))
 slots_split g age (b ∷ bs) [] x y fb fc len e = absurd (omega (arith, len))
 slots_split g age (b ∷ bs) (c ∷ cs) x y fb fc len e =
-    let left : slots_bytes (b ∷ bs) ++ x ≡ capability_bytes b ++ (slots_bytes bs ++ x) = ap (λ (r : List ℕ). r ++ x) (slots_bytes-cons b bs) ∙ append_assoc (capability_bytes b) (slots_bytes bs) x in
-    let right : slots_bytes (c ∷ cs) ++ y ≡ capability_bytes c ++ (slots_bytes cs ++ y) = ap (λ (r : List ℕ). r ++ y) (slots_bytes-cons c cs) ∙ append_assoc (capability_bytes c) (slots_bytes cs) y in
+    let left : slots_bytes (b ∷ bs) ++ x ≡ capability_bytes b ++ (slots_bytes bs ++ x) = ap (λ (r : List ℕ). r ++ x) (slots_bytes-cons b bs) ∙
+    append_assoc (capability_bytes b) (slots_bytes bs) x in
+    let right : slots_bytes (c ∷ cs) ++ y ≡ capability_bytes c ++ (slots_bytes cs ++ y) = ap (λ (r : List ℕ). r ++ y) (slots_bytes-cons c cs) ∙
+    append_assoc (capability_bytes c) (slots_bytes cs) y in
     let whole : capability_bytes b ++ (slots_bytes bs ++ x) ≡ capability_bytes c ++ (slots_bytes cs ++ y) = sym left ∙ e ∙ right in
     let first : b ≡ c = one_capability g age b c (All-head (IsKeptCap g age) b bs fb) (All-head (IsKeptCap g age) c cs fc)
-    (sym (take_at (capability_bytes b) (slots_bytes bs ++ x) 24 (length-capability b)) ∙ ap (take 24) whole ∙ take_at (capability_bytes c) (slots_bytes cs ++ y) 24 (length-capability c)) in
+    (sym (take_at (capability_bytes b) (slots_bytes bs ++ x) 24 (length-capability b)) ∙ ap (take 24) whole ∙
+    take_at (capability_bytes c) (slots_bytes cs ++ y) 24 (length-capability c)) in
     let others = slots_split g age bs cs x y (All-tail (IsKeptCap g age) b bs fb) (All-tail (IsKeptCap g age) c cs fc) (omega (arith, len))
-    (sym (drop_at (capability_bytes b) (slots_bytes bs ++ x) 24 (length-capability b)) ∙ ap (drop 24) whole ∙ drop_at (capability_bytes c) (slots_bytes cs ++ y) 24 (length-capability c)) in
+    (sym (drop_at (capability_bytes b) (slots_bytes bs ++ x) 24 (length-capability b)) ∙ ap (drop 24) whole ∙
+    drop_at (capability_bytes c) (slots_bytes cs ++ y) 24 (length-capability c)) in
     (ap (λ (d : Cap). d ∷ bs) first ∙ ap (λ (ds : List Cap). c ∷ ds) others.0, others.1)
 
 -- ---- slots that are void
 
 voids_are : (xs : List Cap) (n : ℕ) → length xs ≡ n → All (λ c. c ≡ void_held) xs → xs ≡ replicate n void_held
 voids_are xs n len all =
-    same_lists xs (replicate n void_held) (len ∙ sym (length-replicate n void_held)) (λ k d lt. all k d lt ∙ sym (get_or-replicate n k void_held d (omega arith)))
+    same_lists xs (replicate n void_held) (len ∙ sym (length-replicate n void_held))
+    (λ k d lt. all k d lt ∙ sym (get_or-replicate n k void_held d (omega arith)))
 
 are_voids : (xs : List Cap) (n : ℕ) → xs ≡ replicate n void_held → All (λ c. c ≡ void_held) xs
 are_voids xs n e = All-same (λ (c : Cap). c ≡ void_held) xs (replicate n void_held) e (All-replicate (λ (c : Cap). c ≡ void_held) n void_held refl)
@@ -128,10 +140,12 @@ pub held_from : (slots caps : List Cap) → length slots ≡ 32 → length caps 
 held_from slots caps len few front rest =
     let n : ℕ = length caps in
     let behind : drop n slots ≡ replicate (32 - n) void_held =
-    voids_are (drop n slots) (32 - n) (omega (arith, length-drop n slots)) (All-same (λ (c : Cap). c ≡ void_held) (drop n slots) (between n (length slots) slots) (sym (take_rest slots n)) rest) in
+    voids_are (drop n slots) (32 - n) (omega (arith, length-drop n slots))
+    (All-same (λ (c : Cap). c ≡ void_held) (drop n slots) (between n (length slots) slots) (sym (take_rest slots n)) rest) in
     sym (take-append-drop n slots) ∙ ap (λ (r : List Cap). r ++ drop n slots) (sym (front_part slots n) ∙ front) ∙ ap (λ (r : List Cap). caps ++ r) behind
 
-pub held_rest : (slots caps : List Cap) → slots ≡ caps ++ replicate (32 - length caps) void_held → All (λ c. c ≡ void_held) (between (length caps) (length slots) slots)
+pub held_rest : (slots caps : List Cap) → slots ≡ caps ++ replicate (32 - length caps) void_held →
+    All (λ c. c ≡ void_held) (between (length caps) (length slots) slots)
 held_rest slots caps e =
     are_voids (between (length caps) (length slots) slots) (32 - length caps)
     (take_rest slots (length caps) ∙ ap (drop (length caps)) e ∙ drop_at caps (replicate (32 - length caps) void_held) (length caps) refl)

@@ -10,12 +10,14 @@ pub length_read : (image : Image) (p : Plan) (generation : ℕ) (es : List Entry
 unfolding frames_read
 length_read image p generation es = length-map-range_with_len (frame_read image p generation es) 0 (count_of p)
 
-pub read_at : (image : Image) (p : Plan) (generation : ℕ) (es : List Entry) (n : ℕ) → n < count_of p → frame_at (frames_read image p generation es) n ≡ frame_read image p generation es n
+pub read_at : (image : Image) (p : Plan) (generation : ℕ) (es : List Entry) (n : ℕ) → n < count_of p →
+    frame_at (frames_read image p generation es) n ≡ frame_read image p generation es n
 unfolding frames_read
 read_at image p generation es n lt = get_or-map-range_with_len (frame_read image p generation es) 0 (count_of p) n n blank_frame lt (omega arith)
 
 -- the frames of two images are the same where their bytes are
-pub read_same : (new old : Image) (p : Plan) (a b : ℕ) (ds es : List Entry) → ((n : ℕ) → n < count_of p → frame_in new p a ds n ≡ frame_in old p b es n) → frames_read new p a ds ≡ frames_read old p b es
+pub read_same : (new old : Image) (p : Plan) (a b : ℕ) (ds es : List Entry) → ((n : ℕ) → n < count_of p → frame_in new p a ds n ≡ frame_in old p b es n) →
+    frames_read new p a ds ≡ frames_read old p b es
 unfolding frames_read
 read_same new old p a b ds es same =
     same_lists (map (frame_read new p a ds) (range_with_len 0 (count_of p))) (map (frame_read old p b es) (range_with_len 0 (count_of p)))
@@ -27,24 +29,28 @@ read_same new old p a b ds es same =
     ∙ sym (get_or-map-range_with_len (frame_read old p b es) 0 (count_of p) n n d few (omega arith)))
 
 -- and what is spelt stays so
-pub spelt_same : (new old : Image) (p : Plan) (age a b : ℕ) (ds es : List Entry) (n : ℕ) → frame_in new p a ds n ≡ frame_in old p b es n → IsSpelt old p age b es n → IsSpelt new p age a ds n
+pub spelt_same : (new old : Image) (p : Plan) (age a b : ℕ) (ds es : List Entry) (n : ℕ) → frame_in new p a ds n ≡ frame_in old p b es n →
+    IsSpelt old p age b es n → IsSpelt new p age a ds n
 spelt_same new old p age a b ds es n same is =
     subst (λ (bytes : List ℕ). IsFrameOf p.geometry age n bytes (frame_from p.geometry n bytes)) (sym same) is
 
 -- bytes that spell a frame are read as that, and are spelt
-pub spelt_read : (image : Image) (p : Plan) (age generation : ℕ) (es : List Entry) (n : ℕ) (f : Frame) → IsFrameOf p.geometry age n (frame_in image p generation es n) f
+pub spelt_read : (image : Image) (p : Plan) (age generation : ℕ) (es : List Entry) (n : ℕ) (f : Frame) →
+    IsFrameOf p.geometry age n (frame_in image p generation es n) f
     → IsSpelt image p age generation es n × (frame_read image p generation es n ≡ f)
 spelt_read image p age generation es n f is =
     let same : frame_read image p generation es n ≡ f = frame_again p.geometry age n (frame_in image p generation es n) f is in
     (subst (IsFrameOf p.geometry age n (frame_in image p generation es n)) (sym same) is, same)
 
 -- what is spelt at one age and can be kept at another is spelt at that
-pub spelt_at : (image : Image) (p : Plan) (first second generation : ℕ) (es : List Entry) (n : ℕ) → IsSpelt image p first generation es n → IsKeepable p.geometry second n (frame_read image p generation es n)
+pub spelt_at : (image : Image) (p : Plan) (first second generation : ℕ) (es : List Entry) (n : ℕ) → IsSpelt image p first generation es n →
+    IsKeepable p.geometry second n (frame_read image p generation es n)
     → IsSpelt image p second generation es n
 spelt_at image p first second generation es n is keepable = (keepable, is.1)
 
 -- an image denotes the state that is read of it, where all is spelt
-pub denotes : (image : Image) (size : ℕ) (p : Plan) (h : CheckpointHeader) (es : List Entry) → HasPlan image size p → HasHeader image p h → HasDirectory image p h es → AreSpelt image p h.age h.generation es
+pub denotes : (image : Image) (size : ℕ) (p : Plan) (h : CheckpointHeader) (es : List Entry) → HasPlan image size p → HasHeader image p h →
+    HasDirectory image p h es → AreSpelt image p h.age h.generation es
     → Encodes image size (state_in image p h es)
 denotes image size p h es plan header directory spelt = record {
   plan = plan;
@@ -55,7 +61,8 @@ denotes image size p h es plan header directory spelt = record {
 }
 
 -- bytes of a frame that can be kept are read as that, and spell it
-pub bytes_spelt : (g : Geometry) (age n : ℕ) (bytes : List ℕ) (f : Frame) → IsKeepable g age n f → bytes ≡ frame_bytes g n f → IsFrameOf g age n bytes (frame_from g n bytes) × (frame_from g n bytes ≡ f)
+pub bytes_spelt : (g : Geometry) (age n : ℕ) (bytes : List ℕ) (f : Frame) → IsKeepable g age n f → bytes ≡ frame_bytes g n f →
+    IsFrameOf g age n bytes (frame_from g n bytes) × (frame_from g n bytes ≡ f)
 bytes_spelt g age n bytes f keepable is =
     let same : frame_from g n bytes ≡ f = frame_again g age n bytes f (keepable, is) in
     (subst (IsFrameOf g age n bytes) (sym same) (keepable, is), same)

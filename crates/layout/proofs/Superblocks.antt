@@ -32,16 +32,26 @@ unfolding ranges_bytes
 append_ranges qs rs = flat_map-append range_bytes qs rs
 
 push_range : (rs : List HomeRange) (r : HomeRange) → ranges_bytes (rs ++ r ∷ []) ≡ ranges_bytes rs ++ (number r.first ++ number r.count ++ number r.sector)
-push_range rs r = append_ranges rs (r ∷ []) ∙ ap (λ (x : List ℕ). ranges_bytes rs ++ x) (cons_range r [] ∙ ap (λ (x : List ℕ). number r.first ++ (number r.count ++ (number r.sector ++ x))) no_range
+push_range rs r = append_ranges rs (r ∷ []) ∙
+    ap (λ (x : List ℕ). ranges_bytes rs ++ x) (cons_range r [] ∙ ap (λ (x : List ℕ). number r.first ++ (number r.count ++ (number r.sector ++ x))) no_range
     ∙ sym (three (number r.first) (number r.count) (number r.sector) []) ∙ append-nil (number r.first ++ number r.count ++ number r.sector))
 
 pub length-ranges : (rs : List HomeRange) → length (ranges_bytes rs) ≡ 24 * length rs
 length-ranges [] = ap length no_range
 length-ranges (r ∷ rs) = ap length (cons_range r rs) ∙ length-append (number r.first) (number r.count ++ (number r.sector ++ ranges_bytes rs))
-    ∙ omega (arith, length-append (number r.count) (number r.sector ++ ranges_bytes rs), length-append (number r.sector) (ranges_bytes rs), length-number r.first, length-number r.count, length-number r.sector, length-ranges rs)
+    ∙ omega (
+      arith,
+      length-append (number r.count) (number r.sector ++ ranges_bytes rs),
+      length-append (number r.sector) (ranges_bytes rs),
+      length-number r.first,
+      length-number r.count,
+      length-number r.sector,
+      length-ranges rs,
+    )
 
 same_range : (q r : HomeRange) → q.first ≡ r.first → q.count ≡ r.count → q.sector ≡ r.sector → q ≡ r
-same_range q r a b c = ap (λ (x : ℕ). record { first = x; count = q.count; sector = q.sector }) a ∙ ap (λ (x : ℕ). record { first = r.first; count = x; sector = q.sector }) b
+same_range q r a b c = ap (λ (x : ℕ). record { first = x; count = q.count; sector = q.sector }) a ∙
+    ap (λ (x : ℕ). record { first = r.first; count = x; sector = q.sector }) b
     ∙ ap (λ (x : ℕ). record { first = r.first; count = r.count; sector = x }) c
 
 three_same : (q r : HomeRange) → q.first ∷ q.count ∷ q.sector ∷ [] ≡ r.first ∷ r.count ∷ r.sector ∷ [] → q ≡ r
@@ -53,7 +63,8 @@ four_deep a b c d x = simp append_assoc
 with_rest : (r : HomeRange) (rs : List HomeRange) (x : List ℕ) → ranges_bytes (r ∷ rs) ++ x ≡ stream (r.first ∷ r.count ∷ r.sector ∷ []) (ranges_bytes rs ++ x)
 with_rest r rs x = ap (λ (z : List ℕ). z ++ x) (cons_range r rs) ∙ four_deep (number r.first) (number r.count) (number r.sector) (ranges_bytes rs) x
 
-pub ranges_split : (qs rs : List HomeRange) (x y : List ℕ) → All RangeFits qs → All RangeFits rs → length qs ≡ length rs → ranges_bytes qs ++ x ≡ ranges_bytes rs ++ y → (qs ≡ rs) × (x ≡ y)
+pub ranges_split : (qs rs : List HomeRange) (x y : List ℕ) → All RangeFits qs → All RangeFits rs → length qs ≡ length rs →
+    ranges_bytes qs ++ x ≡ ranges_bytes rs ++ y → (qs ≡ rs) × (x ≡ y)
 ranges_split [] [] x y fq fr len e = (refl, ap (λ (z : List ℕ). z ++ x) (sym no_range) ∙ e ∙ ap (λ (z : List ℕ). z ++ y) no_range)
 ranges_split [] (r ∷ rs) x y fq fr len e = absurd (omega (arith, len))
 ranges_split (q ∷ qs) [] x y fq fr len e = absurd (omega (arith, len))
@@ -76,7 +87,8 @@ pub none_read : (bytes : List ℕ) (into : List HomeRange) → RangesRead bytes 
 none_read bytes into = record { bytes_are = sym no_range; each = All-nil RangeFits }
 
 pub range_read : (bytes : List ℕ) (into : List HomeRange) (i a b c : ℕ) → i < length into → RangesRead bytes into i → a < 2 ^ 64 → b < 2 ^ 64 → c < 2 ^ 64
-    → drop (24 * i) bytes ≡ number a ++ drop (24 * i + 8) bytes → drop (24 * i + 8) bytes ≡ number b ++ drop (24 * i + 8 + 8) bytes → drop (24 * i + 16) bytes ≡ number c ++ drop (24 * i + 16 + 8) bytes
+    → drop (24 * i) bytes ≡ number a ++ drop (24 * i + 8) bytes → drop (24 * i + 8) bytes ≡ number b ++ drop (24 * i + 8 + 8) bytes →
+    drop (24 * i + 16) bytes ≡ number c ++ drop (24 * i + 16 + 8) bytes
     → RangesRead bytes (set into i (record { first = a; count = b; sector = c })) (i + 1)
 range_read bytes into i a b c lt before fa fb fc ea eb ec =
     let r : HomeRange = record { first = a; count = b; sector = c } in
@@ -84,16 +96,20 @@ range_read bytes into i a b c lt before fa fb fc ea eb ec =
     let next : 24 * (i + 1) ≡ 24 * i + 24 = omega arith in
     let place : 24 * i + 8 + 8 ≡ 24 * i + 16 = omega arith in
     let all : drop (24 * i) bytes ≡ (number a ++ number b ++ number c) ++ drop (24 * i + 16 + 8) bytes =
-    ea ∙ ap (λ (x : List ℕ). number a ++ x) (eb ∙ ap (λ (x : List ℕ). number b ++ x) (ap (λ (n : ℕ). drop n bytes) place ∙ ec)) ∙ sym (three (number a) (number b) (number c) (drop (24 * i + 16 + 8) bytes)) in
-    let size : length (number a ++ number b ++ number c) ≡ 24 = length-append (number a ++ number b) (number c) ∙ omega (arith, length-append (number a) (number b), length-number a, length-number b, length-number c) in
-    let piece : take 24 (drop (24 * i) bytes) ≡ number a ++ number b ++ number c = ap (take 24) all ∙ take_at (number a ++ number b ++ number c) (drop (24 * i + 16 + 8) bytes) 24 size in
+    ea ∙ ap (λ (x : List ℕ). number a ++ x) (eb ∙ ap (λ (x : List ℕ). number b ++ x) (ap (λ (n : ℕ). drop n bytes) place ∙ ec)) ∙
+    sym (three (number a) (number b) (number c) (drop (24 * i + 16 + 8) bytes)) in
+    let size : length (number a ++ number b ++ number c) ≡ 24 = length-append (number a ++ number b) (number c) ∙
+    omega (arith, length-append (number a) (number b), length-number a, length-number b, length-number c) in
+    let piece : take 24 (drop (24 * i) bytes) ≡ number a ++ number b ++ number c = ap (take 24) all ∙
+    take_at (number a ++ number b ++ number c) (drop (24 * i + 16 + 8) bytes) 24 size in
     record {
       bytes_are = ap (λ (n : ℕ). take n bytes) next ∙ take-add (24 * i) 24 bytes ∙ ap (λ (x : List ℕ). x ++ take 24 (drop (24 * i) bytes)) before.bytes_are
           ∙ ap (λ (x : List ℕ). ranges_bytes (take i into) ++ x) piece ∙ sym (push_range (take i into) r) ∙ ap ranges_bytes (sym more);
       each = All-same RangeFits (take (i + 1) (set into i r)) (take i into ++ r ∷ []) more (All-push RangeFits (take i into) r before.each (fa, fb, fc));
     }
 
-pub all_ranges : (bytes : List ℕ) (into : List HomeRange) (i : ℕ) → length into ≤ i → length bytes ≡ 24 * length into → RangesRead bytes into i → (bytes ≡ ranges_bytes into) × All RangeFits into
+pub all_ranges : (bytes : List ℕ) (into : List HomeRange) (i : ℕ) → length into ≤ i → length bytes ≡ 24 * length into → RangesRead bytes into i →
+    (bytes ≡ ranges_bytes into) × All RangeFits into
 all_ranges bytes into i done len was =
     let whole : take i into ≡ into = take_all i into done in
     (sym (take_all (24 * i) bytes (omega arith)) ∙ was.bytes_are ∙ ap ranges_bytes whole, All-same RangeFits into (take i into) (sym whole) was.each)
@@ -109,7 +125,8 @@ range_written rs i r old one two new lt before ea eb ec is =
     let next : 24 * (i + 1) ≡ 24 * i + 16 + 8 = omega arith in
     let place : 24 * i + 16 ≡ 24 * i + 8 + 8 = omega arith in
     let all : take (24 * i + 16 + 8) new ≡ ((ranges_bytes (take i rs) ++ number r.first) ++ number r.count) ++ number r.sector =
-    ec ∙ ap (λ (x : List ℕ). x ++ number r.sector) (ap (λ (n : ℕ). take n two) place ∙ eb ∙ ap (λ (x : List ℕ). x ++ number r.count) (ea ∙ ap (λ (x : List ℕ). x ++ number r.first) before)) in
+    ec ∙ ap (λ (x : List ℕ). x ++ number r.sector)
+    (ap (λ (n : ℕ). take n two) place ∙ eb ∙ ap (λ (x : List ℕ). x ++ number r.count) (ea ∙ ap (λ (x : List ℕ). x ++ number r.first) before)) in
     ap (λ (n : ℕ). take n new) next ∙ all ∙ right_deep (ranges_bytes (take i rs)) (number r.first) (number r.count) (number r.sector)
     ∙ sym (push_range (take i rs) r) ∙ ap ranges_bytes (ap (λ (x : HomeRange). take i rs ++ x ∷ []) is ∙ sym (take_more rs i r lt))
 
@@ -126,7 +143,8 @@ magic_is = refl
 halves_number : (v n : ℕ) → v < 2 ^ 32 → n < 2 ^ 32 → half_number v ++ half_number n ≡ number (v + 4294967296 * n)
 unfolding number half_number
 halves_number v n fv fn =
-    sym (le_bytes_8 (v % 256 ∷ v / 256 % 256 ∷ v / 65536 % 256 ∷ v / 16777216 % 256 ∷ n % 256 ∷ n / 256 % 256 ∷ n / 65536 % 256 ∷ n / 16777216 % 256 ∷ []) (v + 4294967296 * n) refl
+    sym (le_bytes_8 (v % 256 ∷ v / 256 % 256 ∷ v / 65536 % 256 ∷ v / 16777216 % 256 ∷ n % 256 ∷ n / 256 % 256 ∷ n / 65536 % 256 ∷ n / 16777216 % 256 ∷ [])
+    (v + 4294967296 * n) refl
     (small_8 _ _ _ _ _ _ _ _ (omega arith) (omega arith) (omega arith) (omega arith) (omega arith) (omega arith) (omega arith) (omega arith)) (omega arith))
 
 length-half : (n : ℕ) → length (half_number n) ≡ 4
@@ -137,7 +155,8 @@ length-half n = refl
 front_half : (n : ℕ) (rest : List ℕ) → n < 2 ^ 64 → take 4 (number n ++ rest) ≡ half_number (n % 4294967296)
 front_half n rest fits =
     let parts : n ≡ n % 4294967296 + 4294967296 * (n / 4294967296) = omega arith in
-    let whole : number n ≡ half_number (n % 4294967296) ++ half_number (n / 4294967296) = ap number parts ∙ sym (halves_number (n % 4294967296) (n / 4294967296) (omega arith) (omega arith)) in
+    let whole : number n ≡ half_number (n % 4294967296) ++ half_number (n / 4294967296) = ap number parts ∙
+    sym (halves_number (n % 4294967296) (n / 4294967296) (omega arith) (omega arith)) in
     ap (λ (b : List ℕ). take 4 (b ++ rest)) whole ∙ ap (take 4) (append_assoc (half_number (n % 4294967296)) (half_number (n / 4294967296)) rest)
     ∙ take_at (half_number (n % 4294967296)) (half_number (n / 4294967296) ++ rest) 4 (length-half (n % 4294967296))
 
@@ -156,11 +175,13 @@ one_version Two One e = absurd (omega (arith, e))
 one_version Two Two e = refl
 
 -- the version for a second number
-pub version_reported : (bytes : List ℕ) (second : ℕ) (v : Version) → drop 8 bytes ≡ number second ++ drop 16 bytes → second < 2 ^ 64 → second % 4294967296 ≡ version_number v
+pub version_reported : (bytes : List ℕ) (second : ℕ) (v : Version) → drop 8 bytes ≡ number second ++ drop 16 bytes → second < 2 ^ 64 →
+    second % 4294967296 ≡ version_number v
     → take 4 (drop 8 bytes) ≡ half_number (version_number v)
 version_reported bytes second v next fits is = ap (take 4) next ∙ front_half second (drop 16 bytes) fits ∙ ap half_number is
 
-pub mark_from : (bytes : List ℕ) (m second : ℕ) (v : Version) → bytes ≡ number m ++ drop 8 bytes → drop 8 bytes ≡ number second ++ drop 16 bytes → second < 2 ^ 64
+pub mark_from : (bytes : List ℕ) (m second : ℕ) (v : Version) → bytes ≡ number m ++ drop 8 bytes → drop 8 bytes ≡ number second ++ drop 16 bytes →
+    second < 2 ^ 64
     → m ≡ magic → second % 4294967296 ≡ version_number v → drop 256 bytes ≡ zeros 256 → HasMark bytes
 mark_from bytes m second v first next fits is reported blank = record {
   magic = ap (take 8) first ∙ take_at (number m) (drop 8 bytes) 8 (length-number m) ∙ ap number is ∙ sym magic_is;
@@ -173,19 +194,24 @@ magic_from bytes m first fits mark =
     let same : number m ≡ number magic = sym (take_at (number m) (drop 8 bytes) 8 (length-number m)) ∙ sym (ap (take 8) first) ∙ mark.magic ∙ magic_is in
     (number_splits m magic [] [] fits (omega arith) (ap (λ (b : List ℕ). b ++ []) same)).0
 
-pub version_from : (bytes : List ℕ) (second : ℕ) (v : Version) → drop 8 bytes ≡ number second ++ drop 16 bytes → second < 2 ^ 64 → take 4 (drop 8 bytes) ≡ half_number (version_number v)
+pub version_from : (bytes : List ℕ) (second : ℕ) (v : Version) → drop 8 bytes ≡ number second ++ drop 16 bytes → second < 2 ^ 64 →
+    take 4 (drop 8 bytes) ≡ half_number (version_number v)
     → second % 4294967296 ≡ version_number v
 version_from bytes second v next fits is =
-    half_reported (second % 4294967296) (version_number v) (omega arith) (omega (arith, few_versions v)) (sym (front_half second (drop 16 bytes) fits) ∙ sym (ap (take 4) next) ∙ is)
+    half_reported (second % 4294967296) (version_number v) (omega arith) (omega (arith, few_versions v))
+    (sym (front_half second (drop 16 bytes) fits) ∙ sym (ap (take 4) next) ∙ is)
 
 -- ---- what an answered version says of a sector
 
-module _ (bytes : List ℕ) (m second : ℕ) (first : bytes ≡ number m ++ drop 8 bytes) (next : drop 8 bytes ≡ number second ++ drop 16 bytes) (fits : second < 2 ^ 64) where
-  pub marked : (found : Option Version) → m ≡ magic → drop 256 bytes ≡ zeros 256 → IfSome found (λ v. second % 4294967296 ≡ version_number v) → IfSome found (λ _. HasMark bytes)
+module _ (bytes : List ℕ) (m second : ℕ) (first : bytes ≡ number m ++ drop 8 bytes) (next : drop 8 bytes ≡ number second ++ drop 16 bytes)
+    (fits : second < 2 ^ 64) where
+  pub marked : (found : Option Version) → m ≡ magic → drop 256 bytes ≡ zeros 256 → IfSome found (λ v. second % 4294967296 ≡ version_number v) →
+      IfSome found (λ _. HasMark bytes)
   marked None is blank reported = reported
   marked (Some v) is blank reported = mark_from bytes m second v first next fits is reported blank
 
-  pub versions_reported : (found : Option Version) → IfSome found (λ v. second % 4294967296 ≡ version_number v) → IfSome found (λ v. take 4 (drop 8 bytes) ≡ half_number (version_number v))
+  pub versions_reported : (found : Option Version) → IfSome found (λ v. second % 4294967296 ≡ version_number v) →
+      IfSome found (λ v. take 4 (drop 8 bytes) ≡ half_number (version_number v))
   versions_reported None reported = reported
   versions_reported (Some v) reported = version_reported bytes second v next fits reported
 
@@ -209,16 +235,22 @@ second_of p = version_number p.version + 4294967296 * length p.ranges
 abbrev pub eight_ranges : List HomeRange → List HomeRange
 eight_ranges rs = rs ++ replicate (8 - length rs) unused
 
-deep : (m v n a b c d e f r z : List ℕ) → m ++ v ++ n ++ a ++ b ++ c ++ d ++ e ++ f ++ r ++ z ≡ m ++ ((v ++ n) ++ (a ++ (b ++ (c ++ (d ++ (e ++ (f ++ (r ++ z))))))))
+deep : (m v n a b c d e f r z : List ℕ) →
+    m ++ v ++ n ++ a ++ b ++ c ++ d ++ e ++ f ++ r ++ z ≡ m ++ ((v ++ n) ++ (a ++ (b ++ (c ++ (d ++ (e ++ (f ++ (r ++ z))))))))
 deep m v n a b c d e f r z = simp append_assoc
 
-pub plan_stream : (p : Plan) → length p.ranges ≤ 8 → superblock_bytes p ≡ stream (magic ∷ second_of p ∷ numbers_of p) (ranges_bytes (eight_ranges p.ranges) ++ zeros 256)
+pub plan_stream : (p : Plan) → length p.ranges ≤ 8 → superblock_bytes p ≡ stream (magic ∷ second_of p ∷ numbers_of p)
+    (ranges_bytes (eight_ranges p.ranges) ++ zeros 256)
 unfolding superblock_bytes
 plan_stream p few =
     let small : version_number p.version < 2 ^ 32 = omega (arith, few_versions p.version) in
-    deep (codes "EROSCKPT") (half_number (version_number p.version)) (half_number (length p.ranges)) (number p.geometry.nodes) (number p.geometry.pages) (number p.geometry.log) (number p.half_0) (number p.half_1) (number p.total) (ranges_bytes (eight_ranges p.ranges)) (zeros 256)
-    ∙ ap (λ (m : List ℕ). m ++ ((half_number (version_number p.version) ++ half_number (length p.ranges)) ++ stream (numbers_of p) (ranges_bytes (eight_ranges p.ranges) ++ zeros 256))) magic_is
-    ∙ ap (λ (v : List ℕ). number magic ++ (v ++ stream (numbers_of p) (ranges_bytes (eight_ranges p.ranges) ++ zeros 256))) (halves_number (version_number p.version) (length p.ranges) small (omega arith))
+    deep (codes "EROSCKPT") (half_number (version_number p.version)) (half_number (length p.ranges)) (number p.geometry.nodes) (number p.geometry.pages)
+    (number p.geometry.log) (number p.half_0) (number p.half_1) (number p.total) (ranges_bytes (eight_ranges p.ranges)) (zeros 256)
+    ∙ ap (λ (m : List ℕ). m ++
+    ((half_number (version_number p.version) ++ half_number (length p.ranges)) ++ stream (numbers_of p)
+    (ranges_bytes (eight_ranges p.ranges) ++ zeros 256))) magic_is
+    ∙ ap (λ (v : List ℕ). number magic ++ (v ++ stream (numbers_of p) (ranges_bytes (eight_ranges p.ranges) ++ zeros 256)))
+    (halves_number (version_number p.version) (length p.ranges) small (omega arith))
 
 -- what a superblock needs makes its numbers fit their bytes
 pub record PlanFits (p : Plan) : Type 0 where
@@ -230,14 +262,22 @@ eight_long rs few = length-append rs (replicate (8 - length rs) unused) ∙ omeg
 
 extent_of_range : (p : Plan) (k : ℕ) (d : HomeRange) → k < length p.ranges → IsPlan p → (get_or p.ranges k d).sector ≤ p.total
 extent_of_range p k d lt is =
-    let e = is.within k (range_extent p.version p.geometry d) (omega (arith, length-append (map (range_extent p.version p.geometry) p.ranges) (half_extent p.geometry p.half_0 ∷ half_extent p.geometry p.half_1 ∷ []), length-map p.ranges (range_extent p.version p.geometry))) in
+    let e = is.within k (range_extent p.version p.geometry d)
+    (omega (
+      arith,
+      length-append (map (range_extent p.version p.geometry) p.ranges)
+          (half_extent p.geometry p.half_0 ∷ half_extent p.geometry p.half_1 ∷ []),
+      length-map p.ranges (range_extent p.version p.geometry),
+    )) in
     let same : get_or (extents p) k (range_extent p.version p.geometry d) ≡ range_extent p.version p.geometry (get_or p.ranges k d) =
-    get_or_append_left (map (range_extent p.version p.geometry) p.ranges) (half_extent p.geometry p.half_0 ∷ half_extent p.geometry p.half_1 ∷ []) (range_extent p.version p.geometry d) k (omega (arith, length-map p.ranges (range_extent p.version p.geometry)))
+    get_or_append_left (map (range_extent p.version p.geometry) p.ranges) (half_extent p.geometry p.half_0 ∷ half_extent p.geometry p.half_1 ∷ [])
+    (range_extent p.version p.geometry d) k (omega (arith, length-map p.ranges (range_extent p.version p.geometry)))
     ∙ get_or-map (range_extent p.version p.geometry) p.ranges k d (range_extent p.version p.geometry d) lt in
     let bound = subst (IsWithin p.total) same e in
     omega (arith, bound.1)
 
-half_within : (p : Plan) (k : ℕ) → k < 2 → IsPlan p → (get_or (half_extent p.geometry p.half_0 ∷ half_extent p.geometry p.half_1 ∷ []) k (half_extent p.geometry 0)).sector ≤ p.total
+half_within : (p : Plan) (k : ℕ) → k < 2 → IsPlan p →
+    (get_or (half_extent p.geometry p.half_0 ∷ half_extent p.geometry p.half_1 ∷ []) k (half_extent p.geometry 0)).sector ≤ p.total
 half_within p k lt is =
     let front : List Extent = map (range_extent p.version p.geometry) p.ranges in
     let back : List Extent = half_extent p.geometry p.half_0 ∷ half_extent p.geometry p.half_1 ∷ [] in
@@ -270,8 +310,11 @@ plan_fits p is =
           (λ k d lt.
           let count = counts_within p.geometry 0 p.ranges is.cover k d lt in
           let first = firsts_within p.geometry 0 p.ranges is.cover k d lt in
-          let sector = extent_of_range p k d lt is in
-          (omega (arith, first, is.geometry.most_nodes, is.geometry.most_pages), omega (arith, count, is.geometry.most_nodes, is.geometry.most_pages), omega (arith, sector, is.total)))
+          let sector = extent_of_range p k d lt is in (
+            omega (arith, first, is.geometry.most_nodes, is.geometry.most_pages),
+            omega (arith, count, is.geometry.most_nodes, is.geometry.most_pages),
+            omega (arith, sector, is.total),
+          ))
           (All-replicate RangeFits (8 - length p.ranges) unused (omega arith, omega arith, omega arith));
     }
 
@@ -321,14 +364,18 @@ plan_reported p v bytes m second g all half_0 half_1 total fits ranges_fit eight
     }
 
 -- the ranges in use are those of the superblock, and the others unused
-pub used_are : (p : Plan) (v : Version) (second : ℕ) (g : Geometry) (all : List HomeRange) (half_0 half_1 total : ℕ) → IsPlanRead p v second g all half_0 half_1 total → take (second / 4294967296) all ≡ p.ranges
-used_are p v second g all half_0 half_1 total read = ap (λ (n : ℕ). take n all) read.used_is ∙ ap (take (length p.ranges)) read.all_are ∙ take_at p.ranges (replicate (8 - length p.ranges) unused) (length p.ranges) refl
+pub used_are : (p : Plan) (v : Version) (second : ℕ) (g : Geometry) (all : List HomeRange) (half_0 half_1 total : ℕ) →
+    IsPlanRead p v second g all half_0 half_1 total → take (second / 4294967296) all ≡ p.ranges
+used_are p v second g all half_0 half_1 total read = ap (λ (n : ℕ). take n all) read.used_is ∙ ap (take (length p.ranges)) read.all_are ∙
+    take_at p.ranges (replicate (8 - length p.ranges) unused) (length p.ranges) refl
 
-pub others_are : (p : Plan) (v : Version) (second : ℕ) (g : Geometry) (all : List HomeRange) (half_0 half_1 total : ℕ) → IsPlanRead p v second g all half_0 half_1 total
+pub others_are : (p : Plan) (v : Version) (second : ℕ) (g : Geometry) (all : List HomeRange) (half_0 half_1 total : ℕ) →
+    IsPlanRead p v second g all half_0 half_1 total
     → All (λ r. r ≡ unused) (drop (second / 4294967296) all)
 others_are p v second g all half_0 half_1 total read =
     All-same (λ (r : HomeRange). r ≡ unused) (drop (second / 4294967296) all) (replicate (8 - length p.ranges) unused)
-    (ap (λ (n : ℕ). drop n all) read.used_is ∙ ap (drop (length p.ranges)) read.all_are ∙ drop_at p.ranges (replicate (8 - length p.ranges) unused) (length p.ranges) refl)
+    (ap (λ (n : ℕ). drop n all) read.used_is ∙ ap (drop (length p.ranges)) read.all_are ∙
+    drop_at p.ranges (replicate (8 - length p.ranges) unused) (length p.ranges) refl)
     (All-replicate (λ (r : HomeRange). r ≡ unused) (8 - length p.ranges) unused refl)
 
 pub all_from : (all : List HomeRange) (used : ℕ) → length all ≡ 8 → used ≤ 8 → All (λ r. r ≡ unused) (drop used all) → all ≡ eight_ranges (take used all)
@@ -341,7 +388,8 @@ all_from all used eight few blank =
 
 pub plan_found : (v : Version) (bytes : List ℕ) (second : ℕ) (g : Geometry) (all : List HomeRange) (half_0 half_1 total used : ℕ)
     → bytes ≡ stream (magic ∷ second ∷ numbers_of (plan_of v g all half_0 half_1 total)) (ranges_bytes all ++ drop 256 bytes)
-    → second % 4294967296 ≡ version_number v → used ≡ second / 4294967296 → used ≤ 8 → length all ≡ 8 → All (λ r. r ≡ unused) (drop used all) → drop 256 bytes ≡ zeros 256
+    → second % 4294967296 ≡ version_number v → used ≡ second / 4294967296 → used ≤ 8 → length all ≡ 8 → All (λ r. r ≡ unused) (drop used all) →
+    drop 256 bytes ≡ zeros 256
     → bytes ≡ superblock_bytes (plan_of v g (take used all) half_0 half_1 total)
 plan_found v bytes second g all half_0 half_1 total used read version u few eight others blank =
     let size : length (take used all) ≡ used = length-take-le used all (omega arith) in
@@ -353,13 +401,20 @@ plan_found v bytes second g all half_0 half_1 total used read version u few eigh
     ∙ sym (plan_stream p (omega (arith, size)))
 
 -- eight numbers are read, and the ranges behind them
-pub eight_read : (bytes : List ℕ) (m s a b c d e f : ℕ) (all : List HomeRange) → bytes ≡ number m ++ drop 8 bytes → drop 8 bytes ≡ number s ++ drop 16 bytes → drop 16 bytes ≡ number a ++ drop 24 bytes
-    → drop 24 bytes ≡ number b ++ drop 32 bytes → drop 32 bytes ≡ number c ++ drop 40 bytes → drop 40 bytes ≡ number d ++ drop 48 bytes → drop 48 bytes ≡ number e ++ drop 56 bytes
-    → drop 56 bytes ≡ number f ++ drop 64 bytes → between 64 256 bytes ≡ ranges_bytes all → bytes ≡ stream (m ∷ s ∷ a ∷ b ∷ c ∷ d ∷ e ∷ f ∷ []) (ranges_bytes all ++ drop 256 bytes)
+pub eight_read : (bytes : List ℕ) (m s a b c d e f : ℕ) (all : List HomeRange) → bytes ≡ number m ++ drop 8 bytes → drop 8 bytes ≡ number s ++ drop 16 bytes →
+    drop 16 bytes ≡ number a ++ drop 24 bytes
+    → drop 24 bytes ≡ number b ++ drop 32 bytes → drop 32 bytes ≡ number c ++ drop 40 bytes → drop 40 bytes ≡ number d ++ drop 48 bytes →
+    drop 48 bytes ≡ number e ++ drop 56 bytes
+    → drop 56 bytes ≡ number f ++ drop 64 bytes → between 64 256 bytes ≡ ranges_bytes all →
+    bytes ≡ stream (m ∷ s ∷ a ∷ b ∷ c ∷ d ∷ e ∷ f ∷ []) (ranges_bytes all ++ drop 256 bytes)
 eight_read bytes m s a b c d e f all em es ea eb ec ed ee ef er =
-    let rest : drop 64 bytes ≡ ranges_bytes all ++ drop 256 bytes = sym (take-append-drop 192 (drop 64 bytes)) ∙ ap (λ (r : List ℕ). r ++ drop 192 (drop 64 bytes)) er ∙ ap (λ (r : List ℕ). ranges_bytes all ++ r) (drop-drop 192 64 bytes) in
-    let last : drop 40 bytes ≡ stream (d ∷ e ∷ f ∷ []) (ranges_bytes all ++ drop 256 bytes) = ed ∙ ap (λ (r : List ℕ). number d ++ r) (ee ∙ ap (λ (r : List ℕ). number e ++ r) (ef ∙ ap (λ (r : List ℕ). number f ++ r) rest)) in
-    em ∙ ap (λ (r : List ℕ). number m ++ r) (es ∙ ap (λ (r : List ℕ). number s ++ r) (ea ∙ ap (λ (r : List ℕ). number a ++ r) (eb ∙ ap (λ (r : List ℕ). number b ++ r) (ec ∙ ap (λ (r : List ℕ). number c ++ r) last))))
+    let rest : drop 64 bytes ≡ ranges_bytes all ++ drop 256 bytes = sym (take-append-drop 192 (drop 64 bytes)) ∙
+    ap (λ (r : List ℕ). r ++ drop 192 (drop 64 bytes)) er ∙ ap (λ (r : List ℕ). ranges_bytes all ++ r) (drop-drop 192 64 bytes) in
+    let last : drop 40 bytes ≡ stream (d ∷ e ∷ f ∷ []) (ranges_bytes all ++ drop 256 bytes) = ed ∙
+    ap (λ (r : List ℕ). number d ++ r) (ee ∙ ap (λ (r : List ℕ). number e ++ r) (ef ∙ ap (λ (r : List ℕ). number f ++ r) rest)) in
+    em ∙ ap (λ (r : List ℕ). number m ++ r)
+    (es ∙ ap (λ (r : List ℕ). number s ++ r)
+    (ea ∙ ap (λ (r : List ℕ). number a ++ r) (eb ∙ ap (λ (r : List ℕ). number b ++ r) (ec ∙ ap (λ (r : List ℕ). number c ++ r) last))))
 
 -- given bytes spell at most one superblock
 pub one_plan : (p q : Plan) → IsPlan p → IsPlan q → superblock_bytes p ≡ superblock_bytes q → p ≡ q
@@ -367,18 +422,22 @@ one_plan p q ip iq e =
     let pf = plan_fits p ip in
     let qf = plan_fits q iq in
     let s = stream_splits (magic ∷ second_of p ∷ numbers_of p) (magic ∷ second_of q ∷ numbers_of q)
-    (ranges_bytes (eight_ranges p.ranges) ++ zeros 256) (ranges_bytes (eight_ranges q.ranges) ++ zeros 256) pf.numbers qf.numbers refl (sym (plan_stream p ip.few) ∙ e ∙ plan_stream q iq.few) in
-    let rest = ranges_split (eight_ranges p.ranges) (eight_ranges q.ranges) (zeros 256) (zeros 256) pf.ranges qf.ranges (eight_long p.ranges ip.few ∙ sym (eight_long q.ranges iq.few)) s.1 in
+    (ranges_bytes (eight_ranges p.ranges) ++ zeros 256) (ranges_bytes (eight_ranges q.ranges) ++ zeros 256) pf.numbers qf.numbers refl
+    (sym (plan_stream p ip.few) ∙ e ∙ plan_stream q iq.few) in
+    let rest = ranges_split (eight_ranges p.ranges) (eight_ranges q.ranges) (zeros 256) (zeros 256) pf.ranges qf.ranges
+    (eight_long p.ranges ip.few ∙ sym (eight_long q.ranges iq.few)) s.1 in
     let one = list_tail magic magic (second_of p ∷ numbers_of p) (second_of q ∷ numbers_of q) s.0 in
     let two = list_tail (second_of p) (second_of q) (numbers_of p) (numbers_of q) one.1 in
     let small_p = few_versions p.version in
     let small_q = few_versions q.version in
     let version : p.version ≡ q.version = one_version p.version q.version (omega (arith, two.0, small_p, small_q)) in
     let count : length p.ranges ≡ length q.ranges = omega (arith, two.0, small_p, small_q) in
-    let ranges : p.ranges ≡ q.ranges = sym (take_at p.ranges (replicate (8 - length p.ranges) unused) (length p.ranges) refl) ∙ ap (take (length p.ranges)) rest.0
+    let ranges : p.ranges ≡ q.ranges = sym (take_at p.ranges (replicate (8 - length p.ranges) unused) (length p.ranges) refl) ∙
+    ap (take (length p.ranges)) rest.0
     ∙ ap (λ (n : ℕ). take n (eight_ranges q.ranges)) count ∙ take_at q.ranges (replicate (8 - length q.ranges) unused) (length q.ranges) refl in
     ap (λ (rs : List HomeRange). plan_of p.version p.geometry rs p.half_0 p.half_1 p.total) ranges
-    ∙ same_plan p.version q.ranges p.geometry.nodes p.geometry.pages p.geometry.log p.half_0 p.half_1 p.total q.geometry.nodes q.geometry.pages q.geometry.log q.half_0 q.half_1 q.total two.1
+    ∙ same_plan p.version q.ranges p.geometry.nodes p.geometry.pages p.geometry.log p.half_0 p.half_1 p.total q.geometry.nodes q.geometry.pages q.geometry.log
+    q.half_0 q.half_1 q.total two.1
     ∙ ap (λ (v : Version). plan_of v q.geometry q.ranges q.half_0 q.half_1 q.total) version
 
 -- ---- what a decoder returns
@@ -386,12 +445,14 @@ one_plan p q ip iq e =
 pub last_ranges : (all : List HomeRange) (used : ℕ) → length all ≡ 8 → take (8 - used) (drop used all) ≡ drop used all
 last_ranges all used eight = take_all (8 - used) (drop used all) (omega (arith, length-drop used all))
 
-pub plan_same : (p : Plan) (v : Version) (second : ℕ) (g : Geometry) (all : List HomeRange) (half_0 half_1 total : ℕ) → IsPlanRead p v second g all half_0 half_1 total
+pub plan_same : (p : Plan) (v : Version) (second : ℕ) (g : Geometry) (all : List HomeRange) (half_0 half_1 total : ℕ) →
+    IsPlanRead p v second g all half_0 half_1 total
     → plan_of v g (take (second / 4294967296) all) half_0 half_1 total ≡ p
 plan_same p v second g all half_0 half_1 total read =
     ap (λ (rs : List HomeRange). plan_of v g rs half_0 half_1 total) (used_are p v second g all half_0 half_1 total read) ∙ read.plan_is
 
-pub plan_read : (bytes : List ℕ) (q : Plan) (made : Option Plan) → bytes ≡ superblock_bytes q → IfSome made (λ s. s ≡ q) → IfSome made (λ s. bytes ≡ superblock_bytes s)
+pub plan_read : (bytes : List ℕ) (q : Plan) (made : Option Plan) → bytes ≡ superblock_bytes q → IfSome made (λ s. s ≡ q) →
+    IfSome made (λ s. bytes ≡ superblock_bytes s)
 plan_read bytes q None read reported = reported
 plan_read bytes q (Some s) read reported = read ∙ ap superblock_bytes (sym reported)
 
@@ -419,15 +480,18 @@ unused_bytes : (k : ℕ) → ranges_bytes (replicate k unused) ≡ zeros (24 * k
 unused_bytes zero = no_range ∙ sym zeros_none
 unused_bytes (suc k) =
     let size : 24 + 24 * k ≡ 24 * suc k = omega arith in
-    cons_range unused (replicate k unused) ∙ ap (λ (z : List ℕ). number 0 ++ (number 0 ++ (number 0 ++ z))) (unused_bytes k) ∙ sym (three (number 0) (number 0) (number 0) (zeros (24 * k)))
+    cons_range unused (replicate k unused) ∙ ap (λ (z : List ℕ). number 0 ++ (number 0 ++ (number 0 ++ z))) (unused_bytes k) ∙
+    sym (three (number 0) (number 0) (number 0) (zeros (24 * k)))
     ∙ ap (λ (z : List ℕ). z ++ zeros (24 * k)) three_zeros ∙ zeros_add 24 (24 * k) ∙ ap zeros size
 
 pub plan_written : (p : Plan) (blanked eight new : List ℕ) (k : ℕ) → length p.ranges ≤ 8 → blanked ≡ zeros 512
-    → IsWritten blanked (number magic ++ number (second_of p) ++ number p.geometry.nodes ++ number p.geometry.pages ++ number p.geometry.log ++ number p.half_0 ++ number p.half_1 ++ number p.total) eight 64
+    → IsWritten blanked (number magic ++ number (second_of p) ++ number p.geometry.nodes ++ number p.geometry.pages ++ number p.geometry.log ++ number p.half_0
+    ++ number p.half_1 ++ number p.total) eight 64
     → k ≡ 24 * length p.ranges → new ≡ put_mid 64 k eight (ranges_bytes p.ranges) → new ≡ superblock_bytes p
 plan_written p blanked eight new k few blank was size is =
     let n : ℕ = length p.ranges in
-    let front : List ℕ = number magic ++ number (second_of p) ++ number p.geometry.nodes ++ number p.geometry.pages ++ number p.geometry.log ++ number p.half_0 ++ number p.half_1 ++ number p.total in
+    let front : List ℕ = number magic ++ number (second_of p) ++ number p.geometry.nodes ++ number p.geometry.pages ++ number p.geometry.log ++ number p.half_0
+    ++ number p.half_1 ++ number p.total in
     let rest : drop (64 + k) eight ≡ ranges_bytes (replicate (8 - n) unused) ++ zeros 256 =
     sym (drop-drop k 64 eight) ∙ ap (drop k) (was.after ∙ ap (drop 64) blank ∙ drop_zeros 64 512) ∙ drop_zeros k 448 ∙ ap zeros (rest_size n k few size)
     ∙ sym (zeros_add (24 * (8 - n)) 256) ∙ ap (λ (z : List ℕ). z ++ zeros 256) (sym (unused_bytes (8 - n))) in
@@ -436,9 +500,11 @@ plan_written p blanked eight new k few blank was size is =
     ∙ ap (λ (r : List ℕ). front ++ ranges_bytes p.ranges ++ r) rest
     ∙ (shift front (ranges_bytes p.ranges) (ranges_bytes (replicate (8 - n) unused)) (zeros 256))
     ∙ ap (λ (r : List ℕ). front ++ (r ++ zeros 256)) (sym (append_ranges p.ranges (replicate (8 - n) unused)))
-    ∙ front_deep (number magic) (number (second_of p)) (number p.geometry.nodes) (number p.geometry.pages) (number p.geometry.log) (number p.half_0) (number p.half_1) (number p.total) (ranges_bytes (eight_ranges p.ranges) ++ zeros 256)
+    ∙ front_deep (number magic) (number (second_of p)) (number p.geometry.nodes) (number p.geometry.pages) (number p.geometry.log) (number p.half_0)
+    (number p.half_1) (number p.total) (ranges_bytes (eight_ranges p.ranges) ++ zeros 256)
     ∙ sym (plan_stream p few)
 
 pub front_same : (v n p r a b t v' n' p' r' a' b' t' : ℕ) → v ≡ v' → n ≡ n' → p ≡ p' → r ≡ r' → a ≡ a' → b ≡ b' → t ≡ t'
-    → number magic ++ number v ++ number n ++ number p ++ number r ++ number a ++ number b ++ number t ≡ number magic ++ number v' ++ number n' ++ number p' ++ number r' ++ number a' ++ number b' ++ number t'
+    → number magic ++ number v ++ number n ++ number p ++ number r ++ number a ++ number b ++ number t ≡ number magic ++ number v' ++ number n' ++ number p' ++
+    number r' ++ number a' ++ number b' ++ number t'
 front_same v n p r a b t v' n' p' r' a' b' t' ev en ep er ea eb et = rw (ev, en, ep, er, ea, eb, et) refl

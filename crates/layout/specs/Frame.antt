@@ -24,7 +24,8 @@ number_cap n = record { what = Number n; count = 0 }
 
 -- the capabilities that a root begins with: annex, state, words, key and space
 abbrev pub root_slots : Root Cap → List Cap
-root_slots r = number_cap r.annex ∷ number_cap (state_number r.state) ∷ map number_cap r.words ++ number_cap r.key ∷ r.space ∷ []
+root_slots r = number_cap r.annex ∷ number_cap (state_number r.state) ∷ map number_cap r.words ++ number_cap r.key ∷
+    r.space ∷ []
 
 -- the 32 capabilities that a content is kept as, by its role
 abbrev pub slots_of : Content Cap → List Cap
@@ -114,7 +115,8 @@ state_in n = if n == 0 then Available else if n == 1 then Running else Waiting
 abbrev pub root_from : List Cap → Root Cap
 root_from slots = record {
   state = state_in (number_held (cap_at slots 1));
-  words = number_held (cap_at slots 2) ∷ number_held (cap_at slots 3) ∷ number_held (cap_at slots 4) ∷ number_held (cap_at slots 5) ∷ [];
+  words = number_held (cap_at slots 2) ∷ number_held (cap_at slots 3) ∷ number_held (cap_at slots 4) ∷ number_held
+      (cap_at slots 5) ∷ [];
   key = number_held (cap_at slots 6) % 65536;
   annex = number_held (cap_at slots 0);
   space = cap_at slots 7;

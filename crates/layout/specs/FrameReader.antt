@@ -8,7 +8,8 @@ use Rattle.layout.specs.Frame.{role_in, body_in, page_body_in, content_of}
 -- the capability with this head and the numbers behind it
 abbrev pub cap_with : ℕ → ℕ → ℕ → Cap
 cap_with head object count = record {
-  what = assembled (head % 256) (record { 0 = head / 256 % 256 }) (head / 65536 % 65536) (head / 4294967296 % 256) object;
+  what = assembled (head % 256) (record { 0 = head / 256 % 256 }) (head / 65536 % 65536) (head / 4294967296 % 256)
+      object;
   count = count;
 }
 
@@ -43,7 +44,11 @@ node_from bytes = record {
 }
 
 abbrev pub page_from : List ℕ → Frame
-page_from bytes = record { header = header_from bytes; content = content_of (page_body_in (number_from bytes)) [] (words_from 512 (drop 512 bytes)) }
+page_from bytes = record {
+  header = header_from bytes;
+  content = content_of (page_body_in (number_from bytes)) []
+      (words_from 512 (drop 512 bytes));
+}
 
 -- the frame that the bytes of an object would be
 unfoldable pub frame_from : Geometry → ℕ → List ℕ → Frame

@@ -5,7 +5,8 @@ use Rattle.layout.specs.Bytes.{number, zeros}
 
 -- the sector of a header
 unfoldable pub header_bytes : CheckpointHeader → List ℕ
-header_bytes h = codes "EROSHEAD" ++ number h.sequence ++ number h.generation ++ number h.entries ++ number h.age ++ zeros 472
+header_bytes h = codes "EROSHEAD" ++ number h.sequence ++ number h.generation ++ number h.entries ++ number h.age ++
+    zeros 472
 
 -- what a header needs on a device whose log half has `room` slots
 pub record IsHeader (room : ℕ) (h : CheckpointHeader) : Type 0 where

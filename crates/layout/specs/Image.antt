@@ -44,7 +44,8 @@ committed_of first m second n =
 
 -- header slot 0 and its gate are sectors 1 and 2, header slot 1 and its gate sectors 3 and 4
 abbrev pub committed_slot : Image → Option ℕ
-committed_slot image = committed_of (does_count (image 1) (image 2) 0) (sequence_in (image 1)) (does_count (image 3) (image 4) 1) (sequence_in (image 3))
+committed_slot image = committed_of (does_count (image 1) (image 2) 0) (sequence_in (image 1))
+    (does_count (image 3) (image 4) 1) (sequence_in (image 3))
 
 abbrev pub option_at : Image → Option ℕ → Option (List ℕ)
 option_at image None = None
@@ -72,7 +73,8 @@ directory_length n = (n + 31) / 32
 
 -- the bytes of a directory of n entries: those behind the last entry don't matter
 abbrev pub directory_in : Image → Plan → ℕ → ℕ → List ℕ
-directory_in image p generation n = take (16 * n) (sectors_from image (directory_sector p generation) (directory_length n))
+directory_in image p generation n = take (16 * n)
+    (sectors_from image (directory_sector p generation) (directory_length n))
 
 -- the slot that a directory gives an object
 abbrev pub slot_in : List Entry → ℕ → Option ℕ
@@ -82,7 +84,8 @@ slot_in (e ∷ es) object = if e.object == object then Some e.slot else slot_in 
 -- the slot of the first entry whose home is that of an object: of its cluster's least entry, or its own
 abbrev pub slot_beside : Plan → List Entry → ℕ → Option ℕ
 slot_beside p [] object = None
-slot_beside p (e ∷ es) object = if home_place p e.object == home_place p object then Some e.slot else slot_beside p es object
+slot_beside p (e ∷ es) object = if home_place p e.object == home_place p object then Some e.slot else slot_beside p es
+    object
 
 abbrev pub or_beside : Option ℕ → Option ℕ → Option ℕ
 or_beside (Some slot) beside = Some slot
@@ -98,7 +101,8 @@ sector_or (Some slot) in_log home = in_log slot
 
 -- the frame of an object is the one in that slot, else the home frame
 abbrev pub frame_sector : Plan → ℕ → List Entry → ℕ → ℕ
-frame_sector p generation es object = sector_or (frame_slot_in p es object) (slot_sector p generation) (home_place p object)
+frame_sector p generation es object = sector_or (frame_slot_in p es object) (slot_sector p generation)
+    (home_place p object)
 
 -- the bytes of a frame of a shape that lies at a sector
 abbrev pub shaped_at : Image → ℕ → Shape → List ℕ
@@ -132,11 +136,13 @@ HasNoHeader image = committed_slot image ≡ None
 
 -- 5: the committed header is no spelling of one
 abbrev pub HasBadHeader : Image → Plan → Type 0
-HasBadHeader image p = (h : CheckpointHeader) → IsHeader p.geometry.log h → committed_bytes image ≡ Some (header_bytes h) → ⊥
+HasBadHeader image p = (h : CheckpointHeader) → IsHeader p.geometry.log h →
+    committed_bytes image ≡ Some (header_bytes h) → ⊥
 
 -- 6: its directory is no spelling of one
 abbrev pub HasBadDirectory : Image → Plan → CheckpointHeader → Type 0
-HasBadDirectory image p h = (es : List Entry) → IsDirectory p.geometry es → length es ≡ h.entries → directory_in image p h.generation h.entries ≡ directory_bytes es → ⊥
+HasBadDirectory image p h = (es : List Entry) → IsDirectory p.geometry es → length es ≡ h.entries →
+    directory_in image p h.generation h.entries ≡ directory_bytes es → ⊥
 
 -- 7: the frame of some object is no spelling of one
 abbrev pub HasBadFrame : Image → Plan → CheckpointHeader → List Entry → Type 0
@@ -178,7 +184,8 @@ pub record Encodes (image : Image) (size : ℕ) (s : SavedState) : Type 0 where
   pub directory : HasDirectory image s.plan s.header s.directory
   pub count : length s.frames ≡ s.plan.geometry.nodes + s.plan.geometry.pages
   pub each : (object : ℕ) → object < s.plan.geometry.nodes + s.plan.geometry.pages →
-      IsFrameOf s.plan.geometry s.header.age object (frame_in image s.plan s.header.generation s.directory object) (frame_at s.frames object)
+      IsFrameOf s.plan.geometry s.header.age object (frame_in image s.plan s.header.generation s.directory object)
+      (frame_at s.frames object)
 
 -- the least reason that holds, where it is one of the first seven
 abbrev pub IsBadBy : Image → ℕ → BadImage → Type 0
@@ -187,7 +194,9 @@ IsBadBy image size bad.NotASuperblock = (IsTooSmall image size → ⊥) × IsNoS
 IsBadBy image size bad.BadGeometry = (IsTooSmall image size → ⊥) × HasMark (image 0) × HasBadGeometry image
 IsBadBy image size bad.NoHeader = (p : Plan) × HasPlan image size p × HasNoHeader image
 IsBadBy image size bad.BadHeader = (p : Plan) × HasPlan image size p × (HasNoHeader image → ⊥) × HasBadHeader image p
-IsBadBy image size bad.BadDirectory = (p : Plan) × (h : CheckpointHeader) × HasPlan image size p × HasHeader image p h × HasBadDirectory image p h
+IsBadBy image size bad.BadDirectory = (p : Plan) × (h : CheckpointHeader) × HasPlan image size p × HasHeader image p h ×
+    HasBadDirectory image p h
 IsBadBy image size bad.BadFrame =
-    (p : Plan) × (h : CheckpointHeader) × (es : List Entry) × HasPlan image size p × HasHeader image p h × HasDirectory image p h es × HasBadFrame image p h es
+    (p : Plan) × (h : CheckpointHeader) × (es : List Entry) × HasPlan image size p × HasHeader image p h × HasDirectory
+    image p h es × HasBadFrame image p h es
 IsBadBy image size _ = ⊥

@@ -1,4 +1,5 @@
--- Given bytes spell at most one value, a frame is read of the bytes that spell it, and an image denotes at most one saved state.
+-- Given bytes spell at most one value, a frame is read of the bytes that spell it, and an image denotes at most one
+-- saved state.
 use Rattle.layout.specs.Names.{ℕ, List, Cap, Frame, Geometry, IsKeptCap, Image}
 use Rattle.std.specs.Prelude.{◌≡◌}
 use Rattle.layout.specs.declared.directory.Entry.{Entry}
@@ -14,19 +15,23 @@ use Rattle.layout.specs.Superblock.{Plan, superblock_bytes, IsPlan}
 use Rattle.layout.specs.Image.{SavedState, Encodes}
 
 abbrev pub SpellOneCapability : Type 0
-SpellOneCapability = (g : Geometry) (age : ℕ) (b c : Cap) → IsKeptCap g age b → IsKeptCap g age c → capability_bytes b ≡ capability_bytes c → b ≡ c
+SpellOneCapability = (g : Geometry) (age : ℕ) (b c : Cap) → IsKeptCap g age b → IsKeptCap g age c →
+    capability_bytes b ≡ capability_bytes c → b ≡ c
 
 abbrev pub SpellOneGate : Type 0
 SpellOneGate = (g : Gate) → gate_of (gate_bytes g) ≡ g
 
 abbrev pub SpellOneHeader : Type 0
-SpellOneHeader = (room : ℕ) (g h : CheckpointHeader) → IsHeader room g → IsHeader room h → header_bytes g ≡ header_bytes h → g ≡ h
+SpellOneHeader = (room : ℕ) (g h : CheckpointHeader) → IsHeader room g → IsHeader room h →
+    header_bytes g ≡ header_bytes h → g ≡ h
 
 abbrev pub SpellOneDirectory : Type 0
-SpellOneDirectory = (g : Geometry) (ds es : List Entry) → IsDirectory g ds → IsDirectory g es → directory_bytes ds ≡ directory_bytes es → ds ≡ es
+SpellOneDirectory = (g : Geometry) (ds es : List Entry) → IsDirectory g ds → IsDirectory g es →
+    directory_bytes ds ≡ directory_bytes es → ds ≡ es
 
 abbrev pub SpellOneFrame : Type 0
-SpellOneFrame = (g : Geometry) (age object : ℕ) (bytes : List ℕ) (e f : Frame) → IsFrameOf g age object bytes e → IsFrameOf g age object bytes f → e ≡ f
+SpellOneFrame = (g : Geometry) (age object : ℕ) (bytes : List ℕ) (e f : Frame) → IsFrameOf g age object bytes e →
+    IsFrameOf g age object bytes f → e ≡ f
 
 abbrev pub SpellOneSuperblock : Type 0
 SpellOneSuperblock = (p q : Plan) → IsPlan p → IsPlan q → superblock_bytes p ≡ superblock_bytes q → p ≡ q
@@ -36,4 +41,5 @@ DenoteOneState = (image : Image) (size : ℕ) (s t : SavedState) → Encodes ima
 
 -- what spells a frame is read as that frame
 abbrev pub SpeltIsRead : Type 0
-SpeltIsRead = (g : Geometry) (age object : ℕ) (bytes : List ℕ) (f : Frame) → IsFrameOf g age object bytes f → frame_from g object bytes ≡ f
+SpeltIsRead = (g : Geometry) (age object : ℕ) (bytes : List ℕ) (f : Frame) → IsFrameOf g age object bytes f →
+    frame_from g object bytes ≡ f

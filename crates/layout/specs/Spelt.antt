@@ -22,7 +22,8 @@ frames_read image p generation es = map (frame_read image p generation es) (rang
 
 -- it is spelt there, and can be kept at an age
 abbrev pub IsSpelt : Image → Plan → ℕ → ℕ → List Entry → ℕ → Type 0
-IsSpelt image p age generation es object = IsFrameOf p.geometry age object (frame_in image p generation es object) (frame_read image p generation es object)
+IsSpelt image p age generation es object = IsFrameOf p.geometry age object (frame_in image p generation es object)
+    (frame_read image p generation es object)
 
 abbrev pub AreSpelt : Image → Plan → ℕ → ℕ → List Entry → Type 0
 AreSpelt image p age generation es = (object : ℕ) → object < count_of p → IsSpelt image p age generation es object

@@ -79,13 +79,18 @@ nodes_length Two count = 8 * ((count + 4) / 5)
 
 -- the sectors of a range, 9 for a page, and those of a log half
 abbrev pub range_extent : Version → Geometry → HomeRange → Extent
-range_extent v g r = record { sector = r.sector; length = if nat_lt r.first g.nodes then nodes_length v r.count else 9 * r.count }
+range_extent v g r = record {
+  sector = r.sector;
+  length = if nat_lt r.first g.nodes then nodes_length v r.count else 9 *
+      r.count;
+}
 
 abbrev pub half_extent : Geometry → ℕ → Extent
 half_extent g sector = record { sector = sector; length = 9 * g.log + (g.log + 31) / 32 }
 
 abbrev pub extents : Plan → List Extent
-extents p = map (range_extent p.version p.geometry) p.ranges ++ half_extent p.geometry p.half_0 ∷ half_extent p.geometry p.half_1 ∷ []
+extents p = map (range_extent p.version p.geometry) p.ranges ++ half_extent p.geometry p.half_0 ∷ half_extent p.geometry
+    p.half_1 ∷ []
 
 -- sectors behind the headers and before the end
 abbrev pub IsWithin : ℕ → Extent → Type 0
@@ -127,7 +132,8 @@ abbrev pub RangeFits : HomeRange → Type 0
 RangeFits r = (r.first < 2 ^ 64) × (r.count < 2 ^ 64) × (r.sector < 2 ^ 64)
 
 abbrev pub plan_of : Version → Geometry → List HomeRange → ℕ → ℕ → ℕ → Plan
-plan_of v g rs half_0 half_1 total = record { version = v; geometry = g; ranges = rs; half_0 = half_0; half_1 = half_1; total = total }
+plan_of v g rs half_0 half_1 total =
+    record { version = v; geometry = g; ranges = rs; half_0 = half_0; half_1 = half_1; total = total }
 
 -- the first sector of a half of the log
 abbrev pub half_start : Plan → Half → ℕ

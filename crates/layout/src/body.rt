@@ -1,8 +1,9 @@
 // What is read of a frame beside its header, and the scratch buffer for it.
 ghost use Rattle.std.specs.Prelude.{◌≡◌, IfOk, replicate};
-ghost use Rattle.model.specs.Frame.{void_held};
+ghost use Rattle.model.specs.Frame.{content_behind, void_held};
+ghost use Rattle.layout.specs.Frame.{content_of};
 
-use model::{Cap, Root, Slots, Words};
+use model::{Cap, ContentRef, Root, Slots, Words};
 use std::alloc::{AllocError, Global};
 
 /// What a frame holds, but for the words of a page and the slots of a node or an annex: those are
@@ -15,6 +16,23 @@ pub enum Body {
     Root(Root<Cap>),
     Annex,
     Bank { limit: u64 },
+}
+
+impl Body {
+    /// The content that was read: the words of a page and the slots of a node or an annex are those
+    /// in `scratch`.
+    pub fn content<'a>(&'a self, scratch: &'a Scratch) -> ContentRef<'a>
+        ensures { content_behind result ≡ content_of self.now scratch.now.slots scratch.now.words }
+    {
+        match self {
+            Body::Free => ContentRef::Free,
+            Body::Page => ContentRef::Page(scratch.words.as_array()),
+            Body::Node => ContentRef::Node(scratch.slots.as_array()),
+            Body::Root(root) => ContentRef::Root(root),
+            Body::Annex => ContentRef::Annex(scratch.slots.as_array()),
+            Body::Bank { limit } => ContentRef::Bank { limit: *limit },
+        }
+    }
 }
 
 /// A scratch buffer for the body of any object. A caller lends it to what reads frames, which so

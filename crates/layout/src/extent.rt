@@ -75,7 +75,8 @@ pub fn fill_extents(
     requires size { length into.old ≡ length ranges.now + 2 }
     requires log { geometry.log ≤ 4096 }
     requires counts { All (λ r. r.count ≤ 8192) ranges.now }
-    ensures { into.new ≡ map (range_extent version geometry) ranges.now ++ half_extent geometry half_0 ∷ half_extent geometry half_1 ∷ [] }
+    ensures { into.new ≡ map (range_extent version geometry) ranges.now
+        ++ half_extent geometry half_0 ∷ half_extent geometry half_1 ∷ [] }
 {
     for (i, range) in ranges.iter().enumerate() {
         into[i] = range_extent(version, geometry, *range);

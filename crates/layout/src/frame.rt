@@ -2,12 +2,13 @@
 ghost use Rattle.std.specs.Prelude.{◌≡◌, ◌+◌, ◌*◌, ◌<◌, length, IfOk, IfErr};
 ghost use Rattle.model.specs.declared.frame.Frame.{Frame};
 ghost use Rattle.layout.specs.Frame.{frame_bytes, frame_length, frame_of, IsFrameOf};
+ghost use Rattle.model.specs.Frame.{content_behind};
 
 use crate::bad_image::BadImage;
 use crate::body::{Body, Scratch};
 use crate::node_frame::{decode_node_frame, encode_node_frame};
 use crate::page_frame::{decode_page_frame, encode_page_frame};
-use model::{Cap, Content, Geometry, ObjectHeader};
+use model::{Cap, ContentRef, Geometry, ObjectHeader};
 
 /// Reads the frame of an object: the 1024 bytes of a node's number or the 4608 of a page's. The
 /// slots of a node or an annex and the words of a page are left in `scratch`, and no memory is
@@ -43,12 +44,12 @@ pub fn encode_frame(
     geometry: Geometry,
     number: u64,
     header: ObjectHeader,
-    content: &Content<Cap>,
+    content: ContentRef<'_>,
     into: &mut [u8],
 )
     requires { length into.old ≡ 512 * frame_length geometry number }
     ensures { into.new ≡ frame_bytes geometry number
-        (record { header = header; content = content.now }) }
+        (record { header = header; content = content_behind content.entry }) }
 {
     if number < geometry.nodes {
         encode_node_frame(header, content, into);

@@ -8,6 +8,7 @@ ghost use Rattle.layout.specs.Bytes.{zeros};
 ghost use Rattle.layout.specs.Frame.{number_held, number_cap, state_in, root_from, body_in, root_slots, slots_of};
 ghost use Rattle.layout.specs.Frame.{slots_bytes, content_of, frame_of, node_frame_bytes, FollowsRole, IsBody};
 ghost use Rattle.layout.specs.Frame.{IsNodeFrame};
+ghost use Rattle.model.specs.Frame.{content_behind};
 
 use crate::bad_image::BadImage;
 use crate::body::{Body, Scratch};
@@ -15,7 +16,7 @@ use crate::bytes::{blank_from, is_blank_from};
 use crate::capability::CAPABILITY_BYTES;
 use crate::front::{decode_front, encode_front, has_counts};
 use crate::slots::{are_held, decode_slots, encode_slots};
-use model::{Cap, Capability, Content, Geometry, ObjectHeader, Root, State};
+use model::{Cap, Capability, ContentRef, Geometry, ObjectHeader, Root, State};
 
 /// How many bytes a frame with the number of a node takes.
 pub const NODE_FRAME_BYTES: usize = 1024;
@@ -183,17 +184,17 @@ fn put_slots(caps: &[Cap], into: &mut [u8])
 
 /// Writes the 1024 bytes of a frame with the number of a node. A page has no spelling here: it is
 /// written as void slots.
-pub fn encode_node_frame(header: ObjectHeader, content: &Content<Cap>, into: &mut [u8])
+pub fn encode_node_frame(header: ObjectHeader, content: ContentRef<'_>, into: &mut [u8])
     requires { length into.old ≡ 1024 }
-    ensures { into.new ≡ node_frame_bytes (record { header = header; content = content.now }) }
+    ensures { into.new ≡ node_frame_bytes (record { header = header; content = content_behind content.entry }) }
 {
     encode_front(header, into);
     match content {
-        Content::Free => put_slots(&[], into),
-        Content::Page(_) => put_slots(&[], into),
-        Content::Node(slots) => put_slots(slots.as_slice(), into),
-        Content::Annex(registers) => put_slots(registers.as_slice(), into),
-        Content::Root(root) => put_slots(&root_slots(root), into),
-        Content::Bank { limit } => put_slots(&[number_cap(*limit)], into),
+        ContentRef::Free => put_slots(&[], into),
+        ContentRef::Page(_) => put_slots(&[], into),
+        ContentRef::Node(slots) => put_slots(slots, into),
+        ContentRef::Annex(registers) => put_slots(registers, into),
+        ContentRef::Root(root) => put_slots(&root_slots(root), into),
+        ContentRef::Bank { limit } => put_slots(&[number_cap(limit)], into),
     }
 }

@@ -5,13 +5,14 @@ ghost use Rattle.model.specs.declared.object.Content.TheVariants as content;
 ghost use Rattle.model.specs.Keepable.{AreKeptWords};
 ghost use Rattle.layout.specs.Bytes.{zeros};
 ghost use Rattle.layout.specs.Frame.{front_bytes, words_bytes, frame_of, page_frame_bytes, IsPageFrame};
+ghost use Rattle.model.specs.Frame.{content_behind};
 
 use crate::bad_image::BadImage;
 use crate::body::{Body, Scratch};
 use crate::bytes::{blank_from, blank_front, is_blank_between, is_blank_from};
 use crate::front::{decode_front, encode_front, has_counts};
 use byteorder::{ByteOrder, LittleEndian};
-use model::{Cap, Content, ObjectHeader, Words};
+use model::{Cap, ContentRef, ObjectHeader, Words};
 
 /// How many bytes a frame with the number of a page takes.
 pub const PAGE_FRAME_BYTES: usize = 4608;
@@ -102,12 +103,12 @@ pub fn encode_page(header: ObjectHeader, words: &[u64], into: &mut [u8])
 
 /// Writes the 4608 bytes of a frame with the number of a page. What is neither free nor a page has
 /// no spelling here: it is written as words of 0.
-pub fn encode_page_frame(header: ObjectHeader, content: &Content<Cap>, into: &mut [u8])
+pub fn encode_page_frame(header: ObjectHeader, content: ContentRef<'_>, into: &mut [u8])
     requires { length into.old ≡ 4608 }
-    ensures { into.new ≡ page_frame_bytes (record { header = header; content = content.now }) }
+    ensures { into.new ≡ page_frame_bytes (record { header = header; content = content_behind content.entry }) }
 {
     match content {
-        Content::Page(words) => encode_page(header, words.as_slice(), into),
+        ContentRef::Page(words) => encode_page(header, words, into),
         _ => {
             put_front(header, into);
             blank_from(into, FRONT_BYTES);

@@ -123,8 +123,8 @@ impl Model for Superblock {
 }
 
 impl Superblock {
-    /// The superblock with these parts: the version of the layout, home ranges, the first sectors of both log halves, and how
-    /// many sectors the image takes. `None` where they are outside the limits.
+    /// The superblock with these parts: the version of the layout, home ranges, the first sectors of both log
+    /// halves, and how many sectors the image takes. `None` where they are outside the limits.
     pub fn new(
         version: Version,
         geometry: Geometry,

@@ -46,7 +46,7 @@ fn code(
 {
     let mut done = 0;
     for _ in 0..rounds {
-        encode_frame(GEOMETRY, number, header, content, bytes);
+        encode_frame(GEOMETRY, number, header, content.as_ref(), bytes);
         if decode_frame(bytes, GEOMETRY, number, AGE, scratch).is_ok() {
             done = u64::wrapping_add(done, 1);
         }

@@ -233,7 +233,7 @@ fn written_node_frame(rt: HostRuntime) {
     };
     let mut bytes = [255; 1024];
     let content = Content::Bank { limit: 200 };
-    encode_frame(GEOMETRY, NODE, header, &content, &mut bytes);
+    encode_frame(GEOMETRY, NODE, header, content.as_ref(), &mut bytes);
     assert!(rt; bytes[..] == spelt[..]);
 }
 
@@ -251,13 +251,8 @@ fn written_page_frame(rt: HostRuntime) -> Result<(), Fail> {
     let mut words = Words::new(rt.alloc())?;
     words.set(511, 99);
     let mut bytes = [255; 4608];
-    encode_frame(
-        GEOMETRY,
-        PAGE,
-        PAGE_HEADER,
-        &Content::Page(words),
-        &mut bytes,
-    );
+    let page = Content::Page(words);
+    encode_frame(GEOMETRY, PAGE, PAGE_HEADER, page.as_ref(), &mut bytes);
     assert!(rt; bytes[..] == spelt[..]);
     read_page(&rt, rt.alloc(), &bytes)
 }

@@ -14,7 +14,8 @@ elapses_on : {old mid new : Disk} → Elapses old mid → Elapses mid new → ((
 elapses_on {old} {mid} {new} first second grows = record {
   later = omega (arith, first.later, second.later);
   nothing_else = λ t c le left.
-      ⊎_elim (λ before. ⊎_elim inl (λ now. inr (grows c now)) (first.nothing_else t c le before)) inr (second.nothing_else t c (omega (arith, le, first.later)) left);
+      ⊎_elim (λ before. ⊎_elim inl (λ now. inr (grows c now)) (first.nothing_else t c le before)) inr
+      (second.nothing_else t c (omega (arith, le, first.later)) left);
   keeps = λ t c le left. second.keeps t c (omega (arith, le, first.later)) (first.keeps t c le left);
 }
 
@@ -23,19 +24,23 @@ module _ (sectors : ℕ) (first : Image) (past : List Event) where
   state = replay (at_first first) past
 
   -- a write of the first n sectors
-  pub elapses_writes : (at n : ℕ) (bytes : List ℕ) (failures risen : ℕ) → Elapses (disk_of sectors first past failures) (disk_of sectors first (past ++ writes_of at n bytes) risen)
+  pub elapses_writes : (at n : ℕ) (bytes : List ℕ) (failures risen : ℕ) →
+      Elapses (disk_of sectors first past failures) (disk_of sectors first (past ++ writes_of at n bytes) risen)
   elapses_writes at zero bytes failures risen =
-      subst (λ (l : List Event). Elapses (disk_of sectors first past failures) (disk_of sectors first l risen)) (sym (append-nil past)) (elapses_still sectors first past failures risen)
+      subst (λ (l : List Event). Elapses (disk_of sectors first past failures) (disk_of sectors first l risen)) (sym (append-nil past))
+      (elapses_still sectors first past failures risen)
   elapses_writes at (suc n) bytes failures risen =
       let e = wrote (at + n) (image_of bytes n) in
       let before = past ++ writes_of at n bytes in
-      let last : Elapses (disk_of sectors first before failures) (disk_of sectors first (before ++ e ∷ []) risen) = elapses_one sectors first before e failures risen in
+      let last : Elapses (disk_of sectors first before failures) (disk_of sectors first (before ++ e ∷ []) risen) = elapses_one sectors first before e failures
+      risen in
       let grows : (c : Image) → MayLeave sectors (replay (at_first first) before) c → MayLeave sectors (replay (at_first first) (before ++ e ∷ [])) c =
       λ c left. subst (λ (s : State). MayLeave sectors s c) (sym (replay-one (at_first first) before e)) (record {
         whole = left.whole;
         untouched = λ i none. left.untouched i ((or_false _ _ none).0);
       }) in
-      subst (λ (l : List Event). Elapses (disk_of sectors first past failures) (disk_of sectors first l risen)) (append_assoc past (writes_of at n bytes) (e ∷ []))
+      subst (λ (l : List Event). Elapses (disk_of sectors first past failures) (disk_of sectors first l risen))
+      (append_assoc past (writes_of at n bytes) (e ∷ []))
       (elapses_on (elapses_writes at n bytes failures failures) last grows)
 
   -- after a write
@@ -54,7 +59,8 @@ module _ (sectors : ℕ) (first : Image) (past : List Event) where
 
     pub write_time : (failures risen : ℕ) → Elapses (disk_of sectors first past failures) (disk_of sectors first more risen)
     write_time failures risen =
-        subst (λ (l : List Event). Elapses (disk_of sectors first past failures) (disk_of sectors first l risen)) (sym is) (elapses_writes at (sectors_of bytes) bytes failures risen)
+        subst (λ (l : List Event). Elapses (disk_of sectors first past failures) (disk_of sectors first l risen)) (sym is)
+        (elapses_writes at (sectors_of bytes) bytes failures risen)
 
     -- the image that could have been left before the write, where this one may be left after it
     untorn : Image → Image
@@ -91,7 +97,8 @@ module _ (sectors : ℕ) (first : Image) (past : List Event) where
     outside_unsynced i out none =
         let missed : names (entries_of at (sectors_of bytes) bytes) i ≡ false =
         ⊎_elim
-        (λ hit. let far = names-entries_of at (sectors_of bytes) bytes i hit in ⊎_elim (λ lt. absurd (omega (arith, lt, far.0))) (λ le. absurd (omega (arith, le, far.1))) out)
+        (λ hit. let far = names-entries_of at (sectors_of bytes) bytes i hit in ⊎_elim (λ lt. absurd (omega (arith, lt, far.0)))
+        (λ le. absurd (omega (arith, le, far.1))) out)
         (λ miss. miss)
         (cases_Bool (names (entries_of at (sectors_of bytes) bytes) i)) in
         ap (λ (s : State). s.unsynced i) state_written
@@ -124,7 +131,8 @@ module _ (sectors : ℕ) (first : Image) (past : List Event) where
           (inside_or_not i);
     }
 
-    pub write_crash : IsWhole sectors state.durable → (failures risen : ℕ) → Tears at (sectors_of bytes) (disk_of sectors first past failures) (disk_of sectors first more risen)
+    pub write_crash : IsWhole sectors state.durable → (failures risen : ℕ) → Tears at (sectors_of bytes) (disk_of sectors first past failures)
+        (disk_of sectors first more risen)
     write_crash whole failures risen c left = (
       untorn c,
       untorn_left whole c left,
@@ -143,7 +151,8 @@ module _ (sectors : ℕ) (first : Image) (past : List Event) where
     sync_durable risen c left i =
         left.untouched i (ap (λ (s : State). s.unsynced i) state_synced) ∙ ap (λ (s : State). s.durable i) state_synced ∙ sym (sync_seen i)
 
-    pub sync_crash : ((i : ℕ) → state.unsynced i ≡ false → state.present i ≡ state.durable i) → (failures risen : ℕ) → Narrows (disk_of sectors first past failures) (disk_of sectors first more risen)
+    pub sync_crash : ((i : ℕ) → state.unsynced i ≡ false → state.present i ≡ state.durable i) → (failures risen : ℕ) →
+        Narrows (disk_of sectors first past failures) (disk_of sectors first more risen)
     sync_crash same failures risen c left = record {
       whole = left.whole;
       untouched = λ i none. sync_durable risen c left i ∙ sync_seen i ∙ same i none;
@@ -151,7 +160,8 @@ module _ (sectors : ℕ) (first : Image) (past : List Event) where
 
     pub sync_time : (failures risen : ℕ) → Elapses (disk_of sectors first past failures) (disk_of sectors first more risen)
     sync_time failures risen =
-        subst (λ (l : List Event). Elapses (disk_of sectors first past failures) (disk_of sectors first l risen)) (sym is) (elapses_one sectors first past synced failures risen)
+        subst (λ (l : List Event). Elapses (disk_of sectors first past failures) (disk_of sectors first l risen)) (sym is)
+        (elapses_one sectors first past synced failures risen)
 
   -- after a power cut
   module _ (more : List Event) (outcome : Outcome) (is : EndsCut outcome past more) where
@@ -161,23 +171,28 @@ module _ (sectors : ℕ) (first : Image) (past : List Event) where
     pub cut_time : (failures risen : ℕ) → Elapses (disk_of sectors first past failures) (disk_of sectors first more risen)
     cut_time failures risen =
         ⊎_elim
-        (λ mark. subst (λ (l : List Event). Elapses (disk_of sectors first past failures) (disk_of sectors first l risen)) (sym mark) (elapses_one sectors first past (cut outcome) failures risen))
-        (λ (same, _). subst (λ (l : List Event). Elapses (disk_of sectors first past failures) (disk_of sectors first l risen)) (sym same) (elapses_still sectors first past failures risen))
+        (λ mark. subst (λ (l : List Event). Elapses (disk_of sectors first past failures) (disk_of sectors first l risen)) (sym mark)
+        (elapses_one sectors first past (cut outcome) failures risen))
+        (λ (same, _). subst (λ (l : List Event). Elapses (disk_of sectors first past failures) (disk_of sectors first l risen)) (sym same)
+        (elapses_still sectors first past failures risen))
         is
 
-    pub cut_durable : ((i : ℕ) → (replay (at_first first) more).unsynced i ≡ false → (replay (at_first first) more).present i ≡ (replay (at_first first) more).durable i)
+    pub cut_durable : ((i : ℕ) → (replay (at_first first) more).unsynced i ≡ false →
+        (replay (at_first first) more).present i ≡ (replay (at_first first) more).durable i)
         → (risen : ℕ) → Only (replay (at_first first) more).present (disk_of sectors first more risen)
     cut_durable same risen c left i =
         let none = quiet-unsynced first more cut_quiet i in
         left.untouched i none ∙ sym (same i none)
 
 -- what a power cut leaves of what is not unsynced
-left_untouched : (outcome : Outcome) (s : State) → ((i : ℕ) → s.unsynced i ≡ false → s.present i ≡ s.durable i) → (i : ℕ) → s.unsynced i ≡ false → left_by outcome s i ≡ s.durable i
+left_untouched : (outcome : Outcome) (s : State) → ((i : ℕ) → s.unsynced i ≡ false → s.present i ≡ s.durable i) → (i : ℕ) → s.unsynced i ≡ false →
+    left_by outcome s i ≡ s.durable i
 left_untouched Keep s same i none = same i none
 left_untouched Drop s same i none = refl
 left_untouched (Fill byte) s same i none = ap (λ (b : Bool). if b then replicate 512 byte else s.durable i) none
 
 -- what a read gives after a power cut is one of the things that might have been left
-pub cut_may_leave : (sectors : ℕ) (outcome : Outcome) (s : State) (seen : Image) → IsWhole sectors seen → ((i : ℕ) → s.unsynced i ≡ false → s.present i ≡ s.durable i)
+pub cut_may_leave : (sectors : ℕ) (outcome : Outcome) (s : State) (seen : Image) → IsWhole sectors seen →
+    ((i : ℕ) → s.unsynced i ≡ false → s.present i ≡ s.durable i)
     → Agrees seen (left_by outcome s) → MayLeave sectors s seen
 cut_may_leave sectors outcome s seen whole same left = record { whole = whole; untouched = λ i none. left i ∙ left_untouched outcome s same i none }

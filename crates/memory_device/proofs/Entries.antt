@@ -5,7 +5,8 @@ use Rattle.memory_device.proofs.Names.{cut, writes_of, IsQuiet, EndsCut, event_o
 use Rattle.std.proofs.Common.{◌≡◌, ◌⊎◌, ◌+◌, ◌∷◌, ◌++◌, ◌∙◌, ◌*◌}
 
 -- a write over the last entry
-pub marked_set : (outcome : Outcome) (es : List RecordEntry) (k : ℕ) (e : RecordEntry) → suc k ≡ length es → e ≡ get_or es k e → set es k (mark_after outcome e) ≡ marked outcome es
+pub marked_set : (outcome : Outcome) (es : List RecordEntry) (k : ℕ) (e : RecordEntry) → suc k ≡ length es → e ≡ get_or es k e →
+    set es k (mark_after outcome e) ≡ marked outcome es
 marked_set outcome [] k e size is = cc
 marked_set outcome (x ∷ []) zero e size is = ap (λ (y : RecordEntry). mark_after outcome y ∷ []) is
 marked_set outcome (x ∷ []) (suc k) e size is = absurd (omega arith)
@@ -15,7 +16,8 @@ marked_set outcome (x ∷ (y ∷ es)) (suc k) e size is = ap (λ (l : List Recor
 -- the events of entries after others
 pub events_of-append : (xs ys : List RecordEntry) → events_of (xs ++ ys) ≡ events_of xs ++ events_of ys
 events_of-append [] ys = refl
-events_of-append (x ∷ xs) ys = ap (λ (l : List Event). entry_events x ++ l) (events_of-append xs ys) ∙ sym (append_assoc (entry_events x) (events_of xs) (events_of ys))
+events_of-append (x ∷ xs) ys = ap (λ (l : List Event). entry_events x ++ l) (events_of-append xs ys) ∙
+    sym (append_assoc (entry_events x) (events_of xs) (events_of ys))
 
 -- the events of a write
 pub events_of-entries_of : (at n : ℕ) (bytes : List ℕ) → events_of (entries_of at n bytes) ≡ writes_of at n bytes
@@ -26,10 +28,12 @@ events_of-entries_of at (suc n) bytes =
 
 pub length-entries_of : (at n : ℕ) (bytes : List ℕ) → length (entries_of at n bytes) ≡ n
 length-entries_of at zero bytes = refl
-length-entries_of at (suc n) bytes = omega (arith, length-append (entries_of at n bytes) (record { action = Wrote (at + n) (image_of bytes n); cut = None } ∷ []), length-entries_of at n bytes)
+length-entries_of at (suc n) bytes = omega
+    (arith, length-append (entries_of at n bytes) (record { action = Wrote (at + n) (image_of bytes n); cut = None } ∷ []), length-entries_of at n bytes)
 
 -- the record after a write
-pub past_written : (entries more : List RecordEntry) (at n : ℕ) (bytes : List ℕ) → more ≡ entries ++ entries_of at n bytes → events_of more ≡ events_of entries ++ writes_of at n bytes
+pub past_written : (entries more : List RecordEntry) (at n : ℕ) (bytes : List ℕ) → more ≡ entries ++ entries_of at n bytes →
+    events_of more ≡ events_of entries ++ writes_of at n bytes
 past_written entries more at n bytes is =
     ap events_of is ∙ events_of-append entries (entries_of at n bytes) ∙ ap (λ (l : List Event). events_of entries ++ l) (events_of-entries_of at n bytes)
 
@@ -37,11 +41,13 @@ pub length_written : (entries more : List RecordEntry) (at n : ℕ) (bytes : Lis
 length_written entries more at n bytes is = omega (arith, ap length is, length-append entries (entries_of at n bytes), length-entries_of at n bytes)
 
 -- the record after a sync
-pub past_synced : (entries more : List RecordEntry) → more ≡ entries ++ record { action = Synced; cut = None } ∷ [] → events_of more ≡ events_of entries ++ synced ∷ []
+pub past_synced : (entries more : List RecordEntry) → more ≡ entries ++ record { action = Synced; cut = None } ∷ [] →
+    events_of more ≡ events_of entries ++ synced ∷ []
 past_synced entries more is = ap events_of is ∙ events_of-append entries (record { action = Synced; cut = None } ∷ [])
 
 -- the entry of one sector more
-pub entries_more : (old now new : List RecordEntry) (at i : ℕ) (from bytes : List ℕ) → now ≡ old ++ entries_of at i from → new ≡ now ++ record { action = Wrote (at + i) bytes; cut = None } ∷ [] → bytes ≡ image_of from i
+pub entries_more : (old now new : List RecordEntry) (at i : ℕ) (from bytes : List ℕ) → now ≡ old ++ entries_of at i from →
+    new ≡ now ++ record { action = Wrote (at + i) bytes; cut = None } ∷ [] → bytes ≡ image_of from i
     → new ≡ old ++ entries_of at (i + 1) from
 entries_more old now new at i from bytes before more same =
     more
@@ -60,7 +66,8 @@ length-marked outcome (x ∷ []) = refl
 length-marked outcome (x ∷ (y ∷ es)) = ap suc (length-marked outcome (y ∷ es))
 
 quiet_one : (outcome : Outcome) (e : Event) (c : Option Outcome)
-    → (e ∷ cut (unwrap_or c outcome) ∷ [] ≡ (e ∷ (mark_of c ++ [])) ++ cut outcome ∷ []) ⊎ ((e ∷ cut (unwrap_or c outcome) ∷ [] ≡ e ∷ (mark_of c ++ [])) × IsQuiet (e ∷ (mark_of c ++ [])))
+    → (e ∷ cut (unwrap_or c outcome) ∷ [] ≡ (e ∷ (mark_of c ++ [])) ++ cut outcome ∷ []) ⊎
+    ((e ∷ cut (unwrap_or c outcome) ∷ [] ≡ e ∷ (mark_of c ++ [])) × IsQuiet (e ∷ (mark_of c ++ [])))
 quiet_one outcome e None = inl refl
 quiet_one outcome e (Some o) = inr (refl, inr (e ∷ [], o, refl))
 
@@ -75,9 +82,14 @@ events_of-marked outcome (x ∷ []) = quiet_one outcome (event_of x.action) x.cu
 events_of-marked outcome (x ∷ (y ∷ es)) =
     ⊎_elim
     (λ more. inl (ap (λ (l : List Event). entry_events x ++ l) more ∙ sym (append_assoc (entry_events x) (events_of (y ∷ es)) (cut outcome ∷ []))))
-    (λ same. inr (ap (λ (l : List Event). entry_events x ++ l) same.0, quiet_behind (entry_events x) (mark_of y.cut ++ events_of es) (event_of y.action) same.1))
+    (λ same. inr (
+      ap (λ (l : List Event). entry_events x ++ l) same.0,
+      quiet_behind (entry_events x) (mark_of y.cut ++ events_of es) (event_of y.action)
+          same.1,
+    ))
     (events_of-marked outcome (y ∷ es))
 
 -- the record after a power cut
 pub past_cut : (outcome : Outcome) (entries more : List RecordEntry) → more ≡ marked outcome entries → EndsCut outcome (events_of entries) (events_of more)
-past_cut outcome entries more is = subst (λ (l : List RecordEntry). EndsCut outcome (events_of entries) (events_of l)) (sym is) (events_of-marked outcome entries)
+past_cut outcome entries more is = subst (λ (l : List RecordEntry). EndsCut outcome (events_of entries) (events_of l)) (sym is)
+    (events_of-marked outcome entries)

@@ -24,9 +24,11 @@ names-outside at zero bytes i miss = ⊎_elim inl (λ le. inr (omega (arith, le)
 names-outside at (suc n) bytes i miss =
     let both = or_false (names (entries_of at n bytes) i) _ (sym (names-append (entries_of at n bytes) _ i) ∙ miss) in
     let apart : i ≡ at + n → ⊥ = eqb-false i (at + n) (sym (or_right _) ∙ both.1) in
-    ⊎_elim inl (λ le. ⊎_elim (λ e. absurd (apart e)) (⊎_elim (λ lt. absurd (omega (arith, lt, le))) (λ gt. inr (omega (arith, gt)))) (cases_order i (at + n))) (names-outside at n bytes i both.0)
+    ⊎_elim inl (λ le. ⊎_elim (λ e. absurd (apart e)) (⊎_elim (λ lt. absurd (omega (arith, lt, le))) (λ gt. inr (omega (arith, gt)))) (cases_order i (at + n)))
+    (names-outside at n bytes i both.0)
 
-pub written-unsynced : (s : State) (at n : ℕ) (bytes : List ℕ) (i : ℕ) → (replay s (writes_of at n bytes)).unsynced i ≡ (s.unsynced i || names (entries_of at n bytes) i)
+pub written-unsynced : (s : State) (at n : ℕ) (bytes : List ℕ) (i : ℕ) →
+    (replay s (writes_of at n bytes)).unsynced i ≡ (s.unsynced i || names (entries_of at n bytes) i)
 written-unsynced s at zero bytes i = sym (or_right (s.unsynced i))
 written-unsynced s at (suc n) bytes i =
     ap (λ (t : State). t.unsynced i) (replay-one s (writes_of at n bytes) (wrote (at + n) (image_of bytes n)))
@@ -36,24 +38,31 @@ written-unsynced s at (suc n) bytes i =
     ∙ ap (λ (b : Bool). s.unsynced i || b) (sym (names-append (entries_of at n bytes) _ i))
 
 -- where nothing is unsynced
-left_quiet : (outcome : Outcome) (s : State) → ((i : ℕ) → s.unsynced i ≡ false) → ((i : ℕ) → s.durable i ≡ s.present i) → (i : ℕ) → left_by outcome s i ≡ s.present i
+left_quiet : (outcome : Outcome) (s : State) → ((i : ℕ) → s.unsynced i ≡ false) → ((i : ℕ) → s.durable i ≡ s.present i) → (i : ℕ) →
+    left_by outcome s i ≡ s.present i
 left_quiet Keep s quiet same i = refl
 left_quiet Drop s quiet same i = same i
 left_quiet (Fill byte) s quiet same i = ap (λ (b : Bool). if b then replicate 512 byte else s.durable i) (quiet i) ∙ same i
 
 -- what a power cut leaves depends on the same sectors
-left_same : (outcome : Outcome) (s t : State) → Agrees s.present t.present → Agrees s.durable t.durable → ((i : ℕ) → s.unsynced i ≡ t.unsynced i) → Agrees (left_by outcome s) (left_by outcome t)
+left_same : (outcome : Outcome) (s t : State) → Agrees s.present t.present → Agrees s.durable t.durable → ((i : ℕ) → s.unsynced i ≡ t.unsynced i) →
+    Agrees (left_by outcome s) (left_by outcome t)
 left_same Keep s t present durable unsynced i = present i
 left_same Drop s t present durable unsynced i = durable i
 left_same (Fill byte) s t present durable unsynced i =
-    ap (λ (b : Bool). if b then replicate 512 byte else s.durable i) (unsynced i) ∙ ap (λ (l : List ℕ). if t.unsynced i then replicate 512 byte else l) (durable i)
+    ap (λ (b : Bool). if b then replicate 512 byte else s.durable i) (unsynced i) ∙ ap (λ (l : List ℕ). if t.unsynced i then replicate 512 byte else l)
+    (durable i)
 
-module _ (sectors : ℕ) (first present durable : List ℕ) (entries : List RecordEntry) (settled : ℕ) (sound : IsSoundMirror sectors first present durable entries settled) where
+module _ (sectors : ℕ) (first present durable : List ℕ) (entries : List RecordEntry) (settled : ℕ)
+    (sound : IsSoundMirror sectors first present durable entries settled) where
   -- after a write
-  module _ (put from : List ℕ) (more : List RecordEntry) (at : ℕ) (size : length put ≡ length present) (fits : All (λ b. b < 256) put) (inside : at + sectors_of from ≤ sectors)
-      (has : AreSectors (image_of put) at from) (elsewhere : Elsewhere at (sectors_of from) (image_of present) (image_of put)) (is : more ≡ entries ++ entries_of at (sectors_of from) from) where
+  module _ (put from : List ℕ) (more : List RecordEntry) (at : ℕ) (size : length put ≡ length present) (fits : All (λ b. b < 256) put)
+      (inside : at + sectors_of from ≤ sectors)
+      (has : AreSectors (image_of put) at from) (elsewhere : Elsewhere at (sectors_of from) (image_of present) (image_of put))
+      (is : more ≡ entries ++ entries_of at (sectors_of from) from) where
     now_written : now_of first more ≡ replay (now_of first entries) (writes_of at (sectors_of from) from)
-    now_written = ap (λ (l : List Event). replay (at_first (image_of first)) l) (past_written entries more at (sectors_of from) from is) ∙ replay-append (at_first (image_of first)) (events_of entries) _
+    now_written = ap (λ (l : List Event). replay (at_first (image_of first)) l) (past_written entries more at (sectors_of from) from is) ∙
+        replay-append (at_first (image_of first)) (events_of entries) _
 
     names_written : (i : ℕ) → names (drop settled more) i ≡ (names (drop settled entries) i || names (entries_of at (sectors_of from) from) i)
     names_written i =
@@ -86,7 +95,8 @@ module _ (sectors : ℕ) (first present durable : List ℕ) (entries : List Reco
       present_fits = fits;
       synced_fits = sound.synced_fits;
       present_is = present_written;
-      durable_is = λ i. sound.durable_is i ∙ sym (ap (λ (f : Image). f i) (ap (λ (t : State). t.durable) now_written ∙ written-durable (now_of first entries) at (sectors_of from) from));
+      durable_is = λ i. sound.durable_is i ∙
+          sym (ap (λ (f : Image). f i) (ap (λ (t : State). t.durable) now_written ∙ written-durable (now_of first entries) at (sectors_of from) from));
       settled_within = omega (arith, length_written entries more at (sectors_of from) from is, sound.settled_within);
       unsynced_are = λ i.
           ap (λ (t : State). t.unsynced i) now_written
@@ -103,9 +113,11 @@ module _ (sectors : ℕ) (first present durable : List ℕ) (entries : List Reco
 
   -- after a sync
   module _ (copied : List ℕ) (more : List RecordEntry) (size : length copied ≡ length durable) (fits : All (λ b. b < 256) copied)
-      (has : Patches (names (drop settled entries)) (image_of present) (image_of durable) (image_of copied)) (is : more ≡ entries ++ record { action = Synced; cut = None } ∷ []) where
+      (has : Patches (names (drop settled entries)) (image_of present) (image_of durable) (image_of copied))
+      (is : more ≡ entries ++ record { action = Synced; cut = None } ∷ []) where
     now_synced : now_of first more ≡ after (now_of first entries) synced
-    now_synced = ap (λ (l : List Event). replay (at_first (image_of first)) l) (past_synced entries more is) ∙ replay-one (at_first (image_of first)) (events_of entries) synced
+    now_synced = ap (λ (l : List Event). replay (at_first (image_of first)) l) (past_synced entries more is) ∙
+        replay-one (at_first (image_of first)) (events_of entries) synced
 
     copied_is : (i : ℕ) → image_of copied i ≡ image_of present i
     copied_is i = ⊎_elim (has.named i) (λ miss. has.others i miss ∙ sym (sound.same_elsewhere i miss)) (cases_Bool (names (drop settled entries) i))
@@ -129,7 +141,8 @@ module _ (sectors : ℕ) (first present durable : List ℕ) (entries : List Reco
     }
 
   -- after a power cut
-  module _ (kept copied : List ℕ) (more : List RecordEntry) (outcome : Outcome) (kept_size : length kept ≡ length present) (copied_size : length copied ≡ length durable)
+  module _ (kept copied : List ℕ) (more : List RecordEntry) (outcome : Outcome) (kept_size : length kept ≡ length present)
+      (copied_size : length copied ≡ length durable)
       (kept_fits : All (λ b. b < 256) kept) (copied_fits : All (λ b. b < 256) copied) (same : Agrees (image_of copied) (image_of kept))
       (left : Agrees (image_of kept) (left_by outcome (now_of first entries))) (is : more ≡ marked outcome entries) where
     -- where nothing is unsynced a power cut changes nothing
@@ -143,9 +156,11 @@ module _ (sectors : ℕ) (first present durable : List ℕ) (entries : List Reco
       durable_is : image_of kept i ≡ (now_of first more).durable i
       none_unsynced : (now_of first more).unsynced i ≡ false
 
-    now_marked : events_of (marked outcome entries) ≡ events_of entries ++ cut outcome ∷ [] → now_of first more ≡ at_first (left_by outcome (now_of first entries))
+    now_marked : events_of (marked outcome entries) ≡ events_of entries ++ cut outcome ∷ [] →
+        now_of first more ≡ at_first (left_by outcome (now_of first entries))
     now_marked mark =
-        ap (λ (l : List Event). replay (at_first (image_of first)) l) (ap events_of is ∙ mark) ∙ replay-one (at_first (image_of first)) (events_of entries) (cut outcome)
+        ap (λ (l : List Event). replay (at_first (image_of first)) l) (ap events_of is ∙ mark) ∙
+        replay-one (at_first (image_of first)) (events_of entries) (cut outcome)
 
     now_same : events_of (marked outcome entries) ≡ events_of entries → now_of first more ≡ now_of first entries
     now_same unmarked = ap (λ (l : List Event). replay (at_first (image_of first)) l) (ap events_of is ∙ unmarked)
@@ -197,4 +212,5 @@ module _ (sectors : ℕ) (first present durable : List ℕ) (entries : List Reco
 
   -- what a power cut leaves of the bytes
   pub left_sound : (outcome : Outcome) → Agrees (left_by outcome (state_with present durable (drop settled entries))) (left_by outcome (now_of first entries))
-  left_sound outcome = left_same outcome (state_with present durable (drop settled entries)) (now_of first entries) sound.present_is sound.durable_is (λ i. sym (sound.unsynced_are i))
+  left_sound outcome = left_same outcome (state_with present durable (drop settled entries)) (now_of first entries) sound.present_is sound.durable_is
+      (λ i. sym (sound.unsynced_are i))

@@ -17,10 +17,12 @@ module _ (old new : Mirror) (first_is : new.first ≡ old.first) (sectors_is : n
     pub mirror_tears : Tears at (sectors_of bytes) (disk_of_mirror failures old) (disk_of_mirror risen new)
     mirror_tears =
         rw (first_is, sectors_is)
-        (Disks.write_crash old.sectors (image_of old.first.items) (past_of old) (past_of new) at bytes past_is (durable_whole _ _ _ _ _ _ old.sound) failures risen)
+        (Disks.write_crash old.sectors (image_of old.first.items) (past_of old) (past_of new) at bytes past_is (durable_whole _ _ _ _ _ _ old.sound) failures
+        risen)
 
     pub mirror_write_time : Elapses (disk_of_mirror failures old) (disk_of_mirror risen new)
-    mirror_write_time = rw (first_is, sectors_is) (Disks.write_time old.sectors (image_of old.first.items) (past_of old) (past_of new) at bytes past_is failures risen)
+    mirror_write_time = rw (first_is, sectors_is)
+        (Disks.write_time old.sectors (image_of old.first.items) (past_of old) (past_of new) at bytes past_is failures risen)
 
   -- a sync
   module _ (past_is : past_of new ≡ past_of old ++ synced ∷ []) where
@@ -41,12 +43,15 @@ module _ (old new : Mirror) (first_is : new.first ≡ old.first) (sectors_is : n
   -- a power cut
   module _ (outcome : Outcome) (past_is : EndsCut outcome (past_of old) (past_of new)) where
     pub mirror_cut_durable : Only (disk_of_mirror risen new).seen (disk_of_mirror risen new)
-    mirror_cut_durable = Disks.cut_durable new.sectors (image_of new.first.items) (past_of old) (past_of new) outcome past_is (synced_same _ _ _ _ _ _ new.sound) risen
+    mirror_cut_durable = Disks.cut_durable new.sectors (image_of new.first.items) (past_of old) (past_of new) outcome past_is
+        (synced_same _ _ _ _ _ _ new.sound) risen
 
-    pub mirror_cut_left : Agrees (disk_of_mirror risen new).seen (left_by outcome (state_of old)) → (disk_of_mirror failures old).may_leave (disk_of_mirror risen new).seen
+    pub mirror_cut_left : Agrees (disk_of_mirror risen new).seen (left_by outcome (state_of old)) →
+        (disk_of_mirror failures old).may_leave (disk_of_mirror risen new).seen
     mirror_cut_left left =
         Disks.cut_may_leave old.sectors outcome (state_of old) (state_of new).present
         (subst (λ (n : ℕ). IsWhole n (state_of new).present) sectors_is (present_whole _ _ _ _ _ _ new.sound)) (synced_same _ _ _ _ _ _ old.sound) left
 
     pub mirror_cut_time : Elapses (disk_of_mirror failures old) (disk_of_mirror risen new)
-    mirror_cut_time = rw (first_is, sectors_is) (Disks.cut_time old.sectors (image_of old.first.items) (past_of old) (past_of new) outcome past_is failures risen)
+    mirror_cut_time = rw (first_is, sectors_is)
+        (Disks.cut_time old.sectors (image_of old.first.items) (past_of old) (past_of new) outcome past_is failures risen)

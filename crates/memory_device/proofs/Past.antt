@@ -19,15 +19,23 @@ module _ (sectors : ℕ) (first : Image) where
   elapses_still past failures risen = record { later = omega arith; nothing_else = λ t c le left. inl left; keeps = λ t c le left. left }
 
   -- one event more
-  pub elapses_one : (past : List Event) (e : Event) (failures risen : ℕ) → Elapses (disk_of sectors first past failures) (disk_of sectors first (past ++ e ∷ []) risen)
+  pub elapses_one : (past : List Event) (e : Event) (failures risen : ℕ) →
+      Elapses (disk_of sectors first past failures) (disk_of sectors first (past ++ e ∷ []) risen)
   elapses_one past e failures risen =
       let longer : length (past ++ e ∷ []) ≡ length past + 1 = length-append past (e ∷ []) in
       record {
         later = omega (arith, longer);
         nothing_else = λ t c le left.
             ⊎_elim
-            (λ lt. inr (subst (λ (es : List Event). MayLeave sectors (replay (at_first first) es) c) (take_all left.0 (past ++ e ∷ []) (omega (arith, longer, lt))) left.3))
-            (λ here. inl (left.0, left.1, here, subst (λ (es : List Event). MayLeave sectors (replay (at_first first) es) c) (take-append-le left.0 past (e ∷ []) here) left.3))
+            (λ lt. inr (subst (λ (es : List Event). MayLeave sectors (replay (at_first first) es) c)
+            (take_all left.0 (past ++ e ∷ []) (omega (arith, longer, lt))) left.3))
+            (λ here. inl (
+              left.0,
+              left.1,
+              here,
+              subst (λ (es : List Event). MayLeave sectors (replay (at_first first) es) c)
+                  (take-append-le left.0 past (e ∷ []) here) left.3,
+            ))
             (cases_lt (length past) left.0);
         keeps = λ t c le left. (
           left.0,
@@ -67,7 +75,8 @@ written-present_inside s at (suc n) bytes j lt =
     ap (λ (t : State). t.present (at + j)) (replay-one s (writes_of at n bytes) (wrote (at + n) (image_of bytes n)))
     ∙ ⊎_elim
     (λ below.
-    ap (λ (b : Bool). if b then image_of bytes n else (replay s (writes_of at n bytes)).present (at + j)) (ne_eqb (at + j) (at + n) (λ e. omega (arith, e, below)))
+    ap (λ (b : Bool). if b then image_of bytes n else (replay s (writes_of at n bytes)).present (at + j))
+    (ne_eqb (at + j) (at + n) (λ e. omega (arith, e, below)))
     ∙ written-present_inside s at n bytes j below)
     (λ last.
     let here : j ≡ n = omega arith in

@@ -14,12 +14,14 @@ or_right false = refl
 or_right true = refl
 
 -- some sectors and then others
-pub patches_on : (p q r : ℕ → Bool) (from old mid new : Image) → Patches p from old mid → Patches q from mid new → ((i : ℕ) → r i ≡ (p i || q i)) → Patches r from old new
+pub patches_on : (p q r : ℕ → Bool) (from old mid new : Image) → Patches p from old mid → Patches q from mid new → ((i : ℕ) → r i ≡ (p i || q i)) →
+    Patches r from old new
 patches_on p q r from old mid new first second either = record {
   named = λ i yes.
       ⊎_elim
       (second.named i)
-      (λ no. ⊎_elim (λ here. second.others i no ∙ first.named i here) (λ there. let both : true ≡ false = sym there ∙ no in cc) (or_cases (p i) (q i) (sym (either i) ∙ yes)))
+      (λ no. ⊎_elim (λ here. second.others i no ∙ first.named i here) (λ there. let both : true ≡ false = sym there ∙ no in cc)
+      (or_cases (p i) (q i) (sym (either i) ∙ yes)))
       (cases_Bool (q i));
   others = λ i no. let none = or_false (p i) (q i) (sym (either i) ∙ no) in second.others i none.1 ∙ first.others i none.0;
 }
@@ -29,7 +31,8 @@ names-append [] ys i = refl
 names-append (x ∷ xs) ys i = ap (λ (b : Bool). writes x.action i || b) (names-append xs ys i) ∙ sym (or_assoc (writes x.action i) (names xs i) (names ys i))
 
 -- the sectors of one entry more
-pub names_more : (es : List RecordEntry) (j : ℕ) (d : RecordEntry) → j < length es → (i : ℕ) → names (take (j + 1) es) i ≡ (names (take j es) i || writes (get_or es j d).action i)
+pub names_more : (es : List RecordEntry) (j : ℕ) (d : RecordEntry) → j < length es → (i : ℕ) →
+    names (take (j + 1) es) i ≡ (names (take j es) i || writes (get_or es j d).action i)
 names_more es j d lt i =
     ap (λ (xs : List RecordEntry). names xs i) (take_more es j d lt)
     ∙ names-append (take j es) (get_or es j d ∷ []) i
@@ -48,7 +51,8 @@ pub wrote_here : (action : Action) (sector : ℕ) (bytes : List ℕ) → action 
 wrote_here action sector bytes is = ap (λ (a : Action). writes a sector) is ∙ eq-eqb sector sector refl
 
 -- one sector alone
-pub patches_one : (action : Action) (sector : ℕ) (bytes part : List ℕ) (from old new : Image) → action ≡ Wrote sector bytes → length part ≡ 512 → image_of part 0 ≡ from sector
+pub patches_one : (action : Action) (sector : ℕ) (bytes part : List ℕ) (from old new : Image) → action ≡ Wrote sector bytes → length part ≡ 512 →
+    image_of part 0 ≡ from sector
     → AreSectors new sector part → Elsewhere sector (sectors_of part) old new → Patches (writes action) from old new
 patches_one action sector bytes part from old new is size same put elsewhere =
     let test : (i : ℕ) → writes action i ≡ (i == sector) = λ i. ap (λ (a : Action). writes a i) is in
@@ -80,7 +84,8 @@ pub filled_is : (byte : ℕ) → image_of (replicate 512 byte) 0 ≡ replicate 5
 filled_is byte = take-replicate 512 512 byte (omega arith)
 
 -- after the same sectors are patched in both of two images that agree elsewhere, they agree
-pub patches_both : (test : ℕ → Bool) (from first second new other : Image) → Patches test from first new → Patches test from second other → ((i : ℕ) → test i ≡ false → first i ≡ second i) → Agrees other new
+pub patches_both : (test : ℕ → Bool) (from first second new other : Image) → Patches test from first new → Patches test from second other →
+    ((i : ℕ) → test i ≡ false → first i ≡ second i) → Agrees other new
 patches_both test from first second new other patched also same i =
     ⊎_elim
     (λ hit. also.named i hit ∙ sym (patched.named i hit))

@@ -54,7 +54,8 @@ disk_of sectors first past failures = record {
   seen = (replay (at_first first) past).present;
   may_leave = MayLeave sectors (replay (at_first first) past);
   moment = length past;
-  left_since = λ t c. (k : ℕ) × (t ≤ k) × (k ≤ length past) × MayLeave sectors (replay (at_first first) (take k past)) c;
+  left_since = λ t c. (k : ℕ) × (t ≤ k) × (k ≤ length past) × MayLeave sectors (replay (at_first first) (take k past))
+      c;
   failures = failures;
 }
 

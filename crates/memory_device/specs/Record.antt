@@ -38,7 +38,8 @@ names (e ∷ es) i = writes e.action i || names es i
 -- the entries of a write of the first n of these sectors, in order
 abbrev pub entries_of : ℕ → ℕ → List ℕ → List RecordEntry
 entries_of at zero bytes = []
-entries_of at (suc n) bytes = entries_of at n bytes ++ record { action = Wrote (at + n) (image_of bytes n); cut = None } ∷ []
+entries_of at (suc n) bytes = entries_of at n bytes ++ record { action = Wrote (at + n) (image_of bytes n); cut = None }
+    ∷ []
 
 -- the entry with a mark, unless it has one
 abbrev pub mark_after : Outcome → RecordEntry → RecordEntry

@@ -11,10 +11,12 @@ now_of first entries = replay (at_first (image_of first)) (events_of entries)
 
 -- sectors with these entries, the last ones unsynced
 abbrev pub state_with : List ℕ → List ℕ → List RecordEntry → State
-state_with present synced unsynced = record { present = image_of present; durable = image_of synced; unsynced = names unsynced }
+state_with present synced unsynced =
+    record { present = image_of present; durable = image_of synced; unsynced = names unsynced }
 
 -- The record gives these bytes, and the entries from `settled` on are what is not durable yet.
-pub record IsSoundMirror (sectors : ℕ) (first present synced : List ℕ) (entries : List RecordEntry) (settled : ℕ) : Type 0 where
+pub record IsSoundMirror (sectors : ℕ) (first present synced : List ℕ) (entries : List RecordEntry) (settled : ℕ) : Type
+    0 where
   pub few : sectors ≤ 131072
   pub present_size : length present ≡ 512 * sectors
   pub synced_size : length synced ≡ 512 * sectors

@@ -7,16 +7,21 @@ use Rattle.memory_device.specs.Past.{MayLeave}
 use Rattle.memory_device.specs.PastLaws.{image_whole}
 use Rattle.memory_device.specs.Sound.{IsSoundMirror, now_of}
 
-module _ (sectors : ℕ) (first present synced : List ℕ) (entries : List RecordEntry) (settled : ℕ) (sound : IsSoundMirror sectors first present synced entries settled) where
+module _ (sectors : ℕ) (first present synced : List ℕ) (entries : List RecordEntry) (settled : ℕ)
+    (sound : IsSoundMirror sectors first present synced entries settled) where
   pub present_whole : IsWhole sectors (now_of first entries).present
-  present_whole = subst (IsWhole sectors) (fun_ext sound.present_is) (image_whole sectors present sound.present_size sound.present_fits)
+  present_whole = subst (IsWhole sectors) (fun_ext sound.present_is)
+      (image_whole sectors present sound.present_size sound.present_fits)
 
   pub durable_whole : IsWhole sectors (now_of first entries).durable
-  durable_whole = subst (IsWhole sectors) (fun_ext sound.durable_is) (image_whole sectors synced sound.synced_size sound.synced_fits)
+  durable_whole = subst (IsWhole sectors) (fun_ext sound.durable_is)
+      (image_whole sectors synced sound.synced_size sound.synced_fits)
 
   -- what wasn't written since the last sync is durable
-  pub synced_same : (i : ℕ) → (now_of first entries).unsynced i ≡ false → (now_of first entries).present i ≡ (now_of first entries).durable i
-  synced_same i none = sym (sound.present_is i) ∙ sound.same_elsewhere i (sym (sound.unsynced_are i) ∙ none) ∙ sound.durable_is i
+  pub synced_same : (i : ℕ) → (now_of first entries).unsynced i ≡ false →
+      (now_of first entries).present i ≡ (now_of first entries).durable i
+  synced_same i none = sym (sound.present_is i) ∙ sound.same_elsewhere i (sym (sound.unsynced_are i) ∙ none) ∙
+      sound.durable_is i
 
   -- what a read gives may be left
   pub sound_seen_left : MayLeave sectors (now_of first entries) (now_of first entries).present

@@ -167,7 +167,8 @@ impl Device for Memory {
 
     ghost seen_left = { λ m. sound_seen_left _ _ _ _ _ _ m.mirror.sound };
 
-    ghost counts_now = { λ m t c. past_counts_now m.mirror.sectors (image_of m.mirror.first.items) (memory_past m) t c };
+    ghost counts_now = { λ m t c. past_counts_now m.mirror.sectors (image_of m.mirror.first.items) (memory_past m)
+        t c };
 
     ghost only_now = { λ m c. past_only_now m.mirror.sectors (image_of m.mirror.first.items) (memory_past m) c };
 

@@ -33,10 +33,22 @@ without b o none = subst (MayHaveUnwritten b) (sym none) tt
 
 pub held_working : (b : Books) (o : Option Unwritten) (ws : List Place) → MayHaveUnwritten b o → MayHaveUnwritten (record b { working = ws }) o
 held_working b None ws has = tt
-held_working b (Some u) ws has = record { size = has.size; count = has.count; running = has.running; object = has.object; slot = has.slot; place = has.place; sector_is = has.sector_is; rank = has.rank; shape = has.shape }
+held_working b (Some u) ws has =
+    record {
+      size = has.size;
+      count = has.count;
+      running = has.running;
+      object = has.object;
+      slot = has.slot;
+      place = has.place;
+      sector_is = has.sector_is;
+      rank = has.rank;
+      shape = has.shape;
+    }
 
 -- so does a place with the slot of the one before
-pub held_torn : (b : Books) (o : Option Unwritten) (n : ℕ) (q : Place) → n < length b.frozen → slot_of q ≡ Some (slot_for b.frozen n) → MayHaveUnwritten b o → MayHaveUnwritten (record b { frozen = set b.frozen n q }) o
+pub held_torn : (b : Books) (o : Option Unwritten) (n : ℕ) (q : Place) → n < length b.frozen → slot_of q ≡ Some (slot_for b.frozen n) → MayHaveUnwritten b o →
+    MayHaveUnwritten (record b { frozen = set b.frozen n q }) o
 held_torn b None n q lt is has = tt
 held_torn b (Some u) n q lt is has = record {
   size = has.size;
@@ -55,14 +67,27 @@ held_torn b (Some u) n q lt is has = record {
   shape = has.shape;
 }
 
-pub held_after : (b : Books) (o p : Option Unwritten) (n : ℕ) (q : Place) → n < length b.frozen → slot_of q ≡ Some (slot_for b.frozen n) → MayHaveUnwritten b o → (p ≡ None) ⊎ (p ≡ o) → MayHaveUnwritten (record b { frozen = set b.frozen n q; unwritten = p }) p
+pub held_after : (b : Books) (o p : Option Unwritten) (n : ℕ) (q : Place) → n < length b.frozen → slot_of q ≡ Some (slot_for b.frozen n) →
+    MayHaveUnwritten b o → (p ≡ None) ⊎ (p ≡ o) → MayHaveUnwritten (record b { frozen = set b.frozen n q; unwritten = p }) p
 held_after b o p n q lt is has either = elim either [
   | inl none ↦ without (record b { frozen = set b.frozen n q; unwritten = p }) p none
   | inr same ↦ held_by p (subst (MayHaveUnwritten (record b { frozen = set b.frozen n q })) (sym same) (held_torn b o n q lt is has))
 ] where
-  held_by : (r : Option Unwritten) → MayHaveUnwritten (record b { frozen = set b.frozen n q }) r → MayHaveUnwritten (record b { frozen = set b.frozen n q; unwritten = p }) r
+  held_by : (r : Option Unwritten) → MayHaveUnwritten (record b { frozen = set b.frozen n q }) r →
+      MayHaveUnwritten (record b { frozen = set b.frozen n q; unwritten = p }) r
   held_by None has = tt
-  held_by (Some u) has = record { size = has.size; count = has.count; running = has.running; object = has.object; slot = has.slot; place = has.place; sector_is = has.sector_is; rank = has.rank; shape = has.shape }
+  held_by (Some u) has =
+      record {
+        size = has.size;
+        count = has.count;
+        running = has.running;
+        object = has.object;
+        slot = has.slot;
+        place = has.place;
+        sector_is = has.sector_is;
+        rank = has.rank;
+        shape = has.shape;
+      }
 
 -- the slot is that of an entry
 pub entry_of : (b : Books) (o : Option Unwritten) → MayHaveUnwritten b o → IfUnwritten b.plan (frozen_generation b) (entries_of b.frozen) o
@@ -82,7 +107,10 @@ entry_of b (Some u) has =
 
 module _ (old new : Disk) (b : Books) (reads : ReadsOnly old new) where
   pub durable_read : IsDurable old b → IsDurable new b
-  durable_read is = record { kept = fetched_kept (mended_disk old b.unwritten) (mended_disk new b.unwritten) b (reads_mended old new b.unwritten reads) is.kept; unwritten = is.unwritten }
+  durable_read is = record {
+    kept = fetched_kept (mended_disk old b.unwritten) (mended_disk new b.unwritten) b (reads_mended old new b.unwritten reads) is.kept;
+    unwritten = is.unwritten;
+  }
 
   pub stored_read : stored_on new b ≡ stored_on old b
   stored_read = fetched_stored (mended_disk old b.unwritten) (mended_disk new b.unwritten) b (reads_mended old new b.unwritten reads)
@@ -103,7 +131,8 @@ abbrev extent : Unwritten → Extent
 extent u = record { sector = u.sector; length = 8 }
 
 module _ (size : ℕ) (image : Image) (b : Books) where
-  inside : (u : Unwritten) → IsKept size (mended image (Some u)) b → HasUnwritten b u → IsInside (extent u) (half_extent b.plan.geometry (half_sector b.plan (frozen_generation b)))
+  inside : (u : Unwritten) → IsKept size (mended image (Some u)) b → HasUnwritten b u →
+      IsInside (extent u) (half_extent b.plan.geometry (half_sector b.plan (frozen_generation b)))
   inside u kept has =
       let fits = frozen_fits size (mended image (Some u)) b kept in
       let entry : IsUnwritten b.plan (frozen_generation b) (entries_of b.frozen) u = entry_of b (Some u) has in
@@ -116,10 +145,13 @@ module _ (size : ℕ) (image : Image) (b : Books) where
   saved_raw None kept has n lt = refl
   saved_raw (Some u) kept has n lt =
       apart_frame image u b.plan b.header.generation b.directory
-      (spares_other b.plan b.header b.directory (frozen_generation b) (extent u) kept.plan kept.directory kept.header.entries (other_parity b.header.generation) (inside u kept has)).frames n lt
+      (spares_other b.plan b.header b.directory (frozen_generation b) (extent u) kept.plan kept.directory kept.header.entries (other_parity b.header.generation)
+      (inside u kept has)).frames n lt
 
-  pub spelt_raw : (o : Option Unwritten) → IsKept size (mended image o) b → MayHaveUnwritten b o → (n : ℕ) → n < count_of b.plan → IsSpelt image b.plan b.header.age b.header.generation b.directory n
-  spelt_raw o kept has n lt = spelt_same image (mended image o) b.plan b.header.age b.header.generation b.header.generation b.directory b.directory n (sym (saved_raw o kept has n lt)) (kept.saved n lt)
+  pub spelt_raw : (o : Option Unwritten) → IsKept size (mended image o) b → MayHaveUnwritten b o → (n : ℕ) → n < count_of b.plan →
+      IsSpelt image b.plan b.header.age b.header.generation b.directory n
+  spelt_raw o kept has n lt = spelt_same image (mended image o) b.plan b.header.age b.header.generation b.header.generation b.directory b.directory n
+      (sym (saved_raw o kept has n lt)) (kept.saved n lt)
 
   pub read_raw : (o : Option Unwritten) → IsKept size (mended image o) b → MayHaveUnwritten b o → (n : ℕ) → n < count_of b.plan
       → frame_read image b.plan b.header.generation b.directory n ≡ frame_read (mended image o) b.plan b.header.generation b.directory n
@@ -134,7 +166,8 @@ module _ (size : ℕ) (image : Image) (b : Books) where
 
   later : (k : ℕ) → b.size ≡ Some k → working_generation b % 2 ≡ frozen_generation b % 2 → ⊥
   later k running same =
-      let both : (b.header.generation + 1 + 1) % 2 ≡ frozen_generation b % 2 = ap (λ (o : Option ℕ). generation_after b.header.generation o % 2) (sym running) ∙ same in
+      let both : (b.header.generation + 1 + 1) % 2 ≡ frozen_generation b % 2 = ap (λ (o : Option ℕ). generation_after b.header.generation o % 2) (sym running) ∙
+      same in
       other_parity (b.header.generation + 1) (sym both)
 
   -- what lies in the half of the frames that were put since, also after a write
@@ -147,19 +180,22 @@ module _ (size : ℕ) (image : Image) (b : Books) where
 
   -- and in another slot of the frozen frames
   pub frozen_raw : (o : Option Unwritten) → IsKept size (mended image o) b → MayHaveUnwritten b o → (s n : ℕ) → s < b.plan.geometry.log
-      → ((u : Unwritten) → o ≡ Some u → u.sector ≡ slot_sector b.plan (frozen_generation b) s → ⊥) → slot_bytes (mended image o) b.plan (frozen_generation b) s n ≡ slot_bytes image b.plan (frozen_generation b) s n
+      → ((u : Unwritten) → o ≡ Some u → u.sector ≡ slot_sector b.plan (frozen_generation b) s → ⊥) →
+      slot_bytes (mended image o) b.plan (frozen_generation b) s n ≡ slot_bytes image b.plan (frozen_generation b) s n
   frozen_raw None kept has s n low other = refl
   frozen_raw (Some u) kept has s n low other =
       let t : ℕ = has.slot in
       let differ : s ≡ t → ⊥ = λ same. other u refl (has.sector_is ∙ ap (slot_sector b.plan (frozen_generation b)) (sym same)) in
       apart_bytes image u (slot_sector b.plan (frozen_generation b) s) b.plan n
-      (apart_inside (place_extent b.plan (frozen_generation b) s n) (extent u) (slot_extent b.plan (frozen_generation b) s) (slot_extent b.plan (frozen_generation b) t)
+      (apart_inside (place_extent b.plan (frozen_generation b) s n) (extent u) (slot_extent b.plan (frozen_generation b) s)
+      (slot_extent b.plan (frozen_generation b) t)
       (frames_in_slots b.plan (frozen_generation b) s n) (record { starts = omega (arith, has.sector_is); ends = omega (arith, has.sector_is) })
       (slots_apart b.plan (frozen_generation b) s t differ))
 
   -- ---- and what its buffer gives
 
-  module _ (u : Unwritten) (kept : IsKept size (mended image (Some u)) b) (has : HasUnwritten b u) (n s : ℕ) (at : place_at b.frozen n ≡ Whole s) (here : u.sector ≡ slot_sector b.plan (frozen_generation b) s) where
+  module _ (u : Unwritten) (kept : IsKept size (mended image (Some u)) b) (has : HasUnwritten b u) (n s : ℕ) (at : place_at b.frozen n ≡ Whole s)
+      (here : u.sector ≡ slot_sector b.plan (frozen_generation b) s) where
     -- the frame is that of the object whose slot is unwritten
     one : has.object ≡ n
     one =
@@ -180,12 +216,14 @@ module _ (size : ℕ) (image : Image) (b : Books) where
   -- ---- by the place of a frozen frame
 
   -- the buffer spells it where it is that slot's
-  pub own_spelt : (o : Option Unwritten) → IsKept size (mended image o) b → MayHaveUnwritten b o → (n s : ℕ) → n < count_of b.plan → place_at b.frozen n ≡ Whole s → {sector : ℕ} → sector ≡ slot_sector b.plan (frozen_generation b) s
+  pub own_spelt : (o : Option Unwritten) → IsKept size (mended image o) b → MayHaveUnwritten b o → (n s : ℕ) → n < count_of b.plan →
+      place_at b.frozen n ≡ Whole s → {sector : ℕ} → sector ≡ slot_sector b.plan (frozen_generation b) s
       → (u : Unwritten) × (o ≡ Some u) × (u.sector ≡ sector) → (u : Unwritten) × (o ≡ Some u) × IsSpeltIn u (shape_of b.plan n) b.plan.geometry n
   own_spelt o kept has n s lt at here is =
       subst (λ (x : Option Unwritten). (u : Unwritten) × (x ≡ Some u) × IsSpeltIn u (shape_of b.plan n) b.plan.geometry n) (sym is.1)
       (by is.0 (subst (λ (x : Option Unwritten). IsKept size (mended image x) b) is.1 kept) (subst (MayHaveUnwritten b) is.1 has) (is.2 ∙ here)) where
-        by : (u : Unwritten) → IsKept size (mended image (Some u)) b → HasUnwritten b u → u.sector ≡ slot_sector b.plan (frozen_generation b) s → (v : Unwritten) × (Some u ≡ Some v) × IsSpeltIn v (shape_of b.plan n) b.plan.geometry n
+        by : (u : Unwritten) → IsKept size (mended image (Some u)) b → HasUnwritten b u → u.sector ≡ slot_sector b.plan (frozen_generation b) s →
+            (v : Unwritten) × (Some u ≡ Some v) × IsSpeltIn v (shape_of b.plan n) b.plan.geometry n
         by u kept has here =
             let bytes = own_bytes u kept has n s at here in (
               u,
@@ -200,14 +238,18 @@ module _ (size : ℕ) (image : Image) (b : Books) where
             )
 
   -- and gives it
-  pub own_frame : (o : Option Unwritten) → IsKept size (mended image o) b → MayHaveUnwritten b o → (n s : ℕ) (read : Frame) → place_at b.frozen n ≡ Whole s → {sector : ℕ} → sector ≡ slot_sector b.plan (frozen_generation b) s
-      → (u : Unwritten) × (o ≡ Some u) × (u.sector ≡ sector) → ((u : Unwritten) → o ≡ Some u → read ≡ frame_from b.plan.geometry n (shape_bytes (shape_of b.plan n) u.bytes))
+  pub own_frame : (o : Option Unwritten) → IsKept size (mended image o) b → MayHaveUnwritten b o → (n s : ℕ) (read : Frame) →
+      place_at b.frozen n ≡ Whole s → {sector : ℕ} → sector ≡ slot_sector b.plan (frozen_generation b) s
+      → (u : Unwritten) × (o ≡ Some u) × (u.sector ≡ sector) →
+      ((u : Unwritten) → o ≡ Some u → read ≡ frame_from b.plan.geometry n (shape_bytes (shape_of b.plan n) u.bytes))
       → read ≡ slot_frame (mended image o) b.plan (frozen_generation b) s n
   own_frame o kept has n s read at here is reported =
       reported is.0 is.1
-      ∙ subst (λ (x : Option Unwritten). frame_from b.plan.geometry n (shape_bytes (shape_of b.plan n) is.0.bytes) ≡ slot_frame (mended image x) b.plan (frozen_generation b) s n) (sym is.1)
+      ∙ subst (λ (x : Option Unwritten). frame_from b.plan.geometry n (shape_bytes (shape_of b.plan n) is.0.bytes) ≡ slot_frame (mended image x) b.plan
+      (frozen_generation b) s n) (sym is.1)
       (by is.0 (subst (λ (x : Option Unwritten). IsKept size (mended image x) b) is.1 kept) (subst (MayHaveUnwritten b) is.1 has) (is.2 ∙ here)) where
         by : (u : Unwritten) → IsKept size (mended image (Some u)) b → HasUnwritten b u → u.sector ≡ slot_sector b.plan (frozen_generation b) s
             → frame_from b.plan.geometry n (shape_bytes (shape_of b.plan n) u.bytes) ≡ slot_frame (mended image (Some u)) b.plan (frozen_generation b) s n
         by u kept has here =
-            ap (frame_from b.plan.geometry n) (ap (λ (shape : Shape). shape_bytes shape u.bytes) (own_shape u kept has n s at here) ∙ sym (own_bytes u kept has n s at here))
+            ap (frame_from b.plan.geometry n)
+            (ap (λ (shape : Shape). shape_bytes shape u.bytes) (own_shape u kept has n s at here) ∙ sym (own_bytes u kept has n s at here))

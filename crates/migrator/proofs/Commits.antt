@@ -10,7 +10,8 @@ use Rattle.migrator.proofs.GoingOn.{goes_seen, goes_with}
 use Rattle.migrator.proofs.Journaling.{both_runs}
 use Rattle.migrator.proofs.Mended.{mended_disk}
 
-module _ (old mid : Disk) (b : Books) (o : Option Unwritten) (k : ℕ) (is : IsDurable old b) (running : b.size ≡ Some k) (keeps : Keeps b.plan (frozen_generation b) (entries_of b.frozen) old b.unwritten mid o) where
+module _ (old mid : Disk) (b : Books) (o : Option Unwritten) (k : ℕ) (is : IsDurable old b) (running : b.size ≡ Some k)
+    (keeps : Keeps b.plan (frozen_generation b) (entries_of b.frozen) old b.unwritten mid o) where
   abbrev mid_books : Books
   mid_books = record b { unwritten = o }
 
@@ -28,7 +29,8 @@ module _ (old mid : Disk) (b : Books) (o : Option Unwritten) (k : ℕ) (is : IsD
       goes_seen old mid b mid_books
       (goes_with (mended_disk old b.unwritten) (mended_disk mid o) b b mid_books refl refl refl (goes_after old mid b b.unwritten o k is.kept running keeps))
 
-  module _ (none : o ≡ None) (stable : k ≤ whole_count b.frozen) (complete : AreComplete mid.seen b.plan (frozen_generation b) (entries_of b.frozen)) (age : ℕ) (later : b.header.age < age) (most : age ≤ 2 ^ 62)
+  module _ (none : o ≡ None) (stable : k ≤ whole_count b.frozen) (complete : AreComplete mid.seen b.plan (frozen_generation b) (entries_of b.frozen)) (age : ℕ)
+      (later : b.header.age < age) (most : age ≤ 2 ^ 62)
       (keepable : AreKeepable b.plan.geometry age (next_saved puts age (frozen_of (seen_by old.seen b) b k) (stored_on old b).saved).frames) where
     now : IsReady old (seen_by old.seen b) b k mid
     now = ready old mid b b.unwritten o k is.kept running keeps none
@@ -38,18 +40,24 @@ module _ (old mid : Disk) (b : Books) (o : Option Unwritten) (k : ℕ) (is : IsD
 
     pub may_commit_now : IsSoundOn old b → MayAdopt mid (record b { unwritten = o }) (next_header age b) (entries_of b.frozen)
     may_commit_now sound =
-        may_commit mid mid_books k kept running stable complete age later most (keepable_at age old (seen_by old.seen b) b k mid now keepable) mid_durable none (sound_raw mid mid_books none (mid_goes_on.sound sound))
+        may_commit mid mid_books k kept running stable complete age later most (keepable_at age old (seen_by old.seen b) b k mid now keepable) mid_durable none
+        (sound_raw mid mid_books none (mid_goes_on.sound sound))
 
-    pub commit_stored : stored_on mid (adopted (next_header age b) (entries_of b.frozen) (record b { unwritten = o })) ≡ on_snapshots (committed puts age (frozen_of (seen_by old.seen b) b k)) (stored_on old b)
+    pub commit_stored : stored_on mid (adopted (next_header age b) (entries_of b.frozen) (record b { unwritten = o })) ≡ on_snapshots
+        (committed puts age (frozen_of (seen_by old.seen b) b k)) (stored_on old b)
     commit_stored =
         stored_raw mid mid_books none (adopted (next_header age b) (entries_of b.frozen) mid_books) refl
         ∙ committed_stored mid mid_books k kept running stable complete age later most (keepable_at age old (seen_by old.seen b) b k mid now keepable)
-        ∙ ap (λ (f : FrozenPuts). on_snapshots (committed puts age f) (stored_in mid.seen b)) now.frozen ∙ ap (on_snapshots (committed puts age (frozen_of (seen_by old.seen b) b k))) now.stored
+        ∙ ap (λ (f : FrozenPuts). on_snapshots (committed puts age f) (stored_in mid.seen b)) now.frozen ∙
+        ap (on_snapshots (committed puts age (frozen_of (seen_by old.seen b) b k))) now.stored
 
     pub commit_run : (new : Disk) → IsSoundOn old b
-        → LeavesEither mid new (stored_on mid (record b { unwritten = o })).saved (stored_on mid (adopted (next_header age b) (entries_of b.frozen) (record b { unwritten = o }))).saved
+        → LeavesEither mid new (stored_on mid (record b { unwritten = o })).saved
+        (stored_on mid (adopted (next_header age b) (entries_of b.frozen) (record b { unwritten = o }))).saved
         → LeavesEither old new (stored_on old b).saved (next_saved puts age (frozen_of (seen_by old.seen b) b k) (stored_on old b).saved)
     commit_run new sound run =
-        both_runs old mid new (stored_on old b).saved (next_saved puts age (frozen_of (seen_by old.seen b) b k) (stored_on old b).saved) mid_goes_on.size (mid_goes_on.any_moment sound)
+        both_runs old mid new (stored_on old b).saved (next_saved puts age (frozen_of (seen_by old.seen b) b k) (stored_on old b).saved) mid_goes_on.size
+        (mid_goes_on.any_moment sound)
         (subst (λ (s : Stored). LeavesEither mid new (stored_on old b).saved s.saved) commit_stored
-        (subst (λ (s : Stored). LeavesEither mid new s.saved (stored_on mid (adopted (next_header age b) (entries_of b.frozen) mid_books)).saved) mid_stored run))
+        (subst (λ (s : Stored). LeavesEither mid new s.saved (stored_on mid (adopted (next_header age b) (entries_of b.frozen) mid_books)).saved) mid_stored
+        run))

@@ -30,22 +30,26 @@ module _ (old new : Disk) (b : Books) (was now : Option Unwritten) (k : ℕ) (ke
   inside = record { starts = omega arith; ends = omega arith }
 
   spares : Spares b.plan b.header b.directory extent
-  spares = spares_other b.plan b.header b.directory (frozen_generation b) extent kept.plan kept.directory kept.header.entries (other_parity b.header.generation) inside
+  spares = spares_other b.plan b.header b.directory (frozen_generation b) extent kept.plan kept.directory kept.header.entries (other_parity b.header.generation)
+      inside
 
   later : working_generation b % 2 ≡ frozen_generation b % 2 → ⊥
   later same =
-      let both : (b.header.generation + 1 + 1) % 2 ≡ frozen_generation b % 2 = ap (λ (o : Option ℕ). generation_after b.header.generation o % 2) (sym running) ∙ same in
+      let both : (b.header.generation + 1 + 1) % 2 ≡ frozen_generation b % 2 = ap (λ (o : Option ℕ). generation_after b.header.generation o % 2) (sym running) ∙
+      same in
       other_parity (b.header.generation + 1) (sym both)
 
   working_spares : SparesPuts b.plan (working_generation b) b.working extent
   working_spares = half_spares b.plan (working_generation b) (frozen_generation b) b.working extent kept.plan later kept.working.table kept.working.few inside
 
   -- the frozen frames stay in their slots
-  frozen_stay : (n s : ℕ) → n < count_of b.plan → place_at b.frozen n ≡ Whole s → slot_bytes after b.plan (frozen_generation b) s n ≡ slot_bytes before b.plan (frozen_generation b) s n
+  frozen_stay : (n s : ℕ) → n < count_of b.plan → place_at b.frozen n ≡ Whole s → slot_bytes after b.plan (frozen_generation b) s n ≡ slot_bytes before b.plan
+      (frozen_generation b) s n
   frozen_stay n s lt is =
       let entry = found_slot (entries_of b.frozen) n s (slot_entries b.frozen n ∙ ap slot_of is) in
       subst (λ (m : ℕ). slot_bytes after b.plan (frozen_generation b) s m ≡ slot_bytes before b.plan (frozen_generation b) s m) entry.object_is
-      (subst (λ (t : ℕ). slot_bytes after b.plan (frozen_generation b) t (entry_at (entries_of b.frozen) entry.index).object ≡ slot_bytes before b.plan (frozen_generation b) t (entry_at (entries_of b.frozen) entry.index).object)
+      (subst (λ (t : ℕ). slot_bytes after b.plan (frozen_generation b) t (entry_at (entries_of b.frozen) entry.index).object ≡ slot_bytes before b.plan
+      (frozen_generation b) t (entry_at (entries_of b.frozen) entry.index).object)
       entry.slot_is (keeps.frames entry.index entry.within))
 
   pub puts_after : puts_in after b.plan (frozen_generation b) b.frozen ≡ puts_in before b.plan (frozen_generation b) b.frozen
@@ -58,7 +62,8 @@ module _ (old new : Disk) (b : Books) (was now : Option Unwritten) (k : ℕ) (ke
   state_after = state_stays b.plan b.header b.directory extent before after spares.frames keeps.elsewhere
 
   pub stored_after : stored_in after b ≡ stored_in before b
-  stored_after = stored_same after before b (puts_stay b.plan (working_generation b) b.working extent before after working_spares keeps.elsewhere) puts_after state_after
+  stored_after = stored_same after before b (puts_stay b.plan (working_generation b) b.working extent before after working_spares keeps.elsewhere) puts_after
+      state_after
 
   kept_after : IsKept old.sectors after b
   kept_after = record {
@@ -70,7 +75,8 @@ module _ (old new : Disk) (b : Books) (was now : Option Unwritten) (k : ℕ) (ke
     saved = λ n lt. spelt_same after before b.plan b.header.age b.header.generation b.header.generation b.directory b.directory n
         (frame_stays b.plan b.header.generation b.directory extent before after spares.frames keeps.elsewhere n lt) (kept.saved n lt);
     few = kept.few;
-    moved = λ i lt. home_stays b extent before after spares.frames keeps.elsewhere i kept.plan (kept.directory.each i (record { object = 0; slot = 0 }) (omega (arith, lt, kept.few, kept.count))).object
+    moved = λ i lt. home_stays b extent before after spares.frames keeps.elsewhere i kept.plan
+        (kept.directory.each i (record { object = 0; slot = 0 }) (omega (arith, lt, kept.few, kept.count))).object
         (homes_spare old.sectors before b (frozen_generation b) extent kept inside i lt) (kept.moved i lt);
     frozen = are_put_same b.plan (frozen_generation b) b.frozen before after frozen_stay kept.frozen;
     running = kept.running;
@@ -138,7 +144,8 @@ pub record IsReady (old : Disk) (image : Image) (b : Books) (k : ℕ) (mid : Dis
   pub sound : LeavesState old (saved_state image b) → LeavesState mid (saved_state mid.seen b)
   pub any_moment : LeavesState old (saved_state image b) → LeavesSaved old mid (kept_of (saved_state image b))
 
-pub ready : (old mid : Disk) (b : Books) (was now : Option Unwritten) (k : ℕ) → IsKept old.sectors (mended old.seen was) b → b.size ≡ Some k → Keeps b.plan (frozen_generation b) (entries_of b.frozen) old was mid now → now ≡ None
+pub ready : (old mid : Disk) (b : Books) (was now : Option Unwritten) (k : ℕ) → IsKept old.sectors (mended old.seen was) b → b.size ≡ Some k →
+    Keeps b.plan (frozen_generation b) (entries_of b.frozen) old was mid now → now ≡ None
     → IsReady old (mended old.seen was) b k mid
 ready old mid b was now k kept running keeps none =
     let goes = goes_after old mid b was now k kept running keeps in
@@ -154,20 +161,25 @@ ready old mid b was now k kept running keeps none =
 
 -- ---- said of the header and the entries that are committed
 
-pub keeps_at : (b : Books) (old mid : Disk) (was now : Option Unwritten) (p : Plan) (h : CheckpointHeader) (es : List Entry) {age : ℕ} → p ≡ b.plan → h ≡ next_header age b → es ≡ entries_of b.frozen → Keeps p h.generation es old was mid now
+pub keeps_at : (b : Books) (old mid : Disk) (was now : Option Unwritten) (p : Plan) (h : CheckpointHeader) (es : List Entry) {age : ℕ} → p ≡ b.plan →
+    h ≡ next_header age b → es ≡ entries_of b.frozen → Keeps p h.generation es old was mid now
     → Keeps b.plan (frozen_generation b) (entries_of b.frozen) old was mid now
 keeps_at b old mid was now p h es plan header entries keeps =
     subst (λ (q : Plan). Keeps q (frozen_generation b) (entries_of b.frozen) old was mid now) plan
-    (subst (λ (x : CheckpointHeader). Keeps p x.generation (entries_of b.frozen) old was mid now) header (subst (λ (fs : List Entry). Keeps p h.generation fs old was mid now) entries keeps))
+    (subst (λ (x : CheckpointHeader). Keeps p x.generation (entries_of b.frozen) old was mid now) header
+    (subst (λ (fs : List Entry). Keeps p h.generation fs old was mid now) entries keeps))
 
-pub complete_at : (b : Books) (image : Image) (p : Plan) (h : CheckpointHeader) (es : List Entry) {age : ℕ} → p ≡ b.plan → h ≡ next_header age b → es ≡ entries_of b.frozen → AreComplete image p h.generation es
+pub complete_at : (b : Books) (image : Image) (p : Plan) (h : CheckpointHeader) (es : List Entry) {age : ℕ} → p ≡ b.plan → h ≡ next_header age b →
+    es ≡ entries_of b.frozen → AreComplete image p h.generation es
     → AreComplete image b.plan (frozen_generation b) (entries_of b.frozen)
 complete_at b image p h es plan header entries complete =
     subst (λ (q : Plan). AreComplete image q (frozen_generation b) (entries_of b.frozen)) plan
-    (subst (λ (x : CheckpointHeader). AreComplete image p x.generation (entries_of b.frozen)) header (subst (λ (fs : List Entry). AreComplete image p h.generation fs) entries complete))
+    (subst (λ (x : CheckpointHeader). AreComplete image p x.generation (entries_of b.frozen)) header
+    (subst (λ (fs : List Entry). AreComplete image p h.generation fs) entries complete))
 
 -- what is to be saved may be
-pub keepable_at : (age : ℕ) (old : Disk) (image : Image) (b : Books) (k : ℕ) (mid : Disk) → IsReady old image b k mid → AreKeepable b.plan.geometry age (next_saved puts age (frozen_of image b k) (stored_in image b).saved).frames
+pub keepable_at : (age : ℕ) (old : Disk) (image : Image) (b : Books) (k : ℕ) (mid : Disk) → IsReady old image b k mid →
+    AreKeepable b.plan.geometry age (next_saved puts age (frozen_of image b k) (stored_in image b).saved).frames
     → AreKeepable b.plan.geometry age (next_saved puts age (frozen_of mid.seen b k) (stored_in mid.seen b).saved).frames
 keepable_at age old image b k mid is keepable =
     subst (λ (s : Stored). AreKeepable b.plan.geometry age (next_saved puts age (frozen_of mid.seen b k) s.saved).frames) (sym is.stored)

@@ -1,29 +1,33 @@
 -- Frames that are spelt are read, and never refused.
 use Rattle.migrator.proofs.Names.{ℕ, Option, Some, None, Result, Ok, Err, List, refl, sym, ap, subst, arith, option_map, IfOk, frame_at, count_of, Plan, Place}
 use Rattle.migrator.proofs.Names.{Whole, place_at, slot_of, Put, put_or, put_of, ArePut, Frame, Geometry, Image, Disk, Failed, Agrees, Counts, agrees_is}
-use Rattle.migrator.proofs.Names.{leaves_weaker, IsFrameOf, Encodes, one_frame, ReadsOnly, CountsFailed, IsRefused, ReadFault, Holds, Books, DurableState}
+use Rattle.migrator.proofs.Names.{leaves_weaker, IsFrameOf, Encodes, one_frame, ReadsOnly, CountsFailed, IsRefused, Unreadable, Holds, Books, DurableState}
 use Rattle.migrator.proofs.Names.{frozen_generation, working_generation, below_at, frozen_put, frozen_of, newest, IsRunning, stored_in, saved_state}
 use Rattle.migrator.proofs.Names.{LeavesState, IsKept, ReadsStore, Unwritten}
 use Rattle.std.proofs.Common.{◌≡◌, ◌<◌, ◌∙◌}
 use Rattle.migrator.proofs.Putting.{put_is}
-use Rattle.frame_io.specs.declared.fault.ReadFault.TheVariants as fault
+use Rattle.frame_io.specs.declared.fault.Unreadable.TheVariants as fault
 use Rattle.migrator.proofs.GoingOn.{GoesOnSeen, goes_seen, holds}
 use Rattle.migrator.proofs.Mended.{mended_disk, reads_mended}
 
 -- of bytes that are a function of an image
-pub read_is : (g : Geometry) (age n : ℕ) (bytes : Image → List ℕ) (old mid : Image) (f read : Frame) → Agrees mid old → IsFrameOf g age n (bytes old) f → IsFrameOf g age n (bytes mid) read → read ≡ f
+pub read_is : (g : Geometry) (age n : ℕ) (bytes : Image → List ℕ) (old mid : Image) (f read : Frame) → Agrees mid old → IsFrameOf g age n (bytes old) f →
+    IsFrameOf g age n (bytes mid) read → read ≡ f
 read_is g age n bytes old mid f read same is found =
     one_frame g age n (bytes old) read f (subst (λ (i : Image). IsFrameOf g age n (bytes i) read) (agrees_is mid old same) found) is
 
-pub only_failed : (g : Geometry) (age n : ℕ) (bytes : Image → List ℕ) (old mid : Image) (f : Frame) → Agrees mid old → IsFrameOf g age n (bytes old) f → (e : ReadFault) → IsRefused g age n (bytes mid) e → e ≡ fault.Failed
+pub only_failed : (g : Geometry) (age n : ℕ) (bytes : Image → List ℕ) (old mid : Image) (f : Frame) → Agrees mid old → IsFrameOf g age n (bytes old) f →
+    (e : Unreadable) → IsRefused g age n (bytes mid) e → e ≡ fault.Failed
 only_failed g age n bytes old mid f same is fault.Failed refused = refl
-only_failed g age n bytes old mid f same is (fault.Bad reason) refused = absurd (refused.1 f (subst (λ (i : Image). IsFrameOf g age n (bytes i) f) (sym (agrees_is mid old same)) is))
+only_failed g age n bytes old mid f same is (fault.Bad reason) refused = absurd
+    (refused.1 f (subst (λ (i : Image). IsFrameOf g age n (bytes i) f) (sym (agrees_is mid old same)) is))
 
 -- and where such a failure is passed on, it is reported exactly where the device failed
-pub failure_counts : {T U : Type 0} (old new : Disk) (e : ReadFault) (failed : Failed) → e ≡ fault.Failed → CountsFailed {T = T} old new (Err e) → Counts {T = U} {E = Failed} old new (Err failed)
+pub failure_counts : {T U : Type 0} (old new : Disk) (e : Unreadable) (failed : Failed) → e ≡ fault.Failed → CountsFailed {T = T} old new (Err e) →
+    Counts {T = U} {E = Failed} old new (Err failed)
 failure_counts {T} {U} old new e failed is counts = record {
   never_falls = counts.never_falls;
-  cause = ((λ _. counts.cause.0 (ap (λ (x : ReadFault). Err x) is)), (λ rose. refl));
+  cause = ((λ _. counts.cause.0 (ap (λ (x : Unreadable). Err x) is)), (λ rose. refl));
 }
 
 module _ (old new : Disk) (b : Books) (reads : ReadsOnly old new) where
@@ -40,18 +44,22 @@ module _ (old new : Disk) (b : Books) (reads : ReadsOnly old new) where
   fetched_goes_on = record {
     plan = refl;
     size = reads.size;
-    sound = λ sound. subst (λ (i : Image). LeavesState new (saved_state i b)) (sym seen) (λ x may. subst (λ (k : ℕ). Encodes x k (saved_state old.seen b)) (sym reads.size) (sound x (reads.crash x may)));
-    any_moment = λ sound. leaves_weaker {old = old} {new = new} {P = old.may_leave} (λ x. Holds old.sectors x (stored_in old.seen b).saved) (λ x left. holds old.sectors x (saved_state old.seen b) (sound x left)) reads.any_moment;
+    sound = λ sound. subst (λ (i : Image). LeavesState new (saved_state i b)) (sym seen)
+        (λ x may. subst (λ (k : ℕ). Encodes x k (saved_state old.seen b)) (sym reads.size) (sound x (reads.crash x may)));
+    any_moment = λ sound. leaves_weaker {old = old} {new = new} {P = old.may_leave} (λ x. Holds old.sectors x (stored_in old.seen b).saved)
+        (λ x left. holds old.sectors x (saved_state old.seen b) (sound x left)) reads.any_moment;
   }
 
-pub reads_store : {D : Type 0} (disk : D → Disk) (old : DurableState D) (back : D) → ReadsOnly (disk old.beneath) (disk back) → ReadsStore disk old (record { beneath = back; books = old.books })
+pub reads_store : {D : Type 0} (disk : D → Disk) (old : DurableState D) (back : D) → ReadsOnly (disk old.beneath) (disk back) →
+    ReadsStore disk old (record { beneath = back; books = old.books })
 reads_store disk old back reads =
     let o : Option Unwritten = old.books.unwritten in
     let seen = reads_mended (disk old.beneath) (disk back) o reads in
     record {
       books = refl;
       stored = fetched_stored (mended_disk (disk old.beneath) o) (mended_disk (disk back) o) old.books seen;
-      goes_on = goes_seen (disk old.beneath) (disk back) old.books old.books (fetched_goes_on (mended_disk (disk old.beneath) o) (mended_disk (disk back) o) old.books seen);
+      goes_on = goes_seen (disk old.beneath) (disk back) old.books old.books
+          (fetched_goes_on (mended_disk (disk old.beneath) o) (mended_disk (disk back) o) old.books seen);
       seen = reads.seen;
       crash = reads.crash;
       any_moment = reads.any_moment;
@@ -62,7 +70,8 @@ ok_weaker (Ok x) f p = f x p
 ok_weaker (Err e) f p = tt
 
 -- the slot of a whole place is one of the log
-pub whole_low : (image : Image) (p : Plan) (generation : ℕ) (ps : List Place) (n s : ℕ) (place : Place) → ArePut image p generation ps → place ≡ place_at ps n → place ≡ Whole s → s < p.geometry.log
+pub whole_low : (image : Image) (p : Plan) (generation : ℕ) (ps : List Place) (n s : ℕ) (place : Place) → ArePut image p generation ps → place ≡ place_at ps n →
+    place ≡ Whole s → s < p.geometry.log
 whole_low image p generation ps n s place are at is = let less = are.table.few n s (ap slot_of (sym at ∙ is)) in omega (arith, less, are.few)
 
 frozen_is : (image : Image) (b : Books) (o : Option ℕ) (n : ℕ) → n < count_of b.plan → IsRunning b o

@@ -16,7 +16,11 @@ use Rattle.migrator.proofs.Adopting.{with_header, idle_books, kept_raw, may_adop
 use Rattle.migrator.proofs.Buffered.{none_idle}
 
 no_directory : (p : Plan) → IsDirectory p.geometry []
-no_directory p = record { each = λ i d lt. absurd (omega (arith, lt)); rising = λ i lt. absurd (omega (arith, lt)); apart = λ i j lt within. absurd (omega (arith, within)) }
+no_directory p = record {
+  each = λ i d lt. absurd (omega (arith, lt));
+  rising = λ i lt. absurd (omega (arith, lt));
+  apart = λ i j lt within. absurd (omega (arith, within));
+}
 
 home_fits : (room : ℕ) (h : CheckpointHeader) → IsHeader room h → 0 < h.entries → IsHeader room (home_header h)
 home_fits room h is some =
@@ -43,7 +47,8 @@ module _ (disk : Disk) (b : Books) (is : IsDurable disk b) (some : 0 < b.header.
   -- an object's home frame is its saved frame
   same_frame : (n : ℕ) → n < count_of b.plan → frame_in disk.seen b.plan b.header.generation [] n ≡ frame_in disk.seen b.plan b.header.generation b.directory n
   same_frame n lt = by (frame_slot_in b.plan b.directory n) refl where
-    by : (o : Option ℕ) → frame_slot_in b.plan b.directory n ≡ o → frame_in disk.seen b.plan b.header.generation [] n ≡ frame_in disk.seen b.plan b.header.generation b.directory n
+    by : (o : Option ℕ) → frame_slot_in b.plan b.directory n ≡ o → frame_in disk.seen b.plan b.header.generation [] n ≡ frame_in disk.seen b.plan
+        b.header.generation b.directory n
     by None is = at_home disk.seen b.plan b.header.generation [] n refl ∙ sym (at_home disk.seen b.plan b.header.generation b.directory n is)
     by (Some s) is =
         let entry = frame_slot_entry b.plan b.directory n s is in
@@ -53,17 +58,20 @@ module _ (disk : Disk) (b : Books) (is : IsDurable disk b) (some : 0 < b.header.
   frames_home = read_same disk.seen disk.seen b.plan b.header.generation b.header.generation [] b.directory (λ n lt. same_frame n lt)
 
   spelt_home : AreSpelt disk.seen b.plan b.header.age b.header.generation []
-  spelt_home n lt = spelt_same disk.seen disk.seen b.plan b.header.age b.header.generation b.header.generation [] b.directory n (same_frame n lt) (kept.saved n lt)
+  spelt_home n lt = spelt_same disk.seen disk.seen b.plan b.header.age b.header.generation b.header.generation [] b.directory n (same_frame n lt)
+      (kept.saved n lt)
 
   spares_homes : (n : ℕ) → n < count_of b.plan → IsApart (home_extent b.plan n) extent
   spares_homes n lt = home_apart b.plan b.header.generation n extent kept.plan lt inside_half
 
   spares : Spares b.plan b.header b.directory extent
   spares = record {
-    headers = (within_inside b.plan.total extent (half_extent b.plan.geometry (half_sector b.plan b.header.generation)) inside_half (half_within b.plan b.header.generation kept.plan)).0;
+    headers = (within_inside b.plan.total extent (half_extent b.plan.geometry (half_sector b.plan b.header.generation)) inside_half
+        (half_within b.plan b.header.generation kept.plan)).0;
     directory = inr (inr (omega arith));
     frames = λ n lt. frame_apart b.plan b.header.generation b.directory n extent
-        (λ s is. slots_apart_directory b.plan b.header.generation s 0 n (frame_slot_fits b.plan b.directory n s kept.directory is) (omega arith)) (λ _. spares_homes n lt);
+        (λ s is. slots_apart_directory b.plan b.header.generation s 0 n (frame_slot_fits b.plan b.directory n s kept.directory is) (omega arith))
+        (λ _. spares_homes n lt);
   }
 
   spares_then : SparesFrames b.plan b.header.generation [] extent
@@ -88,7 +96,8 @@ module _ (disk : Disk) (b : Books) (is : IsDurable disk b) (some : 0 < b.header.
   next_half same = other_parity b.header.generation (sym (sym (ap (λ (o : Option ℕ). generation_after b.header.generation o % 2) none) ∙ same))
 
   working_spares : SparesPuts b.plan (working_generation b) b.working extent
-  working_spares = half_spares b.plan (working_generation b) b.header.generation b.working extent kept.plan next_half kept.working.table kept.working.few inside_half
+  working_spares = half_spares b.plan (working_generation b) b.header.generation b.working extent kept.plan next_half kept.working.table kept.working.few
+      inside_half
 
   spares_now : SparesKept b extent
   spares_now = record {
@@ -126,7 +135,12 @@ module _ (disk : Disk) (b : Books) (is : IsDurable disk b) (some : 0 < b.header.
   }
 
   abbrev stored_as : List Frame → ℕ → Stored
-  stored_as frames to_move = record (stored_in disk.seen b) { saved = record { geometry = b.plan.geometry; frames = frames; generation = b.header.generation; entries = 0; age = b.header.age }; to_move = to_move }
+  stored_as frames to_move = record
+      (stored_in disk.seen b) {
+        saved =
+            record { geometry = b.plan.geometry; frames = frames; generation = b.header.generation; entries = 0; age = b.header.age };
+        to_move = to_move;
+      }
 
   home_stored : stored_in disk.seen (with_header b (home_header b.header) []) ≡ on_snapshots all_moved (stored_in disk.seen b)
   home_stored =
@@ -135,9 +149,11 @@ module _ (disk : Disk) (b : Books) (is : IsDurable disk b) (some : 0 < b.header.
 
   pub may_finish : IsSoundOn disk b → MayAdopt disk b (home_header b.header) []
   may_finish sound =
-      may_adopt_idle disk b (home_header b.header) [] is none (may_save (sound_raw disk b (none_idle b b.unwritten is.unwritten none) sound)) home_kept spares_now spares_home_books
+      may_adopt_idle disk b (home_header b.header) [] is none (may_save (sound_raw disk b (none_idle b b.unwritten is.unwritten none) sound)) home_kept
+      spares_now spares_home_books
 
   pub finished_stored : stored_on disk (adopted (home_header b.header) [] b) ≡ on_snapshots all_moved (stored_on disk b)
   finished_stored =
       ap (stored_on disk) (sym (idle_books disk b (home_header b.header) [] is none))
-      ∙ subst (λ (o : Option Unwritten). stored_in (mended disk.seen o) (with_header b (home_header b.header) []) ≡ on_snapshots all_moved (stored_in (mended disk.seen o) b)) (sym (none_idle b b.unwritten is.unwritten none)) home_stored
+      ∙ subst (λ (o : Option Unwritten). stored_in (mended disk.seen o) (with_header b (home_header b.header) []) ≡ on_snapshots all_moved
+      (stored_in (mended disk.seen o) b)) (sym (none_idle b b.unwritten is.unwritten none)) home_stored

@@ -20,7 +20,8 @@ none_put image p generation ps blank = record {
 abbrev pub first_books : Plan → CheckpointHeader → List Entry → List Place → List Place → Books
 first_books p h es fs ws = record { plan = p; header = h; directory = take h.entries es; moved = 0; frozen = fs; size = None; working = ws; unwritten = None }
 
-module _ (old new : Disk) (p : Plan) (h : CheckpointHeader) (es : List Entry) (fs ws : List Place) (only_reads : OnlyReads old new) (plan : HasPlan old.seen old.sectors p) (read : IsRead old.seen p h es)
+module _ (old new : Disk) (p : Plan) (h : CheckpointHeader) (es : List Entry) (fs ws : List Place) (only_reads : OnlyReads old new)
+    (plan : HasPlan old.seen old.sectors p) (read : IsRead old.seen p h es)
     (frozen : fs ≡ replicate (count_of p) Nowhere) (working : ws ≡ replicate (count_of p) Nowhere) where
   same : old.seen ≡ new.seen
   same = sym (agrees_is new.seen old.seen only_reads.seen)
@@ -57,9 +58,11 @@ module _ (old new : Disk) (p : Plan) (h : CheckpointHeader) (es : List Entry) (f
   first_holds : Holds old.sectors old.seen (stored_in new.seen (first_books p h es fs ws)).saved
   first_holds = holds old.sectors old.seen (saved_state new.seen (first_books p h es fs ws)) first_state
 
-  first_working : (stored_in new.seen (first_books p h es fs ws)).working ≡ replicate (length (stored_in new.seen (first_books p h es fs ws)).saved.frames) Absent
+  first_working : (stored_in new.seen (first_books p h es fs ws)).working ≡ replicate (length (stored_in new.seen (first_books p h es fs ws)).saved.frames)
+      Absent
   first_working =
-      puts_blank new.seen p (h.generation + 1) (length (frames_read new.seen p h.generation (take h.entries es))) ws (λ n. ap (λ (qs : List Place). place_at qs n) working ∙ blank_at (count_of p) n)
+      puts_blank new.seen p (h.generation + 1) (length (frames_read new.seen p h.generation (take h.entries es))) ws
+      (λ n. ap (λ (qs : List Place). place_at qs n) working ∙ blank_at (count_of p) n)
       (length_read new.seen p h.generation (take h.entries es))
 
   -- the frames that were read are those of the store
@@ -70,8 +73,10 @@ module _ (old new : Disk) (p : Plan) (h : CheckpointHeader) (es : List Entry) (f
   first_durable = record { kept = first_kept; unwritten = tt }
 
 -- so a store is opened
-pub first_opens : {D : Type 0} (disk : D → Disk) (device back : D) (p : Plan) (h : CheckpointHeader) (es : List Entry) (fs ws : List Place) → OnlyReads (disk device) (disk back) → HasPlan (disk device).seen (disk device).sectors p
-    → IsRead (disk device).seen p h es → fs ≡ replicate (count_of p) Nowhere → ws ≡ replicate (count_of p) Nowhere → Only (disk back).seen (disk back) → (disk back).failures ≡ (disk device).failures
+pub first_opens : {D : Type 0} (disk : D → Disk) (device back : D) (p : Plan) (h : CheckpointHeader) (es : List Entry) (fs ws : List Place) →
+    OnlyReads (disk device) (disk back) → HasPlan (disk device).seen (disk device).sectors p
+    → IsRead (disk device).seen p h es → fs ≡ replicate (count_of p) Nowhere → ws ≡ replicate (count_of p) Nowhere → Only (disk back).seen (disk back) →
+    (disk back).failures ≡ (disk device).failures
     → OpensDurable disk device (record { beneath = back; books = first_books p h es fs ws })
 first_opens disk device back p h es fs ws only_reads plan read frozen working only failures = record {
   sound = first_sound (disk device) (disk back) p h es fs ws only_reads plan read frozen working only;

@@ -9,15 +9,18 @@ use Rattle.std.specs.Prelude.{if◌then◌else◌}
 
 -- ---- the first entry whose home is that of an object
 
-pub none_beside : (p : Plan) (es : List Entry) (n : ℕ) → ((i : ℕ) → i < length es → home_place p (entry_at es i).object ≡ home_place p n → ⊥) → slot_beside p es n ≡ None
+pub none_beside : (p : Plan) (es : List Entry) (n : ℕ) → ((i : ℕ) → i < length es → home_place p (entry_at es i).object ≡ home_place p n → ⊥) →
+    slot_beside p es n ≡ None
 none_beside p [] n none = refl
 none_beside p (e ∷ es) n none = beside_behind p e es n (none 0 (omega arith)) ∙ none_beside p es n (λ i lt. none (suc i) (omega (arith, lt)))
 
-pub beside_at : (p : Plan) (es : List Entry) (n i : ℕ) → i < length es → ((j : ℕ) → j < i → home_place p (entry_at es j).object ≡ home_place p n → ⊥) → home_place p (entry_at es i).object ≡ home_place p n
+pub beside_at : (p : Plan) (es : List Entry) (n i : ℕ) → i < length es → ((j : ℕ) → j < i → home_place p (entry_at es j).object ≡ home_place p n → ⊥) →
+    home_place p (entry_at es i).object ≡ home_place p n
     → slot_beside p es n ≡ Some (entry_at es i).slot
 beside_at p [] n i lt before is = absurd (omega (arith, lt))
 beside_at p (e ∷ es) n zero lt before is = beside_here p e es n is
-beside_at p (e ∷ es) n (suc i) lt before is = beside_behind p e es n (before 0 (omega arith)) ∙ beside_at p es n i (omega (arith, lt)) (λ j less. before (suc j) (omega (arith, less))) is
+beside_at p (e ∷ es) n (suc i) lt before is = beside_behind p e es n (before 0 (omega arith)) ∙
+    beside_at p es n i (omega (arith, lt)) (λ j less. before (suc j) (omega (arith, less))) is
 
 -- which is the first of its home
 pub record HasFirst (p : Plan) (es : List Entry) (n slot : ℕ) : Type 0 where
@@ -30,12 +33,25 @@ pub record HasFirst (p : Plan) (es : List Entry) (n slot : ℕ) : Type 0 where
 pub found_first : (p : Plan) (es : List Entry) (n s : ℕ) → slot_beside p es n ≡ Some s → HasFirst p es n s
 found_first p [] n s is = absurd cc
 found_first p (e ∷ es) n s is = elim (cases_eq (home_place p e.object) (home_place p n)) [
-  | inl same ↦ record { index = 0; within = omega arith; home_is = same; slot_is = same_some e.slot s (sym (beside_here p e es n same) ∙ is); before = λ j lt. absurd (omega (arith, lt)) }
+  | inl same ↦ record {
+    index = 0;
+    within = omega arith;
+    home_is = same;
+    slot_is = same_some e.slot s (sym (beside_here p e es n same) ∙ is);
+    before = λ j lt. absurd (omega (arith, lt));
+  }
   | inr other ↦
       let rest = found_first p es n s (sym (beside_behind p e es n other) ∙ is) in
-      record { index = suc rest.index; within = omega (arith, rest.within); home_is = rest.home_is; slot_is = rest.slot_is; before = behind e es rest.index other rest.before }
+      record {
+        index = suc rest.index;
+        within = omega (arith, rest.within);
+        home_is = rest.home_is;
+        slot_is = rest.slot_is;
+        before = behind e es rest.index other rest.before;
+      }
 ] where
-  behind : (e : Entry) (es : List Entry) (k : ℕ) → (home_place p e.object ≡ home_place p n → ⊥) → ((j : ℕ) → j < k → home_place p (entry_at es j).object ≡ home_place p n → ⊥)
+  behind : (e : Entry) (es : List Entry) (k : ℕ) → (home_place p e.object ≡ home_place p n → ⊥) →
+      ((j : ℕ) → j < k → home_place p (entry_at es j).object ≡ home_place p n → ⊥)
       → (j : ℕ) → j < suc k → home_place p (entry_at (e ∷ es) j).object ≡ home_place p n → ⊥
   behind e es k other before zero lt same = other same
   behind e es k other before (suc j) lt same = before j (omega (arith, lt)) same
@@ -50,7 +66,8 @@ some_beside p (e ∷ es) n (suc i) lt is none = elim (cases_eq (home_place p e.o
 ]
 
 -- an object whose frame isn't packed has no slot but its own
-pub alone_beside : (p : Plan) (es : List Entry) (n : ℕ) → IsPlan p → IsDirectory p.geometry es → n < count_of p → IsOwn (shape_of p n) → slot_in es n ≡ None → slot_beside p es n ≡ None
+pub alone_beside : (p : Plan) (es : List Entry) (n : ℕ) → IsPlan p → IsDirectory p.geometry es → n < count_of p → IsOwn (shape_of p n) → slot_in es n ≡ None →
+    slot_beside p es n ≡ None
 alone_beside p es n fits is lt own none = none_beside p es n (λ i within same.
     let object = (is.each i (record { object = 0; slot = 0 }) within).object in
     let one : (entry_at es i).object ≡ n = alone p (entry_at es i).object n fits object lt own same in
@@ -59,7 +76,8 @@ alone_beside p es n fits is lt own none = none_beside p es n (λ i within same.
 
 -- as that of a page isn't
 pub page_own : (p : Plan) (n : ℕ) → p.geometry.nodes ≤ n → IsOwn (shape_of p n)
-page_own p n le = subst IsOwn (sym (ap (λ (test : Bool). if test then node_shape p.version (rank_in (range_with p.ranges n) n) else Page) (lt_false n p.geometry.nodes le))) tt
+page_own p n le = subst IsOwn
+    (sym (ap (λ (test : Bool). if test then node_shape p.version (rank_in (range_with p.ranges n) n) else Page) (lt_false n p.geometry.nodes le))) tt
 
 -- where there are no entries there is none
 pub no_entries : (p : Plan) (es : List Entry) (n : ℕ) → length es ≡ 0 → frame_slot_in p es n ≡ None
@@ -94,18 +112,22 @@ pub not_same : (a b : ℕ) → not (nat_eq a b) ≡ true → a ≡ b → ⊥
 not_same a b differs same = let never : false ≡ true = ap not (sym (eq-eqb a b same)) ∙ differs in cc
 
 -- is the one behind an entry of another home
-pub first_of : (p : Plan) (es : List Entry) (i : ℕ) → IsPlan p → IsDirectory p.geometry es → i < length es → (0 < i → home_place p (entry_at es (i - 1)).object ≡ home_place p (entry_at es i).object → ⊥) → IsFirst p es i
+pub first_of : (p : Plan) (es : List Entry) (i : ℕ) → IsPlan p → IsDirectory p.geometry es → i < length es →
+    (0 < i → home_place p (entry_at es (i - 1)).object ≡ home_place p (entry_at es i).object → ⊥) → IsFirst p es i
 first_of p es i fits is within other j less same =
     let last : i - 1 < length es = omega (arith, within) in
     let before : j < length es = omega (arith, less, within) in
     let low : (entry_at es j).object ≤ (entry_at es (i - 1)).object = not_above es j (i - 1) is.rising (omega (arith, less)) last in
     let high : (entry_at es (i - 1)).object ≤ (entry_at es i).object = not_above es (i - 1) i is.rising (omega arith) within in
     let object : (k : ℕ) → k < length es → (entry_at es k).object < count_of p = λ k lt. (is.each k (record { object = 0; slot = 0 }) lt).object in
-    other (omega (arith, less)) (home_between p (entry_at es i).object (entry_at es (i - 1)).object (entry_at es j).object fits (object i within) (object j before) low high (sym same) ∙ same)
+    other (omega (arith, less))
+    (home_between p (entry_at es i).object (entry_at es (i - 1)).object (entry_at es j).object fits (object i within) (object j before) low high (sym same)
+    ∙ same)
 
 -- ---- the search from the first number of a cluster on
 
-module _ (p : Plan) (es : List Entry) (n rank at : ℕ) (fits : IsPlan p) (is : IsDirectory p.geometry es) (lt : n < count_of p) (shape : shape_of p n ≡ Packed rank)
+module _ (p : Plan) (es : List Entry) (n rank at : ℕ) (fits : IsPlan p) (is : IsDirectory p.geometry es) (lt : n < count_of p)
+    (shape : shape_of p n ≡ Packed rank)
     (below : (i : ℕ) → i < at → (entry_at es i).object < n - rank) (from : (i : ℕ) → at ≤ i → i < length es → n - rank ≤ (entry_at es i).object) where
   object : (i : ℕ) → i < length es → (entry_at es i).object < count_of p
   object i within = (is.each i (record { object = 0; slot = 0 }) within).object

@@ -11,14 +11,17 @@ unfolding puts_in
 length_puts image p generation ps = length-map-range_with_len (λ n. put_of image p generation n (place_at ps n)) 0 (count_of p)
 
 -- where nothing has a place nothing was put
-pub puts_blank : (image : Image) (p : Plan) (generation m : ℕ) (ps : List Place) → ((n : ℕ) → place_at ps n ≡ Nowhere) → m ≡ count_of p → puts_in image p generation ps ≡ replicate m Absent
+pub puts_blank : (image : Image) (p : Plan) (generation m : ℕ) (ps : List Place) → ((n : ℕ) → place_at ps n ≡ Nowhere) → m ≡ count_of p →
+    puts_in image p generation ps ≡ replicate m Absent
 unfolding puts_in
 puts_blank image p generation m ps none size =
     let f : ℕ → Put = λ n. put_of image p generation n (place_at ps n) in
-    same_lists (map f (range_with_len 0 (count_of p))) (replicate m Absent) (length-map-range_with_len f 0 (count_of p) ∙ sym size ∙ sym (length-replicate {A = Put} m Absent))
+    same_lists (map f (range_with_len 0 (count_of p))) (replicate m Absent)
+    (length-map-range_with_len f 0 (count_of p) ∙ sym size ∙ sym (length-replicate {A = Put} m Absent))
     (λ n d lt.
     let few : n < count_of p = omega (arith, lt, length-map-range_with_len f 0 (count_of p)) in
-    get_or-map-range_with_len f 0 (count_of p) n n d few (omega arith) ∙ ap (put_of image p generation n) (none n) ∙ sym (get_or-replicate m n Absent d (omega (arith, few, size))))
+    get_or-map-range_with_len f 0 (count_of p) n n d few (omega arith) ∙ ap (put_of image p generation n) (none n) ∙
+    sym (get_or-replicate m n Absent d (omega (arith, few, size))))
 
 pub blank_put : (image : Image) (p : Plan) (a b : ℕ) (ps : List Place) → ArePut image p a ps → ((n : ℕ) → place_at ps n ≡ Nowhere) → ArePut image p b ps
 blank_put image p a b ps are none = record {
@@ -38,7 +41,8 @@ module _ (size : ℕ) (image : Image) (b : Books) (k : ℕ) (none : b.size ≡ N
   blank : (n : ℕ) → place_at b.frozen n ≡ Nowhere
   blank = subst (IsRunning b) none kept.running
 
-  pub freeze_kept : b.header.entries ≡ 0 → sum_of held_slot (puts_in image b.plan (working_generation b) b.working) ≤ k → k ≤ b.plan.geometry.log → IsKept size image (frozen_books b k)
+  pub freeze_kept : b.header.entries ≡ 0 → sum_of held_slot (puts_in image b.plan (working_generation b) b.working) ≤ k → k ≤ b.plan.geometry.log →
+      IsKept size image (frozen_books b k)
   freeze_kept home enough few = record {
     plan = kept.plan;
     inside = kept.inside;
@@ -59,5 +63,7 @@ module _ (size : ℕ) (image : Image) (b : Books) (k : ℕ) (none : b.size ≡ N
   pub freeze_stored : stored_in image (frozen_books b k) ≡ freezing_puts k (stored_in image b)
   freeze_stored =
       ap (λ (puts : List Put). stored_of puts (puts_in image b.plan (frozen_generation b) b.working))
-      (puts_blank image b.plan (b.header.generation + 1 + 1) (length (puts_in image b.plan (working_generation b) b.working)) b.frozen blank (length_puts image b.plan (working_generation b) b.working))
-      ∙ ap (λ (g : ℕ). stored_of (replicate (length (puts_in image b.plan (working_generation b) b.working)) Absent) (puts_in image b.plan g b.working)) (sym generation)
+      (puts_blank image b.plan (b.header.generation + 1 + 1) (length (puts_in image b.plan (working_generation b) b.working)) b.frozen blank
+      (length_puts image b.plan (working_generation b) b.working))
+      ∙ ap (λ (g : ℕ). stored_of (replicate (length (puts_in image b.plan (working_generation b) b.working)) Absent) (puts_in image b.plan g b.working))
+      (sym generation)

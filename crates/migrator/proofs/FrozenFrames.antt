@@ -14,7 +14,8 @@ use Rattle.migrator.proofs.Putting.{torn_put, puts_set, slots_spare, half_spares
 abbrev pub with_places : Books → List Place → Books
 with_places b ps = record b { frozen = ps }
 
-pub kept_frozen : (size : ℕ) (image : Image) (b : Books) (ps : List Place) (k : ℕ) → b.size ≡ Some k → IsKept size image b → ArePut image b.plan (frozen_generation b) ps → taken_count ps ≤ k → IsKept size image (with_places b ps)
+pub kept_frozen : (size : ℕ) (image : Image) (b : Books) (ps : List Place) (k : ℕ) → b.size ≡ Some k → IsKept size image b →
+    ArePut image b.plan (frozen_generation b) ps → taken_count ps ≤ k → IsKept size image (with_places b ps)
 kept_frozen size image b ps k is kept are few = record {
   plan = kept.plan;
   inside = kept.inside;
@@ -34,13 +35,15 @@ kept_frozen size image b ps k is kept are few = record {
 abbrev frozen_with : List Put → ℕ → FrozenPuts
 frozen_with puts size = record { put = puts; size = size }
 
-put_by : (image : Image) (b : Books) (o : Option ℕ) (ps : List Place) (n : ℕ) (x : Put) → puts_in image b.plan (frozen_generation b) ps ≡ set (puts_in image b.plan (frozen_generation b) b.frozen) n x
+put_by : (image : Image) (b : Books) (o : Option ℕ) (ps : List Place) (n : ℕ) (x : Put) →
+    puts_in image b.plan (frozen_generation b) ps ≡ set (puts_in image b.plan (frozen_generation b) b.frozen) n x
     → option_map (frozen_of image (with_places b ps)) o ≡ option_map (with_put n x) (option_map (frozen_of image b) o)
 put_by image b None ps n x same = refl
 put_by image b (Some k) ps n x same = ap (λ (puts : List Put). Some (frozen_with puts k)) same
 
 -- what was put of one object is all that differs
-stored_put : (image : Image) (b : Books) (ps : List Place) (n : ℕ) (x : Put) → puts_in image b.plan (frozen_generation b) ps ≡ set (puts_in image b.plan (frozen_generation b) b.frozen) n x
+stored_put : (image : Image) (b : Books) (ps : List Place) (n : ℕ) (x : Put) →
+    puts_in image b.plan (frozen_generation b) ps ≡ set (puts_in image b.plan (frozen_generation b) b.frozen) n x
     → stored_in image (with_places b ps) ≡ with_frozen n x (stored_in image b)
 stored_put image b ps n x same = ap (λ (f : Option FrozenPuts). record (stored_in image b) { frozen = f }) (put_by image b b.size ps n x same)
 
@@ -52,7 +55,8 @@ pub put_twice : (s : Stored) (n : ℕ) (x y : Put) → with_frozen n y (with_fro
 put_twice s n x y = ap (λ (f : Option FrozenPuts). record s { frozen = f }) (twice_by s.frozen n x y)
 
 -- what was put of an object is given up
-module _ (size : ℕ) (image : Image) (b : Books) (n : ℕ) (kept : IsKept size image b) (lt : n < count_of b.plan) (k : ℕ) (size_is : b.size ≡ Some k) (low : slot_for b.frozen n < k) where
+module _ (size : ℕ) (image : Image) (b : Books) (n : ℕ) (kept : IsKept size image b) (lt : n < count_of b.plan) (k : ℕ) (size_is : b.size ≡ Some k)
+    (low : slot_for b.frozen n < k) where
   was : IsRunning b (Some k)
   was = subst (IsRunning b) size_is kept.running
 
@@ -60,14 +64,17 @@ module _ (size : ℕ) (image : Image) (b : Books) (n : ℕ) (kept : IsKept size 
   room = omega (arith, low, was.2)
 
   pub tear_kept : IsKept size image (with_places b (set b.frozen n (Torn (slot_for b.frozen n))))
-  tear_kept = kept_frozen size image b (set b.frozen n (Torn (slot_for b.frozen n))) k size_is kept (torn_put image b.plan (frozen_generation b) b.frozen n kept.frozen lt room)
+  tear_kept = kept_frozen size image b (set b.frozen n (Torn (slot_for b.frozen n))) k size_is kept
+      (torn_put image b.plan (frozen_generation b) b.frozen n kept.frozen lt room)
       (taken_set b.frozen n k (Torn (slot_for b.frozen n)) (omega (arith, lt, kept.frozen.count)) refl was.1 low)
 
   pub tear_stored : stored_in image (with_places b (set b.frozen n (Torn (slot_for b.frozen n)))) ≡ with_frozen n Broken (stored_in image b)
-  tear_stored = stored_put image b (set b.frozen n (Torn (slot_for b.frozen n))) n Broken (puts_set image b.plan (frozen_generation b) b.frozen n kept.frozen lt room (Torn (slot_for b.frozen n)))
+  tear_stored = stored_put image b (set b.frozen n (Torn (slot_for b.frozen n))) n Broken
+      (puts_set image b.plan (frozen_generation b) b.frozen n kept.frozen lt room (Torn (slot_for b.frozen n)))
 
 -- a frame is written into its slot
-module _ (old new : Disk) (b : Books) (n : ℕ) (f : Frame) (kept : IsKept old.sectors old.seen b) (lt : n < count_of b.plan) (k : ℕ) (size_is : b.size ≡ Some k) (low : slot_for b.frozen n < k)
+module _ (old new : Disk) (b : Books) (n : ℕ) (f : Frame) (kept : IsKept old.sectors old.seen b) (lt : n < count_of b.plan) (k : ℕ) (size_is : b.size ≡ Some k)
+    (low : slot_for b.frozen n < k)
     (writes : WritesAt (slot_sector b.plan (frozen_generation b) (slot_for b.frozen n)) (place_length b.plan n) old new) where
   running : IsRunning b (Some k)
   running = subst (IsRunning b) size_is kept.running
@@ -82,14 +89,16 @@ module _ (old new : Disk) (b : Books) (n : ℕ) (f : Frame) (kept : IsKept old.s
   in_list = omega (arith, lt, kept.frozen.count)
 
   spares : Spares b.plan b.header b.directory (place_extent b.plan (frozen_generation b) (slot_for b.frozen n) n)
-  spares = spares_other b.plan b.header b.directory (frozen_generation b) (place_extent b.plan (frozen_generation b) (slot_for b.frozen n) n) kept.plan kept.directory kept.header.entries (other_parity b.header.generation) inside
+  spares = spares_other b.plan b.header b.directory (frozen_generation b) (place_extent b.plan (frozen_generation b) (slot_for b.frozen n) n) kept.plan
+      kept.directory kept.header.entries (other_parity b.header.generation) inside
 
   torn_kept : IsKept old.sectors old.seen (with_places b (set b.frozen n (Torn (slot_for b.frozen n))))
   torn_kept = tear_kept old.sectors old.seen b n kept lt k size_is low
 
   later : working_generation b % 2 ≡ frozen_generation b % 2 → ⊥
   later same =
-      let both : (b.header.generation + 1 + 1) % 2 ≡ frozen_generation b % 2 = ap (λ (o : Option ℕ). generation_after b.header.generation o % 2) (sym size_is) ∙ same in
+      let both : (b.header.generation + 1 + 1) % 2 ≡ frozen_generation b % 2 = ap (λ (o : Option ℕ). generation_after b.header.generation o % 2) (sym size_is) ∙
+      same in
       other_parity (b.header.generation + 1) (sym both)
 
   torn_spares : SparesKept (with_places b (set b.frozen n (Torn (slot_for b.frozen n)))) (place_extent b.plan (frozen_generation b) (slot_for b.frozen n) n)
@@ -98,28 +107,34 @@ module _ (old new : Disk) (b : Books) (n : ℕ) (f : Frame) (kept : IsKept old.s
     homes = homes_spare old.sectors old.seen b (frozen_generation b) (place_extent b.plan (frozen_generation b) (slot_for b.frozen n) n) kept inside;
     frozen = slots_spare b.plan (frozen_generation b) b.frozen n kept.frozen.table in_list;
     working =
-        half_spares b.plan (working_generation b) (frozen_generation b) b.working (place_extent b.plan (frozen_generation b) (slot_for b.frozen n) n) kept.plan later kept.working.table kept.working.few inside;
+        half_spares b.plan (working_generation b) (frozen_generation b) b.working (place_extent b.plan (frozen_generation b) (slot_for b.frozen n) n) kept.plan
+        later kept.working.table kept.working.few inside;
   }
 
   stays_kept : IsKept new.sectors new.seen (with_places b (set b.frozen n (Torn (slot_for b.frozen n))))
   stays_kept =
       subst (λ (size : ℕ). IsKept size new.seen (with_places b (set b.frozen n (Torn (slot_for b.frozen n))))) (sym writes.size)
-      (kept_on old.sectors (with_places b (set b.frozen n (Torn (slot_for b.frozen n)))) (place_extent b.plan (frozen_generation b) (slot_for b.frozen n) n) old.seen new.seen torn_spares writes.elsewhere torn_kept)
+      (kept_on old.sectors (with_places b (set b.frozen n (Torn (slot_for b.frozen n)))) (place_extent b.plan (frozen_generation b) (slot_for b.frozen n) n)
+      old.seen new.seen torn_spares writes.elsewhere torn_kept)
 
   stays_stored : stored_in new.seen (with_places b (set b.frozen n (Torn (slot_for b.frozen n)))) ≡ with_frozen n Broken (stored_in old.seen b)
   stays_stored =
-      stored_stays old.sectors (with_places b (set b.frozen n (Torn (slot_for b.frozen n)))) (place_extent b.plan (frozen_generation b) (slot_for b.frozen n) n) old.seen new.seen torn_spares writes.elsewhere
+      stored_stays old.sectors (with_places b (set b.frozen n (Torn (slot_for b.frozen n)))) (place_extent b.plan (frozen_generation b) (slot_for b.frozen n) n)
+      old.seen new.seen torn_spares writes.elsewhere
       ∙ tear_stored old.sectors old.seen b n kept lt k size_is low
 
   -- the frame was written
-  module _ (keepable : IsKeepable b.plan.geometry most n f) (written : slot_bytes new.seen b.plan (frozen_generation b) (slot_for b.frozen n) n ≡ frame_bytes b.plan.geometry n f) where
-    spelt : IsFrameOf b.plan.geometry most n (slot_bytes new.seen b.plan (frozen_generation b) (slot_for b.frozen n) n) (slot_frame new.seen b.plan (frozen_generation b) (slot_for b.frozen n) n)
+  module _ (keepable : IsKeepable b.plan.geometry most n f)
+      (written : slot_bytes new.seen b.plan (frozen_generation b) (slot_for b.frozen n) n ≡ frame_bytes b.plan.geometry n f) where
+    spelt : IsFrameOf b.plan.geometry most n (slot_bytes new.seen b.plan (frozen_generation b) (slot_for b.frozen n) n)
+        (slot_frame new.seen b.plan (frozen_generation b) (slot_for b.frozen n) n)
         × (slot_frame new.seen b.plan (frozen_generation b) (slot_for b.frozen n) n ≡ f)
     spelt = bytes_spelt b.plan.geometry most n (slot_bytes new.seen b.plan (frozen_generation b) (slot_for b.frozen n) n) f keepable written
 
     put_kept : IsKept new.sectors new.seen (with_places b (set b.frozen n (Whole (slot_for b.frozen n))))
     put_kept =
-        kept_frozen new.sectors new.seen (with_places b (set b.frozen n (Torn (slot_for b.frozen n)))) (set b.frozen n (Whole (slot_for b.frozen n))) k size_is stays_kept
+        kept_frozen new.sectors new.seen (with_places b (set b.frozen n (Torn (slot_for b.frozen n)))) (set b.frozen n (Whole (slot_for b.frozen n))) k size_is
+        stays_kept
         (mended new.seen b.plan (frozen_generation b) b.frozen n (slot_for b.frozen n) stays_kept.frozen lt spelt.0)
         (taken_set b.frozen n k (Whole (slot_for b.frozen n)) in_list refl running.1 low)
 
@@ -137,7 +152,8 @@ module _ (old new : Disk) (b : Books) (n : ℕ) (f : Frame) (kept : IsKept old.s
   pub put_either : {T : Type 0} (r : Result T Failed) (ps : List Place) → IsKeepable b.plan.geometry most n f
       → OnOk r (ps ≡ set b.frozen n (Whole (slot_for b.frozen n))) → OnErr r (ps ≡ set b.frozen n (Torn (slot_for b.frozen n)))
       → OnOk r (slot_bytes new.seen b.plan (frozen_generation b) (slot_for b.frozen n) n ≡ frame_bytes b.plan.geometry n f)
-      → IsKept new.sectors new.seen (with_places b ps) × OnOk r (stored_in new.seen (with_places b ps) ≡ with_frozen n (Kept f) (stored_in old.seen b)) × OnErr r (stored_in new.seen (with_places b ps) ≡ with_frozen n Broken (stored_in old.seen b))
+      → IsKept new.sectors new.seen (with_places b ps) × OnOk r (stored_in new.seen (with_places b ps) ≡ with_frozen n (Kept f) (stored_in old.seen b)) × OnErr
+      r (stored_in new.seen (with_places b ps) ≡ with_frozen n Broken (stored_in old.seen b))
   put_either (Ok u) ps keepable ok err written = (
     subst (λ (xs : List Place). IsKept new.sectors new.seen (with_places b xs)) (sym ok) (put_kept keepable written),
     subst (λ (xs : List Place). stored_in new.seen (with_places b xs) ≡ with_frozen n (Kept f) (stored_in old.seen b)) (sym ok) (put_stored keepable written),

@@ -22,23 +22,28 @@ goes_seen old new b c goes = record {
   plan = goes.plan;
   size = goes.size;
   sound = goes.sound;
-  any_moment = λ sound. leaves_raw old new b.unwritten c.unwritten (λ x. Holds old.sectors x (kept_of (saved_state (seen_by old.seen b) b))) (goes.any_moment sound);
+  any_moment = λ sound. leaves_raw old new b.unwritten c.unwritten (λ x. Holds old.sectors x (kept_of (saved_state (seen_by old.seen b) b)))
+      (goes.any_moment sound);
 }
 
 same_state : (image : Image) (b c : Books) → c.plan ≡ b.plan → c.header ≡ b.header → c.directory ≡ b.directory → saved_state image b ≡ saved_state image c
 same_state image b c plan header directory = rw (plan, header, directory) refl
 
-pub goes_spared : (old new : Disk) (b c : Books) (e : Extent) → c.plan ≡ b.plan → c.header ≡ b.header → c.directory ≡ b.directory → Spares b.plan b.header b.directory e → Touches e.sector e.length old new → GoesOnSeen old new b c
+pub goes_spared : (old new : Disk) (b c : Books) (e : Extent) → c.plan ≡ b.plan → c.header ≡ b.header → c.directory ≡ b.directory →
+    Spares b.plan b.header b.directory e → Touches e.sector e.length old new → GoesOnSeen old new b c
 goes_spared old new b c e plan header directory spares writes = record {
   plan = plan;
   size = writes.size;
-  sound = λ sound. subst (LeavesState new) (same_state new.seen b c plan header directory) (sound_spared old new b.plan b.header b.directory e spares writes sound);
-  any_moment = λ sound. leaves_weaker {old = old} {new = new} {P = λ x. Encodes x old.sectors (saved_state old.seen b)} (λ x. Holds old.sectors x (kept_of (saved_state old.seen b)))
+  sound = λ sound. subst (LeavesState new) (same_state new.seen b c plan header directory)
+      (sound_spared old new b.plan b.header b.directory e spares writes sound);
+  any_moment = λ sound. leaves_weaker {old = old} {new = new} {P = λ x. Encodes x old.sectors (saved_state old.seen b)}
+      (λ x. Holds old.sectors x (kept_of (saved_state old.seen b)))
       (λ x is. holds old.sectors x (saved_state old.seen b) is) (moments_spared old new b.plan b.header b.directory e spares writes sound);
 }
 
 -- what else is kept in memory doesn't matter
-pub goes_with : (old new : Disk) (b c d : Books) → d.plan ≡ c.plan → d.header ≡ c.header → d.directory ≡ c.directory → GoesOnSeen old new b c → GoesOnSeen old new b d
+pub goes_with : (old new : Disk) (b c d : Books) → d.plan ≡ c.plan → d.header ≡ c.header → d.directory ≡ c.directory → GoesOnSeen old new b c →
+    GoesOnSeen old new b d
 goes_with old new b c d plan header directory goes = record {
   plan = plan ∙ goes.plan;
   size = goes.size;

@@ -12,12 +12,18 @@ module _ (old new : Disk) (b : Books) (is : IsDurable old b) (some : b.moved < b
   none : b.unwritten ≡ None
   none = none_idle b b.unwritten is.unwritten (no_checkpoint old.sectors (seen_by old.seen b) b is.kept (omega (arith, some)))
 
-  module _ (first : IsFirst b.plan b.directory b.moved) (touches : Touches (home_place b.plan (entry_at b.directory b.moved).object) (place_length b.plan (entry_at b.directory b.moved).object) old new) where
-    seen_touches : Touches (home_place b.plan (entry_at b.directory b.moved).object) (place_length b.plan (entry_at b.directory b.moved).object) (mended_disk old b.unwritten) (mended_disk new b.unwritten)
-    seen_touches = touches_mended (home_place b.plan (entry_at b.directory b.moved).object) (place_length b.plan (entry_at b.directory b.moved).object) old new b.unwritten touches
+  module _ (first : IsFirst b.plan b.directory b.moved)
+      (touches : Touches (home_place b.plan (entry_at b.directory b.moved).object) (place_length b.plan (entry_at b.directory b.moved).object) old new) where
+    seen_touches : Touches (home_place b.plan (entry_at b.directory b.moved).object) (place_length b.plan (entry_at b.directory b.moved).object)
+        (mended_disk old b.unwritten) (mended_disk new b.unwritten)
+    seen_touches = touches_mended (home_place b.plan (entry_at b.directory b.moved).object) (place_length b.plan (entry_at b.directory b.moved).object) old new
+        b.unwritten touches
 
     pub uncopied_durable : IsDurable new b
-    uncopied_durable = record { kept = uncopied_kept (mended_disk old b.unwritten) (mended_disk new b.unwritten) b is.kept some first seen_touches; unwritten = is.unwritten }
+    uncopied_durable = record {
+      kept = uncopied_kept (mended_disk old b.unwritten) (mended_disk new b.unwritten) b is.kept some first seen_touches;
+      unwritten = is.unwritten;
+    }
 
     pub uncopied_moved : MovedBy old new b b 0
     uncopied_moved =
@@ -32,13 +38,21 @@ module _ (old new : Disk) (b : Books) (is : IsDurable old b) (some : b.moved < b
     copied_moved = record {
       books = refl;
       stored = copied_stored (mended_disk old b.unwritten) (mended_disk new b.unwritten) b is.kept some first seen_touches;
-      goes_on = goes_seen old new b (moved_books b 1) (copied_goes_on (mended_disk old b.unwritten) (mended_disk new b.unwritten) b is.kept some first seen_touches 1);
+      goes_on = goes_seen old new b (moved_books b 1)
+          (copied_goes_on (mended_disk old b.unwritten) (mended_disk new b.unwritten) b is.kept some first seen_touches 1);
     }
 
-    pub copied_durable : IsCopied old.seen new.seen b.plan b.header.generation b.directory (entry_at b.directory b.moved).object → IsDurable new (moved_books b 1)
+    pub copied_durable : IsCopied old.seen new.seen b.plan b.header.generation b.directory (entry_at b.directory b.moved).object →
+        IsDurable new (moved_books b 1)
     copied_durable copied =
-        let seen = subst (λ (o : Option Unwritten). IsCopied (mended old.seen o) (mended new.seen o) b.plan b.header.generation b.directory (entry_at b.directory b.moved).object) (sym none) copied in
-        record { kept = copied_kept (mended_disk old b.unwritten) (mended_disk new b.unwritten) b is.kept some first seen_touches seen; unwritten = without (moved_books b 1) b.unwritten none }
+        let seen = subst (λ (o : Option Unwritten). IsCopied (mended old.seen o) (mended new.seen o) b.plan b.header.generation b.directory
+        (entry_at b.directory b.moved).object) (sym none) copied in
+        record {
+          kept = copied_kept (mended_disk old b.unwritten) (mended_disk new b.unwritten) b is.kept some first seen_touches seen;
+          unwritten = without (moved_books b 1) b.unwritten none;
+        }
 
-  pub passed_durable : 0 < b.moved → home_place b.plan (entry_at b.directory (b.moved - 1)).object ≡ home_place b.plan (entry_at b.directory b.moved).object → IsDurable old (moved_books b 1)
-  passed_durable one same = record { kept = passed_kept old.sectors (seen_by old.seen b) b is.kept some one same; unwritten = without (moved_books b 1) b.unwritten none }
+  pub passed_durable : 0 < b.moved → home_place b.plan (entry_at b.directory (b.moved - 1)).object ≡ home_place b.plan (entry_at b.directory b.moved).object →
+      IsDurable old (moved_books b 1)
+  passed_durable one same =
+      record { kept = passed_kept old.sectors (seen_by old.seen b) b is.kept some one same; unwritten = without (moved_books b 1) b.unwritten none }

@@ -63,7 +63,8 @@ words_kind g n words (content.Root root) is kind = absurd cc
 words_kind g n words (content.Annex registers) is kind = absurd cc
 words_kind g n words (content.Bank limit) is kind = absurd cc
 
-words_keepable : (g : Geometry) (age n : ℕ) (f : Frame) (words : List ℕ) → f.header.role ≡ role.Page → AreKeptWords 512 words → IsKeepable g age n f → IsKeepable g age n (with_words words f)
+words_keepable : (g : Geometry) (age n : ℕ) (f : Frame) (words : List ℕ) → f.header.role ≡ role.Page → AreKeptWords 512 words → IsKeepable g age n f →
+    IsKeepable g age n (with_words words f)
 words_keepable g age n f words page fits is = record {
   kind = words_kind g n words f.content (sym is.kept.role ∙ page) is.kind;
   kept = record {
@@ -80,7 +81,8 @@ pub words_fit : (words : List ℕ) → length words ≡ 512 → ((i : ℕ) → g
 words_fit words count fits = record { count_is = count; each = λ i d lt. subst (λ (word : ℕ). word < 2 ^ 64) (sym (get_or_default words i d 0 lt)) (fits i) }
 
 -- its bytes
-page_spelt : (p : Plan) (age n : ℕ) (image : Image) (at : ℕ) (f : Frame) → p.geometry.nodes ≤ n → IsKeepable p.geometry age n f → sectors_from image at 9 ≡ page_frame_bytes f → IsFrameOf p.geometry age n (bytes_at image at p n) f
+page_spelt : (p : Plan) (age n : ℕ) (image : Image) (at : ℕ) (f : Frame) → p.geometry.nodes ≤ n → IsKeepable p.geometry age n f →
+    sectors_from image at 9 ≡ page_frame_bytes f → IsFrameOf p.geometry age n (bytes_at image at p n) f
 page_spelt p age n image at f le is written =
     let test = le-ltb n p.geometry.nodes le in
     (is, page_bytes image at p n le ∙ written ∙ sym (ap (λ (node : Bool). if node then node_frame_bytes f else page_frame_bytes f) test))
@@ -95,7 +97,8 @@ module _ (size : ℕ) (image : Image) (b : Books) (kept : IsKept size image b) (
   pub lies_home : (n : ℕ) → frame_in image b.plan b.header.generation b.directory n ≡ bytes_at image (home_place b.plan n) b.plan n
   lies_home n = at_home image b.plan b.header.generation b.directory n (none_saved n)
 
-  pub saved_read : (n : ℕ) → n < count_of b.plan → frame_at (frames_read image b.plan b.header.generation b.directory) n ≡ frame_from b.plan.geometry n (bytes_at image (home_place b.plan n) b.plan n)
+  pub saved_read : (n : ℕ) → n < count_of b.plan → frame_at (frames_read image b.plan b.header.generation b.directory) n ≡ frame_from b.plan.geometry n
+      (bytes_at image (home_place b.plan n) b.plan n)
   saved_read n lt = read_at image b.plan b.header.generation b.directory n lt ∙ ap (frame_from b.plan.geometry n) (lies_home n)
 
   -- only an object is a page
@@ -103,16 +106,20 @@ module _ (size : ℕ) (image : Image) (b : Books) (kept : IsKept size image b) (
   page_known n page = elim (cases_lt n (count_of b.plan)) [
     | inl lt ↦ lt
     | inr le ↦
-        let past = get_or_past (frames_read image b.plan b.header.generation b.directory) n blank_frame (omega (arith, le, length_read image b.plan b.header.generation b.directory)) in
+        let past = get_or_past (frames_read image b.plan b.header.generation b.directory) n blank_frame
+        (omega (arith, le, length_read image b.plan b.header.generation b.directory)) in
         let never : role.Free ≡ role.Page = sym (ap (λ (f : Frame). f.header.role) past) ∙ page in absurd cc
   ]
 
-  saved_keepable : (n : ℕ) → n < count_of b.plan → IsKeepable b.plan.geometry b.header.age n (frame_at (frames_read image b.plan b.header.generation b.directory) n)
+  saved_keepable : (n : ℕ) → n < count_of b.plan →
+      IsKeepable b.plan.geometry b.header.age n (frame_at (frames_read image b.plan b.header.generation b.directory) n)
   saved_keepable n lt = subst (IsKeepable b.plan.geometry b.header.age n) (sym (read_at image b.plan b.header.generation b.directory n lt)) (kept.saved n lt).0
 
 -- the header that was read of its home is the saved one
-pub header_read : (old : Image) (size : ℕ) (new : Image) (b : Books) → IsKept size old b → b.header.entries ≡ 0 → (n at : ℕ) (shape : Shape) → n < count_of b.plan → at ≡ home_place b.plan n → shape ≡ shape_of b.plan n → IsShapeFor b.plan.geometry n shape
-    → (bytes_at new (home_place b.plan n) b.plan n ≡ bytes_at old (home_place b.plan n) b.plan n) → (header : ObjectHeader) → IsHeaderOf new at shape header → header ≡ (frame_at (stored_in old b).saved.frames n).header
+pub header_read : (old : Image) (size : ℕ) (new : Image) (b : Books) → IsKept size old b → b.header.entries ≡ 0 → (n at : ℕ) (shape : Shape) →
+    n < count_of b.plan → at ≡ home_place b.plan n → shape ≡ shape_of b.plan n → IsShapeFor b.plan.geometry n shape
+    → (bytes_at new (home_place b.plan n) b.plan n ≡ bytes_at old (home_place b.plan n) b.plan n) → (header : ObjectHeader) → IsHeaderOf new at shape header →
+    header ≡ (frame_at (stored_in old b).saved.frames n).header
 header_read old size new b kept home n at shape lt place shape_is fits same header is =
     is b.plan.geometry n fits ∙ ap (λ (s : Shape). (frame_from b.plan.geometry n (shaped_at new at s)).header) shape_is
     ∙ ap (λ (sector : ℕ). (frame_from b.plan.geometry n (bytes_at new sector b.plan n)).header) place
@@ -139,7 +146,8 @@ module _ (size : ℕ) (image : Image) (b : Books) (kept : IsKept size image b) (
 
 -- ---- a page is written into the first slot of that half
 
-module _ (old new : Disk) (b : Books) (kept : IsKept old.sectors old.seen b) (free : b.size ≡ None) (home : b.header.entries ≡ 0) (writes : WritesAt (slot_sector b.plan b.header.generation 0) 9 old new) where
+module _ (old new : Disk) (b : Books) (kept : IsKept old.sectors old.seen b) (free : b.size ≡ None) (home : b.header.entries ≡ 0)
+    (writes : WritesAt (slot_sector b.plan b.header.generation 0) 9 old new) where
   inside : IsInside (slot_extent b.plan b.header.generation 0) (half_extent b.plan.geometry (half_sector b.plan b.header.generation))
   inside = slots_inside b.plan b.header.generation 0 (omega (arith, kept.plan.geometry.least_log))
 
@@ -147,7 +155,8 @@ module _ (old new : Disk) (b : Books) (kept : IsKept old.sectors old.seen b) (fr
   spares = spares_half old.sectors old.seen b kept free home b.header.generation (slot_extent b.plan b.header.generation 0) refl inside
 
   pub put_kept : IsKept new.sectors new.seen b
-  put_kept = subst (λ (size : ℕ). IsKept size new.seen b) (sym writes.size) (kept_on old.sectors b (slot_extent b.plan b.header.generation 0) old.seen new.seen spares writes.elsewhere kept)
+  put_kept = subst (λ (size : ℕ). IsKept size new.seen b) (sym writes.size)
+      (kept_on old.sectors b (slot_extent b.plan b.header.generation 0) old.seen new.seen spares writes.elsewhere kept)
 
   pub put_stored : stored_in new.seen b ≡ stored_in old.seen b
   put_stored = stored_stays old.sectors b (slot_extent b.plan b.header.generation 0) old.seen new.seen spares writes.elsewhere
@@ -159,13 +168,16 @@ module _ (old new : Disk) (b : Books) (kept : IsKept old.sectors old.seen b) (fr
       (touches (slot_sector b.plan b.header.generation 0) 9 old new writes)
 
   -- the slot spells the page with its words, at each age from the saved one on
-  pub put_spelt : (n : ℕ) (header : ObjectHeader) (words : List ℕ) → (frame_at (stored_in old.seen b).saved.frames n).header.role ≡ role.Page → header ≡ (frame_at (stored_in old.seen b).saved.frames n).header → AreKeptWords 512 words
-      → sectors_from new.seen (slot_sector b.plan b.header.generation 0) 9 ≡ page_frame_bytes (record { header = header; content = content.Page words }) → (age : ℕ) → b.header.age ≤ age
+  pub put_spelt : (n : ℕ) (header : ObjectHeader) (words : List ℕ) → (frame_at (stored_in old.seen b).saved.frames n).header.role ≡ role.Page →
+      header ≡ (frame_at (stored_in old.seen b).saved.frames n).header → AreKeptWords 512 words
+      → sectors_from new.seen (slot_sector b.plan b.header.generation 0) 9 ≡ page_frame_bytes (record { header = header; content = content.Page words }) →
+      (age : ℕ) → b.header.age ≤ age
       → IsFrameOf b.plan.geometry age n (slot_bytes new.seen b.plan b.header.generation 0 n) (with_words words (frame_at (stored_in old.seen b).saved.frames n))
   put_spelt n header words page is fits written age le =
       let saved : Frame = frame_at (stored_in old.seen b).saved.frames n in
       let lt = page_known old.sectors old.seen b kept home n page in
-      let keepable = words_keepable b.plan.geometry age n saved words page fits (keepable_later b.plan.geometry b.header.age age le n saved (saved_keepable old.sectors old.seen b kept home n lt)) in
+      let keepable = words_keepable b.plan.geometry age n saved words page fits
+      (keepable_later b.plan.geometry b.header.age age le n saved (saved_keepable old.sectors old.seen b kept home n lt)) in
       page_spelt b.plan age n new.seen (slot_sector b.plan b.header.generation 0) (with_words words saved) keepable.kind.0 keepable
       (written ∙ ap (λ (h : ObjectHeader). page_frame_bytes (record { header = h; content = content.Page words })) is)
 
@@ -209,7 +221,8 @@ none_frozen : (f g : ℕ → FrozenPuts) (o : Option ℕ) → o ≡ None → opt
 none_frozen f g None is = refl
 none_frozen f g (Some k) is = absurd cc
 
-module _ (disk : Disk) (b : Books) (is : IsDurable disk b) (free : b.size ≡ None) (home : b.header.entries ≡ 0) (n : ℕ) (lt : n < count_of b.plan) (page : b.plan.geometry.nodes ≤ n)
+module _ (disk : Disk) (b : Books) (is : IsDurable disk b) (free : b.size ≡ None) (home : b.header.entries ≡ 0) (n : ℕ) (lt : n < count_of b.plan)
+    (page : b.plan.geometry.nodes ≤ n)
     (age : ℕ) (later : b.header.age < age) (most_age : age ≤ 2 ^ 62)
     (spelt : IsFrameOf b.plan.geometry age n (first_bytes disk.seen b n) (first_frame disk.seen b n)) where
   kept : IsKept disk.sectors disk.seen b
@@ -240,22 +253,28 @@ module _ (disk : Disk) (b : Books) (is : IsDurable disk b) (free : b.size ≡ No
   inside_half = directory_inside b.plan again 1 some
 
   frame_here : frame_in disk.seen b.plan again (one_entry n) n ≡ first_bytes disk.seen b n
-  frame_here = in_slot disk.seen b.plan again (one_entry n) n 0 (slot_here entry [] n refl) ∙ slot_same disk.seen b.plan again b.header.generation (half_same again b.header.generation parity) 0 n
+  frame_here = in_slot disk.seen b.plan again (one_entry n) n 0 (slot_here entry [] n refl) ∙
+      slot_same disk.seen b.plan again b.header.generation (half_same again b.header.generation parity) 0 n
 
   -- a page shares its home with none
   one_page : (i : ℕ) → i < 1 → (m : ℕ) → m < count_of b.plan → home_place b.plan (entry_at (one_entry n) i).object ≡ home_place b.plan m → n ≡ m
   one_page zero few m within same = sym (alone b.plan m n kept.plan within lt (page_own b.plan n page) (sym same))
   one_page (suc i) few m within same = absurd (omega (arith, few))
 
-  frame_there : (m : ℕ) → m < count_of b.plan → (n ≡ m → ⊥) → frame_in disk.seen b.plan again (one_entry n) m ≡ frame_in disk.seen b.plan b.header.generation b.directory m
+  frame_there : (m : ℕ) → m < count_of b.plan → (n ≡ m → ⊥) → frame_in disk.seen b.plan again (one_entry n) m ≡ frame_in disk.seen b.plan b.header.generation
+      b.directory m
   frame_there m within other =
-      at_home disk.seen b.plan again (one_entry n) m (beside_frame_slot b.plan (one_entry n) m (slot_behind entry [] m other) ∙ none_beside b.plan (one_entry n) m (λ i few same. other (one_page i few m within same)))
+      at_home disk.seen b.plan again (one_entry n) m
+      (beside_frame_slot b.plan (one_entry n) m (slot_behind entry [] m other) ∙
+      none_beside b.plan (one_entry n) m (λ i few same. other (one_page i few m within same)))
       ∙ sym (lies_home disk.sectors disk.seen b kept home m)
 
-  frames_next : frames_read disk.seen b.plan again (one_entry n) ≡ set (frames_read disk.seen b.plan b.header.generation b.directory) n (first_frame disk.seen b n)
+  frames_next : frames_read disk.seen b.plan again (one_entry n) ≡ set (frames_read disk.seen b.plan b.header.generation b.directory) n
+      (first_frame disk.seen b n)
   unfolding frames_read
   frames_next =
-      map_set (frame_read disk.seen b.plan b.header.generation b.directory) (frame_read disk.seen b.plan again (one_entry n)) (count_of b.plan) n (first_frame disk.seen b n) lt
+      map_set (frame_read disk.seen b.plan b.header.generation b.directory) (frame_read disk.seen b.plan again (one_entry n)) (count_of b.plan) n
+      (first_frame disk.seen b n) lt
       (ap (frame_from b.plan.geometry n) frame_here)
       (λ m within other. ap (frame_from b.plan.geometry m) (frame_there m within (λ same. other (sym same))))
 
@@ -264,8 +283,10 @@ module _ (disk : Disk) (b : Books) (is : IsDurable disk b) (free : b.size ≡ No
 
   spelt_there : (m : ℕ) → m < count_of b.plan → (n ≡ m → ⊥) → IsSpelt disk.seen b.plan age again (one_entry n) m
   spelt_there m within other =
-      let was = spelt_same disk.seen disk.seen b.plan b.header.age again b.header.generation (one_entry n) b.directory m (frame_there m within other) (kept.saved m within) in
-      spelt_at disk.seen b.plan b.header.age age again (one_entry n) m was (keepable_later b.plan.geometry b.header.age age (omega (arith, later)) m (frame_read disk.seen b.plan again (one_entry n) m) was.0)
+      let was = spelt_same disk.seen disk.seen b.plan b.header.age again b.header.generation (one_entry n) b.directory m (frame_there m within other)
+      (kept.saved m within) in
+      spelt_at disk.seen b.plan b.header.age age again (one_entry n) m was
+      (keepable_later b.plan.geometry b.header.age age (omega (arith, later)) m (frame_read disk.seen b.plan again (one_entry n) m) was.0)
 
   spelt_next : AreSpelt disk.seen b.plan age again (one_entry n)
   spelt_next m within = elim (cases_eq n m) [
@@ -275,7 +296,8 @@ module _ (disk : Disk) (b : Books) (is : IsDurable disk b) (free : b.size ≡ No
 
   spares_then : SparesFrames b.plan again (one_entry n) extent
   spares_then m within =
-      frame_apart b.plan again (one_entry n) m extent (λ s is. slots_apart_directory b.plan again s 1 m (frame_slot_fits b.plan (one_entry n) m s directory_next is) some)
+      frame_apart b.plan again (one_entry n) m extent
+      (λ s is. slots_apart_directory b.plan again s 1 m (frame_slot_fits b.plan (one_entry n) m s directory_next is) some)
       (λ _. home_apart b.plan again m extent kept.plan within inside_half)
 
   may_save : LeavesState disk (saved_state disk.seen b) → MaySave disk b.plan b.header b.directory (replaced_header age b) (one_entry n)
@@ -308,7 +330,8 @@ module _ (disk : Disk) (b : Books) (is : IsDurable disk b) (free : b.size ≡ No
     moved = λ i less. absurd (omega (arith, less));
     frozen = are_put_same disk.seen b.plan (frozen_generation b) (again + 1) (half_same (frozen_generation b) (again + 1) (omega arith)) b.frozen kept.frozen;
     running = subst (IsRunning (with_header b (replaced_header age b) (one_entry n))) (sym free) (blank disk.sectors disk.seen b kept free home);
-    working = are_put_same disk.seen b.plan (working_generation b) (working_generation (with_header b (replaced_header age b) (one_entry n))) (sym (after_half b.header.generation b.size)) b.working kept.working;
+    working = are_put_same disk.seen b.plan (working_generation b) (working_generation (with_header b (replaced_header age b) (one_entry n)))
+        (sym (after_half b.header.generation b.size)) b.working kept.working;
   }
 
   replaced_spares : SparesKept (with_header b (replaced_header age b) (one_entry n)) extent
@@ -316,7 +339,8 @@ module _ (disk : Disk) (b : Books) (is : IsDurable disk b) (free : b.size ≡ No
     frames = spares_then;
     homes = λ i less. absurd (omega (arith, less));
     frozen = none_spares b.plan (again + 1) b.frozen extent (blank disk.sectors disk.seen b kept free home);
-    working = half_spares b.plan (working_generation (with_header b (replaced_header age b) (one_entry n))) again b.working extent kept.plan then_half kept.working.table kept.working.few inside_half;
+    working = half_spares b.plan (working_generation (with_header b (replaced_header age b) (one_entry n))) again b.working extent kept.plan then_half
+        kept.working.table kept.working.few inside_half;
   }
 
   abbrev stored_as : List Put → Option FrozenPuts → List Frame → Stored
@@ -327,25 +351,33 @@ module _ (disk : Disk) (b : Books) (is : IsDurable disk b) (free : b.size ≡ No
     to_move = 1;
   }
 
-  replaced_stored : stored_in disk.seen (with_header b (replaced_header age b) (one_entry n)) ≡ on_snapshots (replaced age n (first_frame disk.seen b n)) (stored_in disk.seen b)
+  replaced_stored : stored_in disk.seen (with_header b (replaced_header age b) (one_entry n)) ≡ on_snapshots (replaced age n (first_frame disk.seen b n))
+      (stored_in disk.seen b)
   replaced_stored =
-      ap (λ (puts : List Put). stored_as puts (option_map (frozen_of disk.seen (with_header b (replaced_header age b) (one_entry n))) b.size) (frames_read disk.seen b.plan again (one_entry n)))
-      (puts_same disk.seen b.plan (working_generation (with_header b (replaced_header age b) (one_entry n))) (working_generation b) (after_half b.header.generation b.size) b.working)
-      ∙ ap (λ (frozen : Option FrozenPuts). stored_as (puts_in disk.seen b.plan (working_generation b) b.working) frozen (frames_read disk.seen b.plan again (one_entry n)))
+      ap (λ (puts : List Put). stored_as puts (option_map (frozen_of disk.seen (with_header b (replaced_header age b) (one_entry n))) b.size)
+      (frames_read disk.seen b.plan again (one_entry n)))
+      (puts_same disk.seen b.plan (working_generation (with_header b (replaced_header age b) (one_entry n))) (working_generation b)
+      (after_half b.header.generation b.size) b.working)
+      ∙ ap (λ (frozen : Option FrozenPuts). stored_as (puts_in disk.seen b.plan (working_generation b) b.working) frozen
+      (frames_read disk.seen b.plan again (one_entry n)))
       (none_frozen (frozen_of disk.seen (with_header b (replaced_header age b) (one_entry n))) (frozen_of disk.seen b) b.size free)
-      ∙ ap (λ (fs : List Frame). stored_as (puts_in disk.seen b.plan (working_generation b) b.working) (option_map (frozen_of disk.seen b) b.size) fs) frames_next
+      ∙ ap (λ (fs : List Frame). stored_as (puts_in disk.seen b.plan (working_generation b) b.working) (option_map (frozen_of disk.seen b) b.size) fs)
+      frames_next
 
   -- what was kept lies apart from the directory
   spares_now : SparesKept b extent
   spares_now = spares_half disk.sectors disk.seen b kept free home again extent parity inside_half
 
   pub may_replace : IsSoundOn disk b → MayAdopt disk b (replaced_header age b) (one_entry n)
-  may_replace sound = may_adopt_idle disk b (replaced_header age b) (one_entry n) is free (may_save (sound_raw disk b (none_idle b b.unwritten is.unwritten free) sound)) replaced_kept spares_now replaced_spares
+  may_replace sound = may_adopt_idle disk b (replaced_header age b) (one_entry n) is free
+      (may_save (sound_raw disk b (none_idle b b.unwritten is.unwritten free) sound)) replaced_kept spares_now replaced_spares
 
-  pub replaced_on : stored_on disk (adopted (replaced_header age b) (one_entry n) b) ≡ on_snapshots (replaced age n (first_frame disk.seen b n)) (stored_on disk b)
+  pub replaced_on : stored_on disk (adopted (replaced_header age b) (one_entry n) b) ≡ on_snapshots (replaced age n (first_frame disk.seen b n))
+      (stored_on disk b)
   replaced_on =
       ap (stored_on disk) (sym (idle_books disk b (replaced_header age b) (one_entry n) is free))
-      ∙ subst (λ (o : Option Unwritten). stored_in (mended disk.seen o) (with_header b (replaced_header age b) (one_entry n)) ≡ on_snapshots (replaced age n (first_frame disk.seen b n)) (stored_in (mended disk.seen o) b)) (sym (none_idle b b.unwritten is.unwritten free)) replaced_stored
+      ∙ subst (λ (o : Option Unwritten). stored_in (mended disk.seen o) (with_header b (replaced_header age b) (one_entry n)) ≡ on_snapshots
+      (replaced age n (first_frame disk.seen b n)) (stored_in (mended disk.seen o) b)) (sym (none_idle b b.unwritten is.unwritten free)) replaced_stored
 
 -- no checkpoint is on its way
 pub size_none : (f : ℕ → FrozenPuts) (o : Option ℕ) → option_map f o ≡ None → o ≡ None
@@ -359,7 +391,8 @@ pub either_first : (old new : Disk) (saved next : SavedFrames) → LeavesSaved o
 either_first old new saved next run =
     leaves_weaker {old = old} {new = new} {P = λ c. Holds old.sectors c saved} (λ c. Holds old.sectors c saved ⊎ Holds old.sectors c next) (λ c is. inl is) run
 
-pub both_runs : (old mid new : Disk) (saved next : SavedFrames) → mid.sectors ≡ old.sectors → LeavesSaved old mid saved → LeavesEither mid new saved next → LeavesEither old new saved next
+pub both_runs : (old mid new : Disk) (saved next : SavedFrames) → mid.sectors ≡ old.sectors → LeavesSaved old mid saved → LeavesEither mid new saved next →
+    LeavesEither old new saved next
 both_runs old mid new saved next size first second =
     leaves_on {old = old} {mid = mid} {new = new} {P = λ c. Holds old.sectors c saved ⊎ Holds old.sectors c next} (either_first old mid saved next first)
     (subst (λ (k : ℕ). LeavesOnly mid new (λ c. Holds k c saved ⊎ Holds k c next)) size second)
@@ -377,7 +410,8 @@ module _ (old mid : Disk) (b : Books) (n age : ℕ) (words : List ℕ) (stored :
   object_is = spelt.0.kind.1
 
   pub journaled_is : on_snapshots (replaced age n (first_frame mid.seen b n)) (stored_on mid b) ≡ on_snapshots (journaled age n words) (stored_on old b)
-  journaled_is = ap (λ (f : Frame). on_snapshots (replaced age n f) (stored_on mid b)) found.1 ∙ ap (λ (s : Stored). on_snapshots (replaced age n page) s) stored
+  journaled_is = ap (λ (f : Frame). on_snapshots (replaced age n f) (stored_on mid b)) found.1 ∙
+      ap (λ (s : Stored). on_snapshots (replaced age n page) s) stored
 
   -- the run to its end
   pub either_run : (new : Disk) → mid.sectors ≡ old.sectors → LeavesSaved old mid (stored_on old b).saved

@@ -11,7 +11,8 @@ use Rattle.migrator.proofs.Spared.{frame_stays, state_stays, bytes_stay}
 -- ---- lists by number
 
 -- one of them is another
-pub map_set : {X : Type 0} (f g : ℕ → X) (n k : ℕ) (x : X) → k < n → g k ≡ x → ((i : ℕ) → i < n → (i ≡ k → ⊥) → g i ≡ f i) → map g (range_with_len 0 n) ≡ set (map f (range_with_len 0 n)) k x
+pub map_set : {X : Type 0} (f g : ℕ → X) (n k : ℕ) (x : X) → k < n → g k ≡ x → ((i : ℕ) → i < n → (i ≡ k → ⊥) → g i ≡ f i) →
+    map g (range_with_len 0 n) ≡ set (map f (range_with_len 0 n)) k x
 map_set f g n k x within here others =
     same_lists (map g (range_with_len 0 n)) (set (map f (range_with_len 0 n)) k x)
     (length-map-range_with_len g 0 n ∙ sym (length-set (map f (range_with_len 0 n)) k x ∙ length-map-range_with_len f 0 n))
@@ -19,35 +20,43 @@ map_set f g n k x within here others =
     let few : i < n = omega (arith, lt, length-map-range_with_len g 0 n) in
     let room : k < length (map f (range_with_len 0 n)) = omega (arith, within, length-map-range_with_len f 0 n) in
     get_or-map-range_with_len g 0 n i i d few (omega arith) ∙ elim (cases_eq i k) [
-      | inl same ↦ ap g same ∙ here ∙ sym (ap (λ (j : ℕ). get_or (set (map f (range_with_len 0 n)) k x) j d) same ∙ get_or-set_same (map f (range_with_len 0 n)) k x d room)
-      | inr other ↦ others i few other ∙ sym (get_or-set_other (map f (range_with_len 0 n)) k i x d other ∙ get_or-map-range_with_len f 0 n i i d few (omega arith))
+      | inl same ↦ ap g same ∙ here ∙
+          sym (ap (λ (j : ℕ). get_or (set (map f (range_with_len 0 n)) k x) j d) same ∙ get_or-set_same (map f (range_with_len 0 n)) k x d room)
+      | inr other ↦ others i few other ∙
+          sym (get_or-set_other (map f (range_with_len 0 n)) k i x d other ∙ get_or-map-range_with_len f 0 n i i d few (omega arith))
     ])
 
 -- ---- what was put
 
-put_same : (new old : Image) (p : Plan) (generation n : ℕ) (place : Place) → ((s : ℕ) → place ≡ Whole s → slot_bytes new p generation s n ≡ slot_bytes old p generation s n) → put_of new p generation n place ≡ put_of old p generation n place
+put_same : (new old : Image) (p : Plan) (generation n : ℕ) (place : Place) →
+    ((s : ℕ) → place ≡ Whole s → slot_bytes new p generation s n ≡ slot_bytes old p generation s n) →
+    put_of new p generation n place ≡ put_of old p generation n place
 put_same new old p generation n Nowhere same = refl
 put_same new old p generation n (Torn s) same = refl
 put_same new old p generation n (Whole s) same = ap (λ (bytes : List ℕ). Kept (frame_from p.geometry n bytes)) (same s refl)
 
 -- where their bytes are the same, so are they
-pub puts_same : (p : Plan) (generation : ℕ) (ps : List Place) (old new : Image) → ((n s : ℕ) → n < count_of p → place_at ps n ≡ Whole s → slot_bytes new p generation s n ≡ slot_bytes old p generation s n)
+pub puts_same : (p : Plan) (generation : ℕ) (ps : List Place) (old new : Image) →
+    ((n s : ℕ) → n < count_of p → place_at ps n ≡ Whole s → slot_bytes new p generation s n ≡ slot_bytes old p generation s n)
     → puts_in new p generation ps ≡ puts_in old p generation ps
 unfolding puts_in
 puts_same p generation ps old new same =
     maps_same (λ n. put_of new p generation n (place_at ps n)) (λ n. put_of old p generation n (place_at ps n)) (count_of p)
     (λ n lt. put_same new old p generation n (place_at ps n) (λ s is. same n s lt is))
 
-pub are_put_same : (p : Plan) (generation : ℕ) (ps : List Place) (old new : Image) → ((n s : ℕ) → n < count_of p → place_at ps n ≡ Whole s → slot_bytes new p generation s n ≡ slot_bytes old p generation s n)
+pub are_put_same : (p : Plan) (generation : ℕ) (ps : List Place) (old new : Image) →
+    ((n s : ℕ) → n < count_of p → place_at ps n ≡ Whole s → slot_bytes new p generation s n ≡ slot_bytes old p generation s n)
     → ArePut old p generation ps → ArePut new p generation ps
 are_put_same p generation ps old new same are = record {
   count = are.count;
   few = are.few;
   table = are.table;
-  spelt = λ n s lt is. subst (λ (bytes : List ℕ). IsFrameOf p.geometry most n bytes (frame_from p.geometry n bytes)) (sym (same n s lt is)) (are.spelt n s lt is);
+  spelt = λ n s lt is. subst (λ (bytes : List ℕ). IsFrameOf p.geometry most n bytes (frame_from p.geometry n bytes)) (sym (same n s lt is))
+      (are.spelt n s lt is);
 }
 
-module _ (p : Plan) (generation : ℕ) (ps : List Place) (e : Extent) (old new : Image) (spares : SparesPuts p generation ps e) (change : Elsewhere e.sector e.length old new) where
+module _ (p : Plan) (generation : ℕ) (ps : List Place) (e : Extent) (old new : Image) (spares : SparesPuts p generation ps e)
+    (change : Elsewhere e.sector e.length old new) where
   slot_stays : (n s : ℕ) → n < count_of p → place_at ps n ≡ Whole s → slot_bytes new p generation s n ≡ slot_bytes old p generation s n
   slot_stays n s lt is = bytes_stay (slot_sector p generation s) p n e old new (spares n s lt is) change
 
@@ -62,27 +71,34 @@ module _ (p : Plan) (generation : ℕ) (ps : List Place) (e : Extent) (old new :
 abbrev stored_of : List Put → Option FrozenPuts → SavedFrames → ℕ → Stored
 stored_of working frozen saved to_move = record { working = working; frozen = frozen; saved = saved; to_move = to_move }
 
-frozen_same : (new old : Image) (b : Books) (size : Option ℕ) → puts_in new b.plan (frozen_generation b) b.frozen ≡ puts_in old b.plan (frozen_generation b) b.frozen
+frozen_same : (new old : Image) (b : Books) (size : Option ℕ) → puts_in new b.plan (frozen_generation b) b.frozen ≡ puts_in old b.plan (frozen_generation b)
+    b.frozen
     → option_map (frozen_of new b) size ≡ option_map (frozen_of old b) size
 frozen_same new old b None same = refl
 frozen_same new old b (Some size) same = ap (λ (puts : List Put). Some (record { put = puts; size = size })) same
 
 pub stored_same : (new old : Image) (b : Books) → puts_in new b.plan (working_generation b) b.working ≡ puts_in old b.plan (working_generation b) b.working
-    → puts_in new b.plan (frozen_generation b) b.frozen ≡ puts_in old b.plan (frozen_generation b) b.frozen → saved_state new b ≡ saved_state old b → stored_in new b ≡ stored_in old b
+    → puts_in new b.plan (frozen_generation b) b.frozen ≡ puts_in old b.plan (frozen_generation b) b.frozen → saved_state new b ≡ saved_state old b →
+    stored_in new b ≡ stored_in old b
 stored_same new old b working frozen saved =
     ap (λ (x : List Put). stored_of x (option_map (frozen_of new b) b.size) (kept_of (saved_state new b)) (b.header.entries - b.moved)) working
-    ∙ ap (λ (x : Option FrozenPuts). stored_of (puts_in old b.plan (working_generation b) b.working) x (kept_of (saved_state new b)) (b.header.entries - b.moved)) (frozen_same new old b b.size frozen)
-    ∙ ap (λ (x : SavedState). stored_of (puts_in old b.plan (working_generation b) b.working) (option_map (frozen_of old b) b.size) (kept_of x) (b.header.entries - b.moved)) saved
+    ∙ ap (λ (x : Option FrozenPuts). stored_of (puts_in old b.plan (working_generation b) b.working) x (kept_of (saved_state new b))
+    (b.header.entries - b.moved)) (frozen_same new old b b.size frozen)
+    ∙ ap (λ (x : SavedState). stored_of (puts_in old b.plan (working_generation b) b.working) (option_map (frozen_of old b) b.size) (kept_of x)
+    (b.header.entries - b.moved)) saved
 
 -- the frames of a home stay
-pub home_stays : (b : Books) (e : Extent) (old new : Image) → SparesFrames b.plan b.header.generation b.directory e → Elsewhere e.sector e.length old new → (i : ℕ) → IsPlan b.plan → (entry_at b.directory i).object < count_of b.plan
-    → IsApart (home_extent b.plan (entry_at b.directory i).object) e → IsHome old b.plan b.header.generation b.directory i → IsHome new b.plan b.header.generation b.directory i
+pub home_stays : (b : Books) (e : Extent) (old new : Image) → SparesFrames b.plan b.header.generation b.directory e → Elsewhere e.sector e.length old new →
+    (i : ℕ) → IsPlan b.plan → (entry_at b.directory i).object < count_of b.plan
+    → IsApart (home_extent b.plan (entry_at b.directory i).object) e → IsHome old b.plan b.header.generation b.directory i →
+    IsHome new b.plan b.header.generation b.directory i
 home_stays b e old new spares change i plan fits apart is n lt same =
     let object : ℕ = (entry_at b.directory i).object in
     let there : IsApart (home_extent b.plan n) e =
     subst (λ (length : ℕ). IsApart (record { sector = home_place b.plan n; length = length }) e) (sym (one_length b.plan n object plan lt fits same))
     (subst (λ (sector : ℕ). IsApart (record { sector = sector; length = place_length b.plan object }) e) (sym same) apart) in
-    bytes_stay (home_place b.plan n) b.plan n e old new there change ∙ is n lt same ∙ sym (frame_stays b.plan b.header.generation b.directory e old new spares change n lt)
+    bytes_stay (home_place b.plan n) b.plan n e old new there change ∙ is n lt same ∙
+    sym (frame_stays b.plan b.header.generation b.directory e old new spares change n lt)
 
 module _ (size : ℕ) (b : Books) (e : Extent) (old new : Image) (spares : SparesKept b e) (change : Elsewhere e.sector e.length old new) where
   pub stored_stays : stored_in new b ≡ stored_in old b

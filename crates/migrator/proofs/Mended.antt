@@ -22,11 +22,13 @@ lt_true a b lt = grind (arith, nat_tests)
 lt_false : (a b : ℕ) → b ≤ a → nat_lt a b ≡ false
 lt_false a b le = grind (arith, nat_tests)
 
-mended_by : (image : Image) (u : Unwritten) (i : ℕ) (test : Bool) → (nat_le u.sector i && nat_lt i (u.sector + 8)) ≡ test → mended image (Some u) i ≡ (if test then image_of u.bytes (i - u.sector) else image i)
+mended_by : (image : Image) (u : Unwritten) (i : ℕ) (test : Bool) → (nat_le u.sector i && nat_lt i (u.sector + 8)) ≡ test →
+    mended image (Some u) i ≡ (if test then image_of u.bytes (i - u.sector) else image i)
 mended_by image u i test e = ap (λ (b : Bool). if b then image_of u.bytes (i - u.sector) else image i) e
 
 pub mended_here : (image : Image) (u : Unwritten) (i : ℕ) → u.sector ≤ i → i < u.sector + 8 → mended image (Some u) i ≡ image_of u.bytes (i - u.sector)
-mended_here image u i low high = mended_by image u i true (and_from (nat_le u.sector i) (nat_lt i (u.sector + 8)) (le_true u.sector i low) (lt_true i (u.sector + 8) high))
+mended_here image u i low high = mended_by image u i true
+    (and_from (nat_le u.sector i) (nat_lt i (u.sector + 8)) (le_true u.sector i low) (lt_true i (u.sector + 8) high))
 
 mended_before : (image : Image) (u : Unwritten) (i : ℕ) → i < u.sector → mended image (Some u) i ≡ image i
 mended_before image u i lt = mended_by image u i false (and_left (nat_le u.sector i) (nat_lt i (u.sector + 8)) (le_false u.sector i lt))
@@ -50,7 +52,8 @@ same_unwritten : (u v : Unwritten) → Some u ≡ Some v → u ≡ v
 same_unwritten u v e = cc
 
 -- a frame that was read of it is the one that it spells
-pub buffer_read : (g : Geometry) (n : ℕ) (o : Option Unwritten) (u : Unwritten) (shape : Shape) (rank : ℕ) (node : List ℕ) (read : Frame) → o ≡ Some u → shape ≡ Packed rank → (v : Unwritten) × (o ≡ Some v) × IsSpeltIn v shape g n
+pub buffer_read : (g : Geometry) (n : ℕ) (o : Option Unwritten) (u : Unwritten) (shape : Shape) (rank : ℕ) (node : List ℕ) (read : Frame) → o ≡ Some u →
+    shape ≡ Packed rank → (v : Unwritten) × (o ≡ Some v) × IsSpeltIn v shape g n
     → node ≡ shape_bytes (Packed rank) u.bytes → IsFrameOf g most n node read → read ≡ frame_from g n (shape_bytes shape u.bytes)
 buffer_read g n o u shape rank node read some packed has is found =
     let spelt : IsSpeltIn u shape g n = subst (λ (v : Unwritten). IsSpeltIn v shape g n) (same_unwritten has.0 u (sym has.1 ∙ some)) has.2 in
@@ -60,19 +63,24 @@ buffer_read g n o u shape rank node read some packed has is found =
 
 -- ---- sectors that were touched
 
-pub elsewhere_within : (at n : ℕ) (e : Extent) (old new : Image) → IsInside (record { sector = at; length = n }) e → Elsewhere at n old new → Elsewhere e.sector e.length old new
-elsewhere_within at n e old new inside change = record { before = λ i lt. change.before i (omega (arith, lt, inside.starts)); after = λ i le. change.after i (omega (arith, le, inside.ends)) }
+pub elsewhere_within : (at n : ℕ) (e : Extent) (old new : Image) → IsInside (record { sector = at; length = n }) e → Elsewhere at n old new →
+    Elsewhere e.sector e.length old new
+elsewhere_within at n e old new inside change =
+    record { before = λ i lt. change.before i (omega (arith, lt, inside.starts)); after = λ i le. change.after i (omega (arith, le, inside.ends)) }
 
-torn_within : (at n : ℕ) (e : Extent) (disk : Disk) (c : Image) → IsInside (record { sector = at; length = n }) e → IsTorn at n disk c → IsTorn e.sector e.length disk c
+torn_within : (at n : ℕ) (e : Extent) (disk : Disk) (c : Image) → IsInside (record { sector = at; length = n }) e → IsTorn at n disk c →
+    IsTorn e.sector e.length disk c
 torn_within at n e disk c inside torn = (torn.0, torn.1, elsewhere_within at n e torn.0 c inside torn.2)
 
 -- are among more
-pub touches_within : (at n : ℕ) (e : Extent) (old new : Disk) → IsInside (record { sector = at; length = n }) e → Touches at n old new → Touches e.sector e.length old new
+pub touches_within : (at n : ℕ) (e : Extent) (old new : Disk) → IsInside (record { sector = at; length = n }) e → Touches at n old new →
+    Touches e.sector e.length old new
 touches_within at n e old new inside touches = record {
   size = touches.size;
   elsewhere = elsewhere_within at n e old.seen new.seen inside touches.elsewhere;
   crash = λ c left. torn_within at n e old c inside (touches.crash c left);
-  any_moment = leaves_weaker {old = old} {new = new} {P = IsTorn at n old} (IsTorn e.sector e.length old) (λ c. torn_within at n e old c inside) touches.any_moment;
+  any_moment = leaves_weaker {old = old} {new = new} {P = IsTorn at n old} (IsTorn e.sector e.length old) (λ c. torn_within at n e old c inside)
+      touches.any_moment;
 }
 
 torn_twice : (at n : ℕ) (old mid : Disk) → Touches at n old mid → (c : Image) → IsTorn at n mid c → IsTorn at n old c
@@ -144,9 +152,13 @@ reads_mended old new o reads = record {
 -- ---- what lies apart from the slot
 
 -- is what the device gives
-pub apart_bytes : (image : Image) (u : Unwritten) (at : ℕ) (p : Plan) (n : ℕ) → IsApart (record { sector = at; length = place_length p n }) (record { sector = u.sector; length = 8 }) → bytes_at (mended image (Some u)) at p n ≡ bytes_at image at p n
+pub apart_bytes : (image : Image) (u : Unwritten) (at : ℕ) (p : Plan) (n : ℕ) →
+    IsApart (record { sector = at; length = place_length p n }) (record { sector = u.sector; length = 8 }) →
+    bytes_at (mended image (Some u)) at p n ≡ bytes_at image at p n
 apart_bytes image u at p n apart = bytes_stay at p n (record { sector = u.sector; length = 8 }) image (mended image (Some u)) apart (mended_elsewhere image u)
 
-pub apart_frame : (image : Image) (u : Unwritten) (p : Plan) (generation : ℕ) (es : List Entry) → SparesFrames p generation es (record { sector = u.sector; length = 8 }) → (n : ℕ) → n < count_of p
+pub apart_frame : (image : Image) (u : Unwritten) (p : Plan) (generation : ℕ) (es : List Entry) →
+    SparesFrames p generation es (record { sector = u.sector; length = 8 }) → (n : ℕ) → n < count_of p
     → frame_in (mended image (Some u)) p generation es n ≡ frame_in image p generation es n
-apart_frame image u p generation es spares n lt = frame_stays p generation es (record { sector = u.sector; length = 8 }) image (mended image (Some u)) spares (mended_elsewhere image u) n lt
+apart_frame image u p generation es spares n lt = frame_stays p generation es (record { sector = u.sector; length = 8 }) image (mended image (Some u)) spares
+    (mended_elsewhere image u) n lt

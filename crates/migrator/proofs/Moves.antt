@@ -35,7 +35,8 @@ moved_more old mid new a b c i k first second =
       goes_on = goes_trans old mid new a b c (ap (λ (s : Stored). s.saved) first.stored) first.goes_on second.goes_on;
     }
 
-pub next_low : (old mid : Disk) (a b : Books) (i count : ℕ) → MovedBy old mid a b i → a.moved + count ≤ a.header.entries → i < count → b.moved < b.header.entries
+pub next_low : (old mid : Disk) (a b : Books) (i count : ℕ) → MovedBy old mid a b i → a.moved + count ≤ a.header.entries → i < count →
+    b.moved < b.header.entries
 next_low old mid a b i count so_far few lt = subst (λ (x : Books). x.moved < x.header.entries) (sym so_far.books) (omega (arith, few, lt))
 
 -- ---- a migration
@@ -64,7 +65,8 @@ pub part_moments : (old mid : Disk) (a b : Books) (count k : ℕ) → MovedBy ol
     → LeavesEither old mid (stored_on old a).saved (moved_saved count (snapshots_in (stored_on old a)))
 part_moments old mid a b count k so_far sound =
     leaves_weaker {old = old} {new = mid} {P = λ c. Holds old.sectors c (stored_on old a).saved}
-    (λ c. Holds old.sectors c (stored_on old a).saved ⊎ Holds old.sectors c (moved_saved count (snapshots_in (stored_on old a)))) (λ c is. inl is) (so_far.goes_on.any_moment sound)
+    (λ c. Holds old.sectors c (stored_on old a).saved ⊎ Holds old.sectors c (moved_saved count (snapshots_in (stored_on old a)))) (λ c is. inl is)
+    (so_far.goes_on.any_moment sound)
 
 module _ (old mid : Disk) (a b : Books) (count some : ℕ) (few : a.moved ≤ a.header.entries)
     (lesser : IsLesser some count (a.header.entries - a.moved)) (so_far : MovedBy old mid a b some) where
@@ -101,7 +103,8 @@ module _ (old mid : Disk) (a b : Books) (count some : ℕ) (few : a.moved ≤ a.
     pub all_number : 0 ≡ a.header.entries - a.moved - count
     all_number = omega (arith, all_old, lesser.0)
 
-    pub all_stored : (new : Disk) (c : Books) → stored_on new c ≡ on_snapshots all_moved (stored_on mid b) → stored_on new c ≡ on_snapshots (moved count) (stored_on old a)
+    pub all_stored : (new : Disk) (c : Books) → stored_on new c ≡ on_snapshots all_moved (stored_on mid b) →
+        stored_on new c ≡ on_snapshots (moved count) (stored_on old a)
     all_stored new c is =
         is ∙ ap (on_snapshots all_moved) so_far.stored ∙ ap (λ (s : SavedFrames). stored_with (stored_on old a) s 0) (sym saved_home)
         ∙ ap (λ (n : ℕ). stored_with (stored_on old a) (moved_saved count (snapshots_in (stored_on old a))) n) all_number

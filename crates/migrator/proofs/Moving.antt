@@ -21,10 +21,12 @@ pub no_checkpoint : (size : ℕ) (image : Image) (b : Books) → IsKept size ima
 no_checkpoint size image b kept some = not_running b b.size kept.running some
 
 -- sectors that hold no frame that was put: a home
-puts_home : (p : Plan) (generation m : ℕ) (ps : List Place) → IsPlan p → IsTable ps → taken_count ps ≤ p.geometry.log → m < count_of p → SparesPuts p generation ps (home_extent p m)
+puts_home : (p : Plan) (generation m : ℕ) (ps : List Place) → IsPlan p → IsTable ps → taken_count ps ≤ p.geometry.log → m < count_of p →
+    SparesPuts p generation ps (home_extent p m)
 puts_home p generation m ps fits table few within n s lt is =
     let less = table.few n s (ap slot_of is) in
-    apart_turned (home_extent p m) (place_extent p generation s n) (home_apart p generation m (place_extent p generation s n) fits within (place_inside p generation s n (omega (arith, less, few))))
+    apart_turned (home_extent p m) (place_extent p generation s n)
+    (home_apart p generation m (place_extent p generation s n) fits within (place_inside p generation s n (omega (arith, less, few))))
 
 abbrev pub moved_books : Books → ℕ → Books
 moved_books b k = record b { moved = b.moved + k }
@@ -61,19 +63,22 @@ module _ (old new : Disk) (b : Books) (kept : IsKept old.sectors old.seen b) (so
   spares_all = record {
     frames = spares.frames;
     homes = λ i lt.
-        places_apart b.plan (entry_at b.directory i).object object kept.plan (kept.directory.each i (record { object = 0; slot = 0 }) (omega (arith, lt, in_list))).object object_fits (first i lt);
+        places_apart b.plan (entry_at b.directory i).object object kept.plan
+        (kept.directory.each i (record { object = 0; slot = 0 }) (omega (arith, lt, in_list))).object object_fits (first i lt);
     frozen = none_spares b.plan (frozen_generation b) b.frozen (home_extent b.plan object) blank;
     working = puts_home b.plan (working_generation b) object b.working kept.plan kept.working.table kept.working.few object_fits;
   }
 
   kept_new : IsKept new.sectors new.seen b
-  kept_new = subst (λ (k : ℕ). IsKept k new.seen b) (sym touches.size) (kept_on old.sectors b (home_extent b.plan object) old.seen new.seen spares_all touches.elsewhere kept)
+  kept_new = subst (λ (k : ℕ). IsKept k new.seen b) (sym touches.size)
+      (kept_on old.sectors b (home_extent b.plan object) old.seen new.seen spares_all touches.elsewhere kept)
 
   stored_new : stored_in new.seen b ≡ stored_in old.seen b
   stored_new = stored_stays old.sectors b (home_extent b.plan object) old.seen new.seen spares_all touches.elsewhere
 
   is_home : IsCopied old.seen new.seen b.plan b.header.generation b.directory object → IsHome new.seen b.plan b.header.generation b.directory b.moved
-  is_home copied n lt same = copied n lt same ∙ sym (frame_stays b.plan b.header.generation b.directory (home_extent b.plan object) old.seen new.seen spares.frames touches.elsewhere n lt)
+  is_home copied n lt same = copied n lt same ∙
+      sym (frame_stays b.plan b.header.generation b.directory (home_extent b.plan object) old.seen new.seen spares.frames touches.elsewhere n lt)
 
   pub copied_kept : IsCopied old.seen new.seen b.plan b.header.generation b.directory object → IsKept new.sectors new.seen (moved_books b 1)
   copied_kept copied = record {
@@ -103,7 +108,8 @@ module _ (old new : Disk) (b : Books) (kept : IsKept old.sectors old.seen b) (so
   copied_stored = ap (λ (s : Stored). record s { to_move = b.header.entries - (b.moved + 1) }) stored_new
 
   pub uncopied_stored : stored_in new.seen b ≡ record (stored_in old.seen b) { to_move = b.header.entries - (b.moved + 0) }
-  uncopied_stored = let same : b.moved ≡ b.moved + 0 = omega arith in stored_new ∙ ap (λ (n : ℕ). record (stored_in old.seen b) { to_move = b.header.entries - n }) same
+  uncopied_stored = let same : b.moved ≡ b.moved + 0 = omega arith in stored_new ∙
+      ap (λ (n : ℕ). record (stored_in old.seen b) { to_move = b.header.entries - n }) same
 
   pub copied_goes_on : (k : ℕ) → GoesOnSeen old new b (moved_books b k)
   copied_goes_on k = goes_spared old new b (moved_books b k) (home_extent b.plan object) refl refl refl spares touches
@@ -141,7 +147,8 @@ module _ (size : ℕ) (image : Image) (b : Books) (kept : IsKept size image b) (
 
 -- ---- one after the other
 
-pub goes_trans : (old mid new : Disk) (a b c : Books) → (stored_in (seen_by mid.seen b) b).saved ≡ (stored_in (seen_by old.seen a) a).saved → GoesOnDisk old mid a b → GoesOnDisk mid new b c → GoesOnDisk old new a c
+pub goes_trans : (old mid new : Disk) (a b c : Books) → (stored_in (seen_by mid.seen b) b).saved ≡ (stored_in (seen_by old.seen a) a).saved →
+    GoesOnDisk old mid a b → GoesOnDisk mid new b c → GoesOnDisk old new a c
 goes_trans old mid new a b c same first second = record {
   plan = second.plan ∙ first.plan;
   size = second.size ∙ first.size;
@@ -157,5 +164,6 @@ goes_none disk b only_now = record {
   plan = refl;
   size = refl;
   sound = λ sound. sound;
-  any_moment = λ sound. started disk (λ c. Holds disk.sectors c (stored_in (seen_by disk.seen b) b).saved) only_now (λ c left. holds disk.sectors c (saved_state (seen_by disk.seen b) b) (sound c left));
+  any_moment = λ sound. started disk (λ c. Holds disk.sectors c (stored_in (seen_by disk.seen b) b).saved) only_now
+      (λ c left. holds disk.sectors c (saved_state (seen_by disk.seen b) b) (sound c left));
 }

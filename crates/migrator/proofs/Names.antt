@@ -21,7 +21,7 @@ pub use Rattle.device.specs.declared.device.Failed.{Failed}
 pub use Rattle.frame_io.specs.Calls.{ReadsOnly, WritesAt}
 pub use Rattle.frame_io.specs.Fault.{CountsFailed}
 pub use Rattle.frame_io.specs.Frames.{IsHeaderAt, IsObject, IsRefused}
-pub use Rattle.frame_io.specs.declared.fault.ReadFault.{ReadFault}
+pub use Rattle.frame_io.specs.declared.fault.Unreadable.{Unreadable}
 pub use Rattle.home_ranges.proofs.FrameSlots.{beside_behind, beside_frame_slot, beside_here, frame_slot_entry, own_frame_slot, same_some}
 pub use Rattle.home_ranges.proofs.Places.{IsOwn, alone, lt_false, lt_true, one_length, places_apart, places_spare_log, places_within, ranked, zeros_home}
 pub use Rattle.home_ranges.proofs.Shared.{begins, home_between, own_of}

@@ -9,12 +9,16 @@ use Rattle.migrator.proofs.GoingOn.{goes_seen}
 use Rattle.migrator.proofs.Journaling.{put_goes_on, put_kept, put_spelt, put_stored}
 use Rattle.migrator.proofs.Mended.{mended_disk, unmended, writes_mended}
 
-module _ (old new : Disk) (b : Books) (is : IsDurable old b) (free : b.size ≡ None) (home : b.header.entries ≡ 0) (writes : WritesAt (slot_sector b.plan b.header.generation 0) 9 old new) where
+module _ (old new : Disk) (b : Books) (is : IsDurable old b) (free : b.size ≡ None) (home : b.header.entries ≡ 0)
+    (writes : WritesAt (slot_sector b.plan b.header.generation 0) 9 old new) where
   mended_writes : WritesAt (slot_sector b.plan b.header.generation 0) 9 (mended_disk old b.unwritten) (mended_disk new b.unwritten)
   mended_writes = writes_mended (slot_sector b.plan b.header.generation 0) 9 old new b.unwritten writes
 
   pub page_durable : IsDurable new b
-  page_durable = record { kept = put_kept (mended_disk old b.unwritten) (mended_disk new b.unwritten) b is.kept free home mended_writes; unwritten = is.unwritten }
+  page_durable = record {
+    kept = put_kept (mended_disk old b.unwritten) (mended_disk new b.unwritten) b is.kept free home mended_writes;
+    unwritten = is.unwritten;
+  }
 
   pub page_stored : stored_on new b ≡ stored_on old b
   page_stored = put_stored (mended_disk old b.unwritten) (mended_disk new b.unwritten) b is.kept free home mended_writes
@@ -23,11 +27,14 @@ module _ (old new : Disk) (b : Books) (is : IsDurable old b) (free : b.size ≡ 
   page_goes_on = goes_seen old new b b (put_goes_on (mended_disk old b.unwritten) (mended_disk new b.unwritten) b is.kept free home mended_writes)
 
   -- the slot spells the page with its words, at each age from the saved one on
-  pub page_spelt : (n : ℕ) (header : ObjectHeader) (words : List ℕ) → (frame_at (stored_on old b).saved.frames n).header.role ≡ role.Page → header ≡ (frame_at (stored_on old b).saved.frames n).header → AreKeptWords 512 words
-      → sectors_from new.seen (slot_sector b.plan b.header.generation 0) 9 ≡ page_frame_bytes (record { header = header; content = content.Page words }) → (age : ℕ) → b.header.age ≤ age
+  pub page_spelt : (n : ℕ) (header : ObjectHeader) (words : List ℕ) → (frame_at (stored_on old b).saved.frames n).header.role ≡ role.Page →
+      header ≡ (frame_at (stored_on old b).saved.frames n).header → AreKeptWords 512 words
+      → sectors_from new.seen (slot_sector b.plan b.header.generation 0) 9 ≡ page_frame_bytes (record { header = header; content = content.Page words }) →
+      (age : ℕ) → b.header.age ≤ age
       → IsFrameOf b.plan.geometry age n (first_bytes new.seen b n) (with_words words (frame_at (stored_on old b).saved.frames n))
   page_spelt n header words page same fits written age le =
       let seen = unmended new.seen b.unwritten (none_idle b b.unwritten is.unwritten free) in
       subst (λ (image : Image). IsFrameOf b.plan.geometry age n (first_bytes image b n) (with_words words (frame_at (stored_on old b).saved.frames n))) seen
       (put_spelt (mended_disk old b.unwritten) (mended_disk new b.unwritten) b is.kept free home mended_writes n header words page same fits
-      (subst (λ (image : Image). sectors_from image (slot_sector b.plan b.header.generation 0) 9 ≡ page_frame_bytes (record { header = header; content = content.Page words })) (sym seen) written) age le)
+      (subst (λ (image : Image). sectors_from image (slot_sector b.plan b.header.generation 0) 9 ≡ page_frame_bytes
+      (record { header = header; content = content.Page words })) (sym seen) written) age le)

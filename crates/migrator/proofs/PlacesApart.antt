@@ -9,21 +9,25 @@ use Rattle.migrator.proofs.FrameSlots.{no_entries, frame_slots_differ, frame_slo
 
 -- ---- where the frame of an object is read
 
-pub in_frame_slot : (image : Image) (p : Plan) (generation : ℕ) (es : List Entry) (n s : ℕ) → frame_slot_in p es n ≡ Some s → frame_in image p generation es n ≡ slot_bytes image p generation s n
+pub in_frame_slot : (image : Image) (p : Plan) (generation : ℕ) (es : List Entry) (n s : ℕ) → frame_slot_in p es n ≡ Some s →
+    frame_in image p generation es n ≡ slot_bytes image p generation s n
 in_frame_slot image p generation es n s is =
     ap (λ (o : Option ℕ). bytes_at image (sector_or o (slot_sector p generation) (home_place p n)) p n) is
 
-pub in_slot : (image : Image) (p : Plan) (generation : ℕ) (es : List Entry) (n s : ℕ) → slot_in es n ≡ Some s → frame_in image p generation es n ≡ slot_bytes image p generation s n
+pub in_slot : (image : Image) (p : Plan) (generation : ℕ) (es : List Entry) (n s : ℕ) → slot_in es n ≡ Some s →
+    frame_in image p generation es n ≡ slot_bytes image p generation s n
 in_slot image p generation es n s is = in_frame_slot image p generation es n s (own_frame_slot p es n s is)
 
-pub at_home : (image : Image) (p : Plan) (generation : ℕ) (es : List Entry) (n : ℕ) → frame_slot_in p es n ≡ None → frame_in image p generation es n ≡ bytes_at image (home_place p n) p n
+pub at_home : (image : Image) (p : Plan) (generation : ℕ) (es : List Entry) (n : ℕ) → frame_slot_in p es n ≡ None →
+    frame_in image p generation es n ≡ bytes_at image (home_place p n) p n
 at_home image p generation es n is =
     ap (λ (o : Option ℕ). bytes_at image (sector_or o (slot_sector p generation) (home_place p n)) p n) is
 
 abbrev extent_of : ℕ → ℕ → Extent
 extent_of sector length = record { sector = sector; length = length }
 
-apart_by : (o : Option ℕ) (p : Plan) (generation : ℕ) (es : List Entry) (n : ℕ) (e : Extent) → frame_slot_in p es n ≡ o → ((s : ℕ) → frame_slot_in p es n ≡ Some s → IsApart (place_extent p generation s n) e)
+apart_by : (o : Option ℕ) (p : Plan) (generation : ℕ) (es : List Entry) (n : ℕ) (e : Extent) → frame_slot_in p es n ≡ o →
+    ((s : ℕ) → frame_slot_in p es n ≡ Some s → IsApart (place_extent p generation s n) e)
     → (frame_slot_in p es n ≡ None → IsApart (home_extent p n) e) → IsApart (frame_extent p generation es n) e
 apart_by None p generation es n e is slot home =
     subst (λ (o : Option ℕ). IsApart (extent_of (sector_or o (slot_sector p generation) (home_place p n)) (place_length p n)) e) (sym is) (home is)
@@ -31,35 +35,45 @@ apart_by (Some s) p generation es n e is slot home =
     subst (λ (o : Option ℕ). IsApart (extent_of (sector_or o (slot_sector p generation) (home_place p n)) (place_length p n)) e) (sym is) (slot s is)
 
 -- the frame of an object lies apart where both of its places do
-pub frame_apart : (p : Plan) (generation : ℕ) (es : List Entry) (n : ℕ) (e : Extent) → ((s : ℕ) → frame_slot_in p es n ≡ Some s → IsApart (place_extent p generation s n) e)
+pub frame_apart : (p : Plan) (generation : ℕ) (es : List Entry) (n : ℕ) (e : Extent) →
+    ((s : ℕ) → frame_slot_in p es n ≡ Some s → IsApart (place_extent p generation s n) e)
     → (frame_slot_in p es n ≡ None → IsApart (home_extent p n) e) → IsApart (frame_extent p generation es n) e
 frame_apart p generation es n e slot home = apart_by (frame_slot_in p es n) p generation es n e refl slot home
 
 -- ---- halves and homes
 
-pub place_inside : (p : Plan) (generation s n : ℕ) → s < p.geometry.log → IsInside (place_extent p generation s n) (half_extent p.geometry (half_sector p generation))
+pub place_inside : (p : Plan) (generation s n : ℕ) → s < p.geometry.log →
+    IsInside (place_extent p generation s n) (half_extent p.geometry (half_sector p generation))
 place_inside p generation s n lt =
     let inner = frames_in_slots p generation s n in
     let outer = slots_inside p generation s lt in
     record { starts = omega (arith, inner.starts, outer.starts); ends = omega (arith, inner.ends, outer.ends) }
 
 -- a place in one half, and sectors of the other
-pub other_half : (p : Plan) (a b s n : ℕ) (e : Extent) → IsPlan p → (a % 2 ≡ b % 2 → ⊥) → s < p.geometry.log → IsInside e (half_extent p.geometry (half_sector p b)) → IsApart (place_extent p a s n) e
+pub other_half : (p : Plan) (a b s n : ℕ) (e : Extent) → IsPlan p → (a % 2 ≡ b % 2 → ⊥) → s < p.geometry.log →
+    IsInside e (half_extent p.geometry (half_sector p b)) → IsApart (place_extent p a s n) e
 other_half p a b s n e fits differ lt inside =
-    apart_inside (place_extent p a s n) e (half_extent p.geometry (half_sector p a)) (half_extent p.geometry (half_sector p b)) (place_inside p a s n lt) inside (halves_apart p a b fits differ)
+    apart_inside (place_extent p a s n) e (half_extent p.geometry (half_sector p a)) (half_extent p.geometry (half_sector p b)) (place_inside p a s n lt) inside
+    (halves_apart p a b fits differ)
 
-pub home_apart : (p : Plan) (generation n : ℕ) (e : Extent) → IsPlan p → n < count_of p → IsInside e (half_extent p.geometry (half_sector p generation)) → IsApart (home_extent p n) e
+pub home_apart : (p : Plan) (generation n : ℕ) (e : Extent) → IsPlan p → n < count_of p → IsInside e (half_extent p.geometry (half_sector p generation)) →
+    IsApart (home_extent p n) e
 home_apart p generation n e fits lt inside =
-    apart_inside (home_extent p n) e (home_extent p n) (half_extent p.geometry (half_sector p generation)) (itself (home_extent p n)) inside (places_spare_log p n generation fits lt)
+    apart_inside (home_extent p n) e (home_extent p n) (half_extent p.geometry (half_sector p generation)) (itself (home_extent p n)) inside
+    (places_spare_log p n generation fits lt)
 
 -- what is saved lies apart from the other half
-pub spares_other : (p : Plan) (h : CheckpointHeader) (es : List Entry) (generation : ℕ) (e : Extent) → IsPlan p → IsDirectory p.geometry es → h.entries ≤ p.geometry.log → (h.generation % 2 ≡ generation % 2 → ⊥)
+pub spares_other : (p : Plan) (h : CheckpointHeader) (es : List Entry) (generation : ℕ) (e : Extent) → IsPlan p → IsDirectory p.geometry es →
+    h.entries ≤ p.geometry.log → (h.generation % 2 ≡ generation % 2 → ⊥)
     → IsInside e (half_extent p.geometry (half_sector p generation)) → Spares p h es e
 spares_other p h es generation e fits is few differ inside = record {
   headers = (within_inside p.total e (half_extent p.geometry (half_sector p generation)) inside (halves_within p generation fits)).0;
-  directory = inr (apart_inside (directory_extent p h.generation h.entries) e (half_extent p.geometry (half_sector p h.generation)) (half_extent p.geometry (half_sector p generation))
+  directory = inr (apart_inside (directory_extent p h.generation h.entries) e (half_extent p.geometry (half_sector p h.generation))
+      (half_extent p.geometry (half_sector p generation))
       (directories_inside p h.generation h.entries few) inside (halves_apart p h.generation generation fits differ));
-  frames = λ n lt. frame_apart p h.generation es n e (λ s slot. other_half p h.generation generation s n e fits differ (frame_slot_fits p es n s is slot) inside) (λ _. home_apart p generation n e fits lt inside);
+  frames = λ n lt. frame_apart p h.generation es n e
+      (λ s slot. other_half p h.generation generation s n e fits differ (frame_slot_fits p es n s is slot) inside)
+      (λ _. home_apart p generation n e fits lt inside);
 }
 
 -- and from both halves where all of it is home
@@ -68,14 +82,17 @@ pub spares_log : (p : Plan) (h : CheckpointHeader) (es : List Entry) (generation
 spares_log p h es generation e fits count none inside = record {
   headers = (within_inside p.total e (half_extent p.geometry (half_sector p generation)) inside (halves_within p generation fits)).0;
   directory = inl none;
-  frames = λ n lt. frame_apart p h.generation es n e (λ s slot. let never : None ≡ Some s = sym (no_entries p es n (count ∙ none)) ∙ slot in absurd cc) (λ _. home_apart p generation n e fits lt inside);
+  frames = λ n lt. frame_apart p h.generation es n e (λ s slot. let never : None ≡ Some s = sym (no_entries p es n (count ∙ none)) ∙ slot in absurd cc)
+      (λ _. home_apart p generation n e fits lt inside);
 }
 
 -- and from the home of an object that lies in the log
-pub spares_home : (p : Plan) (h : CheckpointHeader) (es : List Entry) (m t : ℕ) → IsPlan p → IsDirectory p.geometry es → h.entries ≤ p.geometry.log → m < count_of p → slot_in es m ≡ Some t → Spares p h es (home_extent p m)
+pub spares_home : (p : Plan) (h : CheckpointHeader) (es : List Entry) (m t : ℕ) → IsPlan p → IsDirectory p.geometry es → h.entries ≤ p.geometry.log →
+    m < count_of p → slot_in es m ≡ Some t → Spares p h es (home_extent p m)
 spares_home p h es m t fits is few within has = record {
   headers = (places_within p m fits within).0;
-  directory = inr (apart_inside (directory_extent p h.generation h.entries) (home_extent p m) (half_extent p.geometry (half_sector p h.generation)) (home_extent p m)
+  directory = inr (apart_inside (directory_extent p h.generation h.entries) (home_extent p m) (half_extent p.geometry (half_sector p h.generation))
+      (home_extent p m)
       (directories_inside p h.generation h.entries few) (itself (home_extent p m))
       (apart_turned (home_extent p m) (half_extent p.geometry (half_sector p h.generation)) (places_spare_log p m h.generation fits within)));
   frames = λ n lt. frame_apart p h.generation es n (home_extent p m)
@@ -83,7 +100,8 @@ spares_home p h es m t fits is few within has = record {
       (λ none. places_apart p n m fits lt within (λ same. frame_slots_differ p es n m t has none same));
 } where
   place_home : (p : Plan) (generation s n m : ℕ) → IsPlan p → s < p.geometry.log → m < count_of p → IsApart (place_extent p generation s n) (home_extent p m)
-  place_home p generation s n m fits lt within = apart_turned (home_extent p m) (place_extent p generation s n) (home_apart p generation m (place_extent p generation s n) fits within (place_inside p generation s n lt))
+  place_home p generation s n m fits lt within = apart_turned (home_extent p m) (place_extent p generation s n)
+      (home_apart p generation m (place_extent p generation s n) fits within (place_inside p generation s n lt))
 
 -- home frames lie behind the headers
 pub homes_behind : (p : Plan) → IsPlan p → HomesAreBehind p

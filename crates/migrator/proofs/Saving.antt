@@ -9,7 +9,8 @@ use Rattle.migrator.proofs.Spared.{touches, frame_stays, state_stays, state_spar
 use Rattle.migrator.proofs.PlacesApart.{homes_behind}
 
 -- what is known before: each crash leaves one committed header, and the next may follow it
-module _ (disk : Disk) (p : Plan) (h : CheckpointHeader) (es : List Entry) (left : disk.may_leave disk.seen) (sound : LeavesState disk (state_in disk.seen p h es)) where
+module _ (disk : Disk) (p : Plan) (h : CheckpointHeader) (es : List Entry) (left : disk.may_leave disk.seen)
+    (sound : LeavesState disk (state_in disk.seen p h es)) where
   pub seen_denotes : Encodes disk.seen disk.sectors (state_in disk.seen p h es)
   seen_denotes = sound disk.seen left
 
@@ -23,25 +24,31 @@ module _ (disk : Disk) (p : Plan) (h : CheckpointHeader) (es : List Entry) (left
 module _ (old mid : Disk) (p : Plan) (h : CheckpointHeader) (es : List Entry) (next : CheckpointHeader) (fs : List Entry) (may : MaySave old p h es next fs)
     (writes : WritesAt (directory_sector p next.generation) (directory_length next.entries) old mid) where
   pub mid_sound : LeavesState mid (state_in mid.seen p h es)
-  mid_sound = sound_spared old mid p h es (directory_extent p next.generation next.entries) may.spares (touches (directory_sector p next.generation) (directory_length next.entries) old mid writes) may.sound
+  mid_sound = sound_spared old mid p h es (directory_extent p next.generation next.entries) may.spares
+      (touches (directory_sector p next.generation) (directory_length next.entries) old mid writes) may.sound
 
   pub mid_state : state_in mid.seen p h es ≡ state_in old.seen p h es
-  mid_state = state_spared old mid p h es (directory_extent p next.generation next.entries) may.spares (touches (directory_sector p next.generation) (directory_length next.entries) old mid writes)
+  mid_state = state_spared old mid p h es (directory_extent p next.generation next.entries) may.spares
+      (touches (directory_sector p next.generation) (directory_length next.entries) old mid writes)
 
   pub next_state : state_in mid.seen p next fs ≡ state_in old.seen p next fs
   next_state = state_stays p next fs (directory_extent p next.generation next.entries) old.seen mid.seen may.spares_next writes.elsewhere
 
   next_spelt : AreSpelt mid.seen p next.age next.generation fs
   next_spelt n lt =
-      spelt_same mid.seen old.seen p next.age next.generation next.generation fs fs n (frame_stays p next.generation fs (directory_extent p next.generation next.entries) old.seen mid.seen may.spares_next writes.elsewhere n lt) (may.spelt n lt)
+      spelt_same mid.seen old.seen p next.age next.generation next.generation fs fs n
+      (frame_stays p next.generation fs (directory_extent p next.generation next.entries) old.seen mid.seen may.spares_next writes.elsewhere n lt)
+      (may.spelt n lt)
 
   first_run : LeavesOnly old mid (λ c. Encodes c old.sectors (state_in old.seen p h es))
-  first_run = moments_spared old mid p h es (directory_extent p next.generation next.entries) may.spares (touches (directory_sector p next.generation) (directory_length next.entries) old mid writes) may.sound
+  first_run = moments_spared old mid p h es (directory_extent p next.generation next.entries) may.spares
+      (touches (directory_sector p next.generation) (directory_length next.entries) old mid writes) may.sound
 
   -- where the write failed
   pub either_first : LeavesOnly old mid (λ c. Encodes c old.sectors (state_in old.seen p h es) ⊎ Encodes c old.sectors (state_in old.seen p next fs))
   either_first =
-      leaves_weaker {old = old} {new = mid} {P = λ c. Encodes c old.sectors (state_in old.seen p h es)} (λ c. Encodes c old.sectors (state_in old.seen p h es) ⊎ Encodes c old.sectors (state_in old.seen p next fs))
+      leaves_weaker {old = old} {new = mid} {P = λ c. Encodes c old.sectors (state_in old.seen p h es)}
+      (λ c. Encodes c old.sectors (state_in old.seen p h es) ⊎ Encodes c old.sectors (state_in old.seen p next fs))
       (λ c is. inl is) first_run
 
   module _ (left : mid.may_leave mid.seen) (written : directory_in mid.seen p next.generation next.entries ≡ directory_bytes fs) where
@@ -54,7 +61,8 @@ module _ (old mid : Disk) (p : Plan) (h : CheckpointHeader) (es : List Entry) (n
       header = may.fits;
       directory = record { count = may.count; fits = may.directory; spelt = written };
       count = length_read mid.seen p next.generation fs;
-      each = λ n lt. subst (IsFrameOf p.geometry next.age n (frame_in mid.seen p next.generation fs n)) (sym (read_at mid.seen p next.generation fs n lt)) (next_spelt n lt);
+      each = λ n lt. subst (IsFrameOf p.geometry next.age n (frame_in mid.seen p next.generation fs n)) (sym (read_at mid.seen p next.generation fs n lt))
+          (next_spelt n lt);
     }
 
     -- an image with the new header denotes what is saved next
@@ -68,31 +76,37 @@ module _ (old mid : Disk) (p : Plan) (h : CheckpointHeader) (es : List Entry) (n
     old_state c is =
         subst (λ (s : SavedState). Encodes c old.sectors s) mid_state
         (subst (λ (size : ℕ). Encodes c size (state_in mid.seen p h es)) writes.size
-        (old_denoted mid.seen is.could_be.0 c mid.sectors (state_in mid.seen p h es) next (homes_behind p may.plan) seen (mid_sound is.could_be.0 is.could_be.1) is.could_be.2 is.committed))
+        (old_denoted mid.seen is.could_be.0 c mid.sectors (state_in mid.seen p h es) next (homes_behind p may.plan) seen (mid_sound is.could_be.0 is.could_be.1)
+        is.could_be.2 is.committed))
 
     -- the run to its end
     pub either_run : (new : Disk) → LeavesOnly mid new (λ c. IsOld next mid c ⊎ HasNew next mid.seen c)
         → LeavesOnly old new (λ c. Encodes c old.sectors (state_in old.seen p h es) ⊎ Encodes c old.sectors (state_in old.seen p next fs))
     either_run new run =
-        leaves_on {old = old} {mid = mid} {new = new} {P = λ c. Encodes c old.sectors (state_in old.seen p h es) ⊎ Encodes c old.sectors (state_in old.seen p next fs)} either_first
-        (leaves_weaker {old = mid} {new = new} {P = λ c. IsOld next mid c ⊎ HasNew next mid.seen c} (λ c. Encodes c old.sectors (state_in old.seen p h es) ⊎ Encodes c old.sectors (state_in old.seen p next fs))
+        leaves_on {old = old} {mid = mid} {new = new} {P = λ c. Encodes c old.sectors (state_in old.seen p h es) ⊎ Encodes c old.sectors
+        (state_in old.seen p next fs)} either_first
+        (leaves_weaker {old = mid} {new = new} {P = λ c. IsOld next mid c ⊎ HasNew next mid.seen c}
+        (λ c. Encodes c old.sectors (state_in old.seen p h es) ⊎ Encodes c old.sectors (state_in old.seen p next fs))
         (λ c. ⊎_elim (λ is. inl (old_state c is)) (λ has. inr (new_state c has))) run)
 
     -- where it succeeded each crash leaves what is saved next
-    pub saved_next : (new : Disk) → new.sectors ≡ mid.sectors → Only new.seen new → HasNew next mid.seen new.seen → LeavesState new (state_in old.seen p next fs)
+    pub saved_next : (new : Disk) → new.sectors ≡ mid.sectors → Only new.seen new → HasNew next mid.seen new.seen →
+        LeavesState new (state_in old.seen p next fs)
     saved_next new size only has c may_leave =
         subst (λ (k : ℕ). Encodes c k (state_in old.seen p next fs)) (sym (size ∙ writes.size))
         (subst (λ (i : Image). Encodes i old.sectors (state_in old.seen p next fs)) (sym (agrees_is c new.seen (only c may_leave))) (new_state new.seen has))
 
 -- what is written in all
-pub only_directory : (p : Plan) (next : CheckpointHeader) (old mid : Disk) → WritesAt (directory_sector p next.generation) (directory_length next.entries) old mid → SavesOnly p next old.seen mid.seen
+pub only_directory : (p : Plan) (next : CheckpointHeader) (old mid : Disk) → WritesAt (directory_sector p next.generation) (directory_length next.entries) old
+    mid → SavesOnly p next old.seen mid.seen
 only_directory p next old mid writes = record {
   between = mid.seen;
   directory = writes.elsewhere;
   header = record { before = λ i lt. refl; after = λ i le. refl };
 }
 
-pub only_both : (p : Plan) (next : CheckpointHeader) (old mid new : Disk) → WritesAt (directory_sector p next.generation) (directory_length next.entries) old mid → Elsewhere (header_sector next) 2 mid.seen new.seen
+pub only_both : (p : Plan) (next : CheckpointHeader) (old mid new : Disk) → WritesAt (directory_sector p next.generation) (directory_length next.entries) old
+    mid → Elsewhere (header_sector next) 2 mid.seen new.seen
     → SavesOnly p next old.seen new.seen
 only_both p next old mid new writes published = record { between = mid.seen; directory = writes.elsewhere; header = published }
 

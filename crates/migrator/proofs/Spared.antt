@@ -7,17 +7,22 @@ use Rattle.std.proofs.Common.{◌≡◌, ◌+◌, ◌<◌, ◌∙◌}
 
 -- a change of other sectors leaves these
 pub stays : (d e : Extent) (old new : Image) → IsApart d e → Elsewhere e.sector e.length old new → SameFrom d.sector d.length old new
-stays d e old new apart change i lt = ⊎_elim (λ le. change.before (d.sector + i) (omega (arith, le, lt))) (λ le. change.after (d.sector + i) (omega (arith, le))) apart
+stays d e old new apart change i lt = ⊎_elim (λ le. change.before (d.sector + i) (omega (arith, le, lt)))
+    (λ le. change.after (d.sector + i) (omega (arith, le))) apart
 
 -- and the frame that lies in them
-pub bytes_stay : (at : ℕ) (p : Plan) (n : ℕ) (e : Extent) (old new : Image) → IsApart (record { sector = at; length = place_length p n }) e → Elsewhere e.sector e.length old new → bytes_at new at p n ≡ bytes_at old at p n
-bytes_stay at p n e old new apart change = same_shaped at (shape_of p n) old new (stays (record { sector = at; length = place_length p n }) e old new apart change)
+pub bytes_stay : (at : ℕ) (p : Plan) (n : ℕ) (e : Extent) (old new : Image) → IsApart (record { sector = at; length = place_length p n }) e →
+    Elsewhere e.sector e.length old new → bytes_at new at p n ≡ bytes_at old at p n
+bytes_stay at p n e old new apart change = same_shaped at (shape_of p n) old new
+    (stays (record { sector = at; length = place_length p n }) e old new apart change)
 
-pub frame_stays : (p : Plan) (generation : ℕ) (es : List Entry) (e : Extent) (old new : Image) → SparesFrames p generation es e → Elsewhere e.sector e.length old new → (n : ℕ) → n < count_of p
+pub frame_stays : (p : Plan) (generation : ℕ) (es : List Entry) (e : Extent) (old new : Image) → SparesFrames p generation es e →
+    Elsewhere e.sector e.length old new → (n : ℕ) → n < count_of p
     → frame_in new p generation es n ≡ frame_in old p generation es n
 frame_stays p generation es e old new spares change n lt = bytes_stay (frame_sector p generation es n) p n e old new (spares n lt) change
 
-pub state_stays : (p : Plan) (h : CheckpointHeader) (es : List Entry) (e : Extent) (old new : Image) → SparesFrames p h.generation es e → Elsewhere e.sector e.length old new → state_in new p h es ≡ state_in old p h es
+pub state_stays : (p : Plan) (h : CheckpointHeader) (es : List Entry) (e : Extent) (old new : Image) → SparesFrames p h.generation es e →
+    Elsewhere e.sector e.length old new → state_in new p h es ≡ state_in old p h es
 state_stays p h es e old new spares change =
     ap (λ (fs : List Frame). record { plan = p; header = h; directory = es; frames = fs })
     (read_same new old p h.generation h.generation es es (frame_stays p h.generation es e old new spares change))
@@ -25,18 +30,23 @@ state_stays p h es e old new spares change =
 no_sectors : (n : ℕ) (i : ℕ) → n ≡ 0 → i < directory_length n → ⊥
 no_sectors n i none lt = omega (arith, none, lt)
 
-spares_same : (p : Plan) (h : CheckpointHeader) (es : List Entry) (e : Extent) (old new : Image) → Spares p h es e → Elsewhere e.sector e.length old new → SameWhereRead p h es old new
+spares_same : (p : Plan) (h : CheckpointHeader) (es : List Entry) (e : Extent) (old new : Image) → Spares p h es e → Elsewhere e.sector e.length old new →
+    SameWhereRead p h es old new
 spares_same p h es e old new spares change = record {
   headers = λ i lt. change.before (1 + i) (omega (arith, lt, spares.headers));
-  directory = ⊎_elim (λ none i lt. absurd (no_sectors h.entries i none lt)) (λ apart. stays (directory_extent p h.generation h.entries) e old new apart change) spares.directory;
+  directory = ⊎_elim (λ none i lt. absurd (no_sectors h.entries i none lt)) (λ apart. stays (directory_extent p h.generation h.entries) e old new apart change)
+      spares.directory;
   frames = λ n lt. stays (frame_extent p h.generation es n) e old new (spares.frames n lt) change;
 }
 
 -- such a change leaves the saved state
-pub denotes_on : (p : Plan) (h : CheckpointHeader) (es : List Entry) (fs : List Frame) (e : Extent) (size : ℕ) (old new : Image) → Spares p h es e → Elsewhere e.sector e.length old new
-    → Encodes old size (record { plan = p; header = h; directory = es; frames = fs }) → Encodes new size (record { plan = p; header = h; directory = es; frames = fs })
+pub denotes_on : (p : Plan) (h : CheckpointHeader) (es : List Entry) (fs : List Frame) (e : Extent) (size : ℕ) (old new : Image) → Spares p h es e →
+    Elsewhere e.sector e.length old new
+    → Encodes old size (record { plan = p; header = h; directory = es; frames = fs }) →
+    Encodes new size (record { plan = p; header = h; directory = es; frames = fs })
 denotes_on p h es fs e size old new spares change was =
-    same_saved old new size (record { plan = p; header = h; directory = es; frames = fs }) (λ i lt. change.before (0 + i) (omega (arith, lt, spares.headers))) (spares_same p h es e old new spares change) was
+    same_saved old new size (record { plan = p; header = h; directory = es; frames = fs }) (λ i lt. change.before (0 + i) (omega (arith, lt, spares.headers)))
+    (spares_same p h es e old new spares change) was
 
 -- ---- over a device
 
@@ -69,7 +79,8 @@ reads_then at n old mid new reads writes = record {
       (leaves_weaker {old = mid} {new = new} {P = λ c. IsTorn at n mid c} (λ c. IsTorn at n old c) (torn_on at n old mid reads) writes.any_moment);
 }
 
-module _ (old new : Disk) (p : Plan) (h : CheckpointHeader) (es : List Entry) (e : Extent) (spares : Spares p h es e) (writes : Touches e.sector e.length old new) where
+module _ (old new : Disk) (p : Plan) (h : CheckpointHeader) (es : List Entry) (e : Extent) (spares : Spares p h es e)
+    (writes : Touches e.sector e.length old new) where
   pub state_spared : state_in new.seen p h es ≡ state_in old.seen p h es
   state_spared = state_stays p h es e old.seen new.seen spares.frames writes.elsewhere
 
@@ -84,4 +95,5 @@ module _ (old new : Disk) (p : Plan) (h : CheckpointHeader) (es : List Entry) (e
 
   -- also at each moment of the write
   pub moments_spared : LeavesState old (state_in old.seen p h es) → LeavesOnly old new (λ c. Encodes c old.sectors (state_in old.seen p h es))
-  moments_spared sound = leaves_weaker {old = old} {new = new} {P = IsTorn e.sector e.length old} (λ c. Encodes c old.sectors (state_in old.seen p h es)) (left_spared sound) writes.any_moment
+  moments_spared sound = leaves_weaker {old = old} {new = new} {P = IsTorn e.sector e.length old} (λ c. Encodes c old.sectors (state_in old.seen p h es))
+      (left_spared sound) writes.any_moment

@@ -61,8 +61,10 @@ blank_at (suc n) (suc k) = blank_at n k
 
 pub blank_table : (n : ℕ) → IsTable (replicate n Nowhere)
 blank_table n = record {
-  few = λ k s is. absurd (let e : slot_of (place_at (replicate n Nowhere) k) ≡ None = ap slot_of (blank_at n k) in let never : None ≡ Some s = sym e ∙ is in cc);
-  apart = λ m k s is is'. absurd (let e : slot_of (place_at (replicate n Nowhere) m) ≡ None = ap slot_of (blank_at n m) in let never : None ≡ Some s = sym e ∙ is in cc);
+  few = λ k s is. absurd
+      (let e : slot_of (place_at (replicate n Nowhere) k) ≡ None = ap slot_of (blank_at n k) in let never : None ≡ Some s = sym e ∙ is in cc);
+  apart = λ m k s is is'. absurd
+      (let e : slot_of (place_at (replicate n Nowhere) m) ≡ None = ap slot_of (blank_at n m) in let never : None ≡ Some s = sym e ∙ is in cc);
 }
 
 -- ---- a place is set
@@ -93,10 +95,12 @@ set_there ps n m q other = get_or-set_other ps n m q Nowhere other
 -- an object with a slot stays in it
 table_kept : (ps : List Place) (n t : ℕ) (q : Place) → IsTable ps → n < length ps → slot_of (place_at ps n) ≡ Some t → slot_of q ≡ Some t → IsTable (set ps n q)
 table_kept ps n t q is lt was has =
-    let count : taken_count (set ps n q) ≡ taken_count ps = let set' = tally-set has_slot ps n q lt in let one = some_has (place_at ps n) t was in let one' = some_has q t has in omega (arith, set', one, one') in
+    let count : taken_count (set ps n q) ≡ taken_count ps = let set' = tally-set has_slot ps n q lt in let one = some_has (place_at ps n) t was in let one' =
+    some_has q t has in omega (arith, set', one, one') in
     let same : (m s : ℕ) → slot_of (place_at (set ps n q) m) ≡ Some s → slot_of (place_at ps m) ≡ Some s = λ m s e. elim (cases_eq m n) [
       | inl here ↦
-          let now : slot_of (place_at (set ps n q) m) ≡ Some t = ap (λ (k : ℕ). slot_of (place_at (set ps n q) k)) here ∙ ap slot_of (set_here ps n q lt) ∙ has in
+          let now : slot_of (place_at (set ps n q) m) ≡ Some t = ap (λ (k : ℕ). slot_of (place_at (set ps n q) k)) here ∙ ap slot_of (set_here ps n q lt) ∙
+          has in
           ap (λ (k : ℕ). slot_of (place_at ps k)) here ∙ was ∙ sym now ∙ e
       | inr there ↦ ap slot_of (sym (set_there ps n m q there)) ∙ e
     ] in
@@ -106,12 +110,15 @@ table_kept ps n t q is lt was has =
     }
 
 -- the next slot is taken
-table_more : (ps : List Place) (n : ℕ) (q : Place) → IsTable ps → n < length ps → slot_of (place_at ps n) ≡ None → slot_of q ≡ Some (taken_count ps) → IsTable (set ps n q)
+table_more : (ps : List Place) (n : ℕ) (q : Place) → IsTable ps → n < length ps → slot_of (place_at ps n) ≡ None → slot_of q ≡ Some (taken_count ps) →
+    IsTable (set ps n q)
 table_more ps n q is lt was has =
-    let count : taken_count (set ps n q) ≡ taken_count ps + 1 = let set' = tally-set has_slot ps n q lt in let none = none_has (place_at ps n) was in let one = some_has q (taken_count ps) has in omega (arith, set', none, one) in
+    let count : taken_count (set ps n q) ≡ taken_count ps + 1 = let set' = tally-set has_slot ps n q lt in let none = none_has (place_at ps n) was in let one =
+    some_has q (taken_count ps) has in omega (arith, set', none, one) in
     let here : (m s : ℕ) → m ≡ n → slot_of (place_at (set ps n q) m) ≡ Some s → s ≡ taken_count ps = λ m s same e.
     same_some s (taken_count ps) (sym e ∙ ap (λ (k : ℕ). slot_of (place_at (set ps n q) k)) same ∙ ap slot_of (set_here ps n q lt) ∙ has) in
-    let there : (m s : ℕ) → (m ≡ n → ⊥) → slot_of (place_at (set ps n q) m) ≡ Some s → slot_of (place_at ps m) ≡ Some s = λ m s other e. ap slot_of (sym (set_there ps n m q other)) ∙ e in
+    let there : (m s : ℕ) → (m ≡ n → ⊥) → slot_of (place_at (set ps n q) m) ≡ Some s →
+    slot_of (place_at ps m) ≡ Some s = λ m s other e. ap slot_of (sym (set_there ps n m q other)) ∙ e in
     record {
       few = λ m s e. elim (cases_eq m n) [
         | inl same ↦ let at = here m s same e in omega (arith, at, count)
@@ -129,7 +136,8 @@ table_more ps n q is lt was has =
       ];
     }
 
-set_by : (o : Option ℕ) (ps : List Place) (n : ℕ) (q : Place) → IsTable ps → n < length ps → slot_of (place_at ps n) ≡ o → slot_of q ≡ Some (slot_or o (taken_count ps)) → IsTable (set ps n q)
+set_by : (o : Option ℕ) (ps : List Place) (n : ℕ) (q : Place) → IsTable ps → n < length ps → slot_of (place_at ps n) ≡ o →
+    slot_of q ≡ Some (slot_or o (taken_count ps)) → IsTable (set ps n q)
 set_by None ps n q is lt was has = table_more ps n q is lt was has
 set_by (Some s) ps n q is lt was has = table_kept ps n s q is lt was has
 
@@ -176,21 +184,25 @@ entries_step i zero (p ∷ ps) = refl
 entries_step i (suc n) (p ∷ ps) = simp unary_clauses (simp unary_clauses at (entries_step i n ps))
 
 -- objects without a slot add none
-entries_unheld : (ps : List Place) (from k : ℕ) → ((m : ℕ) → from ≤ m → m < from + k → is_marked (map is_held ps) m ≡ false) → entries_from from (drop from ps) ≡ entries_from (from + k) (drop (from + k) ps)
+entries_unheld : (ps : List Place) (from k : ℕ) → ((m : ℕ) → from ≤ m → m < from + k → is_marked (map is_held ps) m ≡ false) →
+    entries_from from (drop from ps) ≡ entries_from (from + k) (drop (from + k) ps)
 entries_unheld ps from zero none = simp unary_clauses refl
 entries_unheld ps from (suc k) none =
     let rest : List Entry = entries_from (from + 1) (drop (from + 1) ps) in
     let here = unheld_slot (place_at ps from) (sym (mark_is ps from) ∙ none from (omega arith) (omega arith)) in
     let next : from + 1 + k ≡ from + suc k = omega arith in
-    entries_step from from ps ∙ ap (λ (o : Option ℕ). entry_before from o rest) here ∙ entries_unheld ps (from + 1) k (λ m past within. none m (omega arith) (omega arith))
+    entries_step from from ps ∙ ap (λ (o : Option ℕ). entry_before from o rest) here ∙
+    entries_unheld ps (from + 1) k (λ m past within. none m (omega arith) (omega arith))
     ∙ ap (λ (n : ℕ). entries_from n (drop n ps)) next
 
 -- the next object with a slot has the next entry
-pub next_held : (ps : List Place) (from n s : ℕ) → IsNextMarked (map is_held ps) from n → slot_of (place_at ps n) ≡ Some s → entries_from from (drop from ps) ≡ record { object = n; slot = s } ∷ entries_from (n + 1) (drop (n + 1) ps)
+pub next_held : (ps : List Place) (from n s : ℕ) → IsNextMarked (map is_held ps) from n → slot_of (place_at ps n) ≡ Some s →
+    entries_from from (drop from ps) ≡ record { object = n; slot = s } ∷ entries_from (n + 1) (drop (n + 1) ps)
 next_held ps from n s next has =
     let end : from + (n - from) ≡ n = omega (arith, next.past) in
     entries_unheld ps from (n - from) (λ m past within. next.least m past (omega (arith, end)))
-    ∙ ap (λ (m : ℕ). entries_from m (drop m ps)) end ∙ entries_step n n ps ∙ ap (λ (o : Option ℕ). entry_before n o (entries_from (n + 1) (drop (n + 1) ps))) has
+    ∙ ap (λ (m : ℕ). entries_from m (drop m ps)) end ∙ entries_step n n ps ∙ ap (λ (o : Option ℕ). entry_before n o (entries_from (n + 1) (drop (n + 1) ps)))
+    has
 
 -- and where there is none, there are no more entries
 pub none_held : (ps : List Place) (from : ℕ) → HasNoneMarked (map is_held ps) from → entries_from from (drop from ps) ≡ []
@@ -199,9 +211,11 @@ none_held ps from none =
     ∙ ap (entries_from (from + length ps)) (drop_all (from + length ps) ps (omega arith))
 
 -- one more entry is listed
-pub entries_more : (ps : List Place) (xs : List Entry) (e : Entry) (from : ℕ) → entries_of ps ≡ xs ++ entries_from from (drop from ps) → entries_from from (drop from ps) ≡ e ∷ entries_from (e.object + 1) (drop (e.object + 1) ps)
+pub entries_more : (ps : List Place) (xs : List Entry) (e : Entry) (from : ℕ) → entries_of ps ≡ xs ++ entries_from from (drop from ps) →
+    entries_from from (drop from ps) ≡ e ∷ entries_from (e.object + 1) (drop (e.object + 1) ps)
     → entries_of ps ≡ (xs ++ e ∷ []) ++ entries_from (e.object + 1) (drop (e.object + 1) ps)
-entries_more ps xs e from are next = are ∙ ap (λ (es : List Entry). xs ++ es) next ∙ sym (append_assoc xs (e ∷ []) (entries_from (e.object + 1) (drop (e.object + 1) ps)))
+entries_more ps xs e from are next = are ∙ ap (λ (es : List Entry). xs ++ es) next ∙
+    sym (append_assoc xs (e ∷ []) (entries_from (e.object + 1) (drop (e.object + 1) ps)))
 
 -- as many entries are left as were not yet listed
 pub entries_left : (ps : List Place) (xs rest : List Entry) → entries_of ps ≡ xs ++ rest → length xs + length rest ≡ taken_count ps
@@ -284,7 +298,8 @@ from_by (Some s) n high es lt are = record {
   each = each_of;
   rising = rising_cons (record { object = n; slot = s }) es are.rising (λ some. let one = are.each 0 some in omega (arith, one.0));
 } where
-  each_of : (i : ℕ) → i < length (entry_before n (Some s) es) → (n ≤ (entry_at (entry_before n (Some s) es) i).object) × ((entry_at (entry_before n (Some s) es) i).object < high)
+  each_of : (i : ℕ) → i < length (entry_before n (Some s) es) →
+      (n ≤ (entry_at (entry_before n (Some s) es) i).object) × ((entry_at (entry_before n (Some s) es) i).object < high)
   each_of zero within = (omega arith, lt)
   each_of (suc i) within = let one = are.each i (omega (arith, within)) in (omega (arith, one.0), one.1)
 
@@ -292,17 +307,20 @@ from_of : (n : ℕ) (ps : List Place) → AreFrom n (n + length ps) (entries_fro
 from_of n [] = record { each = λ i lt. absurd (omega (arith, lt)); rising = λ i lt. absurd (omega (arith, lt)) }
 from_of n (p ∷ ps) =
     let end : n + 1 + length ps ≡ n + suc (length ps) = omega arith in
-    from_by (slot_of p) n (n + suc (length ps)) (entries_from (n + 1) ps) (omega arith) (subst (λ (k : ℕ). AreFrom (n + 1) k (entries_from (n + 1) ps)) end (from_of (n + 1) ps))
+    from_by (slot_of p) n (n + suc (length ps)) (entries_from (n + 1) ps) (omega arith)
+    (subst (λ (k : ℕ). AreFrom (n + 1) k (entries_from (n + 1) ps)) end (from_of (n + 1) ps))
 
 entries_are : (ps : List Place) → AreFrom 0 (0 + length ps) (entries_of ps)
 unfolding entries_of
 entries_are ps = from_of 0 ps
 
 -- the place of the object of an entry
-entry_place : (ps : List Place) (i : ℕ) → i < length (entries_of ps) → slot_of (place_at ps (entry_at (entries_of ps) i).object) ≡ Some (entry_at (entries_of ps) i).slot
+entry_place : (ps : List Place) (i : ℕ) → i < length (entries_of ps) → slot_of (place_at ps (entry_at (entries_of ps) i).object) ≡ Some
+    (entry_at (entries_of ps) i).slot
 entry_place ps i lt = sym (slot_entries ps (entry_at (entries_of ps) i).object) ∙ own_slot (entries_of ps) i (entries_are ps).rising lt
 
-pub entries_directory : (g : Geometry) (ps : List Place) → IsTable ps → length ps ≡ g.nodes + g.pages → taken_count ps ≤ g.log → g.nodes + g.pages ≤ 8192 → g.log ≤ 4096 → IsDirectory g (entries_of ps)
+pub entries_directory : (g : Geometry) (ps : List Place) → IsTable ps → length ps ≡ g.nodes + g.pages → taken_count ps ≤ g.log → g.nodes + g.pages ≤ 8192 →
+    g.log ≤ 4096 → IsDirectory g (entries_of ps)
 entries_directory g ps is size few small small' =
     let es : List Entry = entries_of ps in
     let are = entries_are ps in
@@ -336,7 +354,8 @@ unfolding tally
 taken_few [] = omega arith
 taken_few (p ∷ ps) = let rest = taken_few ps in let here = one_slot p in omega (arith, rest, here)
 
-pub count_set : (has : Place → ℕ) (items now : List Place) (n : ℕ) (q old : Place) (count a b : ℕ) → items ≡ now → n < length now → old ≡ place_at now n → count ≡ tally has items → a ≡ has q → b ≡ has old
+pub count_set : (has : Place → ℕ) (items now : List Place) (n : ℕ) (q old : Place) (count a b : ℕ) → items ≡ now → n < length now → old ≡ place_at now n →
+    count ≡ tally has items → a ≡ has q → b ≡ has old
     → count + a - b ≡ tally has (set items n q)
 count_set has items now n q old count a b same lt is total one other =
     let within : n < length items = subst (λ (xs : List Place). n < length xs) (sym same) lt in
@@ -344,14 +363,16 @@ count_set has items now n q old count a b same lt is total one other =
     let after = tally-set has items n q within in
     omega (arith, after, before, total, one)
 
-pub count_at : (has : Place → ℕ) (items now : List Place) (n : ℕ) (old : Place) (count b : ℕ) → items ≡ now → n < length now → old ≡ place_at now n → count ≡ tally has items → b ≡ has old → b ≤ count
+pub count_at : (has : Place → ℕ) (items now : List Place) (n : ℕ) (old : Place) (count b : ℕ) → items ≡ now → n < length now → old ≡ place_at now n →
+    count ≡ tally has items → b ≡ has old → b ≤ count
 count_at has items now n old count b same lt is total other =
     let within : n < length items = subst (λ (xs : List Place). n < length xs) (sym same) lt in
     let before : b ≡ has (place_at items n) = other ∙ ap has (is ∙ ap (λ (xs : List Place). place_at xs n) (sym same)) in
     let one = tally_at has items n within in
     omega (arith, one, before, total)
 
-pub table_is : (items now : List Place) (n : ℕ) (q : Place) → items ≡ now → n < length now → slot_of q ≡ Some (slot_for now n) → IsTable items → IsTable (set items n q)
+pub table_is : (items now : List Place) (n : ℕ) (q : Place) → items ≡ now → n < length now → slot_of q ≡ Some (slot_for now n) → IsTable items →
+    IsTable (set items n q)
 table_is items now n q same lt has is =
     table_set items n q is (subst (λ (xs : List Place). n < length xs) (sym same) lt) (has ∙ ap (λ (xs : List Place). Some (slot_for xs n)) (sym same))
 
@@ -360,13 +381,16 @@ slot_held Nowhere s has = absurd cc
 slot_held (Torn t) s has = refl
 slot_held (Whole t) s has = refl
 
-pub held_set : (ps : List Place) (held : List Bool) (n s : ℕ) (q : Place) → held ≡ map is_held ps → slot_of q ≡ Some s → set held n true ≡ map is_held (set ps n q)
+pub held_set : (ps : List Place) (held : List Bool) (n s : ℕ) (q : Place) → held ≡ map is_held ps → slot_of q ≡ Some s →
+    set held n true ≡ map is_held (set ps n q)
 held_set ps held n s q are has =
     ap (λ (bs : List Bool). set bs n true) are ∙ ap (set (map is_held ps) n) (sym (slot_held q s has)) ∙ sym (map-set is_held ps n q)
 
-pub blank_is : (ps : List Place) (held : List Bool) (n : ℕ) → ps ≡ replicate n Nowhere → held ≡ map is_held ps → IsTable ps × (held ≡ map is_held ps) × (0 ≡ taken_count ps) × (0 ≡ whole_count ps)
+pub blank_is : (ps : List Place) (held : List Bool) (n : ℕ) → ps ≡ replicate n Nowhere → held ≡ map is_held ps →
+    IsTable ps × (held ≡ map is_held ps) × (0 ≡ taken_count ps) × (0 ≡ whole_count ps)
 blank_is ps held n is marks =
-    subst (λ (xs : List Place). IsTable xs × (held ≡ map is_held ps) × (0 ≡ taken_count xs) × (0 ≡ whole_count xs)) (sym is) (blank_table n, marks, sym (tally-blank has_slot n refl), sym (tally-blank has_frame n refl))
+    subst (λ (xs : List Place). IsTable xs × (held ≡ map is_held ps) × (0 ≡ taken_count xs) × (0 ≡ whole_count xs)) (sym is)
+    (blank_table n, marks, sym (tally-blank has_slot n refl), sym (tally-blank has_frame n refl))
 
 -- no object is held
 pub unheld_all : (n : ℕ) → replicate n false ≡ map is_held (replicate n Nowhere)
@@ -375,4 +399,5 @@ unheld_all (suc n) = ap (λ (bs : List Bool). false ∷ bs) (unheld_all n)
 
 pub rewritten : {X : Type 0} (items new : List X) (len : ℕ) → length new ≡ length items → len ≡ length items → take len (new ++ drop (length new) items) ≡ new
 rewritten {X = X} items new len long size =
-    ap (λ (xs : List X). take len (new ++ xs)) (drop_all (length new) items (omega (arith, long))) ∙ ap (take len) (append-nil new) ∙ take_all len new (omega (arith, long, size))
+    ap (λ (xs : List X). take len (new ++ xs)) (drop_all (length new) items (omega (arith, long))) ∙ ap (take len) (append-nil new) ∙
+    take_all len new (omega (arith, long, size))

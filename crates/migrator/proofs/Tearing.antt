@@ -4,7 +4,8 @@ use Rattle.migrator.proofs.Names.{HasFreeSlot, Books, FrozenPuts, Stored, frozen
 use Rattle.std.proofs.Common.{◌≡◌, ◌∙◌, ◌<◌, option_map}
 use Rattle.migrator.proofs.Freezing.{length_puts}
 
-pub torn_room : (old mid : Disk) (b c : Books) (size n : ℕ) → b.size ≡ Some size → c.size ≡ Some size → stored_on mid c ≡ with_frozen n Broken (stored_on old b) → n < count_of b.plan
+pub torn_room : (old mid : Disk) (b c : Books) (size n : ℕ) → b.size ≡ Some size → c.size ≡ Some size →
+    stored_on mid c ≡ with_frozen n Broken (stored_on old b) → n < count_of b.plan
     → HasFreeSlot size (puts_in (seen_by mid.seen c) c.plan (frozen_generation c) c.frozen) n
 torn_room old mid b c size n running still torn known =
     let puts = puts_in (seen_by old.seen b) b.plan (frozen_generation b) b.frozen in

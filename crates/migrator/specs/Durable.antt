@@ -53,7 +53,11 @@ pub record Stored : Type 0 where
 
 -- what a frozen state saves, over the frames saved before
 abbrev pub puts : FrozenView FrozenPuts
-puts = record { frames = λ (f : FrozenPuts) (fs : List Frame). overlaid f.put fs; size = λ (f : FrozenPuts). f.size; left = left_of }
+puts = record {
+  frames = λ (f : FrozenPuts) (fs : List Frame). overlaid f.put fs;
+  size = λ (f : FrozenPuts). f.size;
+  left = left_of;
+}
 
 -- what is kept beside the frames put since, and a stage of a checkpoint, which leaves these alone
 abbrev pub snapshots_in : Stored → Snapshots FrozenPuts
@@ -179,7 +183,12 @@ freezing_puts size s =
 
 -- the header that is committed next, at an age
 abbrev pub next_header : ℕ → Books → CheckpointHeader
-next_header age b = record { sequence = b.header.sequence + 1; generation = b.header.generation + 1; entries = taken_count b.frozen; age = age }
+next_header age b = record {
+  sequence = b.header.sequence + 1;
+  generation = b.header.generation + 1;
+  entries = taken_count b.frozen;
+  age = age;
+}
 
 -- from one disk and books to others the same is saved, and nothing was written that it is read from: a crash at any
 -- moment leaves what is saved, if one before would
@@ -225,7 +234,8 @@ pub record MayJournal (age n : ℕ) (s : SavedFrames) : Type 0 where
 
 -- the header that is committed next where one object is saved anew
 abbrev pub replaced_header : ℕ → Books → CheckpointHeader
-replaced_header age b = record { sequence = b.header.sequence + 1; generation = b.header.generation + 2; entries = 1; age = age }
+replaced_header age b =
+    record { sequence = b.header.sequence + 1; generation = b.header.generation + 2; entries = 1; age = age }
 
 -- the frame that it gets lies in the first slot of the half that the saved generation used
 abbrev pub first_bytes : Image → Books → ℕ → List ℕ

@@ -5,11 +5,13 @@ use Rattle.std.specs.Prelude.{◌≡◌, ◌-◌, ◌<◌}
 
 -- the bytes of a home are the saved frames of all that have it
 abbrev pub IsGathered : Image → Plan → ℕ → List Entry → ℕ → List ℕ → Type 0
-IsGathered image p generation es number bytes = (n : ℕ) → IsObject p.geometry n → home_place p n ≡ home_place p number → shape_bytes (shape_of p n) bytes ≡ frame_in image p generation es n
+IsGathered image p generation es number bytes = (n : ℕ) → IsObject p.geometry n → home_place p n ≡ home_place p number →
+    shape_bytes (shape_of p n) bytes ≡ frame_in image p generation es n
 
 -- they lie at home
 abbrev pub IsCopied : Image → Image → Plan → ℕ → List Entry → ℕ → Type 0
-IsCopied old new p generation es number = (n : ℕ) → IsObject p.geometry n → home_place p n ≡ home_place p number → bytes_at new (home_place p n) p n ≡ frame_in old p generation es n
+IsCopied old new p generation es number = (n : ℕ) → IsObject p.geometry n → home_place p n ≡ home_place p number →
+    bytes_at new (home_place p n) p n ≡ frame_in old p generation es n
 
 -- no entry before it has an object with the same home
 abbrev pub IsFirst : Plan → List Entry → ℕ → Type 0

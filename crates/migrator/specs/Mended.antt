@@ -12,7 +12,8 @@ pub record Unwritten : Type 0 where
 -- what a device gives, but for that slot, which has these bytes
 abbrev pub mended : Image → Option Unwritten → Image
 mended image None = image
-mended image (Some u) = λ i. if nat_le u.sector i && nat_lt i (u.sector + 8) then image_of u.bytes (i - u.sector) else image i
+mended image (Some u) = λ i. if nat_le u.sector i && nat_lt i (u.sector + 8) then image_of u.bytes (i - u.sector) else
+    image i
 
 -- the slot is that of one of these entries, whose object is a node of a cluster
 pub record IsUnwritten (p : Plan) (generation : ℕ) (es : List Entry) (u : Unwritten) : Type 0 where
@@ -33,7 +34,8 @@ pub record IsSpeltIn (u : Unwritten) (shape : Shape) (g : Geometry) (number : �
   pub low : rank < 5
   pub packed : shape ≡ Packed rank
   pub node : number < g.nodes
-  pub spelt : IsFrameOf g most number (shape_bytes (Packed rank) u.bytes) (frame_from g number (shape_bytes (Packed rank) u.bytes))
+  pub spelt : IsFrameOf g most number (shape_bytes (Packed rank) u.bytes)
+      (frame_from g number (shape_bytes (Packed rank) u.bytes))
 
 -- where it is in memory, and whether the device failed to write it
 abbrev pub unwritten_of : Option ℕ → List ℕ → Option Unwritten

@@ -9,7 +9,7 @@ pub use Rattle.device.specs.Calls.{Agrees, Elsewhere, IsTorn, Narrows, Only, Tea
 pub use Rattle.device.specs.Disk.{Disk, Image}
 pub use Rattle.device.specs.Moments.{LeavesOnly, Peeks}
 pub use Rattle.frame_io.specs.Frames.{IsObject}
-pub use Rattle.frame_io.specs.declared.fault.ReadFault.{ReadFault}
+pub use Rattle.frame_io.specs.declared.fault.Unreadable.{Unreadable}
 pub use Rattle.home_ranges.specs.Home.{EndsInZeros}
 pub use Rattle.home_ranges.specs.Laws.{home_extent}
 pub use Rattle.layout.specs.Directory.{IsDirectory, entry_at}

@@ -1,11 +1,11 @@
 -- The results of opening a device.
 use Rattle.migrator.specs.Names.{ℕ, None, List, length, take, replicate, ⊤, Frame, Entry, CheckpointHeader, BadImage}
 use Rattle.migrator.specs.Names.{BadFrame, IsFrameOf, AreSpelt, Plan, OpenFault, Image, Disk, Only, IsBadBy, HasHeader}
-use Rattle.migrator.specs.Names.{HasDirectory, frame_in, ReadFault, Holds, OnlyReads}
+use Rattle.migrator.specs.Names.{HasDirectory, frame_in, Unreadable, Holds, OnlyReads}
 use Rattle.std.specs.Prelude.{◌≡◌}
 use Rattle.layout.specs.declared.bad_image.BadImage.TheVariants as bad
 use Rattle.checkpoint.specs.declared.open_fault.OpenFault.TheVariants as refusal
-use Rattle.frame_io.specs.declared.fault.ReadFault.TheVariants as fault
+use Rattle.frame_io.specs.declared.fault.Unreadable.TheVariants as fault
 use Rattle.migrator.specs.Put.{Absent}
 use Rattle.migrator.specs.Durable.{DurableState, stored_of, is_sound}
 
@@ -17,7 +17,7 @@ HasNoPlan image size bad.BadGeometry = IsBadBy image size bad.BadGeometry
 HasNoPlan image size _ = ⊥
 
 -- the same, where the device didn't fail
-abbrev pub IsNoPlan : Image → ℕ → ReadFault → Type 0
+abbrev pub IsNoPlan : Image → ℕ → Unreadable → Type 0
 IsNoPlan image size fault.Failed = ⊤
 IsNoPlan image size (fault.Bad reason) = HasNoPlan image size reason
 
@@ -31,7 +31,8 @@ IsUnplanned image size (refusal.Bad reason) = HasNoPlan image size reason
 abbrev pub IsBadAt : Image → Plan → CheckpointHeader → List Entry → ℕ → OpenFault → Type 0
 IsBadAt image p h es n refusal.Failed = ⊤
 IsBadAt image p h es n refusal.NoMemory = ⊤
-IsBadAt image p h es n (refusal.Bad reason) = (reason ≡ BadFrame) × ((f : Frame) → IsFrameOf p.geometry h.age n (frame_in image p h.generation es n) f → ⊥)
+IsBadAt image p h es n (refusal.Bad reason) = (reason ≡ BadFrame) ×
+    ((f : Frame) → IsFrameOf p.geometry h.age n (frame_in image p h.generation es n) f → ⊥)
 
 -- all that is saved was read: the header, its directory at the front of the entries, and all frames
 pub record IsRead (image : Image) (p : Plan) (h : CheckpointHeader) (es : List Entry) : Type 0 where

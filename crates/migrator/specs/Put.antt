@@ -69,4 +69,5 @@ pub record ArePut (image : Image) (p : Plan) (generation : ℕ) (ps : List Place
   pub count : length ps ≡ count_of p
   pub few : taken_count ps ≤ p.geometry.log
   pub table : IsTable ps
-  pub spelt : (n s : ℕ) → n < count_of p → place_at ps n ≡ Whole s → IsFrameOf p.geometry most n (slot_bytes image p generation s n) (slot_frame image p generation s n)
+  pub spelt : (n s : ℕ) → n < count_of p → place_at ps n ≡ Whole s →
+      IsFrameOf p.geometry most n (slot_bytes image p generation s n) (slot_frame image p generation s n)

@@ -12,7 +12,8 @@ use Rattle.migrator.specs.Table.{place_at}
 use Rattle.migrator.specs.Spared.{Spares, SparesFrames}
 
 -- a header `next` may be published after the committed h, with directory es; all frames of its directory fs are written
-pub record MaySave (disk : Disk) (p : Plan) (h : CheckpointHeader) (es : List Entry) (next : CheckpointHeader) (fs : List Entry) : Type 0 where
+pub record MaySave (disk : Disk) (p : Plan) (h : CheckpointHeader) (es : List Entry) (next : CheckpointHeader)
+    (fs : List Entry) : Type 0 where
   pub plan : IsPlan p
   pub inside : p.total ≤ disk.sectors
   pub header : IsHeader p.geometry.log h
@@ -34,7 +35,8 @@ pub record SavesOnly (p : Plan) (next : CheckpointHeader) (old new : Image) : Ty
 
 -- the frames that were put lie in other sectors
 abbrev pub SparesPuts : Plan → ℕ → List Place → Extent → Type 0
-SparesPuts p generation ps e = (n s : ℕ) → n < count_of p → place_at ps n ≡ Whole s → IsApart (place_extent p generation s n) e
+SparesPuts p generation ps e = (n s : ℕ) → n < count_of p → place_at ps n ≡ Whole s →
+    IsApart (place_extent p generation s n) e
 
 -- so do all frames that the books name, at home and in the log
 pub record SparesKept (b : Books) (e : Extent) : Type 0 where
@@ -45,7 +47,16 @@ pub record SparesKept (b : Books) (e : Extent) : Type 0 where
 
 -- the books that go on from a header and its directory: nothing is frozen
 abbrev pub adopted : CheckpointHeader → List Entry → Books → Books
-adopted next es b = record { plan = b.plan; header = next; directory = es; moved = 0; frozen = replicate (length b.frozen) Nowhere; size = None; working = b.working; unwritten = b.unwritten }
+adopted next es b = record {
+  plan = b.plan;
+  header = next;
+  directory = es;
+  moved = 0;
+  frozen = replicate (length b.frozen) Nowhere;
+  size = None;
+  working = b.working;
+  unwritten = b.unwritten;
+}
 
 -- a header may be adopted with a directory
 pub record MayAdopt (disk : Disk) (b : Books) (next : CheckpointHeader) (es : List Entry) : Type 0 where

@@ -22,13 +22,15 @@ mod commit;
 mod journal;
 mod migrate;
 
+ghost use Rattle.model.specs.Frame.{content_behind};
+
 use crate::cluster_buffer::ClusterBuffer;
 use crate::directory::Directory;
 use crate::table::{Place, Table};
 use ckpt_log::Log;
 use device::{Device, Failed};
 use layout::{CheckpointHeader, Superblock};
-use model::{Cap, Content, ObjectHeader};
+use model::{Cap, ContentRef, ObjectHeader};
 use std::mem;
 
 /// What memory holds of an image: its superblock, the committed header and its directory, and where the frames lie
@@ -60,7 +62,7 @@ fn put_frame<D: Device>(
     generation: u64,
     number: u64,
     header: ObjectHeader,
-    content: &Content<Cap>,
+    content: ContentRef<'_>,
 ) -> Result<(), Failed>
     requires known { number < length table.old }
     requires room { slot_for table.old number < plan.now.geometry.log }
@@ -71,7 +73,7 @@ fn put_frame<D: Device>(
         ≡ slice_set table.old number (Place.Torn (slot_for table.old number))) }
     ensures written { OnOk result
         (slot_bytes (D.disk device.new).seen plan.now generation (slot_for table.old number) number
-        ≡ frame_bytes plan.now.geometry number (record { header = header; content = content.now })) }
+        ≡ frame_bytes plan.now.geometry number (record { header = header; content = content_behind content.entry })) }
     ensures beside { OnOk result (HasZerosBeside (shape_of plan.now number) (sectors_from (D.disk device.new).seen
         (slot_sector plan.now generation (slot_for table.old number)) (place_length plan.now number))) }
     ensures writes { WritesAt (slot_sector plan.now generation (slot_for table.old number))
@@ -105,17 +107,17 @@ impl Books {
         device: &mut D,
         number: u64,
         header: ObjectHeader,
-        content: &Content<Cap>,
+        content: ContentRef<'_>,
     ) -> Result<(), Failed>
         requires stands { IsDurable (D.disk device.old) self.old }
         requires object { IsObject self.old.plan.geometry number }
         requires keepable { IsKeepable self.old.plan.geometry most number
-            (record { header = header; content = content.now }) }
+            (record { header = header; content = content_behind content }) }
         requires room { HasFreeSlot self.old.plan.geometry.log
             (stored_on (D.disk device.old) self.old).working number }
         ensures stands { IsDurable (D.disk device.new) self.new }
         ensures put { OnOk result (stored_on (D.disk device.new) self.new
-            ≡ with_working number (Kept (record { header = header; content = content.now }))
+            ≡ with_working number (Kept (record { header = header; content = content_behind content.entry }))
             (stored_on (D.disk device.old) self.old)) }
         ensures broken { OnErr result (stored_on (D.disk device.new) self.new
             ≡ with_working number Broken (stored_on (D.disk device.old) self.old)) }
@@ -162,19 +164,19 @@ impl Books {
         size: u64,
         number: u64,
         header: ObjectHeader,
-        content: &Content<Cap>,
+        content: ContentRef<'_>,
     ) -> Result<(), Failed>
         requires stands { IsDurable (D.disk device.old) self.old }
         requires running { self.old.size ≡ Some size }
         requires written { self.old.unwritten ≡ None }
         requires object { IsObject self.old.plan.geometry number }
         requires keepable { IsKeepable self.old.plan.geometry most number
-            (record { header = header; content = content.now }) }
+            (record { header = header; content = content_behind content }) }
         requires room { HasFreeSlot size (puts_in (seen_by (D.disk device.old).seen self.old) self.old.plan
             (frozen_generation self.old) self.old.frozen) number }
         ensures stands { IsDurable (D.disk device.new) self.new }
         ensures put { OnOk result (stored_on (D.disk device.new) self.new
-            ≡ with_frozen number (Kept (record { header = header; content = content.now }))
+            ≡ with_frozen number (Kept (record { header = header; content = content_behind content.entry }))
             (stored_on (D.disk device.old) self.old)) }
         ensures broken { OnErr result (stored_on (D.disk device.new) self.new
             ≡ with_frozen number Broken (stored_on (D.disk device.old) self.old)) }
@@ -201,18 +203,18 @@ impl Books {
         size: u64,
         number: u64,
         header: ObjectHeader,
-        content: &Content<Cap>,
+        content: ContentRef<'_>,
     ) -> Result<(), Failed>
         requires stands { IsDurable (D.disk device.old) self.old }
         requires running { self.old.size ≡ Some size }
         requires object { IsObject self.old.plan.geometry number }
         requires keepable { IsKeepable self.old.plan.geometry most number
-            (record { header = header; content = content.now }) }
+            (record { header = header; content = content_behind content }) }
         requires room { HasFreeSlot size (puts_in (seen_by (D.disk device.old).seen self.old) self.old.plan
             (frozen_generation self.old) self.old.frozen) number }
         ensures stands { IsDurable (D.disk device.new) self.new }
         ensures put { OnOk result (stored_on (D.disk device.new) self.new
-            ≡ with_frozen number (Kept (record { header = header; content = content.now }))
+            ≡ with_frozen number (Kept (record { header = header; content = content_behind content.entry }))
             (stored_on (D.disk device.old) self.old)) }
         ensures broken { OnErr result (stored_on (D.disk device.new) self.new
             ≡ with_frozen number Broken (stored_on (D.disk device.old) self.old)) }

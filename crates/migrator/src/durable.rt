@@ -9,11 +9,12 @@ ghost use Rattle.checkpoint.specs.Snapshots.{committed, next_saved, MayCommit};
 ghost use Rattle.migrator.specs.Durable.{FrozenPuts, left_of, stored_of, is_sound, with_working, with_frozen, GoesOn};
 ghost use Rattle.migrator.specs.Durable.{puts, on_snapshots, freezing_puts};
 ghost use Rattle.checkpoint.specs.Refused.{IsPutAnswer, IsFreezeAnswer, IsCommitAnswer, IsRefused};
+ghost use Rattle.model.specs.Frame.{content_behind};
 
 use crate::books::Books;
 use crate::directory::Directory;
 use device::{Device, Failed};
-use model::{Cap, Content, ObjectHeader, Refusal};
+use model::{Cap, ContentRef, ObjectHeader, Refusal};
 use std::marker::Model;
 
 mod access;
@@ -52,15 +53,15 @@ impl<D: Device> Durable<D> {
         &mut self,
         number: u64,
         header: ObjectHeader,
-        content: &Content<Cap>,
+        content: ContentRef<'_>,
     ) -> Result<(), Failed>
         requires object { IsObject self.old.books.plan.geometry number }
         requires keepable { IsKeepable self.old.books.plan.geometry most number
-            (record { header = header; content = content.now }) }
+            (record { header = header; content = content_behind content }) }
         requires room { HasFreeSlot self.old.books.plan.geometry.log
             (stored_of D.disk self.old).working number }
         ensures put { OnOk result (stored_of D.disk self.new
-            ≡ with_working number (Kept (record { header = header; content = content.now }))
+            ≡ with_working number (Kept (record { header = header; content = content_behind content.entry }))
             (stored_of D.disk self.old)) }
         ensures broken { OnErr result (stored_of D.disk self.new
             ≡ with_working number Broken (stored_of D.disk self.old)) }
@@ -79,15 +80,15 @@ impl<D: Device> Durable<D> {
         &mut self,
         number: u64,
         header: ObjectHeader,
-        content: &Content<Cap>,
+        content: ContentRef<'_>,
     ) -> Result<(), Refusal>
         requires object { IsObject self.old.books.plan.geometry number }
         requires keepable { IsKeepable self.old.books.plan.geometry most number
-            (record { header = header; content = content.now }) }
+            (record { header = header; content = content_behind content }) }
         requires room { (f : FrozenPuts) → (stored_of D.disk self.old).frozen ≡ Some f
             → HasFreeSlot f.size f.put number }
         ensures put { OnOk result (stored_of D.disk self.new
-            ≡ with_frozen number (Kept (record { header = header; content = content.now }))
+            ≡ with_frozen number (Kept (record { header = header; content = content_behind content.entry }))
             (stored_of D.disk self.old)) }
         ensures broken { OnErr result (stored_of D.disk self.new
             ≡ with_frozen number Broken (stored_of D.disk self.old)) }

@@ -15,7 +15,7 @@ use crate::read::{read_saved, superblock_of};
 use checkpoint::OpenFault;
 use ckpt_log::Log;
 use device::Device;
-use frame_io::ReadFault;
+use frame_io::Unreadable;
 use layout::{CheckpointHeader, Entry, Scratch, Superblock};
 use std::alloc::Global;
 
@@ -33,6 +33,8 @@ fn take_frame<D: Device, I: Intake>(
     requires directory { IsDirectory plan.now.geometry directory.now }
     requires object { IsObject plan.now.geometry number }
     requires inside { plan.now.total ≤ (D.disk device.old).sectors }
+    requires room { (fs : List Frame) × I.Took taken.old fs × (length fs < I.room taken.old) }
+    ensures room { I.room taken.old ≤ I.room taken.new }
     ensures spelt { OnOk result (IsSpelt (D.disk device.old).seen plan.now header.age
         header.generation directory.now number) }
     ensures took { OnOk result ((fs : List Frame) → I.Took taken.old fs → I.Took taken.new
@@ -47,8 +49,8 @@ fn take_frame<D: Device, I: Intake>(
             Ok(()) => Ok(()),
             Err(_) => Err(OpenFault::NoMemory),
         },
-        Err(ReadFault::Failed) => Err(OpenFault::Failed),
-        Err(ReadFault::Bad(reason)) => Err(OpenFault::Bad(reason)),
+        Err(Unreadable::Failed) => Err(OpenFault::Failed),
+        Err(Unreadable::Bad(reason)) => Err(OpenFault::Bad(reason)),
     }
 }
 
@@ -81,6 +83,7 @@ fn take_frames<D: Device, I: Intake>(
     requires directory { IsDirectory plan.now.geometry directory.now }
     requires inside { plan.now.total ≤ (D.disk device.old).sectors }
     requires none { I.Took taken.old [] }
+    requires room { count_of plan.now ≤ I.room taken.old }
     ensures spelt { OnOk result (AreSpelt (D.disk device.old).seen plan.now header.age
         header.generation directory.now) }
     ensures took { OnOk result (I.Took taken.new
@@ -112,6 +115,7 @@ pub(crate) fn read_image<D: Device, I: Intake>(
     requires plan { HasPlan (D.disk device.old).seen (D.disk device.old).sectors plan.now }
     requires length { length directory.old ≡ plan.now.geometry.log }
     requires none { I.Took taken.old [] }
+    requires room { count_of plan.now ≤ I.room taken.old }
     ensures found { IfOk result (λ h. IsRead (D.disk device.old).seen plan.now h directory.new) }
     ensures took { IfOk result (λ h. I.Took taken.new
         (frames_read (D.disk device.old).seen plan.now h.generation (take h.entries directory.new))) }
@@ -130,7 +134,7 @@ pub(crate) fn read_image<D: Device, I: Intake>(
                 Err(fault) => Err(fault),
             }
         }
-        Err(ReadFault::Failed) => Err(OpenFault::Failed),
-        Err(ReadFault::Bad(reason)) => Err(OpenFault::Bad(reason)),
+        Err(Unreadable::Failed) => Err(OpenFault::Failed),
+        Err(Unreadable::Bad(reason)) => Err(OpenFault::Bad(reason)),
     }
 }

@@ -1,5 +1,5 @@
 // What takes the frames of an image while they are read.
-ghost use Rattle.std.specs.Prelude.{◌≡◌, ◌+◌, ◌≤◌, ◌++◌, ◌∷◌, [], List, IfOk, OnOk};
+ghost use Rattle.std.specs.Prelude.{◌≡◌, ℕ, ◌+◌, ◌<◌, ◌≤◌, ◌++◌, ◌∷◌, [], List, length, IfOk, OnOk};
 ghost use Rattle.model.specs.declared.frame.Frame.{Frame};
 ghost use Rattle.layout.specs.Frame.{frame_of};
 
@@ -12,10 +12,14 @@ pub trait Intake: Drop + Sized {
     /// These frames were taken.
     ghost Took: { Self → List Frame → Type 0 };
 
-    /// An intake that took no frame. Fails only where memory runs out.
+    /// How many frames there is memory for.
+    ghost room: { Self → ℕ };
+
+    /// An intake that took no frame, with memory for all. Fails only where memory runs out.
     fn new(alloc: Global, geometry: Geometry) -> Result<Self, AllocError>
         requires few { geometry.nodes + geometry.pages ≤ 8192 }
-        ensures none { IfOk result (λ taken. Took taken []) };
+        ensures none { IfOk result (λ taken. Took taken []) }
+        ensures room { IfOk result (λ taken. geometry.nodes + geometry.pages ≤ room taken) };
 
     /// Takes the next frame. The slots of a node or an annex and the words of a page are those in `scratch`. Fails only
     /// where memory runs out.
@@ -25,16 +29,20 @@ pub trait Intake: Drop + Sized {
         read: (ObjectHeader, Body),
         scratch: &Scratch,
     ) -> Result<(), AllocError>
+        requires { (fs : List Frame) × Took self.old fs × (length fs < room self.old) }
+        ensures room { room self.old ≤ room self.new }
         ensures took { OnOk result ((fs : List Frame) → Took self.old fs
             → Took self.new (fs ++ frame_of read scratch.now ∷ [])) };
 }
 
 // The headers of the frames.
 impl Intake for Vec<ObjectHeader> {
-    ghost use Rattle.std.specs.Prelude.{◌≡◌};
+    ghost use Rattle.std.specs.Prelude.{◌≡◌, vec_capacity};
     ghost use Rattle.model.specs.Frame.{headers};
 
     ghost Took = { λ taken fs. taken.items ≡ headers fs };
+
+    ghost room = { λ taken. vec_capacity taken };
 
     fn new(alloc: Global, geometry: Geometry) -> Result<Self, AllocError> {
         Vec::with_capacity(alloc, (geometry.nodes + geometry.pages) as usize)

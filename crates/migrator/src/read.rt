@@ -19,7 +19,7 @@ use crate::find::find_frame_slot;
 use checkpoint::OpenFault;
 use ckpt_log::Log;
 use device::{Device, Failed, SECTOR_SIZE};
-use frame_io::{ReadFault, read_header, read_packed, read_sectors};
+use frame_io::{Unreadable, read_header, read_packed, read_sectors};
 use home_ranges::Home;
 use layout::{
     BadImage, Body, CheckpointHeader, Entry, NODE_FRAME_BYTES, Scratch, Shape, Superblock,
@@ -29,7 +29,7 @@ use model::ObjectHeader;
 
 // Reads the superblock of a device. It is refused by `Failed` exactly where the device failed, and
 // else by the least of the first three reasons that holds.
-fn read_superblock<D: Device>(device: &mut D) -> Result<Superblock, ReadFault>
+fn read_superblock<D: Device>(device: &mut D) -> Result<Superblock, Unreadable>
     ensures found { IfOk result (λ s.
         HasPlan (D.disk device.old).seen (D.disk device.old).sectors s) }
     ensures refused { IfErr result (λ e.
@@ -39,16 +39,16 @@ fn read_superblock<D: Device>(device: &mut D) -> Result<Superblock, ReadFault>
 {
     let sectors = device.sectors();
     if sectors < 5 {
-        return Err(ReadFault::Bad(BadImage::Small));
+        return Err(Unreadable::Bad(BadImage::Small));
     }
     let mut sector = [0; SECTOR_SIZE];
     read_sectors(device, 0, 1, &mut sector)?;
     if total_in(&sector) > sectors {
-        return Err(ReadFault::Bad(BadImage::Small));
+        return Err(Unreadable::Bad(BadImage::Small));
     }
     match decode_superblock(&sector) {
         Ok(superblock) => Ok(superblock),
-        Err(reason) => Err(ReadFault::Bad(reason)),
+        Err(reason) => Err(Unreadable::Bad(reason)),
     }
 }
 
@@ -65,8 +65,8 @@ pub fn superblock_of<D: Device>(device: &mut D) -> Result<Superblock, OpenFault>
 {
     match read_superblock(device) {
         Ok(superblock) => Ok(superblock),
-        Err(ReadFault::Failed) => Err(OpenFault::Failed),
-        Err(ReadFault::Bad(reason)) => Err(OpenFault::Bad(reason)),
+        Err(Unreadable::Failed) => Err(OpenFault::Failed),
+        Err(Unreadable::Bad(reason)) => Err(OpenFault::Bad(reason)),
     }
 }
 
@@ -102,7 +102,7 @@ pub(crate) fn read_saved<D: Device>(
     directory: &[Entry],
     number: u64,
     scratch: &mut Scratch,
-) -> Result<(ObjectHeader, Body), ReadFault>
+) -> Result<(ObjectHeader, Body), Unreadable>
     requires directory { IsDirectory plan.now.geometry directory.now }
     requires object { IsObject plan.now.geometry number }
     requires inside { plan.now.total ≤ (D.disk device.old).sectors }
@@ -123,12 +123,12 @@ pub(crate) fn read_saved<D: Device>(
 }
 
 // The failure where a frame that was read before isn't read again.
-fn failure(fault: ReadFault) -> Failed
-    requires { fault ≡ ReadFault.Failed }
+fn failure(fault: Unreadable) -> Failed
+    requires { fault ≡ Unreadable.Failed }
 {
     match fault {
-        ReadFault::Failed => Failed,
-        ReadFault::Bad(_) => unreachable!(),
+        Unreadable::Failed => Failed,
+        Unreadable::Bad(_) => unreachable!(),
     }
 }
 

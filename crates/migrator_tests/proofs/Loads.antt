@@ -22,7 +22,8 @@ use Rattle.migrator_tests.specs.Rig.{AreLight, IsLight, IsLightFor, IsLoad}
 pub page_words : (old new : List ℕ) (value : ℕ) → value < 2 ^ 64 → old ≡ replicate 512 0 → new ≡ set old 0 value → AreKeptWords 512 new
 page_words old new value fits blank is = record {
   count_is = ap length is ∙ length-set old 0 value ∙ ap length blank ∙ length-replicate {A = ℕ} 512 0;
-  each = subst (All (λ w. w < 2 ^ 64)) (sym is) (All-set (λ w. w < 2 ^ 64) old 0 value fits (subst (All (λ w. w < 2 ^ 64)) (sym blank) (All-replicate (λ w. w < 2 ^ 64) 512 0 (omega arith))));
+  each = subst (All (λ w. w < 2 ^ 64)) (sym is)
+      (All-set (λ w. w < 2 ^ 64) old 0 value fits (subst (All (λ w. w < 2 ^ 64)) (sym blank) (All-replicate (λ w. w < 2 ^ 64) 512 0 (omega arith))));
 }
 
 -- ---- one frame is put
@@ -67,7 +68,8 @@ kept_by g n m f h keepable here same = subst (λ (k : ℕ). IsKeepable g 0 k h) 
 never_kept : (h : Frame) → Broken ≡ Kept h → ⊥
 never_kept h e = cc
 
-light_kept : (g : Geometry) (slots : ℕ) (ps : List Put) (n : ℕ) (f : Frame) → IsKeepable g 0 n f → IsLight g slots ps → IsLight g (slots + 1) (set ps n (Kept f))
+light_kept : (g : Geometry) (slots : ℕ) (ps : List Put) (n : ℕ) (f : Frame) → IsKeepable g 0 n f → IsLight g slots ps →
+    IsLight g (slots + 1) (set ps n (Kept f))
 light_kept g slots ps n f keepable is = record {
   light = λ m h e. ⊎_elim (is.light m h) (λ here. kept_by g n m f h keepable here.0 here.1) (put_there ps n m (Kept f) h e);
   few = let more = one_more ps n (Kept f) in let few = is.few in omega (arith, more, few);
@@ -92,12 +94,14 @@ none_frozen h e = cc
 
 -- ---- frames over others
 
-put_keepable : (g : Geometry) (age n : ℕ) (x : Put) (f : Frame) → ((h : Frame) → x ≡ Kept h → IsKeepable g 0 n h) → IsKeepable g age n f → IsKeepable g age n (put_or x f)
+put_keepable : (g : Geometry) (age n : ℕ) (x : Put) (f : Frame) → ((h : Frame) → x ≡ Kept h → IsKeepable g 0 n h) → IsKeepable g age n f →
+    IsKeepable g age n (put_or x f)
 put_keepable g age n Absent f light keepable = keepable
 put_keepable g age n Broken f light keepable = keepable
 put_keepable g age n (Kept h) f light keepable = frame_later g 0 age n h (omega arith) (light h refl)
 
-overlaid_keepable : (g : Geometry) (age later : ℕ) (ps : List Put) (fs : List Frame) → age ≤ later → AreLight g ps → AreKeepable g age fs → AreKeepable g later (overlaid ps fs)
+overlaid_keepable : (g : Geometry) (age later : ℕ) (ps : List Put) (fs : List Frame) → age ≤ later → AreLight g ps → AreKeepable g age fs →
+    AreKeepable g later (overlaid ps fs)
 unfolding overlaid
 overlaid_keepable g age later ps fs le light are =
     let over : ℕ → Frame = λ n. put_or (put_at ps n) (frame_at fs n) in
@@ -118,7 +122,8 @@ module _ (g : Geometry) (working frozen size : ℕ) (s : Stored) (is : IsLoad g 
   pub working_broken : (n : ℕ) → IsLoad g (working + 1) frozen size (with_working n Broken s)
   working_broken n = record { saved = is.saved; working = light_broken g working s.working n is.working; frozen = is.frozen }
 
-  frozen_by : (o : Option FrozenPuts) → ((f : FrozenPuts) → o ≡ Some f → IsLightFor g frozen size f) → (x : Put) (n : ℕ) → ((ps : List Put) → IsLight g frozen ps → IsLight g (frozen + 1) (set ps n x))
+  frozen_by : (o : Option FrozenPuts) → ((f : FrozenPuts) → o ≡ Some f → IsLightFor g frozen size f) → (x : Put) (n : ℕ) →
+      ((ps : List Put) → IsLight g frozen ps → IsLight g (frozen + 1) (set ps n x))
       → (f : FrozenPuts) → option_map (with_put n x) o ≡ Some f → IsLightFor g (frozen + 1) size f
   frozen_by None was x n more f e = absurd cc
   frozen_by (Some h) was x n more f e =
@@ -134,7 +139,11 @@ module _ (g : Geometry) (working frozen size : ℕ) (s : Stored) (is : IsLoad g 
   }
 
   pub frozen_broken : (n : ℕ) → IsLoad g working (frozen + 1) size (with_frozen n Broken s)
-  frozen_broken n = record { saved = is.saved; working = is.working; frozen = frozen_by s.frozen is.frozen Broken n (λ ps light. light_broken g frozen ps n light) }
+  frozen_broken n = record {
+    saved = is.saved;
+    working = is.working;
+    frozen = frozen_by s.frozen is.frozen Broken n (λ ps light. light_broken g frozen ps n light);
+  }
 
   pub frozen_now : (k : ℕ) → IsLoad g 0 working k (freezing_puts k s)
   frozen_now k = record {
@@ -149,10 +158,12 @@ module _ (g : Geometry) (working frozen size : ℕ) (s : Stored) (is : IsLoad g 
   pub next_keepable : (age : ℕ) (f : FrozenPuts) → s.frozen ≡ Some f → s.saved.age < age → AreKeepable g age (next_saved puts age f s.saved).frames
   next_keepable age f e later = overlaid_keepable g s.saved.age age f.put s.saved.frames (omega (arith, later)) (is.frozen f e).put.light is.saved
 
-  pub committed_now : (age : ℕ) (f : FrozenPuts) → s.frozen ≡ Some f → s.saved.age < age → (k : ℕ) → IsLoad g working 0 k (on_snapshots (committed puts age f) s)
+  pub committed_now : (age : ℕ) (f : FrozenPuts) → s.frozen ≡ Some f → s.saved.age < age → (k : ℕ) →
+      IsLoad g working 0 k (on_snapshots (committed puts age f) s)
   committed_now age f e later k = record { saved = next_keepable age f e later; working = is.working; frozen = λ h none. absurd (none_frozen h none) }
 
-  moved_to : (k : ℕ) (saved : SavedFrames) → AreKeepable g saved.age saved.frames → IsLoad g working frozen size (record { working = s.working; frozen = s.frozen; saved = saved; to_move = k })
+  moved_to : (k : ℕ) (saved : SavedFrames) → AreKeepable g saved.age saved.frames →
+      IsLoad g working frozen size (record { working = s.working; frozen = s.frozen; saved = saved; to_move = k })
   moved_to k saved keepable = record { saved = keepable; working = is.working; frozen = is.frozen }
 
   saved_home : (test : Bool) → AreKeepable g (if test then home_saved s.saved else s.saved).age (if test then home_saved s.saved else s.saved).frames

@@ -44,18 +44,23 @@ rig_opened disk device s size opens = record {
 pub keepable_at : (g h : Geometry) (n : ℕ) (f : Frame) → g ≡ h → IsKeepable g 0 n f → IsKeepable h 0 n f
 keepable_at g h n f same keepable = subst (λ (x : Geometry). IsKeepable x 0 n f) same keepable
 
-module _ {D : Type 0} (disk : D → Disk) (goes_on : Bool) (slots frozen_slots size : ℕ) (old : DurableState D) (rig : IsRig disk goes_on slots frozen_slots size old) where
-  rig_by : (new : DurableState D) (still : Bool) (working frozen count : ℕ) (x : Stored) → new.books.plan ≡ old.books.plan → (still ≡ true → is_sound disk new) → stored_of disk new ≡ x
+module _ {D : Type 0} (disk : D → Disk) (goes_on : Bool) (slots frozen_slots size : ℕ) (old : DurableState D)
+    (rig : IsRig disk goes_on slots frozen_slots size old) where
+  rig_by : (new : DurableState D) (still : Bool) (working frozen count : ℕ) (x : Stored) → new.books.plan ≡ old.books.plan →
+      (still ≡ true → is_sound disk new) → stored_of disk new ≡ x
       → IsLoad old.books.plan.geometry working frozen count x → IsRig disk still working frozen count new
   rig_by new still working frozen count x plan sound is load = record {
     sound = sound;
-    load = subst (λ (p : Plan). IsLoad p.geometry working frozen count (stored_of disk new)) (sym plan) (subst (IsLoad old.books.plan.geometry working frozen count) (sym is) load);
+    load = subst (λ (p : Plan). IsLoad p.geometry working frozen count (stored_of disk new)) (sym plan)
+        (subst (IsLoad old.books.plan.geometry working frozen count) (sym is) load);
   }
 
   pub rig_read : (new : DurableState D) → ReadsStore disk old new → IsRig disk goes_on slots frozen_slots size new
-  rig_read new reads = rig_by new goes_on slots frozen_slots size (stored_of disk old) reads.goes_on.plan (λ still. reads.goes_on.sound (rig.sound still)) reads.stored rig.load
+  rig_read new reads = rig_by new goes_on slots frozen_slots size (stored_of disk old) reads.goes_on.plan (λ still. reads.goes_on.sound (rig.sound still))
+      reads.stored rig.load
 
-  pub rig_put : {T E : Type 0} (r : Result T E) (new : DurableState D) (n : ℕ) (f : Frame) → IsKeepable old.books.plan.geometry 0 n f → OnOk r (stored_of disk new ≡ with_working n (Kept f) (stored_of disk old))
+  pub rig_put : {T E : Type 0} (r : Result T E) (new : DurableState D) (n : ℕ) (f : Frame) → IsKeepable old.books.plan.geometry 0 n f →
+      OnOk r (stored_of disk new ≡ with_working n (Kept f) (stored_of disk old))
       → OnErr r (stored_of disk new ≡ with_working n Broken (stored_of disk old)) → GoesOn disk old new → IsRig disk goes_on (slots + 1) frozen_slots size new
   rig_put (Ok done) new n f keepable put broken goes =
       rig_by new goes_on (slots + 1) frozen_slots size (with_working n (Kept f) (stored_of disk old)) goes.plan (λ still. goes.sound (rig.sound still)) put
@@ -64,7 +69,8 @@ module _ {D : Type 0} (disk : D → Disk) (goes_on : Bool) (slots frozen_slots s
       rig_by new goes_on (slots + 1) frozen_slots size (with_working n Broken (stored_of disk old)) goes.plan (λ still. goes.sound (rig.sound still)) broken
       (working_broken old.books.plan.geometry slots frozen_slots size (stored_of disk old) rig.load n)
 
-  pub rig_put_frozen : {T E : Type 0} (r : Result T E) (new : DurableState D) (n : ℕ) (f : Frame) → IsKeepable old.books.plan.geometry 0 n f → OnOk r (stored_of disk new ≡ with_frozen n (Kept f) (stored_of disk old))
+  pub rig_put_frozen : {T E : Type 0} (r : Result T E) (new : DurableState D) (n : ℕ) (f : Frame) → IsKeepable old.books.plan.geometry 0 n f →
+      OnOk r (stored_of disk new ≡ with_frozen n (Kept f) (stored_of disk old))
       → OnErr r (stored_of disk new ≡ with_frozen n Broken (stored_of disk old)) → GoesOn disk old new → IsRig disk goes_on slots (frozen_slots + 1) size new
   rig_put_frozen (Ok done) new n f keepable put broken goes =
       rig_by new goes_on slots (frozen_slots + 1) size (with_frozen n (Kept f) (stored_of disk old)) goes.plan (λ still. goes.sound (rig.sound still)) put
@@ -73,10 +79,12 @@ module _ {D : Type 0} (disk : D → Disk) (goes_on : Bool) (slots frozen_slots s
       rig_by new goes_on slots (frozen_slots + 1) size (with_frozen n Broken (stored_of disk old)) goes.plan (λ still. goes.sound (rig.sound still)) broken
       (frozen_broken old.books.plan.geometry slots frozen_slots size (stored_of disk old) rig.load n)
 
-  pub rig_frozen : (new : DurableState D) (k : ℕ) → stored_of disk new ≡ freezing_puts k (stored_of disk old) → new.books.plan ≡ old.books.plan → (is_sound disk old → is_sound disk new)
+  pub rig_frozen : (new : DurableState D) (k : ℕ) → stored_of disk new ≡ freezing_puts k (stored_of disk old) → new.books.plan ≡ old.books.plan →
+      (is_sound disk old → is_sound disk new)
       → IsRig disk goes_on 0 slots k new
   rig_frozen new k frozen plan sound =
-      rig_by new goes_on 0 slots k (freezing_puts k (stored_of disk old)) plan (λ still. sound (rig.sound still)) frozen (frozen_now old.books.plan.geometry slots frozen_slots size (stored_of disk old) rig.load k)
+      rig_by new goes_on 0 slots k (freezing_puts k (stored_of disk old)) plan (λ still. sound (rig.sound still)) frozen
+      (frozen_now old.books.plan.geometry slots frozen_slots size (stored_of disk old) rig.load k)
 
   pub rig_keepable : (age : ℕ) (f : FrozenPuts) → (stored_of disk old).frozen ≡ Some f → (stored_of disk old).saved.age < age
       → AreKeepable old.books.plan.geometry age (next_saved puts age f (stored_of disk old).saved).frames
@@ -84,33 +92,45 @@ module _ {D : Type 0} (disk : D → Disk) (goes_on : Bool) (slots frozen_slots s
       next_keepable old.books.plan.geometry slots frozen_slots size (stored_of disk old) rig.load age f some later
 
   pub rig_committed : (new : DurableState D) (age : ℕ) (f : FrozenPuts) (k : ℕ) → (stored_of disk old).frozen ≡ Some f → (stored_of disk old).saved.age < age
-      → stored_of disk new ≡ on_snapshots (committed puts age f) (stored_of disk old) → new.books.plan ≡ old.books.plan → is_sound disk new → IsRig disk goes_on slots 0 k new
+      → stored_of disk new ≡ on_snapshots (committed puts age f) (stored_of disk old) → new.books.plan ≡ old.books.plan → is_sound disk new →
+      IsRig disk goes_on slots 0 k new
   rig_committed new age f k some later is plan sound =
-      rig_by new goes_on slots 0 k (on_snapshots (committed puts age f) (stored_of disk old)) plan (λ still. sound) is (committed_now old.books.plan.geometry slots frozen_slots size (stored_of disk old) rig.load age f some later k)
+      rig_by new goes_on slots 0 k (on_snapshots (committed puts age f) (stored_of disk old)) plan (λ still. sound) is
+      (committed_now old.books.plan.geometry slots frozen_slots size (stored_of disk old) rig.load age f some later k)
 
-  pub rig_journaled : (new : DurableState D) (age n : ℕ) (words : List ℕ) → stored_of disk new ≡ on_snapshots (journaled age n words) (stored_of disk old) → new.books.plan ≡ old.books.plan → is_sound disk new
+  pub rig_journaled : (new : DurableState D) (age n : ℕ) (words : List ℕ) → stored_of disk new ≡ on_snapshots (journaled age n words) (stored_of disk old) →
+      new.books.plan ≡ old.books.plan → is_sound disk new
       → (disk new.beneath).may_leave (disk new.beneath).seen → IsRig disk goes_on slots frozen_slots size new
   rig_journaled new age n words is plan sound left = record {
     sound = λ _. sound;
     load = record {
-      saved = saved_keepable (disk new.beneath).sectors (disk new.beneath).seen (stored_of disk new).saved (saved_state (seen_of disk new) new.books, sound (disk new.beneath).seen left, refl);
-      working = subst (λ (p : Plan). IsLight p.geometry slots (stored_of disk new).working) (sym plan) (subst (IsLight old.books.plan.geometry slots) (sym (ap (λ (s : Stored). s.working) is)) rig.load.working);
-      frozen = λ f some. subst (λ (p : Plan). IsLightFor p.geometry frozen_slots size f) (sym plan) (rig.load.frozen f (sym (ap (λ (s : Stored). s.frozen) is) ∙ some));
+      saved = saved_keepable (disk new.beneath).sectors (disk new.beneath).seen (stored_of disk new).saved
+          (saved_state (seen_of disk new) new.books, sound (disk new.beneath).seen left, refl);
+      working = subst (λ (p : Plan). IsLight p.geometry slots (stored_of disk new).working) (sym plan)
+          (subst (IsLight old.books.plan.geometry slots) (sym (ap (λ (s : Stored). s.working) is)) rig.load.working);
+      frozen = λ f some. subst (λ (p : Plan). IsLightFor p.geometry frozen_slots size f) (sym plan)
+          (rig.load.frozen f (sym (ap (λ (s : Stored). s.frozen) is) ∙ some));
     };
   }
 
-  pub rig_refused : (new : DurableState D) (still : Bool) → stored_of disk new ≡ stored_of disk old → new.books.plan ≡ old.books.plan → (still ≡ true → is_sound disk new) → IsRig disk still slots frozen_slots size new
+  pub rig_refused : (new : DurableState D) (still : Bool) → stored_of disk new ≡ stored_of disk old → new.books.plan ≡ old.books.plan →
+      (still ≡ true → is_sound disk new) → IsRig disk still slots frozen_slots size new
   rig_refused new still is plan sound = rig_by new still slots frozen_slots size (stored_of disk old) plan sound is rig.load
 
-  rig_stopped : (new : DurableState D) (k : ℕ) → stored_of disk new ≡ record (stored_of disk old) { to_move = k } → new.books.plan ≡ old.books.plan → IsRig disk false slots frozen_slots size new
+  rig_stopped : (new : DurableState D) (k : ℕ) → stored_of disk new ≡ record (stored_of disk old) { to_move = k } → new.books.plan ≡ old.books.plan →
+      IsRig disk false slots frozen_slots size new
   rig_stopped new k is plan =
       rig_by new false slots frozen_slots size (record (stored_of disk old) { to_move = k }) plan (λ never. absurd (let e : false ≡ true = never in cc)) is
       (moved_some old.books.plan.geometry slots frozen_slots size (stored_of disk old) rig.load k)
 
-  pub rig_migrated : {E : Type 0} (r : Result ℕ E) (went : Bool) → went ≡ is_ok r → (new : DurableState D) (n : ℕ) → OnOk r (stored_of disk new ≡ on_snapshots (moved n) (stored_of disk old))
-      → OnErr r ((k : ℕ) × (k ≤ (stored_of disk old).to_move) × (stored_of disk new ≡ record (stored_of disk old) { to_move = k })) → new.books.plan ≡ old.books.plan → OnOk r (is_sound disk new)
+  pub rig_migrated : {E : Type 0} (r : Result ℕ E) (went : Bool) → went ≡ is_ok r → (new : DurableState D) (n : ℕ) →
+      OnOk r (stored_of disk new ≡ on_snapshots (moved n) (stored_of disk old))
+      → OnErr r ((k : ℕ) × (k ≤ (stored_of disk old).to_move) × (stored_of disk new ≡ record (stored_of disk old) { to_move = k })) →
+      new.books.plan ≡ old.books.plan → OnOk r (is_sound disk new)
       → IsRig disk went slots frozen_slots size new
   rig_migrated (Ok left) went is new n done unmoved plan sound =
-      subst (λ (b : Bool). IsRig disk b slots frozen_slots size new) (sym is) (rig_by new true slots frozen_slots size (on_snapshots (moved n) (stored_of disk old)) plan (λ _. sound) done
+      subst (λ (b : Bool). IsRig disk b slots frozen_slots size new) (sym is)
+      (rig_by new true slots frozen_slots size (on_snapshots (moved n) (stored_of disk old)) plan (λ _. sound) done
       (moved_now old.books.plan.geometry slots frozen_slots size (stored_of disk old) rig.load n))
-  rig_migrated (Err e) went is new n done unmoved plan sound = subst (λ (b : Bool). IsRig disk b slots frozen_slots size new) (sym is) (rig_stopped new unmoved.0 unmoved.2 plan)
+  rig_migrated (Err e) went is new n done unmoved plan sound = subst (λ (b : Bool). IsRig disk b slots frozen_slots size new) (sym is)
+      (rig_stopped new unmoved.0 unmoved.2 plan)

@@ -35,6 +35,7 @@ pub record IsLoad (g : Geometry) (slots frozen_slots size : ℕ) (s : Stored) : 
   pub frozen : (f : FrozenPuts) → s.frozen ≡ Some f → IsLightFor g frozen_slots size f
 
 -- what is kept beside a store agrees with it
-pub record IsRig {D : Type 0} (disk : D → Disk) (goes_on : Bool) (slots frozen_slots size : ℕ) (s : DurableState D) : Type 0 where
+pub record IsRig {D : Type 0} (disk : D → Disk) (goes_on : Bool) (slots frozen_slots size : ℕ) (s : DurableState D) :
+    Type 0 where
   pub sound : goes_on ≡ true → is_sound disk s
   pub load : IsLoad s.books.plan.geometry slots frozen_slots size (stored_of disk s)

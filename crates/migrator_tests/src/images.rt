@@ -84,7 +84,15 @@ fn put_home<D: Device>(
     }
     let (home, geometry) = (Home::new(superblock), superblock.geometry());
     let (place, shape) = (home.place(number), home.shape(number));
-    write_frame(device, place, shape, geometry, number, header, &content)
+    write_frame(
+        device,
+        place,
+        shape,
+        geometry,
+        number,
+        header,
+        content.as_ref(),
+    )
 }
 
 /// Writes an image of generation 0 with nothing in the log. The values are

@@ -88,7 +88,7 @@ impl<D: Device> Rig<D> {
             return Err(Failed);
         }
         self.working += 1;
-        self.store.put_working(number, header, &content)
+        self.store.put_working(number, header, content.as_ref())
     }
 
     /// Puts a frame of an object for the checkpoint on its way, with a value.
@@ -105,7 +105,7 @@ impl<D: Device> Rig<D> {
             return Err(Refusal::Fault);
         }
         self.frozen += 1;
-        self.store.put_frozen(number, header, &content)
+        self.store.put_frozen(number, header, content.as_ref())
     }
 
     /// Freezes what was put, for a checkpoint that writes `size` objects.

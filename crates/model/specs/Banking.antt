@@ -42,7 +42,8 @@ abbrev pub new_node : Content Capability
 new_node = content.Node (all_slots Void)
 
 abbrev pub new_root : ℕ → Content Capability
-new_root annex = content.Root (record { state = Available; words = replicate 4 0; key = 0; annex = annex; space = Void })
+new_root annex = content.Root
+    (record { state = Available; words = replicate 4 0; key = 0; annex = annex; space = Void })
 
 abbrev pub new_annex : Content Capability
 new_annex = content.Annex (all_slots Void)
@@ -60,13 +61,15 @@ allocated os b (n ∷ ns) c named = made (with_new os n b c) (n ∷ []) (named n
 abbrev pub process_allocated : List Object → ℕ → List ℕ → OrderOutcome
 process_allocated os b [] = refused os code.NoFrame
 process_allocated os b (p ∷ []) = refused os code.NoFrame
-process_allocated os b (p ∷ a ∷ ns) = made (with_new (with_new os p b (new_root a)) a b new_annex) (p ∷ a ∷ []) (Process p)
+process_allocated os b (p ∷ a ∷ ns) = made (with_new (with_new os p b (new_root a)) a b new_annex) (p ∷ a ∷ [])
+    (Process p)
 
 -- a new bank of a bank, at the first of them, where the chain isn't as long as it may be
 abbrev pub bank_allocated : List Object → ℕ → List ℕ → ℕ → OrderOutcome
 bank_allocated os b [] limit = refused os code.NoFrame
 bank_allocated os b (n ∷ ns) limit =
-    if nat_lt (length (chain os b)) 16 then made (with_new os n b (content.Bank limit)) (n ∷ []) (Bank n) else refused os code.TooDeep
+    if nat_lt (length (chain os b)) 16 then made (with_new os n b (content.Bank limit)) (n ∷ []) (Bank n) else refused
+    os code.TooDeep
 
 -- the objects that a capability frees: a page or node with full access, or a process with its annex
 abbrev pub freed_by : List Object → Capability → List ℕ
@@ -85,7 +88,8 @@ owned_by os b = filter (λ n. not (is_free (content_at os n)) && (owner_at os n 
 
 -- the objects with the owner of a bank in its place
 abbrev pub transferred : ℕ → ℕ → Object → Object
-transferred b parent o = if not (is_free o.content) && (o.owner == b) then record { owner = parent; content = o.content } else o
+transferred b parent o = if not (is_free o.content) && (o.owner == b) then
+    record { owner = parent; content = o.content } else o
 
 unfoldable pub inherited : List Object → ℕ → List Object
 inherited os b = map (transferred b (owner_at os b)) os
@@ -104,7 +108,8 @@ remaining os b = least (left_of os b) (map (left_of os) (chain os b))
 -- the objects that a capability frees, where the bank owns them
 abbrev pub freed : List Object → ℕ → List ℕ → OrderOutcome
 freed os b [] = refused os code.BadCapability
-freed os b (n ∷ ns) = if owner_at os n == b then made (rescind (n ∷ ns) os) (n ∷ ns) Void else refused os code.NotFromThisBank
+freed os b (n ∷ ns) = if owner_at os n == b then made (rescind (n ∷ ns) os) (n ∷ ns) Void else refused os
+    code.NotFromThisBank
 
 -- The orders of a bank. The least code that applies is the answer: a limit reached, then no free number, then a chain
 -- of 16 banks already.
@@ -113,10 +118,13 @@ on_bank g os b bank.NewPage args =
     if has_quota os b 1 then allocated os b (free_pages g os) new_page (λ n. Page n full) else refused os code.Limit
 on_bank g os b bank.NewNode args =
     if has_quota os b 1 then allocated os b (free_nodes g os) new_node (λ n. Node n full) else refused os code.Limit
-on_bank g os b bank.NewProcess args = if has_quota os b 2 then process_allocated os b (free_nodes g os) else refused os code.Limit
-on_bank g os b bank.NewBank args = if has_quota os b 1 then bank_allocated os b (free_nodes g os) args.first else refused os code.Limit
+on_bank g os b bank.NewProcess args = if has_quota os b 2 then process_allocated os b (free_nodes g os) else refused os
+    code.Limit
+on_bank g os b bank.NewBank args = if has_quota os b 1 then bank_allocated os b (free_nodes g os) args.first else
+    refused os code.Limit
 on_bank g os b bank.Free args = freed os b (freed_by os args.capability)
-on_bank g os b bank.Destroy args = if b == 0 then refused os code.PrimeBank else made (rescind (under os b) os) (under os b) Void
+on_bank g os b bank.Destroy args = if b == 0 then refused os code.PrimeBank else made (rescind (under os b) os)
+    (under os b) Void
 on_bank g os b bank.ReturnToParent args =
     if b == 0 then refused os code.PrimeBank else made (rescind (b ∷ []) (inherited os b)) (b ∷ owned_by os b) Void
 on_bank g os b bank.Remaining args = replying_three os (remaining os b) (usage os b) (limit_in (content_at os b))

@@ -8,6 +8,8 @@ use Rattle.model.specs.declared.frame.Frame.{Frame}
 use Rattle.model.specs.declared.frame.ObjectHeader.{ObjectHeader}
 use Rattle.model.specs.declared.object.Content.{Content}
 use Rattle.model.specs.declared.object.Content.TheVariants as content
+use Rattle.model.specs.declared.object.ContentRef.{ContentRef}
+use Rattle.model.specs.declared.object.ContentRef.TheVariants as content_ref
 use Rattle.model.specs.declared.object.Object.{Object}
 use Rattle.model.specs.declared.object.Role.{Role}
 use Rattle.model.specs.declared.object.Role.TheVariants as role
@@ -82,3 +84,12 @@ called h = record h { calls = h.calls + 1 }
 -- a free number becomes an object; its counts stay
 abbrev pub claimed : Role → ℕ → ObjectHeader → ObjectHeader
 claimed r owner h = record h { role = r; owner = owner }
+
+-- the content that a reference is to
+abbrev pub content_behind : ContentRef → Content Cap
+content_behind content_ref.Free = content.Free
+content_behind (content_ref.Page words) = content.Page words.now
+content_behind (content_ref.Node slots) = content.Node slots.now
+content_behind (content_ref.Root root) = content.Root root.now
+content_behind (content_ref.Annex registers) = content.Annex registers.now
+content_behind (content_ref.Bank limit) = content.Bank limit

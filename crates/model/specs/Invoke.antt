@@ -20,7 +20,8 @@ use Rattle.model.specs.Revoke.{consume}
 unfoldable pub deliver : List Object → ℕ → Message → List Object
 deliver os p m =
     let r = root_at os p in
-    with_slots_from (with_root os p (record r { state = Running; words = m.words; key = m.key })) r.annex 28 m.capabilities
+    with_slots_from (with_root os p (record r { state = Running; words = m.words; key = m.key })) r.annex 28
+    m.capabilities
 
 -- what comes of an invocation: the objects, and the numbers written
 pub record Effect : Type 0 where
@@ -41,7 +42,8 @@ sent_to_gate os i = elim i.operation [ Call ↦ slice_set (sent_by os i) 3 (Resu
 
 -- the invoker after the operation: through a gate a caller waits; a return always makes it available
 abbrev pub after_gate : List Object → Invocation → List Object
-after_gate os i = elim i.operation [ Call ↦ with_state os i.process Waiting | Return ↦ with_state os i.process Available | Send ↦ os ]
+after_gate os i = elim i.operation
+    [ Call ↦ with_state os i.process Waiting | Return ↦ with_state os i.process Available | Send ↦ os ]
 
 abbrev pub after_order : List Object → Invocation → List Object
 after_order os i = elim i.operation [ Return ↦ with_state os i.process Available | _ ↦ os ]
@@ -71,7 +73,11 @@ replied os i outcome = elim i.operation [
 -- the outcome of the order of an invocation of a kernel object
 abbrev pub ordered : Geometry → List Object → Invocation → OrderOutcome
 ordered g os i = order g (after_order os i) (register_at os i.process i.register) (slice_index i.words 0)
-    (record { first = slice_index i.words 1; second = slice_index i.words 2; capability = slice_index_or (sent_by os i) 0 Void })
+    (record {
+      first = slice_index i.words 1;
+      second = slice_index i.words 2;
+      capability = slice_index_or (sent_by os i) 0 Void;
+    })
 
 -- an invocation of a kernel object
 unfoldable pub on_kernel_object : Geometry → List Object → Invocation → Effect
@@ -79,7 +85,8 @@ on_kernel_object g os i =
     let outcome = ordered g os i in
     record {
       objects = replied outcome.objects i outcome;
-      written = (elim i.operation [ Call ↦ i.process ∷ annex_at os i.process ∷ [] | Return ↦ i.process ∷ [] | Send ↦ [] ]) ++ outcome.written;
+      written = (elim i.operation
+          [ Call ↦ i.process ∷ annex_at os i.process ∷ [] | Return ↦ i.process ∷ [] | Send ↦ [] ]) ++ outcome.written;
     }
 
 -- whether process q can be started by an invocation: it is available, or returns to itself
@@ -91,6 +98,7 @@ can_start os i q = is_available (root_at os q).state || (is_return i.operation &
 unfoldable pub invoke : Geometry → List Object → Invocation → Option Effect
 invoke g os i = elim (register_at os i.process i.register) [
   | Start q key ↦ if can_start os i q then Some (through_gate os i q key) else None
-  | Resume q ↦ let effect = through_gate os i q 0 in Some (record { objects = consume q effect.objects; written = effect.written })
+  | Resume q ↦ let effect = through_gate os i q 0 in Some
+      (record { objects = consume q effect.objects; written = effect.written })
   | _ ↦ Some (on_kernel_object g os i)
 ]

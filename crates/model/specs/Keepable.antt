@@ -60,8 +60,10 @@ MayBeKept g age content.Free = Unit {0}
 MayBeKept g age (content.Page words) = AreKeptWords 512 words
 MayBeKept g age (content.Node slots) = AreKeptSlots g age slots
 MayBeKept g age (content.Root root) =
-    AreKeptWords 4 root.words × (root.key < 2 ^ 16) × (root.annex < 2 ^ 64) × IsKeptCap g age root.space × IsSpace root.space.what
-MayBeKept g age (content.Annex registers) = AreKeptSlots g age registers × (slice_index_or registers 0 void_held ≡ void_held)
+    AreKeptWords 4 root.words × (root.key < 2 ^ 16) × (root.annex < 2 ^ 64) × IsKeptCap g age root.space × IsSpace
+    root.space.what
+MayBeKept g age (content.Annex registers) = AreKeptSlots g age registers ×
+    (slice_index_or registers 0 void_held ≡ void_held)
 MayBeKept g age (content.Bank limit) = limit < 2 ^ 64
 
 -- a frame that can be kept, at an age

@@ -52,8 +52,16 @@ touched_count touched = count_by (λ b. b) touched
 
 -- those of a set of numbers, and those whose objects are given up between two times
 unfoldable pub renewing : List Bool → List Object → List Object → List Bool
-renewing renewed os us = map (λ n. slice_index_or renewed n false || is_given_up os us n) (range_with_len 0 (length renewed))
+renewing renewed os us = map (λ n. slice_index_or renewed n false || is_given_up os us n)
+    (range_with_len 0 (length renewed))
 
 -- opened at a saved part
 abbrev pub opened : Geometry → Saved → Running
-opened g saved = record { now = saved.world; touched = untouched g; renewed = untouched g; frozen = None; saved = saved; to_move = saved.entries }
+opened g saved = record {
+  now = saved.world;
+  touched = untouched g;
+  renewed = untouched g;
+  frozen = None;
+  saved = saved;
+  to_move = saved.entries;
+}

@@ -28,7 +28,8 @@ use Rattle.model.specs.Revoke.{consume}
 
 -- the orders by the first word sent
 abbrev pub page_order : ℕ → Option PageOrder
-page_order w = if w == 1 then Some page.Read else if w == 2 then Some page.Write else if w == 3 then Some page.Reduce else None
+page_order w = if w == 1 then Some page.Read else if w == 2 then Some page.Write else if w == 3 then Some page.Reduce
+    else None
 
 abbrev pub node_order : ℕ → Option NodeOrder
 node_order w =
@@ -37,9 +38,12 @@ node_order w =
 
 abbrev pub process_order : ℕ → Option ProcessOrder
 process_order w =
-    if w == 1 then Some process.GetRegister else if w == 2 then Some process.PutRegister else if w == 3 then Some process.GetWord
-    else if w == 4 then Some process.PutWord else if w == 5 then Some process.MakeStart else if w == 6 then Some process.GetState
-    else if w == 7 then Some process.SetState else if w == 8 then Some process.GetSpace else if w == 9 then Some process.SetSpace else None
+    if w == 1 then Some process.GetRegister else if w == 2 then Some process.PutRegister else if w == 3 then Some
+    process.GetWord
+    else if w == 4 then Some process.PutWord else if w == 5 then Some process.MakeStart else if w == 6 then Some
+    process.GetState
+    else if w == 7 then Some process.SetState else if w == 8 then Some process.GetSpace else if w == 9 then Some
+    process.SetSpace else None
 
 abbrev pub bank_order : ℕ → Option BankOrder
 bank_order w =
@@ -57,12 +61,14 @@ abbrev pub reduces : ℕ → Bool
 reduces w = (w == 1) || (w == 3)
 
 unfoldable pub on_page : List Object → ℕ → Access → PageOrder → Arguments → OrderOutcome
-on_page os o a page.Read args = if nat_lt args.first 512 then replying os (word_at os o args.first) 0 else refused os code.BadIndex
+on_page os o a page.Read args = if nat_lt args.first 512 then replying os (word_at os o args.first) 0 else refused os
+    code.BadIndex
 on_page os o a page.Write args =
     if not (a.0 == 0) then refused os code.NoAccess
     else if nat_lt args.first 512 then wrote (with_word os o args.first args.second) o
     else refused os code.BadIndex
-on_page os o a page.Reduce args = if reduces args.first then given os (Page o (union a args.first)) else refused os code.BadIndex
+on_page os o a page.Reduce args = if reduces args.first then given os (Page o (union a args.first)) else refused os
+    code.BadIndex
 
 -- what is fetched through a weak capability is diminished
 abbrev pub fetched : Access → Capability → Capability
@@ -76,9 +82,11 @@ stored os o a slot c =
     else refused os code.BadIndex
 
 unfoldable pub on_node : List Object → ℕ → Access → NodeOrder → Arguments → OrderOutcome
-on_node os o a node.Fetch args = if nat_lt args.first 32 then given os (fetched a (slot_at os o args.first)) else refused os code.BadIndex
+on_node os o a node.Fetch args = if nat_lt args.first 32 then given os (fetched a (slot_at os o args.first)) else
+    refused os code.BadIndex
 on_node os o a node.Store args = stored os o a args.first args.capability
-on_node os o a node.Reduce args = if reduces args.first then given os (Node o (union a args.first)) else refused os code.BadIndex
+on_node os o a node.Reduce args = if reduces args.first then given os (Node o (union a args.first)) else refused os
+    code.BadIndex
 on_node os o a node.MakeSpace args =
     if (args.first == 0) || not (nat_lt args.first 5) then refused os code.BadIndex else given os (Space o args.first a)
 on_node os o a node.PutNumber args = stored os o a args.first (Number args.second)
@@ -97,15 +105,19 @@ abbrev pub with_space : Root Capability → Capability → Root Capability
 with_space r c = record r { space = c }
 
 unfoldable pub on_process : List Object → ℕ → ProcessOrder → Arguments → OrderOutcome
-on_process os p process.GetRegister args = if nat_lt args.first 32 then given os (register_at os p args.first) else refused os code.BadIndex
+on_process os p process.GetRegister args = if nat_lt args.first 32 then given os (register_at os p args.first) else
+    refused os code.BadIndex
 on_process os p process.PutRegister args =
     if (args.first == 0) || not (nat_lt args.first 32) then refused os code.BadIndex
     else wrote (with_slot os (annex_at os p) args.first args.capability) (annex_at os p)
 on_process os p process.GetWord args =
-    if nat_lt args.first 4 then replying os (slice_index (root_at os p).words args.first) 0 else refused os code.BadIndex
+    if nat_lt args.first 4 then replying os (slice_index (root_at os p).words args.first) 0 else refused os
+    code.BadIndex
 on_process os p process.PutWord args =
-    if nat_lt args.first 4 then wrote (with_root os p (with_root_word (root_at os p) args.first args.second)) p else refused os code.BadIndex
-on_process os p process.MakeStart args = if nat_lt args.first 65536 then given os (Start p args.first) else refused os code.BadIndex
+    if nat_lt args.first 4 then wrote (with_root os p (with_root_word (root_at os p) args.first args.second)) p else
+    refused os code.BadIndex
+on_process os p process.MakeStart args = if nat_lt args.first 65536 then given os (Start p args.first) else refused os
+    code.BadIndex
 on_process os p process.GetState args = replying os (state_number (root_at os p).state) (root_at os p).key
 on_process os p process.SetState args =
     if args.first == 0 then wrote (consume p (with_state os p Available)) p
@@ -113,21 +125,27 @@ on_process os p process.SetState args =
     else refused os code.BadIndex
 on_process os p process.GetSpace args = given os (root_at os p).space
 on_process os p process.SetSpace args =
-    if is_space args.capability then wrote (with_root os p (with_space (root_at os p) args.capability)) p else refused os code.BadCapability
+    if is_space args.capability then wrote (with_root os p (with_space (root_at os p) args.capability)) p else refused
+    os code.BadCapability
 
 -- What an order does. Every order on void is refused as such. No order is invoked on a start or resume capability,
 -- which is no kernel object.
 unfoldable pub order : Geometry → List Object → Capability → ℕ → Arguments → OrderOutcome
 order g os Void w args = refused os code.VoidCapability
 order g os (Number n) w args = if w == 1 then replying os n 0 else refused os code.NoOrder
-order g os (Page o a) w args = elim (page_order w) [ None ↦ refused os code.NoOrder | Some requested ↦ on_page os o a requested args ]
-order g os (Node o a) w args = elim (node_order w) [ None ↦ refused os code.NoOrder | Some requested ↦ on_node os o a requested args ]
+order g os (Page o a) w args = elim (page_order w)
+    [ None ↦ refused os code.NoOrder | Some requested ↦ on_page os o a requested args ]
+order g os (Node o a) w args = elim (node_order w)
+    [ None ↦ refused os code.NoOrder | Some requested ↦ on_node os o a requested args ]
 order g os (Space o h a) w args =
     if w == 3
     then (if reduces args.first then given os (Space o h (union a args.first)) else refused os code.BadIndex)
     else refused os code.NoOrder
-order g os (Process p) w args = elim (process_order w) [ None ↦ refused os code.NoOrder | Some requested ↦ on_process os p requested args ]
+order g os (Process p) w args = elim (process_order w)
+    [ None ↦ refused os code.NoOrder | Some requested ↦ on_process os p requested args ]
 order g os (Start p key) w args = refused os code.NoOrder
 order g os (Resume p) w args = refused os code.NoOrder
-order g os (Bank b) w args = elim (bank_order w) [ None ↦ refused os code.NoOrder | Some requested ↦ on_bank g os b requested args ]
-order g os Discrim w args = if w == 1 then replying os (tag_of args.capability) (access_bits args.capability) else refused os code.NoOrder
+order g os (Bank b) w args = elim (bank_order w)
+    [ None ↦ refused os code.NoOrder | Some requested ↦ on_bank g os b requested args ]
+order g os Discrim w args = if w == 1 then replying os (tag_of args.capability) (access_bits args.capability) else
+    refused os code.NoOrder

@@ -34,7 +34,8 @@ refused os why = record { code = why; words = 0 ∷ 0 ∷ 0 ∷ []; capability =
 
 -- one that replies two words
 abbrev pub replying : List Object → ℕ → ℕ → OrderOutcome
-replying os first second = record { code = code.Done; words = first ∷ second ∷ 0 ∷ []; capability = Void; objects = os; written = [] }
+replying os first second =
+    record { code = code.Done; words = first ∷ second ∷ 0 ∷ []; capability = Void; objects = os; written = [] }
 
 -- one that gives a capability
 abbrev pub given : List Object → Capability → OrderOutcome
@@ -46,7 +47,8 @@ wrote os n = record { code = code.Done; words = 0 ∷ 0 ∷ 0 ∷ []; capability
 
 -- one that replies three
 abbrev pub replying_three : List Object → ℕ → ℕ → ℕ → OrderOutcome
-replying_three os first second third = record { code = code.Done; words = first ∷ second ∷ third ∷ []; capability = Void; objects = os; written = [] }
+replying_three os first second third =
+    record { code = code.Done; words = first ∷ second ∷ third ∷ []; capability = Void; objects = os; written = [] }
 
 -- one that writes these objects and gives a capability
 abbrev pub made : List Object → List ℕ → Capability → OrderOutcome

@@ -30,7 +30,8 @@ abbrev pub HasShape : Content Capability → Type 0
 HasShape content.Free = Unit {0}
 HasShape (content.Page words) = length words ≡ 512
 HasShape (content.Node slots) = length slots ≡ 32
-HasShape (content.Root root) = (length root.words ≡ 4) × ((i : ℕ) → slice_index root.words i < 2 ^ 64) × (root.key < 2 ^ 16)
+HasShape (content.Root root) = (length root.words ≡ 4) × ((i : ℕ) → slice_index root.words i < 2 ^ 64) ×
+    (root.key < 2 ^ 16)
 HasShape (content.Annex registers) = length registers ≡ 32
 HasShape (content.Bank limit) = limit < 2 ^ 64
 
@@ -75,8 +76,10 @@ pub record IsSound (g : Geometry) (w : World) : Type 0 where
   pub some_root : (a : ℕ) → IsTrue (is_annex (content_at w.objects a)) →
       (p : ℕ) × IsTrue (is_process w.objects p) × (annex_at w.objects p ≡ a)
   pub unowned : (n : ℕ) → IsTrue (is_free (content_at w.objects n)) → owner_at w.objects n ≡ 0
-  pub owners : (n : ℕ) → is_free (content_at w.objects n) ≢ true → IsTrue (is_bank (content_at w.objects (owner_at w.objects n)))
+  pub owners : (n : ℕ) → is_free (content_at w.objects n) ≢ true →
+      IsTrue (is_bank (content_at w.objects (owner_at w.objects n)))
   pub prime : IsTrue (is_bank (content_at w.objects 0)) × (owner_at w.objects 0 ≡ 0)
   pub chains : (b : ℕ) → IsTrue (is_bank (content_at w.objects b)) → Contains (chain w.objects b) 0
-  pub limits : (b : ℕ) → IsTrue (is_bank (content_at w.objects b)) → usage w.objects b ≤ limit_in (content_at w.objects b)
+  pub limits : (b : ℕ) → IsTrue (is_bank (content_at w.objects b)) →
+      usage w.objects b ≤ limit_in (content_at w.objects b)
   pub age : w.age ≤ 2 ^ 62

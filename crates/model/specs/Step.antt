@@ -42,12 +42,17 @@ writable (Err why) = Err why
 
 -- only a running process acts
 abbrev pub of_running : List Object → ℕ → Option Refusal → Option Refusal
-of_running os p next = unless (is_process os p) refusal.NoProcess (unless (is_running_process os p) refusal.NotRunning next)
+of_running os p next = unless (is_process os p) refusal.NoProcess
+    (unless (is_running_process os p) refusal.NotRunning next)
 
 -- what refuses a checkpoint, and the journaling of a page, before anything else does
 abbrev pub when_home : Running → Option Refusal → Option Refusal
 when_home s next = unless (nat_lt s.now.age (2 ^ 62)) refusal.Worn
-    (elim s.frozen [ Some frozen ↦ Some refusal.CheckpointRunning | None ↦ unless (s.saved.entries == 0) refusal.MigrationPending next ])
+    (elim s.frozen [
+      | Some frozen ↦ Some refusal.CheckpointRunning
+      | None ↦ unless (s.saved.entries == 0)
+          refusal.MigrationPending next
+    ])
 
 -- whether a page is saved at a number, and wasn't given up since
 abbrev pub is_saved_page : Running → ℕ → Bool
@@ -56,12 +61,14 @@ is_saved_page s n = is_page (content_at s.saved.world.objects n) && not (slice_i
 -- why what has a number can't be journaled
 abbrev pub unjournaled : Running → ℕ → Option Refusal
 unjournaled s n =
-    unless (is_page (content_at s.now.objects n)) (refusal.NotJournaled NotPage) (unless (is_saved_page s n) (refusal.NotJournaled Renewed) None)
+    unless (is_page (content_at s.now.objects n)) (refusal.NotJournaled NotPage)
+    (unless (is_saved_page s n) (refusal.NotJournaled Renewed) None)
 
 -- the first refusal that applies, or none, of a command to a machine that is up
 unfoldable pub refusal_of : Geometry → Running → Command → Option Refusal
 refusal_of g s (command.Invoke i) =
-    of_running s.now.objects i.process (unless (nat_lt s.now.age (2 ^ 62)) refusal.Worn (elim (invoke g s.now.objects i) [
+    of_running s.now.objects i.process
+    (unless (nat_lt s.now.age (2 ^ 62)) refusal.Worn (elim (invoke g s.now.objects i) [
       | None ↦ Some refusal.Stalled
       | Some effect ↦ unless (not (overfills g s.touched effect.written)) refusal.LogFull None
     ]))
@@ -76,8 +83,13 @@ refusal_of g s (command.Evict n) = unless (nat_lt n (object_count g)) refusal.Ba
 refusal_of g s command.Checkpoint = when_home s None
 refusal_of g s (command.Stabilize n) = elim s.frozen [ None ↦ Some refusal.NoCheckpoint | Some frozen ↦ None ]
 refusal_of g s command.Commit =
-    elim s.frozen [ None ↦ Some refusal.NoCheckpoint | Some frozen ↦ unless (frozen.left == 0) (refusal.NotStable frozen.left) None ]
-refusal_of g s (command.Journal n) = when_home s (unless (nat_lt n (object_count g)) refusal.BadNumber (unjournaled s n))
+    elim s.frozen [
+      | None ↦ Some refusal.NoCheckpoint
+      | Some frozen ↦ unless (frozen.left == 0)
+          (refusal.NotStable frozen.left) None
+    ]
+refusal_of g s (command.Journal n) = when_home s
+    (unless (nat_lt n (object_count g)) refusal.BadNumber (unjournaled s n))
 refusal_of g s _ = None
 
 -- the text of an object: with a process its registers, with a bank its usage
@@ -102,7 +114,10 @@ moved s n = if s.to_move - n == 0 then at_home s.saved else s.saved
 -- the saved part with the words that a page has now; its owner there stays
 abbrev pub journaled : Running → ℕ → Saved
 journaled s n =
-    let world : World = record { objects = with_content s.saved.world.objects n (content_at s.now.objects n); age = s.saved.world.age + 1 } in
+    let world : World = record {
+      objects = with_content s.saved.world.objects n (content_at s.now.objects n);
+      age = s.saved.world.age + 1;
+    } in
     record { world = world; generation = s.saved.generation + 2; entries = 1 }
 
 -- what carrying a command out answers, and the machine after it
@@ -128,32 +143,37 @@ frozen_now g s =
     let size = touched_count s.touched in
     let now : World = record { objects = s.now.objects; age = s.now.age + 1 } in
     let frozen : Frozen = record { world = now; size = size; left = size } in
-    outcome (answer.Frozen size) (record s { now = now; touched = untouched g; renewed = untouched g; frozen = Some frozen })
+    outcome (answer.Frozen size)
+    (record s { now = now; touched = untouched g; renewed = untouched g; frozen = Some frozen })
 
 abbrev pub stabilized : Running → ℕ → Outcome
 stabilized s n = elim s.frozen [
   | None ↦ outcome answer.Done s
-  | Some f ↦ outcome (answer.Left (f.left - n)) (freezing s (Some (record { world = f.world; size = f.size; left = f.left - n })))
+  | Some f ↦ outcome (answer.Left (f.left - n))
+      (freezing s (Some (record { world = f.world; size = f.size; left = f.left - n })))
 ]
 
 abbrev pub commits : Running → Outcome
 commits s = elim s.frozen [
   | None ↦ outcome answer.Done s
-  | Some f ↦ outcome (answer.Committed (s.saved.generation + 1)) (record s { frozen = None; saved = committed s f; to_move = f.size })
+  | Some f ↦ outcome (answer.Committed (s.saved.generation + 1))
+      (record s { frozen = None; saved = committed s f; to_move = f.size })
 ]
 
 -- a command that isn't refused, carried out
 unfoldable pub carried_out : Geometry → Running → Command → Outcome
 carried_out g s (command.Invoke i) = elim (invoke g s.now.objects i) [
   | None ↦ outcome answer.Done s
-  | Some effect ↦ outcome answer.Done (writing s effect.objects (s.now.age + 1) effect.written (renewing s.renewed s.now.objects effect.objects))
+  | Some effect ↦ outcome answer.Done
+      (writing s effect.objects (s.now.age + 1) effect.written (renewing s.renewed s.now.objects effect.objects))
 ]
 carried_out g s (command.Load p address) = elim (reached s.now.objects p address) [
   | Ok found ↦ outcome (answer.Value (word_at s.now.objects found.0 (address % 512))) s
   | Err why ↦ outcome (answer.MemoryFault why) s
 ]
 carried_out g s (command.Store p address value) = elim (writable (reached s.now.objects p address)) [
-  | Ok page ↦ outcome answer.Done (writing s (with_word s.now.objects page (address % 512) value) s.now.age (page ∷ []) s.renewed)
+  | Ok page ↦ outcome answer.Done
+      (writing s (with_word s.now.objects page (address % 512) value) s.now.age (page ∷ []) s.renewed)
   | Err why ↦ outcome (answer.MemoryFault why) s
 ]
 carried_out g s (command.Show n) = outcome (shown s.now.objects n) s
@@ -161,7 +181,8 @@ carried_out g s (command.Evict n) = outcome answer.Done s
 carried_out g s command.Checkpoint = frozen_now g s
 carried_out g s (command.Stabilize n) = stabilized s n
 carried_out g s command.Commit = commits s
-carried_out g s (command.Migrate n) = outcome (answer.Left (s.to_move - n)) (record s { saved = moved s n; to_move = s.to_move - n })
+carried_out g s (command.Migrate n) = outcome (answer.Left (s.to_move - n))
+    (record s { saved = moved s n; to_move = s.to_move - n })
 carried_out g s (command.Journal n) =
     let now : World = record { objects = s.now.objects; age = s.now.age + 1 } in
     outcome (answer.Journaled (s.saved.generation + 2)) (record s { now = now; saved = journaled s n; to_move = 1 })
@@ -187,15 +208,11 @@ opens command.Cut = true
 opens _ = false
 
 abbrev pub takes_memory : Command → Bool
-takes_memory (command.Invoke i) = true
-takes_memory (command.Load p address) = true
-takes_memory (command.Store p address value) = true
 takes_memory (command.Show n) = true
 takes_memory c = opens c
 
 -- whether want of memory may stand in place of a refusal
 abbrev pub gives_way : Option Refusal → Bool
-gives_way (Some refusal.NoProcess) = false
 gives_way (Some refusal.BadNumber) = false
 gives_way _ = true
 
@@ -209,8 +226,10 @@ without_memory m c = if opens c then Down (candidates m) else m
 
 -- what a command would have saved beside what was saved, if the device fails in it
 abbrev pub second : Machine → Command → List Saved
-second (Up s) command.Commit = elim s.frozen [ None ↦ [] | Some frozen ↦ if frozen.left == 0 then committed s frozen ∷ [] else [] ]
-second (Up s) (command.Migrate n) = if s.saved.entries == 0 then [] else if s.to_move - n == 0 then at_home s.saved ∷ [] else []
+second (Up s) command.Commit = elim s.frozen
+    [ None ↦ [] | Some frozen ↦ if frozen.left == 0 then committed s frozen ∷ [] else [] ]
+second (Up s) (command.Migrate n) = if s.saved.entries == 0 then [] else if s.to_move - n == 0 then at_home s.saved ∷ []
+    else []
 second (Up s) (command.Journal n) = elim (when_home s (unjournaled s n)) [ None ↦ journaled s n ∷ [] | Some why ↦ [] ]
 second _ _ = []
 

@@ -38,7 +38,8 @@ operation_name Send = codes "send"
 -- the words of a command's line; numbers are decimal without leading zeros
 unfoldable pub command_words : Command → List (List ℕ)
 command_words (command.Invoke i) =
-    (operation_name i.operation ∷ decimal i.process ∷ decimal i.register ∷ []) ++ map decimal i.words ++ map decimal i.sent
+    (operation_name i.operation ∷ decimal i.process ∷ decimal i.register ∷ []) ++ map decimal i.words ++ map decimal
+    i.sent
 command_words (command.Load p address) = codes "load" ∷ decimal p ∷ decimal address ∷ []
 command_words (command.Store p address value) = codes "store" ∷ decimal p ∷ decimal address ∷ decimal value ∷ []
 command_words (command.Show n) = codes "show" ∷ decimal n ∷ []
@@ -139,7 +140,8 @@ object_text n o registers used = elim o.content [
       ++ (codes "annex" ∷ decimal r.annex ∷ state_text r.state ∷ codes "key" ∷ decimal r.key ∷ codes "words" ∷ [])
       ++ map decimal r.words ++ (codes "space" ∷ capability_text r.space ∷ [])))
       ++ capability_lines (codes "register") (registers_of registers)
-  | content.Annex slots ↦ line_of (spaced (headed (codes "annex") n o.owner)) ++ capability_lines (codes "register") slots
+  | content.Annex slots ↦ line_of (spaced (headed (codes "annex") n o.owner)) ++ capability_lines (codes "register")
+      slots
   | content.Bank limit ↦ line_of (spaced (headed (codes "bank") n o.owner
       ++ (codes "limit" ∷ decimal limit ∷ codes "used" ∷ decimal used ∷ [])))
 ]

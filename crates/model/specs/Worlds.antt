@@ -21,7 +21,8 @@ of_prime_bank c = record { owner = 0; content = c }
 
 -- a process in that state, with that annex, nothing delivered and no address space
 abbrev pub fresh_root : State → ℕ → Object
-fresh_root s annex = of_prime_bank (content.Root (record { state = s; words = 0 ∷ 0 ∷ 0 ∷ 0 ∷ []; key = 0; annex = annex; space = Void }))
+fresh_root s annex = of_prime_bank
+    (content.Root (record { state = s; words = 0 ∷ 0 ∷ 0 ∷ 0 ∷ []; key = 0; annex = annex; space = Void }))
 
 -- the prime bank, which may own 1000 objects
 abbrev pub prime_bank : Object
@@ -47,7 +48,9 @@ i0 = record {
   objects =
       prime_bank
       ∷ fresh_root Running 2
-      ∷ of_prime_bank (content.Annex (slice_set (slice_set (slice_set (slice_set (all_slots Void) 1 (Process 1)) 2 (Bank 0)) 3 (Start 3 7)) 4 (Process 3)))
+      ∷ of_prime_bank (content.Annex
+      (slice_set (slice_set (slice_set (slice_set (all_slots Void) 1 (Process 1)) 2 (Bank 0)) 3 (Start 3 7)) 4
+      (Process 3)))
       ∷ fresh_root Available 4
       ∷ of_prime_bank (content.Annex (all_slots Void))
       ∷ replicate 19 free;

@@ -19,5 +19,5 @@ pub use contents::{SLOTS, Slots, WORDS, Words};
 pub use frame::{Frame, ObjectHeader};
 pub use geometry::{Geometry, MAX_AGE};
 pub use line::Line;
-pub use object::{Content, Object, Role, Root, State};
+pub use object::{Content, ContentRef, Object, Role, Root, State};
 pub use order::{Arguments, BankOrder, NodeOrder, PageOrder, ProcessOrder, ResultCode};

@@ -1,8 +1,10 @@
 // Objects, and what they hold.
 ghost use Rattle.std.specs.Prelude.{◌≡◌, IfOk};
+ghost use Rattle.model.specs.Frame.{content_behind};
 ghost use Rattle.model.specs.Object.{role_of, role_number, state_number};
 
-use contents::{Slots, Words};
+use crate::Cap;
+use contents::{SLOTS, Slots, WORDS, Words};
 use std::alloc::{AllocError, Global};
 
 /// What an object is.
@@ -95,24 +97,51 @@ impl<C> Content<C> {
     }
 }
 
-impl<C: Copy> Content<C> {
-    /// The same again. Fails only where memory runs out.
-    pub fn copy(&self, alloc: Global) -> Result<Self, AllocError>
-        ensures { IfOk result (λ copy. copy ≡ self.now) }
+impl Content<Cap> {
+    /// A reference to it.
+    pub fn as_ref(&self) -> ContentRef<'_>
+        ensures { content_behind result ≡ self.now }
     {
         match self {
-            Content::Free => Ok(Content::Free),
-            Content::Page(words) => Ok(Content::Page(words.copy(alloc)?)),
-            Content::Node(slots) => Ok(Content::Node(slots.copy(alloc)?)),
-            Content::Root(root) => Ok(Content::Root(Root {
+            Content::Free => ContentRef::Free,
+            Content::Page(words) => ContentRef::Page(words.as_array()),
+            Content::Node(slots) => ContentRef::Node(slots.as_array()),
+            Content::Root(root) => ContentRef::Root(root),
+            Content::Annex(registers) => ContentRef::Annex(registers.as_array()),
+            Content::Bank { limit } => ContentRef::Bank { limit: *limit },
+        }
+    }
+}
+
+/// A reference to what an object holds, wherever that is kept.
+#[derive(Clone, Copy)]
+pub enum ContentRef<'a> {
+    Free,
+    Page(&'a [u64; WORDS]),
+    Node(&'a [Cap; SLOTS]),
+    Root(&'a Root<Cap>),
+    Annex(&'a [Cap; SLOTS]),
+    Bank { limit: u64 },
+}
+
+impl ContentRef<'_> {
+    /// The same content, in memory of its own. Fails only where memory runs out.
+    pub fn to_content(self, alloc: Global) -> Result<Content<Cap>, AllocError>
+        ensures { IfOk result (λ content. content ≡ content_behind self.entry) }
+    {
+        match self {
+            ContentRef::Free => Ok(Content::Free),
+            ContentRef::Page(words) => Ok(Content::Page(Words::of(alloc, words)?)),
+            ContentRef::Node(slots) => Ok(Content::Node(Slots::of(alloc, slots)?)),
+            ContentRef::Root(root) => Ok(Content::Root(Root {
                 state: root.state,
                 words: root.words,
                 key: root.key,
                 annex: root.annex,
                 space: root.space,
             })),
-            Content::Annex(registers) => Ok(Content::Annex(registers.copy(alloc)?)),
-            Content::Bank { limit } => Ok(Content::Bank { limit: *limit }),
+            ContentRef::Annex(registers) => Ok(Content::Annex(Slots::of(alloc, registers)?)),
+            ContentRef::Bank { limit } => Ok(Content::Bank { limit }),
         }
     }
 }

@@ -1,9 +1,9 @@
 -- What a bank frees or destroys, and what that leaves of the usage of each bank.
 use Rattle.model_laws.proofs.Names.{inl, inr, ℕ, zero, suc, nat_eq, Bool, true, false, not, List, [], length, get_or, All, refl, sym, ap, subst, arith, IsTrue}
-use Rattle.model_laws.proofs.Names.{IsStrictlyIncreasing, false≢true, cases_Bool, cases_eq, cases_lt, and_parts, false_from_ne_true, eq-eqb, eqb-true, not-true}
-use Rattle.model_laws.proofs.Names.{or_cases, or_left, or_right, get_or_past, Capability, Page, Node, Process, Geometry, Content, Object, free, is_free}
-use Rattle.model_laws.proofs.Names.{is_page, is_node, is_root, is_annex, is_bank, object_at, content_at, owner_at, annex_at, is_process, chain, is_under, usage}
-use Rattle.model_laws.proofs.Names.{freed_by, under, owned_by, is_member, rescind, NamesItsKind}
+use Rattle.model_laws.proofs.Names.{false≢true, cases_Bool, cases_eq, cases_lt, and_parts, false_from_ne_true, eq-eqb, eqb-true, not-true, or_cases, or_left}
+use Rattle.model_laws.proofs.Names.{or_right, get_or_past, Capability, Page, Node, Process, Geometry, Content, Object, free, is_free, is_page, is_node, is_root}
+use Rattle.model_laws.proofs.Names.{is_annex, is_bank, object_at, content_at, owner_at, annex_at, is_process, chain, is_under, usage, freed_by, under, owned_by}
+use Rattle.model_laws.proofs.Names.{is_member, rescind, NamesItsKind}
 use Rattle.std.proofs.Common.{◌≡◌, ◌≢◌, ◌+◌, ◌-◌, ◌==◌, ◌<◌, ◌≤◌, ◌&&◌, ◌||◌, ◌∷◌, ◌∙◌}
 use Rattle.std.specs.Prelude.{if◌then◌else◌}
 use Rattle.model.specs.declared.object.Content.TheVariants as content
@@ -109,12 +109,14 @@ module _ (g : Geometry) (os : List Object) (h : IsFramed g os) where
   process_freed p is =
       let a = annex_at os p in
       let known = h.annexes p is in
-      let none = λ (n : ℕ) (e : is_member (p ∷ a ∷ []) n ≡ true). pair (λ m. is_bank (content_at os m) ≡ false) p a n (root_no_bank (content_at os p) is) (annex_no_bank (content_at os a) known.0) e in
+      let none = λ (n : ℕ) (e : is_member (p ∷ a ∷ []) n ≡ true). pair (λ m. is_bank (content_at os m) ≡ false) p a n (root_no_bank (content_at os p) is)
+      (annex_no_bank (content_at os a) known.0) e in
       record {
         given_up = record {
           closed = no_bank_closed (p ∷ a ∷ []) none both;
           once = (no_member a [] p (λ e. annex_differs p is (sym e)) refl, (refl, tt));
-          used = λ n e. pair (λ m. is_free (content_at os m) ≡ false) p a n (used_where is_root refl (content_at os p) is) (used_where is_annex refl (content_at os a) known.0) e;
+          used = λ n e. pair (λ m. is_free (content_at os m) ≡ false) p a n (used_where is_root refl (content_at os p) is)
+              (used_where is_annex refl (content_at os a) known.0) e;
         };
         owner = λ n e. pair (λ m. owner_at os m ≡ owner_at os p) p a n refl known.1 e;
         no_bank = none;
@@ -134,7 +136,8 @@ module _ (g : Geometry) (os : List Object) (h : IsFramed g os) where
       ]
 
   -- it is the one that is freed, where one is
-  one_set : (o n : ℕ) (ns : List ℕ) (t : Bool) → IsFreedSet os (owner_at os o) (o ∷ []) → (if t then o ∷ [] else []) ≡ n ∷ ns → IsFreedSet os (owner_at os n) (n ∷ ns)
+  one_set : (o n : ℕ) (ns : List ℕ) (t : Bool) → IsFreedSet os (owner_at os o) (o ∷ []) → (if t then o ∷ [] else []) ≡ n ∷ ns →
+      IsFreedSet os (owner_at os n) (n ∷ ns)
   one_set o n ns false freed e = cc
   one_set o n ns true freed e = subst (λ xs. IsFreedSet os (owner_at os (get_or xs 0 0)) xs) e freed
 
@@ -196,7 +199,8 @@ unfolding under
 under_stands os b n below passes = stands_in (λ n. (n == b) || is_under os b (object_at os n)) 0 (length os) n (omega arith) (omega (arith, below)) passes
 
 -- what a bank owns: the numbers below the length that aren't free and have it as their owner
-pub owned_found : (os : List Object) (b n : ℕ) → is_member (owned_by os b) n ≡ true → (n < length os) × (is_free (content_at os n) ≡ false) × (owner_at os n ≡ b)
+pub owned_found : (os : List Object) (b n : ℕ) → is_member (owned_by os b) n ≡ true →
+    (n < length os) × (is_free (content_at os n) ≡ false) × (owner_at os n ≡ b)
 unfolding owned_by
 owned_found os b n e =
     let found = found_in (λ n. not (is_free (content_at os n)) && (owner_at os n == b)) 0 (length os) n e in
@@ -263,7 +267,8 @@ module _ (g : Geometry) (os : List Object) (h : IsFramed g os) (b : ℕ) (is : I
             | inl end ↦
                 let prime : owner_at os c ≡ 0 = ap (λ (k : ℕ). owner_at os k) end ∙ h.prime.1 in
                 subst (λ k. is_member (chain os k) b ≡ true) (prime ∙ sym end) passes
-            | inr far ↦ ap (λ xs. is_member xs b) (chain_unfolds os tree c bank far) ∙ (member_tail b c (chain os (owner_at os c)) (λ e. other (sym e)) ∙ passes)
+            | inr far ↦ ap (λ xs. is_member xs b) (chain_unfolds os tree c bank far) ∙
+                (member_tail b c (chain os (owner_at os c)) (λ e. other (sym e)) ∙ passes)
           ]
     ]
   ]
@@ -279,7 +284,8 @@ module _ (g : Geometry) (os : List Object) (h : IsFramed g os) (b : ℕ) (is : I
       ap (λ xs. is_member xs x) (chain_unfolds os tree c bank far) ∙ (member_tail x c (chain os (owner_at os c)) other ∙ elim (cases_eq c b) [
         | inl same ↦ ap (λ (k : ℕ). is_member (chain os (owner_at os k)) x) same
         | inr differ ↦
-            above (sym (ap (λ xs. is_member xs b) (chain_unfolds os tree c bank far) ∙ member_tail b c (chain os (owner_at os c)) (λ e. differ (sym e))) ∙ passes)
+            above (sym (ap (λ xs. is_member xs b) (chain_unfolds os tree c bank far) ∙ member_tail b c (chain os (owner_at os c)) (λ e. differ (sym e))) ∙
+            passes)
       ]))
 
   under_alike : (x n : ℕ) → is_member (under os b) x ≡ false → is_member (under os b) n ≡ true
@@ -293,7 +299,8 @@ module _ (g : Geometry) (os : List Object) (h : IsFramed g os) (b : ℕ) (is : I
       ]
 
   -- what is no bank is under it where the chain of its owner passes through it
-  under_other : (n : ℕ) → is_free (content_at os n) ≡ false → is_bank (content_at os n) ≡ false → is_member (under os b) n ≡ is_member (chain os (owner_at os n)) b
+  under_other : (n : ℕ) → is_free (content_at os n) ≡ false → is_bank (content_at os n) ≡ false →
+      is_member (under os b) n ≡ is_member (chain os (owner_at os n)) b
   under_other n used none = elim (cases_Bool (is_member (chain os (owner_at os n)) b)) [
     | inl passes ↦ under_chain n used passes ∙ sym passes
     | inr apart ↦

@@ -171,7 +171,8 @@ pub record IsAsBefore (os us : List Object) (n : ℕ) : Type 0 where
   pub state : state_at us n ≡ state_at os n
 
 -- a capability may be held still where what it names is as before
-pub held_as_before : (os us : List Object) (c : Capability) → ((n : ℕ) → named c ≡ Some n → IsAsBefore os us n) → IsHeld os (Waits os) c → IsHeld us (Waits us) c
+pub held_as_before : (os us : List Object) (c : Capability) → ((n : ℕ) → named c ≡ Some n → IsAsBefore os us n) → IsHeld os (Waits os) c →
+    IsHeld us (Waits us) c
 held_as_before os us c f =
     held_alike os us (Waits os) (Waits us) c (λ n e. (f n e).role) (λ p e waits. ap is_waiting (f p e).state ∙ waits)
 
@@ -205,7 +206,8 @@ module _ (os : List Object) (set : List ℕ) where
   filled_rescind : (n : ℕ) → IsFilled os (Waits os) (content_at os n) → IsFilled (rescind set os) (Waits (rescind set os)) (content_at (rescind set os) n)
   filled_rescind n h = elim (cases_Bool (is_member set n)) [
     | inl goes ↦ subst (λ o. IsFilled (rescind set os) (Waits (rescind set os)) o.content) (sym (went_object os set n goes)) filled_free
-    | inr kept ↦ subst (λ o. IsFilled (rescind set os) (Waits (rescind set os)) o.content) (sym (kept_object os set n kept)) (filled_cleared (content_at os n) h)
+    | inr kept ↦ subst (λ o. IsFilled (rescind set os) (Waits (rescind set os)) o.content) (sym (kept_object os set n kept))
+        (filled_cleared (content_at os n) h)
   ]
 
 -- sound objects are sound where a closed set is given up
@@ -236,7 +238,8 @@ pub lost_together : (os : List Object) (set : List ℕ) (x : ℕ) (above : Bool)
     → ((n : ℕ) → is_member set n ≡ true → is_under os x (object_at os n) ≡ above) → lost os set x ≡ (if above then length set else 0)
 unfolding lost
 lost_together os set x true once below each =
-    count_alike (λ p. is_member set p.0 && is_under os x p.1) (λ p. is_member set p.0) os os free refl (λ i. go i (is_member set i) refl) ∙ count_members os set once below
+    count_alike (λ p. is_member set p.0 && is_under os x p.1) (λ p. is_member set p.0) os os free refl (λ i. go i (is_member set i) refl) ∙
+    count_members os set once below
   where
     go : (i : ℕ) (b : Bool) → is_member set i ≡ b → (b && is_under os x (object_at os i)) ≡ b
     go i true e = each i e

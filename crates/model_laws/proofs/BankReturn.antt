@@ -36,7 +36,8 @@ transferred_content b parent o = one_of (λ x. x.content ≡ o.content) (not (is
 transferred_owner : (b parent : ℕ) (o : Object) → b ≢ 0 → (is_free o.content ≡ true → o.owner ≡ 0) → (transferred b parent o).owner ≡ heir b parent o.owner
 transferred_owner b parent o on unowned = go (is_free o.content) refl
   where
-    go : (t : Bool) → is_free o.content ≡ t → (if not t && (o.owner == b) then record { owner = parent; content = o.content } else o).owner ≡ heir b parent o.owner
+    go : (t : Bool) → is_free o.content ≡ t → (if not t && (o.owner == b) then record { owner = parent; content = o.content } else o).owner ≡ heir b parent
+        o.owner
     go true gone = sym (heir_other b parent o.owner (λ e. on (sym e ∙ unowned gone)))
     go false used = kept (o.owner == b)
       where
@@ -100,7 +101,8 @@ module _ (os : List Object) (t : IsTree os) (b : ℕ) (is : IsTrue (is_bank (con
       base (suc k) short = rw (heir_other b (owner_at os b) 0 (λ e. on (sym e)), chain_prime os) refl
 
       step : (c : ℕ) → IsTrue (is_bank (content_at os c)) → c ≢ 0
-          → ((k : ℕ) → length (chain os (owner_at os c)) ≤ k → is_member (chain_within k (inherited os b) (heir b (owner_at os b) (owner_at os c))) x ≡ is_member (chain os (owner_at os c)) x)
+          → ((k : ℕ) → length (chain os (owner_at os c)) ≤ k → is_member (chain_within k (inherited os b) (heir b (owner_at os b) (owner_at os c))) x ≡
+          is_member (chain os (owner_at os c)) x)
           → (k : ℕ) → length (chain os c) ≤ k → is_member (chain_within k (inherited os b) (heir b (owner_at os b) c)) x ≡ is_member (chain os c) x
       step c bank far above zero short = absurd (omega (arith, short, chain_nonempty os t c bank))
       step c bank far above (suc k) short = elim (cases_eq c b) [
@@ -115,7 +117,8 @@ module _ (os : List Object) (t : IsTree os) (b : ℕ) (is : IsTrue (is_bank (con
             (ap (λ (rest : Bool). nat_eq x c || rest) (above k (omega (arith, short, chain_longer os t c bank far))))
       ]
 
-  chain_heir : (x c : ℕ) → x ≢ b → IsTrue (is_bank (content_at os c)) → is_member (chain (inherited os b) (heir b (owner_at os b) c)) x ≡ is_member (chain os c) x
+  chain_heir : (x c : ℕ) → x ≢ b → IsTrue (is_bank (content_at os c)) → is_member (chain (inherited os b) (heir b (owner_at os b) c)) x ≡ is_member (chain os c)
+      x
   unfolding chain
   chain_heir x c differ bank = heir_within x differ c bank 16 (chain_length os c)
 
@@ -134,13 +137,15 @@ module _ (os : List Object) (t : IsTree os) (b : ℕ) (is : IsTrue (is_bank (con
   own_chain =
       rw (ne_eqb b 0 on, inherited_owner b)
       (or_right (nat_eq 0 b) _
-      (heir_within 0 (λ e. on (sym e)) (owner_at os b) (owner_bank os t b is) 15 (omega (arith, chain_owner_length os t b is on)) ∙ has_prime (owner_at os b) (owner_bank os t b is)))
+      (heir_within 0 (λ e. on (sym e)) (owner_at os b) (owner_bank os t b is) 15 (omega (arith, chain_owner_length os t b is on)) ∙
+      has_prime (owner_at os b) (owner_bank os t b is)))
 
   inherited_chain : (c : ℕ) → IsTrue (is_bank (content_at os c)) → is_member (chain (inherited os b) c) 0 ≡ true
   inherited_chain c bank = elim (cases_eq c b) [
     | inl same ↦ subst (λ n. is_member (chain (inherited os b) n) 0 ≡ true) (sym same) own_chain
     | inr other ↦
-        subst (λ n. is_member (chain (inherited os b) n) 0 ≡ true) (heir_other b (owner_at os b) c other) (chain_heir 0 c (λ e. on (sym e)) bank ∙ has_prime c bank)
+        subst (λ n. is_member (chain (inherited os b) n) 0 ≡ true) (heir_other b (owner_at os b) c other)
+        (chain_heir 0 c (λ e. on (sym e)) bank ∙ has_prime c bank)
   ]
 
   -- the others' usage is as it was, and the bank has none
@@ -188,7 +193,8 @@ framed_inherited g os b h is on =
       unowned = λ n e.
           owner n ∙ (ap (λ (k : ℕ). heir b (owner_at os b) k) (h.unowned n (ap is_free (sym (same n)) ∙ e)) ∙ heir_other b (owner_at os b) 0 (λ z. on (sym z)));
       owners = λ n e.
-          rw (owner n) (ap is_bank (same (heir b (owner_at os b) (owner_at os n))) ∙ heir_bank os t b is on (owner_at os n) (h.owners n (λ z. e (ap is_free (same n) ∙ z))));
+          rw (owner n) (ap is_bank (same (heir b (owner_at os b) (owner_at os n))) ∙
+          heir_bank os t b is on (owner_at os n) (h.owners n (λ z. e (ap is_free (same n) ∙ z))));
       prime = (
         ap is_bank (same 0) ∙ h.prime.0,
         owner 0 ∙ (ap (λ (k : ℕ). heir b (owner_at os b) k) h.prime.1 ∙ heir_other b (owner_at os b) 0 (λ z. on (sym z))),
@@ -234,7 +240,8 @@ alone_given_up g os b h is on =
         prime = no_member b [] 0 (λ e. on (sym e)) refl;
         annexes = λ p process.
             no_member b [] (annex_at (inherited os b) p)
-            (differ_where is_annex (inherited os b) (annex_at (inherited os b) p) b (after.annexes p process).0 (bank_no_annex (content_at (inherited os b) b) bank)) refl
+            (differ_where is_annex (inherited os b) (annex_at (inherited os b) p) b (after.annexes p process).0
+            (bank_no_annex (content_at (inherited os b) b) bank)) refl
             ∙ sym (no_member b [] p (differ_where is_root (inherited os b) p b process (bank_no_root (content_at (inherited os b) b) bank)) refl);
         owned = λ n used e.
             absurd (heir_differs os t b is on (owner_at os n) (sym (inherited_owner os t b is on n) ∙ only_member b (owner_at (inherited os b) n) e));
@@ -253,7 +260,8 @@ alone_given_up g os b h is on =
     bank_no_root c e = refl
 
 -- sound objects are sound where a bank is returned
-pub returned_now : (g : Geometry) (os : List Object) (b : ℕ) → IsNow g os → IsTrue (is_bank (content_at os b)) → b ≢ 0 → IsNow g (rescind (b ∷ []) (inherited os b))
+pub returned_now : (g : Geometry) (os : List Object) (b : ℕ) → IsNow g os → IsTrue (is_bank (content_at os b)) → b ≢ 0 →
+    IsNow g (rescind (b ∷ []) (inherited os b))
 returned_now g os b h is on = rescinded_now g (inherited os b) (b ∷ []) (inherited_now g os b h is on) (alone_given_up g os b h.frame is on).closed
 
 usage_returned_both : (g : Geometry) (os : List Object) (b : ℕ) → IsNow g os → IsTrue (is_bank (content_at os b)) → b ≢ 0
@@ -267,7 +275,8 @@ usage_returned_both g os b h is on x differ =
     (λ n e.
     under_owner (inherited os b) x n (alone.used n e)
     ∙ (ap (λ (k : ℕ). is_member (chain (inherited os b) (owner_at (inherited os b) k)) x) (only_member b n e)
-    ∙ (ap (λ (k : ℕ). is_member (chain (inherited os b) k) x) (inherited_owner os t b is on b) ∙ chain_heir os t b is on x (owner_at os b) differ (owner_bank os t b is))))
+    ∙ (ap (λ (k : ℕ). is_member (chain (inherited os b) k) x) (inherited_owner os t b is on b) ∙
+    chain_heir os t b is on x (owner_at os b) differ (owner_bank os t b is))))
     ∙ usage_inherited os t b is on x differ
 
 -- the usage of a bank where another is returned to its parent
@@ -285,31 +294,33 @@ returned_fits g os b h is on x differ = omega (arith, usage_returned_both g os b
 
 -- an outcome that gives nothing
 void_keeps : (g : Geometry) (os : List Object) (written : List ℕ) → IsNow g os → IsOutcome g (made os written Void)
-void_keeps g os written h = record { now = h; count = refl; words = three_words 0 0 0 (omega arith) (omega arith) (omega arith); held = held_void os (Waits os) }
+void_keeps g os written h =
+    record { now = h; count = refl; words = three_words 0 0 0 (omega arith) (omega arith) (omega arith); held = held_void os (Waits os) }
 
-module _ (g : Geometry) (os : List Object) (b : ℕ) (args : Arguments) (h : IsNow g os) (is : IsTrue (is_bank (content_at os b))) (fits : AreArguments os args) where
-  -- a free keeps sound objects sound
-  pub freed_keeps : IsOutcome g (on_bank g os b bank.Free args)
-  unfolding on_bank
-  freed_keeps = go (freed_by os args.capability) refl
-    where
-      go : (ns : List ℕ) → freed_by os args.capability ≡ ns → IsOutcome g (freed os b ns)
-      go [] e = refused_keeps g os _ h
-      go (n ∷ ns) e =
-          chosen (IsOutcome g) (owner_at os n == b) _ _
-          (λ own. void_keeps g _ _
-          (rescinded_now g os (n ∷ ns) h (freed_set g os h.frame args.capability n ns (held_to os args.capability fits.held).1 e).given_up.closed))
-          (λ other. refused_keeps g os _ h)
+module _ (g : Geometry) (os : List Object) (b : ℕ) (args : Arguments) (h : IsNow g os) (is : IsTrue (is_bank (content_at os b))) (fits : AreArguments os args)
+  where
+    -- a free keeps sound objects sound
+    pub freed_keeps : IsOutcome g (on_bank g os b bank.Free args)
+    unfolding on_bank
+    freed_keeps = go (freed_by os args.capability) refl
+      where
+        go : (ns : List ℕ) → freed_by os args.capability ≡ ns → IsOutcome g (freed os b ns)
+        go [] e = refused_keeps g os _ h
+        go (n ∷ ns) e =
+            chosen (IsOutcome g) (owner_at os n == b) _ _
+            (λ own. void_keeps g _ _
+            (rescinded_now g os (n ∷ ns) h (freed_set g os h.frame args.capability n ns (held_to os args.capability fits.held).1 e).given_up.closed))
+            (λ other. refused_keeps g os _ h)
 
-  -- so does the end of a bank with all under it
-  pub destroyed_keeps : IsOutcome g (on_bank g os b bank.Destroy args)
-  unfolding on_bank
-  destroyed_keeps =
-      chosen (IsOutcome g) (b == 0) _ _ (λ prime. refused_keeps g os _ h)
-      (λ on. void_keeps g _ _ (rescinded_now g os (under os b) h (under_given_up g os h.frame b is (eqb-false b 0 on)).closed))
+    -- so does the end of a bank with all under it
+    pub destroyed_keeps : IsOutcome g (on_bank g os b bank.Destroy args)
+    unfolding on_bank
+    destroyed_keeps =
+        chosen (IsOutcome g) (b == 0) _ _ (λ prime. refused_keeps g os _ h)
+        (λ on. void_keeps g _ _ (rescinded_now g os (under os b) h (under_given_up g os h.frame b is (eqb-false b 0 on)).closed))
 
-  -- and a bank's return to its parent
-  pub returned_keeps : IsOutcome g (on_bank g os b bank.ReturnToParent args)
-  unfolding on_bank
-  returned_keeps =
-      chosen (IsOutcome g) (b == 0) _ _ (λ prime. refused_keeps g os _ h) (λ on. void_keeps g _ _ (returned_now g os b h is (eqb-false b 0 on)))
+    -- and a bank's return to its parent
+    pub returned_keeps : IsOutcome g (on_bank g os b bank.ReturnToParent args)
+    unfolding on_bank
+    returned_keeps =
+        chosen (IsOutcome g) (b == 0) _ _ (λ prime. refused_keeps g os _ h) (λ on. void_keeps g _ _ (returned_now g os b h is (eqb-false b 0 on)))

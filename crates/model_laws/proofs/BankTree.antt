@@ -82,7 +82,8 @@ within_on_same os us zero b same = refl
 within_on_same os us (suc k) b same = elim (cases_eq b 0) [
   | inl end ↦ within_end us k b end ∙ sym (within_end os k b end)
   | inr on ↦
-      let here : owner_at us b ≡ owner_at os b = same b (ap (λ xs. is_member xs b) (within_on os k b on) ∙ member_head b b (chain_within k os (owner_at os b)) refl) in
+      let here : owner_at us b ≡ owner_at os b = same b
+      (ap (λ xs. is_member xs b) (within_on os k b on) ∙ member_head b b (chain_within k os (owner_at os b)) refl) in
       let above : (x : ℕ) → is_member (chain_within k os (owner_at os b)) x ≡ true → owner_at us x ≡ owner_at os x =
       λ x in_rest. elim (cases_eq x b) [
         | inl e ↦ rw e here
@@ -245,7 +246,8 @@ module _ (os : List Object) (n b : ℕ) (c : Content Capability) (t : IsTree os)
     ];
     owners = λ x is. elim (cases_eq x n) [
       | inl e ↦
-          let owner : owner_at (with_new os n b c) x ≡ b = ap (λ (m : ℕ). owner_at (with_new os n b c) m) e ∙ ap (λ (o : Object). o.owner) (at_new os n b c inside) in
+          let owner : owner_at (with_new os n b c) x ≡ b = ap (λ (m : ℕ). owner_at (with_new os n b c) m) e ∙
+          ap (λ (o : Object). o.owner) (at_new os n b c inside) in
           rw owner (new_bank_kept b bank)
       | inr differ ↦
           let same = at_other os n b c x differ in
@@ -255,7 +257,8 @@ module _ (os : List Object) (n b : ℕ) (c : Content Capability) (t : IsTree os)
     prime = (new_bank_kept 0 t.prime.0, ap (λ (o : Object). o.owner) (bank_kept 0 t.prime.0) ∙ t.prime.1);
     chains = λ x is. elim (cases_eq x n) [
       | inl e ↦
-          let new_is : IsTrue (is_bank c) = sym (ap (λ (o : Object). is_bank o.content) (at_new os n b c inside)) ∙ (ap (λ (m : ℕ). is_bank (content_at (with_new os n b c) m)) (sym e) ∙ is) in
+          let new_is : IsTrue (is_bank c) = sym (ap (λ (o : Object). is_bank o.content) (at_new os n b c inside)) ∙
+          (ap (λ (m : ℕ). is_bank (content_at (with_new os n b c) m)) (sym e) ∙ is) in
           rw (e, chain_new_bank new_is) (contains_more n 0 (chain os b) (t.chains b bank))
       | inr differ ↦
           let was : IsTrue (is_bank (content_at os x)) = sym (ap (λ (o : Object). is_bank o.content) (at_other os n b c x differ)) ∙ is in

@@ -38,7 +38,8 @@ rescind_annexes set os p before is =
 
 inherited_content : (os : List Object) (b n : ℕ) → content_at (inherited os b) n ≡ content_at os n
 unfolding inherited
-inherited_content os b n = ap (λ (o : Object). o.content) (at_map (transferred b (owner_at os b)) os n free refl) ∙ transferred_content b (owner_at os b) (object_at os n)
+inherited_content os b n = ap (λ (o : Object). o.content) (at_map (transferred b (owner_at os b)) os n free refl) ∙
+    transferred_content b (owner_at os b) (object_at os n)
 
 inherited_annexes : (b : ℕ) (os : List Object) → KeepsAnnexes os (rescind (b ∷ []) (inherited os b))
 inherited_annexes b os p before is =
@@ -53,9 +54,11 @@ module _ (os : List Object) (b : ℕ) where
   new_annexes : (n : ℕ) (c : Content Capability) → is_free (content_at os n) ≡ true → KeepsAnnexes os (with_new os n b c)
   new_annexes n c unused p before is = ap (λ (o : Object). (root_in o.content).annex) (at_other os n b c p (apart p n before unused))
 
-  two_annexes : (n m : ℕ) (c d : Content Capability) → is_free (content_at os n) ≡ true → is_free (content_at os m) ≡ true → KeepsAnnexes os (with_new (with_new os n b c) m b d)
+  two_annexes : (n m : ℕ) (c d : Content Capability) → is_free (content_at os n) ≡ true → is_free (content_at os m) ≡ true →
+      KeepsAnnexes os (with_new (with_new os n b c) m b d)
   two_annexes n m c d first second p before is =
-      ap (λ (o : Object). (root_in o.content).annex) (at_other (with_new os n b c) m b d p (apart p m before second) ∙ at_other os n b c p (apart p n before first))
+      ap (λ (o : Object). (root_in o.content).annex)
+      (at_other (with_new os n b c) m b d p (apart p m before second) ∙ at_other os n b c p (apart p n before first))
 
   abbrev Kept : OrderOutcome → Type 0
   Kept o = KeepsAnnexes os o.objects
@@ -63,7 +66,8 @@ module _ (os : List Object) (b : ℕ) where
   same : KeepsAnnexes os os
   same p before is = refl
 
-  allocated_annexes : (ns : List ℕ) (c : Content Capability) (named : ℕ → Capability) → All (λ n. is_free (content_at os n) ≡ true) ns → Kept (allocated os b ns c named)
+  allocated_annexes : (ns : List ℕ) (c : Content Capability) (named : ℕ → Capability) → All (λ n. is_free (content_at os n) ≡ true) ns →
+      Kept (allocated os b ns c named)
   allocated_annexes [] c named unused = same
   allocated_annexes (n ∷ ns) c named unused = new_annexes n c (unused 0 0 (omega arith))
 
@@ -88,13 +92,15 @@ module _ (os : List Object) (b : ℕ) where
   unfolding free_pages
   pages_unused g = filter_passes (λ n. is_free (content_at os n)) (range_with_len g.nodes g.pages)
 
-pub annex_kept : (g : Geometry) (os : List Object) (b : ℕ) (requested : BankOrder) (args : Arguments) (p : ℕ) → is_process os p ≡ true → is_process (on_bank g os b requested args).objects p ≡ true →
+pub annex_kept : (g : Geometry) (os : List Object) (b : ℕ) (requested : BankOrder) (args : Arguments) (p : ℕ) → is_process os p ≡ true →
+    is_process (on_bank g os b requested args).objects p ≡ true →
     annex_at (on_bank g os b requested args).objects p ≡ annex_at os p
 unfolding on_bank
 annex_kept g os b bank.NewPage args = one_of (Kept os b) (has_quota os b 1) _ _ (allocated_annexes os b (free_pages g os) _ _ (pages_unused os b g)) (same os b)
 annex_kept g os b bank.NewNode args = one_of (Kept os b) (has_quota os b 1) _ _ (allocated_annexes os b (free_nodes g os) _ _ (nodes_unused os b g)) (same os b)
 annex_kept g os b bank.NewProcess args = one_of (Kept os b) (has_quota os b 2) _ _ (process_annexes os b (free_nodes g os) (nodes_unused os b g)) (same os b)
-annex_kept g os b bank.NewBank args = one_of (Kept os b) (has_quota os b 1) _ _ (bank_annexes os b (free_nodes g os) args.first (nodes_unused os b g)) (same os b)
+annex_kept g os b bank.NewBank args = one_of (Kept os b) (has_quota os b 1) _ _ (bank_annexes os b (free_nodes g os) args.first (nodes_unused os b g))
+    (same os b)
 annex_kept g os b bank.Free args = freed_annexes os b (freed_by os args.capability)
 annex_kept g os b bank.Destroy args = one_of (Kept os b) (b == 0) _ _ (same os b) (rescind_annexes (under os b) os)
 annex_kept g os b bank.ReturnToParent args = one_of (Kept os b) (b == 0) _ _ (same os b) (inherited_annexes b os)
@@ -115,7 +121,8 @@ none_within os = All-nil (λ n. n < length os)
 one_within : (os : List Object) (n : ℕ) → n < length os → All (λ n. n < length os) (n ∷ [])
 one_within os n inside = All-cons (λ n. n < length os) n [] inside (none_within os)
 
-allocated_within : (os : List Object) (b : ℕ) (ns : List ℕ) (c : Content Capability) (named : ℕ → Capability) → All (λ n. n < length os) ns → Within os (allocated os b ns c named)
+allocated_within : (os : List Object) (b : ℕ) (ns : List ℕ) (c : Content Capability) (named : ℕ → Capability) → All (λ n. n < length os) ns →
+    Within os (allocated os b ns c named)
 allocated_within os b [] c named inside = none_within os
 allocated_within os b (n ∷ ns) c named inside = one_within os n (inside 0 0 (omega arith))
 
@@ -131,21 +138,29 @@ bank_within os b (n ∷ ns) limit inside = one_of (Within os) (nat_lt (length (c
 range_within : (os : List Object) (from count : ℕ) → from + count ≤ length os → All (λ n. n < length os) (are_free os (range_with_len from count))
 range_within os from count fits =
     All-filter (λ n. is_free (content_at os n)) (λ n. n < length os) (range_with_len from count)
-    (λ k d inside. let e = get_or-range_with_len from count k d (omega (arith, inside, length-range_with_len from count)) in omega (arith, e, inside, length-range_with_len from count))
+    (λ k d inside. let e = get_or-range_with_len from count k d (omega (arith, inside, length-range_with_len from count)) in omega
+    (arith, e, inside, length-range_with_len from count))
 
-freed_inside : (g : Geometry) (os : List Object) (b : ℕ) (c : Capability) (ns : List ℕ) → IsNow g os → NamesItsKind os c → freed_by os c ≡ ns → Within os (freed os b ns)
+freed_inside : (g : Geometry) (os : List Object) (b : ℕ) (c : Capability) (ns : List ℕ) → IsNow g os → NamesItsKind os c → freed_by os c ≡ ns →
+    Within os (freed os b ns)
 freed_inside g os b c [] h kind is = none_within os
 freed_inside g os b c (n ∷ ns) h kind is = one_of (Within os) (owner_at os n == b) _ _ (freed_within g os c n ns h is kind) (none_within os)
 
-pub written_within : (g : Geometry) (os : List Object) (b : ℕ) (requested : BankOrder) (args : Arguments) → IsNow g os → IsTrue (is_bank (content_at os b)) → NamesItsKind os args.capability →
+pub written_within : (g : Geometry) (os : List Object) (b : ℕ) (requested : BankOrder) (args : Arguments) → IsNow g os → IsTrue (is_bank (content_at os b)) →
+    NamesItsKind os args.capability →
     All (λ n. n < length os) (on_bank g os b requested args).written
 unfolding on_bank free_nodes free_pages
-written_within g os b bank.NewPage args h is kind = one_of (Within os) (has_quota os b 1) _ _ (allocated_within os b _ _ _ (range_within os g.nodes g.pages (omega (arith, h.frame.size)))) (none_within os)
-written_within g os b bank.NewNode args h is kind = one_of (Within os) (has_quota os b 1) _ _ (allocated_within os b _ _ _ (range_within os 0 g.nodes (omega (arith, h.frame.size)))) (none_within os)
-written_within g os b bank.NewProcess args h is kind = one_of (Within os) (has_quota os b 2) _ _ (process_within os b _ (range_within os 0 g.nodes (omega (arith, h.frame.size)))) (none_within os)
-written_within g os b bank.NewBank args h is kind = one_of (Within os) (has_quota os b 1) _ _ (bank_within os b _ args.first (range_within os 0 g.nodes (omega (arith, h.frame.size)))) (none_within os)
+written_within g os b bank.NewPage args h is kind = one_of (Within os) (has_quota os b 1) _ _
+    (allocated_within os b _ _ _ (range_within os g.nodes g.pages (omega (arith, h.frame.size)))) (none_within os)
+written_within g os b bank.NewNode args h is kind = one_of (Within os) (has_quota os b 1) _ _
+    (allocated_within os b _ _ _ (range_within os 0 g.nodes (omega (arith, h.frame.size)))) (none_within os)
+written_within g os b bank.NewProcess args h is kind = one_of (Within os) (has_quota os b 2) _ _
+    (process_within os b _ (range_within os 0 g.nodes (omega (arith, h.frame.size)))) (none_within os)
+written_within g os b bank.NewBank args h is kind = one_of (Within os) (has_quota os b 1) _ _
+    (bank_within os b _ args.first (range_within os 0 g.nodes (omega (arith, h.frame.size)))) (none_within os)
 written_within g os b bank.Free args h is kind = freed_inside g os b args.capability (freed_by os args.capability) h kind refl
 written_within g os b bank.Destroy args h is kind = one_of (Within os) (b == 0) _ _ (none_within os) (under_within os b)
 written_within g os b bank.ReturnToParent args h is kind =
-    one_of (Within os) (b == 0) _ _ (none_within os) (All-cons (λ n. n < length os) b (owned_by os b) (used_within os b (bank_is_used (content_at os b) is)) (owned_within os b))
+    one_of (Within os) (b == 0) _ _ (none_within os)
+    (All-cons (λ n. n < length os) b (owned_by os b) (used_within os b (bank_is_used (content_at os b) is)) (owned_within os b))
 written_within g os b bank.Remaining args h is kind = none_within os

@@ -32,7 +32,8 @@ none_given_up os us n stays = go (is_free (content_at os n)) (is_free (content_a
     go false now stays = stays refl
 
 -- what is rescinded is free, and all else as it was
-pub free_rescinded : (set : List ℕ) (os : List Object) (n : ℕ) → is_free (content_at (rescind set os) n) ≡ (if is_member set n then true else is_free (content_at os n))
+pub free_rescinded : (set : List ℕ) (os : List Object) (n : ℕ) →
+    is_free (content_at (rescind set os) n) ≡ (if is_member set n then true else is_free (content_at os n))
 free_rescinded set os n = elim (cases_Bool (is_member set n)) [
   | inl e ↦ rw e ((rescinds_all set os).0 n e)
   | inr e ↦ rw e ((kept_tests os set n e).free)
@@ -50,13 +51,16 @@ rescinded_given_up set os used n =
     go false false used = refl
 
 -- a new object takes no place of another
-pub new_used : (os : List Object) (n b : ℕ) (c : Content Capability) → is_free c ≡ false → (m : ℕ) → is_free (content_at os m) ≡ false → is_free (content_at (with_new os n b c) m) ≡ false
+pub new_used : (os : List Object) (n b : ℕ) (c : Content Capability) → is_free c ≡ false → (m : ℕ) → is_free (content_at os m) ≡ false →
+    is_free (content_at (with_new os n b c) m) ≡ false
 unfolding with_new
 new_used os n b c some m used = elim (cases_eq m n) [
   | inr differ ↦ ap (λ (o : Object). is_free o.content) (get_or-set_other os n m (record { owner = b; content = c }) free differ) ∙ used
   | inl e ↦
       ap (λ (k : ℕ). is_free (object_at (slice_set os n (record { owner = b; content = c })) k).content) e
-      ∙ (ap (λ (o : Object). is_free o.content) (get_or-set_same os n (record { owner = b; content = c }) free (used_within os n (subst (λ (k : ℕ). is_free (content_at os k) ≡ false) e used))) ∙ some)
+      ∙ (ap (λ (o : Object). is_free o.content)
+      (get_or-set_same os n (record { owner = b; content = c }) free (used_within os n (subst (λ (k : ℕ). is_free (content_at os k) ≡ false) e used))) ∙
+      some)
 ]
 
 -- nothing is given up in the same frame
@@ -71,10 +75,12 @@ module _ (os : List Object) (n : ℕ) where
   by_none : (list : List ℕ) (why : ResultCode) → (why ≡ code.Done → ⊥) → GivesUp os n list (refused os why)
   by_none list why other = (λ done. absurd (other done), λ undone. none_given_up os os n (λ used. used))
 
-  by_new : (us : List Object) (written : List ℕ) (c : Capability) → (is_free (content_at os n) ≡ false → is_free (content_at us n) ≡ false) → GivesUp os n [] (made us written c)
+  by_new : (us : List Object) (written : List ℕ) (c : Capability) → (is_free (content_at os n) ≡ false → is_free (content_at us n) ≡ false) →
+      GivesUp os n [] (made us written c)
   by_new us written c stays = (λ done. none_given_up os us n stays, λ undone. absurd (undone refl))
 
-  by_rescind : (vs : List Object) (set written : List ℕ) → ((m : ℕ) → content_at vs m ≡ content_at os m) → ((m : ℕ) → is_member set m ≡ true → is_free (content_at os m) ≡ false)
+  by_rescind : (vs : List Object) (set written : List ℕ) → ((m : ℕ) → content_at vs m ≡ content_at os m) →
+      ((m : ℕ) → is_member set m ≡ true → is_free (content_at os m) ≡ false)
       → GivesUp os n set (made (rescind set vs) written Void)
   by_rescind vs set written same used = (
     λ done.
@@ -103,7 +109,8 @@ module _ (os : List Object) (n : ℕ) where
   freed_gives : (b : ℕ) (list : List ℕ) → ((m : ℕ) → is_member list m ≡ true → is_free (content_at os m) ≡ false) → GivesUp os n list (freed os b list)
   freed_gives b [] used = by_none [] code.BadCapability (λ e. cc)
   freed_gives b (m ∷ ns) used =
-      one_of (GivesUp os n (m ∷ ns)) (owner_at os m == b) _ _ (by_rescind os (m ∷ ns) (m ∷ ns) (λ k. refl) used) (by_none (m ∷ ns) code.NotFromThisBank (λ e. cc))
+      one_of (GivesUp os n (m ∷ ns)) (owner_at os m == b) _ _ (by_rescind os (m ∷ ns) (m ∷ ns) (λ k. refl) used)
+      (by_none (m ∷ ns) code.NotFromThisBank (λ e. cc))
 
   -- the end of another bank than the prime bank
   ended_gives : (b : ℕ) (vs : List Object) (set written : List ℕ) → (b ≢ 0 → (m : ℕ) → content_at vs m ≡ content_at os m)
@@ -119,7 +126,8 @@ freed_used g os c h names [] frees n member = cc
 freed_used g os c h names (m ∷ ns) frees n member = (freed_set g os h.frame c m ns names frees).given_up.used n member
 
 -- what an order of a bank gives up
-pub order_gives_up : (g : Geometry) (os : List Object) (b : ℕ) (requested : BankOrder) (args : Arguments) (n : ℕ) → IsNow g os → IsTrue (is_bank (content_at os b)) → NamesItsKind os args.capability
+pub order_gives_up : (g : Geometry) (os : List Object) (b : ℕ) (requested : BankOrder) (args : Arguments) (n : ℕ) → IsNow g os →
+    IsTrue (is_bank (content_at os b)) → NamesItsKind os args.capability
     → GivesUp os n (rescinded_by os b requested args) (on_bank g os b requested args)
 unfolding on_bank
 order_gives_up g os b bank.NewPage args n h is names =
@@ -143,7 +151,8 @@ pub gives_up_rescinded : GivesUpRescinded
 gives_up_rescinded g w b requested args n sound is held = order_gives_up g w.objects b requested args n (nearly_from g w sound) is held.1
 
 pub gives_up_nothing : GivesUpNothing
-gives_up_nothing g w i e n sound fits runs other done = none_in_frame w.objects e.objects (invocation_frame g w.objects i e (nearly_from g w sound) fits runs other done) n
+gives_up_nothing g w i e n sound fits runs other done = none_in_frame w.objects e.objects
+    (invocation_frame g w.objects i e (nearly_from g w sound) fits runs other done) n
 
 -- where nothing is given up no number is renewed
 pub renewing_none : (renewed : List Bool) (os us : List Object) → ((n : ℕ) → is_given_up os us n ≡ false) → renewing renewed os us ≡ renewed

@@ -33,7 +33,8 @@ slot_frame os n i c = frame_content os n (with_slot_in (content_at os n) i c) (a
 slots_frame : (os : List Object) (n i : ℕ) (cs : List Capability) → SameFrame os (with_slots_from os n i cs)
 slots_frame os n i [] = frame_refl os
 slots_frame os n i (c ∷ cs) =
-    frame_trans os (with_slot os n i c) (with_slots_from (with_slot os n i c) n (i + 1) cs) (slot_frame os n i c) (slots_frame (with_slot os n i c) n (i + 1) cs)
+    frame_trans os (with_slot os n i c) (with_slots_from (with_slot os n i c) n (i + 1) cs) (slot_frame os n i c)
+    (slots_frame (with_slot os n i c) n (i + 1) cs)
 
 -- a message is delivered: the frame stays
 pub deliver_frame : (os : List Object) (p : ℕ) (m : Message) → IsTrue (is_process os p) → SameFrame os (deliver os p m)
@@ -73,7 +74,8 @@ node_frame os o a node.PutNumber args = stored_frame os o a args.first (Number a
 pub set_frame : (os : List Object) (p : ℕ) (s : State) → IsTrue (is_process os p) → SameFrame os (consume p (with_state os p s))
 set_frame os p s is = frame_trans os (with_state os p s) (consume p (with_state os p s)) (state_frame os p s is) (frame_consume p (with_state os p s))
 
-process_frame : (os : List Object) (p : ℕ) (requested : ProcessOrder) (args : Arguments) → IsTrue (is_process os p) → LeavesFrame os (on_process os p requested args)
+process_frame : (os : List Object) (p : ℕ) (requested : ProcessOrder) (args : Arguments) → IsTrue (is_process os p) →
+    LeavesFrame os (on_process os p requested args)
 unfolding on_process
 process_frame os p process.GetRegister args is = one_of (LeavesFrame os) (nat_lt args.first 32) _ _ (frame_refl os) (frame_refl os)
 process_frame os p process.PutRegister args is =
@@ -90,7 +92,8 @@ process_frame os p process.SetSpace args is = one_of (LeavesFrame os) (is_space 
 
 bank_refused : (g : Geometry) (os : List Object) (b w : ℕ) (args : Arguments) → bank_order w ≡ None → order g os (Bank b) w args ≡ refused os code.NoOrder
 unfolding order
-bank_refused g os b w args is = ap (λ (found : Option BankOrder). elim found [ None ↦ refused os code.NoOrder | Some requested ↦ on_bank g os b requested args ]) is
+bank_refused g os b w args is = ap
+    (λ (found : Option BankOrder). elim found [ None ↦ refused os code.NoOrder | Some requested ↦ on_bank g os b requested args ]) is
 
 -- what isn't a bank's order: the frame stays
 pub order_frame : (g : Geometry) (W : ℕ → Type 0) (os : List Object) (c : Capability) (w : ℕ) (args : Arguments) → IsHeld os W c → IsNoBankOrder c w
@@ -104,7 +107,8 @@ order_frame g W os (Node o a) w args held other =
 order_frame g W os (Space o k a) w args held other =
     one_of (LeavesFrame os) (w == 3) _ _ (one_of (LeavesFrame os) (reduces args.first) _ _ (frame_refl os) (frame_refl os)) (frame_refl os)
 order_frame g W os (Process p) w args held other =
-    found_or (LeavesFrame os) (process_order w) _ (λ requested. on_process os p requested args) (frame_refl os) (λ requested. process_frame os p requested args held.names)
+    found_or (LeavesFrame os) (process_order w) _ (λ requested. on_process os p requested args) (frame_refl os)
+    (λ requested. process_frame os p requested args held.names)
 order_frame g W os (Bank b) w args held other = subst (λ (o : OrderOutcome). SameFrame os o.objects) (sym (bank_refused g os b w args other)) (frame_refl os)
 order_frame g W os Discrim w args held other = one_of (LeavesFrame os) (w == 1) _ _ (frame_refl os) (frame_refl os)
 order_frame g W os c w args held other = frame_refl os
@@ -132,7 +136,8 @@ gate_frame os i q key is iq =
     frame_trans os us (deliver us q m) frame (deliver_frame us q m ((tests_at os us frame q).root ∙ iq))
 
 kernel_frame : (g : Geometry) (W : ℕ → Type 0) (os : List Object) (i : Invocation) → IsTrue (is_process os i.process)
-    → IsHeld os W (register_at os i.process i.register) → IsNoBankOrder (register_at os i.process i.register) (slice_index i.words 0) → SameFrame os (on_kernel_object g os i).objects
+    → IsHeld os W (register_at os i.process i.register) → IsNoBankOrder (register_at os i.process i.register) (slice_index i.words 0) →
+    SameFrame os (on_kernel_object g os i).objects
 unfolding on_kernel_object
 kernel_frame g W os i is held other =
     let us = after_order os i in
@@ -145,7 +150,8 @@ kernel_frame g W os i is held other =
     frame_trans os us (replied o.objects i o) frame (frame_trans us o.objects (replied o.objects i o) by_order (replied_frame i o))
 
 -- an invocation with no bank's order: the frame stays
-pub invocation_frame : (g : Geometry) (os : List Object) (i : Invocation) (e : Effect) → IsNow g os → Fits (command.Invoke i) → IsTrue (is_running_process os i.process)
+pub invocation_frame : (g : Geometry) (os : List Object) (i : Invocation) (e : Effect) → IsNow g os → Fits (command.Invoke i) →
+    IsTrue (is_running_process os i.process)
     → IsNoBankOrder (register_at os i.process i.register) (slice_index i.words 0) → invoke g os i ≡ Some e → SameFrame os e.objects
 invocation_frame g os i e h fits runs other =
     let is = (and_parts (is_process os i.process) (is_running (state_at os i.process)) runs).0 in

@@ -23,7 +23,8 @@ pub page_is : {C : Type 0} (c : Content C) → is_page c ≡ true → c ≡ cont
 page_is (content.Page words) is = refl
 page_is c is = cc
 
-filled_page : (os : List Object) (W : ℕ → Type 0) (words : List ℕ) → length words ≡ 512 → ((i : ℕ) → slice_index words i < 2 ^ 64) → IsFilled os W (content.Page words)
+filled_page : (os : List Object) (W : ℕ → Type 0) (words : List ℕ) → length words ≡ 512 → ((i : ℕ) → slice_index words i < 2 ^ 64) →
+    IsFilled os W (content.Page words)
 filled_page os W words count fit = record {
   shape = count;
   words = fit;

@@ -22,6 +22,7 @@ pub mod BankWrites
 pub mod GivenUp
 pub mod Revoking
 mod Touching
+pub mod Stepping
 pub mod Usage
 pub mod Rows
 mod WorkedRows

@@ -27,11 +27,31 @@ pub record IsMapped (f : Capability → Capability) (c d : Content Capability) :
 
 pub mapped : (f : Capability → Capability) (c : Content Capability) → IsMapped f c (map_content f c)
 mapped f (content.Node slots) =
-    record { role = refl; free = refl; root = refl; bank = refl; limit = refl; state = refl; annex = refl; space = λ e. sym e; slot = λ e i. at_map f slots i Void e }
+    record {
+      role = refl;
+      free = refl;
+      root = refl;
+      bank = refl;
+      limit = refl;
+      state = refl;
+      annex = refl;
+      space = λ e. sym e;
+      slot = λ e i. at_map f slots i Void e;
+    }
 mapped f (content.Root r) =
     record { role = refl; free = refl; root = refl; bank = refl; limit = refl; state = refl; annex = refl; space = λ e. refl; slot = λ e i. sym e }
 mapped f (content.Annex registers) =
-    record { role = refl; free = refl; root = refl; bank = refl; limit = refl; state = refl; annex = refl; space = λ e. sym e; slot = λ e i. at_map f registers i Void e }
+    record {
+      role = refl;
+      free = refl;
+      root = refl;
+      bank = refl;
+      limit = refl;
+      state = refl;
+      annex = refl;
+      space = λ e. sym e;
+      slot = λ e i. at_map f registers i Void e;
+    }
 mapped f c = record { role = refl; free = refl; root = refl; bank = refl; limit = refl; state = refl; annex = refl; space = λ e. sym e; slot = λ e i. sym e }
 
 -- so is an object with some capabilities put void

@@ -7,7 +7,7 @@ unfoldable pub use Rattle.model.specs.Banking.{free_nodes, free_pages, has_quota
 pub use Rattle.model.specs.Capability.{IsAccess, IsWellFormed, access_bits, diminished, full, named, tag_of, union, weak}
 pub use Rattle.model.specs.Invoke.{Effect, after_gate, after_order, can_start, is_return, ordered, replied, reply_of, sent_by, sent_to_gate}
 unfoldable pub use Rattle.model.specs.Invoke.{deliver, invoke, on_kernel_object, through_gate}
-pub use Rattle.model.specs.Machine.{Up, touching}
+pub use Rattle.model.specs.Machine.{Down, Up, touching}
 unfoldable pub use Rattle.model.specs.Machine.{renewing, untouched}
 pub use Rattle.model.specs.Object.{free, is_annex, is_available, is_bank, is_free, is_node, is_page, is_root, is_running, is_waiting, limit_in, map_content}
 pub use Rattle.model.specs.Object.{role_of, root_in, slots_in, state_number, with_slot_in, with_word_in, words_in}
@@ -66,18 +66,17 @@ pub use Rattle.std.proofs.lemmas.List.Elements.{All-push, All-tail, All-weaker, 
 pub use Rattle.std.proofs.lemmas.List.Folds.{list_any_at}
 pub use Rattle.std.proofs.lemmas.List.FromFn.{get_or-map-range_with_len, get_or-range_with_len, length-enumerate_from, length-map-range_with_len}
 pub use Rattle.std.proofs.lemmas.List.FromFn.{length-range_with_len}
-pub use Rattle.std.proofs.lemmas.List.Kept.{AllPairs-filter, IsStrictlyIncreasing-filter}
+pub use Rattle.std.proofs.lemmas.List.Kept.{AllPairs-filter}
 pub use Rattle.std.proofs.lemmas.List.Splits.{join_with_byte-slice_split, slice_split_at, slice_split_none}
 pub use Rattle.std.proofs.lemmas.List.Sums.{AllPass-from_list_all, sum_by-cons}
 pub use Rattle.std.proofs.lemmas.Map.Views.{Contains-from_any}
 pub use Rattle.std.proofs.lemmas.Slice.Eq.{bytes_eq-Decides}
 unfoldable pub use Rattle.std.specs.Fmt.{digits}
 pub use Rattle.std.specs.List.{AllPairs, Contains, count_by, enumerate_from, filter, list_all, list_any, range_with_len, slice_split}
-pub use Rattle.std.specs.List.Sorted.{IsStrictlyIncreasing}
 pub use Rattle.std.specs.Prelude.{IsTrue, bit_or, nat_le, nat_lt, slice_index, slice_index_or, slice_set}
 pub use Rattle.std.specs.Str.Parse.{digits_value}
 pub use Rattle.model_laws.specs.Laws.{ConsumesAll, GivesUpNothing, GivesUpRescinded, InvocationKeepsSound, JournalKeepsSound, LogFullIsExact, RescindsAll}
-pub use Rattle.model_laws.specs.Laws.{SaysOne, SpellsOne, StoreLogFullIsExact, TouchesWritten, rescinded_by}
+pub use Rattle.model_laws.specs.Laws.{SaysOne, SpellsOne, StepsAllowed, StoreLogFullIsExact, TouchesWritten, WantsMemoryToShow, rescinded_by}
 pub use Rattle.model_laws.specs.Worked.{IsRow, Row, answered, row}
 unfoldable pub use Rattle.model_laws.specs.Worked.{b0, s0}
 unfoldable pub use Rattle.model_laws.specs.WorkedMemory.{references}

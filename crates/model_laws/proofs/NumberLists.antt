@@ -1,7 +1,7 @@
 -- Lists of numbers: their members, and the numbers of a range that pass a test.
 use Rattle.model_laws.proofs.Names.{inl, inr, ℕ, zero, suc, nat_eq, Bool, true, false, cond, List, [], get_or, All, refl, sym, ap, arith, filter}
-use Rattle.model_laws.proofs.Names.{range_with_len, IsStrictlyIncreasing, false≢true, cases_eq, false_from_ne_true, eq-eqb, ne_eqb, eqb-true, or_cases, or_from}
-use Rattle.model_laws.proofs.Names.{or_right, list_any_at, length-range_with_len, get_or-range_with_len, IsStrictlyIncreasing-filter, is_member}
+use Rattle.model_laws.proofs.Names.{range_with_len, false≢true, cases_eq, false_from_ne_true, eq-eqb, ne_eqb, eqb-true, or_cases, or_from, or_right}
+use Rattle.model_laws.proofs.Names.{list_any_at, length-range_with_len, get_or-range_with_len, is_member}
 use Rattle.std.proofs.Common.{◌≡◌, ◌≢◌, ◌⊎◌, ◌+◌, ◌<◌, ◌≤◌, ◌∷◌, ◌∙◌}
 use Rattle.model_laws.proofs.BankTree.{member_head}
 
@@ -57,6 +57,7 @@ pub filter_once : (f : ℕ → Bool) (a count : ℕ) → AllDiffer (filter f (ra
 filter_once f a zero = tt
 filter_once f a (suc count) = go (f a) (filter_once f (a + 1) count)
   where
-    go : (t : Bool) → AllDiffer (filter f (range_with_len (a + 1) count)) → AllDiffer (cond t (a ∷ filter f (range_with_len (a + 1) count)) (filter f (range_with_len (a + 1) count)))
+    go : (t : Bool) → AllDiffer (filter f (range_with_len (a + 1) count)) →
+        AllDiffer (cond t (a ∷ filter f (range_with_len (a + 1) count)) (filter f (range_with_len (a + 1) count)))
     go true rest = (false_from_ne_true (is_member (filter f (range_with_len (a + 1) count)) a) (λ e. omega (arith, (found_in f (a + 1) count a e).0)), rest)
     go false rest = rest

@@ -23,7 +23,8 @@ module _ (goes : Capability → Bool) (void_stays : goes Void ≡ false) where
 pub consumes_all : ConsumesAll
 consumes_all p os = (
   λ n. object_consume p os n,
-  λ n i. subst (λ o. resumes p (slice_index_or (slots_in o.content) i Void) ≡ false) (sym (object_consume p os n)) (gone_from_slot (resumes p) refl (object_at os n) i),
+  λ n i. subst (λ o. resumes p (slice_index_or (slots_in o.content) i Void) ≡ false) (sym (object_consume p os n))
+      (gone_from_slot (resumes p) refl (object_at os n) i),
   λ q. subst (λ o. resumes p (root_in o.content).space ≡ false) (sym (object_consume p os q)) (gone_from_space (resumes p) refl (object_at os q)),
 )
 

@@ -13,7 +13,9 @@ use Prim.Native.String.{String}
 
 -- `unfolding machine` lets `refl` compute what the machine answers
 unfoldable pub machine : Unit {0}
-unfolding digits all_slots zero_words with_content with_word with_slot with_root with_state chain usage rescind consume walk on_bank has_quota free_nodes free_pages with_new under owned_by inherited on_page on_node on_process order deliver through_gate on_kernel_object invoke untouched renewing refusal_of carried_out command_words command_of spelling capability_text word_lines capability_lines object_text printed bad_line f0 i0 s0 b0
+unfolding digits all_slots zero_words with_content with_word with_slot with_root with_state chain usage rescind consume walk on_bank has_quota free_nodes
+    free_pages with_new under owned_by inherited on_page on_node on_process order deliver through_gate on_kernel_object invoke untouched renewing refusal_of
+    carried_out command_words command_of spelling capability_text word_lines capability_lines object_text printed bad_line f0 i0 s0 b0
 machine = tt
 
 -- whether numbers are below a bound, and whether a command has a spelling

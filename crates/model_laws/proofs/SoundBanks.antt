@@ -68,7 +68,8 @@ module _ (g : Geometry) (os us : List Object) (h : IsNow g os) (k : IsGrown g os
     | inr old ↦ elim (cases_Bool (is_free (content_at os q))) [
       | inl new ↦ absurd (annexes_apart q p new old iq is (sym same))
       | inr also ↦
-          h.frame.one_root p q (sym (ap (λ (o : Object). is_root o.content) (k.kept p old)) ∙ is) (sym (ap (λ (o : Object). is_root o.content) (k.kept q also)) ∙ iq)
+          h.frame.one_root p q (sym (ap (λ (o : Object). is_root o.content) (k.kept p old)) ∙ is)
+          (sym (ap (λ (o : Object). is_root o.content) (k.kept q also)) ∙ iq)
           (sym (ap (λ (o : Object). (root_in o.content).annex) (k.kept p old)) ∙ (same ∙ ap (λ (o : Object). (root_in o.content).annex) (k.kept q also)))
     ]
   ]
@@ -157,7 +158,8 @@ filled_annex : (us : List Object) (W : ℕ → Type 0) → IsFilled us W new_ann
 filled_annex us W = filled_void us W new_annex all_slots_length (λ i. omega arith) (holds_void (λ c. c ≡ Void) refl) refl
 
 filled_root : (us : List Object) (W : ℕ → Type 0) (a : ℕ) → IsFilled us W (new_root a)
-filled_root us W a = filled_void us W (new_root a) (refl, λ i. holds_replicate (λ n. n < 2 ^ 64) 4 0 0 (omega arith) (omega arith) i, omega arith) (λ i. omega arith) (λ i. refl) refl
+filled_root us W a = filled_void us W (new_root a) (refl, λ i. holds_replicate (λ n. n < 2 ^ 64) 4 0 0 (omega arith) (omega arith) i, omega arith)
+    (λ i. omega arith) (λ i. refl) refl
 
 filled_bank : (us : List Object) (W : ℕ → Type 0) (limit : ℕ) → limit < 2 ^ 64 → IsFilled us W (content.Bank limit)
 filled_bank us W limit fits = filled_void us W (content.Bank limit) fits (λ i. omega arith) (λ i. refl) refl
@@ -179,7 +181,8 @@ member_passes test (y ∷ ys) x all member =
     ]
 
 -- where the quota allows it, no bank of the chain passes its limit
-spare_body_at : (os : List Object) (b count x : ℕ) → has_quota os b count ≡ true → is_member (chain os b) x ≡ true → usage os x + count ≤ limit_in (content_at os x)
+spare_body_at : (os : List Object) (b count x : ℕ) → has_quota os b count ≡ true → is_member (chain os b) x ≡ true →
+    usage os x + count ≤ limit_in (content_at os x)
 unfolding has_quota
 spare_body_at os b count x room member =
     leb-true (usage os x + count) (limit_in (content_at os x))
@@ -203,7 +206,8 @@ module _ (os : List Object) (from count : ℕ) where
   free_first : (n : ℕ) (ns : List ℕ) → are_free os (range_with_len from count) ≡ n ∷ ns → IsFreeWithin os from count n
   free_first n ns e =
       let inside = All-head (λ n. (from ≤ n) × (n < from + count)) n ns
-      (subst (All (λ n. (from ≤ n) × (n < from + count))) e (All-filter (λ n. is_free (content_at os n)) (λ n. (from ≤ n) × (n < from + count)) (range_with_len from count) in_range)) in
+      (subst (All (λ n. (from ≤ n) × (n < from + count))) e
+      (All-filter (λ n. is_free (content_at os n)) (λ n. (from ≤ n) × (n < from + count)) (range_with_len from count) in_range)) in
       let gone = All-head (λ n. is_free (content_at os n) ≡ true) n ns
       (subst (All (λ n. is_free (content_at os n) ≡ true)) e (filter_passes (λ n. is_free (content_at os n)) (range_with_len from count))) in
       (inside.0, inside.1, gone)
@@ -211,23 +215,27 @@ module _ (os : List Object) (from count : ℕ) where
   free_second : (n m : ℕ) (ns : List ℕ) → are_free os (range_with_len from count) ≡ n ∷ m ∷ ns → IsFreeWithin os from count m × (n < m)
   free_second n m ns e =
       let inside = All-get_or (λ n. (from ≤ n) × (n < from + count)) (n ∷ m ∷ ns) 1 0 (omega arith)
-      (subst (All (λ n. (from ≤ n) × (n < from + count))) e (All-filter (λ n. is_free (content_at os n)) (λ n. (from ≤ n) × (n < from + count)) (range_with_len from count) in_range)) in
+      (subst (All (λ n. (from ≤ n) × (n < from + count))) e
+      (All-filter (λ n. is_free (content_at os n)) (λ n. (from ≤ n) × (n < from + count)) (range_with_len from count) in_range)) in
       let gone = All-get_or (λ n. is_free (content_at os n) ≡ true) (n ∷ m ∷ ns) 1 0 (omega arith)
       (subst (All (λ n. is_free (content_at os n) ≡ true)) e (filter_passes (λ n. is_free (content_at os n)) (range_with_len from count))) in
       let rises = subst (AllPairs (λ m n. m < n)) e (AllPairs-filter (λ m n. m < n) (λ n. is_free (content_at os n)) (range_with_len from count) range_rises) in
       ((inside.0, inside.1, gone), rises 0 1 0 (omega arith) (omega arith))
 
 -- one new object, which is no process and no annex
-module _ (g : Geometry) (os : List Object) (n b : ℕ) (c : Content Capability) (h : IsNow g os) (bank : IsTrue (is_bank (content_at os b))) (inside : n < length os)
+module _ (g : Geometry) (os : List Object) (n b : ℕ) (c : Content Capability) (h : IsNow g os) (bank : IsTrue (is_bank (content_at os b)))
+    (inside : n < length os)
     (unused : IsTrue (is_free (content_at os n))) (used : is_free c ≡ false) (short : IsTrue (is_bank c) → length (chain os b) < 16) where
   -- what holds of it and of the others where they stand holds of all
-  one_at : (P : ℕ → Object → Type 0) → P n (record { owner = b; content = c }) → ((x : ℕ) → x ≢ n → P x (object_at os x)) → (x : ℕ) → P x (object_at (with_new os n b c) x)
+  one_at : (P : ℕ → Object → Type 0) → P n (record { owner = b; content = c }) → ((x : ℕ) → x ≢ n → P x (object_at os x)) → (x : ℕ) →
+      P x (object_at (with_new os n b c) x)
   one_at P new old x = elim (cases_eq x n) [
     | inl e ↦ rw e (subst (P n) (sym (at_new os n b c inside)) new)
     | inr differ ↦ subst (P x) (sym (at_other os n b c x differ)) (old x differ)
   ]
 
-  one_limits : has_quota os b 1 ≡ true → (x : ℕ) → IsTrue (is_bank (content_at (with_new os n b c) x)) → usage (with_new os n b c) x ≤ limit_in (content_at (with_new os n b c) x)
+  one_limits : has_quota os b 1 ≡ true → (x : ℕ) → IsTrue (is_bank (content_at (with_new os n b c) x)) →
+      usage (with_new os n b c) x ≤ limit_in (content_at (with_new os n b c) x)
   one_limits room = one_at (λ x o. IsTrue (is_bank o.content) → usage (with_new os n b c) x ≤ limit_in o.content)
       (λ is. omega (arith, usage_new_bank os n b c (tree_of g os h.frame) bank inside unused used short is))
       (λ x differ is. go x is (is_member (chain os b) x) refl)
@@ -244,7 +252,8 @@ module _ (g : Geometry) (os : List Object) (n b : ℕ) (c : Content Capability) 
     tree = tree_new os n b c (tree_of g os h.frame) bank inside unused used short;
     limits = one_limits room;
     kinds = λ x gone. one_at (λ y o. IsOfKind g y o.content) kind (λ y differ. h.frame.kinds y) x;
-    filled = λ x gone. one_at (λ y o. IsTrue (is_free (content_at os y)) → IsFilled (with_new os n b c) (Waits (with_new os n b c)) o.content) (λ f. filled) (λ y differ f. filled_free y f) x gone;
+    filled = λ x gone. one_at (λ y o. IsTrue (is_free (content_at os y)) → IsFilled (with_new os n b c) (Waits (with_new os n b c)) o.content) (λ f. filled)
+        (λ y differ f. filled_free y f) x gone;
     annexes = λ p gone is. absurd (no_process p gone is);
     one_root = λ p q gone also is iq. absurd (no_process p gone is);
     some_root = λ a gone is. absurd (no_annexes a gone is);
@@ -264,7 +273,8 @@ module _ (g : Geometry) (os : List Object) (n b : ℕ) (c : Content Capability) 
           (λ x differ gone is. let both : true ≡ false = sym gone ∙ used_where is_annex refl (content_at os x) is in cc)
 
 -- a new process: a root and its annex
-module _ (g : Geometry) (os : List Object) (p a b : ℕ) (h : IsNow g os) (bank : IsTrue (is_bank (content_at os b))) (differ : p ≢ a) (p_inside : p < length os) (a_inside : a < length os)
+module _ (g : Geometry) (os : List Object) (p a b : ℕ) (h : IsNow g os) (bank : IsTrue (is_bank (content_at os b))) (differ : p ≢ a) (p_inside : p < length os)
+    (a_inside : a < length os)
     (p_unused : IsTrue (is_free (content_at os p))) (a_unused : IsTrue (is_free (content_at os a))) where
   abbrev rooted : List Object
   rooted = with_new os p b (new_root a)
@@ -315,7 +325,8 @@ module _ (g : Geometry) (os : List Object) (p a b : ℕ) (h : IsNow g os) (bank 
       rw (second, first, same) refl
 
   two_limits : has_quota os b 2 ≡ true → (x : ℕ) → IsTrue (is_bank (content_at whole x)) → usage whole x ≤ limit_in (content_at whole x)
-  two_limits room = two_at (λ x o. IsTrue (is_bank o.content) → usage whole x ≤ limit_in o.content) (λ is. cc) (λ is. cc) (λ x is. go x is (is_member (chain os b) x) refl)
+  two_limits room = two_at (λ x o. IsTrue (is_bank o.content) → usage whole x ≤ limit_in o.content) (λ is. cc) (λ is. cc)
+      (λ x is. go x is (is_member (chain os b) x) refl)
     where
       go : (x : ℕ) → IsTrue (is_bank (content_at os x)) → (m : Bool) → is_member (chain os b) x ≡ m → usage whole x ≤ limit_in (content_at os x)
       go x is true e = rw (two_usage x is, e) (omega (arith, spare_body_at os b 2 x room e))
@@ -327,14 +338,17 @@ module _ (g : Geometry) (os : List Object) (p a b : ℕ) (h : IsNow g os) (bank 
       (λ q gone is. let both : true ≡ false = sym gone ∙ used_where is_root refl (content_at os q) is in cc)
 
   two_annexes : (q : ℕ) → IsTrue (is_free (content_at os q)) → IsTrue (is_process whole q) →
-      IsTrue (is_free (content_at os (annex_at whole q))) × IsTrue (is_annex (content_at whole (annex_at whole q))) × (owner_at whole (annex_at whole q) ≡ owner_at whole q)
+      IsTrue (is_free (content_at os (annex_at whole q))) × IsTrue (is_annex (content_at whole (annex_at whole q))) ×
+      (owner_at whole (annex_at whole q) ≡ owner_at whole q)
   two_annexes = two_at
       (λ q o. IsTrue (is_free (content_at os q)) → IsTrue (is_root o.content) →
-      IsTrue (is_free (content_at os (root_in o.content).annex)) × IsTrue (is_annex (content_at whole (root_in o.content).annex)) × (owner_at whole (root_in o.content).annex ≡ o.owner))
+      IsTrue (is_free (content_at os (root_in o.content).annex)) × IsTrue (is_annex (content_at whole (root_in o.content).annex)) ×
+      (owner_at whole (root_in o.content).annex ≡ o.owner))
       (λ gone is. (a_unused, ap (λ (o : Object). is_annex o.content) annex_there, ap (λ (o : Object). o.owner) annex_there)) (λ gone is. cc)
       (λ q gone is. let both : true ≡ false = sym gone ∙ used_where is_root refl (content_at os q) is in cc)
 
-  two_roots : (q : ℕ) → IsTrue (is_free (content_at os q)) → IsTrue (is_annex (content_at whole q)) → (r : ℕ) × IsTrue (is_process whole r) × (annex_at whole r ≡ q)
+  two_roots : (q : ℕ) → IsTrue (is_free (content_at os q)) → IsTrue (is_annex (content_at whole q)) →
+      (r : ℕ) × IsTrue (is_process whole r) × (annex_at whole r ≡ q)
   two_roots = two_at (λ q o. IsTrue (is_free (content_at os q)) → IsTrue (is_annex o.content) → (r : ℕ) × IsTrue (is_process whole r) × (annex_at whole r ≡ q))
       (λ gone is. cc)
       (λ gone is. (p, ap (λ (o : Object). is_root o.content) root_there, ap (λ (o : Object). (root_in o.content).annex) root_there))
@@ -359,101 +373,107 @@ module _ (g : Geometry) (os : List Object) (p a b : ℕ) (h : IsNow g os) (bank 
 
 -- each order of a bank
 
-module _ (g : Geometry) (os : List Object) (b : ℕ) (args : Arguments) (h : IsNow g os) (is : IsTrue (is_bank (content_at os b))) (fits : AreArguments os args) where
-  -- one that writes objects and gives a capability
-  made_keeps : (us : List Object) (written : List ℕ) (c : Capability) → IsNow g us → IsHeld us (Waits us) c → IsOutcome g (made us written c)
-  made_keeps us written c now held = let k = given_keeps g us c now held in record { now = k.now; count = k.count; words = k.words; held = k.held }
+module _ (g : Geometry) (os : List Object) (b : ℕ) (args : Arguments) (h : IsNow g os) (is : IsTrue (is_bank (content_at os b))) (fits : AreArguments os args)
+  where
+    -- one that writes objects and gives a capability
+    made_keeps : (us : List Object) (written : List ℕ) (c : Capability) → IsNow g us → IsHeld us (Waits us) c → IsOutcome g (made us written c)
+    made_keeps us written c now held = let k = given_keeps g us c now held in record { now = k.now; count = k.count; words = k.words; held = k.held }
 
-  node_within : (n : ℕ) → n < 0 + g.nodes → n < length os
-  node_within n lt = omega (arith, h.frame.size)
+    node_within : (n : ℕ) → n < 0 + g.nodes → n < length os
+    node_within n lt = omega (arith, h.frame.size)
 
-  -- a new page
-  pub page_allocated_keeps : IsOutcome g (on_bank g os b bank.NewPage args)
-  unfolding on_bank free_pages
-  page_allocated_keeps =
-      chosen (IsOutcome g) (has_quota os b 1) _ _ (λ room. go room (free_pages g os) refl) (λ _. refused_keeps g os code.Limit h)
-    where
-      go : has_quota os b 1 ≡ true → (ns : List ℕ) → are_free os (range_with_len g.nodes g.pages) ≡ ns → IsOutcome g (allocated os b ns new_page (λ n. Page n full))
-      go room [] e = refused_keeps g os code.NoFrame h
-      go room (n ∷ ns) e =
-          let found = free_first os g.nodes g.pages n ns e in
-          let inside : n < length os = omega (arith, found.1, h.frame.size) in
-          made_keeps (with_new os n b new_page) (n ∷ []) (Page n full)
-          (one_now g os n b new_page h is inside found.2 refl (λ e. cc) room (found.0, found.1) (filled_page _ _) refl refl)
-          (record { well_formed = inl refl; names = ap (λ (o : Object). is_page o.content) (at_new os n b new_page inside) })
+    -- a new page
+    pub page_allocated_keeps : IsOutcome g (on_bank g os b bank.NewPage args)
+    unfolding on_bank free_pages
+    page_allocated_keeps =
+        chosen (IsOutcome g) (has_quota os b 1) _ _ (λ room. go room (free_pages g os) refl) (λ _. refused_keeps g os code.Limit h)
+      where
+        go : has_quota os b 1 ≡ true → (ns : List ℕ) → are_free os (range_with_len g.nodes g.pages) ≡ ns →
+            IsOutcome g (allocated os b ns new_page (λ n. Page n full))
+        go room [] e = refused_keeps g os code.NoFrame h
+        go room (n ∷ ns) e =
+            let found = free_first os g.nodes g.pages n ns e in
+            let inside : n < length os = omega (arith, found.1, h.frame.size) in
+            made_keeps (with_new os n b new_page) (n ∷ []) (Page n full)
+            (one_now g os n b new_page h is inside found.2 refl (λ e. cc) room (found.0, found.1) (filled_page _ _) refl refl)
+            (record { well_formed = inl refl; names = ap (λ (o : Object). is_page o.content) (at_new os n b new_page inside) })
 
-  -- a new node
-  pub node_allocated_keeps : IsOutcome g (on_bank g os b bank.NewNode args)
-  unfolding on_bank free_nodes
-  node_allocated_keeps =
-      chosen (IsOutcome g) (has_quota os b 1) _ _ (λ room. go room (free_nodes g os) refl) (λ _. refused_keeps g os code.Limit h)
-    where
-      go : has_quota os b 1 ≡ true → (ns : List ℕ) → are_free os (range_with_len 0 g.nodes) ≡ ns → IsOutcome g (allocated os b ns new_node (λ n. Node n full))
-      go room [] e = refused_keeps g os code.NoFrame h
-      go room (n ∷ ns) e =
-          let found = free_first os 0 g.nodes n ns e in
-          let inside = node_within n found.1 in
-          made_keeps (with_new os n b new_node) (n ∷ []) (Node n full)
-          (one_now g os n b new_node h is inside found.2 refl (λ e. cc) room (omega (arith, found.1)) (filled_node _ _) refl refl)
-          (record { well_formed = inl refl; names = ap (λ (o : Object). is_node o.content) (at_new os n b new_node inside) })
+    -- a new node
+    pub node_allocated_keeps : IsOutcome g (on_bank g os b bank.NewNode args)
+    unfolding on_bank free_nodes
+    node_allocated_keeps =
+        chosen (IsOutcome g) (has_quota os b 1) _ _ (λ room. go room (free_nodes g os) refl) (λ _. refused_keeps g os code.Limit h)
+      where
+        go : has_quota os b 1 ≡ true → (ns : List ℕ) → are_free os (range_with_len 0 g.nodes) ≡ ns → IsOutcome g (allocated os b ns new_node (λ n. Node n full))
+        go room [] e = refused_keeps g os code.NoFrame h
+        go room (n ∷ ns) e =
+            let found = free_first os 0 g.nodes n ns e in
+            let inside = node_within n found.1 in
+            made_keeps (with_new os n b new_node) (n ∷ []) (Node n full)
+            (one_now g os n b new_node h is inside found.2 refl (λ e. cc) room (omega (arith, found.1)) (filled_node _ _) refl refl)
+            (record { well_formed = inl refl; names = ap (λ (o : Object). is_node o.content) (at_new os n b new_node inside) })
 
-  -- a new bank
-  pub bank_allocated_keeps : IsOutcome g (on_bank g os b bank.NewBank args)
-  unfolding on_bank free_nodes
-  bank_allocated_keeps =
-      chosen (IsOutcome g) (has_quota os b 1) _ _ (λ room. go room (free_nodes g os) refl) (λ _. refused_keeps g os code.Limit h)
-    where
-      go : has_quota os b 1 ≡ true → (ns : List ℕ) → are_free os (range_with_len 0 g.nodes) ≡ ns → IsOutcome g (bank_allocated os b ns args.first)
-      go room [] e = refused_keeps g os code.NoFrame h
-      go room (n ∷ ns) e =
-          let found = free_first os 0 g.nodes n ns e in
-          let inside = node_within n found.1 in
-          chosen (IsOutcome g) (nat_lt (length (chain os b)) 16) _ _
-          (λ short. made_keeps (with_new os n b (content.Bank args.first)) (n ∷ []) (Bank n)
-          (one_now g os n b (content.Bank args.first) h is inside found.2 refl (λ _. ltb-true (length (chain os b)) 16 short) room (omega (arith, found.1)) (filled_bank _ _ args.first fits.first) refl refl)
-          (record { well_formed = tt; names = ap (λ (o : Object). is_bank o.content) (at_new os n b (content.Bank args.first) inside) }))
-          (λ _. refused_keeps g os code.TooDeep h)
+    -- a new bank
+    pub bank_allocated_keeps : IsOutcome g (on_bank g os b bank.NewBank args)
+    unfolding on_bank free_nodes
+    bank_allocated_keeps =
+        chosen (IsOutcome g) (has_quota os b 1) _ _ (λ room. go room (free_nodes g os) refl) (λ _. refused_keeps g os code.Limit h)
+      where
+        go : has_quota os b 1 ≡ true → (ns : List ℕ) → are_free os (range_with_len 0 g.nodes) ≡ ns → IsOutcome g (bank_allocated os b ns args.first)
+        go room [] e = refused_keeps g os code.NoFrame h
+        go room (n ∷ ns) e =
+            let found = free_first os 0 g.nodes n ns e in
+            let inside = node_within n found.1 in
+            chosen (IsOutcome g) (nat_lt (length (chain os b)) 16) _ _
+            (λ short. made_keeps (with_new os n b (content.Bank args.first)) (n ∷ []) (Bank n)
+            (one_now g os n b (content.Bank args.first) h is inside found.2 refl (λ _. ltb-true (length (chain os b)) 16 short) room (omega (arith, found.1))
+            (filled_bank _ _ args.first fits.first) refl refl)
+            (record { well_formed = tt; names = ap (λ (o : Object). is_bank o.content) (at_new os n b (content.Bank args.first) inside) }))
+            (λ _. refused_keeps g os code.TooDeep h)
 
-  -- a new process
-  pub process_allocated_keeps : IsOutcome g (on_bank g os b bank.NewProcess args)
-  unfolding on_bank free_nodes
-  process_allocated_keeps =
-      chosen (IsOutcome g) (has_quota os b 2) _ _ (λ room. go room (free_nodes g os) refl) (λ _. refused_keeps g os code.Limit h)
-    where
-      go : has_quota os b 2 ≡ true → (ns : List ℕ) → are_free os (range_with_len 0 g.nodes) ≡ ns → IsOutcome g (process_allocated os b ns)
-      go room [] e = refused_keeps g os code.NoFrame h
-      go room (p ∷ []) e = refused_keeps g os code.NoFrame h
-      go room (p ∷ a ∷ ns) e =
-          let root = free_first os 0 g.nodes p (a ∷ ns) e in
-          let annex = free_second os 0 g.nodes p a ns e in
-          let differ : p ≢ a = λ same. omega (arith, annex.1, same) in
-          let root_inside = node_within p root.1 in
-          let annex_inside = node_within a annex.0.1 in
-          made_keeps (with_new (with_new os p b (new_root a)) a b new_annex) (p ∷ a ∷ []) (Process p)
-          (two_now g os p a b h is differ root_inside annex_inside root.2 annex.0.2 room (omega (arith, root.1)) (omega (arith, annex.0.1)))
-          (record { well_formed = tt; names = ap (λ (o : Object). is_root o.content) (root_there g os p a b h is differ root_inside annex_inside root.2 annex.0.2) })
+    -- a new process
+    pub process_allocated_keeps : IsOutcome g (on_bank g os b bank.NewProcess args)
+    unfolding on_bank free_nodes
+    process_allocated_keeps =
+        chosen (IsOutcome g) (has_quota os b 2) _ _ (λ room. go room (free_nodes g os) refl) (λ _. refused_keeps g os code.Limit h)
+      where
+        go : has_quota os b 2 ≡ true → (ns : List ℕ) → are_free os (range_with_len 0 g.nodes) ≡ ns → IsOutcome g (process_allocated os b ns)
+        go room [] e = refused_keeps g os code.NoFrame h
+        go room (p ∷ []) e = refused_keeps g os code.NoFrame h
+        go room (p ∷ a ∷ ns) e =
+            let root = free_first os 0 g.nodes p (a ∷ ns) e in
+            let annex = free_second os 0 g.nodes p a ns e in
+            let differ : p ≢ a = λ same. omega (arith, annex.1, same) in
+            let root_inside = node_within p root.1 in
+            let annex_inside = node_within a annex.0.1 in
+            made_keeps (with_new (with_new os p b (new_root a)) a b new_annex) (p ∷ a ∷ []) (Process p)
+            (two_now g os p a b h is differ root_inside annex_inside root.2 annex.0.2 room (omega (arith, root.1)) (omega (arith, annex.0.1)))
+            (record {
+              well_formed = tt;
+              names = ap (λ (o : Object). is_root o.content) (root_there g os p a b h is differ root_inside annex_inside root.2 annex.0.2);
+            })
 
-  -- the least isn't above the first
-  least_below : (n : ℕ) (ms : List ℕ) → least n ms ≤ n
-  least_below n [] = omega arith
-  least_below n (m ∷ ms) = omega (arith, least_below (min n m) ms)
+    -- the least isn't above the first
+    least_below : (n : ℕ) (ms : List ℕ) → least n ms ≤ n
+    least_below n [] = omega arith
+    least_below n (m ∷ ms) = omega (arith, least_below (min n m) ms)
 
-  limit_fits : (c : Content Capability) → HasShape c → limit_in c < 2 ^ 64
-  limit_fits (content.Bank limit) shape = shape
-  limit_fits c shape = omega arith
+    limit_fits : (c : Content Capability) → HasShape c → limit_in c < 2 ^ 64
+    limit_fits (content.Bank limit) shape = shape
+    limit_fits c shape = omega arith
 
-  -- what is left
-  pub remaining_keeps : IsOutcome g (on_bank g os b bank.Remaining args)
-  unfolding on_bank remaining
-  remaining_keeps =
-      let limit : limit_in (content_at os b) < 2 ^ 64 = limit_fits (content_at os b) (h.filled b).shape in
-      record {
-        now = h;
-        count = refl;
-        words = three_words (remaining os b) (usage os b) (limit_in (content_at os b))
-            (omega (arith, limit, least_below (left_of os b) (map (left_of os) (chain os b)))) (omega (arith, limit, h.frame.limits b is)) limit;
-        held = held_void os (Waits os);
-      }
+    -- what is left
+    pub remaining_keeps : IsOutcome g (on_bank g os b bank.Remaining args)
+    unfolding on_bank remaining
+    remaining_keeps =
+        let limit : limit_in (content_at os b) < 2 ^ 64 = limit_fits (content_at os b) (h.filled b).shape in
+        record {
+          now = h;
+          count = refl;
+          words = three_words (remaining os b) (usage os b) (limit_in (content_at os b))
+              (omega (arith, limit, least_below (left_of os b) (map (left_of os) (chain os b)))) (omega (arith, limit, h.frame.limits b is)) limit;
+          held = held_void os (Waits os);
+        }
 
 -- every order of a bank keeps sound objects sound
 pub on_bank_keeps : (g : Geometry) (os : List Object) (b : ℕ) (requested : BankOrder) (args : Arguments) → IsNow g os → IsTrue (is_bank (content_at os b))

@@ -55,7 +55,8 @@ edited_trans g W os us vs a b = record {
 
 -- a slot
 
-pub alike_slot : (b i : ℕ) (k : Capability) (c : Content Capability) → AreAlike (record { owner = b; content = c }) (record { owner = b; content = with_slot_in c i k })
+pub alike_slot : (b i : ℕ) (k : Capability) (c : Content Capability) →
+    AreAlike (record { owner = b; content = c }) (record { owner = b; content = with_slot_in c i k })
 alike_slot b i k (content.Node slots) = record { owner = refl; role = refl; annex = refl; limit = refl }
 alike_slot b i k c = record { owner = refl; role = refl; annex = refl; limit = refl }
 
@@ -92,7 +93,8 @@ edited_slot g W os n i k h held differ =
     record {
       frame = frame_content os n c a;
       sound = nearly_content g W os n c h a (filled_slot os W i k (content_at os n) (h.filled n) held differ);
-      states = λ q. at_content (λ m d. (root_in d).state ≡ state_at os m) os n q c (ap (λ (r : Root Capability). r.state) (root_slot i k (content_at os n))) refl;
+      states = λ q. at_content (λ m d. (root_in d).state ≡ state_at os m) os n q c (ap (λ (r : Root Capability). r.state) (root_slot i k (content_at os n)))
+          refl;
     }
 
 -- a word
@@ -124,7 +126,8 @@ edited_word g W os n i w h fits =
     record {
       frame = frame_content os n c a;
       sound = nearly_content g W os n c h a (filled_word os W i w (content_at os n) (h.filled n) fits);
-      states = λ q. at_content (λ m d. (root_in d).state ≡ state_at os m) os n q c (ap (λ (r : Root Capability). r.state) (root_word i w (content_at os n))) refl;
+      states = λ q. at_content (λ m d. (root_in d).state ≡ state_at os m) os n q c (ap (λ (r : Root Capability). r.state) (root_word i w (content_at os n)))
+          refl;
     }
 
 -- a root
@@ -163,7 +166,8 @@ pub state_frame : (os : List Object) (p : ℕ) (s : State) → IsTrue (is_proces
 unfolding with_state
 state_frame os p s is = root_frame os p _ is refl
 
-pub nearly_root : (g : Geometry) (W : ℕ → Type 0) (os : List Object) (p : ℕ) (r : Root Capability) → IsNearlySound g W os → IsRootOf os W p r → IsNearlySound g W (with_root os p r)
+pub nearly_root : (g : Geometry) (W : ℕ → Type 0) (os : List Object) (p : ℕ) (r : Root Capability) → IsNearlySound g W os → IsRootOf os W p r →
+    IsNearlySound g W (with_root os p r)
 unfolding with_root
 nearly_root g W os p r h fits =
     nearly_content g W os p (content.Root r) h (alike_root (owner_at os p) r (content_at os p) fits.is_process fits.annex) (filled_root os W p r fits)
@@ -263,7 +267,8 @@ space_consume : (p : ℕ) (c : Capability) → IsSpace c → IsSpace (void_where
 space_consume p (Resume q) h = absurd h
 space_consume p c h = h
 
-filled_consume : (os : List Object) (W : ℕ → Type 0) (p : ℕ) (c : Content Capability) → IsFilled os W c → IsFilled os (But W p) (map_content (void_where (resumes p)) c)
+filled_consume : (os : List Object) (W : ℕ → Type 0) (p : ℕ) (c : Content Capability) → IsFilled os W c →
+    IsFilled os (But W p) (map_content (void_where (resumes p)) c)
 filled_consume os W p = filled_map os os W (But W p) (void_where (resumes p)) refl (held_consume os W p) (space_consume p)
 
 pub nearly_consume : (g : Geometry) (W : ℕ → Type 0) (p : ℕ) (os : List Object) → IsNearlySound g W os → IsNearlySound g (But W p) (consume p os)

@@ -79,7 +79,8 @@ slots_from g W os n i [] h positive held = edited_none g W os h
 slots_from g W os n i (c ∷ cs) h positive held =
     let e = edited_slot g W os n i c h (held 0) (λ _. λ z. omega arith) in
     edited_trans g W os (with_slot os n i c) (with_slots_from (with_slot os n i c) n (i + 1) cs) e
-    (slots_from g W (with_slot os n i c) n (i + 1) cs e.sound (omega arith) (λ j. held_on os (with_slot os n i c) W W (get_or cs j Void) e.frame (λ p w. w) (held (suc j))))
+    (slots_from g W (with_slot os n i c) n (i + 1) cs e.sound (omega arith)
+    (λ j. held_on os (with_slot os n i c) W W (get_or cs j Void) e.frame (λ p w. w) (held (suc j))))
 
 -- a message that may be delivered
 pub record IsMessage (os : List Object) (W : ℕ → Type 0) (m : Message) : Type 0 where
@@ -100,7 +101,8 @@ deliver_keeps g W os p m h is fits =
     let old = root_at os p in
     let r = root_now g W os p h is in
     let new : Root Capability = record { state = Running; words = m.words; key = m.key; annex = old.annex; space = old.space } in
-    let root : IsRootOf os W p new = record { is_process = is; annex = refl; count = fits.count; words = fits.words; key = fits.key; space = r.space; is_space = r.is_space } in
+    let root : IsRootOf os W p new =
+    record { is_process = is; annex = refl; count = fits.count; words = fits.words; key = fits.key; space = r.space; is_space = r.is_space } in
     let us = with_root os p new in
     let frame = root_frame os p new is refl in
     let e = slots_from g W us old.annex 28 m.capabilities (nearly_root g W os p new h root) (omega arith)
@@ -130,7 +132,8 @@ all_words xs all i = elim (cases_lt i (length xs)) [
   | inr past ↦ rw (get_or_past xs i 0 past) (omega arith)
 ]
 
-held_map : (os : List Object) (W : ℕ → Type 0) (f : ℕ → Capability) (rs : List ℕ) (j : ℕ) → ((r : ℕ) → IsHeld os W (f r)) → IsHeld os W (get_or (map f rs) j Void)
+held_map : (os : List Object) (W : ℕ → Type 0) (f : ℕ → Capability) (rs : List ℕ) (j : ℕ) → ((r : ℕ) → IsHeld os W (f r)) →
+    IsHeld os W (get_or (map f rs) j Void)
 held_map os W f [] j h = held_void os W
 held_map os W f (r ∷ rs) zero h = h r
 held_map os W f (r ∷ rs) (suc j) h = held_map os W f rs j h
@@ -181,7 +184,8 @@ gate_keeps g os i q key h fits runs is small =
     ((tests_at os (after_gate os i) a.frame q).root ∙ is) (gate_message g os i key h fits runs small)
 
 -- an available process doesn't wait when another one goes into some state
-available_idle : (os : List Object) (p q : ℕ) (s : State) → IsTrue (is_running (state_at os p)) → is_available (state_at os q) ≡ true → Waits (with_state os p s) q → ⊥
+available_idle : (os : List Object) (p q : ℕ) (s : State) → IsTrue (is_running (state_at os p)) → is_available (state_at os q) ≡ true →
+    Waits (with_state os p s) q → ⊥
 available_idle os p q s runs free waits = elim (cases_eq q p) [
   | inl same ↦ running_is_not_available (state_at os p) runs (subst (λ k. is_available (state_at os k) ≡ true) same free)
   | inr differ ↦ available_is_not_waiting (state_at os q) free (sym (ap is_waiting (state_other os p q s differ)) ∙ waits)
@@ -205,14 +209,16 @@ startable_idle os p q Return runs can waits =
     elim (or_cases (is_available (state_at os q)) (p == q) can) [
       | inl free ↦ available_idle os p q Available parts.1 free waits
       | inr same ↦
-          let stands : false ≡ true = sym (ap is_waiting (state_same os p Available parts.0)) ∙ subst (λ k. Waits (with_state os p Available) k) (sym (eqb-true p q same)) waits in
+          let stands : false ≡ true = sym (ap is_waiting (state_same os p Available parts.0)) ∙
+          subst (λ k. Waits (with_state os p Available) k) (sym (eqb-true p q same)) waits in
           cc
     ]
 
 start_keeps : (g : Geometry) (os : List Object) (i : Invocation) (q key : ℕ) → IsNow g os → Fits (command.Invoke i) → IsTrue (is_running_process os i.process)
     → IsTrue (is_process os q) → key < 2 ^ 16 → can_start os i q ≡ true → IsNow g (through_gate os i q key).objects
 start_keeps g os i q key h fits runs is small can =
-    started_now g (after_gate os i) q (through_gate os i q key).objects (gate_keeps g os i q key h fits runs is small) (startable_idle os i.process q i.operation runs can)
+    started_now g (after_gate os i) q (through_gate os i q key).objects (gate_keeps g os i q key h fits runs is small)
+    (startable_idle os i.process q i.operation runs can)
 
 resume_keeps : (g : Geometry) (os : List Object) (i : Invocation) (q : ℕ) → IsNow g os → Fits (command.Invoke i) → IsTrue (is_running_process os i.process)
     → IsTrue (is_process os q) → IsNow g (consume q (through_gate os i q 0).objects)

@@ -24,11 +24,14 @@ pub order_keeps : (g : Geometry) (os : List Object) (c : Capability) (w : ℕ) (
     → AreArguments os args → IsOutcome g (order g os c w args)
 unfolding order
 order_keeps g os Void w args h held fits = refused_keeps g os _ h
-order_keeps g os (Number n) w args h held fits = chosen (IsOutcome g) (w == 1) _ _ (λ _. replying_keeps g os n 0 h held.well_formed (omega arith)) (λ _. refused_keeps g os _ h)
+order_keeps g os (Number n) w args h held fits = chosen (IsOutcome g) (w == 1) _ _ (λ _. replying_keeps g os n 0 h held.well_formed (omega arith))
+    (λ _. refused_keeps g os _ h)
 order_keeps g os (Page o a) w args h held fits =
-    found_or (IsOutcome g) (page_order w) _ (λ requested. on_page os o a requested args) (refused_keeps g os _ h) (λ requested. on_page_keeps g os o a requested args h held fits)
+    found_or (IsOutcome g) (page_order w) _ (λ requested. on_page os o a requested args) (refused_keeps g os _ h)
+    (λ requested. on_page_keeps g os o a requested args h held fits)
 order_keeps g os (Node o a) w args h held fits =
-    found_or (IsOutcome g) (node_order w) _ (λ requested. on_node os o a requested args) (refused_keeps g os _ h) (λ requested. on_node_keeps g os o a requested args h held fits)
+    found_or (IsOutcome g) (node_order w) _ (λ requested. on_node os o a requested args) (refused_keeps g os _ h)
+    (λ requested. on_node_keeps g os o a requested args h held fits)
 order_keeps g os (Space o k a) w args h held fits =
     chosen (IsOutcome g) (w == 3) _ _
     (λ _. chosen (IsOutcome g) (reduces args.first) _ _
@@ -39,11 +42,14 @@ order_keeps g os (Space o k a) w args h held fits =
     (λ _. refused_keeps g os _ h))
     (λ _. refused_keeps g os _ h)
 order_keeps g os (Bank b) w args h held fits =
-    found_or (IsOutcome g) (bank_order w) _ (λ requested. on_bank g os b requested args) (refused_keeps g os _ h) (λ requested. on_bank_keeps g os b requested args h held.names fits)
+    found_or (IsOutcome g) (bank_order w) _ (λ requested. on_bank g os b requested args) (refused_keeps g os _ h)
+    (λ requested. on_bank_keeps g os b requested args h held.names fits)
 order_keeps g os (Process p) w args h held fits =
-    found_or (IsOutcome g) (process_order w) _ (λ requested. on_process os p requested args) (refused_keeps g os _ h) (λ requested. on_process_keeps g os p requested args h held.names fits)
+    found_or (IsOutcome g) (process_order w) _ (λ requested. on_process os p requested args) (refused_keeps g os _ h)
+    (λ requested. on_process_keeps g os p requested args h held.names fits)
 order_keeps g os Discrim w args h held fits =
     chosen (IsOutcome g) (w == 1) _ _
-    (λ _. replying_keeps g os (tag_of args.capability) (access_bits args.capability) h (tag_fits args.capability) (bits_fit args.capability fits.held.well_formed))
+    (λ _. replying_keeps g os (tag_of args.capability) (access_bits args.capability) h (tag_fits args.capability)
+    (bits_fit args.capability fits.held.well_formed))
     (λ _. refused_keeps g os _ h)
 order_keeps g os c w args h held fits = refused_keeps g os _ h

@@ -90,7 +90,8 @@ pub on_page_keeps : (g : Geometry) (os : List Object) (o : ℕ) (a : Access) (re
     → IsHeld os (Waits os) (Page o a) → AreArguments os args → IsOutcome g (on_page os o a requested args)
 unfolding on_page
 on_page_keeps g os o a page.Read args h held fits =
-    chosen (IsOutcome g) (nat_lt args.first 512) _ _ (λ _. replying_keeps g os (word_at os o args.first) 0 h ((h.filled o).words args.first) (omega arith)) (λ _. refused_keeps g os _ h)
+    chosen (IsOutcome g) (nat_lt args.first 512) _ _ (λ _. replying_keeps g os (word_at os o args.first) 0 h ((h.filled o).words args.first) (omega arith))
+    (λ _. refused_keeps g os _ h)
 on_page_keeps g os o a page.Write args h held fits =
     chosen (IsOutcome g) (not (a.0 == 0)) _ _ (λ _. refused_keeps g os _ h) (λ _.
     chosen (IsOutcome g) (nat_lt args.first 512) _ _
@@ -157,7 +158,8 @@ root_now g W os p h is =
     record { is_process = is; annex = refl; count = shape.0; words = shape.1; key = shape.2; space = (h.filled p).space; is_space = (h.filled p).is_space }
 
 -- with another state, where none but waiting processes may be resumed
-pub nearly_state : (g : Geometry) (W : ℕ → Type 0) (os : List Object) (p : ℕ) (s : State) → IsNearlySound g W os → IsTrue (is_process os p) → IsNearlySound g W (with_state os p s)
+pub nearly_state : (g : Geometry) (W : ℕ → Type 0) (os : List Object) (p : ℕ) (s : State) → IsNearlySound g W os → IsTrue (is_process os p) →
+    IsNearlySound g W (with_state os p s)
 unfolding with_state
 nearly_state g W os p s h is =
     let r = root_now g W os p h is in
@@ -188,7 +190,8 @@ pub on_process_keeps : (g : Geometry) (os : List Object) (p : ℕ) (requested : 
     → IsTrue (is_process os p) → AreArguments os args → IsOutcome g (on_process os p requested args)
 unfolding on_process
 on_process_keeps g os p process.GetRegister args h is fits =
-    chosen (IsOutcome g) (nat_lt args.first 32) _ _ (λ _. given_keeps g os (register_at os p args.first) h ((h.filled (annex_at os p)).slots args.first)) (λ _. refused_keeps g os _ h)
+    chosen (IsOutcome g) (nat_lt args.first 32) _ _ (λ _. given_keeps g os (register_at os p args.first) h ((h.filled (annex_at os p)).slots args.first))
+    (λ _. refused_keeps g os _ h)
 on_process_keeps g os p process.PutRegister args h is fits =
     chosen (IsOutcome g) ((args.first == 0) || not (nat_lt args.first 32)) _ _ (λ _. refused_keeps g os _ h)
     (λ e. wrote_keeps g _ (annex_at os p) (edited_now g os _

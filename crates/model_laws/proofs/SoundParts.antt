@@ -59,18 +59,25 @@ held_to os (Resume p) h = (h.well_formed, h.names)
 held_to os c h = (h.well_formed, h.names)
 
 -- a capability may be held where what it names is of the same role, and may be resumed if it could
-pub held_alike : (os us : List Object) (W V : ℕ → Type 0) (c : Capability) → ((n : ℕ) → named c ≡ Some n → role_of (content_at us n) ≡ role_of (content_at os n))
+pub held_alike : (os us : List Object) (W V : ℕ → Type 0) (c : Capability) →
+    ((n : ℕ) → named c ≡ Some n → role_of (content_at us n) ≡ role_of (content_at os n))
     → ((p : ℕ) → named c ≡ Some p → W p → V p) → IsHeld os W c → IsHeld us V c
-held_alike os us W V (Page o a) s f h = record { well_formed = h.well_formed; names = rw (same_tests (content_at os o) (content_at us o) (s o refl)).page h.names }
-held_alike os us W V (Node o a) s f h = record { well_formed = h.well_formed; names = rw (same_tests (content_at os o) (content_at us o) (s o refl)).node h.names }
-held_alike os us W V (Space o k a) s f h = record { well_formed = h.well_formed; names = rw (same_tests (content_at os o) (content_at us o) (s o refl)).node h.names }
-held_alike os us W V (Process p) s f h = record { well_formed = h.well_formed; names = rw (same_tests (content_at os p) (content_at us p) (s p refl)).root h.names }
-held_alike os us W V (Start p key) s f h = record { well_formed = h.well_formed; names = rw (same_tests (content_at os p) (content_at us p) (s p refl)).root h.names }
+held_alike os us W V (Page o a) s f h =
+    record { well_formed = h.well_formed; names = rw (same_tests (content_at os o) (content_at us o) (s o refl)).page h.names }
+held_alike os us W V (Node o a) s f h =
+    record { well_formed = h.well_formed; names = rw (same_tests (content_at os o) (content_at us o) (s o refl)).node h.names }
+held_alike os us W V (Space o k a) s f h =
+    record { well_formed = h.well_formed; names = rw (same_tests (content_at os o) (content_at us o) (s o refl)).node h.names }
+held_alike os us W V (Process p) s f h =
+    record { well_formed = h.well_formed; names = rw (same_tests (content_at os p) (content_at us p) (s p refl)).root h.names }
+held_alike os us W V (Start p key) s f h =
+    record { well_formed = h.well_formed; names = rw (same_tests (content_at os p) (content_at us p) (s p refl)).root h.names }
 held_alike os us W V (Resume p) s f h = record {
   well_formed = h.well_formed;
   names = (rw (same_tests (content_at os p) (content_at us p) (s p refl)).root h.names.0, f p refl h.names.1);
 }
-held_alike os us W V (Bank b) s f h = record { well_formed = h.well_formed; names = rw (same_tests (content_at os b) (content_at us b) (s b refl)).bank h.names }
+held_alike os us W V (Bank b) s f h =
+    record { well_formed = h.well_formed; names = rw (same_tests (content_at os b) (content_at us b) (s b refl)).bank h.names }
 held_alike os us W V c s f h = record { well_formed = h.well_formed; names = h.names }
 
 pub held_on : (os us : List Object) (W V : ℕ → Type 0) (c : Capability) → SameFrame os us → ((p : ℕ) → W p → V p) → IsHeld os W c → IsHeld us V c

@@ -243,7 +243,8 @@ spelling_is_no_skip : (c : Command) → IsSkipped (spelling c) → ⊥
 unfolding spelling command_words
 spelling_is_no_skip (command.Invoke i) skipped = no_operation i.operation skipped
   where
-    no_operation : (o : Operation) → IsSkipped (spaced ((operation_name o ∷ decimal i.process ∷ decimal i.register ∷ []) ++ map decimal i.words ++ map decimal i.sent)) → ⊥
+    no_operation : (o : Operation) →
+        IsSkipped (spaced ((operation_name o ∷ decimal i.process ∷ decimal i.register ∷ []) ++ map decimal i.words ++ map decimal i.sent)) → ⊥
     no_operation Call e = omega arith
     no_operation o e = omega arith
 spelling_is_no_skip c skipped = omega arith

@@ -5,9 +5,11 @@ use Rattle.model_laws.specs.Names.{is_bank, is_free, World, content_at, object_a
 use Rattle.model_laws.specs.Names.{is_running_process, IsSound, MayBeHeld, rescind, consume, is_given_up, is_member}
 use Rattle.model_laws.specs.Names.{names_member, resumes, without, IsNoBankOrder, fetched, Effect, invoke, touching}
 use Rattle.model_laws.specs.Names.{touched_count, journaled, reached, refusal_of, unjournaled, writable, Fits, spelling}
-use Rattle.model_laws.specs.Names.{Says, small, f0, i0}
-use Rattle.std.specs.Prelude.{◌≡◌, ◌⊎◌, ◌↔◌, ◌+◌, ◌^◌, ◌<◌, ◌∷◌}
+use Rattle.model_laws.specs.Names.{Says, small, f0, i0, Option, MayFail, Proceeds, Step, opens, second, without_memory}
+use Rattle.model_laws.specs.Names.{Machine, Up, Down, candidates, Answer, Refusal, takes_memory}
+use Rattle.std.specs.Prelude.{◌≡◌, ◌⊎◌, ◌↔◌, ◌+◌, ◌^◌, ◌<◌, ◌∷◌, ◌++◌, ◌&&◌}
 use Rattle.model.specs.Machine.{Running}
+use Rattle.model.specs.declared.answer.Answer.TheVariants as answer
 use Rattle.model.specs.declared.answer.Refusal.TheVariants as refusal
 use Rattle.model.specs.declared.command.Command.TheVariants as command
 use Rattle.model.specs.declared.order.BankOrder.TheVariants as bank
@@ -22,7 +24,8 @@ InvocationKeepsSound = (g : Geometry) (w : World) (i : Invocation) (e : Effect) 
 -- a saved world stays sound where a page of it is journaled
 abbrev pub JournalKeepsSound : Type 0
 JournalKeepsSound = (g : Geometry) (s : Running) (n : ℕ) →
-    IsSound g s.now → IsSound g s.saved.world → s.saved.world.age < 2 ^ 62 → unjournaled s n ≡ None → IsSound g (journaled s n).world
+    IsSound g s.now → IsSound g s.saved.world → s.saved.world.age < 2 ^ 62 → unjournaled s n ≡ None →
+    IsSound g (journaled s n).world
 
 -- to diminish twice is to diminish once
 abbrev pub DiminishesOnce : Type 0
@@ -32,7 +35,8 @@ DiminishesOnce = (c : Capability) → diminished (diminished c) ≡ diminished c
 abbrev pub FetchesWeak : Type 0
 FetchesWeak = (a : Access) (c : Capability) → a.0 ≡ 3 → IsWeak (fetched a c)
 
--- after a rescind the members are free, all else is as it was but for capabilities that are void, and no slot or address
+-- after a rescind the members are free, all else is as it was but for capabilities that are void, and no slot or
+-- address
 -- space names a member
 abbrev pub RescindsAll : Type 0
 RescindsAll = (set : List ℕ) (os : List Object) →
@@ -60,8 +64,10 @@ abbrev pub GivesUpRescinded : Type 0
 GivesUpRescinded = (g : Geometry) (w : World) (b : ℕ) (requested : BankOrder) (args : Arguments) (n : ℕ) →
     IsSound g w → IsTrue (is_bank (content_at w.objects b)) → MayBeHeld w.objects args.capability →
     ((on_bank g w.objects b requested args).code ≡ code.Done →
-    is_given_up w.objects (on_bank g w.objects b requested args).objects n ≡ is_member (rescinded_by w.objects b requested args) n)
-    × (((on_bank g w.objects b requested args).code ≡ code.Done → ⊥) → is_given_up w.objects (on_bank g w.objects b requested args).objects n ≡ false)
+    is_given_up w.objects (on_bank g w.objects b requested args).objects n ≡ is_member
+    (rescinded_by w.objects b requested args) n)
+    × (((on_bank g w.objects b requested args).code ≡ code.Done → ⊥) →
+    is_given_up w.objects (on_bank g w.objects b requested args).objects n ≡ false)
 
 -- an invocation of a running process with no bank's order, through a gate or not, gives nothing up
 abbrev pub GivesUpNothing : Type 0
@@ -82,13 +88,51 @@ LogFullIsExact = (g : Geometry) (s : Running) (i : Invocation) (e : Effect) →
     IsTrue (is_running_process s.now.objects i.process) → s.now.age < 2 ^ 62 → invoke g s.now.objects i ≡ Some e →
     (refusal_of g s (command.Invoke i) ≡ Some refusal.LogFull) ↔ (g.log < touched_count (touching s.touched e.written))
 
--- a store that reaches a page which it may write is refused as log full exactly where the numbers touched with that page
+-- a store that reaches a page which it may write is refused as log full exactly where the numbers touched with that
+-- page
 -- are too many, and one that ends in a memory fault isn't refused
 abbrev pub StoreLogFullIsExact : Type 0
 StoreLogFullIsExact = (g : Geometry) (s : Running) (p address value : ℕ) → IsTrue (is_running_process s.now.objects p) →
     ((page : ℕ) → writable (reached s.now.objects p address) ≡ Ok page →
-    (refusal_of g s (command.Store p address value) ≡ Some refusal.LogFull) ↔ (g.log < touched_count (touching s.touched (page ∷ []))))
-    × ((why : MemoryFault) → writable (reached s.now.objects p address) ≡ Err why → refusal_of g s (command.Store p address value) ≡ None)
+    (refusal_of g s (command.Store p address value) ≡ Some refusal.LogFull) ↔
+    (g.log < touched_count (touching s.touched (page ∷ []))))
+    × ((why : MemoryFault) → writable (reached s.now.objects p address) ≡ Err why →
+    refusal_of g s (command.Store p address value) ≡ None)
+
+-- the commands that the specification lets want memory
+abbrev pub may_lack_memory : Command → Bool
+may_lack_memory (command.Invoke i) = true
+may_lack_memory (command.Load p address) = true
+may_lack_memory (command.Store p address value) = true
+may_lack_memory (command.Show n) = true
+may_lack_memory c = opens c
+
+-- whether it lets want of memory stand in place of a refusal
+abbrev pub may_give_way : Option Refusal → Bool
+may_give_way (Some refusal.NoProcess) = false
+may_give_way (Some refusal.BadNumber) = false
+may_give_way _ = true
+
+abbrev pub MayLackMemory : Geometry → Machine → Command → Type 0
+MayLackMemory g (Up s) c = IsTrue (may_lack_memory c && may_give_way (refusal_of g s c))
+MayLackMemory g (Down saved) c = IsTrue (opens c)
+
+-- a step that the specification allows: the command's own answer, want of memory, or a failure of the device
+abbrev pub StepAllowed : Geometry → Machine → Command → Answer → Machine → Type 0
+StepAllowed g m c a after =
+    Proceeds g m c a after
+    ⊎ (MayLackMemory g m c × (a ≡ answer.Refused refusal.NoMemory) × (after ≡ without_memory m c))
+    ⊎ (MayFail m c × (a ≡ answer.Refused refusal.Fault) × (after ≡ Down (candidates m ++ second m c)))
+
+-- the machine takes only steps that are allowed
+abbrev pub StepsAllowed : Type 0
+StepsAllowed = (g : Geometry) (m : Machine) (c : Command) (a : Answer) (after : Machine) →
+    Step g m c a after → StepAllowed g m c a after
+
+-- only what shows an object or opens the device may be answered `no memory`
+abbrev pub WantsMemoryToShow : Type 0
+WantsMemoryToShow = (g : Geometry) (m : Machine) (c : Command) (after : Machine) →
+    Step g m c (answer.Refused refusal.NoMemory) after → takes_memory c ≡ true
 
 -- no two commands share a spelling
 abbrev pub SpellsOne : Type 0

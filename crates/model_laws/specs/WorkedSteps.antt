@@ -102,6 +102,7 @@ RevokesOnly =
     (consume 1 (slots_of_bank_5 (Resume 1 ∷ Resume 3 ∷ Start 1 7 ∷ Process 1 ∷ []))
     ≡ slots_of_bank_5 (Void ∷ Resume 3 ∷ Start 1 7 ∷ Process 1 ∷ []))
     × (rescind (3 ∷ [])
-    (slots_of_bank_5 (Resume 1 ∷ Resume 3 ∷ Start 3 7 ∷ Number 3 ∷ Page 3 full ∷ Node 16 weak ∷ Space 3 2 full ∷ Bank 3 ∷
+    (slots_of_bank_5 (Resume 1 ∷ Resume 3 ∷ Start 3 7 ∷ Number 3 ∷ Page 3 full ∷ Node 16 weak ∷ Space 3 2 full ∷ Bank 3
+    ∷
     Process 3 ∷ Discrim ∷ []))
     ≡ slots_of_bank_5 (Resume 1 ∷ Void ∷ Void ∷ Number 3 ∷ Void ∷ Node 16 weak ∷ Void ∷ Void ∷ Void ∷ Discrim ∷ []))

@@ -2,7 +2,7 @@
 
 ghost use Rattle.model_laws.specs.Laws.{DiminishesOnce, FetchesWeak, RescindsAll, ConsumesAll, GivesUpRescinded};
 ghost use Rattle.model_laws.specs.Laws.{GivesUpNothing, TouchesWritten, LogFullIsExact, StoreLogFullIsExact, SpellsOne};
-ghost use Rattle.model_laws.specs.Laws.{SaysOne, BeginsSound};
+ghost use Rattle.model_laws.specs.Laws.{SaysOne, BeginsSound, StepsAllowed, WantsMemoryToShow};
 
 /// To diminish a capability twice is to diminish it once.
 pub fn diminishes_once()
@@ -54,6 +54,17 @@ pub fn log_full_is_exact()
 /// would be one too many, and a memory fault comes before a full log.
 pub fn store_log_full_is_exact()
     ensures { StoreLogFullIsExact }
+{}
+
+/// The machine takes only steps that the specification allows. It lets each invocation, load, store
+/// and `show` want memory, except in place of `no process` and `bad number`.
+pub fn steps_are_allowed()
+    ensures { StepsAllowed }
+{}
+
+/// Only a `show`, a `restart` and a `cut` may be answered `no memory`.
+pub fn wants_memory_to_show()
+    ensures { WantsMemoryToShow }
 {}
 
 /// No two commands share a spelling.

@@ -106,7 +106,8 @@ module _ (words : List ℕ) where
       ]
 
   -- the first of a word is the first, if there is none before the word
-  pub first_by_word : (from w low bit : ℕ) → low ≡ from - w * 64 → from / 64 ≤ w → ((m : ℕ) → from ≤ m → m < w * 64 → bit_of words m ≡ 0) → IsLowestFrom (slice_index words w) low bit → IsFirstSet words from (w * 64 + bit)
+  pub first_by_word : (from w low bit : ℕ) → low ≡ from - w * 64 → from / 64 ≤ w → ((m : ℕ) → from ≤ m → m < w * 64 → bit_of words m ≡ 0) →
+      IsLowestFrom (slice_index words w) low bit → IsFirstSet words from (w * 64 + bit)
   first_by_word from w low bit is_low after before lowest = record {
     past = omega (arith, lowest.past);
     set = bit_in_word w bit lowest.inside ∙ lowest.set;
@@ -120,7 +121,8 @@ module _ (words : List ℕ) where
   }
 
   -- a word with no bit goes on with what has none
-  pub none_by_word : (from w low : ℕ) → low ≡ from - w * 64 → from / 64 ≤ w → ((m : ℕ) → from ≤ m → m < w * 64 → bit_of words m ≡ 0) → ((other : ℕ) → low ≤ other → other < 64 → bit_at (slice_index words w) other ≡ 0) → (m : ℕ) → from ≤ m → m < (w + 1) * 64 → bit_of words m ≡ 0
+  pub none_by_word : (from w low : ℕ) → low ≡ from - w * 64 → from / 64 ≤ w → ((m : ℕ) → from ≤ m → m < w * 64 → bit_of words m ≡ 0) →
+      ((other : ℕ) → low ≤ other → other < 64 → bit_at (slice_index words w) other ≡ 0) → (m : ℕ) → from ≤ m → m < (w + 1) * 64 → bit_of words m ≡ 0
   none_by_word from w low is_low after before none m past within =
       elim (cases_lt m (w * 64)) [
         | inl lower ↦ before m past lower
@@ -130,7 +132,9 @@ module _ (words : List ℕ) where
       ]
 
   -- a word is written that has all other bits as they were
-  pub bit_put : (n word bit : ℕ) → n / 64 < length words → bit_at word (n % 64) ≡ bit → ((other : ℕ) → other < 64 → other ≢ n % 64 → bit_at word other ≡ bit_at (slice_index words (n / 64)) other) → IsBitPut words n bit (slice_set words (n / 64) word)
+  pub bit_put : (n word bit : ℕ) → n / 64 < length words → bit_at word (n % 64) ≡ bit →
+      ((other : ℕ) → other < 64 → other ≢ n % 64 → bit_at word other ≡ bit_at (slice_index words (n / 64)) other) →
+      IsBitPut words n bit (slice_set words (n / 64) word)
   unfolding bit_of
   bit_put n word bit within here others = record {
     same_length = length-set words (n / 64) word;
@@ -166,7 +170,8 @@ module _ (words : List ℕ) (from w low : ℕ) (fits : slice_index words w < 2 ^
     least = λ m past within.
         elim (cases_lt m (w * 64)) [
           | inl lower ↦ before m past lower
-          | inr here ↦ here_is m here (omega (arith, lowest.inside)) ∙ flipped_zero (slice_index words w) (m - w * 64) fits (omega (arith, lowest.inside)) (lowest.least (m - w * 64) (omega arith) (omega arith))
+          | inr here ↦ here_is m here (omega (arith, lowest.inside)) ∙ flipped_zero (slice_index words w) (m - w * 64) fits (omega (arith, lowest.inside))
+              (lowest.least (m - w * 64) (omega arith) (omega arith))
         ];
   }
 
@@ -191,7 +196,8 @@ module _ (words summary : List ℕ) (summed : SumsUp words summary) where
       ]
 
   -- and its lowest bit is a machine number
-  pub later_fits : (later : ℕ) → 64 * length words ≤ 2 ^ 64 → bit_of summary later ≡ 1 → slice_index words later < 2 ^ 64 → later * 64 + trailing_zeros w64 (slice_index words later) < 2 ^ 64
+  pub later_fits : (later : ℕ) → 64 * length words ≤ 2 ^ 64 → bit_of summary later ≡ 1 → slice_index words later < 2 ^ 64 →
+      later * 64 + trailing_zeros w64 (slice_index words later) < 2 ^ 64
   later_fits later few is_set fits =
       let word = slice_index words later in
       let lowest = bit_at-trailing_zeros w64 word (omega (arith, summed later, is_set)) fits in
@@ -203,7 +209,8 @@ module _ (words summary : List ℕ) (summed : SumsUp words summary) where
     none_here = none_by_word words from (from / 64) (from % 64) (omega arith) (omega arith) (λ m past before. absurd (omega arith)) none
 
     -- so the first bit of the first word that is not 0 is the first
-    pub first_later : (later : ℕ) → IsFirstSet summary (from / 64 + 1) later → slice_index words later < 2 ^ 64 → IsFirstSet words from (later * 64 + trailing_zeros w64 (slice_index words later))
+    pub first_later : (later : ℕ) → IsFirstSet summary (from / 64 + 1) later → slice_index words later < 2 ^ 64 →
+        IsFirstSet words from (later * 64 + trailing_zeros w64 (slice_index words later))
     first_later later first fits =
         let word = slice_index words later in
         let lowest = bit_at-trailing_zeros w64 word (omega (arith, summed later, first.set)) fits in
@@ -289,8 +296,10 @@ marks_put : (count n : ℕ) (b : Bool) (words new : List ℕ) → IsBitPut words
 marks_put count n b words new put =
     sym (same_marks count new (set (marks_of count words) n b) (length-set (marks_of count words) n b ∙ length_marks count words) (λ m within.
     elim (cases_eq m n) [
-      | inl same ↦ rw same (get_or-set_same (marks_of count words) n b false (omega (arith, length_marks count words)) ∙ sym (ap (λ d. nat_eq d 1) put.here ∙ digit_one b))
-      | inr differs ↦ get_or-set_other (marks_of count words) n m b false differs ∙ mark_within count words m within ∙ sym (ap (λ d. nat_eq d 1) (put.others m differs))
+      | inl same ↦ rw same (get_or-set_same (marks_of count words) n b false (omega (arith, length_marks count words)) ∙
+          sym (ap (λ d. nat_eq d 1) put.here ∙ digit_one b))
+      | inr differs ↦ get_or-set_other (marks_of count words) n m b false differs ∙ mark_within count words m within ∙
+          sym (ap (λ d. nat_eq d 1) (put.others m differs))
     ]))
 
 -- ---- the methods: what is seen of the words, and what is known of them
@@ -342,18 +351,21 @@ module _ (count : ℕ) (words summary : List ℕ) (sums : IsSummed count words s
   pub has_word_above : (seen : List ℕ) → seen ≡ summary → (n : ℕ) → n < length marks → n / 64 / 64 < length seen
   has_word_above seen is_seen n within = omega (arith, count_is, ap length is_seen, sums.summary_each, sums.words_each)
 
-  module _ (n : ℕ) (b : Bool) (within : n < length marks) (seen new : List ℕ) (is_seen : seen ≡ words) (put : IsBitPut seen n (digit b) new) (stored : List ℕ) (is_stored : stored ≡ new) where
+  module _ (n : ℕ) (b : Bool) (within : n < length marks) (seen new : List ℕ) (is_seen : seen ≡ words) (put : IsBitPut seen n (digit b) new) (stored : List ℕ)
+      (is_stored : stored ≡ new) where
     -- a bit is put, and the mark is set
     pub marks_set : marks_of count stored ≡ slice_set marks n b
     marks_set = ap (marks_of count) is_stored ∙ marks_put count n b words new (rw is_seen at put) ∙ ap (λ ms. slice_set ms n b) is_marks
 
-    module _ (seen_summary new_summary : List ℕ) (word : ℕ) (is_seen_summary : seen_summary ≡ summary) (is_word : word ≡ slice_index new (n / 64)) (put_above : IsBitPut seen_summary (n / 64) (digit (not (nat_eq word 0))) new_summary) where
+    module _ (seen_summary new_summary : List ℕ) (word : ℕ) (is_seen_summary : seen_summary ≡ summary) (is_word : word ≡ slice_index new (n / 64))
+        (put_above : IsBitPut seen_summary (n / 64) (digit (not (nat_eq word 0))) new_summary) where
       -- the summary still sums up, once the word's bit is put in it
       pub set_summed : (stored_summary : List ℕ) → stored_summary ≡ new_summary → IsSummed count stored stored_summary
       set_summed stored_summary is_stored_summary = rw (is_stored, is_stored_summary) (record {
         fits = sums.fits;
         words_each = put.same_length ∙ ap length is_seen ∙ sums.words_each;
-        summary_each = put_above.same_length ∙ ap length is_seen_summary ∙ sums.summary_each ∙ ap (λ k. div_ceil k 64) (sym (put.same_length ∙ ap length is_seen));
+        summary_each = put_above.same_length ∙ ap length is_seen_summary ∙ sums.summary_each ∙
+            ap (λ k. div_ceil k 64) (sym (put.same_length ∙ ap length is_seen));
         past = λ m out. put.others m (λ same. omega (arith, count_is)) ∙ ap (λ ws. bit_of ws m) is_seen ∙ sums.past m out;
         summed = λ w.
             elim (cases_eq w (n / 64)) [
@@ -388,14 +400,17 @@ module _ (count k : ℕ) (words : List ℕ) (are_zero : words ≡ replicate k 0)
 
   -- no number is marked
   pub no_marks : marks_of count words ≡ replicate count false
-  no_marks = sym (same_marks count words (replicate count false) (length-replicate count false) (λ n within. get_or-replicate count n false false within ∙ sym (ap (λ d. nat_eq d 1) (none_set n (omega arith)))))
+  no_marks = sym (same_marks count words (replicate count false) (length-replicate count false)
+      (λ n within. get_or-replicate count n false false within ∙ sym (ap (λ d. nat_eq d 1) (none_set n (omega arith)))))
 
   -- and a summary of zeros sums up
-  pub zeros_summed : (l : ℕ) (summary : List ℕ) → count < 2 ^ 64 → summary ≡ replicate l 0 → k ≡ div_ceil count 64 → l ≡ div_ceil k 64 → IsSummed count words summary
+  pub zeros_summed : (l : ℕ) (summary : List ℕ) → count < 2 ^ 64 → summary ≡ replicate l 0 → k ≡ div_ceil count 64 → l ≡ div_ceil k 64 →
+      IsSummed count words summary
   zeros_summed l summary fits summary_zero is_k is_l = record {
     fits = fits;
     words_each = ap length are_zero ∙ length-replicate {A = ℕ} k 0 ∙ is_k;
-    summary_each = ap length summary_zero ∙ length-replicate {A = ℕ} l 0 ∙ is_l ∙ ap (λ j. div_ceil j 64) (sym (ap length are_zero ∙ length-replicate {A = ℕ} k 0));
+    summary_each = ap length summary_zero ∙ length-replicate {A = ℕ} l 0 ∙ is_l ∙
+        ap (λ j. div_ceil j 64) (sym (ap length are_zero ∙ length-replicate {A = ℕ} k 0));
     past = λ n _. none_set n (omega arith);
     summed = λ w.
         bit_of_zero summary w (ap (λ ws. get_or ws (w / 64) 0) summary_zero ∙ zeros l (w / 64))
@@ -409,4 +424,5 @@ module _ (count : ℕ) (words summary : List ℕ) (sums : IsSummed count words s
   cleared = no_marks count (length words) zero_words are_zero ∙ ap (λ k. replicate k false) (sym (count_is count words summary sums marks is_marks))
 
   pub cleared_sums : (zero_summary : List ℕ) → zero_summary ≡ replicate (length summary) 0 → IsSummed count zero_words zero_summary
-  cleared_sums zero_summary are_zero_too = zeros_summed count (length words) zero_words are_zero (length summary) zero_summary sums.fits are_zero_too sums.words_each sums.summary_each
+  cleared_sums zero_summary are_zero_too = zeros_summed count (length words) zero_words are_zero (length summary) zero_summary sums.fits are_zero_too
+      sums.words_each sums.summary_each

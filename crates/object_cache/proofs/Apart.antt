@@ -1,12 +1,12 @@
 -- What an object was frozen as is kept apart from what it holds.
-use Rattle.object_cache.proofs.Names.{inr, ℕ, Bool, true, false, List, length, map, set, Option, Some, None, option_map, refl, sym, ap, arith, length-set}
-use Rattle.object_cache.proofs.Names.{get_or-map, get_or-set_same, get_or-set_other, map-set, set-get_or, none-some, same_Some, Cap, Content, header_at, Disk}
-use Rattle.object_cache.proofs.Names.{DurableState, Stored, below_at, stored_of, Entry, entry_at, with_entry, keeping, present_of, buffer_of, Memory, Shared}
-use Rattle.object_cache.proofs.Names.{Apart, mark_at, present_body, newest_body, below_body, apart_body, frozen_body, frozen_frame, owed_of, owed_body}
-use Rattle.object_cache.proofs.Names.{owed_in_memory, owed_in, StoreState, IsCache, IsFetchedIn, cache_of, owed_at, cached_in, some_of}
+use Rattle.object_cache.proofs.Names.{inr, ℕ, Bool, true, false, is_some, List, length, set, Option, Some, None, option_map, refl, sym, ap, arith, length-set}
+use Rattle.object_cache.proofs.Names.{get_or-set_same, get_or-set_other, none-some, Cap, Content, header_at, Disk, DurableState, Stored, below_at, stored_of}
+use Rattle.object_cache.proofs.Names.{Entry, entry_at, with_entry, Memory, Shared, Apart, mark_at, present_body, newest_body, below_body, apart_body}
+use Rattle.object_cache.proofs.Names.{frozen_body, frozen_frame, owed_of, owed_body, owed_in_memory, owed_in, StoreState, IsCache, IsFetchedIn, cache_of}
+use Rattle.object_cache.proofs.Names.{owed_at}
 use Rattle.std.proofs.Common.{◌≡◌, ◌<◌, ◌∙◌}
 use Rattle.object_cache.proofs.Changing.{with_objects}
-use Rattle.object_cache.proofs.Objects.{has_entry, fetched_known}
+use Rattle.object_cache.proofs.Objects.{has_entry, fetched_known, some_of, cached_stay}
 use Rattle.object_cache.proofs.Caching.{Recaches, cached_cache, owed_changed, seen_cached, owed_entry}
 
 -- a body that is both is of an object that is pending and wasn't written since it was frozen
@@ -14,33 +14,28 @@ shared_owed : (e : Entry) (pending touched : Bool) → owed_of (Some e) pending 
 shared_owed e false touched is = cc
 shared_owed e true touched is = let p = go e.kept touched is in (refl, p.0, p.1)
   where
-    go : (o : Option (Content Cap)) (t : Bool) → owed_body o t ≡ Shared → (t ≡ false) × (o ≡ None)
+    go : (o : Option (Content Cap)) (t : Bool) → owed_body (is_some o) t ≡ Shared → (t ≡ false) × (o ≡ None)
     go (Some c) t same = cc
     go None true same = cc
     go None false same = (refl, refl)
 
-room_keeps : (k : Option (Content Cap)) (o : Option Entry) → option_map buffer_of (option_map (keeping k) o) ≡ option_map buffer_of o
-room_keeps k None = refl
-room_keeps k (Some e) = refl
+abbrev pub keeping : Entry → Entry
+keeping e = record e { kept = Some e.present }
 
-pub cached_keep : (k : Option (Content Cap)) (n : ℕ) (es : List (Option Entry)) → cached_in (with_entry (keeping k) n es) ≡ cached_in es
-unfolding cached_in
-cached_keep k n es =
-    map-set (option_map buffer_of) es n (option_map (keeping k) (entry_at es n))
-    ∙ ap (set (map (option_map buffer_of) es) n) (room_keeps k (entry_at es n) ∙ sym (get_or-map (option_map buffer_of) es n None))
-    ∙ set-get_or (map (option_map buffer_of) es) n None
-
-module _ (s : Stored) (m : Memory) (n : ℕ) (within : n < length m.entries) (e : Entry) (at : entry_at m.entries n ≡ Some e) (shared : owed_in_memory m n ≡ Shared) where
+module _ (s : Stored) (m : Memory) (n : ℕ) (within : n < length m.entries) (e : Entry) (at : entry_at m.entries n ≡ Some e)
+    (shared : owed_in_memory m n ≡ Shared) where
   abbrev apart : List (Option Entry)
-  apart = with_entry (keeping (Some e.present)) n m.entries
+  apart = with_entry (keeping) n m.entries
 
   facts : (mark_at m.pending n ≡ true) × (mark_at m.touched n ≡ false) × (e.kept ≡ None)
-  facts = shared_owed e (mark_at m.pending n) (mark_at m.touched n) (ap (λ (o : Option Entry). owed_of o (mark_at m.pending n) (mark_at m.touched n)) (sym at) ∙ shared)
+  facts = shared_owed e (mark_at m.pending n) (mark_at m.touched n)
+      (ap (λ (o : Option Entry). owed_of o (mark_at m.pending n) (mark_at m.touched n)) (sym at) ∙ shared)
 
-  now : entry_at apart n ≡ Some (keeping (Some e.present) e)
-  now = get_or-set_same m.entries n (option_map (keeping (Some e.present)) (entry_at m.entries n)) None within ∙ ap (option_map (keeping (Some e.present))) at
+  now : entry_at apart n ≡ Some (keeping e)
+  now = get_or-set_same m.entries n (option_map (keeping) (entry_at m.entries n)) None within ∙ ap (option_map (keeping)) at
 
-  frozen_same : frozen_body (entry_at apart n) (mark_at m.touched n) (below_body s m n) ≡ frozen_body (entry_at m.entries n) (mark_at m.touched n) (below_body s m n)
+  frozen_same : frozen_body (entry_at apart n) (mark_at m.touched n) (below_body s m n) ≡ frozen_body (entry_at m.entries n) (mark_at m.touched n)
+      (below_body s m n)
   frozen_same =
       ap (λ (o : Option Entry). frozen_body o (mark_at m.touched n) (below_body s m n)) now
       ∙ sym (ap (λ (o : Option Entry). frozen_body o (mark_at m.touched n) (below_body s m n)) at
@@ -49,25 +44,25 @@ module _ (s : Stored) (m : Memory) (n : ℕ) (within : n < length m.entries) (e 
 
   pub keeps_apart : Recaches s m apart n
   keeps_apart = record {
-    count = length-set m.entries n (option_map (keeping (Some e.present)) (entry_at m.entries n));
-    entries = λ k other. get_or-set_other m.entries n k (option_map (keeping (Some e.present)) (entry_at m.entries n)) None other;
+    count = length-set m.entries n (option_map (keeping) (entry_at m.entries n));
+    entries = λ k other. get_or-set_other m.entries n k (option_map (keeping) (entry_at m.entries n)) None other;
     content =
         ap (λ (o : Option Entry). present_body o (header_at m.headers n).role (newest_body s m n)) now
         ∙ sym (ap (λ (o : Option Entry). present_body o (header_at m.headers n).role (newest_body s m n)) at);
     frozen = ap (λ (c : Content Cap). frozen_frame (mark_at m.pending n) (header_at m.frozen_headers n) c (below_at s n)) frozen_same;
     apart = λ f here. inr facts.0;
-    freed = λ none pending free. absurd (none-some (keeping (Some e.present) e) (sym none ∙ now));
+    freed = λ none pending free. absurd (none-some (keeping e) (sym none ∙ now));
   }
 
   pub owed_apart : owed_in_memory (with_objects m m.headers apart) n ≡ Apart
   owed_apart =
       ap (λ (o : Option Entry). owed_of o (mark_at m.pending n) (mark_at m.touched n)) now
-      ∙ ap (λ (p : Bool). owed_of (Some (keeping (Some e.present) e)) p (mark_at m.touched n)) facts.0
+      ∙ ap (λ (p : Bool). owed_of (Some (keeping e)) p (mark_at m.touched n)) facts.0
 
 -- the same by what is seen
 module _ {D : Type 0} (disk : D → Disk) (d : DurableState D) (m : Memory) (left count : ℕ) (order : List ℕ) (most_entries : ℕ) (s : StoreState D)
-    (view : cache_of disk d m left order most_entries ≡ s) (is : IsCache (stored_of disk d) m left count) (n : ℕ) (fetched : IsFetchedIn s n) (shared : owed_at s.owed n ≡ Shared)
-    (x : Content Cap) (x_is : option_map present_of (entry_at m.entries n) ≡ Some x) where
+    (view : cache_of disk d m left order most_entries ≡ s) (is : IsCache (stored_of disk d) m left count) (n : ℕ) (fetched : IsFetchedIn s n)
+    (shared : owed_at s.owed n ≡ Shared) where
   known_here : n < length m.headers
   known_here = fetched_known disk d m left order most_entries s view n fetched
 
@@ -77,26 +72,20 @@ module _ {D : Type 0} (disk : D → Disk) (d : DurableState D) (m : Memory) (lef
   entry_here : (e : Entry) × (entry_at m.entries n ≡ Some e)
   entry_here = some_of (entry_at m.entries n) (has_entry disk d m left order most_entries s view n fetched)
 
-  body_is : entry_here.0.present ≡ x
-  body_is = same_Some entry_here.0.present x (ap (option_map present_of) (sym entry_here.1) ∙ x_is)
-
   shared_here : owed_in_memory m n ≡ Shared
   shared_here = sym (owed_entry m n known_here) ∙ ap (λ (t : StoreState D). owed_at t.owed n) view ∙ shared
 
-  entries_are : with_entry (keeping (Some x)) n m.entries ≡ with_entry (keeping (Some entry_here.0.present)) n m.entries
-  entries_are = ap (λ (c : Content Cap). with_entry (keeping (Some c)) n m.entries) (sym body_is)
-
-  recaches : Recaches (stored_of disk d) m (with_entry (keeping (Some entry_here.0.present)) n m.entries) n
+  recaches : Recaches (stored_of disk d) m (with_entry keeping n m.entries) n
   recaches = keeps_apart (stored_of disk d) m n entry_within entry_here.0 entry_here.1 shared_here
 
-  pub apart_stands : IsCache (stored_of disk d) (with_objects m m.headers (with_entry (keeping (Some x)) n m.entries)) left count
-  apart_stands = rw entries_are (cached_cache (stored_of disk d) m (with_entry (keeping (Some entry_here.0.present)) n m.entries) n recaches left count is)
+  pub apart_stands : IsCache (stored_of disk d) (with_objects m m.headers (with_entry keeping n m.entries)) left count
+  apart_stands = cached_cache (stored_of disk d) m (with_entry keeping n m.entries) n recaches left count is
 
-  pub apart_seen : cache_of disk d (with_objects m m.headers (with_entry (keeping (Some x)) n m.entries)) left order most_entries ≡ record s { owed = set s.owed n Apart }
+  pub apart_seen : cache_of disk d (with_objects m m.headers (with_entry keeping n m.entries)) left order most_entries ≡ record s { owed = set s.owed n Apart }
   apart_seen =
-      let es = with_entry (keeping (Some entry_here.0.present)) n m.entries in
-      ap (λ (fs : List (Option Entry)). cache_of disk d (with_objects m m.headers fs) left order most_entries) entries_are
-      ∙ seen_cached disk d m left order most_entries es n recaches (set (owed_in m) n Apart)
-      (owed_changed (stored_of disk d) m es n recaches Apart known_here (owed_apart (stored_of disk d) m n entry_within entry_here.0 entry_here.1 shared_here))
-      ∙ ap (λ (rs : List (Option (Content Cap))). record (cache_of disk d m left order most_entries) { cached = rs; owed = set (owed_in m) n Apart }) (cached_keep (Some entry_here.0.present) n m.entries)
+      seen_cached disk d m left order most_entries (with_entry keeping n m.entries) n recaches (set (owed_in m) n Apart)
+      (owed_changed (stored_of disk d) m (with_entry keeping n m.entries) n recaches Apart known_here
+      (owed_apart (stored_of disk d) m n entry_within entry_here.0 entry_here.1 shared_here))
+      ∙ ap (λ (rs : List Bool). record (cache_of disk d m left order most_entries) { cached = rs; owed = set (owed_in m) n Apart })
+      (cached_stay keeping n m.entries)
       ∙ ap (λ (t : StoreState D). record t { owed = set t.owed n Apart }) view

@@ -2,15 +2,14 @@
 use Rattle.object_cache.proofs.Names.{inl, inr, ℕ, Bool, true, false, true≢false, cond, List, length, set, Option, Some, None, option_map, refl, sym, ap, subst}
 use Rattle.object_cache.proofs.Names.{arith, length-set, cases_eq, ne_eqb, get_or-set_same, get_or-set_other, map-set, get_or-map-range_with_len, none-some}
 use Rattle.object_cache.proofs.Names.{same_Some, Cap, Frame, Content, Role, header_at, held_at, AreKeepable, Disk, Put, Kept, put_at, most, DurableState}
-use Rattle.object_cache.proofs.Names.{FrozenPuts, Stored, below_at, stored_of, maps_same, map_set, Entry, Held, entry_at, buffer_of, Memory, Owed, Nothing}
-use Rattle.object_cache.proofs.Names.{mark_at, masked, in_staging, put_body, present_body, content_at, present_at, newest_body, below_body, apart_body}
+use Rattle.object_cache.proofs.Names.{FrozenPuts, Stored, below_at, stored_of, maps_same, map_set, Entry, Held, entry_at, new_entry, is_some, Memory, Owed}
+use Rattle.object_cache.proofs.Names.{Nothing, mark_at, masked, in_staging, put_body, present_body, content_at, present_at, newest_body, below_body, apart_body}
 use Rattle.object_cache.proofs.Names.{frozen_body, frozen_frame, frozen_at, owed_of, owed_body, owed_in_memory, contents_in, frozen_in, owed_in, StoreState}
-use Rattle.object_cache.proofs.Names.{IsCache, IsFetchedIn, cache_of, is_kept, newly_owed, owed_at, cached_at, cached_in, with_cached, without}
+use Rattle.object_cache.proofs.Names.{IsCache, IsFetchedIn, cache_of, is_kept, owed_by, owed_at, cached_at, cached_in, with_cached, without}
 use Rattle.std.proofs.Common.{◌≡◌, ◌≢◌, ◌⊎◌, ◌<◌, ◌∷◌, ◌∙◌}
-use Rattle.model.specs.declared.object.Content.TheVariants as content
 use Rattle.model.specs.declared.object.Role.TheVariants as role
 use Rattle.object_cache.proofs.Changing.{with_objects}
-use Rattle.object_cache.proofs.Objects.{content_in, frame_slot_in}
+use Rattle.object_cache.proofs.Objects.{content_in, cached_entry, has_entry, some_of}
 
 -- the entry of one number is another, with the same object and the same frozen frame
 pub record Recaches (s : Stored) (m : Memory) (es : List (Option Entry)) (n : ℕ) : Type 0 where
@@ -19,7 +18,8 @@ pub record Recaches (s : Stored) (m : Memory) (es : List (Option Entry)) (n : �
   pub content : content_at s (with_objects m m.headers es) n ≡ content_at s m n
   pub frozen : frozen_at s (with_objects m m.headers es) n ≡ frozen_at s m n
   pub apart : (e : Entry) → entry_at es n ≡ Some e → (e.kept ≡ None) ⊎ (mark_at m.pending n ≡ true)
-  pub freed : entry_at es n ≡ None → mark_at m.pending n ≡ true → (header_at m.frozen_headers n).role ≡ role.Free → (is_kept (put_at s.working n) ≡ true) ⊎ ((header_at m.headers n).role ≡ role.Free)
+  pub freed : entry_at es n ≡ None → mark_at m.pending n ≡ true → (header_at m.frozen_headers n).role ≡ role.Free →
+      (is_kept (put_at s.working n) ≡ true) ⊎ ((header_at m.headers n).role ≡ role.Free)
 
 module _ (s : Stored) (m : Memory) (es : List (Option Entry)) (n : ℕ) (change : Recaches s m es n) where
   abbrev cached : Memory
@@ -38,7 +38,8 @@ module _ (s : Stored) (m : Memory) (es : List (Option Entry)) (n : ℕ) (change 
   frozen_stays k = elim (cases_eq k n) [
     | inl same ↦ ap (frozen_at s cached) same ∙ change.frozen ∙ ap (frozen_at s m) (sym same)
     | inr other ↦
-        ap (λ (o : Option Entry). frozen_frame (mark_at m.pending k) (header_at m.frozen_headers k) (frozen_body o (mark_at m.touched k) (below_body s m k)) (below_at s k)) (change.entries k other)
+        ap (λ (o : Option Entry). frozen_frame (mark_at m.pending k) (header_at m.frozen_headers k) (frozen_body o (mark_at m.touched k) (below_body s m k))
+        (below_at s k)) (change.entries k other)
   ]
 
   pub contents_stay : contents_in s cached ≡ contents_in s m
@@ -90,10 +91,11 @@ module _ (s : Stored) (m : Memory) (es : List (Option Entry)) (n : ℕ) (change 
       | inr other ↦ is.apart k e (sym (change.entries k other) ∙ at)
     ];
     freed = λ k none pending free. elim (cases_eq k n) [
-      | inl same ↦ elim (change.freed (ap (entry_at es) (sym same) ∙ none) (ap (mark_at m.pending) (sym same) ∙ pending) (ap (λ (i : ℕ). (header_at m.frozen_headers i).role) (sym same) ∙ free)) [
-        | inl put ↦ inl (ap (λ (i : ℕ). is_kept (put_at s.working i)) same ∙ put)
-        | inr was_free ↦ inr (ap (λ (i : ℕ). (header_at m.headers i).role) same ∙ was_free)
-      ]
+      | inl same ↦ elim (change.freed (ap (entry_at es) (sym same) ∙ none) (ap (mark_at m.pending) (sym same) ∙ pending)
+          (ap (λ (i : ℕ). (header_at m.frozen_headers i).role) (sym same) ∙ free)) [
+            | inl put ↦ inl (ap (λ (i : ℕ). is_kept (put_at s.working i)) same ∙ put)
+            | inr was_free ↦ inr (ap (λ (i : ℕ). (header_at m.headers i).role) same ∙ was_free)
+          ]
       | inr other ↦ is.freed k (sym (change.entries k other) ∙ none) pending free
     ];
   }
@@ -101,23 +103,27 @@ module _ (s : Stored) (m : Memory) (es : List (Option Entry)) (n : ℕ) (change 
 -- ---- an entry that isn't wanted is dropped
 
 -- an entry that owes nothing
-pub nothing_owed : (e : Entry) (pending touched : Bool) → owed_of (Some e) pending touched ≡ Nothing → (pending ≡ false) ⊎ ((pending ≡ true) × (touched ≡ true) × (e.kept ≡ None))
+pub nothing_owed : (e : Entry) (pending touched : Bool) → owed_of (Some e) pending touched ≡ Nothing →
+    (pending ≡ false) ⊎ ((pending ≡ true) × (touched ≡ true) × (e.kept ≡ None))
 nothing_owed e false touched is = inl refl
 nothing_owed e true touched is = let p = go e.kept touched is in inr (refl, p.0, p.1)
   where
-    go : (o : Option (Content Cap)) (t : Bool) → owed_body o t ≡ Nothing → (t ≡ true) × (o ≡ None)
+    go : (o : Option (Content Cap)) (t : Bool) → owed_body (is_some o) t ≡ Nothing → (t ≡ true) × (o ≡ None)
     go (Some c) t same = cc
     go None true same = (refl, refl)
     go None false same = cc
 
 -- only a pending number's body is in the staging buffer
-pub no_staging : (staging : Option Held) (pending : List Bool) → ((h : Held) → staging ≡ Some h → mark_at pending h.number ≡ true) → (n : ℕ) (c : Content Cap) → mark_at pending n ≡ false → in_staging staging n c ≡ c
+pub no_staging : (staging : Option Held) (pending : List Bool) → ((h : Held) → staging ≡ Some h → mark_at pending h.number ≡ true) → (n : ℕ) (c : Content Cap) →
+    mark_at pending n ≡ false → in_staging staging n c ≡ c
 no_staging None pending held n c not_pending = refl
 no_staging (Some h) pending held n c not_pending =
     ap (λ (t : Bool). cond t h.content c) (ne_eqb h.number n (λ same. true≢false (sym (held h refl) ∙ ap (mark_at pending) same ∙ not_pending)))
 
-module _ (s : Stored) (m : Memory) (left count : ℕ) (is : IsCache s m left count) (n : ℕ) (within : n < length m.headers) (e : Entry) (at : entry_at m.entries n ≡ Some e)
-    (clean : mark_at m.dirty n ≡ false) (owed : owed_in_memory m n ≡ Nothing) (masks : masked (header_at m.headers n).role (content_at s m n) ≡ content_at s m n) where
+module _ (s : Stored) (m : Memory) (left count : ℕ) (is : IsCache s m left count) (n : ℕ) (within : n < length m.headers) (e : Entry)
+    (at : entry_at m.entries n ≡ Some e)
+    (clean : mark_at m.dirty n ≡ false) (owed : owed_in_memory m n ≡ Nothing)
+    (masks : masked (header_at m.headers n).role (content_at s m n) ≡ content_at s m n) where
   abbrev dropped : List (Option Entry)
   dropped = set m.entries n None
 
@@ -141,15 +147,18 @@ module _ (s : Stored) (m : Memory) (left count : ℕ) (is : IsCache s m left cou
       ap (λ (p : Put). put_body p (below_body s m n)) (is.unput n untouched)
       ∙ no_staging m.staging m.pending is.held n (below_at s n).content not_pending
       ∙ sym (ap (λ (f : Frame). f.content) (is.unwritten n within untouched
-      ∙ ap (λ (p : Bool). frozen_frame p (header_at m.frozen_headers n) (frozen_body (entry_at m.entries n) (mark_at m.touched n) (below_body s m n)) (below_at s n)) not_pending))
+      ∙ ap (λ (p : Bool). frozen_frame p (header_at m.frozen_headers n) (frozen_body (entry_at m.entries n) (mark_at m.touched n) (below_body s m n))
+      (below_at s n)) not_pending))
 
   frozen_is : frozen_at s (with_objects m m.headers dropped) n ≡ frozen_at s m n
   frozen_is =
-      ap (λ (o : Option Entry). frozen_frame (mark_at m.pending n) (header_at m.frozen_headers n) (frozen_body o (mark_at m.touched n) (below_body s m n)) (below_at s n)) none_now
+      ap (λ (o : Option Entry). frozen_frame (mark_at m.pending n) (header_at m.frozen_headers n) (frozen_body o (mark_at m.touched n) (below_body s m n))
+      (below_at s n)) none_now
       ∙ (elim (nothing_owed e (mark_at m.pending n) (mark_at m.touched n) owed_here) [
         | inl not_pending ↦
             ap (λ (p : Bool). frozen_frame p (header_at m.frozen_headers n) (below_body s m n) (below_at s n)) not_pending
-            ∙ sym (ap (λ (p : Bool). frozen_frame p (header_at m.frozen_headers n) (frozen_body (entry_at m.entries n) (mark_at m.touched n) (below_body s m n)) (below_at s n)) not_pending)
+            ∙ sym (ap (λ (p : Bool). frozen_frame p (header_at m.frozen_headers n) (frozen_body (entry_at m.entries n) (mark_at m.touched n) (below_body s m n))
+            (below_at s n)) not_pending)
         | inr wanted ↦
             ap (λ (c : Content Cap). frozen_frame (mark_at m.pending n) (header_at m.frozen_headers n) c (below_at s n))
             (sym (ap (λ (o : Option Entry). frozen_body o (mark_at m.touched n) (below_body s m n)) at
@@ -175,10 +184,12 @@ module _ (s : Stored) (m : Memory) (left count : ℕ) (is : IsCache s m left cou
   pub owed_dropped : owed_in_memory (with_objects m m.headers dropped) n ≡ owed_in_memory m n
   owed_dropped = ap (λ (o : Option Entry). owed_of o (mark_at m.pending n) (mark_at m.touched n)) none_now ∙ sym owed
 
-module _ {D : Type 0} (disk : D → Disk) (d : DurableState D) (m : Memory) (left : ℕ) (order : List ℕ) (most_entries : ℕ) (es : List (Option Entry)) (n : ℕ) (change : Recaches (stored_of disk d) m es n) where
-  -- all that is seen but for buffers and what entries have of the frozen frames
+module _ {D : Type 0} (disk : D → Disk) (d : DurableState D) (m : Memory) (left : ℕ) (order : List ℕ) (most_entries : ℕ) (es : List (Option Entry)) (n : ℕ)
+    (change : Recaches (stored_of disk d) m es n) where
+  -- all that is seen but for which numbers have entries and what entries have of the frozen frames
   pub seen_cached : (x : List Owed) → owed_in (with_objects m m.headers es) ≡ x →
-      cache_of disk d (with_objects m m.headers es) left order most_entries ≡ record (cache_of disk d m left order most_entries) { cached = cached_in es; owed = x }
+      cache_of disk d (with_objects m m.headers es) left order most_entries ≡ record
+      (cache_of disk d m left order most_entries) { cached = cached_in es; owed = x }
   seen_cached x owed =
       let s = stored_of disk d in
       let t = with_objects m m.headers es in
@@ -192,9 +203,9 @@ module _ {D : Type 0} (disk : D → Disk) (d : DurableState D) (m : Memory) (lef
       ∙ ap (λ (cs : List (Content Cap)). record old { contents = cs; cached = cached_in es; owed = owed_in t }) (contents_stay s m es n change)
       ∙ ap (λ (os : List Owed). record old { cached = cached_in es; owed = os }) owed
 
-pub cached_set : (es : List (Option Entry)) (n : ℕ) (o : Option Entry) → cached_in (set es n o) ≡ set (cached_in es) n (option_map buffer_of o)
+pub cached_set : (es : List (Option Entry)) (n : ℕ) (o : Option Entry) → cached_in (set es n o) ≡ set (cached_in es) n (is_some o)
 unfolding cached_in
-cached_set es n o = map-set (option_map buffer_of) es n o
+cached_set es n o = map-set is_some es n o
 
 pub owed_entry : (m : Memory) (n : ℕ) → n < length m.headers → owed_at (owed_in m) n ≡ owed_in_memory m n
 unfolding owed_in
@@ -202,7 +213,8 @@ owed_entry m n within = get_or-map-range_with_len (owed_in_memory m) 0 (length m
 
 -- the same by what is seen
 module _ {D : Type 0} (disk : D → Disk) (d : DurableState D) (m : Memory) (left count : ℕ) (order : List ℕ) (most_entries : ℕ) (s : StoreState D)
-    (view : cache_of disk d m left order most_entries ≡ s) (is : IsCache (stored_of disk d) m left count) (n : ℕ) (fetched : IsFetchedIn s n) (clean : mark_at s.dirty n ≡ false)
+    (view : cache_of disk d m left order most_entries ≡ s) (is : IsCache (stored_of disk d) m left count) (n : ℕ) (fetched : IsFetchedIn s n)
+    (clean : mark_at s.dirty n ≡ false)
     (owed : owed_at s.owed n ≡ Nothing) (masks : masked (header_at s.headers n).role (held_at s.contents n) ≡ held_at s.contents n) where
   in_table : n < length m.headers
   in_table = omega (arith, fetched.header, ap (λ (t : StoreState D). length t.headers) view)
@@ -216,22 +228,25 @@ module _ {D : Type 0} (disk : D → Disk) (d : DurableState D) (m : Memory) (lef
       ∙ ap (λ (t : StoreState D). masked (header_at t.headers n).role (held_at s.contents n)) view
       ∙ masks ∙ sym holds
 
-  module _ (e : Entry) (at : entry_at m.entries n ≡ Some e) where
-    drops_here : Recaches (stored_of disk d) m (set m.entries n None) n
-    drops_here = drops (stored_of disk d) m left count is n in_table e at (ap (λ (t : StoreState D). mark_at t.dirty n) view ∙ clean)
-        (sym (owed_entry m n in_table) ∙ ap (λ (t : StoreState D). owed_at t.owed n) view ∙ owed) masks_here
+  entry_here : (e : Entry) × (entry_at m.entries n ≡ Some e)
+  entry_here = some_of (entry_at m.entries n) (has_entry disk d m left order most_entries s view n fetched)
 
-    pub drop_stands : IsCache (stored_of disk d) (with_objects m m.headers (set m.entries n None)) left count
-    drop_stands = cached_cache (stored_of disk d) m (set m.entries n None) n drops_here left count is
+  drops_here : Recaches (stored_of disk d) m (set m.entries n None) n
+  drops_here = drops (stored_of disk d) m left count is n in_table entry_here.0 entry_here.1 (ap (λ (t : StoreState D). mark_at t.dirty n) view ∙ clean)
+      (sym (owed_entry m n in_table) ∙ ap (λ (t : StoreState D). owed_at t.owed n) view ∙ owed) masks_here
 
-    pub drop_seen : cache_of disk d (with_objects m m.headers (set m.entries n None)) left (without n order) most_entries ≡ record s { cached = set s.cached n None; order = without n s.order }
-    drop_seen =
-        seen_cached disk d m left (without n order) most_entries (set m.entries n None) n drops_here (owed_in m)
-        (owed_stay (stored_of disk d) m (set m.entries n None) n drops_here
-        (owed_dropped (stored_of disk d) m left count is n in_table e at (ap (λ (t : StoreState D). mark_at t.dirty n) view ∙ clean)
-        (sym (owed_entry m n in_table) ∙ ap (λ (t : StoreState D). owed_at t.owed n) view ∙ owed) masks_here))
-        ∙ ap (λ (rs : List (Option (Content Cap))). record (cache_of disk d m left (without n order) most_entries) { cached = rs }) (cached_set m.entries n None)
-        ∙ ap (λ (t : StoreState D). record t { cached = set t.cached n None; order = without n t.order }) view
+  pub dropped_stands : IsCache (stored_of disk d) (with_objects m m.headers (set m.entries n None)) left count
+  dropped_stands = cached_cache (stored_of disk d) m (set m.entries n None) n drops_here left count is
+
+  pub dropped_seen : cache_of disk d (with_objects m m.headers (set m.entries n None)) left (without n order) most_entries ≡ record
+      s { cached = set s.cached n false; order = without n s.order }
+  dropped_seen =
+      seen_cached disk d m left (without n order) most_entries (set m.entries n None) n drops_here (owed_in m)
+      (owed_stay (stored_of disk d) m (set m.entries n None) n drops_here
+      (owed_dropped (stored_of disk d) m left count is n in_table entry_here.0 entry_here.1 (ap (λ (t : StoreState D). mark_at t.dirty n) view ∙ clean)
+      (sym (owed_entry m n in_table) ∙ ap (λ (t : StoreState D). owed_at t.owed n) view ∙ owed) masks_here))
+      ∙ ap (λ (rs : List Bool). record (cache_of disk d m left (without n order) most_entries) { cached = rs }) (cached_set m.entries n None)
+      ∙ ap (λ (t : StoreState D). record t { cached = set t.cached n false; order = without n t.order }) view
 
 -- ---- a number gets an entry
 
@@ -243,10 +258,11 @@ masked_twice role.Root c = refl
 masked_twice role.Annex c = refl
 masked_twice role.Bank c = refl
 
-module _ (s : Stored) (m : Memory) (left count : ℕ) (is : IsCache s m left count) (e : Entry) (within : e.number < length m.headers) (none : entry_at m.entries e.number ≡ None)
-    (kept : e.kept ≡ None) (present : e.present ≡ content_at s m e.number) where
-  abbrev number : ℕ
-  number = e.number
+module _ (s : Stored) (m : Memory) (left count : ℕ) (is : IsCache s m left count) (number : ℕ) (c : Content Cap) (within : number < length m.headers)
+    (none : entry_at m.entries number ≡ None)
+    (present : c ≡ content_at s m number) where
+  abbrev e : Entry
+  e = new_entry c
 
   abbrev more : List (Option Entry)
   more = set m.entries number (Some e)
@@ -255,17 +271,19 @@ module _ (s : Stored) (m : Memory) (left count : ℕ) (is : IsCache s m left cou
   some_now = get_or-set_same m.entries number (Some e) None (omega (arith, within, is.headers, is.entries))
 
   -- what wasn't written since is as it was frozen, if it is to be written
-  as_frozen : mark_at m.pending number ≡ true → mark_at m.touched number ≡ false → e.present ≡ masked (header_at m.frozen_headers number).role (below_body s m number)
+  as_frozen : mark_at m.pending number ≡ true → mark_at m.touched number ≡ false → c ≡ masked (header_at m.frozen_headers number).role (below_body s m number)
   as_frozen pending untouched =
       present
       ∙ ap (λ (f : Frame). f.content) (is.unwritten number within untouched)
       ∙ ap (λ (f : Frame). f.content)
-      (ap (λ (p : Bool). frozen_frame p (header_at m.frozen_headers number) (frozen_body (entry_at m.entries number) (mark_at m.touched number) (below_body s m number)) (below_at s number)) pending
-      ∙ ap (λ (o : Option Entry). frozen_frame true (header_at m.frozen_headers number) (frozen_body o (mark_at m.touched number) (below_body s m number)) (below_at s number)) none)
+      (ap (λ (p : Bool). frozen_frame p (header_at m.frozen_headers number)
+      (frozen_body (entry_at m.entries number) (mark_at m.touched number) (below_body s m number)) (below_at s number)) pending
+      ∙ ap (λ (o : Option Entry). frozen_frame true (header_at m.frozen_headers number) (frozen_body o (mark_at m.touched number) (below_body s m number))
+      (below_at s number)) none)
 
   -- the frozen frame by the new entry
   frozen_by : (p t : Bool) → mark_at m.pending number ≡ p → mark_at m.touched number ≡ t →
-      frozen_frame p (header_at m.frozen_headers number) (apart_body None t e.present (below_body s m number)) (below_at s number)
+      frozen_frame p (header_at m.frozen_headers number) (apart_body None t c (below_body s m number)) (below_at s number)
       ≡ frozen_frame p (header_at m.frozen_headers number) (below_body s m number) (below_at s number)
   frozen_by false t pending touched = refl
   frozen_by true true pending touched = refl
@@ -281,50 +299,48 @@ module _ (s : Stored) (m : Memory) (left count : ℕ) (is : IsCache s m left cou
     content =
         ap (λ (o : Option Entry). present_body o (header_at m.headers number).role (newest_body s m number)) some_now ∙ present;
     frozen =
-        ap (λ (o : Option Entry). frozen_frame (mark_at m.pending number) (header_at m.frozen_headers number) (frozen_body o (mark_at m.touched number) (below_body s m number)) (below_at s number)) some_now
-        ∙ ap (λ (o : Option (Content Cap)). frozen_frame (mark_at m.pending number) (header_at m.frozen_headers number) (apart_body o (mark_at m.touched number) e.present (below_body s m number)) (below_at s number)) kept
+        ap (λ (o : Option Entry). frozen_frame (mark_at m.pending number) (header_at m.frozen_headers number)
+        (frozen_body o (mark_at m.touched number) (below_body s m number)) (below_at s number)) some_now
         ∙ frozen_by (mark_at m.pending number) (mark_at m.touched number) refl refl
-        ∙ sym (ap (λ (o : Option Entry). frozen_frame (mark_at m.pending number) (header_at m.frozen_headers number) (frozen_body o (mark_at m.touched number) (below_body s m number)) (below_at s number)) none);
-    apart = λ f here. inl (ap (λ (g : Entry). g.kept) (same_Some f e (sym here ∙ some_now)) ∙ kept);
+        ∙ sym (ap (λ (o : Option Entry). frozen_frame (mark_at m.pending number) (header_at m.frozen_headers number)
+        (frozen_body o (mark_at m.touched number) (below_body s m number)) (below_at s number)) none);
+    apart = λ f here. inl (ap (λ (g : Entry). g.kept) (same_Some f e (sym here ∙ some_now)));
     freed = λ gone pending free. absurd (none-some e (sym gone ∙ some_now));
   }
 
-  owed_by_new : (p t : Bool) → owed_of (Some e) p t ≡ newly_owed p t
-  owed_by_new false t = refl
-  owed_by_new true t = ap (λ (o : Option (Content Cap)). owed_body o t) kept
+  pub owed_new : owed_in_memory (with_objects m m.headers more) number ≡ owed_by (mark_at m.pending number) false (mark_at m.touched number)
+  owed_new = ap (λ (o : Option Entry). owed_of o (mark_at m.pending number) (mark_at m.touched number)) some_now
 
-  pub owed_new : owed_in_memory (with_objects m m.headers more) number ≡ newly_owed (mark_at m.pending number) (mark_at m.touched number)
-  owed_new = ap (λ (o : Option Entry). owed_of o (mark_at m.pending number) (mark_at m.touched number)) some_now ∙ owed_by_new (mark_at m.pending number) (mark_at m.touched number)
-
-no_room : (o : Option Entry) → option_map buffer_of o ≡ None → o ≡ None
-no_room None is = refl
-no_room (Some e) is = absurd (none-some e.buffer (sym is))
+no_entry_by : (o : Option Entry) → is_some o ≡ false → o ≡ None
+no_entry_by None is = refl
+no_entry_by (Some e) is = absurd (true≢false is)
 
 -- the same by what is seen
 module _ {D : Type 0} (disk : D → Disk) (d : DurableState D) (m : Memory) (left count : ℕ) (order : List ℕ) (most_entries : ℕ) (s : StoreState D)
     (view : cache_of disk d m left order most_entries ≡ s) (is : IsCache (stored_of disk d) m left count) where
   -- a number that isn't cached has no entry
-  pub no_entry : (n : ℕ) → cached_at s.cached n ≡ None → entry_at m.entries n ≡ None
-  no_entry n uncached = no_room (entry_at m.entries n) (sym (frame_slot_in m.entries n) ∙ ap (λ (t : StoreState D). cached_at t.cached n) view ∙ uncached)
+  pub no_entry : (n : ℕ) → cached_at s.cached n ≡ false → entry_at m.entries n ≡ None
+  no_entry n uncached = no_entry_by (entry_at m.entries n) (sym (cached_entry m.entries n) ∙ ap (λ (t : StoreState D). cached_at t.cached n) view ∙ uncached)
 
-  module _ (e : Entry) (known : e.number < length s.headers) (uncached : cached_at s.cached e.number ≡ None) (kept : e.kept ≡ None) (room : e.buffer ≡ content.Free) (read : e.present ≡ held_at s.contents e.number) where
-    there : e.number < length m.headers
+  module _ (n : ℕ) (c : Content Cap) (known : n < length s.headers) (uncached : cached_at s.cached n ≡ false) (read : c ≡ held_at s.contents n) where
+    there : n < length m.headers
     there = omega (arith, known, ap (λ (t : StoreState D). length t.headers) view)
 
-    new_here : Recaches (stored_of disk d) m (set m.entries e.number (Some e)) e.number
-    new_here = cached_new (stored_of disk d) m left count is e there (no_entry e.number uncached) kept
-        (read ∙ ap (λ (t : StoreState D). held_at t.contents e.number) (sym view) ∙ content_in (stored_of disk d) m e.number there)
+    present_there : c ≡ content_at (stored_of disk d) m n
+    present_there = read ∙ ap (λ (t : StoreState D). held_at t.contents n) (sym view) ∙ content_in (stored_of disk d) m n there
 
-    pub cached_stands : IsCache (stored_of disk d) (with_objects m m.headers (set m.entries e.number (Some e))) left count
-    cached_stands = cached_cache (stored_of disk d) m (set m.entries e.number (Some e)) e.number new_here left count is
+    new_here : Recaches (stored_of disk d) m (set m.entries n (Some (new_entry c))) n
+    new_here = cached_new (stored_of disk d) m left count is n c there (no_entry n uncached) present_there
 
-    pub cached_seen : cache_of disk d (with_objects m m.headers (set m.entries e.number (Some e))) left (e.number ∷ order) most_entries ≡ with_cached e.number s
+    pub cached_stands : IsCache (stored_of disk d) (with_objects m m.headers (set m.entries n (Some (new_entry c)))) left count
+    cached_stands = cached_cache (stored_of disk d) m (set m.entries n (Some (new_entry c))) n new_here left count is
+
+    pub cached_seen : cache_of disk d (with_objects m m.headers (set m.entries n (Some (new_entry c)))) left (n ∷ order) most_entries ≡ with_cached n s
     cached_seen =
-        let x = newly_owed (mark_at m.pending e.number) (mark_at m.touched e.number) in
-        seen_cached disk d m left (e.number ∷ order) most_entries (set m.entries e.number (Some e)) e.number new_here (set (owed_in m) e.number x)
-        (owed_changed (stored_of disk d) m (set m.entries e.number (Some e)) e.number new_here x there
-        (owed_new (stored_of disk d) m left count is e there (no_entry e.number uncached) kept
-        (read ∙ ap (λ (t : StoreState D). held_at t.contents e.number) (sym view) ∙ content_in (stored_of disk d) m e.number there)))
-        ∙ ap (λ (rs : List (Option (Content Cap))). record (cache_of disk d m left (e.number ∷ order) most_entries) { cached = rs; owed = set (owed_in m) e.number x })
-        (cached_set m.entries e.number (Some e) ∙ ap (λ (c : Content Cap). set (cached_in m.entries) e.number (Some c)) room)
-        ∙ ap (with_cached e.number) view
+        let es = set m.entries n (Some (new_entry c)) in
+        let x = owed_by (mark_at m.pending n) false (mark_at m.touched n) in
+        seen_cached disk d m left (n ∷ order) most_entries es n new_here (set (owed_in m) n x)
+        (owed_changed (stored_of disk d) m es n new_here x there (owed_new (stored_of disk d) m left count is n c there (no_entry n uncached) present_there))
+        ∙ ap (λ (rs : List Bool). record (cache_of disk d m left (n ∷ order) most_entries) { cached = rs; owed = set (owed_in m) n x })
+        (cached_set m.entries n (Some (new_entry c)))
+        ∙ ap (with_cached n) view

@@ -1,14 +1,11 @@
 -- One object is changed that is to be put: no frozen frame is another, and what always holds still does.
-use Rattle.object_cache.proofs.Names.{inl, inr, ℕ, Bool, true, false, true≢false, List, length, map, set, Option, Some, None, option_map, refl, sym, ap, subst}
-use Rattle.object_cache.proofs.Names.{arith, range_with_len, cases_eq, none-some, same_Some, Cap, ObjectHeader, Content, header_at, AreKeepable, Kept, most}
-use Rattle.object_cache.proofs.Names.{Stored, below_at, maps_same, map_set, Entry, entry_at, Memory, mark_at, present_body, content_at, present_at, newest_body}
-use Rattle.object_cache.proofs.Names.{below_body, apart_body, frozen_body, frozen_frame, frozen_at, owed_of, owed_body, owed_in_memory, contents_in, frozen_in}
-use Rattle.object_cache.proofs.Names.{owed_in, IsCache}
+use Rattle.object_cache.proofs.Names.{inl, inr, ℕ, Bool, true, false, true≢false, List, length, map, set, Option, Some, None, is_some, option_map, refl, sym}
+use Rattle.object_cache.proofs.Names.{ap, subst, arith, range_with_len, cases_eq, none-some, same_Some, Cap, ObjectHeader, Content, header_at, AreKeepable}
+use Rattle.object_cache.proofs.Names.{Kept, most, Stored, below_at, maps_same, map_set, Entry, entry_at, kept_of, Memory, mark_at, present_body, content_at}
+use Rattle.object_cache.proofs.Names.{present_at, newest_body, below_body, apart_body, frozen_body, frozen_frame, frozen_at, owed_of, owed_body, owed_in_memory}
+use Rattle.object_cache.proofs.Names.{contents_in, frozen_in, owed_in, IsCache}
 use Rattle.std.proofs.Common.{◌≡◌, ◌≢◌, ◌⊎◌, ◌<◌, ◌∙◌}
 use Rattle.model.specs.declared.object.Role.TheVariants as role
-
-abbrev pub kept_of : Entry → Option (Content Cap)
-kept_of e = e.kept
 
 -- with other headers and entries
 abbrev pub with_objects : Memory → List ObjectHeader → List (Option Entry) → Memory
@@ -42,7 +39,7 @@ owed_by_kept None None pending same = refl
 owed_by_kept None (Some f) pending same = absurd (none-some f.kept same)
 owed_by_kept (Some e) None pending same = absurd (none-some e.kept (sym same))
 owed_by_kept (Some e) (Some f) false same = refl
-owed_by_kept (Some e) (Some f) true same = ap (λ (o : Option (Content Cap)). owed_body o true) (same_Some e.kept f.kept same)
+owed_by_kept (Some e) (Some f) true same = ap (λ (o : Option (Content Cap)). owed_body (is_some o) true) (same_Some e.kept f.kept same)
 
 module _ (s : Stored) (m : Memory) (hs : List ObjectHeader) (es : List (Option Entry)) (n : ℕ) (change : Changes m hs es n) where
   abbrev changed : Memory
@@ -86,7 +83,8 @@ module _ (s : Stored) (m : Memory) (hs : List ObjectHeader) (es : List (Option E
     frozen_stays k = elim (cases_eq k n) [
       | inl same ↦ ap (frozen_at s changed) same ∙ frozen_here ∙ ap (frozen_at s m) (sym same)
       | inr other ↦
-          ap (λ (o : Option Entry). frozen_frame (mark_at m.pending k) (header_at m.frozen_headers k) (frozen_body o (mark_at m.touched k) (below_body s m k)) (below_at s k)) (change.entries k other)
+          ap (λ (o : Option Entry). frozen_frame (mark_at m.pending k) (header_at m.frozen_headers k) (frozen_body o (mark_at m.touched k) (below_body s m k))
+          (below_at s k)) (change.entries k other)
     ]
 
     pub frozen_same : frozen_in s changed ≡ frozen_in s m
@@ -172,7 +170,8 @@ module _ (s : Stored) (m : Memory) (hs : List ObjectHeader) (es : List (Option E
             elim (is.freed k (ap (entry_at m.entries) same ∙ none_here none_n) pending free) [
               | inl put ↦ inl put
               | inr was_free ↦ elim (change.role none_n) [
-                | inl same_role ↦ inr (ap (λ (i : ℕ). (header_at hs i).role) same ∙ same_role ∙ ap (λ (i : ℕ). (header_at m.headers i).role) (sym same) ∙ was_free)
+                | inl same_role ↦ inr
+                    (ap (λ (i : ℕ). (header_at hs i).role) same ∙ same_role ∙ ap (λ (i : ℕ). (header_at m.headers i).role) (sym same) ∙ was_free)
                 | inr free_now ↦ inr (ap (λ (i : ℕ). (header_at hs i).role) same ∙ free_now)
               ]
             ]

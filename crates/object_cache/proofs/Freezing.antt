@@ -69,10 +69,12 @@ put_or_body Broken f = refl
 put_or_body (Kept g) f = refl
 
 abbrev pub frozen_memory : List ObjectHeader → Memory → Memory
-frozen_memory fh m = record m { frozen_headers = fh; touched = replicate (length m.touched) false; dirty = replicate (length m.pending) false; pending = m.dirty }
+frozen_memory fh m = record
+    m { frozen_headers = fh; touched = replicate (length m.touched) false; dirty = replicate (length m.pending) false; pending = m.dirty }
 
 module _ (s : Stored) (m : Memory) (left count : ℕ) (is : IsCache s m left count) (none : s.frozen ≡ None)
-    (fh : List ObjectHeader) (fh_count : length fh ≡ length m.frozen_headers) (same_headers : (n : ℕ) → mark_at m.dirty n ≡ true → header_at fh n ≡ header_at m.headers n)
+    (fh : List ObjectHeader) (fh_count : length fh ≡ length m.frozen_headers)
+    (same_headers : (n : ℕ) → mark_at m.dirty n ≡ true → header_at fh n ≡ header_at m.headers n)
     (keepable : AreKeepable s.saved.geometry most (frames_in m.headers (contents_in s m))) where
   abbrev begun : Stored
   begun = freezing_puts count s
@@ -114,7 +116,8 @@ module _ (s : Stored) (m : Memory) (left count : ℕ) (is : IsCache s m left cou
       (ap (λ (f : Frame). f.header.role) (sym at) ∙ kept.kept.role ∙ ap (λ (f : Frame). role_of f.content) at ∙ ap role_of (content_in s m n within))
 
   -- the frozen body of an object that wasn't put since it was written
-  body_now : (n : ℕ) → n < length m.headers → (o : Option Entry) → entry_at m.entries n ≡ o → masked (header_at m.headers n).role (frozen_body o false (below_body begun now n)) ≡ content_at s m n
+  body_now : (n : ℕ) → n < length m.headers → (o : Option Entry) → entry_at m.entries n ≡ o →
+      masked (header_at m.headers n).role (frozen_body o false (below_body begun now n)) ≡ content_at s m n
   body_now n within None at =
       ap (masked (header_at m.headers n).role) (below_now n)
       ∙ sym (ap (λ (o : Option Entry). present_body o (header_at m.headers n).role (newest_body s m n)) at)
@@ -130,18 +133,21 @@ module _ (s : Stored) (m : Memory) (left count : ℕ) (is : IsCache s m left cou
   frozen_by : (n : ℕ) → n < length m.headers → (b t : Bool) → mark_at m.dirty n ≡ b → mark_at m.touched n ≡ t →
       frozen_frame b (header_at fh n) (frozen_body (entry_at m.entries n) false (below_body begun now n)) (below_at begun n) ≡ present_at s m n
   frozen_by n within true t dirty touched =
-      ap (λ (h : ObjectHeader). record { header = h; content = masked h.role (frozen_body (entry_at m.entries n) false (below_body begun now n)) }) (same_headers n dirty)
+      ap (λ (h : ObjectHeader). record { header = h; content = masked h.role (frozen_body (entry_at m.entries n) false (below_body begun now n)) })
+      (same_headers n dirty)
       ∙ ap (λ (c : Content Cap). record { header = header_at m.headers n; content = c }) (body_now n within (entry_at m.entries n) refl)
   frozen_by n within false true clean touched = ap (λ (p : Put). put_or p (frame_at s.saved.frames n)) (is.clean n clean touched)
   frozen_by n within false false clean untouched =
       ap (λ (p : Put). put_or p (frame_at s.saved.frames n)) (is.unput n untouched)
       ∙ sym (is.unwritten n within untouched
-      ∙ ap (λ (p : Bool). frozen_frame p (header_at m.frozen_headers n) (frozen_body (entry_at m.entries n) (mark_at m.touched n) (below_body s m n)) (below_at s n)) (is.idle none n)
+      ∙ ap (λ (p : Bool). frozen_frame p (header_at m.frozen_headers n) (frozen_body (entry_at m.entries n) (mark_at m.touched n) (below_body s m n))
+      (below_at s n)) (is.idle none n)
       ∙ below_was n)
 
   frozen_now : (n : ℕ) → n < length m.headers → frozen_at begun now n ≡ present_at s m n
   frozen_now n within =
-      ap (λ (t : Bool). frozen_frame (mark_at m.dirty n) (header_at fh n) (frozen_body (entry_at m.entries n) t (below_body begun now n)) (below_at begun n)) (none_marked (length m.touched) n)
+      ap (λ (t : Bool). frozen_frame (mark_at m.dirty n) (header_at fh n) (frozen_body (entry_at m.entries n) t (below_body begun now n)) (below_at begun n))
+      (none_marked (length m.touched) n)
       ∙ frozen_by n within (mark_at m.dirty n) (mark_at m.touched n) refl refl
 
   -- the frozen frames are the present ones
@@ -154,7 +160,8 @@ module _ (s : Stored) (m : Memory) (left count : ℕ) (is : IsCache s m left cou
       let within : n < length m.headers = omega (arith, lt, length-map-range_with_len (frozen_at begun now) 0 (length m.headers)) in
       get_or-map-range_with_len (frozen_at begun now) 0 (length m.headers) n n blank_frame within (omega arith)
       ∙ frozen_now n within
-      ∙ sym (frame_in m.headers (contents_in s m) n within ∙ ap (λ (c : Content Cap). record { header = header_at m.headers n; content = c }) (content_in s m n within)))
+      ∙ sym (frame_in m.headers (contents_in s m) n within ∙ ap (λ (c : Content Cap). record { header = header_at m.headers n; content = c })
+      (content_in s m n within)))
 
   -- a number is touched if it is dirty or has a working slot
   written_by : (n : ℕ) (b t : Bool) → mark_at m.dirty n ≡ b → mark_at m.touched n ≡ t → (b || is_kept (put_at s.working n)) ≡ t
@@ -181,7 +188,8 @@ module _ (s : Stored) (m : Memory) (left count : ℕ) (is : IsCache s m left cou
         ap (count_by (λ b. b)) (same_lists (map (λ n. mark_at m.dirty n || is_kept (put_at s.working n)) (range_with_len 0 (length m.dirty))) m.touched
         (length-map-range_with_len (λ n. mark_at m.dirty n || is_kept (put_at s.working n)) 0 (length m.dirty) ∙ is.dirty_marks ∙ sym is.marks)
         (λ i b lt.
-        let within : i < length m.dirty = omega (arith, lt, length-map-range_with_len (λ n. mark_at m.dirty n || is_kept (put_at s.working n)) 0 (length m.dirty)) in
+        let within : i < length m.dirty = omega
+        (arith, lt, length-map-range_with_len (λ n. mark_at m.dirty n || is_kept (put_at s.working n)) 0 (length m.dirty)) in
         get_or-map-range_with_len (λ n. mark_at m.dirty n || is_kept (put_at s.working n)) 0 (length m.dirty) i i b within (omega arith)
         ∙ written_by i (mark_at m.dirty i) (mark_at m.touched i) refl refl
         ∙ default_free m.touched i false b (omega (arith, within, is.dirty_marks, is.marks))))
@@ -231,13 +239,15 @@ module _ {D : Type 0} (disk : D → Disk) (d : DurableState D) (m : Memory) (lef
   freeze_enough = let few = held_touched (stored_of disk d).working m.touched (is.puts ∙ sym is.marks) is.unput in omega (arith, few, is.counted)
 
   module _ (new : DurableState D) (none : (stored_of disk d).frozen ≡ None) (begun : stored_of disk new ≡ freezing_puts count (stored_of disk d))
-      (fh : List ObjectHeader) (fh_count : length fh ≡ length m.frozen_headers) (same_headers : (n : ℕ) → mark_at m.dirty n ≡ true → header_at fh n ≡ header_at m.headers n)
+      (fh : List ObjectHeader) (fh_count : length fh ≡ length m.frozen_headers)
+      (same_headers : (n : ℕ) → mark_at m.dirty n ≡ true → header_at fh n ≡ header_at m.headers n)
       (keepable : AreKeepable (stored_of disk s.durable).saved.geometry most (frames_in s.headers s.contents)) where
     kept : AreKeepable (stored_of disk d).saved.geometry most (frames_in m.headers (contents_in (stored_of disk d) m))
     kept = subst (λ (t : StoreState D). AreKeepable (stored_of disk t.durable).saved.geometry most (frames_in t.headers t.contents)) (sym view) keepable
 
     pub freeze_stands : IsCache (stored_of disk new) (frozen_memory fh m) count 0
-    freeze_stands = subst (λ (t : Stored). IsCache t (frozen_memory fh m) count 0) (sym begun) (begun_cache (stored_of disk d) m left count is none fh fh_count same_headers kept)
+    freeze_stands = subst (λ (t : Stored). IsCache t (frozen_memory fh m) count 0) (sym begun)
+        (begun_cache (stored_of disk d) m left count is none fh fh_count same_headers kept)
 
     pub freeze_contents : contents_in (stored_of disk new) (frozen_memory fh m) ≡ s.contents
     freeze_contents =
@@ -247,12 +257,23 @@ module _ {D : Type 0} (disk : D → Disk) (d : DurableState D) (m : Memory) (lef
 
     pub freeze_touched : replicate (length m.touched) false ≡ untouched (stored_of disk s.durable).saved.geometry
     unfolding untouched
-    freeze_touched = ap (λ (k : ℕ). replicate k false) is.marks ∙ ap (λ (t : StoreState D). replicate (object_count (stored_of disk t.durable).saved.geometry) false) view
+    freeze_touched = ap (λ (k : ℕ). replicate k false) is.marks ∙
+        ap (λ (t : StoreState D). replicate (object_count (stored_of disk t.durable).saved.geometry) false) view
 
-    pub freeze_snapshots : snapshots_of disk (cache_of disk new (frozen_memory fh m) count order most_entries) ≡ freezing (all_frozen (frames_in s.headers s.contents) (touched_count s.touched)) (snapshots_of disk s)
+    pub freeze_snapshots : snapshots_of disk (cache_of disk new (frozen_memory fh m) count order most_entries) ≡ freezing
+        (all_frozen (frames_in s.headers s.contents) (touched_count s.touched)) (snapshots_of disk s)
     freeze_snapshots =
         ap (λ (t : Stored). record { frozen = frozen_seen t (frozen_memory fh m) count; saved = t.saved; to_move = t.to_move }) begun
-        ∙ ap (λ (fs : List Frame). record { frozen = Some (record { frames = fs; size = count; left = count }); saved = (stored_of disk d).saved; to_move = (stored_of disk d).to_move })
+        ∙ ap (λ (fs : List Frame).
+        record {
+          frozen = Some (record { frames = fs; size = count; left = count });
+          saved = (stored_of disk d).saved;
+          to_move = (stored_of disk d).to_move;
+        })
         (begun_frozen (stored_of disk d) m left count is none fh fh_count same_headers kept)
-        ∙ ap (λ (k : ℕ). record { frozen = Some (record { frames = frames_in m.headers (contents_in (stored_of disk d) m); size = k; left = k }); saved = (stored_of disk d).saved; to_move = (stored_of disk d).to_move }) is.counted
+        ∙ ap (λ (k : ℕ). record {
+          frozen = Some (record { frames = frames_in m.headers (contents_in (stored_of disk d) m); size = k; left = k });
+          saved = (stored_of disk d).saved;
+          to_move = (stored_of disk d).to_move;
+        }) is.counted
         ∙ ap (λ (t : StoreState D). freezing (all_frozen (frames_in t.headers t.contents) (touched_count t.touched)) (snapshots_of disk t)) view

@@ -75,7 +75,8 @@ module _ (s : Stored) (m : Memory) (left count : ℕ) (is : IsCache s m left cou
   put_here = ap (λ (o : Option FrozenPuts). frozen_put o n) frozen_now ∙ get_or-set_same f.put n (Kept frame) Absent in_puts
 
   put_elsewhere : (k : ℕ) → k ≢ n → frozen_put after.frozen k ≡ frozen_put s.frozen k
-  put_elsewhere k other = ap (λ (o : Option FrozenPuts). frozen_put o k) frozen_now ∙ get_or-set_other f.put n k (Kept frame) Absent other ∙ sym (ap (λ (o : Option FrozenPuts). frozen_put o k) f_is)
+  put_elsewhere k other = ap (λ (o : Option FrozenPuts). frozen_put o k) frozen_now ∙ get_or-set_other f.put n k (Kept frame) Absent other ∙
+      sym (ap (λ (o : Option FrozenPuts). frozen_put o k) f_is)
 
   below_here : below_at after n ≡ frame
   below_here = ap (λ (p : Put). put_or p (frame_at s.saved.frames n)) put_here
@@ -107,13 +108,18 @@ module _ (s : Stored) (m : Memory) (left count : ℕ) (is : IsCache s m left cou
   frozen_stays k = elim (cases_eq k n) [
     | inl same ↦
         ap (frozen_at after memory) same
-        ∙ ap (λ (p : Bool). frozen_frame p (header_at m.frozen_headers n) (frozen_body (entry_at memory.entries n) (mark_at m.touched n) (below_body after memory n)) (below_at after n)) pending_now
+        ∙ ap (λ (p : Bool). frozen_frame p (header_at m.frozen_headers n)
+        (frozen_body (entry_at memory.entries n) (mark_at m.touched n) (below_body after memory n)) (below_at after n)) pending_now
         ∙ below_here ∙ ap (frozen_at s m) (sym same)
     | inr other ↦
-        ap (λ (p : Bool). frozen_frame p (header_at m.frozen_headers k) (frozen_body (entry_at memory.entries k) (mark_at m.touched k) (below_body after memory k)) (below_at after k)) (pending_elsewhere k other)
-        ∙ ap (λ (o : Option Entry). frozen_frame (mark_at m.pending k) (header_at m.frozen_headers k) (frozen_body o (mark_at m.touched k) (below_body after memory k)) (below_at after k)) (rest.entries k other)
-        ∙ ap (λ (c : Content Cap). frozen_frame (mark_at m.pending k) (header_at m.frozen_headers k) (frozen_body (entry_at m.entries k) (mark_at m.touched k) c) (below_at after k)) (body_elsewhere k other)
-        ∙ ap (λ (g : Frame). frozen_frame (mark_at m.pending k) (header_at m.frozen_headers k) (frozen_body (entry_at m.entries k) (mark_at m.touched k) (below_body s m k)) g) (below_elsewhere k other)
+        ap (λ (p : Bool). frozen_frame p (header_at m.frozen_headers k)
+        (frozen_body (entry_at memory.entries k) (mark_at m.touched k) (below_body after memory k)) (below_at after k)) (pending_elsewhere k other)
+        ∙ ap (λ (o : Option Entry). frozen_frame (mark_at m.pending k) (header_at m.frozen_headers k)
+        (frozen_body o (mark_at m.touched k) (below_body after memory k)) (below_at after k)) (rest.entries k other)
+        ∙ ap (λ (c : Content Cap). frozen_frame (mark_at m.pending k) (header_at m.frozen_headers k)
+        (frozen_body (entry_at m.entries k) (mark_at m.touched k) c) (below_at after k)) (body_elsewhere k other)
+        ∙ ap (λ (g : Frame). frozen_frame (mark_at m.pending k) (header_at m.frozen_headers k)
+        (frozen_body (entry_at m.entries k) (mark_at m.touched k) (below_body s m k)) g) (below_elsewhere k other)
   ]
 
   pub frozen_same : frozen_in after memory ≡ frozen_in s m
@@ -158,8 +164,11 @@ module _ (s : Stored) (m : Memory) (left count : ℕ) (is : IsCache s m left cou
       record {
         each = length-set f.put n (Kept frame) ∙ was.each ∙ sym (length-set m.pending n false);
         size =
-            ap (λ (i : ℕ). count_by (λ b. b) (map (λ k. mark_at memory.pending k || is_kept (put_at (set f.put n (Kept frame)) k)) (range_with_len 0 i))) (length-set m.pending n false)
-            ∙ ap (count_by (λ b. b)) (maps_same (λ k. mark_at memory.pending k || is_kept (put_at (set f.put n (Kept frame)) k)) (λ k. mark_at m.pending k || is_kept (put_at f.put k)) (length m.pending) (λ k below. written_stays k))
+            ap (λ (i : ℕ). count_by (λ b. b) (map (λ k. mark_at memory.pending k || is_kept (put_at (set f.put n (Kept frame)) k)) (range_with_len 0 i)))
+            (length-set m.pending n false)
+            ∙ ap (count_by (λ b. b))
+            (maps_same (λ k. mark_at memory.pending k || is_kept (put_at (set f.put n (Kept frame)) k))
+            (λ k. mark_at m.pending k || is_kept (put_at f.put k)) (length m.pending) (λ k below. written_stays k))
             ∙ was.size;
         torn = λ k broken. elim (cases_eq k n) [
           | inl same ↦ absurd (kept_broken (sym (ap (put_at (set f.put n (Kept frame))) same ∙ get_or-set_same f.put n (Kept frame) Absent in_puts) ∙ broken))
@@ -189,7 +198,8 @@ module _ (s : Stored) (m : Memory) (left count : ℕ) (is : IsCache s m left cou
     unput = is.unput;
     unwritten = λ k below untouched. present_stays k ∙ is.unwritten k below untouched ∙ sym (frozen_stays k);
     idle = λ none. absurd (none-some (with_put n (Kept frame) f) (sym none ∙ frozen_now));
-    running = λ g g_is. subst (λ (h : FrozenPuts). AreFrozen h memory.pending left) (same_Some (with_put n (Kept frame) f) g (sym frozen_now ∙ g_is)) still_frozen;
+    running = λ g g_is. subst (λ (h : FrozenPuts). AreFrozen h memory.pending left) (same_Some (with_put n (Kept frame) f) g (sym frozen_now ∙ g_is))
+        still_frozen;
     keepable = λ g g_is. subst (AreKeepable s.saved.geometry most) (sym frozen_same) (is.keepable f f_is);
     held = λ h h_is. pending_elsewhere h.number (rest.let_go h h_is).0 ∙ (rest.let_go h h_is).1;
     apart = λ k g g_is. elim (cases_eq k n) [

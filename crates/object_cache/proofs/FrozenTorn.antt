@@ -20,12 +20,14 @@ module _ (s : Stored) (m : Memory) (left count : ℕ) (is : IsCache s m left cou
 
   below_elsewhere : (k : ℕ) → k ≢ n → below_at after k ≡ below_at s k
   below_elsewhere k other = ap (λ (p : Put). put_or p (frame_at s.saved.frames k))
-      (ap (λ (o : Option FrozenPuts). frozen_put o k) frozen_now ∙ get_or-set_other f.put n k Broken Absent other ∙ sym (ap (λ (o : Option FrozenPuts). frozen_put o k) f_is))
+      (ap (λ (o : Option FrozenPuts). frozen_put o k) frozen_now ∙ get_or-set_other f.put n k Broken Absent other ∙
+      sym (ap (λ (o : Option FrozenPuts). frozen_put o k) f_is))
 
   content_stays : (k : ℕ) → content_at after m k ≡ content_at s m k
   content_stays k = elim (cases_eq k n) [
     | inl same ↦ ap (content_at after m) same ∙ content_here ∙ ap (content_at s m) (sym same)
-    | inr other ↦ ap (λ (g : Frame). present_body (entry_at m.entries k) (header_at m.headers k).role (put_body (put_at s.working k) (in_staging m.staging k g.content))) (below_elsewhere k other)
+    | inr other ↦ ap (λ (g : Frame). present_body (entry_at m.entries k) (header_at m.headers k).role
+        (put_body (put_at s.working k) (in_staging m.staging k g.content))) (below_elsewhere k other)
   ]
 
   present_stays : (k : ℕ) → present_at after m k ≡ present_at s m k
@@ -34,7 +36,8 @@ module _ (s : Stored) (m : Memory) (left count : ℕ) (is : IsCache s m left cou
   frozen_stays : (k : ℕ) → frozen_at after m k ≡ frozen_at s m k
   frozen_stays k = elim (cases_eq k n) [
     | inl same ↦ ap (frozen_at after m) same ∙ frozen_here ∙ ap (frozen_at s m) (sym same)
-    | inr other ↦ ap (λ (g : Frame). frozen_frame (mark_at m.pending k) (header_at m.frozen_headers k) (frozen_body (entry_at m.entries k) (mark_at m.touched k) (in_staging m.staging k g.content)) g) (below_elsewhere k other)
+    | inr other ↦ ap (λ (g : Frame). frozen_frame (mark_at m.pending k) (header_at m.frozen_headers k)
+        (frozen_body (entry_at m.entries k) (mark_at m.touched k) (in_staging m.staging k g.content)) g) (below_elsewhere k other)
   ]
 
   pub torn_frozen_same : frozen_in after m ≡ frozen_in s m
@@ -65,7 +68,9 @@ module _ (s : Stored) (m : Memory) (left count : ℕ) (is : IsCache s m left cou
       record {
         each = length-set f.put n Broken ∙ was.each;
         size =
-            ap (count_by (λ b. b)) (maps_same (λ k. mark_at m.pending k || is_kept (put_at (set f.put n Broken) k)) (λ k. mark_at m.pending k || is_kept (put_at f.put k)) (length m.pending) (λ k below. written_stays k))
+            ap (count_by (λ b. b))
+            (maps_same (λ k. mark_at m.pending k || is_kept (put_at (set f.put n Broken) k)) (λ k. mark_at m.pending k || is_kept (put_at f.put k))
+            (length m.pending) (λ k below. written_stays k))
             ∙ was.size;
         torn = λ k broken. elim (cases_eq k n) [
           | inl same ↦ ap (mark_at m.pending) same ∙ pending

@@ -32,7 +32,13 @@ module _ (s : Stored) (m : Memory) where
 
   -- the numbers of the checkpoint are no matter
   numbered_stands : (left count generation entries age k : ℕ) → IsCache s m left count →
-      IsCache (record { working = s.working; frozen = s.frozen; saved = record { geometry = s.saved.geometry; frames = s.saved.frames; generation = generation; entries = entries; age = age }; to_move = k }) m left count
+      IsCache (record {
+        working = s.working;
+        frozen = s.frozen;
+        saved = record { geometry = s.saved.geometry; frames = s.saved.frames; generation = generation; entries = entries; age = age };
+        to_move = k;
+      }) m left
+      count
   unfolding frozen_in
   numbered_stands left count generation entries age k is = record {
     headers = is.headers;
@@ -64,20 +70,26 @@ module _ (s : Stored) (m : Memory) where
 -- the same by what is seen
 module _ {D : Type 0} (disk : D → Disk) (d : DurableState D) (m : Memory) (left count : ℕ) (order : List ℕ) (most_entries : ℕ) (s : StoreState D)
     (view : cache_of disk d m left order most_entries ≡ s) (is : IsCache (stored_of disk d) m left count) (new : DurableState D) where
-  home_seen : (b : Bool) (k : ℕ) → stored_of disk new ≡ stored_with (stored_of disk d) b k → cache_of disk new m left order most_entries ≡ record s { durable = new }
+  home_seen : (b : Bool) (k : ℕ) → stored_of disk new ≡ stored_with (stored_of disk d) b k →
+      cache_of disk new m left order most_entries ≡ record s { durable = new }
   home_seen b k put =
       let old = cache_of disk d m left order most_entries in
       ap (λ (t : Stored). record old { durable = new; contents = contents_in t m; frozen = frozen_seen t m left }) put
-      ∙ ap (λ (cs : List (Content Cap)). record old { durable = new; contents = cs; frozen = frozen_seen (stored_with (stored_of disk d) b k) m left }) (contents_home (stored_of disk d) m b k)
-      ∙ ap (λ (fs : List Frame). record old { durable = new; frozen = option_map (λ (f : FrozenPuts). record { frames = fs; size = f.size; left = left }) (stored_of disk d).frozen }) (frozen_home (stored_of disk d) m b k)
+      ∙ ap (λ (cs : List (Content Cap)). record old { durable = new; contents = cs; frozen = frozen_seen (stored_with (stored_of disk d) b k) m left })
+      (contents_home (stored_of disk d) m b k)
+      ∙ ap (λ (fs : List Frame). record
+      old { durable = new; frozen = option_map (λ (f : FrozenPuts). record { frames = fs; size = f.size; left = left }) (stored_of disk d).frozen })
+      (frozen_home (stored_of disk d) m b k)
       ∙ ap (λ (t : StoreState D). record t { durable = new }) view
 
   module _ (amount : ℕ) where
     pub moved_stands : {T E : Type 0} (r : Result T E) → OnOk r (stored_of disk new ≡ on_snapshots (moved amount) (stored_of disk d)) →
-        OnErr r ((k : ℕ) × (k ≤ (stored_of disk d).to_move) × (stored_of disk new ≡ record (stored_of disk d) { to_move = k })) → IsCache (stored_of disk new) m left count
+        OnErr r ((k : ℕ) × (k ≤ (stored_of disk d).to_move) × (stored_of disk new ≡ record (stored_of disk d) { to_move = k })) →
+        IsCache (stored_of disk new) m left count
     moved_stands (Ok x) done left_over = subst (λ (t : Stored). IsCache t m left count) (sym done)
         (home_stands (stored_of disk d) m left count ((stored_of disk d).to_move - amount == 0) ((stored_of disk d).to_move - amount) is)
-    moved_stands (Err e) done left_over = subst (λ (t : Stored). IsCache t m left count) (sym left_over.2) (home_stands (stored_of disk d) m left count false left_over.0 is)
+    moved_stands (Err e) done left_over = subst (λ (t : Stored). IsCache t m left count) (sym left_over.2)
+        (home_stands (stored_of disk d) m left count false left_over.0 is)
 
     pub moved_seen : {T E : Type 0} (r : Result T E) → OnOk r (stored_of disk new ≡ on_snapshots (moved amount) (stored_of disk d)) →
         OnErr r ((k : ℕ) × (k ≤ (stored_of disk d).to_move) × (stored_of disk new ≡ record (stored_of disk d) { to_move = k })) →
@@ -85,16 +97,19 @@ module _ {D : Type 0} (disk : D → Disk) (d : DurableState D) (m : Memory) (lef
     moved_seen (Ok x) done left_over = home_seen ((stored_of disk d).to_move - amount == 0) ((stored_of disk d).to_move - amount) done
     moved_seen (Err e) done left_over = home_seen false left_over.0 left_over.2
 
-    pub moved_snapshots : {T E : Type 0} (r : Result T E) → OnOk r (stored_of disk new ≡ on_snapshots (moved amount) (stored_of disk d)) → OnOk r (snapshots_of disk (record s { durable = new }) ≡ moved amount (snapshots_of disk s))
+    pub moved_snapshots : {T E : Type 0} (r : Result T E) → OnOk r (stored_of disk new ≡ on_snapshots (moved amount) (stored_of disk d)) →
+        OnOk r (snapshots_of disk (record s { durable = new }) ≡ moved amount (snapshots_of disk s))
     moved_snapshots (Ok x) done =
         ap (λ (t : Stored). record { frozen = s.frozen; saved = t.saved; to_move = t.to_move }) done
-        ∙ ap (λ (t : StoreState D). moved amount (record { frozen = s.frozen; saved = (stored_of disk t.durable).saved; to_move = (stored_of disk t.durable).to_move })) view
+        ∙ ap (λ (t : StoreState D). moved amount
+        (record { frozen = s.frozen; saved = (stored_of disk t.durable).saved; to_move = (stored_of disk t.durable).to_move })) view
     moved_snapshots (Err e) done = tt
 
     pub moved_then : {T E : Type 0} (r : Result T E) → OnOk r (stored_of disk new ≡ on_snapshots (moved amount) (stored_of disk d)) →
         OnErr r ((k : ℕ) × (k ≤ (stored_of disk d).to_move) × (stored_of disk new ≡ record (stored_of disk d) { to_move = k })) →
         OnOk r (snapshots_of disk (cache_of disk new m left order most_entries) ≡ moved amount (snapshots_of disk s))
-    moved_then r done left_over = subst (λ (t : StoreState D). OnOk r (snapshots_of disk t ≡ moved amount (snapshots_of disk s))) (sym (moved_seen r done left_over)) (moved_snapshots r done)
+    moved_then r done left_over = subst (λ (t : StoreState D). OnOk r (snapshots_of disk t ≡ moved amount (snapshots_of disk s)))
+        (sym (moved_seen r done left_over)) (moved_snapshots r done)
 
 -- ---- what is frozen is saved
 
@@ -123,7 +138,8 @@ module _ (s : Stored) (m : Memory) (count : ℕ) (is : IsCache s m 0 count) (f :
       same_lists (map (λ n. mark_at m.pending n || is_kept (put_at f.put n)) (range_with_len 0 (length m.pending))) (map is_kept f.put)
       (length-map-range_with_len (λ n. mark_at m.pending n || is_kept (put_at f.put n)) 0 (length m.pending) ∙ sym are.each ∙ sym (length-map f.put is_kept))
       (λ i b lt.
-      let inside : i < length m.pending = omega (arith, lt, length-map-range_with_len (λ n. mark_at m.pending n || is_kept (put_at f.put n)) 0 (length m.pending)) in
+      let inside : i < length m.pending = omega
+      (arith, lt, length-map-range_with_len (λ n. mark_at m.pending n || is_kept (put_at f.put n)) 0 (length m.pending)) in
       get_or-map-range_with_len (λ n. mark_at m.pending n || is_kept (put_at f.put n)) 0 (length m.pending) i i b inside (omega arith)
       ∙ ap (λ (p : Bool). p || is_kept (put_at f.put i)) (none_pending i)
       ∙ sym (kept_get f.put i b (omega (arith, inside, are.each)))) in
@@ -141,7 +157,8 @@ module _ (s : Stored) (m : Memory) (count : ℕ) (is : IsCache s m 0 count) (f :
   frozen_overlaid =
       ap (λ (k : ℕ). map (frozen_at s m) (range_with_len 0 k)) (is.headers ∙ sym is.frames)
       ∙ maps_same (frozen_at s m) (λ n. put_or (put_at f.put n) (frame_at s.saved.frames n)) (length s.saved.frames) (λ n below.
-      ap (λ (p : Bool). frozen_frame p (header_at m.frozen_headers n) (frozen_body (entry_at m.entries n) (mark_at m.touched n) (in_staging m.staging n (below_at s n).content)) (below_at s n)) (none_pending n)
+      ap (λ (p : Bool). frozen_frame p (header_at m.frozen_headers n)
+      (frozen_body (entry_at m.entries n) (mark_at m.touched n) (in_staging m.staging n (below_at s n).content)) (below_at s n)) (none_pending n)
       ∙ ap (λ (o : Option FrozenPuts). put_or (frozen_put o n) (frame_at s.saved.frames n)) f_is)
 
   module _ (age : ℕ) where
@@ -161,18 +178,21 @@ module _ (s : Stored) (m : Memory) (count : ℕ) (is : IsCache s m 0 count) (f :
       | inr past ↦
           get_or_past (overlaid f.put s.saved.frames) n blank_frame (omega (arith, past, length_over))
           ∙ sym (ap (λ (o : Option FrozenPuts). put_or (frozen_put o n) (frame_at s.saved.frames n)) f_is
-          ∙ ap (λ (p : Put). put_or p (frame_at s.saved.frames n)) (get_or_past f.put n Absent (omega (arith, past, is.frames, is.pending_marks, (is.running f f_is).each)))
+          ∙ ap (λ (p : Put). put_or p (frame_at s.saved.frames n))
+          (get_or_past f.put n Absent (omega (arith, past, is.frames, is.pending_marks, (is.running f f_is).each)))
           ∙ get_or_past s.saved.frames n blank_frame past)
     ]
 
     content_stays : (n : ℕ) → content_at after m n ≡ content_at s m n
-    content_stays n = ap (λ (g : Frame). present_body (entry_at m.entries n) (header_at m.headers n).role (put_body (put_at s.working n) (in_staging m.staging n g.content))) (below_stays n)
+    content_stays n = ap (λ (g : Frame). present_body (entry_at m.entries n) (header_at m.headers n).role
+        (put_body (put_at s.working n) (in_staging m.staging n g.content))) (below_stays n)
 
     present_stays : (n : ℕ) → present_at after m n ≡ present_at s m n
     present_stays n = ap (λ (c : Content Cap). record { header = header_at m.headers n; content = c }) (content_stays n)
 
     frozen_stays : (n : ℕ) → frozen_at after m n ≡ frozen_at s m n
-    frozen_stays n = ap (λ (g : Frame). frozen_frame (mark_at m.pending n) (header_at m.frozen_headers n) (frozen_body (entry_at m.entries n) (mark_at m.touched n) (in_staging m.staging n g.content)) g) (below_stays n)
+    frozen_stays n = ap (λ (g : Frame). frozen_frame (mark_at m.pending n) (header_at m.frozen_headers n)
+        (frozen_body (entry_at m.entries n) (mark_at m.touched n) (in_staging m.staging n g.content)) g) (below_stays n)
 
     pub contents_saved : contents_in after m ≡ contents_in s m
     unfolding contents_in
@@ -204,11 +224,13 @@ module _ (s : Stored) (m : Memory) (count : ℕ) (is : IsCache s m 0 count) (f :
 
 -- the same by what is seen
 module _ {D : Type 0} (disk : D → Disk) (d : DurableState D) (m : Memory) (left count : ℕ) (order : List ℕ) (most_entries : ℕ) (s : StoreState D)
-    (view : cache_of disk d m left order most_entries ≡ s) (is : IsCache (stored_of disk d) m left count) (f : FrozenFrames) (running : s.frozen ≡ Some f) (stable : f.left ≡ 0) where
+    (view : cache_of disk d m left order most_entries ≡ s) (is : IsCache (stored_of disk d) m left count) (f : FrozenFrames) (running : s.frozen ≡ Some f)
+    (stable : f.left ≡ 0) where
   found : (h : FrozenPuts) × ((stored_of disk d).frozen ≡ Some h) × (record { frames = frozen_in (stored_of disk d) m; size = h.size; left = left } ≡ f)
   found = go (stored_of disk d).frozen refl (ap (λ (t : StoreState D). t.frozen) view ∙ running)
     where
-      go : (o : Option FrozenPuts) → (stored_of disk d).frozen ≡ o → option_map (λ (h : FrozenPuts). record { frames = frozen_in (stored_of disk d) m; size = h.size; left = left }) o ≡ Some f →
+      go : (o : Option FrozenPuts) → (stored_of disk d).frozen ≡ o →
+          option_map (λ (h : FrozenPuts). record { frames = frozen_in (stored_of disk d) m; size = h.size; left = left }) o ≡ Some f →
           (h : FrozenPuts) × ((stored_of disk d).frozen ≡ Some h) × (record { frames = frozen_in (stored_of disk d) m; size = h.size; left = left } ≡ f)
       go None at some = absurd (none-some f some)
       go (Some h) at some = (h, at, same_Some (record { frames = frozen_in (stored_of disk d) m; size = h.size; left = left }) f some)
@@ -235,7 +257,8 @@ module _ {D : Type 0} (disk : D → Disk) (d : DurableState D) (m : Memory) (lef
   save_left = ap (option_map left_of) found.1 ∙ ap Some (all_put (stored_of disk d) m count stands_here found.0 found.1)
 
   module _ (age : ℕ) where
-    pub save_ready : MayCommit whole age f (stored_of disk s.durable).saved → (h : FrozenPuts) → (stored_of disk d).frozen ≡ Some h → MayCommit puts age h (stored_of disk d).saved
+    pub save_ready : MayCommit whole age f (stored_of disk s.durable).saved → (h : FrozenPuts) → (stored_of disk d).frozen ≡ Some h →
+        MayCommit puts age h (stored_of disk d).saved
     save_ready may h at =
         let here : MayCommit whole age f (stored_of disk d).saved = subst (MayCommit whole age f) (sym saved_here) may in
         record {
@@ -244,28 +267,48 @@ module _ {D : Type 0} (disk : D → Disk) (d : DurableState D) (m : Memory) (lef
           keepable = λ none. subst (AreKeepable (stored_of disk d).saved.geometry age) (sym (overlaid_are h at)) (here.keepable stable);
         }
 
-    next_are : (h : FrozenPuts) → (stored_of disk d).frozen ≡ Some h → next_saved puts age h (stored_of disk d).saved ≡ next_saved whole age f (stored_of disk s.durable).saved
+    next_are : (h : FrozenPuts) → (stored_of disk d).frozen ≡ Some h → next_saved puts age h (stored_of disk d).saved ≡ next_saved whole age f
+        (stored_of disk s.durable).saved
     next_are h at =
-        ap (λ (fs : List Frame). record { geometry = (stored_of disk d).saved.geometry; frames = fs; generation = (stored_of disk d).saved.generation + 1; entries = h.size; age = age }) (overlaid_are h at)
-        ∙ ap (λ (k : ℕ). record { geometry = (stored_of disk d).saved.geometry; frames = f.frames; generation = (stored_of disk d).saved.generation + 1; entries = k; age = age })
+        ap (λ (fs : List Frame).
+        record {
+          geometry = (stored_of disk d).saved.geometry;
+          frames = fs;
+          generation = (stored_of disk d).saved.generation + 1;
+          entries = h.size;
+          age = age;
+        }) (overlaid_are h at)
+        ∙ ap (λ (k : ℕ). record {
+          geometry = (stored_of disk d).saved.geometry;
+          frames = f.frames;
+          generation = (stored_of disk d).saved.generation + 1;
+          entries = k;
+          age = age;
+        })
         (ap (λ (g : FrozenPuts). g.size) (sym (the_same h at)) ∙ ap (λ (g : FrozenFrames). g.size) found.2)
         ∙ ap (next_saved whole age f) saved_here
 
-    pub save_moments : (old new : Disk) → LeavesOneOf old new (stored_of disk d).saved (option_map (λ (h : FrozenPuts). next_saved puts age h (stored_of disk d).saved) (stored_of disk d).frozen) →
+    pub save_moments : (old new : Disk) →
+        LeavesOneOf old new (stored_of disk d).saved (option_map (λ (h : FrozenPuts). next_saved puts age h (stored_of disk d).saved) (stored_of disk d).frozen)
+        →
         LeavesEither old new (stored_of disk s.durable).saved (next_saved whole age f (stored_of disk s.durable).saved)
     save_moments old new moments =
         subst (λ (next : SavedFrames). LeavesEither old new (stored_of disk s.durable).saved next) (next_are found.0 found.1)
         (subst (λ (saved : SavedFrames). LeavesEither old new saved (next_saved puts age found.0 (stored_of disk d).saved)) saved_here
-        (subst (λ (o : Option FrozenPuts). LeavesOneOf old new (stored_of disk d).saved (option_map (λ (h : FrozenPuts). next_saved puts age h (stored_of disk d).saved) o)) found.1 moments))
+        (subst (λ (o : Option FrozenPuts). LeavesOneOf old new (stored_of disk d).saved
+        (option_map (λ (h : FrozenPuts). next_saved puts age h (stored_of disk d).saved) o)) found.1 moments))
 
     module _ (new : DurableState D) where
-      pub save_stands : {T E : Type 0} (r : Result T E) → ((h : FrozenPuts) → (stored_of disk d).frozen ≡ Some h → OnOk r (stored_of disk new ≡ on_snapshots (committed puts age h) (stored_of disk d))) →
+      pub save_stands : {T E : Type 0} (r : Result T E) →
+          ((h : FrozenPuts) → (stored_of disk d).frozen ≡ Some h → OnOk r (stored_of disk new ≡ on_snapshots (committed puts age h) (stored_of disk d))) →
           OnErr r (stored_of disk new ≡ stored_of disk d) → IsCache (stored_of disk new) m left count
       save_stands (Ok x) done undone = subst (λ (t : Stored). IsCache t m left count) (sym (done found.0 found.1))
-          (subst (λ (k : ℕ). IsCache (on_snapshots (committed puts age found.0) (stored_of disk d)) m k count) (sym none_left) (saved_stands (stored_of disk d) m count stands_here found.0 found.1 age))
+          (subst (λ (k : ℕ). IsCache (on_snapshots (committed puts age found.0) (stored_of disk d)) m k count) (sym none_left)
+          (saved_stands (stored_of disk d) m count stands_here found.0 found.1 age))
       save_stands (Err e) done undone = subst (λ (t : Stored). IsCache t m left count) (sym undone) is
 
-      pub save_contents : {T E : Type 0} (r : Result T E) → ((h : FrozenPuts) → (stored_of disk d).frozen ≡ Some h → OnOk r (stored_of disk new ≡ on_snapshots (committed puts age h) (stored_of disk d))) →
+      pub save_contents : {T E : Type 0} (r : Result T E) →
+          ((h : FrozenPuts) → (stored_of disk d).frozen ≡ Some h → OnOk r (stored_of disk new ≡ on_snapshots (committed puts age h) (stored_of disk d))) →
           OnErr r (stored_of disk new ≡ stored_of disk d) → contents_in (stored_of disk new) m ≡ s.contents
       save_contents (Ok x) done undone =
           ap (λ (t : Stored). contents_in t m) (done found.0 found.1)
@@ -273,13 +316,15 @@ module _ {D : Type 0} (disk : D → Disk) (d : DurableState D) (m : Memory) (lef
           ∙ ap (λ (t : StoreState D). t.contents) view
       save_contents (Err e) done undone = ap (λ (t : Stored). contents_in t m) undone ∙ ap (λ (t : StoreState D). t.contents) view
 
-      pub save_rest : contents_in (stored_of disk new) m ≡ s.contents → cache_of disk new m left order most_entries ≡ record s { durable = new; frozen = frozen_seen (stored_of disk new) m left }
+      pub save_rest : contents_in (stored_of disk new) m ≡ s.contents →
+          cache_of disk new m left order most_entries ≡ record s { durable = new; frozen = frozen_seen (stored_of disk new) m left }
       save_rest contents =
           let old = cache_of disk d m left order most_entries in
           ap (λ (cs : List (Content Cap)). record old { durable = new; contents = cs; frozen = frozen_seen (stored_of disk new) m left }) contents
           ∙ ap (λ (t : StoreState D). record t { durable = new; contents = s.contents; frozen = frozen_seen (stored_of disk new) m left }) view
 
-      pub save_snapshots : {T E : Type 0} (r : Result T E) → ((h : FrozenPuts) → (stored_of disk d).frozen ≡ Some h → OnOk r (stored_of disk new ≡ on_snapshots (committed puts age h) (stored_of disk d))) →
+      pub save_snapshots : {T E : Type 0} (r : Result T E) →
+          ((h : FrozenPuts) → (stored_of disk d).frozen ≡ Some h → OnOk r (stored_of disk new ≡ on_snapshots (committed puts age h) (stored_of disk d))) →
           OnOk r (snapshots_of disk (cache_of disk new m left order most_entries) ≡ committed whole age f (snapshots_of disk s))
       save_snapshots (Ok x) done =
           ap (λ (t : Stored). record { frozen = frozen_seen t m left; saved = t.saved; to_move = t.to_move }) (done found.0 found.1)
@@ -288,7 +333,8 @@ module _ {D : Type 0} (disk : D → Disk) (d : DurableState D) (m : Memory) (lef
       save_snapshots (Err e) done = tt
 
 -- a checkpoint with no frame left to write may be committed where each may be
-pub ready_of : (o : Option FrozenFrames) (saved : SavedFrames) (age k : ℕ) → option_map (λ (f : FrozenFrames). f.left) o ≡ Some k → k ≡ 0 → ((f : FrozenFrames) → o ≡ Some f → MayCommit whole age f saved) →
+pub ready_of : (o : Option FrozenFrames) (saved : SavedFrames) (age k : ℕ) → option_map (λ (f : FrozenFrames). f.left) o ≡ Some k → k ≡ 0 →
+    ((f : FrozenFrames) → o ≡ Some f → MayCommit whole age f saved) →
     (f : FrozenFrames) × (o ≡ Some f) × (f.left ≡ 0) × MayCommit whole age f saved
 ready_of None saved age k is none may = absurd (none-some k is)
 ready_of (Some f) saved age k is none may = (f, refl, same_Some f.left k is ∙ none, may f refl)

@@ -8,7 +8,8 @@ use Rattle.object_cache.proofs.Names.{DurableState, FrozenPuts, Stored, below_at
 use Rattle.object_cache.proofs.Names.{is_page_role, next_journaled, FrozenFrames, page_is, role_is_page, content_is_page, known_page, next_same, Entry}
 use Rattle.object_cache.proofs.Names.{entry_at, entry_body, held_now, Memory, mark_at, masked, in_staging, put_body, newest_body, below_body, present_body}
 use Rattle.object_cache.proofs.Names.{content_at, present_at, frozen_body, frozen_frame, frozen_at, contents_in, frozen_in, StoreState, IsCache, snapshots_of}
-use Rattle.object_cache.proofs.Names.{cache_of, frozen_seen, nat_lt, Refusal, NotPage, Renewed, IsJournalAnswer}
+use Rattle.object_cache.proofs.Names.{cache_of, frozen_seen, nat_lt, Refusal, NotPage, Renewed, IsJournalAnswer, is_some, present_of, same_Some, true≢false}
+use Rattle.object_cache.proofs.Names.{newest}
 use Rattle.std.proofs.Common.{◌≡◌, ◌≢◌, ◌⊎◌, ◌<◌, ◌∙◌, OnOk, OnErr}
 use Rattle.model.specs.declared.object.Role.TheVariants as role
 use Rattle.layout.specs.declared.body.Body.TheVariants as body
@@ -22,7 +23,8 @@ as_page : (o : Option Entry) (c : Content Cap) → present_body o role.Page c �
 as_page None c = refl
 as_page (Some e) c = refl
 
-module _ (s : Stored) (m : Memory) (left count : ℕ) (is : IsCache s m left count) (none : s.frozen ≡ None) (n : ℕ) (role_is : (header_at m.headers n).role ≡ role.Page) where
+module _ (s : Stored) (m : Memory) (left count : ℕ) (is : IsCache s m left count) (none : s.frozen ≡ None) (n : ℕ)
+    (role_is : (header_at m.headers n).role ≡ role.Page) where
   staging_none : (k : ℕ) (c : Content Cap) → in_staging m.staging k c ≡ c
   staging_none k c = no_staging m.staging m.pending is.held k c (is.idle none k)
 
@@ -89,7 +91,8 @@ module _ (s : Stored) (m : Memory) (left count : ℕ) (is : IsCache s m left cou
     content_same : (k : ℕ) → content_at after m k ≡ content_at s m k
     content_same k = elim (cases_eq k n) [
       | inl same ↦ ap (content_at after m) same ∙ content_here ∙ sym (ap (content_at s m) same)
-      | inr other ↦ ap (λ (f : Frame). present_body (entry_at m.entries k) (header_at m.headers k).role (put_body (put_at s.working k) (in_staging m.staging k f.content))) (below_other k other)
+      | inr other ↦ ap (λ (f : Frame). present_body (entry_at m.entries k) (header_at m.headers k).role
+          (put_body (put_at s.working k) (in_staging m.staging k f.content))) (below_other k other)
     ]
 
     present_same : (k : ℕ) → present_at after m k ≡ present_at s m k
@@ -101,17 +104,21 @@ module _ (s : Stored) (m : Memory) (left count : ℕ) (is : IsCache s m left cou
 
     -- frozen frames are the saved ones
     frozen_was : (k : ℕ) → frozen_at s m k ≡ below_at s k
-    frozen_was k = ap (λ (p : Bool). frozen_frame p (header_at m.frozen_headers k) (frozen_body (entry_at m.entries k) (mark_at m.touched k) (below_body s m k)) (below_at s k)) (is.idle none k)
+    frozen_was k = ap (λ (p : Bool). frozen_frame p (header_at m.frozen_headers k) (frozen_body (entry_at m.entries k) (mark_at m.touched k) (below_body s m k))
+        (below_at s k)) (is.idle none k)
 
     frozen_now : (k : ℕ) → frozen_at after m k ≡ below_at after k
-    frozen_now k = ap (λ (p : Bool). frozen_frame p (header_at m.frozen_headers k) (frozen_body (entry_at m.entries k) (mark_at m.touched k) (below_body after m k)) (below_at after k)) (is.idle none k)
+    frozen_now k = ap (λ (p : Bool). frozen_frame p (header_at m.frozen_headers k)
+        (frozen_body (entry_at m.entries k) (mark_at m.touched k) (below_body after m k)) (below_at after k)) (is.idle none k)
 
     -- of a page that wasn't written since, the frame that is saved was that of the page now
     unwritten_here : n < length m.headers → mark_at m.touched n ≡ false → below_at s n ≡ below_at after n
     unwritten_here inside untouched =
-        let was : content_at s m n ≡ (frame_at s.saved.frames n).content = ap (λ (f : Frame). f.content) (is.unwritten n inside untouched ∙ frozen_was n ∙ below_was n) in
+        let was : content_at s m n ≡ (frame_at s.saved.frames n).content = ap (λ (f : Frame). f.content)
+        (is.unwritten n inside untouched ∙ frozen_was n ∙ below_was n) in
         below_was n
-        ∙ ap (λ (c : Content Cap). let f : Frame = record { header = (frame_at s.saved.frames n).header; content = c } in f) (sym was ∙ page_is (content_at s m n) holds)
+        ∙ ap (λ (c : Content Cap). let f : Frame = record { header = (frame_at s.saved.frames n).header; content = c } in f)
+        (sym was ∙ page_is (content_at s m n) holds)
         ∙ sym below_here
 
     pub journal_stands : IsCache (on_snapshots (journaled age n (words_in (content_at s m n))) s) m left count
@@ -132,7 +139,8 @@ module _ (s : Stored) (m : Memory) (left count : ℕ) (is : IsCache s m left cou
       unwritten = λ k inside untouched.
           present_same k ∙ is.unwritten k inside untouched ∙ frozen_was k
           ∙ elim (cases_eq k n) [
-            | inl same ↦ ap (below_at s) same ∙ unwritten_here (subst (λ (i : ℕ). i < length m.headers) same inside) (subst (λ (i : ℕ). mark_at m.touched i ≡ false) same untouched) ∙ sym (ap (below_at after) same)
+            | inl same ↦ ap (below_at s) same ∙ unwritten_here (subst (λ (i : ℕ). i < length m.headers) same inside)
+                (subst (λ (i : ℕ). mark_at m.touched i ≡ false) same untouched) ∙ sym (ap (below_at after) same)
             | inr other ↦ sym (below_other k other)
           ]
           ∙ sym (frozen_now k);
@@ -197,10 +205,13 @@ module _ {D : Type 0} (disk : D → Disk) (d : DurableState D) (m : Memory) (lef
       let at = frame_in m.headers (contents_in st m) n within in
       let kept = (own.each n (omega (arith, within, is.headers))).kept.role in
       content_is_page (content_at st m n)
-      (sym (ap (λ (f : Frame). role_of f.content) at ∙ ap role_of (content_in st m n within)) ∙ sym kept ∙ ap (λ (f : Frame). f.header.role) at ∙ role_is_page header.role page)
+      (sym (ap (λ (f : Frame). role_of f.content) at ∙ ap role_of (content_in st m n within)) ∙ sym kept ∙ ap (λ (f : Frame). f.header.role) at ∙
+      role_is_page header.role page)
 
-  pub journal_page : (stored_of disk d).frozen ≡ None → is_page_role (header_at m.headers n).role ≡ true → is_page (held_now m.entries (stored_of disk d) n) ≡ true
-  journal_page none page = subst (λ (c : Content Cap). is_page c ≡ true) (page_held st m left count is none n (role_is_page header.role page)) (content_page page)
+  pub journal_page : (stored_of disk d).frozen ≡ None → is_page_role (header_at m.headers n).role ≡ true →
+      is_page (held_now m.entries (stored_of disk d) n) ≡ true
+  journal_page none page = subst (λ (c : Content Cap). is_page c ≡ true) (page_held st m left count is none n (role_is_page header.role page))
+      (content_page page)
 
   -- the words are those that are seen
   held_seen : is_page_role header.role ≡ true → content_at st m n ≡ held_at s.contents n
@@ -222,18 +233,21 @@ module _ {D : Type 0} (disk : D → Disk) (d : DurableState D) (m : Memory) (lef
         done ∙ ap (λ (c : Content Cap). on_snapshots (journaled age n (words_in c)) st)
         (sym (page_held st m left count is (none_of left_of st.frozen there.0) n (role_is_page header.role there.1)))
 
-    pub stands_after : {T E : Type 0} (r : Result T E) → OnOk r IsThere → OnOk r IsDone → OnErr r (stored_of disk new ≡ st) → IsCache (stored_of disk new) m left count
+    pub stands_after : {T E : Type 0} (r : Result T E) → OnOk r IsThere → OnOk r IsDone → OnErr r (stored_of disk new ≡ st) →
+        IsCache (stored_of disk new) m left count
     stands_after (Ok x) there done undone = subst (λ (t : Stored). IsCache t m left count) (sym (done_is there done))
         (journal_stands st m left count is (none_of left_of st.frozen there.0) n (role_is_page header.role there.1) age (content_page there.1))
     stands_after (Err e) there done undone = subst (λ (t : Stored). IsCache t m left count) (sym undone) is
 
-    pub seen_after : {T E : Type 0} (r : Result T E) → OnOk r IsThere → OnOk r IsDone → OnErr r (stored_of disk new ≡ st) → cache_of disk new m left order most_entries ≡ record s { durable = new }
+    pub seen_after : {T E : Type 0} (r : Result T E) → OnOk r IsThere → OnOk r IsDone → OnErr r (stored_of disk new ≡ st) →
+        cache_of disk new m left order most_entries ≡ record s { durable = new }
     seen_after (Ok x) there done undone =
         let old = cache_of disk d m left order most_entries in
         let none = none_of left_of st.frozen there.0 in
         let page = role_is_page header.role there.1 in
         ap (λ (t : Stored). record old { durable = new; contents = contents_in t m; frozen = frozen_seen t m left }) (done_is there done)
-        ∙ ap (λ (cs : List (Content Cap)). record old { durable = new; contents = cs; frozen = frozen_seen (on_snapshots (journaled age n (words_in (content_at st m n))) st) m left })
+        ∙ ap (λ (cs : List (Content Cap)). record
+        old { durable = new; contents = cs; frozen = frozen_seen (on_snapshots (journaled age n (words_in (content_at st m n))) st) m left })
         (journal_contents st m left count is none n page age (content_page there.1))
         ∙ ap (λ (o : Option FrozenFrames). record old { durable = new; frozen = o }) (journal_frozen st m left count is none n page age (content_page there.1))
         ∙ ap (λ (t : StoreState D). record t { durable = new }) view
@@ -246,34 +260,45 @@ module _ {D : Type 0} (disk : D → Disk) (d : DurableState D) (m : Memory) (lef
         OnOk r (snapshots_of disk (record s { durable = new }) ≡ journaled age n (words_in (held_at s.contents n)) (snapshots_of disk s))
     snapshots_own (Ok x) there done =
         ap (λ (t : Stored). let a : Snapshots FrozenFrames = record { frozen = s.frozen; saved = t.saved; to_move = t.to_move } in a) done
-        ∙ ap (λ (ws : List ℕ). journaled age n ws (record { frozen = s.frozen; saved = st.saved; to_move = st.to_move })) (words_seen (none_of left_of st.frozen there.0) there.1)
-        ∙ ap (λ (t : StoreState D). journaled age n (words_in (held_at s.contents n)) (record { frozen = s.frozen; saved = (stored_of disk t.durable).saved; to_move = (stored_of disk t.durable).to_move })) view
+        ∙ ap (λ (ws : List ℕ). journaled age n ws (record { frozen = s.frozen; saved = st.saved; to_move = st.to_move }))
+        (words_seen (none_of left_of st.frozen there.0) there.1)
+        ∙ ap (λ (t : StoreState D). journaled age n (words_in (held_at s.contents n))
+        (record { frozen = s.frozen; saved = (stored_of disk t.durable).saved; to_move = (stored_of disk t.durable).to_move })) view
     snapshots_own (Err e) there done = tt
 
     pub snapshots_after : {T E : Type 0} (r : Result T E) → OnOk r IsThere → OnOk r IsDone → OnErr r (stored_of disk new ≡ st) →
         OnOk r (snapshots_of disk (cache_of disk new m left order most_entries) ≡ journaled age n (words_in (held_at s.contents n)) (snapshots_of disk s))
-    snapshots_after r there done undone = subst (λ (t : StoreState D). OnOk r (snapshots_of disk t ≡ journaled age n (words_in (held_at s.contents n)) (snapshots_of disk s)))
+    snapshots_after r there done undone = subst
+        (λ (t : StoreState D). OnOk r (snapshots_of disk t ≡ journaled age n (words_in (held_at s.contents n)) (snapshots_of disk s)))
         (sym (seen_after r there done undone)) (snapshots_own r there done)
 
-    pub snapshots_stays : {T E : Type 0} (r : Result T E) → OnErr r (stored_of disk new ≡ stored_of disk d) → OnErr r (snapshots_of disk (cache_of disk new m left order most_entries) ≡ snapshots_of disk s)
+    pub snapshots_stays : {T E : Type 0} (r : Result T E) → OnErr r (stored_of disk new ≡ stored_of disk d) →
+        OnErr r (snapshots_of disk (cache_of disk new m left order most_entries) ≡ snapshots_of disk s)
     snapshots_stays (Ok x) undone = tt
     snapshots_stays (Err e) undone =
         ap (λ (t : Stored). let a : Snapshots FrozenFrames = record { frozen = frozen_seen t m left; saved = t.saved; to_move = t.to_move } in a) undone
         ∙ ap (λ (t : StoreState D). snapshots_of disk t) view
 
     abbrev answer_of : StoreState D → Result ℕ Refusal → Type 0
-    answer_of t r = IsJournalAnswer (disk t.durable.beneath) (disk new.beneath) (option_map (λ (f : FrozenFrames). f.left) t.frozen) (stored_of disk t.durable).saved
-        (nat_lt n (length t.headers)) (is_page_role (header_at t.headers n).role) (journal.is_same_page (header_at t.headers n).allocations (frame_at (stored_of disk t.durable).saved.frames n)) r
+    answer_of t r = IsJournalAnswer (disk t.durable.beneath) (disk new.beneath) (option_map (λ (f : FrozenFrames). f.left) t.frozen)
+        (stored_of disk t.durable).saved
+        (nat_lt n (length t.headers)) (is_page_role (header_at t.headers n).role)
+        (journal.is_same_page (header_at t.headers n).allocations (frame_at (stored_of disk t.durable).saved.frames n)) r
 
     -- how many are left of a checkpoint on its way
-    left_seen : (o : Option FrozenPuts) → option_map (λ (f : FrozenFrames). f.left) (option_map (λ (f : FrozenPuts). record { frames = frozen_in st m; size = f.size; left = left }) o) ≡ option_map (λ (f : FrozenPuts). left) o
+    left_seen : (o : Option FrozenPuts) →
+        option_map (λ (f : FrozenFrames). f.left) (option_map (λ (f : FrozenPuts). record { frames = frozen_in st m; size = f.size; left = left }) o) ≡
+        option_map (λ (f : FrozenPuts). left) o
     left_seen None = refl
     left_seen (Some f) = refl
 
-    pub answer_seen : (r : Result ℕ Refusal) → IsJournalAnswer (disk d.beneath) (disk new.beneath) (option_map left_of (stored_of disk d).frozen) (stored_of disk d).saved
-        (nat_lt n (length m.headers)) (is_page_role (header_at m.headers n).role) (journal.is_same_page (header_at m.headers n).allocations (frame_at (stored_of disk d).saved.frames n)) r →
+    pub answer_seen : (r : Result ℕ Refusal) → IsJournalAnswer (disk d.beneath) (disk new.beneath) (option_map left_of (stored_of disk d).frozen)
+        (stored_of disk d).saved
+        (nat_lt n (length m.headers)) (is_page_role (header_at m.headers n).role)
+        (journal.is_same_page (header_at m.headers n).allocations (frame_at (stored_of disk d).saved.frames n)) r →
         IsJournalAnswer (disk s.durable.beneath) (disk new.beneath) (option_map (λ (f : FrozenFrames). f.left) s.frozen) (stored_of disk s.durable).saved
-        (nat_lt n (length s.headers)) (is_page_role (header_at s.headers n).role) (journal.is_same_page (header_at s.headers n).allocations (frame_at (stored_of disk s.durable).saved.frames n)) r
+        (nat_lt n (length s.headers)) (is_page_role (header_at s.headers n).role)
+        (journal.is_same_page (header_at s.headers n).allocations (frame_at (stored_of disk s.durable).saved.frames n)) r
     answer_seen r reported =
         let is_known = nat_lt n (length m.headers) in
         let is_page = is_page_role header.role in
@@ -285,14 +310,16 @@ module _ {D : Type 0} (disk : D → Disk) (d : DurableState D) (m : Memory) (lef
     abbrev moments_of : StoreState D → List ℕ → Type 0
     moments_of t ws = LeavesOneOf (disk t.durable.beneath) (disk new.beneath) (stored_of disk t.durable).saved
         (next_journaled age n ws t.frozen (stored_of disk t.durable).saved
-        (is_page_role (header_at t.headers n).role) (journal.is_same_page (header_at t.headers n).allocations (frame_at (stored_of disk t.durable).saved.frames n)))
+        (is_page_role (header_at t.headers n).role)
+        (journal.is_same_page (header_at t.headers n).allocations (frame_at (stored_of disk t.durable).saved.frames n)))
 
     pub moments_seen : LeavesOneOf (disk d.beneath) (disk new.beneath) (stored_of disk d).saved
         (next_journaled age n (words_in (held_now m.entries (stored_of disk d) n)) (stored_of disk d).frozen (stored_of disk d).saved
         (is_page_role (header_at m.headers n).role) (journal.is_same_page (header_at m.headers n).allocations (frame_at (stored_of disk d).saved.frames n))) →
         LeavesOneOf (disk s.durable.beneath) (disk new.beneath) (stored_of disk s.durable).saved
         (next_journaled age n (words_in (held_at s.contents n)) s.frozen (stored_of disk s.durable).saved
-        (is_page_role (header_at s.headers n).role) (journal.is_same_page (header_at s.headers n).allocations (frame_at (stored_of disk s.durable).saved.frames n)))
+        (is_page_role (header_at s.headers n).role)
+        (journal.is_same_page (header_at s.headers n).allocations (frame_at (stored_of disk s.durable).saved.frames n)))
     moments_seen moments =
         let is_page = is_page_role header.role in
         let is_saved = journal.is_same_page header.allocations (frame_at st.saved.frames n) in
@@ -318,8 +345,10 @@ read_words read room f found page =
     words_read read.1 room.slots room.words (subst (λ (c : Content Cap). is_page c ≡ true) (sym same) page) ∙ ap words_in same
 
 -- what a crash leaves while it is read, and then is saved
-pub read_first : {D : Type 0} (disk : D → Disk) (a b : DurableState D) (new : Disk) (age n : ℕ) (vs ws : List ℕ) → ReadsStore disk a b → is_sound disk a → vs ≡ ws →
-    LeavesEither (disk b.beneath) new (stored_of disk b).saved (journaled_saved age n vs (stored_of disk b).saved) → LeavesEither (disk a.beneath) new (stored_of disk a).saved (journaled_saved age n ws (stored_of disk a).saved)
+pub read_first : {D : Type 0} (disk : D → Disk) (a b : DurableState D) (new : Disk) (age n : ℕ) (vs ws : List ℕ) → ReadsStore disk a b → is_sound disk a →
+    vs ≡ ws →
+    LeavesEither (disk b.beneath) new (stored_of disk b).saved (journaled_saved age n vs (stored_of disk b).saved) →
+    LeavesEither (disk a.beneath) new (stored_of disk a).saved (journaled_saved age n ws (stored_of disk a).saved)
 read_first disk a b new age n vs ws reads sound same moments =
     let size = (disk a.beneath).sectors in
     let saved = (stored_of disk a).saved in
@@ -328,5 +357,21 @@ read_first disk a b new age n vs ws reads sound same moments =
     subst (λ (t : Stored). LeavesEither (disk b.beneath) new t.saved (journaled_saved age n ws t.saved)) reads.stored
     (subst (λ (xs : List ℕ). LeavesEither (disk b.beneath) new (stored_of disk b).saved (journaled_saved age n xs (stored_of disk b).saved)) same moments) in
     leaves_on {old = disk a.beneath} {mid = disk b.beneath} {new = new} {P = λ (c : Image). Holds size c saved ⊎ Holds size c next}
-    (leaves_weaker {old = disk a.beneath} {new = disk b.beneath} {P = λ (c : Image). Holds size c saved} (λ (c : Image). Holds size c saved ⊎ Holds size c next) (λ c holds. inl holds) (reads.goes_on.any_moment sound))
+    (leaves_weaker {old = disk a.beneath} {new = disk b.beneath} {P = λ (c : Image). Holds size c saved} (λ (c : Image). Holds size c saved ⊎ Holds size c next)
+    (λ c holds. inl holds) (reads.goes_on.any_moment sound))
     (subst (λ (k : ℕ). LeavesOnly (disk b.beneath) new (λ (c : Image). Holds k c saved ⊎ Holds k c next)) reads.goes_on.size after)
+
+-- what a page holds now, by whether it has an entry
+pub held_is : (es : List (Option Entry)) (s : Stored) (n : ℕ) (c : Content Cap) → option_map present_of (entry_at es n) ≡ Some c → held_now es s n ≡ c
+held_is es s n c is = go (entry_at es n) is
+  where
+    go : (o : Option Entry) → option_map present_of o ≡ Some c → entry_body o (newest s n).content ≡ c
+    go None gone = absurd (none-some c gone)
+    go (Some e) some = same_Some e.present c some
+
+pub held_newest : (es : List (Option Entry)) (s : Stored) (n : ℕ) → is_some (entry_at es n) ≡ false → held_now es s n ≡ (newest s n).content
+held_newest es s n is = go (entry_at es n) is
+  where
+    go : (o : Option Entry) → is_some o ≡ false → entry_body o (newest s n).content ≡ (newest s n).content
+    go None gone = refl
+    go (Some e) some = absurd (true≢false some)

@@ -1,10 +1,11 @@
 mod Names
 mod Outcomes
+mod Recent
+mod Marking
 mod Changing
 mod Objects
 mod Caching
 mod Puts
-mod Claims
 mod Apart
 mod FrozenPuts
 mod FrozenTorn
@@ -13,7 +14,6 @@ mod Leading
 mod Homes
 mod Marks
 mod Freezing
-mod Reserving
 mod Owing
 mod Paying
 mod Preparing
@@ -26,6 +26,6 @@ mod Bringing
 mod Readying
 mod Presenting
 mod Journaling
-mod Filling
 mod Emptying
 mod Opening
+mod Taken

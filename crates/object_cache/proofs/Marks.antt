@@ -2,10 +2,11 @@
 use Rattle.object_cache.proofs.Names.{inl, inr, ℕ, zero, suc, Bool, true, false, true≢false, List, [], length, set, Option, Some, None, option_map, refl, sym}
 use Rattle.object_cache.proofs.Names.{ap, subst, arith, length-set, slice_index_or, Contains, cases_eq, get_or-set_other, get_or_past, Cap, Frame, ObjectHeader}
 use Rattle.object_cache.proofs.Names.{Content, header_at, AreKeepable, touched_count, touching, Disk, most, DurableState, FrozenPuts, Stored, below_at}
-use Rattle.object_cache.proofs.Names.{stored_of, maps_same, length-touching, set-marked, Entry, entry_at, Memory, Owed, Shared, mark_at, apart_body, below_body}
-use Rattle.object_cache.proofs.Names.{frozen_body, frozen_frame, frozen_at, owed_of, owed_body, owed_in_memory, contents_in, frozen_in, owed_in, StoreState}
-use Rattle.object_cache.proofs.Names.{IsCache, cache_of, owed_at}
+use Rattle.object_cache.proofs.Names.{stored_of, maps_same, Entry, entry_at, Memory, Owed, Shared, mark_at, apart_body, below_body, frozen_body, frozen_frame}
+use Rattle.object_cache.proofs.Names.{frozen_at, owed_of, owed_body, owed_in_memory, contents_in, frozen_in, owed_in, StoreState, IsCache, cache_of, owed_at}
+use Rattle.object_cache.proofs.Names.{is_some}
 use Rattle.std.proofs.Common.{◌≡◌, ◌≢◌, ◌⊎◌, ◌<◌, ◌≤◌, ◌∷◌, ◌∙◌}
+use Rattle.object_cache.proofs.Marking.{length-touching, set-marked}
 use Rattle.object_cache.proofs.Caching.{owed_entry}
 
 -- a mark is as it was, or is of a number that was listed
@@ -42,7 +43,8 @@ listed_first (t ∷ ts) (suc n) within = listed_first ts n (omega (arith, within
 
 listed_by : (ts : List Bool) (ns : List ℕ) (i k : ℕ) → i < length ns → slice_index_or ns i k ≡ k → k < length ts → mark_at (touching ts ns) k ≡ true
 listed_by ts [] i k lt is within = absurd (omega (arith, lt))
-listed_by ts (n ∷ ns) zero k lt is within = still_marked (set ts n true) ns k (subst (λ (j : ℕ). mark_at (set ts n true) j ≡ true) is (listed_first ts n (omega (arith, within, is))))
+listed_by ts (n ∷ ns) zero k lt is within = still_marked (set ts n true) ns k
+    (subst (λ (j : ℕ). mark_at (set ts n true) j ≡ true) is (listed_first ts n (omega (arith, within, is))))
 listed_by ts (n ∷ ns) (suc i) k lt is within = listed_by (set ts n true) ns i k (omega (arith, lt)) is (omega (arith, within, length-set ts n true))
 
 pub listed_is_marked : (ts : List Bool) (ns : List ℕ) (k : ℕ) → Contains ns k → k < length ts → mark_at (touching ts ns) k ≡ true
@@ -64,7 +66,8 @@ frozen_marked (Some e) false touched h below under owed = refl
 frozen_marked (Some e) true true h below under owed = refl
 frozen_marked (Some e) true false h below under owed = go e.kept owed
   where
-    go : (o : Option (Content Cap)) → owed_body o false ≢ Shared → frozen_frame true h (apart_body o true e.present below) under ≡ frozen_frame true h (apart_body o false e.present below) under
+    go : (o : Option (Content Cap)) → owed_body (is_some o) false ≢ Shared → frozen_frame true h (apart_body o true e.present below) under ≡ frozen_frame true h
+        (apart_body o false e.present below) under
     go (Some c) owed = refl
     go None owed = absurd (owed refl)
 
@@ -74,7 +77,7 @@ owed_marked (Some e) false touched owed = refl
 owed_marked (Some e) true true owed = refl
 owed_marked (Some e) true false owed = go e.kept owed
   where
-    go : (o : Option (Content Cap)) → owed_body o false ≢ Shared → owed_body o true ≡ owed_body o false
+    go : (o : Option (Content Cap)) → owed_body (is_some o) false ≢ Shared → owed_body (is_some o) true ≡ owed_body (is_some o) false
     go (Some c) owed = refl
     go None owed = absurd (owed refl)
 
@@ -91,10 +94,13 @@ module _ (s : Stored) (m : Memory) (left count : ℕ) (is : IsCache s m left cou
 
   frozen_stays : (k : ℕ) → frozen_at s (marking ns m) k ≡ frozen_at s m k
   frozen_stays k = elim (marked_or m.touched ns k) [
-    | inl as_it_was ↦ ap (λ (t : Bool). frozen_frame (mark_at m.pending k) (header_at m.frozen_headers k) (frozen_body (entry_at m.entries k) t (below_body s m k)) (below_at s k)) as_it_was
+    | inl as_it_was ↦ ap (λ (t : Bool). frozen_frame (mark_at m.pending k) (header_at m.frozen_headers k)
+        (frozen_body (entry_at m.entries k) t (below_body s m k)) (below_at s k)) as_it_was
     | inr has ↦
-        ap (λ (t : Bool). frozen_frame (mark_at m.pending k) (header_at m.frozen_headers k) (frozen_body (entry_at m.entries k) t (below_body s m k)) (below_at s k)) (touched_here k has)
-        ∙ frozen_marked (entry_at m.entries k) (mark_at m.pending k) (mark_at m.touched k) (header_at m.frozen_headers k) (below_body s m k) (below_at s k) (apart k has)
+        ap (λ (t : Bool). frozen_frame (mark_at m.pending k) (header_at m.frozen_headers k) (frozen_body (entry_at m.entries k) t (below_body s m k))
+        (below_at s k)) (touched_here k has)
+        ∙ frozen_marked (entry_at m.entries k) (mark_at m.pending k) (mark_at m.touched k) (header_at m.frozen_headers k) (below_body s m k) (below_at s k)
+        (apart k has)
   ]
 
   pub marked_frozen : frozen_in s (marking ns m) ≡ frozen_in s m
@@ -105,7 +111,8 @@ module _ (s : Stored) (m : Memory) (left count : ℕ) (is : IsCache s m left cou
   unfolding owed_in
   marked_owed = maps_same (owed_in_memory (marking ns m)) (owed_in_memory m) (length m.headers) (λ k below. elim (marked_or m.touched ns k) [
     | inl as_it_was ↦ ap (owed_of (entry_at m.entries k) (mark_at m.pending k)) as_it_was
-    | inr has ↦ ap (owed_of (entry_at m.entries k) (mark_at m.pending k)) (touched_here k has) ∙ owed_marked (entry_at m.entries k) (mark_at m.pending k) (mark_at m.touched k) (apart k has)
+    | inr has ↦ ap (owed_of (entry_at m.entries k) (mark_at m.pending k)) (touched_here k has) ∙
+        owed_marked (entry_at m.entries k) (mark_at m.pending k) (mark_at m.touched k) (apart k has)
   ])
 
   -- what isn't marked wasn't
@@ -148,7 +155,8 @@ module _ (s : Stored) (m : Memory) (left count : ℕ) (is : IsCache s m left cou
 
 -- the same by what is seen
 module _ {D : Type 0} (disk : D → Disk) (d : DurableState D) (m : Memory) (left count : ℕ) (order : List ℕ) (most_entries : ℕ) (s : StoreState D)
-    (view : cache_of disk d m left order most_entries ≡ s) (is : IsCache (stored_of disk d) m left count) (ns : List ℕ) (known : (n : ℕ) → Contains ns n → n < length s.headers)
+    (view : cache_of disk d m left order most_entries ≡ s) (is : IsCache (stored_of disk d) m left count) (ns : List ℕ)
+    (known : (n : ℕ) → Contains ns n → n < length s.headers)
     (apart : (n : ℕ) → Contains ns n → owed_at s.owed n ≢ Shared) where
   known_here : (n : ℕ) → Contains ns n → n < length m.headers
   known_here n has = let there = known n has in omega (arith, there, ap (λ (t : StoreState D). length t.headers) view)
@@ -156,7 +164,8 @@ module _ {D : Type 0} (disk : D → Disk) (d : DurableState D) (m : Memory) (lef
   apart_here : (n : ℕ) → Contains ns n → owed_in_memory m n ≢ Shared
   apart_here n has shared = apart n has (ap (λ (t : StoreState D). owed_at t.owed n) (sym view) ∙ owed_entry m n (known_here n has) ∙ shared)
 
-  pub mark_stands : (total : ℕ) → total ≡ touched_count (touching m.touched ns) → total ≤ (stored_of disk d).saved.geometry.log → IsCache (stored_of disk d) (marking ns m) left total
+  pub mark_stands : (total : ℕ) → total ≡ touched_count (touching m.touched ns) → total ≤ (stored_of disk d).saved.geometry.log →
+      IsCache (stored_of disk d) (marking ns m) left total
   mark_stands = marked_cache (stored_of disk d) m left count is ns known_here apart_here
 
   pub mark_seen : cache_of disk d (marking ns m) left order most_entries ≡ record s { touched = touching s.touched ns; dirty = touching s.dirty ns }
@@ -169,5 +178,6 @@ module _ {D : Type 0} (disk : D → Disk) (d : DurableState D) (m : Memory) (lef
         owed = owed_in (marking ns m);
         frozen = option_map (λ (f : FrozenPuts). record { frames = fs; size = f.size; left = left }) (stored_of disk d).frozen;
       }) (marked_frozen (stored_of disk d) m left count is ns known_here apart_here)
-      ∙ ap (λ (os : List Owed). record old { touched = touching m.touched ns; dirty = touching m.dirty ns; owed = os }) (marked_owed (stored_of disk d) m left count is ns known_here apart_here)
+      ∙ ap (λ (os : List Owed). record old { touched = touching m.touched ns; dirty = touching m.dirty ns; owed = os })
+      (marked_owed (stored_of disk d) m left count is ns known_here apart_here)
       ∙ ap (λ (t : StoreState D). record t { touched = touching t.touched ns; dirty = touching t.dirty ns }) view

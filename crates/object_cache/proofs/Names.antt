@@ -1,16 +1,10 @@
 -- The names that the proofs here cite: of other crates, and of the definitions of this one.
-pub use Rattle.cache_entries.proofs.Arenas.{some_of, some_within}
-pub use Rattle.cache_entries.proofs.Orders.{length_without}
-pub use Rattle.cache_entries.proofs.Recent.{front_apart, front_stays, front_without, listed_member}
-pub use Rattle.cache_entries.specs.Entries.{buffer_of, entry_at, holding, keeping, present_of, reserving, with_entry}
-pub use Rattle.cache_entries.specs.Order.{AreOrdered, EntriesState, used_in_turn, used_longest_ago, used_now, with_new, without}
-pub use Rattle.cache_entries.specs.declared.entry.Entry.{Entry}
-pub use Rattle.capability.proofs.Frames.{frame_in, length_in}
+pub use Rattle.cache_entries.specs.Entries.{Entry, changing, entry_at, kept_of, new_entry, present_of, with_entry}
+pub use Rattle.cache_entries.specs.Order.{AllDiffer, AreOrdered, EntriesState, used_in_turn, used_longest_ago, used_now, with_new, without}
+pub use Rattle.capability.proofs.FrameLists.{frame_in, length_in}
 pub use Rattle.capability.proofs.Keeping.{keepable_at}
-pub use Rattle.capability.proofs.Touched.{length-touching, set-marked}
-pub use Rattle.capability.specs.Parts.{HaveTheirRoles, IsFreshAt, frames_of, fresh_content}
-pub use Rattle.capability.specs.Plain.{spare_body_at, spare_body_for}
-pub use Rattle.capability.specs.declared.present.Fresh.{Fresh}
+pub use Rattle.capability.specs.Objects.{with_root_in, with_slots_in}
+pub use Rattle.capability.specs.Parts.{Becomes, HaveTheirRoles, frames_of, fresh_content}
 pub use Rattle.checkpoint.proofs.Lists.{maps_same}
 pub use Rattle.checkpoint.specs.Opened.{OnlyReads}
 pub use Rattle.checkpoint.specs.Refused.{IsCommitAnswer, IsJournalAnswer}
@@ -30,13 +24,13 @@ pub use Rattle.migrator.specs.Durable.{on_snapshots, puts, stored_of, with_froze
 pub use Rattle.migrator.specs.Opened.{OpensDurable}
 pub use Rattle.migrator.specs.Put.{Absent, Broken, HasFreeSlot, Kept, Put, held_slot, kept_count, put_at, put_or}
 unfoldable pub use Rattle.migrator.specs.Put.{overlaid, sum_of}
-pub use Rattle.model.specs.Frame.{blank_frame, blank_header, called, claimed, frame_at, given_up, header_at, headers, held_at, owned_by, void_held}
+pub use Rattle.model.specs.Frame.{blank_frame, blank_header, called, claimed, content_behind, frame_at, given_up, header_at, headers, held_at, owned_by}
+pub use Rattle.model.specs.Frame.{void_held}
 unfoldable pub use Rattle.model.specs.Frame.{frames_in}
 pub use Rattle.model.specs.Keepable.{AreKeepable, IsKeepable}
 pub use Rattle.model.specs.Machine.{touched_count, touching}
 unfoldable pub use Rattle.model.specs.Machine.{untouched}
-pub use Rattle.model.specs.Object.{is_page, role_of, words_in}
-unfoldable pub use Rattle.model.specs.Object.{all_slots, zero_words}
+pub use Rattle.model.specs.Object.{is_page, role_of, with_slot_in, with_word_in, words_in}
 pub use Rattle.model.specs.Revoke.{is_member}
 pub use Rattle.model.specs.Sound.{object_count}
 pub use Rattle.model.specs.declared.answer.Refusal.{Refusal}
@@ -51,28 +45,27 @@ pub use Rattle.number_set.specs.Marks.{HasNoneMarked, IsNextMarked}
 pub use Rattle.object_store.proofs.Journaling.{content_is_page, journal_there, known_page, next_same, page_is, role_is_page}
 pub use Rattle.object_store.specs.Journal.{is_page_role, next_journaled}
 pub use Rattle.object_store.specs.Store.{FrozenFrames, OpensStore, all_frozen, stabilized, whole}
-pub use Rattle.std.proofs.Common.{Bool, Err, IsSome, List, None, Ok, Option, Result, Some, [], ap, arith, cond, false, inl, inr, is_some, length, length-set}
-pub use Rattle.std.proofs.Common.{map, nat_eq, nat_lt, option_map, refl, replicate, rules, set, subst, suc, sym, take, true, true≢false, zero, ℕ}
+pub use Rattle.std.proofs.Common.{Bool, Err, IsSome, List, None, Ok, Option, Result, Some, [], ap, arith, cond, eqb, false, get_or, inl, inr, is_some, length}
+pub use Rattle.std.proofs.Common.{length-set, map, nat_eq, nat_lt, option_map, refl, replicate, rules, set, subst, suc, sym, take, true, true≢false, zero, ℕ}
 pub use Rattle.std.proofs.Math.ListN.{get_or-map}
-pub use Rattle.std.proofs.lemmas.Bool.{cases_eq, cases_lt, eq-eqb, le-ltb, lt-ltb, ne_eqb}
+pub use Rattle.std.proofs.lemmas.Bool.{cases_eq, cases_lt, eq-eqb, eqb-false, eqb-true, ne_eqb}
 pub use Rattle.std.proofs.lemmas.List.{ext_get_or, get_or-replicate, get_or-set_other, get_or-set_same, get_or_append_left, get_or_at, get_or_default}
-pub use Rattle.std.proofs.lemmas.List.{get_or_past, length-append, length-map, length-replicate, map-set, same_lists, set-get_or}
+pub use Rattle.std.proofs.lemmas.List.{get_or_past, length-append, length-map, length-replicate, map-set, same_lists, set-get_or, take_more}
 pub use Rattle.std.proofs.lemmas.List.Elements.{All-contains}
 pub use Rattle.std.proofs.lemmas.List.FromFn.{get_or-map-range_with_len, length-map-range_with_len}
-pub use Rattle.std.proofs.lemmas.List.Sums.{sum_by-cons}
+pub use Rattle.std.proofs.lemmas.List.Sums.{sum_by-cons, sum_by-set}
 pub use Rattle.std.proofs.lemmas.Option.{none-some, same_Some}
-pub use Rattle.std.specs.List.{All, Contains, range_with_len, slice_get}
-pub use Rattle.std.specs.Prelude.{IsErrOf, OnErr, OnOk, count_by, option_copied, slice_index_or}
+pub use Rattle.std.specs.List.{All, Contains, list_any, range_with_len, slice_get}
+pub use Rattle.std.specs.Prelude.{OnErr, OnOk, count_by, slice_index_or}
 pub use Rattle.object_cache.specs.Journaled.{entry_body, held_now}
-pub use Rattle.object_cache.specs.Memory.{Apart, Memory, Nothing, Owed, Shared, apart_body, below_body, content_at, frozen_at, frozen_body, frozen_frame}
-pub use Rattle.object_cache.specs.Memory.{in_staging, is_owing, is_shared, let_go, mark_at, masked, memory_of, newest_body, owed_body, owed_in_memory, owed_of}
-pub use Rattle.object_cache.specs.Memory.{own_body, own_frame, present_at, present_body, put_body}
+pub use Rattle.object_cache.specs.Memory.{Apart, Held, Memory, Nothing, Owed, Shared, apart_body, below_body, content_at, frozen_at, frozen_body, frozen_frame}
+pub use Rattle.object_cache.specs.Memory.{held_behind, in_staging, is_owing, is_shared, let_go, mark_at, masked, memory_of, newest_body, owed_body, owed_by}
+pub use Rattle.object_cache.specs.Memory.{owed_in_memory, owed_of, own_body, own_body_of, own_frame, present_at, present_body, put_body}
 unfoldable pub use Rattle.object_cache.specs.Memory.{contents_in, frozen_in, owed_in}
-pub use Rattle.object_cache.specs.Prepared.{HasSpareBodyIn, IsRecentIn, on_device_with, readied}
-pub use Rattle.object_cache.specs.PresentLaws.{goes_on_same, goes_on_twice}
-pub use Rattle.object_cache.specs.StoreState.{AreFrozen, GoesOnIn, IsAnnouncedIn, IsBounded, IsCache, IsFetchedIn, IsJustOpened, IsMadeOver, IsOpenOver}
-pub use Rattle.object_cache.specs.StoreState.{IsWhole, PutsBy, StoreState, bodies_of, cache_of, cached_at, frozen_seen, is_kept, newly_owed, on_device}
-pub use Rattle.object_cache.specs.StoreState.{on_device_frozen, owed_at, parts_of, pending_count, snapshots_of, view_of, with_cached, with_content_in}
-pub use Rattle.object_cache.specs.StoreState.{without_cached}
+pub use Rattle.object_cache.specs.Prepared.{IsRecentIn, on_device_with, readied}
+pub use Rattle.object_cache.specs.PresentLaws.{continues_same, goes_on_same, goes_on_twice}
+pub use Rattle.object_cache.specs.StoreState.{AreAll, AreFrozen, AreTaken, ContinuesIn, GoesOnIn, HaveRoom, HaveSpace, HoldBodies, IsAnnouncedIn, IsBounded}
+pub use Rattle.object_cache.specs.StoreState.{IsCache, IsFetchedIn, IsJustOpened, IsOpenOver, IsWhole, PutsBy, StoreState, TakenState, all_of, bodies_of}
+pub use Rattle.object_cache.specs.StoreState.{cache_of, cached_at, frozen_seen, is_kept, on_device, on_device_frozen, owed_at, parts_of, pending_count}
+pub use Rattle.object_cache.specs.StoreState.{snapshots_of, view_of, with_cached, with_content_in, without_cached}
 unfoldable pub use Rattle.object_cache.specs.StoreState.{cached_in}
-pub use Rattle.object_cache.specs.declared.held.Held.{Held}

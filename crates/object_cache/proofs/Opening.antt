@@ -1,16 +1,16 @@
 -- A store is made over a device that was opened: all objects are as they are saved.
 use Rattle.object_cache.proofs.Names.{inl, inr, ℕ, Bool, false, true≢false, List, [], length, replicate, Option, None, option_map, refl, sym, ap, subst, arith}
-use Rattle.object_cache.proofs.Names.{get_or-map, cases_lt, ext_get_or, get_or-replicate, get_or_past, length-map, length-replicate, none-some, Cap, Frame}
-use Rattle.object_cache.proofs.Names.{ObjectHeader, Content, blank_frame, frame_at, frames_in, header_at, headers, untouched, role_of, object_count, Image}
-use Rattle.object_cache.proofs.Names.{Disk, Only, OnlyReads, Put, Absent, put_at, put_or, SavedFrames, Holds, OpensDurable, DurableState, FrozenPuts, Stored}
-use Rattle.object_cache.proofs.Names.{below_at, frozen_put, is_sound, stored_of, HaveTheirRoles, frame_in, length_in, OpensStore, Entry, entry_at, buffer_of}
-use Rattle.object_cache.proofs.Names.{Memory, memory_of, mark_at, masked, put_body, newest_body, below_body, present_body, content_at, present_at, frozen_body}
-use Rattle.object_cache.proofs.Names.{frozen_frame, frozen_at, contents_in, frozen_in, StoreState, IsCache, IsFetchedIn, IsJustOpened, IsMadeOver, IsOpenOver}
-use Rattle.object_cache.proofs.Names.{IsWhole, bodies_of, cache_of, frozen_seen, parts_of, cached_at, cached_in, view_of}
-use Rattle.std.proofs.Common.{◌≡◌, ◌<◌, ◌∷◌, ◌∙◌}
+use Rattle.object_cache.proofs.Names.{get_or-map, cases_lt, ext_get_or, get_or_past, length-map, length-replicate, none-some, Cap, Frame, ObjectHeader, Content}
+use Rattle.object_cache.proofs.Names.{blank_frame, frame_at, frames_in, header_at, headers, untouched, role_of, object_count, Image, Disk, Only, OnlyReads, Put}
+use Rattle.object_cache.proofs.Names.{Absent, put_at, put_or, SavedFrames, Holds, OpensDurable, DurableState, FrozenPuts, Stored, below_at, frozen_put}
+use Rattle.object_cache.proofs.Names.{is_sound, stored_of, HaveTheirRoles, OpensStore, Entry, entry_at, Memory, memory_of, mark_at, masked, put_body}
+use Rattle.object_cache.proofs.Names.{newest_body, below_body, present_body, content_at, present_at, frozen_body, frozen_frame, frozen_at, contents_in}
+use Rattle.object_cache.proofs.Names.{frozen_in, StoreState, IsCache, IsJustOpened, IsOpenOver, AreAll, HoldBodies, EntriesState, bodies_of, cache_of}
+use Rattle.object_cache.proofs.Names.{frozen_seen, parts_of, view_of, Some}
+use Rattle.std.proofs.Common.{◌≡◌, ◌∷◌, ◌∙◌}
 use Rattle.model.specs.declared.object.Content.TheVariants as content
 use Rattle.object_cache.proofs.Freezing.{masked_same, none_counted, none_marked, none_put}
-use Rattle.object_cache.proofs.Objects.{content_in, contents_count}
+use Rattle.object_cache.proofs.Objects.{content_in, contents_count, cached_entry}
 
 -- what is held on sectors: each frame has its role, and there is one for each object
 pub held_roles : (size : ℕ) (c : Image) (saved : SavedFrames) → Holds size c saved → HaveTheirRoles saved.frames
@@ -24,24 +24,19 @@ held_roles size c saved holds =
 pub held_count : (size : ℕ) (c : Image) (saved : SavedFrames) → Holds size c saved → length saved.frames ≡ object_count saved.geometry
 held_count size c saved holds = subst (λ (t : SavedFrames). length t.frames ≡ object_count t.geometry) holds.2 holds.1.count
 
-none_entered : (k n : ℕ) → entry_at (replicate k None) n ≡ None
-none_entered k n = elim (cases_lt n k) [
-  | inl lt ↦ get_or-replicate k n None None lt
-  | inr past ↦ get_or_past (replicate k None) n None (let size = length-replicate {A = Option Entry} k None in omega (arith, size, past))
-]
-
 again : (fs : List Frame) → frames_in (headers fs) (bodies_of fs) ≡ fs
 unfolding frames_in
 again [] = refl
 again (f ∷ fs) = ap (λ (gs : List Frame). f ∷ gs) (again fs)
 
--- what is in memory then: headers, and nothing else
-abbrev pub blank_memory : List ObjectHeader → List ObjectHeader → Memory
-blank_memory hs fh = memory_of hs fh (replicate (length hs) false) (replicate (length hs) false) (replicate (length hs) false) (replicate (length hs) None) None
+-- what is in memory then: headers, and entries that hold what is saved
+abbrev pub open_memory : List ObjectHeader → List ObjectHeader → EntriesState → Memory
+open_memory hs fh e = memory_of hs fh (replicate (length hs) false) (replicate (length hs) false) (replicate (length hs) false) e.at None
 
-module _ (s : Stored) (hs fh : List ObjectHeader) (fh_count : length fh ≡ length hs) (is : IsJustOpened s hs) where
+module _ (s : Stored) (hs fh : List ObjectHeader) (fh_count : length fh ≡ length hs) (is : IsJustOpened s hs) (e : EntriesState)
+    (hold : HoldBodies e s.saved.frames) where
   abbrev m : Memory
-  m = blank_memory hs fh
+  m = open_memory hs fh e
 
   each : length hs ≡ length s.saved.frames
   each = ap length is.headers_are ∙ length-map s.saved.frames (λ (f : Frame). f.header)
@@ -56,12 +51,18 @@ module _ (s : Stored) (hs fh : List ObjectHeader) (fh_count : length fh ≡ leng
   header_is n = ap (λ (xs : List ObjectHeader). header_at xs n) is.headers_are ∙ get_or-map (λ (f : Frame). f.header) s.saved.frames n blank_frame
 
   content_is : (n : ℕ) → content_at s m n ≡ (frame_at s.saved.frames n).content
-  content_is n =
-      ap (λ (o : Option Entry). present_body o (header_at hs n).role (newest_body s m n)) (none_entered (length hs) n)
-      ∙ ap (λ (p : Put). masked (header_at hs n).role (put_body p (below_body s m n))) (unput_here n)
-      ∙ ap (λ (f : Frame). masked (header_at hs n).role f.content) (below_is n)
-      ∙ ap (λ (h : ObjectHeader). masked h.role (frame_at s.saved.frames n).content) (header_is n)
-      ∙ masked_same (frame_at s.saved.frames n).header.role (frame_at s.saved.frames n).content (is.roles n)
+  content_is n = go (entry_at e.at n) refl
+    where
+      go : (o : Option Entry) → entry_at e.at n ≡ o → content_at s m n ≡ (frame_at s.saved.frames n).content
+      go None none =
+          ap (λ (o : Option Entry). present_body o (header_at hs n).role (newest_body s m n)) none
+          ∙ ap (λ (p : Put). masked (header_at hs n).role (put_body p (below_body s m n))) (unput_here n)
+          ∙ ap (λ (f : Frame). masked (header_at hs n).role f.content) (below_is n)
+          ∙ ap (λ (h : ObjectHeader). masked h.role (frame_at s.saved.frames n).content) (header_is n)
+          ∙ masked_same (frame_at s.saved.frames n).header.role (frame_at s.saved.frames n).content (is.roles n)
+      go (Some x) some =
+          ap (λ (o : Option Entry). present_body o (header_at hs n).role (newest_body s m n)) some
+          ∙ ap (λ (y : Entry). y.present) (hold.bodies n x some)
 
   present_is : (n : ℕ) → present_at s m n ≡ frame_at s.saved.frames n
   present_is n =
@@ -71,24 +72,27 @@ module _ (s : Stored) (hs fh : List ObjectHeader) (fh_count : length fh ≡ leng
 
   frozen_is : (n : ℕ) → frozen_at s m n ≡ frame_at s.saved.frames n
   frozen_is n =
-      ap (λ (p : Bool). frozen_frame p (header_at fh n) (frozen_body (entry_at m.entries n) (mark_at m.touched n) (below_body s m n)) (below_at s n)) (none_marked (length hs) n)
+      ap (λ (p : Bool). frozen_frame p (header_at fh n) (frozen_body (entry_at m.entries n) (mark_at m.touched n) (below_body s m n)) (below_at s n))
+      (none_marked (length hs) n)
       ∙ below_is n
 
   open_contents : contents_in s m ≡ bodies_of s.saved.frames
-  open_contents = ext_get_or content.Free (contents_in s m) (bodies_of s.saved.frames) (contents_count s m ∙ each ∙ sym (length-map s.saved.frames (λ (f : Frame). f.content)))
-      (λ n lt. content_in s m n (omega (arith, lt, contents_count s m)) ∙ content_is n ∙ sym (get_or-map (λ (f : Frame). f.content) s.saved.frames n blank_frame))
+  open_contents = ext_get_or content.Free (contents_in s m) (bodies_of s.saved.frames)
+      (contents_count s m ∙ each ∙ sym (length-map s.saved.frames (λ (f : Frame). f.content)))
+      (λ n lt. content_in s m n (omega (arith, lt, contents_count s m)) ∙ content_is n ∙
+      sym (get_or-map (λ (f : Frame). f.content) s.saved.frames n blank_frame))
 
   marks_are : length (replicate (length hs) false) ≡ object_count s.saved.geometry
   marks_are = length-replicate {A = Bool} (length hs) false ∙ each ∙ is.frames
 
-  pub open_cache : IsCache s (blank_memory hs fh) 0 0
+  pub open_cache : IsCache s (open_memory hs fh e) 0 0
   open_cache = record {
     headers = each ∙ is.frames;
     frozen_headers = fh_count ∙ each ∙ is.frames;
     marks = marks_are;
     dirty_marks = marks_are;
     pending_marks = marks_are;
-    entries = length-replicate {A = Option Entry} (length hs) None ∙ each ∙ is.frames;
+    entries = hold.each ∙ is.frames;
     frames = is.frames;
     puts = ap length is.working ∙ length-replicate {A = Put} (length s.saved.frames) Absent ∙ is.frames;
     counted = sym (none_counted (length hs));
@@ -101,27 +105,31 @@ module _ (s : Stored) (hs fh : List ObjectHeader) (fh_count : length fh ≡ leng
     running = λ f some. absurd (none-some f (sym is.idle ∙ some));
     keepable = λ f some. absurd (none-some f (sym is.idle ∙ some));
     held = λ h some. absurd (none-some h some);
-    apart = λ n e some. absurd (none-some e (sym (none_entered (length hs) n) ∙ some));
+    apart = λ n x some. inl (ap (λ (y : Entry). y.kept) (hold.bodies n x some));
     freed = λ n gone pending free. absurd (true≢false (sym pending ∙ none_marked (length hs) n));
   }
 
-  pub made_over : {D : Type 0} (disk : D → Disk) (d : DurableState D) (most : ℕ) → stored_of disk d ≡ s → IsMadeOver disk d most (cache_of disk d (blank_memory hs fh) 0 [] most)
-  unfolding untouched cached_in
-  made_over disk d most same = record {
+  pub open_over : {D : Type 0} (disk : D → Disk) (d : DurableState D) → stored_of disk d ≡ s →
+      IsOpenOver (AreAll e) disk d e.most (cache_of disk d (open_memory hs fh e) 0 e.order e.most)
+  unfolding untouched
+  open_over disk d same = record {
     durable = refl;
     headers_are = is.headers_are ∙ ap (λ (t : Stored). headers t.saved.frames) (sym same);
     contents = ap (λ (t : Stored). contents_in t m) same ∙ open_contents ∙ ap (λ (t : Stored). bodies_of t.saved.frames) (sym same);
     touched = ap (λ (k : ℕ). replicate k false) (each ∙ is.frames) ∙ ap (λ (t : Stored). untouched t.saved.geometry) (sym same);
-    idle = ap (λ (t : Stored). frozen_seen t m 0) same ∙ ap (option_map (λ (f : FrozenPuts). record { frames = frozen_in s m; size = f.size; left = 0 })) is.idle;
-    uncached = uncached_here;
-    order = refl;
+    idle = ap (λ (t : Stored). frozen_seen t m 0) same ∙ ap (option_map (λ (f : FrozenPuts). record { frames = frozen_in s m; size = f.size; left = 0 }))
+        is.idle;
+    whole = λ all n within. record {
+      header = within;
+      content = omega (arith, within, contents_count (stored_of disk d) m);
+      cached = cached_entry e.at n ∙ all n (omega (arith, within, each, hold.each));
+    };
     same_most = refl;
-  } where
-    uncached_here : (n : ℕ) → cached_at (cached_in m.entries) n ≡ None
-    uncached_here n = get_or-map (option_map buffer_of) m.entries n None ∙ ap (option_map buffer_of) (none_entered (length hs) n)
+  }
 
 -- what is in a durable store that was opened
-module _ {D : Type 0} (disk : D → Disk) (device : D) (d : DurableState D) (hs : List ObjectHeader) (opened : OpensDurable disk device d) (took : hs ≡ headers (stored_of disk d).saved.frames) where
+module _ {D : Type 0} (disk : D → Disk) (device : D) (d : DurableState D) (hs : List ObjectHeader) (opened : OpensDurable disk device d)
+    (took : hs ≡ headers (stored_of disk d).saved.frames) where
   pub just_opened : IsJustOpened (stored_of disk d) hs
   just_opened = record {
     headers_are = took;
@@ -132,7 +140,7 @@ module _ {D : Type 0} (disk : D → Disk) (device : D) (d : DurableState D) (hs 
   }
 
   -- and in a store that was made over it
-  pub opens_store : (all : Bool) (most : ℕ) (s : StoreState D) → IsOpenOver all disk d most s → OpensStore disk device (parts_of disk s) (view_of disk s)
+  pub opens_store : (all : Type 0) (most : ℕ) (s : StoreState D) → IsOpenOver all disk d most s → OpensStore disk device (parts_of disk s) (view_of disk s)
   opens_store all most s over =
       let same : stored_of disk s.durable ≡ stored_of disk d = ap (stored_of disk) over.durable in record {
         sound = subst (λ (x : DurableState D). is_sound disk x) (sym over.durable) opened.sound;

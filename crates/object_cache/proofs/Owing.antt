@@ -1,12 +1,13 @@
 -- What entries owe, and which numbers have one, by what is seen.
 use Rattle.object_cache.proofs.Names.{inl, inr, ℕ, zero, suc, Bool, true, false, true≢false, List, [], length, set, take, Option, Some, None, IsSome, is_some}
-use Rattle.object_cache.proofs.Names.{option_map, refl, sym, ap, subst, arith, length-set, slice_get, get_or_past, get_or-set_same, get_or-set_other}
-use Rattle.object_cache.proofs.Names.{length-map-range_with_len, cases_eq, cases_lt, none-some, Cap, Content, is_member, Disk, DurableState, stored_of, Entry}
-use Rattle.object_cache.proofs.Names.{entry_at, buffer_of, Memory, Owed, Nothing, Shared, Apart, mark_at, is_owing, is_shared, owed_of, content_at, contents_in}
-use Rattle.object_cache.proofs.Names.{AreOrdered, used_longest_ago, without, StoreState, IsCache, IsFetchedIn, cache_of, owed_at, cached_at, some_within}
-use Rattle.object_cache.proofs.Names.{length_without, listed_member, front_stays, front_apart}
+use Rattle.object_cache.proofs.Names.{option_map, refl, sym, ap, arith, length-set, slice_get, get_or_past, get_or-set_same, get_or-set_other}
+use Rattle.object_cache.proofs.Names.{length-map-range_with_len, cases_eq, cases_lt, none-some, same_Some, Cap, Content, is_member, Disk, DurableState}
+use Rattle.object_cache.proofs.Names.{stored_of, Entry, entry_at, kept_of, owed_by, Memory, Owed, Nothing, Shared, Apart, mark_at, is_owing, is_shared, owed_of}
+use Rattle.object_cache.proofs.Names.{content_at, contents_in, AreOrdered, used_longest_ago, without, StoreState, IsCache, IsFetchedIn, cache_of, owed_at}
+use Rattle.object_cache.proofs.Names.{cached_at}
 use Rattle.std.proofs.Common.{◌≡◌, ◌≢◌, ◌-◌, ◌<◌, ◌≤◌, ◌∷◌, ◌∙◌}
-use Rattle.object_cache.proofs.Objects.{frame_slot_in}
+use Rattle.object_cache.proofs.Recent.{length_without, listed_member, front_stays, front_apart}
+use Rattle.object_cache.proofs.Objects.{cached_entry}
 use Rattle.object_cache.proofs.Caching.{owed_entry}
 
 pub owing_yes : (o : Owed) (b : Bool) → b ≡ is_owing o → b ≡ true → o ≢ Nothing
@@ -31,28 +32,21 @@ nothing_apart o none same = nothing_shared (sym none ∙ same)
     nothing_shared : Nothing ≡ Shared → ⊥
     nothing_shared x = cc
 
-pub cached_gone : (ss : List (Option (Content Cap))) (n : ℕ) → cached_at (set ss n None) n ≡ None
+pub cached_gone : (ss : List Bool) (n : ℕ) → cached_at (set ss n false) n ≡ false
 cached_gone ss n = elim (cases_lt n (length ss)) [
-  | inl within ↦ get_or-set_same ss n None None within
-  | inr past ↦ get_or_past (set ss n None) n None (let size = length-set ss n None in omega (arith, size, past))
+  | inl within ↦ get_or-set_same ss n false false within
+  | inr past ↦ get_or_past (set ss n false) n false (let size = length-set ss n false in omega (arith, size, past))
 ]
 
-pub still_uncached : (ss : List (Option (Content Cap))) (n k : ℕ) → cached_at ss k ≡ None → cached_at (set ss n None) k ≡ None
+pub still_uncached : (ss : List Bool) (n k : ℕ) → cached_at ss k ≡ false → cached_at (set ss n false) k ≡ false
 still_uncached ss n k none = elim (cases_eq k n) [
-  | inl same ↦ ap (cached_at (set ss n None)) same ∙ cached_gone ss n
-  | inr other ↦ get_or-set_other ss n k None None other ∙ none
+  | inl same ↦ ap (cached_at (set ss n false)) same ∙ cached_gone ss n
+  | inr other ↦ get_or-set_other ss n k false false other ∙ none
 ]
 
-pub none_there : (o : Option Entry) → IsSome o → o ≡ None → ⊥
-none_there o some none = true≢false (sym some ∙ ap is_some none)
-
-no_cached : (o : Option Entry) → is_some o ≡ false → option_map buffer_of o ≡ None
-no_cached None is = refl
-no_cached (Some e) is = absurd (true≢false is)
-
-has_cached : (o : Option Entry) → IsSome o → IsSome (option_map buffer_of o)
-has_cached None is = is
-has_cached (Some e) is = refl
+pub same_some : {A B : Type 0} (f : A → B) (o : Option A) → is_some (option_map f o) ≡ is_some o
+same_some f None = refl
+same_some f (Some a) = refl
 
 module _ {D : Type 0} (disk : D → Disk) (d : DurableState D) (m : Memory) (left count : ℕ) (order : List ℕ) (most_entries : ℕ) (s : StoreState D)
     (view : cache_of disk d m left order most_entries ≡ s) (is : IsCache (stored_of disk d) m left count) (n : ℕ) where
@@ -63,15 +57,28 @@ module _ {D : Type 0} (disk : D → Disk) (d : DurableState D) (m : Memory) (lef
     owed_is : owed_of (entry_at m.entries n) (mark_at m.pending n) (mark_at m.touched n) ≡ owed_at s.owed n
     owed_is = sym (owed_entry m n known_there) ∙ ap (λ (t : StoreState D). owed_at t.owed n) view
 
-    pub owed_by : (e : Entry) → Some e ≡ entry_at m.entries n → (p t : Bool) → p ≡ mark_at m.pending n → t ≡ mark_at m.touched n → owed_of (Some e) p t ≡ owed_at s.owed n
-    owed_by e at p t p_is t_is =
-        ap (λ (x : Bool). owed_of (Some e) x t) p_is
-        ∙ ap (λ (x : Bool). owed_of (Some e) (mark_at m.pending n) x) t_is
-        ∙ ap (λ (o : Option Entry). owed_of o (mark_at m.pending n) (mark_at m.touched n)) at
+    -- by whether its entry keeps a body apart
+    pub owed_with : (k : Option (Content Cap)) → option_map kept_of (entry_at m.entries n) ≡ Some k → (p b t : Bool) → p ≡ mark_at m.pending n → b ≡ is_some k →
+        t ≡ mark_at m.touched n →
+        owed_by p b t ≡ owed_at s.owed n
+    owed_with k kept p b t p_is b_is t_is =
+        ap (λ (x : Bool). owed_by x b t) p_is
+        ∙ ap (λ (x : Bool). owed_by (mark_at m.pending n) x t) b_is
+        ∙ ap (λ (x : Bool). owed_by (mark_at m.pending n) (is_some k) x) t_is
+        ∙ go (entry_at m.entries n) kept
         ∙ owed_is
+      where
+        go : (o : Option Entry) → option_map kept_of o ≡ Some k → owed_by (mark_at m.pending n) (is_some k) (mark_at m.touched n) ≡ owed_of o
+            (mark_at m.pending n) (mark_at m.touched n)
+        go None is = absurd (none-some k is)
+        go (Some e) is = ap (λ (x : Option (Content Cap)). owed_by (mark_at m.pending n) (is_some x) (mark_at m.touched n)) (sym (same_Some e.kept k is))
 
-    pub owed_without : None ≡ entry_at m.entries n → owed_at s.owed n ≡ Nothing
-    owed_without at = sym owed_is ∙ ap (λ (o : Option Entry). owed_of o (mark_at m.pending n) (mark_at m.touched n)) (sym at)
+    pub owed_without : is_some (entry_at m.entries n) ≡ false → owed_at s.owed n ≡ Nothing
+    owed_without none = sym owed_is ∙ go (entry_at m.entries n) none
+      where
+        go : (o : Option Entry) → is_some o ≡ false → owed_of o (mark_at m.pending n) (mark_at m.touched n) ≡ Nothing
+        go None is = refl
+        go (Some e) is = absurd (true≢false is)
 
     contents_count : length (contents_in (stored_of disk d) m) ≡ length m.headers
     unfolding contents_in
@@ -81,11 +88,17 @@ module _ {D : Type 0} (disk : D → Disk) (d : DurableState D) (m : Memory) (lef
     fetched_by some = record {
       header = known;
       content = omega (arith, known_there, contents_count, ap (λ (t : StoreState D). length t.contents) view);
-      cached = subst (λ (t : StoreState D). IsSome (cached_at t.cached n)) view (subst IsSome (sym (frame_slot_in m.entries n)) (has_cached (entry_at m.entries n) some));
+      cached = ap (λ (t : StoreState D). cached_at t.cached n) (sym view) ∙ cached_entry m.entries n ∙ some;
     }
 
-  pub uncached_by : is_some (entry_at m.entries n) ≡ false → cached_at s.cached n ≡ None
-  uncached_by none = ap (λ (t : StoreState D). cached_at t.cached n) (sym view) ∙ frame_slot_in m.entries n ∙ no_cached (entry_at m.entries n) none
+  pub uncached_by : is_some (entry_at m.entries n) ≡ false → cached_at s.cached n ≡ false
+  uncached_by none = ap (λ (t : StoreState D). cached_at t.cached n) (sym view) ∙ cached_entry m.entries n ∙ none
+
+some_within : (es : List (Option Entry)) (n : ℕ) → IsSome (entry_at es n) → n < length es
+some_within es n is = elim (cases_lt n (length es)) [
+  | inl within ↦ within
+  | inr past ↦ absurd (true≢false (sym (sym (ap is_some (get_or_past es n None past)) ∙ is)))
+]
 
 -- the entry that was used longest ago
 module _ {D : Type 0} (disk : D → Disk) (d : DurableState D) (m : Memory) (left count : ℕ) (order : List ℕ) (most_entries : ℕ) (s : StoreState D)
@@ -119,7 +132,13 @@ module _ {D : Type 0} (disk : D → Disk) (d : DurableState D) (m : Memory) (lef
     seen = ap (λ (t : StoreState D). t.order) (sym view)
 
     pub least_room : length (without n s.order) < s.most
-    least_room = omega (arith, ap (λ (ns : List ℕ). length (without n ns)) seen, length_without n order listed, ordered.few, ap (λ (t : StoreState D). t.most) view)
+    least_room = omega (
+      arith,
+      ap (λ (ns : List ℕ). length (without n ns)) seen,
+      length_without n order listed,
+      ordered.few,
+      ap (λ (t : StoreState D). t.most) view,
+    )
 
     pub least_order : take 7 (without n s.order) ≡ take 7 s.order
     least_order =
@@ -127,6 +146,7 @@ module _ {D : Type 0} (disk : D → Disk) (d : DurableState D) (m : Memory) (lef
         ∙ front_stays n order (length order - 1) 7 (omega (arith, long)) ordered.once (sym at) (omega (arith, long))
         ∙ ap (take 7) (sym seen)
 
-    pub least_others : (k : ℕ) → is_member (take 7 s.order) k ≡ true → cached_at (set s.cached n None) k ≡ cached_at s.cached k
-    least_others k recent = get_or-set_other s.cached n k None None
-        (front_apart n order (length order - 1) 7 k (omega (arith, long)) ordered.once (sym at) (omega (arith, long)) (ap (λ (ns : List ℕ). is_member (take 7 ns) k) (sym seen) ∙ recent))
+    pub least_others : (k : ℕ) → is_member (take 7 s.order) k ≡ true → cached_at (set s.cached n false) k ≡ cached_at s.cached k
+    least_others k recent = get_or-set_other s.cached n k false false
+        (front_apart n order (length order - 1) 7 k (omega (arith, long)) ordered.once (sym at) (omega (arith, long))
+        (ap (λ (ns : List ℕ). is_member (take 7 ns) k) (sym seen) ∙ recent))

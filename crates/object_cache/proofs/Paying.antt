@@ -37,19 +37,25 @@ module _ {D : Type 0} where
       (unput : OnErr r (t ≡ record s { durable = t.durable })) where
     pub paid : OnOk r (owed_at t.owed n ≡ Nothing)
     paid = go r put where
-      go : (x : Result T E) → OnOk x (t ≡ record s { durable = t.durable; pending = set s.pending n false; owed = set s.owed n Nothing; staging = let_go n s.staging }) → OnOk x (owed_at t.owed n ≡ Nothing)
+      go : (x : Result T E) →
+          OnOk x (t ≡ record s { durable = t.durable; pending = set s.pending n false; owed = set s.owed n Nothing; staging = let_go n s.staging }) →
+          OnOk x (owed_at t.owed n ≡ Nothing)
       go (Ok x) is = ap (λ (c : StoreState D). owed_at c.owed n) is ∙ owed_paid s.owed n
       go (Err e) is = tt
 
     pub paid_put : t ≡ on_device s t
     paid_put = go r put unput where
-      go : (x : Result T E) → OnOk x (t ≡ record s { durable = t.durable; pending = set s.pending n false; owed = set s.owed n Nothing; staging = let_go n s.staging }) → OnErr x (t ≡ record s { durable = t.durable }) → t ≡ on_device s t
+      go : (x : Result T E) →
+          OnOk x (t ≡ record s { durable = t.durable; pending = set s.pending n false; owed = set s.owed n Nothing; staging = let_go n s.staging }) →
+          OnErr x (t ≡ record s { durable = t.durable }) → t ≡ on_device s t
       go (Ok x) is none = same_put s t s.dirty (set s.pending n false) (set s.owed n Nothing) (let_go n s.staging) is
       go (Err e) none is = same_put s t s.dirty s.pending s.owed s.staging is
 
     pub paid_empty : s.staging ≡ None → t.staging ≡ None
     paid_empty empty = go r put unput where
-      go : (x : Result T E) → OnOk x (t ≡ record s { durable = t.durable; pending = set s.pending n false; owed = set s.owed n Nothing; staging = let_go n s.staging }) → OnErr x (t ≡ record s { durable = t.durable }) → t.staging ≡ None
+      go : (x : Result T E) →
+          OnOk x (t ≡ record s { durable = t.durable; pending = set s.pending n false; owed = set s.owed n Nothing; staging = let_go n s.staging }) →
+          OnErr x (t ≡ record s { durable = t.durable }) → t.staging ≡ None
       go (Ok x) is none = ap (λ (c : StoreState D). c.staging) is ∙ ap (let_go n) empty
       go (Err e) none is = ap (λ (c : StoreState D). c.staging) is ∙ empty
 
@@ -65,22 +71,30 @@ module _ {D : Type 0} where
 
     pub written_same : (t.owed ≡ s.owed) × (t.staging ≡ s.staging) × (t ≡ on_device s t)
     written_same = go r put unput where
-      go : (x : Result T E) → OnOk x (t ≡ record s { durable = t.durable; dirty = set s.dirty n false }) → OnErr x (t ≡ record s { durable = t.durable }) → (t.owed ≡ s.owed) × (t.staging ≡ s.staging) × (t ≡ on_device s t)
-      go (Ok x) is none = (ap (λ (c : StoreState D). c.owed) is, ap (λ (c : StoreState D). c.staging) is, same_put s t (set s.dirty n false) s.pending s.owed s.staging is)
+      go : (x : Result T E) → OnOk x (t ≡ record s { durable = t.durable; dirty = set s.dirty n false }) → OnErr x (t ≡ record s { durable = t.durable }) →
+          (t.owed ≡ s.owed) × (t.staging ≡ s.staging) × (t ≡ on_device s t)
+      go (Ok x) is none = (
+        ap (λ (c : StoreState D). c.owed) is,
+        ap (λ (c : StoreState D). c.staging) is,
+        same_put s t (set s.dirty n false) s.pending s.owed s.staging is,
+      )
       go (Err e) none is = (ap (λ (c : StoreState D). c.owed) is, ap (λ (c : StoreState D). c.staging) is, same_put s t s.dirty s.pending s.owed s.staging is)
 
   -- what it is after the device was written to
   pub fetched_on : (s t : StoreState D) (n : ℕ) → t ≡ on_device s t → IsFetchedIn s n → IsFetchedIn t n
-  fetched_on s t n is there = subst (λ (c : StoreState D). IsFetchedIn c n) (sym is) (record { header = there.header; content = there.content; cached = there.cached })
+  fetched_on s t n is there = subst (λ (c : StoreState D). IsFetchedIn c n) (sym is)
+      (record { header = there.header; content = there.content; cached = there.cached })
 
   -- and once it is dropped
-  pub away_on : (s t u : StoreState D) (n : ℕ) → t ≡ on_device s t → u ≡ record t { cached = set t.cached n None; order = without n t.order } → u ≡ without_cached n (on_device s u)
+  pub away_on : (s t u : StoreState D) (n : ℕ) → t ≡ on_device s t → u ≡ record t { cached = set t.cached n false; order = without n t.order } →
+      u ≡ without_cached n (on_device s u)
   away_on s t u n put is =
-      is ∙ ap (λ (c : StoreState D). record c { cached = set c.cached n None; order = without n c.order }) put
+      is ∙ ap (λ (c : StoreState D). record c { cached = set c.cached n false; order = without n c.order }) put
       ∙ ap (λ (c : StoreState D). without_cached n (on_device s c)) (sym is)
 
   -- of what else is in memory entries and their order alone are others
-  pub away_rest : {T E : Type 0} (r : Result T E) (s u : StoreState D) (n : ℕ) → OnOk r (u ≡ without_cached n (on_device s u)) → OnErr r (u ≡ on_device s u) → u ≡ record (on_device s u) { cached = u.cached; order = u.order }
+  pub away_rest : {T E : Type 0} (r : Result T E) (s u : StoreState D) (n : ℕ) → OnOk r (u ≡ without_cached n (on_device s u)) → OnErr r (u ≡ on_device s u) →
+      u ≡ record (on_device s u) { cached = u.cached; order = u.order }
   away_rest (Ok x) s u n away stays = away ∙ ap (λ (c : StoreState D). record (on_device s u) { cached = c.cached; order = c.order }) (sym away)
   away_rest (Err e) s u n away stays = stays ∙ ap (λ (c : StoreState D). record (on_device s u) { cached = c.cached; order = c.order }) (sym stays)
 
@@ -89,11 +103,14 @@ module _ {D : Type 0} (disk : D → Disk) where
       → IsKeepable (stored_of disk s.durable).saved.geometry most n (record { header = header_at s.headers n; content = held_at s.contents n })
       → IsKeepable (stored_of disk t.durable).saved.geometry most n (record { header = header_at t.headers n; content = held_at t.contents n })
   keepable_on s t n put continues keepable =
-      subst (λ (c : StoreState D). IsKeepable (stored_of disk t.durable).saved.geometry most n (record { header = header_at c.headers n; content = held_at c.contents n })) (sym put)
-      (subst (λ g. IsKeepable g most n (record { header = header_at s.headers n; content = held_at s.contents n })) (sym (geometry_stays disk s t continues)) keepable)
+      subst (λ (c : StoreState D). IsKeepable (stored_of disk t.durable).saved.geometry most n
+      (record { header = header_at c.headers n; content = held_at c.contents n })) (sym put)
+      (subst (λ g. IsKeepable g most n (record { header = header_at s.headers n; content = held_at s.contents n })) (sym (geometry_stays disk s t continues))
+      keepable)
 
   pub masked_on : (s t : StoreState D) (n : ℕ) → t ≡ on_device s t
       → IsKeepable (stored_of disk s.durable).saved.geometry most n (record { header = header_at s.headers n; content = held_at s.contents n })
       → masked (header_at t.headers n).role (held_at t.contents n) ≡ held_at t.contents n
   masked_on s t n put keepable =
-      subst (λ (c : StoreState D). masked (header_at c.headers n).role (held_at c.contents n) ≡ held_at c.contents n) (sym put) (masked_same (header_at s.headers n).role (held_at s.contents n) keepable.kept.role)
+      subst (λ (c : StoreState D). masked (header_at c.headers n).role (held_at c.contents n) ≡ held_at c.contents n) (sym put)
+      (masked_same (header_at s.headers n).role (held_at s.contents n) keepable.kept.role)

@@ -1,6 +1,6 @@
 -- The parts of preparing, one after the other.
 use Rattle.object_cache.proofs.Names.{inl, inr, ℕ, Bool, List, Result, Ok, Err, sym, ap, subst, arith, OnOk, OnErr, slice_index_or, cases_lt, touched_count}
-use Rattle.object_cache.proofs.Names.{Disk, Image, stored_of, StoreState, GoesOnIn, on_device_with, readied, goes_on_same}
+use Rattle.object_cache.proofs.Names.{Disk, Image, stored_of, StoreState, GoesOnIn, IsFetchedIn, on_device_with, readied, goes_on_same}
 use Rattle.std.proofs.Common.{◌≡◌, ◌∙◌, ◌+◌, ◌<◌, ◌≤◌}
 use Rattle.object_cache.proofs.Leading.{geometry_stays, continues_cached}
 
@@ -18,11 +18,15 @@ module _ {D : Type 0} where
   rest_alone s t is = is ∙ ap (λ (x : StoreState D). record (on_device_with s t) { touched = x.touched }) (sym is)
 
   -- what is to be marked was made ready
-  pub rest_ready : (s t : StoreState D) → t ≡ record s { owed = t.owed; cached = t.cached } → t ≡ readied s t
+  pub rest_ready : (s t : StoreState D) → t ≡ record s { owed = t.owed } → t ≡ readied s t
   rest_ready s t is = is ∙ ap (λ (x : StoreState D). record (readied s t) { touched = x.touched; dirty = x.dirty }) (sym is)
 
+  pub fetched_ready : (s t : StoreState D) → t ≡ record s { owed = t.owed } → (n : ℕ) → IsFetchedIn s n → IsFetchedIn t n
+  fetched_ready s t is n there = subst (λ (x : StoreState D). IsFetchedIn x n) (sym is)
+      (record { header = there.header; content = there.content; cached = there.cached })
+
   -- and was marked, or not
-  pub rest_marked : {T E : Type 0} (r : Result T E) (s t u : StoreState D) (ts ds : List Bool) → t ≡ record s { owed = t.owed; cached = t.cached }
+  pub rest_marked : {T E : Type 0} (r : Result T E) (s t u : StoreState D) (ts ds : List Bool) → t ≡ record s { owed = t.owed }
       → OnOk r (u ≡ record t { touched = ts; dirty = ds }) → OnErr r (u ≡ t) → u ≡ readied s u
   rest_marked (Ok x) s t u ts ds first is none =
       is ∙ ap (λ (x : StoreState D). record x { touched = ts; dirty = ds }) first
@@ -34,9 +38,6 @@ module _ {D : Type 0} where
   rest_on_ready s t u first is =
       is ∙ ap (λ (x : StoreState D). readied x u) first
       ∙ ap (λ (x : StoreState D). record (on_device_with s x) { touched = u.touched }) (sym is)
-
-  pub cached_on : (s t u : StoreState D) → t ≡ record s { cached = t.cached } → u ≡ record t { cached = u.cached } → u ≡ record s { cached = u.cached }
-  cached_on s t u first is = is ∙ ap (λ (x : StoreState D). record x { cached = u.cached }) first
 
   pub owed_on : (s t u : StoreState D) → t ≡ record s { owed = t.owed } → u ≡ record t { owed = u.owed } → u ≡ record s { owed = u.owed }
   owed_on s t u first is = is ∙ ap (λ (x : StoreState D). record x { owed = u.owed }) first
@@ -52,9 +53,6 @@ module _ {D : Type 0} (disk : D → Disk) where
       subst (λ (x : StoreState D). touched_count x.touched ≤ (stored_of disk t.durable).saved.geometry.log) (sym is)
       (subst (λ g. touched_count s.touched ≤ g.log) (sym (geometry_stays disk s t continues)) within)
 
-  pub within_ready : (s t : StoreState D) → t ≡ record s { owed = t.owed; cached = t.cached }
-      → touched_count s.touched ≤ (stored_of disk s.durable).saved.geometry.log → touched_count t.touched ≤ (stored_of disk t.durable).saved.geometry.log
-  within_ready s t is within = subst (λ (x : StoreState D). touched_count x.touched ≤ (stored_of disk x.durable).saved.geometry.log) (sym is) within
-
-  pub continues_ready : ((d : D) (c : Image) → (disk d).left_since (disk d).moment c → (disk d).may_leave c) → (s t : StoreState D) → t ≡ record s { owed = t.owed; cached = t.cached } → GoesOnIn disk s t
-  continues_ready only_now s t is = subst (GoesOnIn disk s) (sym is) (continues_cached disk s s t.cached t.owed s.order (goes_on_same disk only_now s))
+  pub continues_ready : ((d : D) (c : Image) → (disk d).left_since (disk d).moment c → (disk d).may_leave c) → (s t : StoreState D) →
+      t ≡ record s { owed = t.owed } → GoesOnIn disk s t
+  continues_ready only_now s t is = subst (GoesOnIn disk s) (sym is) (continues_cached disk s s s.cached t.owed s.order (goes_on_same disk only_now s))

@@ -1,44 +1,94 @@
--- What is fetched and announced stays so while present objects change.
-use Rattle.object_cache.proofs.Names.{inl, inr, ℕ, List, length, set, Option, Some, None, is_some, refl, sym, ap, arith, length-set, cases_eq, get_or-set_same}
-use Rattle.object_cache.proofs.Names.{get_or-set_other, Cap, ObjectHeader, Content, blank_header, header_at, void_held, role_of, Image, Disk, peeks_started}
-use Rattle.object_cache.proofs.Names.{goes_none, Fresh, fresh_content, StoreState, IsFetchedIn, IsAnnouncedIn, GoesOnIn}
-use Rattle.std.proofs.Common.{◌≡◌, ◌≢◌, ◌<◌, ◌∙◌}
-use Rattle.model.specs.declared.object.Role.TheVariants as role
-use Rattle.capability.specs.declared.present.Fresh.TheVariants as fresh
-use Rattle.object_cache.proofs.Bringing.{still_cached}
+-- An edit of present objects, by what is seen of a store.
+use Rattle.object_cache.proofs.Names.{ℕ, List, length, length-set, refl, set, sym, subst, arith, Cap, ObjectHeader, Content, Bool, Becomes, Image, Disk}
+use Rattle.object_cache.proofs.Names.{StoreState, IsAnnouncedIn, IsFetchedIn, IsWhole, parts_of, header_at, held_at, ContinuesIn, continues_same}
+use Rattle.std.proofs.Common.{◌≡◌}
 
--- a new object isn't free
-pub fresh_used : (f : Fresh) → role_of (fresh_content void_held f) ≢ role.Free
-fresh_used fresh.Page is = cc
-fresh_used fresh.Node is = cc
-fresh_used (fresh.Root annex) is = cc
-fresh_used fresh.Annex is = cc
-fresh_used (fresh.Bank limit) is = cc
+module _ {D : Type 0} (hs : StoreState D → List ObjectHeader) (cs : StoreState D → List (Content Cap))
+    (header_count : (s : StoreState D) → length (hs s) ≡ length s.headers) (content_count : (s : StoreState D) → length (cs s) ≡ length s.contents) where
+  abbrev edited : StoreState D → StoreState D
+  edited s = record s { headers = hs s; contents = cs s }
 
-module _ {D : Type 0} where
-  -- a new object
-  pub fetched_claim : (s : StoreState D) (n : ℕ) (h : ObjectHeader) (c r : Content Cap) (m : ℕ) → IsFetchedIn s m →
-      IsFetchedIn (record s { headers = set s.headers n h; contents = set s.contents n c; cached = set s.cached n (Some r) }) m
-  fetched_claim s n h c r m there = record {
-    header = omega (arith, there.header, length-set s.headers n h);
-    content = omega (arith, there.content, length-set s.contents n c);
-    cached = still_cached s.cached n m r there.cached;
+  fetched_after : (s : StoreState D) (n : ℕ) → IsFetchedIn s n → IsFetchedIn (edited s) n
+  fetched_after s n there = record {
+    header = omega (arith, there.header, header_count s);
+    content = omega (arith, there.content, content_count s);
+    cached = there.cached;
   }
 
-module _ {D : Type 0} (disk : D → Disk) where
-  pub announced_claim : (s : StoreState D) (n : ℕ) (h : ObjectHeader) (c r : Content Cap) → h.role ≢ role.Free → (m : ℕ) → IsAnnouncedIn disk s m →
-      IsAnnouncedIn disk (record s { headers = set s.headers n h; contents = set s.contents n c; cached = set s.cached n (Some r) }) m
-  announced_claim s n h c r used m there = record {
-    header = omega (arith, there.header, length-set s.headers n h);
-    content = omega (arith, there.content, length-set s.contents n c);
+  announced_after : (s : StoreState D) (n : ℕ) → IsAnnouncedIn s n → IsAnnouncedIn (edited s) n
+  announced_after s n there = record {
+    header = omega (arith, there.header, header_count s);
+    content = omega (arith, there.content, content_count s);
     dirty = there.dirty;
-    room = elim (cases_eq m n) [
-      | inl here ↦ (λ free some. absurd (used (
-          sym (ap (λ (x : ObjectHeader). x.role) (get_or-set_same s.headers m h blank_header there.header))
-          ∙ ap (λ (k : ℕ). (header_at (set s.headers k h) m).role) here
-          ∙ free)))
-      | inr other ↦
-          let stays = get_or-set_other s.cached n m (Some r) None other in
-          (λ free some. stays ∙ there.room (sym (ap (λ (x : ObjectHeader). x.role) (get_or-set_other s.headers n m h blank_header other)) ∙ free) (sym (ap is_some stays) ∙ some))
-    ];
   }
+
+  whole_after : (s t : StoreState D) → t ≡ record s { headers = hs s; contents = cs s } → IsWhole s → IsWhole t
+  whole_after s t is whole = subst (λ (x : StoreState D). IsWhole x) (sym is) (λ n within. fetched_after s n (whole n (omega (arith, within, header_count s))))
+
+  module _ (all : Bool) (disk : D → Disk) (only_now : (d : D) (c : Image) → (disk d).left_since (disk d).moment c → (disk d).may_leave c) where
+    continues_after : (s : StoreState D) → ContinuesIn all disk s (edited s)
+    continues_after s = let same = continues_same disk all only_now s in record {
+      goes_on = record {
+        goes_on = same.goes_on.goes_on;
+        snapshots = same.goes_on.snapshots;
+        later = same.goes_on.later;
+        grows = same.goes_on.grows;
+        most = same.goes_on.most;
+        only_reads = same.goes_on.only_reads;
+      };
+      still = same.still;
+    }
+
+    becomes : (i s t : StoreState D) → i ≡ s → t ≡ record i { headers = hs i; contents = cs i } →
+        Becomes (parts_of disk) IsFetchedIn IsAnnouncedIn (ContinuesIn all disk) s t (record (parts_of disk s) { headers = hs s; contents = cs s })
+    becomes i s t view is =
+        subst (λ (x : StoreState D). Becomes (parts_of disk) IsFetchedIn IsAnnouncedIn (ContinuesIn all disk) x t
+        (record (parts_of disk x) { headers = hs x; contents = cs x })) view
+        (subst (λ (x : StoreState D). Becomes (parts_of disk) IsFetchedIn IsAnnouncedIn (ContinuesIn all disk) i x
+        (record (parts_of disk i) { headers = hs i; contents = cs i })) (sym is) (record {
+          parts_are = refl;
+          fetched = fetched_after i;
+          announced = announced_after i;
+          continues = continues_after i;
+        }))
+
+module _ {D : Type 0} (n : ℕ) (i s t : StoreState D) (view : i ≡ s) where
+  -- another content
+  module _ (f : Content Cap → Content Cap) (is : t ≡ record i { contents = set i.contents n (f (held_at i.contents n)) }) where
+    pub whole_held : IsWhole i → IsWhole t
+    whole_held = whole_after (λ x. x.headers) (λ x. set x.contents n (f (held_at x.contents n))) (λ x. refl)
+        (λ x. length-set x.contents n (f (held_at x.contents n))) i t is
+
+    pub becomes_held : (all : Bool) (disk : D → Disk) → ((d : D) (c : Image) → (disk d).left_since (disk d).moment c → (disk d).may_leave c) →
+        Becomes (parts_of disk) IsFetchedIn IsAnnouncedIn (ContinuesIn all disk) s t
+        (record (parts_of disk s) { contents = set s.contents n (f (held_at s.contents n)) })
+    becomes_held all disk only_now =
+        becomes (λ x. x.headers) (λ x. set x.contents n (f (held_at x.contents n))) (λ x. refl) (λ x. length-set x.contents n (f (held_at x.contents n))) all
+        disk only_now i s t view is
+
+  -- another header
+  module _ (h : ObjectHeader → ObjectHeader) (is : t ≡ record i { headers = set i.headers n (h (header_at i.headers n)) }) where
+    pub whole_header : IsWhole i → IsWhole t
+    whole_header = whole_after (λ x. set x.headers n (h (header_at x.headers n))) (λ x. x.contents) (λ x. length-set x.headers n (h (header_at x.headers n)))
+        (λ x. refl) i t is
+
+    pub becomes_header : (all : Bool) (disk : D → Disk) → ((d : D) (c : Image) → (disk d).left_since (disk d).moment c → (disk d).may_leave c) →
+        Becomes (parts_of disk) IsFetchedIn IsAnnouncedIn (ContinuesIn all disk) s t
+        (record (parts_of disk s) { headers = set s.headers n (h (header_at s.headers n)) })
+    becomes_header all disk only_now =
+        becomes (λ x. set x.headers n (h (header_at x.headers n))) (λ x. x.contents) (λ x. length-set x.headers n (h (header_at x.headers n))) (λ x. refl) all
+        disk only_now i s t view is
+
+  -- both
+  module _ (h : ObjectHeader → ObjectHeader) (c : Content Cap)
+      (is : t ≡ record i { headers = set i.headers n (h (header_at i.headers n)); contents = set i.contents n c }) where
+    pub whole_both : IsWhole i → IsWhole t
+    whole_both = whole_after (λ x. set x.headers n (h (header_at x.headers n))) (λ x. set x.contents n c)
+        (λ x. length-set x.headers n (h (header_at x.headers n))) (λ x. length-set x.contents n c) i t is
+
+    pub becomes_both : (all : Bool) (disk : D → Disk) → ((d : D) (c : Image) → (disk d).left_since (disk d).moment c → (disk d).may_leave c) →
+        Becomes (parts_of disk) IsFetchedIn IsAnnouncedIn (ContinuesIn all disk) s t
+        (record (parts_of disk s) { headers = set s.headers n (h (header_at s.headers n)); contents = set s.contents n c })
+    becomes_both all disk only_now =
+        becomes (λ x. set x.headers n (h (header_at x.headers n))) (λ x. set x.contents n c) (λ x. length-set x.headers n (h (header_at x.headers n)))
+        (λ x. length-set x.contents n c) all disk only_now i s t view is

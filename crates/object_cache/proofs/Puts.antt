@@ -4,14 +4,15 @@ use Rattle.object_cache.proofs.Names.{ap, subst, arith, length-set, cases_eq, ge
 use Rattle.object_cache.proofs.Names.{Frame, ObjectHeader, Content, header_at, held_at, IsKeepable, touched_count, Disk, Put, Absent, Broken, Kept, put_at}
 use Rattle.object_cache.proofs.Names.{held_slot, sum_of, HasFreeSlot, most, DurableState, Stored, GoesOn, stored_of, with_working, maps_same, Entry, entry_at}
 use Rattle.object_cache.proofs.Names.{present_of, Memory, mark_at, put_body, present_body, content_at, present_at, newest_body, below_body, contents_in}
-use Rattle.object_cache.proofs.Names.{frozen_in, owed_in, StoreState, IsCache, IsFetchedIn, GoesOnIn, cache_of, is_kept, frozen_seen, some_of}
+use Rattle.object_cache.proofs.Names.{frozen_in, owed_in, StoreState, IsCache, IsFetchedIn, GoesOnIn, cache_of, is_kept, frozen_seen}
 use Rattle.std.proofs.Common.{◌≡◌, ◌≢◌, ◌⊎◌, ◌<◌, ◌≤◌, ◌∷◌, ◌∙◌}
-use Rattle.object_cache.proofs.Objects.{has_entry, fetched_known, content_in, present_is}
+use Rattle.object_cache.proofs.Objects.{some_of, has_entry, fetched_known, content_in, present_is}
 
 -- ---- slots
 
 -- no more have a slot than were written
-pub held_touched : (ps : List Put) (ts : List Bool) → length ps ≡ length ts → ((k : ℕ) → mark_at ts k ≡ false → put_at ps k ≡ Absent) → sum_of held_slot ps ≤ touched_count ts
+pub held_touched : (ps : List Put) (ts : List Bool) → length ps ≡ length ts → ((k : ℕ) → mark_at ts k ≡ false → put_at ps k ≡ Absent) →
+    sum_of held_slot ps ≤ touched_count ts
 unfolding sum_of
 held_touched [] ts count each = omega arith
 held_touched (p ∷ ps) [] count each = absurd (omega (arith, count))
@@ -31,7 +32,8 @@ held_touched (p ∷ ps) (false ∷ ts) count each =
     omega (arith, total, rest, none)
 
 -- and fewer, where one that was written has none
-held_short : (ps : List Put) (ts : List Bool) (n : ℕ) → length ps ≡ length ts → ((k : ℕ) → mark_at ts k ≡ false → put_at ps k ≡ Absent) → mark_at ts n ≡ true → put_at ps n ≡ Absent → sum_of held_slot ps < touched_count ts
+held_short : (ps : List Put) (ts : List Bool) (n : ℕ) → length ps ≡ length ts → ((k : ℕ) → mark_at ts k ≡ false → put_at ps k ≡ Absent) → mark_at ts n ≡ true →
+    put_at ps n ≡ Absent → sum_of held_slot ps < touched_count ts
 unfolding sum_of
 held_short ps [] n count each marked none = absurd (true≢false (sym marked ∙ get_or_past [] n false (omega arith)))
 held_short [] (t ∷ ts) n count each marked none = absurd (omega (arith, count))
@@ -56,7 +58,8 @@ held_short (p ∷ ps) (false ∷ ts) (suc n) count each marked none =
     let no_slot : held_slot p ≡ 0 = ap held_slot (each zero refl) in
     omega (arith, total, rest, no_slot)
 
-pub has_free_slot : (room : ℕ) (ps : List Put) (ts : List Bool) (n : ℕ) → length ps ≡ length ts → ((k : ℕ) → mark_at ts k ≡ false → put_at ps k ≡ Absent) → mark_at ts n ≡ true → touched_count ts ≤ room → HasFreeSlot room ps n
+pub has_free_slot : (room : ℕ) (ps : List Put) (ts : List Bool) (n : ℕ) → length ps ≡ length ts → ((k : ℕ) → mark_at ts k ≡ false → put_at ps k ≡ Absent) →
+    mark_at ts n ≡ true → touched_count ts ≤ room → HasFreeSlot room ps n
 has_free_slot room ps ts n count each marked within = go (put_at ps n) refl
   where
     go : (p : Put) → put_at ps n ≡ p → HasFreeSlot room ps n
@@ -85,7 +88,8 @@ some_touched (false ∷ ts) (suc n) marked =
 abbrev pub with_dirty : Memory → List Bool → Memory
 with_dirty m ds = record m { dirty = ds }
 
-module _ (s : Stored) (m : Memory) (left count : ℕ) (is : IsCache s m left count) (n : ℕ) (within : n < length m.headers) (e : Entry) (at : entry_at m.entries n ≡ Some e) (dirty : mark_at m.dirty n ≡ true)
+module _ (s : Stored) (m : Memory) (left count : ℕ) (is : IsCache s m left count) (n : ℕ) (within : n < length m.headers) (e : Entry)
+    (at : entry_at m.entries n ≡ Some e) (dirty : mark_at m.dirty n ≡ true)
     (p : Put) (ds : List Bool) (size : length ds ≡ length m.dirty) (others : (k : ℕ) → k ≢ n → mark_at ds k ≡ mark_at m.dirty k)
     (here : (mark_at ds n ≡ true) ⊎ (p ≡ Kept (present_at s m n))) where
   abbrev after : Stored
@@ -156,18 +160,29 @@ module _ (s : Stored) (m : Memory) (left count : ℕ) (is : IsCache s m left cou
   }
 
   -- what is seen of it, over the durable store that was left
-  module _ {D : Type 0} (disk : D → Disk) (old new : DurableState D) (order : List ℕ) (most_entries : ℕ) (was : stored_of disk old ≡ s) (put : stored_of disk new ≡ after) where
-    pub seen_put : cache_of disk new (with_dirty m ds) left order most_entries ≡ record (cache_of disk old m left order most_entries) { durable = new; dirty = ds }
+  module _ {D : Type 0} (disk : D → Disk) (old new : DurableState D) (order : List ℕ) (most_entries : ℕ) (was : stored_of disk old ≡ s)
+      (put : stored_of disk new ≡ after) where
+    pub seen_put : cache_of disk new (with_dirty m ds) left order most_entries ≡ record
+        (cache_of disk old m left order most_entries) { durable = new; dirty = ds }
     unfolding frozen_in owed_in
     seen_put =
-        ap (λ (t : Stored). record (cache_of disk old m left order most_entries) { durable = new; dirty = ds; contents = contents_in t (with_dirty m ds); frozen = frozen_seen t (with_dirty m ds) left }) put
-        ∙ ap (λ (cs : List (Content Cap)). record (cache_of disk old m left order most_entries) { durable = new; dirty = ds; contents = cs; frozen = frozen_seen s m left }) contents_put
-        ∙ ap (λ (t : Stored). record (cache_of disk old m left order most_entries) { durable = new; dirty = ds; contents = contents_in t m; frozen = frozen_seen t m left }) (sym was)
+        ap (λ (t : Stored). record
+        (cache_of disk old m left order most_entries) {
+          durable = new;
+          dirty = ds;
+          contents = contents_in t (with_dirty m ds);
+          frozen = frozen_seen t (with_dirty m ds) left;
+        }) put
+        ∙ ap (λ (cs : List (Content Cap)). record
+        (cache_of disk old m left order most_entries) { durable = new; dirty = ds; contents = cs; frozen = frozen_seen s m left }) contents_put
+        ∙ ap (λ (t : Stored). record
+        (cache_of disk old m left order most_entries) { durable = new; dirty = ds; contents = contents_in t m; frozen = frozen_seen t m left }) (sym was)
 
 -- ---- the same by what is seen
 
 module _ {D : Type 0} (disk : D → Disk) (d : DurableState D) (m : Memory) (left count : ℕ) (order : List ℕ) (most_entries : ℕ) (s : StoreState D)
-    (view : cache_of disk d m left order most_entries ≡ s) (is : IsCache (stored_of disk d) m left count) (n : ℕ) (fetched : IsFetchedIn s n) (dirty : mark_at s.dirty n ≡ true) where
+    (view : cache_of disk d m left order most_entries ≡ s) (is : IsCache (stored_of disk d) m left count) (n : ℕ) (fetched : IsFetchedIn s n)
+    (dirty : mark_at s.dirty n ≡ true) where
   known_here : n < length m.headers
   known_here = fetched_known disk d m left order most_entries s view n fetched
 
@@ -181,71 +196,89 @@ module _ {D : Type 0} (disk : D → Disk) (d : DurableState D) (m : Memory) (lef
   touched_here = is.marked n dirty_here
 
   pub room_here : HasFreeSlot (stored_of disk d).saved.geometry.log (stored_of disk d).working n
-  room_here = has_free_slot (stored_of disk d).saved.geometry.log (stored_of disk d).working m.touched n (is.puts ∙ sym is.marks) is.unput touched_here (omega (arith, is.within, is.counted))
+  room_here = has_free_slot (stored_of disk d).saved.geometry.log (stored_of disk d).working m.touched n (is.puts ∙ sym is.marks) is.unput touched_here
+      (omega (arith, is.within, is.counted))
 
-  module _ (header : ObjectHeader) (x : Content Cap) (header_is : header ≡ header_at m.headers n) (x_is : option_map present_of (entry_at m.entries n) ≡ Some x) where
-    abbrev frame : Frame
-    frame = record { header = header; content = x }
+  module _ (header : ObjectHeader) (x : Content Cap) (header_is : header ≡ header_at m.headers n) (x_is : option_map present_of (entry_at m.entries n) ≡ Some x)
+    where
+      abbrev frame : Frame
+      frame = record { header = header; content = x }
 
-    frame_is : frame ≡ present_at (stored_of disk d) m n
-    frame_is =
-        ap (λ (h : ObjectHeader). record { header = h; content = x }) header_is
-        ∙ ap (λ (c : Content Cap). record { header = header_at m.headers n; content = c }) (sym (present_is (entry_at m.entries n) x (header_at m.headers n).role (newest_body (stored_of disk d) m n) x_is))
+      frame_is : frame ≡ present_at (stored_of disk d) m n
+      frame_is =
+          ap (λ (h : ObjectHeader). record { header = h; content = x }) header_is
+          ∙ ap (λ (c : Content Cap). record { header = header_at m.headers n; content = c })
+          (sym (present_is (entry_at m.entries n) x (header_at m.headers n).role (newest_body (stored_of disk d) m n) x_is))
 
-    pub keepable_here : IsKeepable (stored_of disk s.durable).saved.geometry most n (record { header = header_at s.headers n; content = held_at s.contents n }) → IsKeepable (stored_of disk d).saved.geometry most n frame
-    keepable_here keepable =
-        let seen : IsKeepable (stored_of disk d).saved.geometry most n (record { header = header_at m.headers n; content = held_at (contents_in (stored_of disk d) m) n }) =
-        subst (λ (t : StoreState D). IsKeepable (stored_of disk t.durable).saved.geometry most n (record { header = header_at t.headers n; content = held_at t.contents n })) (sym view) keepable in
-        subst (IsKeepable (stored_of disk d).saved.geometry most n)
-        (ap (λ (c : Content Cap). record { header = header_at m.headers n; content = c }) (content_in (stored_of disk d) m n known_here) ∙ sym frame_is) seen
+      pub keepable_here : IsKeepable (stored_of disk s.durable).saved.geometry most n
+          (record { header = header_at s.headers n; content = held_at s.contents n })
+          → IsKeepable (stored_of disk d).saved.geometry most n frame
+      keepable_here keepable =
+          let seen : IsKeepable (stored_of disk d).saved.geometry most n
+          (record { header = header_at m.headers n; content = held_at (contents_in (stored_of disk d) m) n }) =
+          subst (λ (t : StoreState D). IsKeepable (stored_of disk t.durable).saved.geometry most n
+          (record { header = header_at t.headers n; content = held_at t.contents n })) (sym view) keepable in
+          subst (IsKeepable (stored_of disk d).saved.geometry most n)
+          (ap (λ (c : Content Cap). record { header = header_at m.headers n; content = c }) (content_in (stored_of disk d) m n known_here) ∙ sym frame_is) seen
 
-    module _ (new : DurableState D) where
-      module _ (p : Put) (ds : List Bool) (size : length ds ≡ length m.dirty) (others : (k : ℕ) → k ≢ n → mark_at ds k ≡ mark_at m.dirty k)
-          (here : (mark_at ds n ≡ true) ⊎ (p ≡ Kept (present_at (stored_of disk d) m n))) (put : stored_of disk new ≡ with_working n p (stored_of disk d)) where
-        stands_put : IsCache (stored_of disk new) (with_dirty m ds) left count
-        stands_put = subst (λ (t : Stored). IsCache t (with_dirty m ds) left count) (sym put)
-            (put_cache (stored_of disk d) m left count is n known_here entry_here.0 entry_here.1 dirty_here p ds size others here)
+      module _ (new : DurableState D) where
+        module _ (p : Put) (ds : List Bool) (size : length ds ≡ length m.dirty) (others : (k : ℕ) → k ≢ n → mark_at ds k ≡ mark_at m.dirty k)
+            (here : (mark_at ds n ≡ true) ⊎ (p ≡ Kept (present_at (stored_of disk d) m n))) (put : stored_of disk new ≡ with_working n p (stored_of disk d))
+          where
+            stands_put : IsCache (stored_of disk new) (with_dirty m ds) left count
+            stands_put = subst (λ (t : Stored). IsCache t (with_dirty m ds) left count) (sym put)
+                (put_cache (stored_of disk d) m left count is n known_here entry_here.0 entry_here.1 dirty_here p ds size others here)
 
-        seen_then : cache_of disk new (with_dirty m ds) left order most_entries ≡ record s { durable = new; dirty = ds }
-        seen_then =
-            seen_put (stored_of disk d) m left count is n known_here entry_here.0 entry_here.1 dirty_here p ds size others here disk d new order most_entries refl put
-            ∙ ap (λ (t : StoreState D). record t { durable = new; dirty = ds }) view
+            seen_then : cache_of disk new (with_dirty m ds) left order most_entries ≡ record s { durable = new; dirty = ds }
+            seen_then =
+                seen_put (stored_of disk d) m left count is n known_here entry_here.0 entry_here.1 dirty_here p ds size others here disk d new order
+                most_entries
+                refl put
+                ∙ ap (λ (t : StoreState D). record t { durable = new; dirty = ds }) view
 
-        continues_then : GoesOn disk d new → (disk d.beneath).failures ≤ (disk new.beneath).failures → GoesOnIn disk s (cache_of disk new (with_dirty m ds) left order most_entries)
-        continues_then goes later = subst (GoesOnIn disk s) (sym seen_then) (record {
-          goes_on = subst (λ (t : StoreState D). GoesOn disk t.durable new) view goes;
-          snapshots =
-              ap (λ (u : Stored). record { frozen = s.frozen; saved = u.saved; to_move = u.to_move }) put
-              ∙ ap (λ (t : StoreState D). record { frozen = s.frozen; saved = (stored_of disk t.durable).saved; to_move = (stored_of disk t.durable).to_move }) view;
-          later = subst (λ (t : StoreState D). (disk t.durable.beneath).failures ≤ (disk new.beneath).failures) view later;
-          grows = omega arith;
-          most = refl;
-          only_reads = λ none idle. absurd (omega (arith, none, some_touched s.touched n (ap (λ (t : StoreState D). mark_at t.touched n) (sym view) ∙ touched_here)));
-        })
+            continues_then : GoesOn disk d new → (disk d.beneath).failures ≤ (disk new.beneath).failures →
+                GoesOnIn disk s (cache_of disk new (with_dirty m ds) left order most_entries)
+            continues_then goes later = subst (GoesOnIn disk s) (sym seen_then) (record {
+              goes_on = subst (λ (t : StoreState D). GoesOn disk t.durable new) view goes;
+              snapshots =
+                  ap (λ (u : Stored). record { frozen = s.frozen; saved = u.saved; to_move = u.to_move }) put
+                  ∙ ap (λ (t : StoreState D).
+                  record { frozen = s.frozen; saved = (stored_of disk t.durable).saved; to_move = (stored_of disk t.durable).to_move })
+                  view;
+              later = subst (λ (t : StoreState D). (disk t.durable.beneath).failures ≤ (disk new.beneath).failures) view later;
+              grows = omega arith;
+              most = refl;
+              only_reads = λ none idle. absurd
+                  (omega (arith, none, some_touched s.touched n (ap (λ (t : StoreState D). mark_at t.touched n) (sym view) ∙ touched_here)));
+            })
 
-      -- it is put
-      module _ (put : stored_of disk new ≡ with_working n (Kept frame) (stored_of disk d)) where
-        others_stay : (k : ℕ) → k ≢ n → mark_at (set m.dirty n false) k ≡ mark_at m.dirty k
-        others_stay k other = get_or-set_other m.dirty n k false false other
+        -- it is put
+        module _ (put : stored_of disk new ≡ with_working n (Kept frame) (stored_of disk d)) where
+          others_stay : (k : ℕ) → k ≢ n → mark_at (set m.dirty n false) k ≡ mark_at m.dirty k
+          others_stay k other = get_or-set_other m.dirty n k false false other
 
-        pub ok_stands : IsCache (stored_of disk new) (with_dirty m (set m.dirty n false)) left count
-        ok_stands = stands_put (Kept frame) (set m.dirty n false) (length-set m.dirty n false) others_stay (inr (ap Kept frame_is)) put
+          pub ok_stands : IsCache (stored_of disk new) (with_dirty m (set m.dirty n false)) left count
+          ok_stands = stands_put (Kept frame) (set m.dirty n false) (length-set m.dirty n false) others_stay (inr (ap Kept frame_is)) put
 
-        pub ok_seen : cache_of disk new (with_dirty m (set m.dirty n false)) left order most_entries ≡ record s { durable = new; dirty = set s.dirty n false }
-        ok_seen =
-            seen_then (Kept frame) (set m.dirty n false) (length-set m.dirty n false) others_stay (inr (ap Kept frame_is)) put
-            ∙ ap (λ (t : StoreState D). record s { durable = new; dirty = set t.dirty n false }) view
+          pub ok_seen : cache_of disk new (with_dirty m (set m.dirty n false)) left order most_entries ≡ record s { durable = new; dirty = set s.dirty n false }
+          ok_seen =
+              seen_then (Kept frame) (set m.dirty n false) (length-set m.dirty n false) others_stay (inr (ap Kept frame_is)) put
+              ∙ ap (λ (t : StoreState D). record s { durable = new; dirty = set t.dirty n false }) view
 
-        pub ok_continues : GoesOn disk d new → (disk d.beneath).failures ≤ (disk new.beneath).failures → GoesOnIn disk s (cache_of disk new (with_dirty m (set m.dirty n false)) left order most_entries)
-        ok_continues = continues_then (Kept frame) (set m.dirty n false) (length-set m.dirty n false) others_stay (inr (ap Kept frame_is)) put
+          pub ok_continues : GoesOn disk d new → (disk d.beneath).failures ≤ (disk new.beneath).failures →
+              GoesOnIn disk s (cache_of disk new (with_dirty m (set m.dirty n false)) left order most_entries)
+          ok_continues = continues_then (Kept frame) (set m.dirty n false) (length-set m.dirty n false) others_stay (inr (ap Kept frame_is)) put
 
-      -- or its slot may hold any bytes
-      module _ (put : stored_of disk new ≡ with_working n Broken (stored_of disk d)) where
-        pub err_stands : IsCache (stored_of disk new) m left count
-        err_stands = stands_put Broken m.dirty refl (λ k other. refl) (inl dirty_here) put
+        -- or its slot may hold any bytes
+        module _ (put : stored_of disk new ≡ with_working n Broken (stored_of disk d)) where
+          pub err_stands : IsCache (stored_of disk new) m left count
+          err_stands = stands_put Broken m.dirty refl (λ k other. refl) (inl dirty_here) put
 
-        pub err_seen : cache_of disk new m left order most_entries ≡ record s { durable = new }
-        err_seen = seen_then Broken m.dirty refl (λ k other. refl) (inl dirty_here) put ∙ ap (λ (t : StoreState D). record s { durable = new; dirty = t.dirty }) view
+          pub err_seen : cache_of disk new m left order most_entries ≡ record s { durable = new }
+          err_seen = seen_then Broken m.dirty refl (λ k other. refl) (inl dirty_here) put ∙
+              ap (λ (t : StoreState D). record s { durable = new; dirty = t.dirty })
+              view
 
-        pub err_continues : GoesOn disk d new → (disk d.beneath).failures ≤ (disk new.beneath).failures → GoesOnIn disk s (cache_of disk new m left order most_entries)
-        err_continues = continues_then Broken m.dirty refl (λ k other. refl) (inl dirty_here) put
+          pub err_continues : GoesOn disk d new → (disk d.beneath).failures ≤ (disk new.beneath).failures →
+              GoesOnIn disk s (cache_of disk new m left order most_entries)
+          err_continues = continues_then Broken m.dirty refl (λ k other. refl) (inl dirty_here) put

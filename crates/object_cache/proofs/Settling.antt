@@ -24,7 +24,8 @@ mask_under role.Root r c free = refl
 mask_under role.Annex r c free = refl
 mask_under role.Bank r c free = refl
 
-put_under : (p : Put) (fr r : Role) (c : Content Cap) → (fr ≡ role.Free → (is_kept p ≡ true) ⊎ (r ≡ role.Free)) → masked r (put_body p (masked fr c)) ≡ masked r (put_body p c)
+put_under : (p : Put) (fr r : Role) (c : Content Cap) → (fr ≡ role.Free → (is_kept p ≡ true) ⊎ (r ≡ role.Free)) →
+    masked r (put_body p (masked fr c)) ≡ masked r (put_body p c)
 put_under Absent fr r c freed = mask_under fr r c (λ free. elim (freed free) [ inl kept ↦ absurd (true≢false (sym kept)) | inr now ↦ now ])
 put_under Broken fr r c freed = mask_under fr r c (λ free. elim (freed free) [ inl kept ↦ absurd (true≢false (sym kept)) | inr now ↦ now ])
 put_under (Kept f) fr r c freed = refl
@@ -35,7 +36,8 @@ marked_within ts n marked = elim (cases_lt n (length ts)) [
   | inr past ↦ absurd (true≢false (sym marked ∙ get_or_past ts n false past))
 ]
 
-module _ (s : Stored) (m : Memory) (left count : ℕ) (is : IsCache s m left count) (h : Held) (staging : m.staging ≡ Some h) (owed : owed_in_memory m h.number ≡ Nothing) where
+module _ (s : Stored) (m : Memory) (left count : ℕ) (is : IsCache s m left count) (h : Held) (staging : m.staging ≡ Some h)
+    (owed : owed_in_memory m h.number ≡ Nothing) where
   pub held_pending : mark_at m.pending h.number ≡ true
   held_pending = is.held h staging
 
@@ -49,10 +51,11 @@ module _ (s : Stored) (m : Memory) (left count : ℕ) (is : IsCache s m left cou
 
   -- an entry has nothing of it
   bare : (e : Entry) → entry_at m.entries h.number ≡ Some e → (mark_at m.touched h.number ≡ true) × (e.kept ≡ None)
-  bare e at = elim (nothing_owed e (mark_at m.pending h.number) (mark_at m.touched h.number) (ap (λ (o : Option Entry). owed_of o (mark_at m.pending h.number) (mark_at m.touched h.number)) (sym at) ∙ owed)) [
-    | inl done ↦ absurd (true≢false (sym held_pending ∙ done))
-    | inr wanted ↦ (wanted.1, wanted.2)
-  ]
+  bare e at = elim (nothing_owed e (mark_at m.pending h.number) (mark_at m.touched h.number)
+      (ap (λ (o : Option Entry). owed_of o (mark_at m.pending h.number) (mark_at m.touched h.number)) (sym at) ∙ owed)) [
+        | inl done ↦ absurd (true≢false (sym held_pending ∙ done))
+        | inr wanted ↦ (wanted.1, wanted.2)
+      ]
 
   body_is : (t : Stored) (o : Option Entry) → entry_at m.entries h.number ≡ o → frozen_body o (mark_at m.touched h.number) (below_body t m h.number) ≡ h.content
   body_is t None at = below_is t
@@ -66,20 +69,24 @@ module _ (s : Stored) (m : Memory) (left count : ℕ) (is : IsCache s m left cou
 
   pub frozen_is_held : (t : Stored) → frozen_at t m h.number ≡ held_frame
   frozen_is_held t =
-      ap (λ (p : Bool). frozen_frame p (header_at m.frozen_headers h.number) (frozen_body (entry_at m.entries h.number) (mark_at m.touched h.number) (below_body t m h.number)) (below_at t h.number)) held_pending
+      ap (λ (p : Bool). frozen_frame p (header_at m.frozen_headers h.number)
+      (frozen_body (entry_at m.entries h.number) (mark_at m.touched h.number) (below_body t m h.number)) (below_at t h.number)) held_pending
       ∙ ap (λ (c : Content Cap). frozen_frame true (header_at m.frozen_headers h.number) c (below_at t h.number)) (body_is t (entry_at m.entries h.number) refl)
 
   module _ (f : FrozenPuts) (f_is : s.frozen ≡ Some f) where
     below_put : below_at (with_frame h.number s m) h.number ≡ frozen_at s m h.number
     below_put = ap (λ (p : Put). put_or p (frame_at s.saved.frames h.number))
         (ap (λ (o : Option FrozenPuts). frozen_put o h.number) (ap (option_map (with_put h.number (Kept (frozen_at s m h.number)))) f_is)
-        ∙ get_or-set_same f.put h.number (Kept (frozen_at s m h.number)) Absent (omega (arith, held_within, is.headers, is.pending_marks, (is.running f f_is).each)))
+        ∙ get_or-set_same f.put h.number (Kept (frozen_at s m h.number)) Absent
+        (omega (arith, held_within, is.headers, is.pending_marks, (is.running f f_is).each)))
 
     content_put : (o : Option Entry) → entry_at m.entries h.number ≡ o →
-        present_body o (header_at m.headers h.number).role (newest_body (with_frame h.number s m) (without_pending h.number m.entries None m) h.number) ≡ present_body o (header_at m.headers h.number).role (newest_body s m h.number)
+        present_body o (header_at m.headers h.number).role (newest_body (with_frame h.number s m) (without_pending h.number m.entries None m) h.number) ≡
+        present_body o (header_at m.headers h.number).role (newest_body s m h.number)
     content_put None at =
         ap (λ (g : Frame). masked (header_at m.headers h.number).role (put_body (put_at s.working h.number) g.content)) (below_put ∙ frozen_is_held s)
-        ∙ put_under (put_at s.working h.number) (header_at m.frozen_headers h.number).role (header_at m.headers h.number).role h.content (is.freed h.number at held_pending)
+        ∙ put_under (put_at s.working h.number) (header_at m.frozen_headers h.number).role (header_at m.headers h.number).role h.content
+        (is.freed h.number at held_pending)
         ∙ sym (ap (λ (c : Content Cap). masked (header_at m.headers h.number).role (put_body (put_at s.working h.number) c)) (below_is s))
     content_put (Some e) at = refl
 
@@ -108,11 +115,13 @@ module _ {D : Type 0} (disk : D → Disk) (d : DurableState D) (m : Memory) (lef
   settled_fewer = omega (arith, one_fewer m.pending h.number (is.held h staging), ap (λ (t : StoreState D). count_by (λ b. b) t.pending) view)
 
   pub held_owed : ((g : Held) × (s.staging ≡ Some g) × (owed_at s.owed g.number ≡ Nothing)) → owed_at s.owed h.number ≡ Nothing
-  held_owed seen = subst (λ (x : Held). owed_at s.owed x.number ≡ Nothing) (same_Some seen.0 h (sym seen.1 ∙ ap (λ (t : StoreState D). t.staging) (sym view) ∙ staging)) seen.2
+  held_owed seen = subst (λ (x : Held). owed_at s.owed x.number ≡ Nothing)
+      (same_Some seen.0 h (sym seen.1 ∙ ap (λ (t : StoreState D). t.staging) (sym view) ∙ staging)) seen.2
 
 -- the same by what is seen
 module _ {D : Type 0} (disk : D → Disk) (d : DurableState D) (m : Memory) (left count : ℕ) (order : List ℕ) (most_entries : ℕ) (s : StoreState D)
-    (view : cache_of disk d m left order most_entries ≡ s) (is : IsCache (stored_of disk d) m left count) (h : Held) (staging : m.staging ≡ Some h) (owed : owed_at s.owed h.number ≡ Nothing)
+    (view : cache_of disk d m left order most_entries ≡ s) (is : IsCache (stored_of disk d) m left count) (h : Held) (staging : m.staging ≡ Some h)
+    (owed : owed_at s.owed h.number ≡ Nothing)
     (header : ObjectHeader) (header_is : header ≡ header_at m.frozen_headers h.number) where
   pending_there : mark_at m.pending h.number ≡ true
   pending_there = is.held h staging
@@ -138,50 +147,68 @@ module _ {D : Type 0} (disk : D → Disk) (d : DurableState D) (m : Memory) (lef
   held_room = frozen_room disk d m left count order most_entries s view is h.number known_there pending_there
 
   pub held_keepable : IsKeepable (stored_of disk d).saved.geometry most h.number (record { header = header; content = masked header.role h.content })
-  held_keepable = subst (IsKeepable (stored_of disk d).saved.geometry most h.number) (sym frame_is) (frozen_keepable disk d m left count order most_entries s view is h.number known_there pending_there)
+  held_keepable = subst (IsKeepable (stored_of disk d).saved.geometry most h.number) (sym frame_is)
+      (frozen_keepable disk d m left count order most_entries s view is h.number known_there pending_there)
 
   module _ (new : DurableState D) where
-    module _ (put : stored_of disk new ≡ with_frozen h.number (Kept (record { header = header; content = masked header.role h.content })) (stored_of disk d)) where
-      abbrev then : Memory
-      then = without_pending h.number m.entries None m
+    module _ (put : stored_of disk new ≡ with_frozen h.number (Kept (record { header = header; content = masked header.role h.content })) (stored_of disk d))
+      where
+        abbrev then : Memory
+        then = without_pending h.number m.entries None m
 
-      rest : Releases (stored_of disk d) m h.number m.entries None
-      rest = releases_held (stored_of disk d) m left count is h staging owed_there held_running.0 held_running.1
+        rest : Releases (stored_of disk d) m h.number m.entries None
+        rest = releases_held (stored_of disk d) m left count is h staging owed_there held_running.0 held_running.1
 
-      after_is : stored_of disk new ≡ with_frame h.number (stored_of disk d) m
-      after_is = put ∙ ap (λ (g : Frame). with_frozen h.number (Kept g) (stored_of disk d)) frame_is
+        after_is : stored_of disk new ≡ with_frame h.number (stored_of disk d) m
+        after_is = put ∙ ap (λ (g : Frame). with_frozen h.number (Kept g) (stored_of disk d)) frame_is
 
-      pub settled_stands : IsCache (stored_of disk new) (without_pending h.number m.entries None m) left count
-      settled_stands = subst (λ (t : Stored). IsCache t then left count) (sym after_is)
-          (frozen_put_cache (stored_of disk d) m left count is h.number known_there held_running.0 held_running.1 pending_there m.entries None rest)
+        pub settled_stands : IsCache (stored_of disk new) (without_pending h.number m.entries None m) left count
+        settled_stands = subst (λ (t : Stored). IsCache t then left count) (sym after_is)
+            (frozen_put_cache (stored_of disk d) m left count is h.number known_there held_running.0 held_running.1 pending_there m.entries None rest)
 
-      pub settled_seen : cache_of disk new (without_pending h.number m.entries None m) left order most_entries
-          ≡ record s { durable = new; pending = set s.pending h.number false; owed = set s.owed h.number Nothing; staging = None }
-      settled_seen =
-          let old = cache_of disk d m left order most_entries in
-          let ps = set m.pending h.number false in
-          ap (λ (t : Stored). record old { durable = new; contents = contents_in t then; pending = ps; owed = owed_in then; frozen = frozen_seen t then left; staging = None }) after_is
-          ∙ ap (λ (cs : List (Content Cap)). record old { durable = new; contents = cs; pending = ps; owed = owed_in then; frozen = frozen_seen (with_frame h.number (stored_of disk d) m) then left; staging = None })
-          (contents_same (stored_of disk d) m left count is h.number known_there held_running.0 held_running.1 pending_there m.entries None rest)
-          ∙ ap (λ (fs : Option FrozenFrames). record old { durable = new; pending = ps; owed = owed_in then; frozen = fs; staging = None })
-          (frozen_seen_same (stored_of disk d) m left count is h.number known_there held_running.0 held_running.1 pending_there m.entries None rest)
-          ∙ ap (λ (os : List Owed). record old { durable = new; pending = ps; owed = os; staging = None })
-          (owed_now (stored_of disk d) m left count is h.number known_there held_running.0 held_running.1 pending_there m.entries None rest)
-          ∙ ap (λ (t : StoreState D). record t { durable = new; pending = set t.pending h.number false; owed = set t.owed h.number Nothing; staging = None }) view
+        pub settled_seen : cache_of disk new (without_pending h.number m.entries None m) left order most_entries
+            ≡ record s { durable = new; pending = set s.pending h.number false; owed = set s.owed h.number Nothing; staging = None }
+        settled_seen =
+            let old = cache_of disk d m left order most_entries in
+            let ps = set m.pending h.number false in
+            ap (λ (t : Stored). record
+            old { durable = new; contents = contents_in t then; pending = ps; owed = owed_in then; frozen = frozen_seen t then left; staging = None })
+            after_is
+            ∙ ap (λ (cs : List (Content Cap)). record
+            old {
+              durable = new;
+              contents = cs;
+              pending = ps;
+              owed = owed_in then;
+              frozen = frozen_seen (with_frame h.number (stored_of disk d) m) then left;
+              staging = None;
+            })
+            (contents_same (stored_of disk d) m left count is h.number known_there held_running.0 held_running.1 pending_there m.entries None rest)
+            ∙ ap (λ (fs : Option FrozenFrames). record old { durable = new; pending = ps; owed = owed_in then; frozen = fs; staging = None })
+            (frozen_seen_same (stored_of disk d) m left count is h.number known_there held_running.0 held_running.1 pending_there m.entries None rest)
+            ∙ ap (λ (os : List Owed). record old { durable = new; pending = ps; owed = os; staging = None })
+            (owed_now (stored_of disk d) m left count is h.number known_there held_running.0 held_running.1 pending_there m.entries None rest)
+            ∙ ap (λ (t : StoreState D). record t { durable = new; pending = set t.pending h.number false; owed = set t.owed h.number Nothing; staging = None })
+            view
 
-      pub settled_put : cache_of disk new (without_pending h.number m.entries None m) left order most_entries ≡ on_device s (cache_of disk new (without_pending h.number m.entries None m) left order most_entries)
-      settled_put = same_put s (cache_of disk new (without_pending h.number m.entries None m) left order most_entries) s.dirty (set s.pending h.number false) (set s.owed h.number Nothing) None settled_seen
+        pub settled_put : cache_of disk new (without_pending h.number m.entries None m) left order most_entries ≡ on_device s
+            (cache_of disk new (without_pending h.number m.entries None m) left order most_entries)
+        settled_put = same_put s (cache_of disk new (without_pending h.number m.entries None m) left order most_entries) s.dirty (set s.pending h.number false)
+            (set s.owed h.number Nothing) None settled_seen
 
-      pub settled_continues : GoesOn disk d new → (disk d.beneath).failures ≤ (disk new.beneath).failures →
-          GoesOnIn disk s (cache_of disk new (without_pending h.number m.entries None m) left order most_entries)
-      settled_continues goes later = subst (GoesOnIn disk s) (sym settled_seen)
-          (put_continues disk d m left count order most_entries s view is h.number known_there pending_there new (Kept (record { header = header; content = masked header.role h.content })) put goes later
-          (set s.pending h.number false) (set s.owed h.number Nothing) None)
+        pub settled_continues : GoesOn disk d new → (disk d.beneath).failures ≤ (disk new.beneath).failures →
+            GoesOnIn disk s (cache_of disk new (without_pending h.number m.entries None m) left order most_entries)
+        settled_continues goes later = subst (GoesOnIn disk s) (sym settled_seen)
+            (put_continues disk d m left count order most_entries s view is h.number known_there pending_there new
+            (Kept (record { header = header; content = masked header.role h.content })) put goes later
+            (set s.pending h.number false) (set s.owed h.number Nothing) None)
 
     module _ (put : stored_of disk new ≡ with_frozen h.number Broken (stored_of disk d)) where
       content_torn : content_at (with_frozen h.number Broken (stored_of disk d)) m h.number ≡ content_at (stored_of disk d) m h.number
-      content_torn = ap (λ (c : Content Cap). present_body (entry_at m.entries h.number) (header_at m.headers h.number).role (put_body (put_at (stored_of disk d).working h.number) c))
-          (below_is (stored_of disk d) m left count is h staging owed_there (with_frozen h.number Broken (stored_of disk d)) ∙ sym (below_is (stored_of disk d) m left count is h staging owed_there (stored_of disk d)))
+      content_torn = ap (λ (c : Content Cap). present_body (entry_at m.entries h.number) (header_at m.headers h.number).role
+          (put_body (put_at (stored_of disk d).working h.number) c))
+          (below_is (stored_of disk d) m left count is h staging owed_there (with_frozen h.number Broken (stored_of disk d)) ∙
+          sym (below_is (stored_of disk d) m left count is h staging owed_there (stored_of disk d)))
 
       frozen_torn : frozen_at (with_frozen h.number Broken (stored_of disk d)) m h.number ≡ frozen_at (stored_of disk d) m h.number
       frozen_torn =
@@ -196,7 +223,8 @@ module _ {D : Type 0} (disk : D → Disk) (d : DurableState D) (m : Memory) (lef
       unsettled_seen =
           let old = cache_of disk d m left order most_entries in
           ap (λ (t : Stored). record old { durable = new; contents = contents_in t m; frozen = frozen_seen t m left }) put
-          ∙ ap (λ (cs : List (Content Cap)). record old { durable = new; contents = cs; frozen = frozen_seen (with_frozen h.number Broken (stored_of disk d)) m left })
+          ∙ ap (λ (cs : List (Content Cap)). record
+          old { durable = new; contents = cs; frozen = frozen_seen (with_frozen h.number Broken (stored_of disk d)) m left })
           (torn_contents_same (stored_of disk d) m left count is h.number known_there held_running.0 held_running.1 pending_there content_torn frozen_torn)
           ∙ ap (λ (fs : Option FrozenFrames). record old { durable = new; frozen = fs })
           (torn_seen_same (stored_of disk d) m left count is h.number known_there held_running.0 held_running.1 pending_there content_torn frozen_torn)
@@ -205,6 +233,8 @@ module _ {D : Type 0} (disk : D → Disk) (d : DurableState D) (m : Memory) (lef
       pub unsettled_put : cache_of disk new m left order most_entries ≡ on_device s (cache_of disk new m left order most_entries)
       unsettled_put = same_put s (cache_of disk new m left order most_entries) s.dirty s.pending s.owed s.staging unsettled_seen
 
-      pub unsettled_continues : GoesOn disk d new → (disk d.beneath).failures ≤ (disk new.beneath).failures → GoesOnIn disk s (cache_of disk new m left order most_entries)
+      pub unsettled_continues : GoesOn disk d new → (disk d.beneath).failures ≤ (disk new.beneath).failures →
+          GoesOnIn disk s (cache_of disk new m left order most_entries)
       unsettled_continues goes later = subst (GoesOnIn disk s) (sym unsettled_seen)
-          (put_continues disk d m left count order most_entries s view is h.number known_there pending_there new Broken put goes later s.pending s.owed s.staging)
+          (put_continues disk d m left count order most_entries s view is h.number known_there pending_there new Broken put goes later s.pending s.owed
+          s.staging)

@@ -35,7 +35,8 @@ module _ (s : Stored) (m : Memory) (left count : ℕ) (is : IsCache s m left cou
   present_same k = ap (λ (x : Content Cap). record { header = header_at m.headers k; content = x }) (content_same k)
 
   frozen_stays : (k : ℕ) → frozen_at s then k ≡ frozen_at s m k
-  frozen_stays k = ap (λ (x : Content Cap). frozen_frame (mark_at m.pending k) (header_at m.frozen_headers k) (frozen_body (entry_at m.entries k) (mark_at m.touched k) x) (below_at s k)) (below_same k)
+  frozen_stays k = ap (λ (x : Content Cap). frozen_frame (mark_at m.pending k) (header_at m.frozen_headers k)
+      (frozen_body (entry_at m.entries k) (mark_at m.touched k) x) (below_at s k)) (below_same k)
 
   pub taken_frozen : frozen_in s then ≡ frozen_in s m
   unfolding frozen_in
@@ -85,7 +86,8 @@ module _ {D : Type 0} (disk : D → Disk) (d : DurableState D) (m : Memory) (lef
   pub pending_known : n < length s.headers
   pending_known = omega (arith, pending_object, is.headers, ap (λ (t : StoreState D). length t.headers) view)
 
-  module _ (empty : s.staging ≡ None) (new : DurableState D) (reads : ReadsStore disk d new) (c : Content Cap) (read : c ≡ (below_at (stored_of disk d) n).content) where
+  module _ (empty : s.staging ≡ None) (new : DurableState D) (reads : ReadsStore disk d new) (c : Content Cap)
+      (read : c ≡ (below_at (stored_of disk d) n).content) where
     empty_here : m.staging ≡ None
     empty_here = ap (λ (t : StoreState D). t.staging) view ∙ empty
 
@@ -93,20 +95,32 @@ module _ {D : Type 0} (disk : D → Disk) (d : DurableState D) (m : Memory) (lef
     taken_stands = subst (λ (t : Stored). IsCache t (holding_up n c m) left count) (sym reads.stored)
         (taken_cache (stored_of disk d) m left count is n pending_here empty_here c read)
 
-    pub taken_seen : cache_of disk new (holding_up n c m) left order most_entries ≡ record s { durable = new; staging = Some (record { number = n; content = c }) }
+    pub taken_seen : cache_of disk new (holding_up n c m) left order most_entries ≡ record
+        s { durable = new; staging = Some (record { number = n; content = c }) }
     taken_seen =
         let old = cache_of disk d m left order most_entries in
         let then = holding_up n c m in
-        ap (λ (t : Stored). record old { durable = new; contents = contents_in t then; owed = owed_in then; frozen = frozen_seen t then left; staging = then.staging }) reads.stored
-        ∙ ap (λ (cs : List (Content Cap)). record old { durable = new; contents = cs; owed = owed_in then; frozen = frozen_seen (stored_of disk d) then left; staging = then.staging })
+        ap (λ (t : Stored). record
+        old { durable = new; contents = contents_in t then; owed = owed_in then; frozen = frozen_seen t then left; staging = then.staging }) reads.stored
+        ∙ ap (λ (cs : List (Content Cap)). record
+        old { durable = new; contents = cs; owed = owed_in then; frozen = frozen_seen (stored_of disk d) then left; staging = then.staging })
         (taken_contents (stored_of disk d) m left count is n pending_here empty_here c read)
-        ∙ ap (λ (fs : List Frame). record old { durable = new; owed = owed_in then; frozen = option_map (λ (f : FrozenPuts). record { frames = fs; size = f.size; left = left }) (stored_of disk d).frozen; staging = then.staging })
+        ∙ ap (λ (fs : List Frame). record
+        old {
+          durable = new;
+          owed = owed_in then;
+          frozen = option_map (λ (f : FrozenPuts). record { frames = fs; size = f.size; left = left })
+              (stored_of disk d).frozen;
+          staging = then.staging;
+        })
         (taken_frozen (stored_of disk d) m left count is n pending_here empty_here c read)
         ∙ ap (λ (os : List Owed). record old { durable = new; owed = os; staging = then.staging })
         (taken_owed (stored_of disk d) m left count is n pending_here empty_here c read)
         ∙ ap (λ (t : StoreState D). record t { durable = new; staging = Some (record { number = n; content = c }) }) view
 
-    pub taken_continues : (disk d.beneath).failures ≤ (disk new.beneath).failures → GoesOnIn disk s (cache_of disk new (holding_up n c m) left order most_entries)
+    pub taken_continues : (disk d.beneath).failures ≤ (disk new.beneath).failures →
+        GoesOnIn disk s (cache_of disk new (holding_up n c m) left order most_entries)
     taken_continues later = subst (GoesOnIn disk s) (sym taken_seen)
         (continues_staging disk s (record s { durable = new }) (Some (record { number = n; content = c }))
-        (subst (GoesOnIn disk s) (read_seen disk d m left count order most_entries s view is new reads) (read_continues disk d m left count order most_entries s view is new reads later)))
+        (subst (GoesOnIn disk s) (read_seen disk d m left count order most_entries s view is new reads)
+        (read_continues disk d m left count order most_entries s view is new reads later)))

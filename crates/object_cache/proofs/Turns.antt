@@ -1,8 +1,8 @@
 -- Frozen frames are put in turn, and as many fewer are said to be left.
-use Rattle.object_cache.proofs.Names.{ℕ, Bool, false, true≢false, List, [], Option, Some, None, option_map, is_some, refl, sym, ap, subst, arith, count_by}
-use Rattle.object_cache.proofs.Names.{none-some, same_Some, HasNoneMarked, Frame, Image, Disk, DurableState, FrozenPuts, stored_of, Snapshots, goes_trans}
-use Rattle.object_cache.proofs.Names.{FrozenFrames, stabilized, Held, Memory, frozen_in, StoreState, IsCache, AreFrozen, GoesOnIn, PutsBy, snapshots_of}
-use Rattle.object_cache.proofs.Names.{cache_of, on_device, on_device_frozen, pending_count, goes_on_same}
+use Rattle.object_cache.proofs.Names.{ℕ, Bool, true≢false, List, [], Option, Some, None, option_map, is_some, refl, sym, ap, arith, count_by, none-some}
+use Rattle.object_cache.proofs.Names.{same_Some, HasNoneMarked, Frame, Image, Disk, DurableState, FrozenPuts, stored_of, Snapshots, goes_trans, FrozenFrames}
+use Rattle.object_cache.proofs.Names.{stabilized, Memory, frozen_in, StoreState, IsCache, AreFrozen, GoesOnIn, PutsBy, snapshots_of, cache_of, on_device}
+use Rattle.object_cache.proofs.Names.{on_device_frozen, pending_count, goes_on_same}
 use Rattle.std.proofs.Common.{◌≡◌, ◌+◌, ◌-◌, ◌<◌, ◌≤◌, ◌∙◌}
 use Rattle.object_cache.proofs.Freezing.{fewer_of}
 
@@ -10,11 +10,13 @@ pub none_marked : (ts : List Bool) → HasNoneMarked ts 0 → count_by (λ b. b)
 none_marked ts none = fewer_of ts [] (λ k marked. absurd (true≢false (sym marked ∙ none k (omega arith))))
 
 -- so many may be put where so many are left
-pub requested_by : (o : Option FrozenFrames) (k n : ℕ) → option_map (λ (f : FrozenFrames). f.left) o ≡ Some k → n ≤ k → (f : FrozenFrames) × (o ≡ Some f) × (n ≤ f.left)
+pub requested_by : (o : Option FrozenFrames) (k n : ℕ) → option_map (λ (f : FrozenFrames). f.left) o ≡ Some k → n ≤ k →
+    (f : FrozenFrames) × (o ≡ Some f) × (n ≤ f.left)
 requested_by None k n reported within = absurd (none-some k reported)
 requested_by (Some f) k n reported within = (f, refl, omega (arith, within, same_Some f.left k reported))
 
-running_in : (fs : List Frame) (left : ℕ) (o : Option FrozenPuts) (f : FrozenFrames) → option_map (λ (h : FrozenPuts). record { frames = fs; size = h.size; left = left }) o ≡ Some f →
+running_in : (fs : List Frame) (left : ℕ) (o : Option FrozenPuts) (f : FrozenFrames) →
+    option_map (λ (h : FrozenPuts). record { frames = fs; size = h.size; left = left }) o ≡ Some f →
     (h : FrozenPuts) × (o ≡ Some h) × (record { frames = fs; size = h.size; left = left } ≡ f)
 running_in fs left None f is = absurd (none-some f is)
 running_in fs left (Some h) f is = (h, refl, same_Some (record { frames = fs; size = h.size; left = left }) f is)
@@ -70,7 +72,11 @@ module _ {D : Type 0} (disk : D → Disk) where
     snapshots = λ g g_is.
         goes.snapshots
         ∙ ap (λ (o : Option FrozenFrames). record { frozen = o; saved = (snapshots_of disk s0).saved; to_move = (snapshots_of disk s0).to_move }) g_is
-        ∙ ap (λ (k : ℕ). record { frozen = Some (record { frames = g.frames; size = g.size; left = k }); saved = (snapshots_of disk s0).saved; to_move = (snapshots_of disk s0).to_move }) (same g.left);
+        ∙ ap (λ (k : ℕ). record {
+          frozen = Some (record { frames = g.frames; size = g.size; left = k });
+          saved = (snapshots_of disk s0).saved;
+          to_move = (snapshots_of disk s0).to_move;
+        }) (same g.left);
     rest = put ∙ ap (λ (o : Option FrozenFrames). record (on_device s0 s) { frozen = o }) (sym (ap (λ (t : StoreState D). t.frozen) put));
     goes_on = goes.goes_on;
   } where
@@ -87,7 +93,11 @@ module _ {D : Type 0} (disk : D → Disk) where
         let one = first.snapshots g is_g in
         second.snapshots mid (ap (λ (x : Snapshots FrozenFrames). x.frozen) one)
         ∙ ap (λ (x : Snapshots FrozenFrames). stabilized k mid x) one
-        ∙ ap (λ (n : ℕ). record { frozen = Some (record { frames = g.frames; size = g.size; left = n }); saved = (snapshots_of disk a).saved; to_move = (snapshots_of disk a).to_move }) (total g);
+        ∙ ap (λ (n : ℕ). record {
+          frozen = Some (record { frames = g.frames; size = g.size; left = n });
+          saved = (snapshots_of disk a).saved;
+          to_move = (snapshots_of disk a).to_move;
+        }) (total g);
     rest = second.rest ∙ ap (λ (x : StoreState D). on_device_frozen x c) first.rest;
     goes_on = goes_trans (disk a.durable.beneath) (disk b.durable.beneath) (disk c.durable.beneath) a.durable.books b.durable.books c.durable.books
         (ap (λ (x : Snapshots FrozenFrames). x.saved) (first.snapshots f is_some)) first.goes_on second.goes_on;
@@ -96,7 +106,8 @@ module _ {D : Type 0} (disk : D → Disk) where
     total g = omega arith
 
   -- the next one may be put
-  pub next_requested : (a b : StoreState D) (count i : ℕ) → ((f : FrozenFrames) × (a.frozen ≡ Some f) × (count ≤ f.left)) → PutsBy disk a b i → i < count → (f : FrozenFrames) × (b.frozen ≡ Some f) × (0 < f.left)
+  pub next_requested : (a b : StoreState D) (count i : ℕ) → ((f : FrozenFrames) × (a.frozen ≡ Some f) × (count ≤ f.left)) → PutsBy disk a b i → i < count →
+      (f : FrozenFrames) × (b.frozen ≡ Some f) × (0 < f.left)
   next_requested a b count i requested so_far lt = (
     record { frames = requested.0.frames; size = requested.0.size; left = requested.0.left - i },
     ap (λ (x : Snapshots FrozenFrames). x.frozen) (so_far.snapshots requested.0 requested.1),

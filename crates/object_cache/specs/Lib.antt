@@ -3,7 +3,6 @@ pub use Rattle.cache_entries.specs.Order
 pub use Rattle.object_store.specs.Store
 pub mod Names
 pub mod Memory
-pub mod Staging
 pub mod StoreState
 pub mod Prepared
 pub mod Journaled

@@ -1,14 +1,27 @@
 -- Where the bodies of objects are: in an entry, in the staging buffer, or on the device.
-use Rattle.object_cache.specs.Names.{ℕ, Bool, true, false, Option, Some, None, List, length, map, slice_index_or}
-use Rattle.object_cache.specs.Names.{range_with_len, Cap, Frame, ObjectHeader, Content, Role, header_at, Put, Absent}
-use Rattle.object_cache.specs.Names.{Broken, Kept, put_at, Stored, below_at, Entry, entry_at}
+use Rattle.object_cache.specs.Names.{ℕ, Bool, true, false, Option, Some, None, List, is_some, length, map}
+use Rattle.object_cache.specs.Names.{slice_index_or, range_with_len, Cap, Frame, ObjectHeader, Content, Role, header_at}
+use Rattle.object_cache.specs.Names.{Put, Absent, Broken, Kept, put_at, Stored, below_at, Entry, entry_at, content_of}
+use Rattle.object_cache.specs.Names.{Body, Scratch, content_behind, ContentRef}
 use Rattle.std.specs.Prelude.{◌==◌, if◌then◌else◌}
 use Rattle.model.specs.declared.object.Content.TheVariants as content
 use Rattle.model.specs.declared.object.Role.TheVariants as role
-use Rattle.object_cache.specs.declared.held.Held.{Held}
+
+-- a body in no entry: what an object was frozen as, read so that its frame can be written again under a newer header
+pub record Held : Type 0 where
+  pub number : ℕ
+  pub content : Content Cap
+
+-- by a number and a body whose words and slots are in a scratch buffer, or by a reference to one
+abbrev pub held_in : Scratch → ℕ × Body → Held
+held_in scratch held = record { number = held.0; content = content_of held.1 scratch.slots scratch.words }
+
+abbrev pub held_behind : ℕ × ContentRef → Held
+held_behind held = record { number = held.0; content = content_behind held.1 }
 
 -- What a bounded cache has in memory beside the durable store: headers, and those that were frozen; which numbers were
--- written since the last checkpoint began, which of them weren't put since they were, and which have a frozen frame that
+-- written since the last checkpoint began, which of them weren't put since they were, and which have a frozen frame
+-- that
 -- isn't in its slot; the entries, and a body that was read so that its frozen frame can be written again.
 pub record Memory : Type 0 where
   pub headers : List ObjectHeader
@@ -19,7 +32,8 @@ pub record Memory : Type 0 where
   pub entries : List (Option Entry)
   pub staging : Option Held
 
-abbrev pub memory_of : List ObjectHeader → List ObjectHeader → List Bool → List Bool → List Bool → List (Option Entry) → Option Held → Memory
+abbrev pub memory_of : List ObjectHeader → List ObjectHeader → List Bool → List Bool → List Bool → List (Option Entry) →
+    Option Held → Memory
 memory_of headers frozen_headers touched dirty pending entries staging = record {
   headers = headers;
   frozen_headers = frozen_headers;
@@ -73,7 +87,8 @@ content_at s m n = present_body (entry_at m.entries n) (header_at m.headers n).r
 abbrev pub present_at : Stored → Memory → ℕ → Frame
 present_at s m n = record { header = header_at m.headers n; content = content_at s m n }
 
--- the frozen body of an object with an entry: kept apart; or what lies below, if it was written since; or the present one
+-- the frozen body of an object with an entry: kept apart; or what lies below, if it was written since; or the present
+-- one
 abbrev pub apart_body : Option (Content Cap) → Bool → Content Cap → Content Cap → Content Cap
 apart_body (Some c) touched present below = c
 apart_body None true present below = below
@@ -88,9 +103,12 @@ abbrev pub own_body : Option (Content Cap) → Content Cap → Content Cap
 own_body (Some c) present = c
 own_body None present = present
 
+abbrev pub own_body_of : Entry → Content Cap
+own_body_of e = own_body e.kept e.present
+
 -- and the frame of it, under the header that was frozen
 abbrev pub own_frame : ObjectHeader → Entry → Frame
-own_frame h e = record { header = h; content = masked h.role (own_body e.kept e.present) }
+own_frame h e = record { header = h; content = masked h.role (own_body_of e) }
 
 -- the frozen frame of an object, whether or not it is in its slot
 abbrev pub frozen_frame : Bool → ObjectHeader → Content Cap → Frame → Frame
@@ -108,7 +126,8 @@ contents_in s m = map (content_at s m) (range_with_len 0 (length m.headers))
 unfoldable pub frozen_in : Stored → Memory → List Frame
 frozen_in s m = map (frozen_at s m) (range_with_len 0 (length m.headers))
 
--- what an entry has of the frozen frame that is still to be written: nothing, the present body, or one that is kept apart
+-- what an entry has of the frozen frame that is still to be written: nothing, the present body, or one that is kept
+-- apart
 pub data Owed : Type 0 where
   Nothing : Owed
   Shared : Owed
@@ -124,15 +143,19 @@ is_shared Nothing = false
 is_shared Shared = true
 is_shared Apart = false
 
-abbrev pub owed_body : Option (Content Cap) → Bool → Owed
-owed_body (Some c) touched = Apart
-owed_body None true = Nothing
-owed_body None false = Shared
+-- by whether the frozen frame is pending, whether a body is kept apart, and whether the object was written since
+abbrev pub owed_body : Bool → Bool → Owed
+owed_body true touched = Apart
+owed_body false true = Nothing
+owed_body false false = Shared
+
+abbrev pub owed_by : Bool → Bool → Bool → Owed
+owed_by false kept touched = Nothing
+owed_by true kept touched = owed_body kept touched
 
 abbrev pub owed_of : Option Entry → Bool → Bool → Owed
 owed_of None pending touched = Nothing
-owed_of (Some e) false touched = Nothing
-owed_of (Some e) true touched = owed_body e.kept touched
+owed_of (Some e) pending touched = owed_by pending (is_some e.kept) touched
 
 abbrev pub owed_in_memory : Memory → ℕ → Owed
 owed_in_memory m n = owed_of (entry_at m.entries n) (mark_at m.pending n) (mark_at m.touched n)

@@ -1,20 +1,21 @@
 -- The names of other crates that the definitions here cite.
-pub use Rattle.cache_entries.specs.Entries.{buffer_of, entry_at}
-pub use Rattle.cache_entries.specs.Order.{AllDiffer, without}
-pub use Rattle.cache_entries.specs.declared.entry.Entry.{Entry}
+pub use Rattle.cache_entries.specs.Entries.{Entry, entry_at, new_entry}
+pub use Rattle.cache_entries.specs.Order.{AllDiffer, EntriesState, without}
 pub use Rattle.capability.specs.Parts.{HaveTheirRoles, Parts}
-pub use Rattle.capability.specs.Plain.{spare_body_at}
 pub use Rattle.checkpoint.specs.Saved.{Holds, most}
 pub use Rattle.checkpoint.specs.Snapshots.{Snapshots}
 pub use Rattle.device.proofs.Moments.{ends, leaves_on, leaves_weaker, peeks_started}
 pub use Rattle.device.specs.Disk.{Disk, Image}
 pub use Rattle.device.specs.Moments.{Peeks}
+pub use Rattle.layout.specs.Frame.{content_of}
 pub use Rattle.layout.specs.Image.{SavedState}
+pub use Rattle.layout.specs.declared.body.Body.{Body}
+pub use Rattle.layout.specs.declared.body.Scratch.{Scratch}
 pub use Rattle.migrator.proofs.Moving.{goes_none, goes_trans}
 pub use Rattle.migrator.specs.Durable.{DurableState, FrozenPuts, GoesOn, Stored, below_at, is_sound, newest}
 pub use Rattle.migrator.specs.Durable.{saved_state, seen_of, stored_of}
 pub use Rattle.migrator.specs.Put.{Absent, Broken, Kept, Put, put_at}
-pub use Rattle.model.specs.Frame.{header_at, headers}
+pub use Rattle.model.specs.Frame.{content_behind, frame_at, header_at, headers}
 pub use Rattle.model.specs.Keepable.{AreKeepable}
 pub use Rattle.model.specs.Machine.{touched_count}
 unfoldable pub use Rattle.model.specs.Machine.{untouched}
@@ -24,9 +25,10 @@ pub use Rattle.model.specs.declared.capability.Cap.{Cap}
 pub use Rattle.model.specs.declared.frame.Frame.{Frame}
 pub use Rattle.model.specs.declared.frame.ObjectHeader.{ObjectHeader}
 pub use Rattle.model.specs.declared.object.Content.{Content}
+pub use Rattle.model.specs.declared.object.ContentRef.{ContentRef}
 pub use Rattle.model.specs.declared.object.Role.{Role}
 pub use Rattle.object_store.specs.Store.{Continues, FrozenFrames, View, stabilized}
-pub use Rattle.std.proofs.Common.{ap, arith, length-set, refl}
+pub use Rattle.std.proofs.Common.{ap, arith, refl}
 pub use Rattle.std.specs.List.{range_with_len}
-pub use Rattle.std.specs.Prelude.{Bool, IsSome, List, None, Option, Some, [], count_by, false, is_some, length, map}
+pub use Rattle.std.specs.Prelude.{Bool, IsSome, List, None, Option, Some, count_by, false, is_some, length, map, nat_le}
 pub use Rattle.std.specs.Prelude.{option_map, replicate, slice_index_or, slice_set, take, true, ℕ}

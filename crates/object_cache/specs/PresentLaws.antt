@@ -1,20 +1,12 @@
 -- What is seen of a store goes on while its objects change.
-use Rattle.object_cache.specs.Names.{refl, ap, arith, length-set, Cap, Content, Image, Disk, ends, leaves_on}
-use Rattle.object_cache.specs.Names.{leaves_weaker, peeks_started, Snapshots, FrozenFrames, goes_trans, goes_none}
+use Rattle.object_cache.specs.Names.{refl, ap, arith, Image, Disk, ends, leaves_on, leaves_weaker, peeks_started}
+use Rattle.object_cache.specs.Names.{Snapshots, FrozenFrames, goes_trans, goes_none}
 use Rattle.std.proofs.Common.{◌≤◌, ◌∙◌, ℕ, Bool}
-use Rattle.object_cache.specs.StoreState.{StoreState, GoesOnIn, ContinuesIn, IsFetchedIn, IsAnnouncedIn}
-use Rattle.object_cache.specs.StoreState.{with_content_in}
-
-module _ {D : Type 0} where
-  pub fetched_content : (s : StoreState D) (n : ℕ) (c : Content Cap) (m : ℕ) → IsFetchedIn s m → IsFetchedIn (with_content_in s n c) m
-  fetched_content s n c m there = record {
-    header = there.header;
-    content = omega (arith, there.content, length-set s.contents n c);
-    cached = there.cached;
-  }
+use Rattle.object_cache.specs.StoreState.{StoreState, GoesOnIn, ContinuesIn}
 
 module _ {D : Type 0} (disk : D → Disk) where
-  pub goes_on_same : ((d : D) (c : Image) → (disk d).left_since (disk d).moment c → (disk d).may_leave c) → (s : StoreState D) → GoesOnIn disk s s
+  pub goes_on_same : ((d : D) (c : Image) → (disk d).left_since (disk d).moment c → (disk d).may_leave c) →
+      (s : StoreState D) → GoesOnIn disk s s
   goes_on_same only_now s = record {
     goes_on = goes_none (disk s.durable.beneath) s.durable.books (only_now s.durable.beneath);
     snapshots = refl;
@@ -24,9 +16,11 @@ module _ {D : Type 0} (disk : D → Disk) where
     only_reads = λ none idle. peeks_started (disk s.durable.beneath) (only_now s.durable.beneath);
   }
 
-  pub goes_on_twice : ((d : D) (t : ℕ) (c : Image) → t ≤ (disk d).moment → (disk d).may_leave c → (disk d).left_since t c) → (s t u : StoreState D) → GoesOnIn disk s t → GoesOnIn disk t u → GoesOnIn disk s u
+  pub goes_on_twice : ((d : D) (t : ℕ) (c : Image) → t ≤ (disk d).moment → (disk d).may_leave c →
+      (disk d).left_since t c) → (s t u : StoreState D) → GoesOnIn disk s t → GoesOnIn disk t u → GoesOnIn disk s u
   goes_on_twice counts_now s t u first second = record {
-    goes_on = goes_trans (disk s.durable.beneath) (disk t.durable.beneath) (disk u.durable.beneath) s.durable.books t.durable.books u.durable.books
+    goes_on = goes_trans (disk s.durable.beneath) (disk t.durable.beneath) (disk u.durable.beneath) s.durable.books
+        t.durable.books u.durable.books
         (ap (λ (a : Snapshots FrozenFrames). a.saved) first.snapshots) first.goes_on second.goes_on;
     snapshots = second.snapshots ∙ first.snapshots;
     later = omega (arith, first.later, second.later);
@@ -35,37 +29,23 @@ module _ {D : Type 0} (disk : D → Disk) where
     only_reads = λ none idle.
         let one = first.only_reads (omega (arith, none, second.grows)) idle in
         let two = second.only_reads none (ap (λ (a : Snapshots FrozenFrames). a.frozen) first.snapshots ∙ idle) in
-        leaves_on {old = disk s.durable.beneath} {mid = disk t.durable.beneath} {new = disk u.durable.beneath} {P = (disk s.durable.beneath).may_leave} one
-        (leaves_weaker {old = disk t.durable.beneath} {new = disk u.durable.beneath} {P = (disk t.durable.beneath).may_leave} (disk s.durable.beneath).may_leave
-        (ends {old = disk s.durable.beneath} {new = disk t.durable.beneath} {P = (disk s.durable.beneath).may_leave} one (counts_now t.durable.beneath)) two);
+        leaves_on {old = disk s.durable.beneath} {mid = disk t.durable.beneath} {new = disk u.durable.beneath} {P =
+        (disk s.durable.beneath).may_leave} one
+        (leaves_weaker {old = disk t.durable.beneath} {new = disk u.durable.beneath} {P =
+        (disk t.durable.beneath).may_leave} (disk s.durable.beneath).may_leave
+        (ends {old = disk s.durable.beneath} {new = disk t.durable.beneath} {P = (disk s.durable.beneath).may_leave} one
+        (counts_now t.durable.beneath)) two);
   }
 
-  pub goes_on_with : (s t : StoreState D) (n : ℕ) (c : Content Cap) → GoesOnIn disk s t → GoesOnIn disk s (with_content_in t n c)
-  goes_on_with s t n c first = record {
-    goes_on = first.goes_on;
-    snapshots = first.snapshots;
-    later = first.later;
-    grows = first.grows;
-    most = first.most;
-    only_reads = first.only_reads;
-  }
-
-  pub announced_content : (s : StoreState D) (n : ℕ) (c : Content Cap) (m : ℕ) → IsAnnouncedIn disk s m → IsAnnouncedIn disk (with_content_in s n c) m
-  announced_content s n c m there = record {
-    header = there.header;
-    content = omega (arith, there.content, length-set s.contents n c);
-    dirty = there.dirty;
-    room = there.room;
-  }
-
-  pub continues_same : (all : Bool) → ((d : D) (c : Image) → (disk d).left_since (disk d).moment c → (disk d).may_leave c) → (s : StoreState D) → ContinuesIn all disk s s
+  pub continues_same : (all : Bool) →
+      ((d : D) (c : Image) → (disk d).left_since (disk d).moment c → (disk d).may_leave c) → (s : StoreState D) →
+      ContinuesIn all disk s s
   continues_same all only_now s = record { goes_on = goes_on_same only_now s; still = λ is. refl }
 
-  pub continues_twice : (all : Bool) → ((d : D) (t : ℕ) (c : Image) → t ≤ (disk d).moment → (disk d).may_leave c → (disk d).left_since t c) → (s t u : StoreState D) → ContinuesIn all disk s t → ContinuesIn all disk t u → ContinuesIn all disk s u
+  pub continues_twice : (all : Bool) →
+      ((d : D) (t : ℕ) (c : Image) → t ≤ (disk d).moment → (disk d).may_leave c → (disk d).left_since t c) →
+      (s t u : StoreState D) → ContinuesIn all disk s t → ContinuesIn all disk t u → ContinuesIn all disk s u
   continues_twice all counts_now s t u first second = record {
     goes_on = goes_on_twice counts_now s t u first.goes_on second.goes_on;
     still = λ is. second.still is ∙ first.still is;
   }
-
-  pub continues_with : (all : Bool) (s t : StoreState D) (n : ℕ) (c : Content Cap) → ContinuesIn all disk s t → ContinuesIn all disk s (with_content_in t n c)
-  continues_with all s t n c first = record { goes_on = goes_on_with s t n c first.goes_on; still = first.still }

@@ -1,24 +1,23 @@
 -- The store of objects: what is seen of it, and what always holds.
 use Rattle.object_cache.specs.Names.{ℕ, Bool, true, false, Option, Some, None, IsSome, is_some, option_map, count_by}
-use Rattle.object_cache.specs.Names.{List, [], length, map, replicate, slice_index_or, slice_set, range_with_len, Cap}
-use Rattle.object_cache.specs.Names.{ObjectHeader, Content, Frame, header_at, headers, AreKeepable, touched_count}
-use Rattle.object_cache.specs.Names.{untouched, is_member, object_count, Disk, Peeks, Put, Absent, Broken, Kept, put_at}
-use Rattle.object_cache.specs.Names.{most, DurableState, FrozenPuts, Stored, GoesOn, saved_state, seen_of, stored_of}
-use Rattle.object_cache.specs.Names.{is_sound, SavedState, Parts, HaveTheirRoles, Snapshots, spare_body_at}
-use Rattle.object_cache.specs.Names.{FrozenFrames, View, stabilized, Entry, entry_at, buffer_of, AllDiffer, without}
-use Rattle.std.specs.Prelude.{◌≡◌, ◌⊎◌, ◌<◌, ◌∷◌, ◌||◌, ◌≤◌}
-use Rattle.model.specs.declared.object.Content.TheVariants as content
+use Rattle.object_cache.specs.Names.{List, length, map, replicate, slice_index_or, slice_set, range_with_len, Cap}
+use Rattle.object_cache.specs.Names.{ObjectHeader, Content, Frame, frame_at, header_at, headers, AreKeepable}
+use Rattle.object_cache.specs.Names.{touched_count, untouched, is_member, object_count, Disk, Peeks, Put, Absent}
+use Rattle.object_cache.specs.Names.{Broken, Kept, put_at, most, DurableState, FrozenPuts, Stored, GoesOn, saved_state}
+use Rattle.object_cache.specs.Names.{seen_of, stored_of, is_sound, SavedState, Parts, HaveTheirRoles, Snapshots}
+use Rattle.object_cache.specs.Names.{FrozenFrames, View, stabilized, Entry, EntriesState, entry_at, new_entry}
+use Rattle.object_cache.specs.Names.{AllDiffer, without, nat_le}
+use Rattle.std.specs.Prelude.{◌≡◌, ◌⊎◌, ◌<◌, ◌∷◌, ◌||◌, ◌≤◌, if◌then◌else◌}
 use Rattle.model.specs.declared.object.Role.TheVariants as role
-use Rattle.object_cache.specs.declared.held.Held.{Held}
 use Rattle.object_cache.specs.declared.all_objects.AllObjects.{AllObjects}
-use Rattle.object_cache.specs.Memory.{Memory, Owed, Nothing, owed_body, mark_at, present_at, frozen_at, contents_in}
+use Rattle.object_cache.specs.Memory.{Held, Memory, Owed, Nothing, owed_by, mark_at, present_at, frozen_at, contents_in}
 use Rattle.object_cache.specs.Memory.{frozen_in, owed_in}
 
 -- ---- what is seen of it
 
--- what the fields of entries are seen as: by number, the entry's buffer, if there is one
-unfoldable pub cached_in : List (Option Entry) → List (Option (Content Cap))
-cached_in es = map (option_map buffer_of) es
+-- which numbers have an entry
+unfoldable pub cached_in : List (Option Entry) → List Bool
+cached_in es = map is_some es
 
 pub record StoreState (D : Type 0) : Type 0 where
   pub durable : DurableState D
@@ -27,7 +26,7 @@ pub record StoreState (D : Type 0) : Type 0 where
   pub touched : List Bool
   pub dirty : List Bool
   pub pending : List Bool
-  pub cached : List (Option (Content Cap))
+  pub cached : List Bool
   pub owed : List Owed
   pub frozen : Option FrozenFrames
   pub staging : Option Held
@@ -36,7 +35,8 @@ pub record StoreState (D : Type 0) : Type 0 where
 
 -- the frozen frames of a checkpoint on its way; `left` counts those that `stabilize` has yet to reach
 abbrev pub frozen_seen : Stored → Memory → ℕ → Option FrozenFrames
-frozen_seen s m left = option_map (λ (f : FrozenPuts). record { frames = frozen_in s m; size = f.size; left = left }) s.frozen
+frozen_seen s m left = option_map (λ (f : FrozenPuts). record { frames = frozen_in s m; size = f.size; left = left })
+    s.frozen
 
 module _ {D : Type 0} (disk : D → Disk) where
   abbrev pub cache_of : DurableState D → Memory → ℕ → List ℕ → ℕ → StoreState D
@@ -70,7 +70,11 @@ module _ {D : Type 0} (disk : D → Disk) where
   saved_by s = saved_state (seen_of disk s.durable) s.durable.books
 
   abbrev pub snapshots_of : StoreState D → Snapshots FrozenFrames
-  snapshots_of s = record { frozen = s.frozen; saved = (stored_of disk s.durable).saved; to_move = (stored_of disk s.durable).to_move }
+  snapshots_of s = record {
+    frozen = s.frozen;
+    saved = (stored_of disk s.durable).saved;
+    to_move = (stored_of disk s.durable).to_move;
+  }
 
   abbrev pub view_of : StoreState D → View D
   view_of s = record { beneath = s.durable.beneath; snapshots = snapshots_of s; is_sound = is_sound disk s.durable }
@@ -83,24 +87,20 @@ module _ {D : Type 0} (disk : D → Disk) where
     pub later : (disk s.durable.beneath).failures ≤ (disk t.durable.beneath).failures
     pub grows : touched_count s.touched ≤ touched_count t.touched
     pub most : t.most ≡ s.most
-    pub only_reads : touched_count t.touched ≡ 0 → s.frozen ≡ None → Peeks (disk s.durable.beneath) (disk t.durable.beneath)
+    pub only_reads : touched_count t.touched ≡ 0 → s.frozen ≡ None →
+        Peeks (disk s.durable.beneath) (disk t.durable.beneath)
 
-abbrev pub cached_at : List (Option (Content Cap)) → ℕ → Option (Content Cap)
-cached_at cached n = slice_index_or cached n None
+abbrev pub cached_at : List Bool → ℕ → Bool
+cached_at cached n = slice_index_or cached n false
 
 -- the number of entries is at most the capacity: each number with an entry stands once in the order of use
 pub record IsBounded {D : Type 0} (s : StoreState D) : Type 0 where
-  pub listed : (n : ℕ) → is_member s.order n ≡ is_some (cached_at s.cached n)
+  pub listed : (n : ℕ) → is_member s.order n ≡ cached_at s.cached n
   pub once : AllDiffer s.order
   pub few : length s.order ≤ s.most
 
 abbrev pub owed_at : List Owed → ℕ → Owed
 owed_at owed n = slice_index_or owed n Nothing
-
--- what a new entry has of the frozen frame: the object is as it was frozen if it wasn't written since
-abbrev pub newly_owed : Bool → Bool → Owed
-newly_owed false touched = Nothing
-newly_owed true touched = owed_body None touched
 
 -- how many frozen frames aren't in their slots
 abbrev pub pending_count : {D : Type 0} → StoreState D → ℕ
@@ -109,14 +109,15 @@ pending_count s = count_by (λ b. b) s.pending
 -- a number that had no entry has one, which was used last
 abbrev pub with_cached : {D : Type 0} → ℕ → StoreState D → StoreState D
 with_cached n s = record s {
-  cached = slice_set s.cached n (Some content.Free);
-  owed = slice_set s.owed n (newly_owed (mark_at s.pending n) (mark_at s.touched n));
+  cached = slice_set s.cached n true;
+  owed = slice_set s.owed n (owed_by (mark_at s.pending n) false (mark_at s.touched n));
   order = n ∷ s.order;
 }
 
 -- what is on the device of the one, and all else of the other
 abbrev pub on_device : {D : Type 0} → StoreState D → StoreState D → StoreState D
-on_device s t = record s { durable = t.durable; dirty = t.dirty; pending = t.pending; owed = t.owed; staging = t.staging }
+on_device s t = record
+    s { durable = t.durable; dirty = t.dirty; pending = t.pending; owed = t.owed; staging = t.staging }
 
 -- the same, where more frozen frames may be in the log
 abbrev pub on_device_frozen : {D : Type 0} → StoreState D → StoreState D → StoreState D
@@ -130,20 +131,19 @@ pub record PutsBy {D : Type 0} (disk : D → Disk) (s t : StoreState D) (k : ℕ
 
 -- without the entry of a number
 abbrev pub without_cached : {D : Type 0} → ℕ → StoreState D → StoreState D
-without_cached n s = record s { cached = slice_set s.cached n None; order = without n s.order }
+without_cached n s = record s { cached = slice_set s.cached n false; order = without n s.order }
 
 -- a number is fetched where it has an entry
 pub record IsFetchedIn {D : Type 0} (s : StoreState D) (n : ℕ) : Type 0 where
   pub header : n < length s.headers
   pub content : n < length s.contents
-  pub cached : IsSome (cached_at s.cached n)
+  pub cached : cached_at s.cached n ≡ true
 
--- a number may be written: it is dirty, and a free one with an entry has a spare body
-pub record IsAnnouncedIn {D : Type 0} (disk : D → Disk) (s : StoreState D) (n : ℕ) : Type 0 where
+-- a number may be written where it is dirty
+pub record IsAnnouncedIn {D : Type 0} (s : StoreState D) (n : ℕ) : Type 0 where
   pub header : n < length s.headers
   pub content : n < length s.contents
   pub dirty : mark_at s.dirty n ≡ true
-  pub room : (header_at s.headers n).role ≡ role.Free → IsSome (cached_at s.cached n) → cached_at s.cached n ≡ Some (spare_body_at (stored_of disk s.durable).saved.geometry n)
 
 -- every object has an entry
 abbrev pub IsWhole : {D : Type 0} → StoreState D → Type 0
@@ -171,25 +171,56 @@ pub record IsJustOpened (s : Stored) (hs : List ObjectHeader) : Type 0 where
   pub working : s.working ≡ replicate (length s.saved.frames) Absent
   pub idle : s.frozen ≡ None
 
--- the present objects are the saved ones, and none has an entry
-pub record IsMadeOver {D : Type 0} (disk : D → Disk) (d : DurableState D) (most : ℕ) (s : StoreState D) : Type 0 where
-  pub durable : s.durable ≡ d
-  pub headers_are : s.headers ≡ headers (stored_of disk d).saved.frames
-  pub contents : s.contents ≡ bodies_of (stored_of disk d).saved.frames
-  pub touched : s.touched ≡ untouched (stored_of disk d).saved.geometry
-  pub idle : s.frozen ≡ None
-  pub uncached : (n : ℕ) → cached_at s.cached n ≡ None
-  pub order : s.order ≡ []
-  pub same_most : s.most ≡ most
+-- entries hold the bodies of frames, by number, or none
+pub record HoldBodies (e : EntriesState) (fs : List Frame) : Type 0 where
+  pub each : length e.at ≡ length fs
+  pub bodies : (n : ℕ) (x : Entry) → entry_at e.at n ≡ Some x → x ≡ new_entry (frame_at fs n).content
+  pub least : 8 ≤ e.most
 
--- the same, and each has an entry if all are kept
-pub record IsOpenOver {D : Type 0} (all : Bool) (disk : D → Disk) (d : DurableState D) (most : ℕ) (s : StoreState D) : Type 0 where
+-- each number has an entry
+abbrev pub AreAll : EntriesState → Type 0
+AreAll e = (n : ℕ) → n < length e.at → IsSome (entry_at e.at n)
+
+-- the least capacity for all of so many objects
+abbrev pub all_of : ℕ → ℕ
+all_of count = if nat_le 8 count then count else 8
+
+-- what was taken of the saved objects: their headers, and entries with their bodies if all are kept
+pub record TakenState : Type 0 where
+  pub headers : List ObjectHeader
+  pub entries : Option EntriesState
+  pub count : ℕ
+
+-- entries have room for `count` bodies, of which the first `taken` are there
+pub record HaveRoom (e : EntriesState) (taken count : ℕ) : Type 0 where
+  pub each : length e.at ≡ count
+  pub used : length e.order ≡ taken
+  pub most : e.most ≡ all_of count
+  pub least : 8 ≤ e.most
+  pub whole : count ≤ e.most
+  pub later : (n : ℕ) → taken ≤ n → entry_at e.at n ≡ None
+
+-- a number may get an entry
+pub record HaveSpace (e : EntriesState) (n : ℕ) : Type 0 where
+  pub known : n < length e.at
+  pub absent : entry_at e.at n ≡ None
+  pub room : length e.order < e.most
+
+-- these frames were taken
+pub record AreTaken (s : TakenState) (fs : List Frame) : Type 0 where
+  pub headers_are : s.headers ≡ headers fs
+  pub bodies : (e : EntriesState) → s.entries ≡ Some e → (n : ℕ) → n < length fs →
+      entry_at e.at n ≡ Some (new_entry (frame_at fs n).content)
+
+-- the present objects are the saved ones, and each has an entry if all are kept
+pub record IsOpenOver {D : Type 0} (all : Type 0) (disk : D → Disk) (d : DurableState D) (most : ℕ) (s : StoreState D) :
+    Type 0 where
   pub durable : s.durable ≡ d
   pub headers_are : s.headers ≡ headers (stored_of disk d).saved.frames
   pub contents : s.contents ≡ bodies_of (stored_of disk d).saved.frames
   pub touched : s.touched ≡ untouched (stored_of disk d).saved.geometry
   pub idle : s.frozen ≡ None
-  pub whole : all ≡ true → IsWhole s
+  pub whole : all → IsWhole s
   pub same_most : s.most ≡ most
 
 -- all present objects of a store, as many bodies as headers
@@ -209,7 +240,8 @@ is_kept (Kept f) = true
 -- pending one, and at most `left` are pending
 pub record AreFrozen (f : FrozenPuts) (pending : List Bool) (left : ℕ) : Type 0 where
   pub each : length f.put ≡ length pending
-  pub size : count_by (λ b. b) (map (λ n. mark_at pending n || is_kept (put_at f.put n)) (range_with_len 0 (length pending))) ≡ f.size
+  pub size : count_by (λ b. b)
+      (map (λ n. mark_at pending n || is_kept (put_at f.put n)) (range_with_len 0 (length pending))) ≡ f.size
   pub torn : (n : ℕ) → put_at f.put n ≡ Broken → mark_at pending n ≡ true
   pub few : count_by (λ b. b) pending ≤ left
   pub within : left ≤ f.size
@@ -227,7 +259,8 @@ pub record IsCache (s : Stored) (m : Memory) (left count : ℕ) : Type 0 where
   pub within : count ≤ s.saved.geometry.log
   -- what is to be put was written since, and all else that was is put
   pub marked : (n : ℕ) → mark_at m.dirty n ≡ true → mark_at m.touched n ≡ true
-  pub clean : (n : ℕ) → mark_at m.dirty n ≡ false → mark_at m.touched n ≡ true → put_at s.working n ≡ Kept (present_at s m n)
+  pub clean : (n : ℕ) → mark_at m.dirty n ≡ false → mark_at m.touched n ≡ true →
+      put_at s.working n ≡ Kept (present_at s m n)
   -- an object that wasn't written since wasn't put, and has its frozen or saved frame
   pub unput : (n : ℕ) → mark_at m.touched n ≡ false → put_at s.working n ≡ Absent
   pub unwritten : (n : ℕ) → n < length m.headers → mark_at m.touched n ≡ false → present_at s m n ≡ frozen_at s m n
@@ -238,5 +271,6 @@ pub record IsCache (s : Stored) (m : Memory) (left count : ℕ) : Type 0 where
   pub held : (h : Held) → m.staging ≡ Some h → mark_at m.pending h.number ≡ true
   pub apart : (n : ℕ) (e : Entry) → entry_at m.entries n ≡ Some e → (e.kept ≡ None) ⊎ (mark_at m.pending n ≡ true)
   -- a body on the device that is frozen as free isn't wanted
-  pub freed : (n : ℕ) → entry_at m.entries n ≡ None → mark_at m.pending n ≡ true → (header_at m.frozen_headers n).role ≡ role.Free →
+  pub freed : (n : ℕ) → entry_at m.entries n ≡ None → mark_at m.pending n ≡ true →
+      (header_at m.frozen_headers n).role ≡ role.Free →
       (is_kept (put_at s.working n) ≡ true) ⊎ ((header_at m.headers n).role ≡ role.Free)

@@ -14,23 +14,21 @@ pub struct AllObjects {
     pub contents: Vec<Content<Cap>>,
 }
 
-// What objects hold, by number, if each has an entry.
-pub(crate) fn take_bodies(
+// Copies of what objects hold, by number, if each has an entry.
+pub(crate) fn copy_bodies(
     alloc: Global,
-    entries: Entries,
+    entries: &Entries,
     count: usize,
 ) -> Result<Vec<Content<Cap>>, AllocError>
-    requires each { length entries.at ≡ count }
-    requires whole { (n : ℕ) → n < count → IsSome (entry_at entries.at n) }
+    requires { (n : ℕ) → n < count → IsSome (entry_at entries.now.at n) }
     ensures count { IfOk result (λ bodies. length bodies.items ≡ count) }
     ensures bodies { IfOk result (λ bodies. (n : ℕ) → n < count
-        → option_map present_of (entry_at entries.at n) ≡ Some (held_at bodies.items n)) }
+        → option_map present_of (entry_at entries.now.at n) ≡ Some (held_at bodies.items n)) }
 {
-    let mut entries = entries;
     let mut bodies = Vec::with_capacity(alloc, count)?;
     for number in 0..count {
-        let entry = entries.remove(number as u64);
-        bodies.push(entry.present)?;
+        let body = entries.present(number as u64).to_content(alloc)?;
+        bodies.push(body)?;
     }
     Ok(bodies)
 }

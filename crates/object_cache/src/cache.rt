@@ -1,12 +1,11 @@
 // The object store that keeps a bounded number of object bodies in memory.
-ghost use Rattle.std.specs.Prelude.{◌∷◌, ◌≡◌, ◌≢◌, ◌<◌, ◌≤◌, None, Some, false, true, ℕ, length, slice_set, take, OnOk};
+ghost use Rattle.std.specs.Prelude.{◌∷◌, ◌≡◌, ◌≢◌, ◌<◌, ◌≤◌, None, false, true, ℕ, length, slice_set, take, OnOk};
 ghost use Rattle.std.specs.Prelude.{OnErr};
-ghost use Rattle.std.specs.Borrow.{Lends, sem};
-ghost use Rattle.model.specs.contracts.object.Content.{the_row as content_row};
-ghost use Rattle.model.specs.contracts.capability.Cap.{the_row as cap_row};
-ghost use Rattle.model.specs.Frame.{header_at, held_at, given_up, owned_by, called, claimed, void_held};
-ghost use Rattle.model.specs.Object.{role_of};
-ghost use Rattle.capability.specs.Parts.{frames_of, fresh_content, IsFreshAt};
+ghost use Rattle.model.specs.declared.object.Content.TheVariants as content;
+ghost use Rattle.model.specs.Frame.{content_behind, header_at, held_at, given_up, owned_by, called, claimed, void_held};
+ghost use Rattle.model.specs.Object.{role_of, with_slot_in, with_word_in};
+ghost use Rattle.capability.specs.Objects.{with_root_in, with_slots_in};
+ghost use Rattle.capability.specs.Parts.{frames_of, fresh_content};
 ghost use Rattle.model.specs.Keepable.{AreKeepable, IsKeepable};
 ghost use Rattle.model.specs.Revoke.{is_member};
 ghost use Rattle.device.specs.Calls.{Counts};
@@ -14,27 +13,23 @@ ghost use Rattle.checkpoint.specs.Saved.{most};
 ghost use Rattle.model.specs.Machine.{touched_count};
 ghost use Rattle.migrator.specs.Durable.{stored_of};
 
-use crate::freed_bodies::FreedBodies;
-use crate::frozen::put_own;
+use crate::frozen::{own_body, put_body};
 use crate::headers::Headers;
 use crate::owed::is_owing;
 use crate::staging::Staging;
-use cache_entries::{Entries, Entry};
-use capability::plain::spares::filled;
+use cache_entries::Entries;
 use capability::{Fresh, ObjectTable};
 use device::{Device, Failed};
 use layout::Scratch;
 use migrator::Durable;
-use model::{Cap, Content, Geometry, Role};
+use model::{Cap, ContentRef, Geometry, Role, Root};
 use number_set::NumberSet;
-use std::alloc::{AllocError, Global};
 use std::marker::Model;
 
 mod fetch;
 mod journal;
 mod open;
 mod prepare;
-mod read;
 mod stabilize;
 mod stages;
 mod staging;
@@ -62,8 +57,19 @@ pub struct Cache<D: Device> {
     /// A body that is in no entry, and perhaps no longer in its slot.
     staging: Staging,
     scratch: Scratch,
-    /// Bodies in which new objects are made.
-    freed: FreedBodies,
+}
+
+// The role of a new object.
+fn role_of(fresh: Fresh) -> Role
+    ensures { result ≡ role_of (fresh_content void_held fresh) }
+{
+    match fresh {
+        Fresh::Page => Role::Page,
+        Fresh::Node => Role::Node,
+        Fresh::Root { .. } => Role::Root,
+        Fresh::Annex => Role::Annex,
+        Fresh::Bank { .. } => Role::Bank,
+    }
 }
 
 impl<D: Device> Model for Cache<D> {
@@ -115,27 +121,59 @@ impl<D: Device> Cache<D> {
     }
 
     /// What an object holds that is in memory.
-    pub fn frame(&self, number: u64) -> &Content<Cap>
+    pub fn frame(&self, number: u64) -> ContentRef<'_>
         requires { IsFetchedIn self.now number }
-        ensures { result.now ≡ held_at self.now.contents number }
+        ensures { content_behind result ≡ held_at self.now.contents number }
     {
         self.entries.present(number)
     }
 
-    /// Lends what an object holds that is in memory, to be changed.
-    pub fn frame_mut(&mut self, number: u64) -> &mut Content<Cap>
+    /// Puts a word into a page. What is no page stays.
+    pub fn set_word(&mut self, number: u64, index: usize, word: u64)
         requires fetched { IsFetchedIn self.old number }
-        requires announced { IsAnnouncedIn D.disk self.old number }
-        ensures* writes_back { sem 𝓛 (Lends (the_row D.row D.Device) (content_row cap_row) self.entry result
-            (with_content_in self.old number)) }
-        ensures value { result.now ≡ held_at self.old.contents number }
+        requires announced { IsAnnouncedIn self.old number }
+        requires within { index < 512 }
+        ensures { self.new ≡ with_content_in self.old number
+            (with_word_in (held_at self.old.contents number) index word) }
     {
-        self.entries.present_mut(number)
+        self.entries.set_word(number, index, word);
+    }
+
+    /// Puts a capability into a slot of a node or a register of an annex. What is neither stays.
+    pub fn set_slot(&mut self, number: u64, slot: usize, held: Cap)
+        requires fetched { IsFetchedIn self.old number }
+        requires announced { IsAnnouncedIn self.old number }
+        requires within { slot < 32 }
+        ensures { self.new ≡ with_content_in self.old number
+            (with_slot_in (held_at self.old.contents number) slot held) }
+    {
+        self.entries.set_slot(number, slot, held);
+    }
+
+    /// Puts capabilities into the last four slots of a node or registers of an annex. What is neither
+    /// stays.
+    pub fn set_last_slots(&mut self, number: u64, held: [Cap; 4])
+        requires fetched { IsFetchedIn self.old number }
+        requires announced { IsAnnouncedIn self.old number }
+        ensures { self.new ≡ with_content_in self.old number
+            (with_slots_in (held_at self.old.contents number) 28 held) }
+    {
+        self.entries.set_last_slots(number, held);
+    }
+
+    /// Puts another root in place of the root of a process. What is no root stays.
+    pub fn set_root(&mut self, number: u64, root: Root<Cap>)
+        requires fetched { IsFetchedIn self.old number }
+        requires announced { IsAnnouncedIn self.old number }
+        ensures { self.new ≡ with_content_in self.old number
+            (with_root_in (λ r. root) (held_at self.old.contents number)) }
+    {
+        self.entries.set_root(number, root);
     }
 
     /// Gives an object another owner.
     pub fn set_owner(&mut self, number: u64, bank: u64)
-        requires { IsAnnouncedIn D.disk self.old number }
+        requires { IsAnnouncedIn self.old number }
         ensures { self.new ≡ record self.old {
           headers = slice_set self.old.headers number
               (owned_by bank (header_at self.old.headers number));
@@ -146,7 +184,7 @@ impl<D: Device> Cache<D> {
 
     /// Gives the right to resume a process up: its call count is one more.
     pub fn consume(&mut self, root: u64)
-        requires announced { IsAnnouncedIn D.disk self.old root }
+        requires announced { IsAnnouncedIn self.old root }
         requires calls { (header_at self.old.headers root).calls < u64.MAX }
         ensures { self.new ≡ record self.old {
           headers = slice_set self.old.headers root
@@ -156,64 +194,40 @@ impl<D: Device> Cache<D> {
         self.table.consume(root);
     }
 
-    /// Makes a free number an object, in its spare body. Its counts stay.
+    /// Makes a free number an object. Its counts stay.
     pub fn claim(&mut self, number: u64, fresh: Fresh, owner: u64)
         requires fetched { IsFetchedIn self.old number }
-        requires announced { IsAnnouncedIn D.disk self.old number }
+        requires announced { IsAnnouncedIn self.old number }
         requires free { (header_at self.old.headers number).role ≡ Role.Free }
-        requires place { IsFreshAt (stored_of D.disk self.old.durable).saved.geometry number fresh }
         ensures { self.new ≡ record self.old {
           headers = slice_set self.old.headers number (claimed
               (role_of (fresh_content void_held fresh)) owner (header_at self.old.headers number));
           contents = slice_set self.old.contents number (fresh_content void_held fresh);
-          cached = slice_set self.old.cached number (Some Content.Free);
         } }
     {
-        let buffer = self.entries.replace_buffer(number, Content::Free);
-        let content = filled(buffer, fresh);
-        self.table.claim(number, content.role(), owner);
-        *self.entries.present_mut(number) = content;
+        self.entries.claim(number, fresh);
+        self.table.claim(number, role_of(fresh), owner);
     }
 
     /// Gives an object up: it is free, and both of its counts are one more.
     pub fn reset(&mut self, number: u64)
-        requires announced { IsAnnouncedIn D.disk self.old number }
+        requires announced { IsAnnouncedIn self.old number }
         requires allocations { (header_at self.old.headers number).allocations < u64.MAX }
         requires calls { (header_at self.old.headers number).calls < u64.MAX }
         ensures { self.new ≡ record self.old {
           headers = slice_set self.old.headers number (given_up (header_at self.old.headers number));
-          contents = slice_set self.old.contents number Content.Free;
+          contents = slice_set self.old.contents number content.Free;
         } }
     {
-        let freed = self.entries.free(number);
-        self.freed.keep(freed);
+        self.entries.free(number);
         self.table.rescind(number);
-    }
-
-    // Makes what an object without an entry holds, which was read, an entry. Fails only where memory
-    // runs out, and then all is as it was.
-    pub(crate) fn insert(&mut self, number: u64, content: Content<Cap>) -> Result<(), AllocError>
-        requires known { number < length self.old.headers }
-        requires uncached { cached_at self.old.cached number ≡ None }
-        requires room { length self.old.order < self.old.most }
-        requires read { content ≡ held_at self.old.contents number }
-        ensures cached { OnOk result (self.new ≡ with_cached number self.old) }
-        ensures fetched { OnOk result (IsFetchedIn self.new number) }
-        ensures unchanged { OnErr result (self.new ≡ self.old) }
-    {
-        self.entries.insert(Entry {
-            number,
-            present: content,
-            kept: None,
-            buffer: Content::Free,
-        })
     }
 
     // Marks an object as used last, where it has an entry, and returns whether it has one.
     pub(crate) fn use_now(&mut self, number: u64) -> bool
         requires { number < length self.old.headers }
         ensures fetched { result ≡ true → IsFetchedIn self.old number }
-        ensures uncached { result ≡ false → cached_at self.old.cached number ≡ None }
+        ensures uncached { result ≡ false → cached_at self.old.cached number ≡ false }
         ensures used { result ≡ true → self.new
             ≡ record self.old { order = number ∷ without number self.old.order } }
         ensures unchanged { result ≡ false → self.new ≡ self.old }
@@ -221,18 +235,13 @@ impl<D: Device> Cache<D> {
         self.entries.promote(number)
     }
 
-    // Copies what an object holds that is also what it was frozen as, so that it can be changed.
-    // Fails only where memory runs out, and then all is as it was.
-    pub(crate) fn keep_apart(&mut self, alloc: Global, number: u64) -> Result<(), AllocError>
+    // Keeps a copy of what an object holds that is also what it was frozen as, so that it can be changed.
+    pub(crate) fn keep_apart(&mut self, number: u64)
         requires fetched { IsFetchedIn self.old number }
         requires shared { owed_at self.old.owed number ≡ Shared }
-        ensures apart { OnOk result (self.new
-            ≡ record self.old { owed = slice_set self.old.owed number Apart }) }
-        ensures unchanged { OnErr result (self.new ≡ self.old) }
+        ensures { self.new ≡ record self.old { owed = slice_set self.old.owed number Apart } }
     {
-        let copy = self.entries.present(number).copy(alloc)?;
-        self.entries.set_kept(number, Some(copy));
-        Ok(())
+        self.entries.keep_apart(number);
     }
 
     // Evicts the entry of a clean object: what the entry holds is on the device. The entry owes the
@@ -244,11 +253,11 @@ impl<D: Device> Cache<D> {
         requires masked { masked (header_at self.old.headers number).role (held_at self.old.contents number)
             ≡ held_at self.old.contents number }
         ensures { self.new ≡ record self.old {
-          cached = slice_set self.old.cached number None;
+          cached = slice_set self.old.cached number false;
           order = without number self.old.order;
         } }
     {
-        drop(self.entries.remove(number));
+        self.entries.remove(number);
     }
 
     // Puts what an object in an entry holds that is to be put. At `Failed` it still is.
@@ -289,12 +298,10 @@ impl<D: Device> Cache<D> {
         ensures cause { Counts (D.disk self.old.durable.beneath) (D.disk self.new.durable.beneath) result }
     {
         let header = self.frozen_headers.header(number);
-        let Some(entry) = self.entries.get(number) else {
-            unreachable!()
-        };
-        put_own(&mut self.durable, number, header, entry)?;
+        let content = own_body(&self.entries, number);
+        put_body(&mut self.durable, number, header, content)?;
         self.pending.set(number as usize, false);
-        self.entries.set_kept(number, None);
+        self.entries.drop_kept(number);
         self.staging.release(number);
         Ok(())
     }
@@ -308,10 +315,10 @@ impl<D: Device> Cache<D> {
     {
         let is_pending = self.pending.contains(number as usize);
         let is_touched = self.touched.contains(number as usize);
-        match self.entries.get(number) {
-            Some(entry) => is_owing(entry, is_pending, is_touched),
-            None => false,
+        if self.entries.holds(number) {
+            return is_owing(is_pending, self.entries.kept(number).is_some(), is_touched);
         }
+        false
     }
 
     // Puts the frozen frame of an object, where its entry has the frozen body and it is still to be
@@ -371,8 +378,8 @@ impl<D: Device> Cache<D> {
         requires keepable { AreKeepable (parts_of D.disk self.old).geometry most
             (frames_of (parts_of D.disk self.old)) }
         ensures room { OnOk result (length self.new.order < self.new.most) }
-        ensures uncached { (n : ℕ) → cached_at self.old.cached n ≡ None
-            → cached_at self.new.cached n ≡ None }
+        ensures uncached { (n : ℕ) → cached_at self.old.cached n ≡ false
+            → cached_at self.new.cached n ≡ false }
         ensures others { (n : ℕ) → is_member (take 7 self.old.order) n ≡ true
             → cached_at self.new.cached n ≡ cached_at self.old.cached n }
         ensures order { take 7 self.new.order ≡ take 7 self.old.order }
@@ -396,8 +403,8 @@ impl<D: Device> Cache<D> {
         requires keepable { AreKeepable (parts_of D.disk self.old).geometry most
             (frames_of (parts_of D.disk self.old)) }
         ensures room { OnOk result (length self.new.order < self.new.most) }
-        ensures uncached { (n : ℕ) → cached_at self.old.cached n ≡ None
-            → cached_at self.new.cached n ≡ None }
+        ensures uncached { (n : ℕ) → cached_at self.old.cached n ≡ false
+            → cached_at self.new.cached n ≡ false }
         ensures others { (n : ℕ) → is_member (take 7 self.old.order) n ≡ true
             → cached_at self.new.cached n ≡ cached_at self.old.cached n }
         ensures order { take 7 self.new.order ≡ take 7 self.old.order }
@@ -421,7 +428,7 @@ impl<D: Device> Cache<D> {
         requires known { number < length self.old.headers }
         requires keepable { AreKeepable (parts_of D.disk self.old).geometry most
             (frames_of (parts_of D.disk self.old)) }
-        ensures gone { OnOk result (cached_at self.new.cached number ≡ None) }
+        ensures gone { OnOk result (cached_at self.new.cached number ≡ false) }
         ensures rest { self.new ≡ record (on_device self.old self.new) {
           cached = self.new.cached;
           order = self.new.order;

@@ -2,7 +2,7 @@
 ghost use Rattle.std.specs.Prelude.{◌≡◌, ◌+◌, ◌<◌, ◌≤◌, ◌^◌, None, option_map, true, Err, is_some, IfErr, IfOk, IfSome};
 ghost use Rattle.std.specs.Prelude.{OnOk, OnErr};
 ghost use Rattle.model.specs.declared.object.Role.TheVariants as role;
-ghost use Rattle.model.specs.Frame.{frame_at};
+ghost use Rattle.model.specs.Frame.{content_behind, frame_at};
 ghost use Rattle.model.specs.Object.{is_page, words_in};
 ghost use Rattle.device.specs.Calls.{Counts};
 ghost use Rattle.frame_io.specs.Frames.{IsObject};
@@ -14,7 +14,7 @@ ghost use Rattle.object_store.specs.Journal.{is_page_role, is_same_page};
 
 use device::{Device, Failed};
 use migrator::Durable;
-use model::{Cap, Content, ObjectHeader, Refusal, Role, Unjournaled};
+use model::{ContentRef, ObjectHeader, Refusal, Role, Unjournaled};
 
 // Whether a role is that of a page.
 fn is_of_page(role: Role) -> bool
@@ -51,8 +51,8 @@ fn page_saved<D: Device>(
 /// The saved header of a page that may be journaled, if `header` is its header now and `is_known` whether an object has
 /// its number. It takes no memory, and writes nothing.
 ///
-/// It is refused as `ObjectStore::journal` is, and before the device is asked but for `Renewed`, and for `Fault` exactly
-/// where the device failed.
+/// It is refused as `ObjectStore::journal` is, and before the device is asked but for `Renewed`, and for
+/// `Fault` exactly where the device failed.
 pub(crate) fn may_journal<D: Device>(
     durable: &mut Durable<D>,
     header: ObjectHeader,
@@ -98,12 +98,12 @@ pub(crate) fn may_journal<D: Device>(
 /// Saves a page with the words of a content, under its saved header, as `Durable::save_page` does.
 pub(crate) fn save_content<D: Device>(
     durable: &mut Durable<D>,
-    content: &Content<Cap>,
+    content: ContentRef<'_>,
     header: ObjectHeader,
     number: u64,
     age: u64,
 ) -> Result<u64, Failed>
-    requires page { is_page content.now ≡ true }
+    requires page { is_page (content_behind content) ≡ true }
     requires free { (stored_of D.disk durable.old).frozen ≡ None }
     requires home { (stored_of D.disk durable.old).saved.entries ≡ 0 }
     requires saved { (frame_at (stored_of D.disk durable.old).saved.frames number).header.role
@@ -113,7 +113,8 @@ pub(crate) fn save_content<D: Device>(
     requires later { (stored_of D.disk durable.old).saved.age < age }
     requires most { age ≤ 2 ^ 62 }
     ensures journaled { OnOk result (stored_of D.disk durable.new
-        ≡ on_snapshots (journaled age number (words_in content.now)) (stored_of D.disk durable.old)) }
+        ≡ on_snapshots (journaled age number (words_in (content_behind content.entry)))
+        (stored_of D.disk durable.old)) }
     ensures unchanged { OnErr result (stored_of D.disk durable.new ≡ stored_of D.disk durable.old) }
     ensures plan { durable.new.books.plan ≡ durable.old.books.plan }
     ensures generation { IfOk result (λ generation. generation
@@ -122,10 +123,10 @@ pub(crate) fn save_content<D: Device>(
     ensures size { (D.disk durable.new.beneath).sectors ≡ (D.disk durable.old.beneath).sectors }
     ensures any_moment { LeavesEither (D.disk durable.old.beneath) (D.disk durable.new.beneath)
         (stored_of D.disk durable.old).saved
-        (journaled_saved age number (words_in content.now) (stored_of D.disk durable.old).saved) }
+        (journaled_saved age number (words_in (content_behind content.entry)) (stored_of D.disk durable.old).saved) }
     ensures cause { Counts (D.disk durable.old.beneath) (D.disk durable.new.beneath) result }
 {
-    let Content::Page(words) = content else {
+    let ContentRef::Page(words) = content else {
         unreachable!()
     };
     durable.save_page(number, header, words, age)

@@ -1,5 +1,6 @@
 // Which bodies a store keeps in memory.
-ghost use Rattle.std.specs.Prelude.{◌≡◌, ◌≤◌, nat_le, if◌then◌else◌, Bool, true, false, ℕ};
+ghost use Rattle.std.specs.Prelude.{◌≡◌, ◌≤◌, Bool, true, false, ℕ};
+ghost use Rattle.object_cache.specs.StoreState.{all_of};
 
 use cache_entries::Capacity;
 use capability::MAX_FETCHED;
@@ -20,8 +21,27 @@ pub trait Policy: Drop {
     /// How many bodies a store of `count` objects keeps at most.
     fn capacity(setting: Self::Setting, count: usize) -> Capacity
         requires few { count ≤ 8192 }
-        ensures most { result ≡ most_for setting count }
-        ensures whole { KEEPS_ALL ≡ true → count ≤ result };
+        ensures most { result ≡ most_for setting count };
+
+    ghost keeps: { (setting : Self.Setting) (count : ℕ) → KEEPS_ALL ≡ true → most_for setting count ≡ all_of count };
+}
+
+/// The least capacity for all bodies of `count` objects.
+pub(crate) fn capacity_for_all(count: usize) -> Capacity
+    requires few { count ≤ 8192 }
+    ensures all { result ≡ all_of count }
+    ensures least { 8 ≤ all_of count }
+    ensures whole { count ≤ all_of count }
+{
+    let most = if MAX_FETCHED <= count {
+        count
+    } else {
+        MAX_FETCHED
+    };
+    match Capacity::new(most as u64) {
+        Some(capacity) => capacity,
+        None => unreachable!(),
+    }
 }
 
 /// Every body is in memory, from opening on.
@@ -39,19 +59,15 @@ impl Policy for KeepAll {
 
     ghost KEEPS_ALL = { true };
 
-    ghost most_for = { λ setting count. if nat_le 8 count then count else 8 };
+    ghost most_for = { λ setting count. all_of count };
 
     fn capacity(_setting: (), count: usize) -> Capacity {
-        let most = if MAX_FETCHED <= count {
-            count
-        } else {
-            MAX_FETCHED
-        };
-        match Capacity::new(most as u64) {
-            Some(capacity) => capacity,
-            None => unreachable!(),
-        }
+        capacity_for_all(count)
     }
+
+    ghost use Rattle.std.proofs.Common.{refl};
+
+    ghost keeps = { λ setting count is. refl };
 }
 
 impl Policy for KeepRecent {
@@ -66,4 +82,8 @@ impl Policy for KeepRecent {
     fn capacity(setting: Capacity, _count: usize) -> Capacity {
         setting
     }
+
+    ghost use Rattle.std.proofs.Common.{sym, true≢false};
+
+    ghost keeps = { λ setting count is. absurd (true≢false (sym is)) };
 }

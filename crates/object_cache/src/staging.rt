@@ -1,11 +1,10 @@
 // The staging buffer: a frozen body on its way from one slot to another, which is in no entry.
-ghost use Rattle.std.specs.Prelude.{◌≡◌, None, Some, IfOk, IsSome, is_some, option_copied};
+ghost use Rattle.std.specs.Prelude.{◌≡◌, None, Some, IfOk, is_some, option_map};
 ghost use Rattle.layout.specs.Frame.{content_of};
-ghost use Rattle.object_cache.specs.Memory.{let_go};
+ghost use Rattle.object_cache.specs.Memory.{let_go, held_behind};
 
-use crate::held::Held;
 use layout::{Body, Scratch};
-use model::{Cap, Content, Slots, Words};
+use model::ContentRef;
 use std::alloc::{AllocError, Global};
 use std::marker::Model;
 use std::mem;
@@ -13,34 +12,18 @@ use std::mem;
 /// A body that is in no entry, or none. What it takes up takes no more memory.
 #[derive(Drop)]
 pub(crate) struct Staging {
-    held: Option<Held>,
-    /// The words of a page, unless the body has them.
-    words: Option<Words>,
-    /// The slots of a node or an annex, unless the body has them.
-    slots: Option<Slots<Cap>>,
+    held: Option<(u64, Body)>,
+    /// The words and slots of the body.
+    scratch: Scratch,
 }
 
 impl Model for Staging {
-    ghost use Rattle.std.specs.Prelude.{Option};
-    ghost use Rattle.object_cache.specs.declared.held.Held.{Held};
-    ghost use Rattle.object_cache.specs.Staging.{HasSpare};
+    ghost use Rattle.std.specs.Prelude.{Option, option_map};
+    ghost use Rattle.object_cache.specs.Memory.{Held, held_in};
 
     ghost Value = { Option Held };
 
-    ghost view = { λ h. h.held };
-
-    ghost invariant = { λ h. HasSpare h.held h.words h.slots };
-}
-
-// Swaps a filled value with the spare one, and returns the filled one.
-fn lift<T>(spare: &mut Option<T>, filled: &mut T) -> T
-    requires { IsSome spare.old }
-    ensures { result ≡ filled.old }
-{
-    let Some(blank) = spare.take() else {
-        unreachable!()
-    };
-    mem::replace(filled, blank)
+    ghost view = { λ h. option_map (held_in h.scratch) h.held };
 }
 
 impl Staging {
@@ -50,17 +33,16 @@ impl Staging {
     {
         Ok(Staging {
             held: None,
-            words: Some(Words::new(alloc)?),
-            slots: Some(Slots::new(alloc, Cap::void())?),
+            scratch: Scratch::new(alloc)?,
         })
     }
 
-    /// The body in the staging buffer.
-    pub(crate) fn get(&self) -> Option<&Held>
-        ensures { option_copied result ≡ self.now }
+    /// The number and the body in the staging buffer.
+    pub(crate) fn get(&self) -> Option<(u64, ContentRef<'_>)>
+        ensures { option_map held_behind result ≡ self.now }
     {
         match &self.held {
-            Some(held) => Some(held),
+            Some(held) => Some((held.0, held.1.content(&self.scratch))),
             None => None,
         }
     }
@@ -74,36 +56,20 @@ impl Staging {
 
     /// Takes the body of an object that was read into a scratch buffer.
     pub(crate) fn take_up(&mut self, number: u64, body: Body, scratch: &mut Scratch)
-        requires { self.old ≡ None }
         ensures { self.new ≡ Some (record {
           number = number;
           content = content_of body scratch.old.slots scratch.old.words;
         }) }
     {
-        let content = match body {
-            Body::Free => Content::Free,
-            Body::Page => Content::Page(lift(&mut self.words, &mut scratch.words)),
-            Body::Node => Content::Node(lift(&mut self.slots, &mut scratch.slots)),
-            Body::Root(root) => Content::Root(root),
-            Body::Annex => Content::Annex(lift(&mut self.slots, &mut scratch.slots)),
-            Body::Bank { limit } => Content::Bank { limit },
-        };
-        self.held = Some(Held { number, content });
+        mem::swap(&mut self.scratch, scratch);
+        self.held = Some((number, body));
     }
 
     /// Releases the body, if there is one.
     pub(crate) fn let_go(&mut self)
         ensures { self.new ≡ None }
     {
-        let Some(held) = self.held.take() else {
-            return;
-        };
-        match held.content {
-            Content::Page(words) => self.words = Some(words),
-            Content::Node(slots) => self.slots = Some(slots),
-            Content::Annex(slots) => self.slots = Some(slots),
-            _ => {}
-        }
+        self.held = None;
     }
 
     /// Releases the body, if it is that number's.
@@ -111,7 +77,7 @@ impl Staging {
         ensures { self.new ≡ let_go number self.old }
     {
         let is_held = match &self.held {
-            Some(held) => held.number == number,
+            Some(held) => held.0 == number,
             None => false,
         };
         if is_held {

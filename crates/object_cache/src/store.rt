@@ -1,8 +1,7 @@
 // The store of objects over a device.
 ghost use Rattle.std.specs.Prelude.{◌≡◌, ◌≤◌, true, length, IfOk, IfErr};
 ghost use Rattle.migrator.specs.Durable.{stored_of};
-ghost use Rattle.object_cache.specs.StoreState.{AreObjectsOf, IsBounded, IsJustOpened, IsMadeOver, IsOpenOver};
-ghost use Rattle.object_cache.specs.StoreState.{bodies_of};
+ghost use Rattle.object_cache.specs.StoreState.{AreObjectsOf, AreTaken, IsBounded, IsJustOpened, IsOpenOver};
 
 use crate::all_objects::AllObjects;
 use crate::cache::Cache;
@@ -11,7 +10,6 @@ use crate::saved_objects::SavedObjects;
 use device::Device;
 use layout::Superblock;
 use migrator::Durable;
-use model::{Cap, Content};
 use std::alloc::{AllocError, Global};
 use std::marker::{Model, PhantomData};
 
@@ -42,24 +40,6 @@ impl<D: Device, P: Policy> Model for Store<D, P> {
     ghost invariant = { λ s. P.KEEPS_ALL ≡ true → IsWhole s.cache };
 }
 
-// Gives each object its body, if the policy keeps every body.
-fn fill<D: Device, P: Policy>(cache: Cache<D>, bodies: Vec<Content<Cap>>) -> Result<Cache<D>, D>
-    requires made { IsMadeOver D.disk cache.durable cache.most cache }
-    requires bodies { P.KEEPS_ALL ≡ true → bodies.items ≡ bodies_of (stored_of D.disk cache.durable).saved.frames }
-    requires room { P.KEEPS_ALL ≡ true → length cache.headers ≤ cache.most }
-    ensures filled { IfOk result (λ filled. IsOpenOver P.KEEPS_ALL D.disk cache.durable cache.most filled) }
-    ensures back { IfErr result (λ device. device ≡ cache.durable.beneath) }
-{
-    let mut cache = cache;
-    if !P::KEEPS_ALL {
-        return Ok(cache);
-    }
-    match cache.fill(bodies) {
-        Ok(()) => Ok(cache),
-        Err(_) => Err(cache.into_device()),
-    }
-}
-
 // The cache of a store that was just opened. If memory runs out, it gives the device back.
 fn cache_over<D: Device, P: Policy>(
     alloc: Global,
@@ -67,20 +47,19 @@ fn cache_over<D: Device, P: Policy>(
     saved: SavedObjects<P>,
     setting: P::Setting,
 ) -> Result<Cache<D>, D>
-    requires opened { IsJustOpened (stored_of D.disk durable) saved.headers.items }
-    requires bodies { P.KEEPS_ALL ≡ true → saved.bodies.items ≡ bodies_of (stored_of D.disk durable).saved.frames }
-    ensures made { IfOk result (λ cache. IsOpenOver P.KEEPS_ALL D.disk durable (P.most_for setting (length saved.headers.items)) cache) }
+    requires opened { IsJustOpened (stored_of D.disk durable) saved.headers }
+    requires took { AreTaken saved (stored_of D.disk durable).saved.frames }
+    requires few { length saved.headers ≤ 8192 }
+    ensures made { IfOk result (λ cache. IsOpenOver (P.KEEPS_ALL ≡ true) D.disk durable
+        (P.most_for setting (length saved.headers)) cache) }
     ensures back { IfErr result (λ device. device ≡ durable.beneath) }
 {
-    let SavedObjects {
-        headers,
-        bodies,
-        ..
-    } = saved;
-    let capacity = P::capacity(setting, headers.len());
-    match Cache::new(alloc, durable, headers, capacity) {
-        Ok(cache) => fill::<D, P>(cache, bodies),
-        Err(durable) => Err(durable.into_device()),
+    match saved.into_parts(alloc, setting) {
+        Ok(parts) => match Cache::new(alloc, durable, parts.0, parts.1) {
+            Ok(cache) => Ok(cache),
+            Err(durable) => Err(durable.into_device()),
+        },
+        Err(_) => Err(durable.into_device()),
     }
 }
 

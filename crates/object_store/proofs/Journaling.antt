@@ -50,7 +50,8 @@ next_same age n f ws None saved is_page is_saved = refl
 next_same age n f ws (Some x) saved is_page is_saved = refl
 
 -- where nothing refuses it, the page is what is saved next
-pub next_is : {F : Type 0} (left_of : F → ℕ) (age n : ℕ) (ws : List ℕ) (o : Option F) (saved : SavedFrames) (is_page is_saved : Bool) → option_map left_of o ≡ None → saved.entries ≡ 0 → is_page ≡ true → is_saved ≡ true →
+pub next_is : {F : Type 0} (left_of : F → ℕ) (age n : ℕ) (ws : List ℕ) (o : Option F) (saved : SavedFrames) (is_page is_saved : Bool) →
+    option_map left_of o ≡ None → saved.entries ≡ 0 → is_page ≡ true → is_saved ≡ true →
     journal.next_journaled age n ws o saved is_page is_saved ≡ Some (journaled_saved age n ws saved)
 next_is left_of age n ws None saved true true none home page there = ap (λ (k : ℕ). if k == 0 then Some (journaled_saved age n ws saved) else None) home
 next_is left_of age n ws None saved true false none home page there = absurd cc
@@ -58,7 +59,8 @@ next_is left_of age n ws None saved false is_saved none home page there = absurd
 next_is left_of age n ws (Some f) saved is_page is_saved none home page there = absurd cc
 
 -- it is done where no checkpoint is on its way, and the object is a page
-pub journal_there : (old new : Disk) (left : Option ℕ) (saved : SavedFrames) (is_known is_page is_saved : Bool) (r : Result ℕ Refusal) → IsJournalAnswer old new left saved is_known is_page is_saved r →
+pub journal_there : (old new : Disk) (left : Option ℕ) (saved : SavedFrames) (is_known is_page is_saved : Bool) (r : Result ℕ Refusal) →
+    IsJournalAnswer old new left saved is_known is_page is_saved r →
     OnOk r ((left ≡ None) × (is_page ≡ true))
 journal_there old new left saved is_known is_page is_saved (Ok generation) reported = (reported.1, reported.3)
 journal_there old new left saved is_known is_page is_saved (Err why) reported = tt

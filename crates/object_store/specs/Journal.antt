@@ -29,8 +29,10 @@ is_still_saved p s n = is_same_page (header_at p.headers n).allocations (frame_a
 
 -- what is saved then, where nothing refuses it
 abbrev pub saved_next : ℕ → ℕ → List ℕ → SavedFrames → (is_page is_saved : Bool) → Option SavedFrames
-saved_next age n words s is_page is_saved = if s.entries == 0 then (if is_page then (if is_saved then Some (journaled_saved age n words s) else None) else None) else None
+saved_next age n words s is_page is_saved = if s.entries == 0 then
+    (if is_page then (if is_saved then Some (journaled_saved age n words s) else None) else None) else None
 
-abbrev pub next_journaled : {F : Type 0} → ℕ → ℕ → List ℕ → Option F → SavedFrames → (is_page is_saved : Bool) → Option SavedFrames
+abbrev pub next_journaled : {F : Type 0} → ℕ → ℕ → List ℕ → Option F → SavedFrames → (is_page is_saved : Bool) →
+    Option SavedFrames
 next_journaled age n words None s is_page is_saved = saved_next age n words s is_page is_saved
 next_journaled age n words (Some f) s is_page is_saved = None

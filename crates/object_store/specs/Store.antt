@@ -21,7 +21,11 @@ pub record FrozenFrames : Type 0 where
 
 -- all of its frames are saved
 abbrev pub whole : FrozenView FrozenFrames
-whole = record { frames = λ (f : FrozenFrames) (fs : List Frame). f.frames; size = λ (f : FrozenFrames). f.size; left = λ (f : FrozenFrames). f.left }
+whole = record {
+  frames = λ (f : FrozenFrames) (fs : List Frame). f.frames;
+  size = λ (f : FrozenFrames). f.size;
+  left = λ (f : FrozenFrames). f.left;
+}
 
 -- all objects as they are, none of them in the log yet
 abbrev pub all_frozen : List Frame → ℕ → FrozenFrames
@@ -56,7 +60,8 @@ pub record OpensStore {D : Type 0} (disk : D → Disk) (device : D) (parts : Par
 
 -- frozen frames are written to the log only where a checkpoint is on its way
 abbrev pub IsStabilizeAnswer : Disk → Disk → Option ℕ → ℕ → Result ℕ Refusal → Type 0
-IsStabilizeAnswer old new left count (Ok n) = (new.failures ≡ old.failures) × (option_map (λ (k : ℕ). k - count) left ≡ Some n)
+IsStabilizeAnswer old new left count (Ok n) = (new.failures ≡ old.failures) ×
+    (option_map (λ (k : ℕ). k - count) left ≡ Some n)
 IsStabilizeAnswer old new left count (Err refusal.NoCheckpoint) = (new.failures ≡ old.failures) × (left ≡ None)
 IsStabilizeAnswer old new left count (Err refusal.Fault) = (old.failures < new.failures) × (left ≢ None)
 IsStabilizeAnswer old new left count (Err _) = ⊥

@@ -117,7 +117,8 @@ pub trait ObjectStore<D: Device>: PresentFrames + Sized {
         ensures sound { (view self.old).is_sound → (view self.new).is_sound }
         ensures size { (D.disk (view self.new).beneath).sectors ≡ (D.disk (view self.old).beneath).sectors }
         ensures any_moment { (view self.old).is_sound
-            → LeavesSaved (D.disk (view self.old).beneath) (D.disk (view self.new).beneath) (view self.old).snapshots.saved };
+            → LeavesSaved (D.disk (view self.old).beneath) (D.disk (view self.new).beneath)
+            (view self.old).snapshots.saved };
 
     /// Commits the checkpoint on its way: its frames are saved, at an age. Answers its generation.
     ///
@@ -167,12 +168,13 @@ pub trait ObjectStore<D: Device>: PresentFrames + Sized {
     /// other objects what was saved: one page is durable without a checkpoint. Returns the new
     /// generation. It takes no memory.
     ///
-    /// It is refused by `CheckpointRunning` exactly where a checkpoint is on its way, else by `MigrationPending` exactly
-    /// where something saved isn't home, else by `BadNumber` exactly where no object has the number, else by
-    /// `NotJournaled(NotPage)` exactly where it isn't a page, else by `NotJournaled(Renewed)` exactly where no page is
-    /// saved, or the saved one was freed since; nothing is written then, and only before `Renewed` the device is
-    /// asked. It returns `Fault` exactly where the device failed; then a crash leaves what was saved or, where nothing
-    /// else refuses it, that with the page.
+    /// It is refused by `CheckpointRunning` exactly where a checkpoint is on its way, else by
+    /// `MigrationPending` exactly where something saved isn't home, else by `BadNumber` exactly where no
+    /// object has the number, else by `NotJournaled(NotPage)` exactly where it isn't a page, else by
+    /// `NotJournaled(Renewed)` exactly where no page is saved, or the saved one was freed since; nothing is
+    /// written then, and only before `Renewed` the device is asked. It returns `Fault` exactly where the
+    /// device failed; then a crash leaves what was saved or, where nothing else refuses it, that with the
+    /// page.
     fn journal(&mut self, number: u64, age: u64) -> Result<u64, Refusal>
         requires keepable { AreKeepable (Self.parts self.old).geometry u64.MAX
             (frames_of (Self.parts self.old)) }
@@ -203,10 +205,12 @@ pub trait ObjectStore<D: Device>: PresentFrames + Sized {
     ghost continues: { (s t : Self) → Self.ContinuesTo s t → Continues D.disk (view s) (view t) };
 
     /// Where nothing was written since and no checkpoint is on its way, the device was only read.
-    ghost continues_peeks: { (s t : Self) → Self.ContinuesTo s t → touched_count (Self.parts t).touched ≡ 0 → (view s).snapshots.frozen ≡ None → Peeks (D.disk (view s).beneath) (D.disk (view t).beneath) };
+    ghost continues_peeks: { (s t : Self) → Self.ContinuesTo s t → touched_count (Self.parts t).touched ≡ 0
+        → (view s).snapshots.frozen ≡ None → Peeks (D.disk (view s).beneath) (D.disk (view t).beneath) };
 
     /// A sound store: a crash leaves what is saved.
-    ghost sound_holds: { (s : Self) (c : Image) → (view s).is_sound → (D.disk (view s).beneath).may_leave c → Holds (D.disk (view s).beneath).sectors c (view s).snapshots.saved };
+    ghost sound_holds: { (s : Self) (c : Image) → (view s).is_sound → (D.disk (view s).beneath).may_leave c
+        → Holds (D.disk (view s).beneath).sectors c (view s).snapshots.saved };
 
     ghost failures_are: { (s : Self) → (Self.parts s).failures ≡ (D.disk (view s).beneath).failures };
 

@@ -24,12 +24,15 @@ stays_inside inside (Bank b) conveyed = inr (conveyed b (λ weak. weak, refl))
 stays_inside inside Discrim conveyed = inl tt
 
 -- the slots of an object
-slots_inside : (os : List Object) (inside : ℕ → Bool) (n i : ℕ) (x : Content Capability) → ((w : Way) (m : ℕ) → IsWay os n x w m → IsTrue (inside m)) → StaysInside inside (slice_index_or (slots_in x) i Void)
+slots_inside : (os : List Object) (inside : ℕ → Bool) (n i : ℕ) (x : Content Capability) → ((w : Way) (m : ℕ) → IsWay os n x w m → IsTrue (inside m)) →
+    StaysInside inside (slice_index_or (slots_in x) i Void)
 slots_inside os inside n i content.Free continues = inl tt
 slots_inside os inside n i (content.Page words) continues = inl tt
-slots_inside os inside n i (content.Node slots) continues = stays_inside inside (slice_index_or slots i Void) (λ m conveys. continues (way.Slot i (slice_index_or slots i Void)) m (refl, conveys))
+slots_inside os inside n i (content.Node slots) continues = stays_inside inside (slice_index_or slots i Void)
+    (λ m conveys. continues (way.Slot i (slice_index_or slots i Void)) m (refl, conveys))
 slots_inside os inside n i (content.Root root) continues = inl tt
-slots_inside os inside n i (content.Annex slots) continues = stays_inside inside (slice_index_or slots i Void) (λ m conveys. continues (way.Slot i (slice_index_or slots i Void)) m (refl, conveys))
+slots_inside os inside n i (content.Annex slots) continues = stays_inside inside (slice_index_or slots i Void)
+    (λ m conveys. continues (way.Slot i (slice_index_or slots i Void)) m (refl, conveys))
 slots_inside os inside n i (content.Bank limit) continues = inl tt
 
 -- a set that no step leaves is closed
@@ -38,7 +41,8 @@ closed_by_steps os inside continues = record {
   annexes = λ p is root. continues (record { from = p; way = way.Annex; to = annex_at os p }) (root, refl) is;
   owned = λ b n is bank free owned. continues (record { from = b; way = way.Owner; to = n }) (bank, free, owned) is;
   slots = λ n i is. slots_inside os inside n i (content_at os n) (λ w m by. continues (record { from = n; way = w; to = m }) by is);
-  spaces = λ p is. stays_inside inside (root_at os p).space (λ m conveys. continues (record { from = p; way = way.Space (root_at os p).space; to = m }) (refl, conveys) is);
+  spaces = λ p is. stays_inside inside (root_at os p).space
+      (λ m conveys. continues (record { from = p; way = way.Space (root_at os p).space; to = m }) (refl, conveys) is);
 }
 
 -- no step leaves a closed set
@@ -46,20 +50,23 @@ module _ (os : List Object) (inside : ℕ → Bool) (closed : IsClosed os inside
   held_inside : (n i : ℕ) (x : Content Capability) → content_at os n ≡ x → IsTrue (inside n) → StaysInside inside (slice_index_or (held_by os x) i Void)
   held_inside n i content.Free is member = inl tt
   held_inside n i (content.Page words) is member = inl tt
-  held_inside n i (content.Node slots) is member = subst (λ (x : Content Capability). StaysInside inside (slice_index_or (slots_in x) i Void)) is (closed.slots n i member)
+  held_inside n i (content.Node slots) is member = subst (λ (x : Content Capability). StaysInside inside (slice_index_or (slots_in x) i Void)) is
+      (closed.slots n i member)
   held_inside n i (content.Root root) is member =
       let annex : IsTrue (inside root.annex) =
       subst (λ (a : ℕ). IsTrue (inside a)) (ap (λ (x : Content Capability). (root_in x).annex) is)
       (closed.annexes n member (subst (λ (x : Content Capability). IsTrue (is_root x)) (sym is) refl)) in
       closed.slots root.annex i annex
-  held_inside n i (content.Annex slots) is member = subst (λ (x : Content Capability). StaysInside inside (slice_index_or (slots_in x) i Void)) is (closed.slots n i member)
+  held_inside n i (content.Annex slots) is member = subst (λ (x : Content Capability). StaysInside inside (slice_index_or (slots_in x) i Void)) is
+      (closed.slots n i member)
   held_inside n i (content.Bank limit) is member = inl tt
 
   way_inside : (n : ℕ) (w : Way) (m : ℕ) → IsWay os n (content_at os n) w m → IsTrue (inside n) → IsTrue (inside m)
   way_inside n way.Annex m by member = subst (λ (a : ℕ). IsTrue (inside a)) by.1 (closed.annexes n member by.0)
   way_inside n way.Owner m by member = closed.owned n m member by.0 by.1 by.2
   way_inside n (way.Space c) m by member = named_inside inside c m by.1.0 by.1.1 (subst (StaysInside inside) by.0 (closed.spaces n member))
-  way_inside n (way.Slot i c) m by member = named_inside inside c m by.1.0 by.1.1 (subst (StaysInside inside) by.0 (held_inside n i (content_at os n) refl member))
+  way_inside n (way.Slot i c) m by member = named_inside inside c m by.1.0 by.1.1
+      (subst (StaysInside inside) by.0 (held_inside n i (content_at os n) refl member))
 
   pub step_inside : (s : Step) → IsStep os s → IsTrue (inside s.from) → IsTrue (inside s.to)
   step_inside s by member = way_inside s.from s.way s.to by member
@@ -119,7 +126,8 @@ module _ (os : List Object) (starts : List ℕ) (level : ℕ) (l : Levels) (over
 
   pub reached_found : (inside : ℕ → Bool) (o : ℕ) → IsReach os starts inside → IsTrue (inside o) → IsTrue (is_some (found_at l o))
   reached_found inside o reach member =
-      reach.least (λ n. is_some (found_at l n)) found_closed (λ k d lt. let found = searched.begins k d lt in found_some (slice_index_or starts k d) found.0 found.1) o member
+      reach.least (λ n. is_some (found_at l n)) found_closed
+      (λ k d lt. let found = searched.begins k d lt in found_some (slice_index_or starts k d) found.0 found.1) o member
 
   module _ (o : ℕ) (none : is_some (found_at l o) ≡ false) where
     pub no_chain : (steps : List Step) → IsChain os starts steps o → ⊥
@@ -139,7 +147,8 @@ module _ (os : List Object) (starts : List ℕ) (level : ℕ) (l : Levels) (over
     found = found.0;
     is = found.1;
     path = refl;
-    count = λ g is. let same : found.0 ≡ g = same_Some found.0 g (sym found.1 ∙ is) in let level : found.0.level ≡ g.level = ap (λ (f : Found). f.level) same in omega (arith, level);
+    count = λ g is. let same : found.0 ≡ g = same_Some found.0 g (sym found.1 ∙ is) in let level : found.0.level ≡ g.level = ap (λ (f : Found). f.level) same in
+        omega (arith, level);
   }
 
   module _ (o at : ℕ) (steps : List Step) (back : IsBack os l o at steps) where
@@ -148,34 +157,42 @@ module _ (os : List Object) (starts : List ℕ) (level : ℕ) (l : Levels) (over
     step_is p is = ap (λ (q : Option Found). option_and_then (λ (f : Found). f.step) q) (sym back.is) ∙ is
 
     after_of : (step : Step) → option_and_then (λ (f : Found). f.step) (found_at l at) ≡ Some step → IsAfter os l at back.found
-    after_of step is = ⊎_elim (λ first. let wrong : Some step ≡ None = sym (step_is (Some step) is) ∙ first.0.none in absurd (cc)) (λ after. after) (searched.linked at back.found back.is)
+    after_of step is = ⊎_elim (λ first. let wrong : Some step ≡ None = sym (step_is (Some step) is) ∙ first.0.none in absurd (cc)) (λ after. after)
+        (searched.linked at back.found back.is)
 
-    pub back_next : (step : Step) (new : List Step) → option_and_then (λ (f : Found). f.step) (found_at l at) ≡ Some step → new ≡ steps ++ step ∷ [] → IsBack os l o step.from new
+    pub back_next : (step : Step) (new : List Step) → option_and_then (λ (f : Found). f.step) (found_at l at) ≡ Some step → new ≡ steps ++ step ∷ [] →
+        IsBack os l o step.from new
     back_next step new is pushed =
         let after = after_of step is in
         let same : after.step ≡ step = same_Some after.step step (sym after.is ∙ step_is (Some step) is) in
         let long : length new ≡ length (steps ++ step ∷ []) = ap (λ (ss : List Step). length ss) pushed in record {
           found = after.before;
           is = subst (λ (s : Step). found_at l s.from ≡ Some after.before) same after.from;
-          path = subst (λ (ss : List Step). IsPath os step.from ss o) (sym (ap (λ (ss : List Step). reverse ss) pushed ∙ reverse-append steps (step ∷ [])))
-              (refl, subst (IsStep os) same after.step_is, subst (λ (n : ℕ). IsPath os n (reverse steps) o) (sym (ap (λ (s : Step). s.to) (sym same) ∙ after.to)) back.path);
+          path = subst (λ (ss : List Step). IsPath os step.from ss o) (sym (ap (λ (ss : List Step). reverse ss) pushed ∙ reverse-append steps (step ∷ []))) (
+            refl,
+            subst (IsStep os) same after.step_is,
+            subst (λ (n : ℕ). IsPath os n (reverse steps) o) (sym (ap (λ (s : Step). s.to) (sym same) ∙ after.to)) back.path,
+          );
           count = λ g now. omega (arith, back.count g now, after.level, long, one_more);
         }
       where
         one_more : length (steps ++ step ∷ []) ≡ length steps + 1
         one_more = length_push steps step
 
-    pub back_level : (step : Step) → option_and_then (λ (f : Found). f.step) (found_at l at) ≡ Some step → (level_of : Option Found → ℕ) → ((f : Found) → level_of (Some f) ≡ f.level)
+    pub back_level : (step : Step) → option_and_then (λ (f : Found). f.step) (found_at l at) ≡ Some step → (level_of : Option Found → ℕ) →
+        ((f : Found) → level_of (Some f) ≡ f.level)
         → level_of (found_at l step.from) < level_of (found_at l at)
     back_level step is level_of level_is =
         let after = after_of step is in
         let same : after.step ≡ step = same_Some after.step step (sym after.is ∙ step_is (Some step) is) in
         let here : level_of (found_at l at) ≡ back.found.level = ap level_of back.is ∙ level_is back.found in
-        let there : level_of (found_at l step.from) ≡ after.before.level = ap level_of (subst (λ (s : Step). found_at l s.from ≡ Some after.before) same after.from) ∙ level_is after.before in
+        let there : level_of (found_at l step.from) ≡ after.before.level = ap level_of
+        (subst (λ (s : Step). found_at l s.from ≡ Some after.before) same after.from) ∙ level_is after.before in
         omega (arith, here, there, after.level)
 
     -- at the beginning of a shortest chain
-    pub back_whole : option_and_then (λ (f : Found). f.step) (found_at l at) ≡ None → (g : Found) → found_at l o ≡ Some g → IsShortest os starts (reverse steps) o
+    pub back_whole : option_and_then (λ (f : Found). f.step) (found_at l at) ≡ None → (g : Found) → found_at l o ≡ Some g →
+        IsShortest os starts (reverse steps) o
     back_whole none g is = ⊎_elim
         (λ first. record {
           chain = (at, first.1, back.path);

@@ -52,9 +52,11 @@ pub record Follows (os : List Object) (starts : List ℕ) (f : Frontier) : Type 
   pub least : (other : ℕ → Bool) → IsClosed os other → All (λ p. IsTrue (other p)) starts → IsWithin f other
 
 marked_not : (marks : List Bool) (count n : ℕ) → marks ≡ replicate count false → IsTrue (is_marked marks n) → ⊥
-marked_not marks count n is inside = let none : is_marked marks n ≡ false = ap (λ (m : List Bool). is_marked m n) is ∙ none_marked count n in grind (arith, nat_tests)
+marked_not marks count n is inside = let none : is_marked marks n ≡ false = ap (λ (m : List Bool). is_marked m n) is ∙
+    none_marked count n in grind (arith, nat_tests)
 
-pub begun : (os : List Object) (starts : List ℕ) (f : Frontier) (count : ℕ) → count ≡ length os → f.found ≡ replicate count false → length (replicate count false) ≡ count → Begins os starts 0 f
+pub begun : (os : List Object) (starts : List ℕ) (f : Frontier) (count : ℕ) → count ≡ length os → f.found ≡ replicate count false →
+    length (replicate count false) ≡ count → Begins os starts 0 f
 begun os starts f count same is long = record {
   count = ap (λ (l : List Bool). length l) is ∙ (long ∙ same);
   begun = λ k d lt. absurd (omega (arith, lt));
@@ -73,7 +75,8 @@ one_begun os starts at d old new begins grows lt found least = record {
 }
   where
     if_at : (k e : ℕ) → k < at + 1 → (b : Bool) → nat_eq k at ≡ b → IsTrue (is_marked new.found (slice_index_or starts k e))
-    if_at k e below true is = let here : at ≡ k = grind (arith, nat_tests) in subst (λ (j : ℕ). IsTrue (is_marked new.found (slice_index_or starts j e))) here (found e)
+    if_at k e below true is = let here : at ≡ k = grind (arith, nat_tests) in subst (λ (j : ℕ). IsTrue (is_marked new.found (slice_index_or starts j e))) here
+        (found e)
     if_at k e below false is = grows.found _ (begins.begun k e (grind (arith, nat_tests)))
 
 pub all_begun : (os : List Object) (starts : List ℕ) (at : ℕ) (f : Frontier) → Begins os starts at f → length starts ≤ at → Follows os starts f
@@ -103,7 +106,8 @@ one_followed os starts n old mid new follows takes grows closed least = record {
         let other : (m ≡ n → ⊥) = λ same. grind (arith, nat_tests) in
         closed_more os (is_marked old.found) (is_marked new.found) m more (follows.closed m (takes.done m done other))
 
-pub all_followed : (os : List Object) (starts : List ℕ) (old new : Frontier) → Follows os starts old → HasNoneLeft old new → IsReach os starts (is_marked new.found)
+pub all_followed : (os : List Object) (starts : List ℕ) (old new : Frontier) → Follows os starts old → HasNoneLeft old new →
+    IsReach os starts (is_marked new.found)
 all_followed os starts old new follows none = record {
   closed = closed_of os (is_marked new.found) (λ n inside. now.closed n (none.done n inside));
   begins = now.begins;

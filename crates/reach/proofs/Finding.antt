@@ -13,11 +13,13 @@ missing_most (None ∷ xs) = let rest : missing xs ≤ length xs = missing_most 
 missing_most (Some x ∷ xs) = let rest : missing xs ≤ length xs = missing_most xs in omega (arith, rest)
 
 -- one fewer is missing
-pub missing_fewer : {X : Type 0} (xs : List (Option X)) (n : ℕ) (x : X) → n < length xs → slice_index_or xs n None ≡ None → missing (slice_set xs n (Some x)) + 1 ≡ missing xs
+pub missing_fewer : {X : Type 0} (xs : List (Option X)) (n : ℕ) (x : X) → n < length xs → slice_index_or xs n None ≡ None →
+    missing (slice_set xs n (Some x)) + 1 ≡ missing xs
 missing_fewer [] n x lt none = absurd (omega (arith, lt))
 missing_fewer (None ∷ xs) zero x lt none = omega arith
 missing_fewer (Some y ∷ xs) zero x lt none = absurd (cc)
-missing_fewer (None ∷ xs) (suc n) x lt none = let rest : missing (slice_set xs n (Some x)) + 1 ≡ missing xs = missing_fewer xs n x (omega (arith, lt)) none in omega (arith, rest)
+missing_fewer (None ∷ xs) (suc n) x lt none = let rest : missing (slice_set xs n (Some x)) + 1 ≡ missing xs = missing_fewer xs n x (omega (arith, lt)) none in
+    omega (arith, rest)
 missing_fewer (Some y ∷ xs) (suc n) x lt none = missing_fewer xs n x (omega (arith, lt)) none
 
 -- what is there, and what isn't
@@ -57,21 +59,25 @@ module _ (old new : Levels) (number : ℕ) (f : Found) (none : found_at old numb
   begun level step same = record {
     count = found_count;
     kept = found_kept;
-    each = λ n g is. ⊎_elim (λ before. inl before) (λ now. inr (now.0, subst (IsFirst n) (sym now.1) (record { level = level; none = step }))) (found_each n g is);
+    each = λ n g is. ⊎_elim (λ before. inl before) (λ now. inr (now.0, subst (IsFirst n) (sym now.1) (record { level = level; none = step })))
+        (found_each n g is);
     inside = (f, found_here);
     greatest = same;
     work = omega (arith, found_work);
   }
 
-  pub added : (step : Step) (level : ℕ) → step.to ≡ number → f.level ≡ level → f.step ≡ Some step → level ≤ old.greatest + 1 → new.greatest ≡ max old.greatest level → FindsBy (IsTheStep step) level old new
+  pub added : (step : Step) (level : ℕ) → step.to ≡ number → f.level ≡ level → f.step ≡ Some step → level ≤ old.greatest + 1 →
+      new.greatest ≡ max old.greatest level → FindsBy (IsTheStep step) level old new
   added step level to at is le same = record {
     count = found_count;
     kept = found_kept;
     each = λ n g now. ⊎_elim (λ before. inl before)
-        (λ here. inr (subst (IsFoundBy (IsTheStep step) level n) (sym here.1) (record { at = at; step = step; is = is; to = to ∙ sym here.0; by = (refl, refl, refl) }))) (found_each n g now);
+        (λ here. inr (subst (IsFoundBy (IsTheStep step) level n) (sym here.1)
+        (record { at = at; step = step; is = is; to = to ∙ sym here.0; by = (refl, refl, refl) }))) (found_each n g now);
     all = λ s by. (f, ap (found_at new) (by.2 ∙ to) ∙ found_here);
     later = omega (arith, same);
-    within = λ n g now. ⊎_elim (λ before. inl before) (λ here. let level_is : g.level ≡ level = ap (λ (h : Found). h.level) here.1 ∙ at in inr (omega (arith, level_is, same))) (found_each n g now);
+    within = λ n g now. ⊎_elim (λ before. inl before)
+        (λ here. let level_is : g.level ≡ level = ap (λ (h : Found). h.level) here.1 ∙ at in inr (omega (arith, level_is, same))) (found_each n g now);
     work = omega (arith, found_work, same, le);
   }
 
@@ -113,7 +119,8 @@ found_more : (P Q : Step → Type 0) (level n : ℕ) (f : Found) → ((s : Step)
 found_more P Q level n f more found = record { at = found.at; step = found.step; is = found.is; to = found.to; by = more found.step found.by }
 
 -- the same steps in other words
-pub finds_same : (P Q : Step → Type 0) (level : ℕ) (a b : Levels) → ((s : Step) → P s → Q s) → ((s : Step) → Q s → P s) → FindsBy P level a b → FindsBy Q level a b
+pub finds_same : (P Q : Step → Type 0) (level : ℕ) (a b : Levels) → ((s : Step) → P s → Q s) → ((s : Step) → Q s → P s) → FindsBy P level a b →
+    FindsBy Q level a b
 finds_same P Q level a b there back finds = record {
   count = finds.count;
   kept = finds.kept;
@@ -142,7 +149,8 @@ finds_both P Q R level a b c from_first from_next either first next = record {
 }
 
 -- the step by a capability
-pub finds_by : (from : ℕ) (by : Way) (c : Capability) (to level : ℕ) (a b : Levels) → Conveys c to → FindsBy (IsTheStep (record { from = from; way = by; to = to })) level a b → FindsBy (IsBy from by c) level a b
+pub finds_by : (from : ℕ) (by : Way) (c : Capability) (to level : ℕ) (a b : Levels) → Conveys c to →
+    FindsBy (IsTheStep (record { from = from; way = by; to = to })) level a b → FindsBy (IsBy from by c) level a b
 finds_by from by c to level a b conveys = finds_same (IsTheStep (record { from = from; way = by; to = to })) (IsBy from by c) level a b
     (λ s is. (is.0, is.1, subst (Conveys c) (sym is.2) conveys))
     (λ s is. (is.0, is.1, same_Some s.to to (sym is.2.1 ∙ conveys.1)))
@@ -161,8 +169,10 @@ held_next slots i from level a b c first next = finds_both (IsHeldIn slots i fro
 
 -- one number more that a bank may own
 pub owned_next_step : (os : List Object) (i bank level : ℕ) (step : Step) (a b c : Levels) → step.from ≡ bank → step.way ≡ way.Owner → step.to ≡ i
-    → is_free (content_at os i) ≡ false → owner_at os i ≡ bank → FindsBy (IsOwnedBelow os i bank) level a b → FindsBy (IsTheStep step) level b c → FindsBy (IsOwnedBelow os (i + 1) bank) level a c
-owned_next_step os i bank level step a b c from by to free owner first next = finds_both (IsOwnedBelow os i bank) (IsTheStep step) (IsOwnedBelow os (i + 1) bank) level a b c
+    → is_free (content_at os i) ≡ false → owner_at os i ≡ bank → FindsBy (IsOwnedBelow os i bank) level a b → FindsBy (IsTheStep step) level b c →
+    FindsBy (IsOwnedBelow os (i + 1) bank) level a c
+owned_next_step os i bank level step a b c from by to free owner first next = finds_both (IsOwnedBelow os i bank) (IsTheStep step)
+    (IsOwnedBelow os (i + 1) bank) level a b c
     (λ s owned. (owned.0, owned.1, omega (arith, owned.2), owned.3, owned.4))
     (λ s is. let here : s.to ≡ i = is.2 ∙ to in
     (is.0 ∙ from, is.1 ∙ by, omega (arith, here), ap (λ (n : ℕ). is_free (content_at os n)) here ∙ free, ap (λ (n : ℕ). owner_at os n) here ∙ owner))

@@ -56,4 +56,5 @@ pub owned_next : (old new : ℕ → Bool) (os : List Object) (bank i : ℕ) → 
     → (is_free (content_at os i) ≡ false → owner_at os i ≡ bank → IsTrue (new i))
     → (m : ℕ) → m < i + 1 → is_free (content_at os m) ≡ false → owner_at os m ≡ bank → IsTrue (new m)
 owned_next old new os bank i more before one m lt free owned =
-    owned_one old new (λ j. (is_free (content_at os j) ≡ false) × (owner_at os j ≡ bank)) i more (λ j below p. before j below p.0 p.1) (λ p. one p.0 p.1) m lt (free, owned)
+    owned_one old new (λ j. (is_free (content_at os j) ≡ false) × (owner_at os j ≡ bank)) i more (λ j below p. before j below p.0 p.1) (λ p. one p.0 p.1) m lt
+    (free, owned)

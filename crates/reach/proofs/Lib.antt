@@ -3,7 +3,6 @@ mod Chains
 mod ClosedSets
 mod Finding
 mod Growing
-mod Looking
 pub mod Members
 mod Searches
 mod TextLines

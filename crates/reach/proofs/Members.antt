@@ -38,21 +38,25 @@ pub slot_is : (os : List Object) (n : ℕ) (slots : List Capability) → slots_i
     slot_at os n k ≡ slice_index_or slots k d
 slot_is os n slots is k d lt = ap (λ (l : List Capability). slice_index_or l k Void) is ∙ get_or_default slots k Void d lt
 
-pub slots_known : (os : List Object) (n count : ℕ) (slots : List Capability) → AreSoundObjects os → count ≡ length os → slots_in (content_at os n) ≡ slots → All (NamesWithin count) slots
+pub slots_known : (os : List Object) (n count : ℕ) (slots : List Capability) → AreSoundObjects os → count ≡ length os → slots_in (content_at os n) ≡ slots →
+    All (NamesWithin count) slots
 slots_known os n count slots sound same is k d lt =
     subst (λ (m : ℕ). NamesWithin m (slice_index_or slots k d)) (sym same)
     (subst (NamesWithin (length os)) (slot_is os n slots is k d lt) (names_within os (slot_at os n k) (sound.2.slots n k).1))
 
-pub slots_stay : (os : List Object) (n : ℕ) (slots : List Capability) (other : ℕ → Bool) → slots_in (content_at os n) ≡ slots → IsClosedAt os other n → All (StaysInside other) slots
+pub slots_stay : (os : List Object) (n : ℕ) (slots : List Capability) (other : ℕ → Bool) → slots_in (content_at os n) ≡ slots → IsClosedAt os other n →
+    All (StaysInside other) slots
 slots_stay os n slots other is closed k d lt = subst (StaysInside other) (slot_is os n slots is k d lt) (closed.slots k)
 
 -- of a root
-pub annex_inside : (os : List Object) (n : ℕ) (root : Root Capability) (other : ℕ → Bool) → content_at os n ≡ content.Root root → IsClosedAt os other n → IsTrue (other root.annex)
+pub annex_inside : (os : List Object) (n : ℕ) (root : Root Capability) (other : ℕ → Bool) → content_at os n ≡ content.Root root → IsClosedAt os other n →
+    IsTrue (other root.annex)
 annex_inside os n root other is closed =
     subst (λ (a : ℕ). IsTrue (other a)) (ap (λ (x : Content Capability). (root_in x).annex) is)
     (closed.annexes (subst (λ (x : Content Capability). IsTrue (is_root x)) (sym is) refl))
 
-pub space_inside : (os : List Object) (n : ℕ) (root : Root Capability) (other : ℕ → Bool) → content_at os n ≡ content.Root root → IsClosedAt os other n → StaysInside other root.space
+pub space_inside : (os : List Object) (n : ℕ) (root : Root Capability) (other : ℕ → Bool) → content_at os n ≡ content.Root root → IsClosedAt os other n →
+    StaysInside other root.space
 space_inside os n root other is closed = subst (StaysInside other) (ap (λ (x : Content Capability). (root_in x).space) is) closed.space
 
 -- and of a bank

@@ -1,24 +1,19 @@
 -- The names that the proofs here cite: of other crates, and of the definitions of this one.
-pub use Rattle.capability.proofs.Frames.{length_objects}
-pub use Rattle.capability.proofs.Keeping.{keepable_later, keepable_roles}
-pub use Rattle.capability.proofs.SnapshotLaws.{only_reads_twice}
-pub use Rattle.capability.specs.Parts.{AreSound, HaveTheirRoles, OnlyFetches, OnlyReads, Parts, frames_of, objects_in}
-pub use Rattle.capability.specs.declared.present.PrepareFault.{PrepareFault}
+pub use Rattle.capability.proofs.FrameLists.{length_objects}
+pub use Rattle.capability.specs.Parts.{OnlyFetches, objects_in}
 pub use Rattle.confinement.proofs.Runs.{run_confined}
 pub use Rattle.confinement.specs.Confinement.{AreBy, IsKept, with_free}
 pub use Rattle.model.specs.Capability.{IsWeak, named}
 pub use Rattle.model.specs.Closed.{IsClosed, StaysInside}
 unfoldable pub use Rattle.model.specs.Frame.{frames_in, objects_of}
-pub use Rattle.model.specs.Keepable.{AreKeepable, IsSoundFrames}
 pub use Rattle.model.specs.Object.{free, is_bank, is_free, is_node, is_page, is_root, root_in, slots_in}
 pub use Rattle.model.specs.Sound.{NamesItsKind}
 pub use Rattle.model.specs.Text.{line_of, spaced}
 pub use Rattle.model.specs.World.{annex_at, content_at, is_process, object_at, owner_at, root_at, slot_at}
+pub use Rattle.model.specs.declared.capability.Cap.{Cap}
 pub use Rattle.model.specs.declared.capability.Capability.{Capability}
 pub use Rattle.model.specs.declared.capability.Capability.TheVariants.{Bank, Discrim, Node, Number, Page, Process, Resume, Space, Start, Void}
-pub use Rattle.model.specs.declared.frame.Frame.{Frame}
 pub use Rattle.model.specs.declared.frame.ObjectHeader.{ObjectHeader}
-pub use Rattle.model.specs.declared.geometry.Geometry.{Geometry}
 pub use Rattle.model.specs.declared.object.Content.{Content}
 pub use Rattle.model.specs.declared.object.Object.{Object}
 pub use Rattle.model.specs.declared.object.Root.{Root}
@@ -35,12 +30,11 @@ pub use Rattle.std.proofs.lemmas.Bool.Decides.{nat_tests}
 pub use Rattle.std.proofs.lemmas.Grind.{flat_map-append}
 pub use Rattle.std.proofs.lemmas.List.{get_or-set_other, get_or-set_same, get_or_default, length-replicate, length-reverse, length_push, reverse-append}
 pub use Rattle.std.proofs.lemmas.List.{take-append-drop, take_all, take_more}
-pub use Rattle.std.proofs.lemmas.List.Elements.{All-cons, All-nil}
 pub use Rattle.std.proofs.lemmas.Option.{same_Some}
 pub use Rattle.std.proofs.lemmas.Result.{err_from_is_err_and}
 pub use Rattle.std.specs.Io.KnownBytes.{Appends}
 pub use Rattle.std.specs.List.{All, Contains, count_by, enumerate_from, find, flat_map}
-pub use Rattle.std.specs.Prelude.{IsErrOf, IsTrue, Ok, Result, slice_index_or}
+pub use Rattle.std.specs.Prelude.{IsTrue, slice_index_or}
 pub use Rattle.std.specs.declared.alloc.Global.{Global}
 pub use Rattle.reach.specs.Chain.{Conveys, IsChain, IsPath, IsShortest, IsStep, IsWay, held_by}
 pub use Rattle.reach.specs.ChainLines.{step_line, steps_text}

@@ -21,7 +21,8 @@ module _ (os : List Object) (start now : Levels) (level i : ℕ) (first : FindsB
   at_once : (n : ℕ) → IsAt now n level → IsAt start n level
   at_once n at = ⊎_elim (λ before. (at.0, before, at.2)) (λ found. absurd (omega (arith, found.at, at.2))) (first.each n at.0 at.1)
 
-  pub level_next : (new : Levels) → has_level (found_at now i) level ≡ true → FindsBy (IsFrom os i) (level + 1) now new → FindsBy (IsFromLevel os start level (i + 1)) (level + 1) start new
+  pub level_next : (new : Levels) → has_level (found_at now i) level ≡ true → FindsBy (IsFrom os i) (level + 1) now new →
+      FindsBy (IsFromLevel os start level (i + 1)) (level + 1) start new
   level_next new test next = finds_both (IsFromLevel os start level i) (IsFrom os i) (IsFromLevel os start level (i + 1)) (level + 1) start now new
       (λ s from. (from.0, omega (arith, from.1), from.2))
       (λ s from. (subst (λ (k : ℕ). IsAt start k level) (sym from.0) (at_once i (at_of (found_at now i) level test)), omega (arith, from.0), from.1))
@@ -55,7 +56,8 @@ none_found zero n f is = absurd (cc)
 none_found (suc c) zero f is = absurd (cc)
 none_found (suc c) (suc n) f is = none_found c n f is
 
-pub begun_none : (os : List Object) (starts : List ℕ) (count : ℕ) (l : Levels) → l.found.items ≡ replicate count None → count ≡ length os → l.greatest ≡ 0 → Begun os starts 0 l
+pub begun_none : (os : List Object) (starts : List ℕ) (count : ℕ) (l : Levels) → l.found.items ≡ replicate count None → count ≡ length os → l.greatest ≡ 0 →
+    Begun os starts 0 l
 begun_none os starts count l is same greatest = record {
   count = counted;
   begun = λ k d lt. absurd (omega (arith, lt));
@@ -67,7 +69,8 @@ begun_none os starts count l is same greatest = record {
     counted : length l.found.items ≡ length os
     counted = ap (λ (xs : List (Option Found)). length xs) is ∙ (length-replicate {A = Option Found} count None ∙ same)
 
-pub begun_next : (os : List Object) (starts : List ℕ) (i : ℕ) (old new : Levels) → Begun os starts i old → Begins (slice_index_or starts i 0) old new → i < length starts → Begun os starts (i + 1) new
+pub begun_next : (os : List Object) (starts : List ℕ) (i : ℕ) (old new : Levels) → Begun os starts i old → Begins (slice_index_or starts i 0) old new →
+    i < length starts → Begun os starts (i + 1) new
 begun_next os starts i old new begun begins lt = record {
   count = begins.count ∙ begun.count;
   begun = λ k d below. elim (cases_lt k i) [
@@ -88,7 +91,8 @@ begun_next os starts i old new begun begins lt = record {
     first_now n f is = ⊎_elim (λ before. begun.first n f before) (λ now. (now.1, contained n now.0)) (begins.each n f is)
 
     found_now : IsFoundIn new (slice_index_or starts i 0) 0
-    found_now = let level : begins.inside.0.level ≡ 0 = (first_now (slice_index_or starts i 0) begins.inside.0 begins.inside.1).0.level in (begins.inside.0, begins.inside.1, omega (arith, level))
+    found_now = let level : begins.inside.0.level ≡ 0 = (first_now (slice_index_or starts i 0) begins.inside.0 begins.inside.1).0.level in
+        (begins.inside.0, begins.inside.1, omega (arith, level))
 
 pub searched_first : (os : List Object) (starts : List ℕ) (i : ℕ) (l : Levels) → Begun os starts i l → length starts ≤ i → IsSearched os starts 0 l
 searched_first os starts i l begun whole = record {

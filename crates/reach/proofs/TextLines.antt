@@ -14,7 +14,8 @@ module _ {A : Type 0} (line : A → List ℕ) (xs : List A) where
   pub plain_more : (i : ℕ) (d : A) → i < length xs → flat_map line (take (i + 1) xs) ≡ flat_map line (take i xs) ++ line (get_or xs i d)
   plain_more i d lt =
       let front : take (i + 1) xs ≡ take i xs ++ (get_or xs i d ∷ []) = rw add-one (take-suc xs i d lt) in
-      ap (flat_map line) front ∙ flat_map-append line (take i xs) (get_or xs i d ∷ []) ∙ ap (λ (l : List ℕ). flat_map line (take i xs) ++ l) (append-nil (line (get_or xs i d)))
+      ap (flat_map line) front ∙ flat_map-append line (take i xs) (get_or xs i d ∷ []) ∙
+      ap (λ (l : List ℕ). flat_map line (take i xs) ++ l) (append-nil (line (get_or xs i d)))
 
   pub plain_split : (i : ℕ) (d : A) → i < length xs → flat_map line xs ≡ (flat_map line (take i xs) ++ line (get_or xs i d)) ++ flat_map line (drop (i + 1) xs)
   plain_split i d lt =
@@ -46,8 +47,10 @@ module _ {A : Type 0} (line : ℕ × A → List ℕ) (xs : List A) where
       ∙ flat_map-append line (enumerate_from 0 (take i xs)) (enumerate_from (0 + length (take i xs)) (drop i xs))
 
   pub lines_split : (i : ℕ) (d : A) → i < length xs
-      → flat_map line (enumerate_from 0 xs) ≡ (lines_before i ++ line (i, get_or xs i d)) ++ flat_map line (enumerate_from (0 + length (take (i + 1) xs)) (drop (i + 1) xs))
-  lines_split i d lt = lines_whole (i + 1) ∙ ap (λ (t : List ℕ). t ++ flat_map line (enumerate_from (0 + length (take (i + 1) xs)) (drop (i + 1) xs))) (lines_more i d lt)
+      → flat_map line (enumerate_from 0 xs) ≡ (lines_before i ++ line (i, get_or xs i d)) ++ flat_map line
+      (enumerate_from (0 + length (take (i + 1) xs)) (drop (i + 1) xs))
+  lines_split i d lt = lines_whole (i + 1) ∙ ap (λ (t : List ℕ). t ++ flat_map line (enumerate_from (0 + length (take (i + 1) xs)) (drop (i + 1) xs)))
+      (lines_more i d lt)
 
   pub lines_all : (i : ℕ) → length xs ≤ i → lines_before i ≡ flat_map line (enumerate_from 0 xs)
   lines_all i le = ap (λ (l : List A). flat_map line (enumerate_from 0 l)) (take_all i xs le)

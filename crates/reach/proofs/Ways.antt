@@ -14,7 +14,11 @@ module _ (os : List Object) (n : ℕ) (x : Content Capability) (is : content_at 
   way_from from = subst (λ (y : Content Capability). IsWay os n y s.way s.to) is (subst (λ (k : ℕ). IsWay os k (content_at os k) s.way s.to) from.0 from.1)
 
   pub from_way : s.from ≡ n → IsWay os n x s.way s.to → IsFrom os n s
-  from_way same by = (same, subst (λ (k : ℕ). IsWay os k (content_at os k) s.way s.to) (sym same) (subst (λ (y : Content Capability). IsWay os n y s.way s.to) (sym is) by))
+  from_way same by = (
+    same,
+    subst (λ (k : ℕ). IsWay os k (content_at os k) s.way s.to) (sym same)
+        (subst (λ (y : Content Capability). IsWay os n y s.way s.to) (sym is) by),
+  )
 
 -- nothing past the end of a list conveys anything
 conveys_within : (slots : List Capability) (i m : ℕ) → Conveys (slice_index_or slots i Void) m → i < length slots
@@ -32,11 +36,15 @@ module _ (slots : List Capability) (i : ℕ) (c : Capability) (m : ℕ) (is : sl
   held_conveys = subst (λ (d : Capability). Conveys d m) (sym is) conveys
 
   pub held_way : (from : ℕ) (s : Step) → s.from ≡ from → s.way ≡ way.Slot i c → s.to ≡ m → IsHeldIn slots (length slots) from s
-  held_way from s same by to =
-      (i, conveys_within slots i m held_conveys, (same, by ∙ ap (λ (d : Capability). way.Slot i d) (sym is), subst (λ (k : ℕ). Conveys (slice_index_or slots i Void) k) (sym to) held_conveys))
+  held_way from s same by to = (
+    i,
+    conveys_within slots i m held_conveys,
+    (same, by ∙ ap (λ (d : Capability). way.Slot i d) (sym is), subst (λ (k : ℕ). Conveys (slice_index_or slots i Void) k) (sym to) held_conveys),
+  )
 
 -- of a list of slots
-slots_held : (os : List Object) (n : ℕ) (slots : List Capability) (w : Way) (m : ℕ) → IsWay os n (content.Node slots) w m → (s : Step) → s.from ≡ n → s.way ≡ w → s.to ≡ m → IsHeldIn slots (length slots) n s
+slots_held : (os : List Object) (n : ℕ) (slots : List Capability) (w : Way) (m : ℕ) → IsWay os n (content.Node slots) w m → (s : Step) → s.from ≡ n →
+    s.way ≡ w → s.to ≡ m → IsHeldIn slots (length slots) n s
 slots_held os n slots way.Annex m by s same is to = let wrong = by.0 in absurd (cc)
 slots_held os n slots way.Owner m by s same is to = let wrong = by.0 in absurd (cc)
 slots_held os n slots (way.Space c) m by s same is to = absurd (void_conveys c m by.0 by.1)
@@ -45,17 +53,20 @@ slots_held os n slots (way.Slot i c) m by s same is to = held_way slots i c m by
 held_slots : (os : List Object) (n : ℕ) (slots : List Capability) (s : Step) → IsHeldIn slots (length slots) n s → IsWay os n (content.Node slots) s.way s.to
 held_slots os n slots s held = subst (λ (w : Way). IsWay os n (content.Node slots) w s.to) (sym held.2.1) (refl, held.2.2)
 
-registers_held : (os : List Object) (n : ℕ) (slots : List Capability) (w : Way) (m : ℕ) → IsWay os n (content.Annex slots) w m → (s : Step) → s.from ≡ n → s.way ≡ w → s.to ≡ m → IsHeldIn slots (length slots) n s
+registers_held : (os : List Object) (n : ℕ) (slots : List Capability) (w : Way) (m : ℕ) → IsWay os n (content.Annex slots) w m → (s : Step) → s.from ≡ n →
+    s.way ≡ w → s.to ≡ m → IsHeldIn slots (length slots) n s
 registers_held os n slots way.Annex m by s same is to = let wrong = by.0 in absurd (cc)
 registers_held os n slots way.Owner m by s same is to = let wrong = by.0 in absurd (cc)
 registers_held os n slots (way.Space c) m by s same is to = absurd (void_conveys c m by.0 by.1)
 registers_held os n slots (way.Slot i c) m by s same is to = held_way slots i c m by.0 by.1 n s same is to
 
-held_registers : (os : List Object) (n : ℕ) (slots : List Capability) (s : Step) → IsHeldIn slots (length slots) n s → IsWay os n (content.Annex slots) s.way s.to
+held_registers : (os : List Object) (n : ℕ) (slots : List Capability) (s : Step) → IsHeldIn slots (length slots) n s →
+    IsWay os n (content.Annex slots) s.way s.to
 held_registers os n slots s held = subst (λ (w : Way). IsWay os n (content.Annex slots) w s.to) (sym held.2.1) (refl, held.2.2)
 
 -- of a bank
-bank_owned : (os : List Object) (n limit : ℕ) (w : Way) (m : ℕ) → IsWay os n (content.Bank limit) w m → (s : Step) → s.from ≡ n → s.way ≡ w → s.to ≡ m → IsOwnedBelow os (length os) n s
+bank_owned : (os : List Object) (n limit : ℕ) (w : Way) (m : ℕ) → IsWay os n (content.Bank limit) w m → (s : Step) → s.from ≡ n → s.way ≡ w → s.to ≡ m →
+    IsOwnedBelow os (length os) n s
 bank_owned os n limit way.Annex m by s same is to = let wrong = by.0 in absurd (cc)
 bank_owned os n limit way.Owner m by s same is to =
     let free : is_free (content_at os s.to) ≡ false = ap (λ (k : ℕ). is_free (content_at os k)) to ∙ by.1 in
@@ -76,22 +87,29 @@ IsLater n root registers s = IsBy n (way.Space root.space) root.space s ⊎ IsHe
 abbrev IsOfProcess : ℕ → Root Capability → List Capability → Step → Type 0
 IsOfProcess n root registers s = IsTheStep (annex_step n root) s ⊎ IsLater n root registers s
 
-process_ways : (os : List Object) (n : ℕ) (root : Root Capability) (w : Way) (m : ℕ) → IsWay os n (content.Root root) w m → (s : Step) → s.from ≡ n → s.way ≡ w → s.to ≡ m
+process_ways : (os : List Object) (n : ℕ) (root : Root Capability) (w : Way) (m : ℕ) → IsWay os n (content.Root root) w m → (s : Step) → s.from ≡ n →
+    s.way ≡ w → s.to ≡ m
     → IsOfProcess n root (slots_in (content_at os root.annex)) s
 process_ways os n root way.Annex m by s same is to = inl (same, is, to ∙ sym by.1)
 process_ways os n root way.Owner m by s same is to = let wrong = by.0 in absurd (cc)
 process_ways os n root (way.Space c) m by s same is to =
-    inr (inl (same, is ∙ ap (λ (d : Capability). way.Space d) (sym by.0), subst (λ (k : ℕ). Conveys root.space k) (sym to) (subst (λ (d : Capability). Conveys d m) (sym by.0) by.1)))
+    inr (inl (
+      same,
+      is ∙ ap (λ (d : Capability). way.Space d) (sym by.0),
+      subst (λ (k : ℕ). Conveys root.space k) (sym to) (subst (λ (d : Capability). Conveys d m) (sym by.0) by.1),
+    ))
 process_ways os n root (way.Slot i c) m by s same is to = inr (inr (held_way (slots_in (content_at os root.annex)) i c m by.0 by.1 n s same is to))
 
 -- All that an object has authority over was found.
 module _ (os : List Object) (n level : ℕ) (a b : Levels) where
-  pub finds_of_slots : (slots : List Capability) → content_at os n ≡ content.Node slots → FindsBy (IsHeldIn slots (length slots) n) level a b → FindsBy (IsFrom os n) level a b
+  pub finds_of_slots : (slots : List Capability) → content_at os n ≡ content.Node slots → FindsBy (IsHeldIn slots (length slots) n) level a b →
+      FindsBy (IsFrom os n) level a b
   finds_of_slots slots is = finds_same (IsHeldIn slots (length slots) n) (IsFrom os n) level a b
       (λ s held. from_way os n (content.Node slots) is s held.2.0 (held_slots os n slots s held))
       (λ s from. slots_held os n slots s.way s.to (way_from os n (content.Node slots) is s from) s from.0 refl refl)
 
-  pub finds_of_registers : (slots : List Capability) → content_at os n ≡ content.Annex slots → FindsBy (IsHeldIn slots (length slots) n) level a b → FindsBy (IsFrom os n) level a b
+  pub finds_of_registers : (slots : List Capability) → content_at os n ≡ content.Annex slots → FindsBy (IsHeldIn slots (length slots) n) level a b →
+      FindsBy (IsFrom os n) level a b
   finds_of_registers slots is = finds_same (IsHeldIn slots (length slots) n) (IsFrom os n) level a b
       (λ s held. from_way os n (content.Annex slots) is s held.2.0 (held_registers os n slots s held))
       (λ s from. registers_held os n slots s.way s.to (way_from os n (content.Annex slots) is s from) s from.0 refl refl)
@@ -101,13 +119,17 @@ module _ (os : List Object) (n level : ℕ) (a b : Levels) where
       (λ s owned. from_way os n (content.Bank limit) is s owned.0 (owned_bank os n limit s owned))
       (λ s from. bank_owned os n limit s.way s.to (way_from os n (content.Bank limit) is s from) s from.0 refl refl)
 
-  pub finds_of_process : (root : Root Capability) (registers : List Capability) (c d : Levels) → content_at os n ≡ content.Root root → slots_in (content_at os root.annex) ≡ registers
-      → FindsBy (IsTheStep (annex_step n root)) level a c → FindsBy (IsBy n (way.Space root.space) root.space) level c d → FindsBy (IsHeldIn registers (length registers) n) level d b
+  pub finds_of_process : (root : Root Capability) (registers : List Capability) (c d : Levels) → content_at os n ≡ content.Root root →
+      slots_in (content_at os root.annex) ≡ registers
+      → FindsBy (IsTheStep (annex_step n root)) level a c → FindsBy (IsBy n (way.Space root.space) root.space) level c d →
+      FindsBy (IsHeldIn registers (length registers) n) level d b
       → FindsBy (IsFrom os n) level a b
   finds_of_process root registers c d is same first second third =
       finds_same (IsOfProcess n root registers) (IsFrom os n) level a b process_from from_process
-      (finds_both (IsTheStep (annex_step n root)) (IsLater n root registers) (IsOfProcess n root registers) level a c b (λ s by. inl by) (λ s by. inr by) (λ s by. by) first
-      (finds_both (IsBy n (way.Space root.space) root.space) (IsHeldIn registers (length registers) n) (IsLater n root registers) level c d b (λ s by. inl by) (λ s by. inr by) (λ s by. by) second third))
+      (finds_both (IsTheStep (annex_step n root)) (IsLater n root registers) (IsOfProcess n root registers) level a c b (λ s by. inl by) (λ s by. inr by)
+      (λ s by. by) first
+      (finds_both (IsBy n (way.Space root.space) root.space) (IsHeldIn registers (length registers) n) (IsLater n root registers) level c d b (λ s by. inl by)
+      (λ s by. inr by) (λ s by. by) second third))
     where
       from_process : (s : Step) → IsFrom os n s → IsOfProcess n root registers s
       from_process s from = subst (λ (l : List Capability). IsOfProcess n root l s) same

@@ -23,8 +23,10 @@ place_of other = codes "register"
 -- a step: `process 3 has annex 4`, `bank 6 owns node 7`, `process 3, space: page 9`, or `node 7, slot 0: page 9 ro`
 abbrev pub step_text : List Object → ℕ → Way → ℕ → List ℕ
 step_text os n way.Annex m = spaced (codes "process" ∷ decimal n ∷ codes "has annex" ∷ decimal m ∷ [])
-step_text os n way.Owner m = spaced (codes "bank" ∷ decimal n ∷ codes "owns" ∷ kind_of (content_at os m) ∷ decimal m ∷ [])
-step_text os n (way.Space c) m = spaced (codes "process" ∷ (decimal n ++ codes ",") ∷ codes "space:" ∷ capability_text c ∷ [])
+step_text os n way.Owner m = spaced
+    (codes "bank" ∷ decimal n ∷ codes "owns" ∷ kind_of (content_at os m) ∷ decimal m ∷ [])
+step_text os n (way.Space c) m = spaced
+    (codes "process" ∷ (decimal n ++ codes ",") ∷ codes "space:" ∷ capability_text c ∷ [])
 step_text os n (way.Slot i c) m = held_text (kind_of (content_at os n)) n (place_of (content_at os n)) i c
 
 abbrev pub step_line : List Object → Step → List ℕ

@@ -6,4 +6,5 @@ use Rattle.reach.specs.Chain.{IsStep}
 
 -- A set is closed exactly if no step leaves it.
 abbrev pub StepsAreAuthority : Type 0
-StepsAreAuthority = (os : List Object) (inside : ℕ → Bool) → IsClosed os inside ↔ ((s : Step) → IsStep os s → IsTrue (inside s.from) → IsTrue (inside s.to))
+StepsAreAuthority = (os : List Object) (inside : ℕ → Bool) →
+    IsClosed os inside ↔ ((s : Step) → IsStep os s → IsTrue (inside s.from) → IsTrue (inside s.to))

@@ -66,10 +66,12 @@ abbrev pub IsBy : ℕ → Way → Capability → Step → Type 0
 IsBy from by c s = (s.from ≡ from) × (s.way ≡ by) × Conveys c s.to
 
 abbrev pub IsHeldIn : List Capability → ℕ → ℕ → Step → Type 0
-IsHeldIn slots count from s = (i : ℕ) × (i < count) × IsBy from (way.Slot i (slice_index_or slots i Void)) (slice_index_or slots i Void) s
+IsHeldIn slots count from s = (i : ℕ) × (i < count) × IsBy from (way.Slot i (slice_index_or slots i Void))
+    (slice_index_or slots i Void) s
 
 abbrev pub IsOwnedBelow : List Object → ℕ → ℕ → Step → Type 0
-IsOwnedBelow os count bank s = (s.from ≡ bank) × (s.way ≡ way.Owner) × (s.to < count) × (is_free (content_at os s.to) ≡ false) × (owner_at os s.to ≡ bank)
+IsOwnedBelow os count bank s = (s.from ≡ bank) × (s.way ≡ way.Owner) × (s.to < count) ×
+    (is_free (content_at os s.to) ≡ false) × (owner_at os s.to ≡ bank)
 
 -- the steps from a number, and from those of a level
 abbrev pub IsFrom : List Object → ℕ → Step → Type 0
@@ -93,7 +95,8 @@ pub record IsSearched (os : List Object) (starts : List ℕ) (level : ℕ) (l : 
   pub count : length l.found.items ≡ length os
   pub begins : All (λ p. IsFoundIn l p 0) starts
   pub linked : (n : ℕ) (f : Found) → found_at l n ≡ Some f → (IsFirst n f × Contains starts n) ⊎ IsAfter os l n f
-  pub continues : (n : ℕ) (f : Found) → found_at l n ≡ Some f → f.level < level → (s : Step) → IsFrom os n s → IsFoundIn l s.to (f.level + 1)
+  pub continues : (n : ℕ) (f : Found) → found_at l n ≡ Some f → f.level < level → (s : Step) → IsFrom os n s →
+      IsFoundIn l s.to (f.level + 1)
   pub deepest : (n : ℕ) (f : Found) → found_at l n ≡ Some f → f.level ≤ level
   pub within : (n : ℕ) (f : Found) → found_at l n ≡ Some f → f.level ≤ l.greatest
   pub few : missing l.found.items + l.greatest ≤ length os

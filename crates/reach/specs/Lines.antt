@@ -12,7 +12,8 @@ words_of n o = elim o.content [
   | content.Page words ↦ codes "page" ∷ decimal n ∷ codes "owner" ∷ decimal o.owner ∷ []
   | content.Node slots ↦ codes "node" ∷ decimal n ∷ codes "owner" ∷ decimal o.owner ∷ []
   | content.Annex registers ↦ codes "annex" ∷ decimal n ∷ codes "owner" ∷ decimal o.owner ∷ []
-  | content.Root root ↦ codes "process" ∷ decimal n ∷ codes "owner" ∷ decimal o.owner ∷ codes "annex" ∷ decimal root.annex ∷ []
+  | content.Root root ↦ codes "process" ∷ decimal n ∷ codes "owner" ∷ decimal o.owner ∷ codes "annex" ∷ decimal
+      root.annex ∷ []
   | content.Bank limit ↦ codes "bank" ∷ decimal n ∷ codes "owner" ∷ decimal o.owner ∷ codes "limit" ∷ decimal limit ∷ []
 ]
 
@@ -30,7 +31,8 @@ pulls n _ = false
 
 -- a capability that an object holds: `process 3, register 2: bank 6`
 abbrev pub held_text : List ℕ → ℕ → List ℕ → ℕ → Capability → List ℕ
-held_text name n place i c = spaced (name ∷ (decimal n ++ codes ",") ∷ place ∷ (decimal i ++ codes ":") ∷ capability_text c ∷ [])
+held_text name n place i c = spaced
+    (name ∷ (decimal n ++ codes ",") ∷ place ∷ (decimal i ++ codes ":") ∷ capability_text c ∷ [])
 
 abbrev pub pull_line : List ℕ → ℕ → List ℕ → ℕ × Capability → List ℕ
 pull_line name n place p = if pulls n p.1 then line_of (held_text name n place p.0 p.1) else []

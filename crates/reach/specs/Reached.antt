@@ -12,17 +12,22 @@ AreSoundObjects os = (g : Geometry) × (age : ℕ) × IsSound g (record { object
 pub record IsReach (os : List Object) (starts : List ℕ) (inside : ℕ → Bool) : Type 0 where
   pub closed : IsClosed os inside
   pub begins : All (λ p. IsTrue (inside p)) starts
-  pub least : (other : ℕ → Bool) → IsClosed os other → All (λ p. IsTrue (other p)) starts → (n : ℕ) → IsTrue (inside n) → IsTrue (other n)
+  pub least : (other : ℕ → Bool) → IsClosed os other → All (λ p. IsTrue (other p)) starts → (n : ℕ) →
+      IsTrue (inside n) → IsTrue (other n)
 
--- the authority bound for a set: over any run of invocations and memory references by its processes, and by those that they
+-- the authority bound for a set: over any run of invocations and memory references by its processes, and by those that
+-- they
 -- make of what was free, each object outside that wasn't free is kept
 abbrev pub BoundsRuns : List Object → (ℕ → Bool) → Type 0
-BoundsRuns os inside = (g : Geometry) (s t : Running) (turns : List Turn) → s.now.objects ≡ os → IsSound g s.now → IsRun g (Up s) turns (Up t) →
-    AreBy (with_free os inside) turns → (n : ℕ) → with_free os inside n ≡ false → IsKept inside (object_at os n) (object_at t.now.objects n)
+BoundsRuns os inside = (g : Geometry) (s t : Running) (turns : List Turn) → s.now.objects ≡ os → IsSound g s.now →
+    IsRun g (Up s) turns (Up t) →
+    AreBy (with_free os inside) turns → (n : ℕ) → with_free os inside n ≡ false →
+    IsKept inside (object_at os n) (object_at t.now.objects n)
 
 -- what a closed set has to contain for one of its members. No public clause cites this.
 pub record IsClosedAt (os : List Object) (inside : ℕ → Bool) (n : ℕ) : Type 0 where
   pub annexes : IsTrue (is_process os n) → IsTrue (inside (annex_at os n))
-  pub owned : IsTrue (is_bank (content_at os n)) → (m : ℕ) → is_free (content_at os m) ≡ false → owner_at os m ≡ n → IsTrue (inside m)
+  pub owned : IsTrue (is_bank (content_at os n)) → (m : ℕ) → is_free (content_at os m) ≡ false → owner_at os m ≡ n →
+      IsTrue (inside m)
   pub slots : (i : ℕ) → StaysInside inside (slot_at os n i)
   pub space : StaysInside inside (root_at os n).space

@@ -60,7 +60,8 @@ impl Frontier {
         requires { NamesWithin (length self.old.found) capability }
         ensures grows { Grows self.old self.new }
         ensures stays { StaysInside (is_marked self.new.found) capability }
-        ensures least { (other : ℕ → Bool) → StaysInside other capability → IsWithin self.old other → IsWithin self.new other }
+        ensures least { (other : ℕ → Bool) → StaysInside other capability → IsWithin self.old other
+            → IsWithin self.new other }
     {
         if let Some(number) = authority(capability) {
             self.add(number);

@@ -56,7 +56,8 @@ fn print_member<W: Write>(
     writer: &mut W,
 ) -> Result<(), RunFault>
     requires { number < length inside.now }
-    ensures { Writes (W.contents writer.old) (W.contents writer.new) result (member_line inside.now (number, object.now)) }
+    ensures { Writes (W.contents writer.old) (W.contents writer.new) result
+        (member_line inside.now (number, object.now)) }
 {
     if !inside.contains(number) {
         return Ok(());
@@ -109,7 +110,8 @@ fn print_pull<W: Write>(
 ) -> Result<(), RunFault>
     requires name { length name.now ≤ 8 }
     requires place { length place.now ≤ 8 }
-    ensures { Writes (W.contents writer.old) (W.contents writer.new) result (pull_line name.now number place.now (index, capability)) }
+    ensures { Writes (W.contents writer.old) (W.contents writer.new) result
+        (pull_line name.now number place.now (index, capability)) }
 {
     if !pulls(number, capability) {
         return Ok(());

@@ -112,7 +112,8 @@ fn follow_level(levels: &mut Levels, objects: &[Object], level: u64)
     requires count { length levels.old.found.items ≡ length objects.now }
     requires level { level ≤ levels.old.greatest }
     requires few { levels.old.greatest ≤ length objects.now }
-    ensures { FindsBy (IsFromLevel objects.now levels.old level (length objects.now)) (level + 1) levels.old levels.new }
+    ensures { FindsBy (IsFromLevel objects.now levels.old level (length objects.now)) (level + 1) levels.old
+        levels.new }
 {
     for number in 0..objects.len() {
         if levels.is_at(number as u64, level) {

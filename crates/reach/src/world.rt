@@ -3,35 +3,25 @@ ghost use Rattle.std.specs.Prelude.{◌≡◌, ◌<◌, length, IfOk};
 ghost use Rattle.model.specs.World.{object_at};
 ghost use Rattle.capability.specs.Parts.{AreSound, OnlyReads, objects_in};
 
-use capability::{PrepareFault, PresentFrames, objects, view};
+use capability::{Frames, ReadFault, view};
 use model::Object;
 use std::alloc::Global;
 
 // An object, fetched, its stale capabilities void.
-fn object<F: PresentFrames>(
-    alloc: Global,
-    store: &mut F,
-    number: u64,
-) -> Result<Object, PrepareFault>
+fn object<F: Frames>(alloc: Global, store: &mut F, number: u64) -> Result<Object, ReadFault>
     requires sound { AreSound (F.parts store.old) }
     requires known { number < length (F.parts store.old).headers }
     ensures object { IfOk result (λ object. object ≡ object_at (objects_in (F.parts store.old)) number) }
     ensures only_reads { OnlyReads F.parts F.ContinuesTo store.old store.new result }
 {
-    objects::fetch(store, alloc, &[number])?;
-    match view::object(alloc, store, number) {
-        Ok(object) => Ok(object),
-        Err(_) => Err(PrepareFault::NoMemory),
-    }
+    store.fetch(&[number])?;
+    Ok(view::object(alloc, store, number)?)
 }
 
 /// All objects of a store, by number. Each is fetched, and none is changed.
 ///
-/// `NoMemory` if memory runs out, and `Failed` exactly if the device fails; no other fault.
-pub fn read_objects<F: PresentFrames>(
-    alloc: Global,
-    store: &mut F,
-) -> Result<Vec<Object>, PrepareFault>
+/// `NoMemory` if memory runs out, and `Failed` exactly if the device fails.
+pub fn read_objects<F: Frames>(alloc: Global, store: &mut F) -> Result<Vec<Object>, ReadFault>
     requires { AreSound (F.parts store.old) }
     ensures objects { IfOk result (λ objects. objects.items ≡ objects_in (F.parts store.old)) }
     ensures only_reads { OnlyReads F.parts F.ContinuesTo store.old store.new result }
@@ -40,7 +30,7 @@ pub fn read_objects<F: PresentFrames>(
     for number in 0..store.table().count() {
         let object = object(alloc, store, number)?;
         if objects.push(object).is_err() {
-            return Err(PrepareFault::NoMemory);
+            return Err(ReadFault::NoMemory);
         }
     }
     Ok(objects)

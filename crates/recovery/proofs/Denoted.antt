@@ -19,7 +19,8 @@ pub denoted_by : (g : Geometry) (size : ℕ) (c : Image) (fs : SavedFrames) → 
 denoted_by g size c fs sound holds = record { frames = fs; holds = holds; sound = sound; stands = refl }
 
 -- a store that is sound: a crash leaves what it saves
-pub leaves_saved : (g : Geometry) (disk : Disk) (fs : SavedFrames) → IsSoundSaved g fs → ((c : Image) → disk.may_leave c → Holds disk.sectors c fs) → Leaves g disk (saved_of fs ∷ [])
+pub leaves_saved : (g : Geometry) (disk : Disk) (fs : SavedFrames) → IsSoundSaved g fs → ((c : Image) → disk.may_leave c → Holds disk.sectors c fs) →
+    Leaves g disk (saved_of fs ∷ [])
 leaves_saved g disk fs sound holds c left = inl (denoted_by g disk.sectors c fs sound (holds c left))
 
 -- sectors hold one saved state of frames
@@ -27,7 +28,8 @@ pub holds_one : (size : ℕ) (c : Image) (a b : SavedFrames) → Holds size c a 
 holds_one size c a b ha hb = sym ha.2 ∙ ap kept_of (one_state c size ha.0 hb.0 ha.1 hb.1) ∙ hb.2
 
 -- and denote one saved part, which is that of the frames that they hold
-pub denotes_held : (g : Geometry) (size : ℕ) (c : Image) (s : Saved) (fs : SavedFrames) → Denotes g size c s → Holds size c fs → (saved_of fs ≡ s) × IsSoundSaved g fs
+pub denotes_held : (g : Geometry) (size : ℕ) (c : Image) (s : Saved) (fs : SavedFrames) → Denotes g size c s → Holds size c fs →
+    (saved_of fs ≡ s) × IsSoundSaved g fs
 denotes_held g size c s fs denoted held =
     let same : denoted.frames ≡ fs = holds_one size c denoted.frames fs denoted.holds held in
     (ap saved_of (sym same) ∙ denoted.stands, subst (IsSoundSaved g) same denoted.sound)
@@ -47,10 +49,12 @@ contains_more : (s t : Saved) (ss : List Saved) → Contains ss t → Contains (
 contains_more s t ss there = (suc there.0, omega (arith, there.1), there.2)
 
 -- of several it denotes one
-pub one_denoted : (g : Geometry) (size : ℕ) (c : Image) (ss : List Saved) (fs : SavedFrames) → DenotesOne g size ss c → Holds size c fs → Contains ss (saved_of fs) × IsSoundSaved g fs
+pub one_denoted : (g : Geometry) (size : ℕ) (c : Image) (ss : List Saved) (fs : SavedFrames) → DenotesOne g size ss c → Holds size c fs →
+    Contains ss (saved_of fs) × IsSoundSaved g fs
 one_denoted g size c [] fs denoted held = absurd denoted
 one_denoted g size c (s ∷ ss) fs denoted held = ⊎_elim
-    (λ here. let is = denotes_held g size c s fs here held in (subst (λ (x : Saved). Contains (x ∷ ss) (saved_of fs)) is.0 (contains_here (saved_of fs) ss), is.1))
+    (λ here. let is = denotes_held g size c s fs here held in
+    (subst (λ (x : Saved). Contains (x ∷ ss) (saved_of fs)) is.0 (contains_here (saved_of fs) ss), is.1))
     (λ there. let is = one_denoted g size c ss fs there held in (contains_more s (saved_of fs) ss is.0, is.1))
     denoted
 
@@ -70,4 +74,5 @@ denoted_not_bad g size c s reason denoted why = ⊎_elim
 
 pub one_not_bad : (g : Geometry) (size : ℕ) (c : Image) (ss : List Saved) (reason : BadImage) → DenotesOne g size ss c → IsBad size c reason → ⊥
 one_not_bad g size c [] reason denoted why = absurd denoted
-one_not_bad g size c (s ∷ ss) reason denoted why = ⊎_elim (λ here. denoted_not_bad g size c s reason here why) (λ there. one_not_bad g size c ss reason there why) denoted
+one_not_bad g size c (s ∷ ss) reason denoted why = ⊎_elim (λ here. denoted_not_bad g size c s reason here why)
+    (λ there. one_not_bad g size c ss reason there why) denoted

@@ -1,9 +1,8 @@
 -- A device that was opened, and one that was refused.
-use Rattle.std.proofs.Common.{◌≡◌, ◌↔◌, ℕ, zero, suc, ◌+◌, ◌<◌, ◌≤◌, Bool, false, Option, None, Some, List, replicate, cond, refl, sym, ap, ◌∙◌, subst, ⊎_elim}
+use Rattle.std.proofs.Common.{◌≡◌, ◌↔◌, ℕ, ◌<◌, ◌≤◌, Bool, Option, None, Some, List, refl, sym, ap, ◌∙◌, subst, ⊎_elim}
 use Rattle.std.proofs.Common.{inr, arith}
 use Rattle.std.specs.Prelude.{Result, Ok, Err, IsErrOf}
 use Rattle.std.proofs.lemmas.Bool.{cases_lt}
-use Rattle.std.proofs.lemmas.List.Sums.{sum_by-cons}
 use Rattle.model.specs.declared.frame.Frame.{Frame}
 use Rattle.model.specs.declared.frame.ObjectHeader.{ObjectHeader}
 use Rattle.model.specs.declared.geometry.Geometry.{Geometry}
@@ -20,6 +19,7 @@ use Rattle.checkpoint.specs.declared.open_fault.OpenFault.TheVariants as fault
 use Rattle.checkpoint.specs.Opened.{OnlyReads}
 use Rattle.checkpoint.specs.Saved.{Holds}
 use Rattle.capability.specs.Parts.{OnlyFetches, Parts, frames_of, objects_in}
+use Rattle.capability.proofs.Untouched.{untouched_count}
 use Rattle.checkpoint.specs.Snapshots.{Snapshots}
 use Rattle.object_store.specs.Store.{FrozenFrames, Continues, OpensStore, View}
 use Rattle.space_bank.specs.Banks.{AreCounted, BanksState}
@@ -34,21 +34,15 @@ use Rattle.recovery.proofs.Renewed.{allocations_at, base_saved, none_renewed}
 unfailed : (m n : ℕ) → m ≤ n → (m < n → ⊥) → n ≡ m
 unfailed m n later stayed = ⊎_elim (λ (rose : m < n). absurd (stayed rose)) (λ (within : n ≤ m). omega arith) (cases_lt m n)
 
-none_touched : (n : ℕ) → touched_count (replicate n false) ≡ 0
-none_touched zero = refl
-none_touched (suc n) = let total = sum_by-cons (λ b. cond b 1 0) false (replicate n false) in let rest = none_touched n in omega (arith, total, rest)
-
-pub untouched_count : (g : Geometry) → touched_count (untouched g) ≡ 0
-unfolding untouched
-untouched_count g = none_touched (g.nodes + g.pages)
-
 -- a machine whose parts are those of an opened one
-opened_by : (g : Geometry) (at : Saved) (now : World) (touched renewed : List Bool) (frozen : Option Frozen) (to_move : ℕ) → now ≡ at.world → touched ≡ untouched g → renewed ≡ untouched g → frozen ≡ None →
+opened_by : (g : Geometry) (at : Saved) (now : World) (touched renewed : List Bool) (frozen : Option Frozen) (to_move : ℕ) → now ≡ at.world →
+    touched ≡ untouched g → renewed ≡ untouched g → frozen ≡ None →
     to_move ≡ at.entries → record { now = now; touched = touched; renewed = renewed; frozen = frozen; saved = at; to_move = to_move } ≡ opened g at
 opened_by g at now touched renewed frozen to_move a b c d e = cc
 
 -- two reads of a device are one, where a crash leaves what a read gives
-only_reads_on : (old mid new : Disk) → OnlyReads old mid → Only mid.seen mid → new.sectors ≡ mid.sectors → Peeks mid new → CountsNow new → new.may_leave new.seen → OnlyReads old new
+only_reads_on : (old mid new : Disk) → OnlyReads old mid → Only mid.seen mid → new.sectors ≡ mid.sectors → Peeks mid new → CountsNow new →
+    new.may_leave new.seen → OnlyReads old new
 only_reads_on old mid new first durable size peeks counts_now seen_left =
     let crash : (c : Image) → new.may_leave c → mid.may_leave c = λ c left. ends {old = mid} {new = new} {P = mid.may_leave} peeks counts_now c left in
     record {
@@ -68,9 +62,11 @@ durable_on mid new durable peeks counts_now seen_left c left i =
 module _ {D S : Type 0} (disk : D → Disk) (view : S → View D) (parts : S → Parts)
     (counts_now : (d : D) (t : ℕ) (c : Image) → t ≤ (disk d).moment → (disk d).may_leave c → (disk d).left_since t c)
     (seen_left : (d : D) → (disk d).may_leave (disk d).seen)
-    (sound_holds : (s : S) (c : Image) → (view s).is_sound → (disk (view s).beneath).may_leave c → Holds (disk (view s).beneath).sectors c (view s).snapshots.saved)
+    (sound_holds : (s : S) (c : Image) → (view s).is_sound → (disk (view s).beneath).may_leave c →
+    Holds (disk (view s).beneath).sectors c (view s).snapshots.saved)
     (geometry_is : (s : S) → (parts s).geometry ≡ (view s).snapshots.saved.geometry)
-    (device : D) (s t : S) (opens : OpensStore disk device (parts s) (view s)) {Goes : S → S → Type 0} (same : OnlyFetches parts Goes s t) (continues : Continues disk (view s) (view t))
+    (device : D) (s t : S) (opens : OpensStore disk device (parts s) (view s)) {Goes : S → S → Type 0} (same : OnlyFetches parts Goes s t)
+    (continues : Continues disk (view s) (view t))
     (peeks : touched_count (parts t).touched ≡ 0 → (view s).snapshots.frozen ≡ None → Peeks (disk (view s).beneath) (disk (view t).beneath)) where
   same_frames : frames_of (parts t) ≡ frames_of (parts s)
   same_frames = ap (λ (hs : List ObjectHeader). frames_in hs (parts t).contents) same.headers ∙ ap (frames_in (parts s).headers) same.contents
@@ -79,19 +75,25 @@ module _ {D S : Type 0} (disk : D → Disk) (view : S → View D) (parts : S →
   still_untouched = ap touched_count (same.touched ∙ opens.touched) ∙ untouched_count (view s).snapshots.saved.geometry
 
   looked : OnlyReads (disk device) (disk (view t).beneath)
-  looked = only_reads_on (disk device) (disk (view s).beneath) (disk (view t).beneath) opens.only_reads opens.durable continues.size (peeks still_untouched opens.frozen)
+  looked = only_reads_on (disk device) (disk (view s).beneath) (disk (view t).beneath) opens.only_reads opens.durable continues.size
+      (peeks still_untouched opens.frozen)
       (counts_now (view t).beneath) (seen_left (view t).beneath)
 
   -- it was refused
-  pub refuses : (why : OpenFault) → (disk (view s).beneath).failures ≤ (disk (view t).beneath).failures → ((why ≡ fault.Failed) ↔ ((disk (view s).beneath).failures < (disk (view t).beneath).failures)) →
+  pub refuses : (why : OpenFault) → (disk (view s).beneath).failures ≤ (disk (view t).beneath).failures →
+      ((why ≡ fault.Failed) ↔ ((disk (view s).beneath).failures < (disk (view t).beneath).failures)) →
       IsUnfit (frames_of (parts s)) why → (back : D) → back ≡ (view t).beneath → RefusesToOpen disk device back why
-  refuses why later cause unfit back is = subst (λ (d : D). RefusesToOpen disk device d why) (sym is) (record { is_why = reported why later cause unfit; only_reads = looked })
+  refuses why later cause unfit back is = subst (λ (d : D). RefusesToOpen disk device d why) (sym is)
+      (record { is_why = reported why later cause unfit; only_reads = looked })
     where
       stayed : (why : OpenFault) → (why ≡ fault.Failed → ⊥) → (disk (view s).beneath).failures ≤ (disk (view t).beneath).failures →
-          ((why ≡ fault.Failed) ↔ ((disk (view s).beneath).failures < (disk (view t).beneath).failures)) → (disk (view t).beneath).failures ≡ (disk device).failures
-      stayed why other later cause = unfailed (disk (view s).beneath).failures (disk (view t).beneath).failures later (λ rose. other (cause.1 rose)) ∙ opens.failures
+          ((why ≡ fault.Failed) ↔ ((disk (view s).beneath).failures < (disk (view t).beneath).failures)) →
+          (disk (view t).beneath).failures ≡ (disk device).failures
+      stayed why other later cause = unfailed (disk (view s).beneath).failures (disk (view t).beneath).failures later (λ rose. other (cause.1 rose)) ∙
+          opens.failures
 
-      reported : (why : OpenFault) → (disk (view s).beneath).failures ≤ (disk (view t).beneath).failures → ((why ≡ fault.Failed) ↔ ((disk (view s).beneath).failures < (disk (view t).beneath).failures)) →
+      reported : (why : OpenFault) → (disk (view s).beneath).failures ≤ (disk (view t).beneath).failures →
+          ((why ≡ fault.Failed) ↔ ((disk (view s).beneath).failures < (disk (view t).beneath).failures)) →
           IsUnfit (frames_of (parts s)) why → IsWhy (disk device) (disk (view t).beneath) why
       reported fault.Failed later cause unfit = subst (λ (n : ℕ). n < (disk (view t).beneath).failures) opens.failures (cause.0 refl)
       reported fault.NoMemory later cause unfit = stayed fault.NoMemory (λ e. cc) later cause
@@ -101,7 +103,8 @@ module _ {D S : Type 0} (disk : D → Disk) (view : S → View D) (parts : S →
       )
 
   -- it was opened
-  module _ (banks : BanksState) (age : ℕ) (age_is : age ≡ (view s).snapshots.saved.age) (failures : (disk (view t).beneath).failures ≡ (disk (view s).beneath).failures)
+  module _ (banks : BanksState) (age : ℕ) (age_is : age ≡ (view s).snapshots.saved.age)
+      (failures : (disk (view t).beneath).failures ≡ (disk (view s).beneath).failures)
       (sound : IsSoundFrames (parts s).geometry age (frames_of (parts s))) (counted : AreCounted (parts s).geometry (objects_in (parts s)) banks) where
     live : Live S
     live = record { store = t; banks = banks; age = age; frozen_age = age }
@@ -153,12 +156,14 @@ module _ {D S : Type 0} (disk : D → Disk) (view : S → View D) (parts : S →
     at_saved =
         let a = (view t).snapshots in
         let g = a.saved.geometry in
-        opened_by g (saved_of a.saved) (world_at age (frames_of (parts t))) (parts t).touched (renewed_since (base_of a) (frames_of (parts t))) (frozen_of age a.frozen) a.to_move
+        opened_by g (saved_of a.saved) (world_at age (frames_of (parts t))) (parts t).touched (renewed_since (base_of a) (frames_of (parts t)))
+        (frozen_of age a.frozen) a.to_move
         (ap (λ (n : ℕ). world_at n (frames_of (parts t))) age_saved ∙ ap (world_at a.saved.age) frames)
         (same.touched ∙ opens.touched ∙ ap (λ (x : Snapshots FrozenFrames). untouched x.saved.geometry) (sym continues.snapshots))
         (ap (λ (fs : List Frame). renewed_since fs (frames_of (parts t))) base_is ∙ none_renewed g (frames_of (parts t)) now_sound.keepable.count)
         (ap (frozen_of age) frozen)
-        (ap (λ (x : Snapshots FrozenFrames). x.to_move) continues.snapshots ∙ opens.to_move ∙ ap (λ (x : Snapshots FrozenFrames). x.saved.entries) (sym continues.snapshots))
+        (ap (λ (x : Snapshots FrozenFrames). x.to_move) continues.snapshots ∙ opens.to_move ∙
+        ap (λ (x : Snapshots FrozenFrames). x.saved.entries) (sym continues.snapshots))
 
     pub recovers : Recovers disk view parts device (record { store = t; banks = banks; age = age; frozen_age = age })
     unfolding live
@@ -167,11 +172,13 @@ module _ {D S : Type 0} (disk : D → Disk) (view : S → View D) (parts : S →
       up = record {
         store = continues.sound opens.sound;
         sound = is_sound;
-        leaves = leaves_saved (view t).snapshots.saved.geometry (disk (view t).beneath) (view t).snapshots.saved saved_sound (λ c left. sound_holds t c (continues.sound opens.sound) left);
+        leaves = leaves_saved (view t).snapshots.saved.geometry (disk (view t).beneath) (view t).snapshots.saved saved_sound
+            (λ c left. sound_holds t c (continues.sound opens.sound) left);
       };
       frames = frames;
       at_saved = at_saved;
-      durable = durable_on (disk (view s).beneath) (disk (view t).beneath) opens.durable (peeks still_untouched opens.frozen) (counts_now (view t).beneath) (seen_left (view t).beneath);
+      durable = durable_on (disk (view s).beneath) (disk (view t).beneath) opens.durable (peeks still_untouched opens.frozen) (counts_now (view t).beneath)
+          (seen_left (view t).beneath);
       only_reads = looked;
       failures = failures ∙ opens.failures;
     }
@@ -182,11 +189,14 @@ module _ (p q : Parts) (old new : Disk) (before : p.failures ≡ old.failures) (
   pub risen_later : p.failures ≤ q.failures → old.failures ≤ new.failures
   risen_later later = omega (arith, later, before, after)
 
-  pub found_still : {T : Type 0} (found : T) → p.failures ≤ q.failures → ((let r : Result T OpenFault = Ok found in IsErrOf r fault.Failed) ↔ (p.failures < q.failures)) → new.failures ≡ old.failures
+  pub found_still : {T : Type 0} (found : T) → p.failures ≤ q.failures →
+      ((let r : Result T OpenFault = Ok found in IsErrOf r fault.Failed) ↔ (p.failures < q.failures)) → new.failures ≡ old.failures
   found_still found later cause = sym after ∙ unfailed p.failures q.failures later (λ rose. let never = cause.1 rose in cc) ∙ before
 
-  pub refused_cause : {T : Type 0} (why : OpenFault) → ((let r : Result T OpenFault = Err why in IsErrOf r fault.Failed) ↔ (p.failures < q.failures)) → (why ≡ fault.Failed) ↔ (old.failures < new.failures)
+  pub refused_cause : {T : Type 0} (why : OpenFault) → ((let r : Result T OpenFault = Err why in IsErrOf r fault.Failed) ↔ (p.failures < q.failures)) →
+      (why ≡ fault.Failed) ↔ (old.failures < new.failures)
   refused_cause {T} why cause = (
-    λ is. let rose : p.failures < q.failures = cause.0 (ap (λ (e : OpenFault). let r : Result T OpenFault = Err e in r) is) in omega (arith, rose, before, after),
+    λ is. let rose : p.failures < q.failures = cause.0 (ap (λ (e : OpenFault). let r : Result T OpenFault = Err e in r) is) in omega
+        (arith, rose, before, after),
     λ rose. let reported = cause.1 (omega (arith, rose, before, after)) in cc,
   )

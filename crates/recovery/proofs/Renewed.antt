@@ -19,7 +19,8 @@ allocations_at fs n = (frame_at fs n).header.allocations
 abbrev has_risen : List Frame → List Frame → ℕ → Bool
 has_risen base fs n = not (allocations_at fs n == allocations_at base n)
 
-pub renewed_at : (base fs : List Frame) (n : ℕ) → n < length base → slice_index_or (renewed_since base fs) n false ≡ not (allocations_at fs n == allocations_at base n)
+pub renewed_at : (base fs : List Frame) (n : ℕ) → n < length base →
+    slice_index_or (renewed_since base fs) n false ≡ not (allocations_at fs n == allocations_at base n)
 unfolding renewed_since
 renewed_at base fs n inside = get_or-map-range_with_len (has_risen base fs) 0 (length base) n n false inside (omega arith)
 

@@ -6,11 +6,13 @@ use Rattle.recovery.specs.Recovered.{IsBad}
 
 -- the same saved part of the same geometry
 abbrev pub DenoteOneSaved : Type 0
-DenoteOneSaved = (g h : Geometry) (size : ℕ) (c : Image) (s t : Saved) → Denotes g size c s → Denotes h size c t → (g ≡ h) × (s ≡ t)
+DenoteOneSaved = (g h : Geometry) (size : ℕ) (c : Image) (s t : Saved) → Denotes g size c s → Denotes h size c t →
+    (g ≡ h) × (s ≡ t)
 
 -- where an image denotes one of some saved parts, each part that it denotes is one of them
 abbrev pub DenotedIsOneOf : Type 0
-DenotedIsOneOf = (g h : Geometry) (size : ℕ) (c : Image) (ss : List Saved) (t : Saved) → DenotesOne g size ss c → Denotes h size c t → (g ≡ h) × Contains ss t
+DenotedIsOneOf = (g h : Geometry) (size : ℕ) (c : Image) (ss : List Saved) (t : Saved) → DenotesOne g size ss c →
+    Denotes h size c t → (g ≡ h) × Contains ss t
 
 -- a sound world
 abbrev pub DenotedIsSound : Type 0
@@ -18,4 +20,5 @@ DenotedIsSound = (g : Geometry) (size : ℕ) (c : Image) (s : Saved) → Denotes
 
 -- and none of the ten reasons holds
 abbrev pub DenotedIsNotBad : Type 0
-DenotedIsNotBad = (g : Geometry) (size : ℕ) (c : Image) (s : Saved) (reason : BadImage) → Denotes g size c s → IsBad size c reason → ⊥
+DenotedIsNotBad = (g : Geometry) (size : ℕ) (c : Image) (s : Saved) (reason : BadImage) → Denotes g size c s →
+    IsBad size c reason → ⊥

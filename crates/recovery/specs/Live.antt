@@ -17,7 +17,8 @@ base_of a = elim a.frozen [ None ↦ a.saved.frames | Some f ↦ f.frames ]
 
 -- the numbers whose counts of allocations have risen since
 unfoldable pub renewed_since : List Frame → List Frame → List Bool
-renewed_since base fs = map (λ n. not ((frame_at fs n).header.allocations == (frame_at base n).header.allocations)) (range_with_len 0 (length base))
+renewed_since base fs = map (λ n. not ((frame_at fs n).header.allocations == (frame_at base n).header.allocations))
+    (range_with_len 0 (length base))
 
 -- the machine of present frames and of what is kept beside them
 abbrev pub running_of : Parts → Snapshots FrozenFrames → ℕ → ℕ → Running
@@ -37,14 +38,16 @@ pub record IsSoundFrozen (g : Geometry) (saved_age frozen_age age : ℕ) (f : Fr
   pub sound : IsSoundFrames g frozen_age f.frames
 
 -- all that a kernel keeps is sound, what is counted of banks is what there is, and no count of allocations has fallen
-pub record AreSoundTogether (g : Geometry) (p : Parts) (snapshots : Snapshots FrozenFrames) (banks : BanksState) (age frozen_age : ℕ) : Type 0 where
+pub record AreSoundTogether (g : Geometry) (p : Parts) (snapshots : Snapshots FrozenFrames) (banks : BanksState)
+    (age frozen_age : ℕ) : Type 0 where
   pub geometry : p.geometry ≡ g
   pub now : IsSoundFrames g age (frames_of p)
   pub counted : AreCounted g (objects_in p) banks
   pub frozen : (f : FrozenFrames) → snapshots.frozen ≡ Some f → IsSoundFrozen g snapshots.saved.age frozen_age age f
   pub saved : IsSoundSaved g snapshots.saved
   pub order : snapshots.saved.age ≤ age
-  pub risen : (n : ℕ) → (frame_at (base_of snapshots) n).header.allocations ≤ (frame_at (frames_of p) n).header.allocations
+  pub risen : (n : ℕ) → (frame_at (base_of snapshots) n).header.allocations ≤
+      (frame_at (frames_of p) n).header.allocations
 
 -- The parameters are ghost members of a device and of an object store.
 module _ {D S : Type 0} (disk : D → Disk) (view : S → View D) (parts : S → Parts) where

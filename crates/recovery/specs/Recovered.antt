@@ -47,12 +47,14 @@ pub record RefusesToOpen {D : Type 0} (disk : D → Disk) (device back : D) (why
 
 -- The parameters are ghost members of a device and of an object store.
 module _ {D S : Type 0} (disk : D → Disk) (view : S → View D) (parts : S → Parts) where
-  -- a device was opened, and nothing was written: the store is up at what is saved, and a crash leaves what a read gives
+  -- a device was opened, and nothing was written: the store is up at what is saved, and a crash leaves what a read
+  -- gives
   pub record Recovers (device : D) (l : Live S) : Type 0 where
     pub holds : Holds (disk device).sectors (disk device).seen (view l.store).snapshots.saved
     pub up : IsUp disk view parts (view l.store).snapshots.saved.geometry l
     pub frames : frames_of (parts l.store) ≡ (view l.store).snapshots.saved.frames
-    pub at_saved : running disk view parts l ≡ opened (view l.store).snapshots.saved.geometry (saved_of (view l.store).snapshots.saved)
+    pub at_saved : running disk view parts l ≡ opened (view l.store).snapshots.saved.geometry
+        (saved_of (view l.store).snapshots.saved)
     pub durable : Only (disk_at disk view parts l).seen (disk_at disk view parts l)
     pub only_reads : OnlyReads (disk device) (disk_at disk view parts l)
     pub failures : (disk_at disk view parts l).failures ≡ (disk device).failures

@@ -6,7 +6,7 @@ ghost use Rattle.space_bank.specs.Banks.{AreCounted};
 ghost use Rattle.recovery.specs.Recovered.{IsUnfit, Recovers, RefusesToOpen, fault_of};
 
 use crate::live::Live;
-use capability::{PrepareFault, PresentFrames};
+use capability::{Frames, ReadFault};
 use checkpoint::{OpenFault, OpenRefused};
 use consistency::{CheckFault, Inconsistency, check};
 use device::Device;
@@ -33,7 +33,7 @@ fn unchecked(fault: CheckFault) -> OpenFault
 }
 
 // Checks that the frames of a store stand for a sound world at an age, and counts its banks.
-fn examine<F: PresentFrames>(alloc: Global, store: &mut F, age: u64) -> Result<Banks, OpenFault>
+fn examine<F: Frames>(alloc: Global, store: &mut F, age: u64) -> Result<Banks, OpenFault>
     requires keepable { AreKeepable (F.parts store.old).geometry age
         (frames_of (F.parts store.old)) }
     requires most { age ≤ 2 ^ 62 }
@@ -50,9 +50,8 @@ fn examine<F: PresentFrames>(alloc: Global, store: &mut F, age: u64) -> Result<B
     match check(alloc, store, age) {
         Ok(()) => match Banks::count(alloc, store) {
             Ok(banks) => Ok(banks),
-            Err(PrepareFault::Failed) => Err(OpenFault::Failed),
-            Err(PrepareFault::NoMemory) => Err(OpenFault::NoMemory),
-            Err(PrepareFault::LogFull) => unreachable!(),
+            Err(ReadFault::NoMemory) => Err(OpenFault::NoMemory),
+            Err(ReadFault::Failed) => Err(OpenFault::Failed),
         },
         Err(fault) => Err(unchecked(fault)),
     }

@@ -27,7 +27,8 @@ all_or_with_rest : (text : List ℕ) (left : Option (List ℕ)) (lines : List (L
 all_or_with_rest text left lines are = ⊎_elim (λ some. with_rest text lines some.0 some.1) (λ whole. all_of text lines whole.1) are
 
 -- the lines that were taken are the first of the text that was read
-lines_read : (turns : List Turn) (input left output written : Option (List ℕ)) (result : Result (Unit {0}) RunFault) → Does turns input left output written result →
+lines_read : (turns : List Turn) (input left output written : Option (List ℕ)) (result : Result (Unit {0}) RunFault) →
+    Does turns input left output written result →
     (text : List ℕ) × Consumes input left text × AreOf text (lines_in turns)
 lines_read turns input left output written (Ok a) does = (does.0, does.1, all_of does.0 (lines_in turns) does.3)
 lines_read turns input left output written (Err fault.Read) does = (does.0, does.2, with_rest does.0 (lines_in turns) does.1 does.3)

@@ -50,7 +50,8 @@ line_more text lines rest are = record {
 
 -- a text that they begin
 pub begins_with : (text : List ℕ) (lines : List (List ℕ)) (more : List ℕ) → AreLines text lines [] → BeginsWith (text ++ more) lines
-begins_with text lines more are = record { more = more; whole = ap (λ (l : List ℕ). l ++ more) (are.whole ∙ append-nil (flat_map line_of lines)); each = are.each }
+begins_with text lines more are =
+    record { more = more; whole = ap (λ (l : List ℕ). l ++ more) (are.whole ∙ append-nil (flat_map line_of lines)); each = are.each }
 
 -- they are its first lines, whatever follows
 lines_first : (text : List ℕ) (lines : List (List ℕ)) (more : List ℕ) → AreLines text lines [] → lines_of (text ++ more) ≡ lines ++ lines_of more

@@ -24,55 +24,62 @@ ended g t true (Some w) place on stop ends some none =
 -- ---- what is seen of a turn
 
 module _ {V : Type 0} (contents : V → Option (List ℕ)) (g : Geometry) (t : Turn) (old new : Tracer V) (on : Bool) where
-  module _ (place : ℕ) (text : List ℕ) (why : Option Cause) (noted : Notes contents place text why old new on) (next : place ≡ min (old.line + 1) (2 ^ 64 - 1)) where
-    seen : IsTrace g place t t.reply (line_of text) → IfSome why (IsCauseOf g t) → IfNone why ((w : Cause) → IsCauseOf g t w → ⊥) → Sees contents g t old new on
-    seen trace some none = record {
-      options = noted.options;
-      place = noted.place ∙ next;
-      text = line_of text;
-      trace = subst (λ (p : ℕ). IsTrace g p t t.reply (line_of text)) (sym noted.place) trace;
-      written = noted.written;
-      ends = subst (λ (p : ℕ). Ends g p t old.options.strict on new.stop) (sym noted.place) (ended g t old.options.strict why place on new.stop noted.ends some none);
-    }
+  module _ (place : ℕ) (text : List ℕ) (why : Option Cause) (noted : Notes contents place text why old new on) (next : place ≡ min (old.line + 1) (2 ^ 64 - 1))
+    where
+      seen : IsTrace g place t t.reply (line_of text) → IfSome why (IsCauseOf g t) → IfNone why ((w : Cause) → IsCauseOf g t w → ⊥) →
+          Sees contents g t old new on
+      seen trace some none = record {
+        options = noted.options;
+        place = noted.place ∙ next;
+        text = line_of text;
+        trace = subst (λ (p : ℕ). IsTrace g p t t.reply (line_of text)) (sym noted.place) trace;
+        written = noted.written;
+        ends = subst (λ (p : ℕ). Ends g p t old.options.strict on new.stop) (sym noted.place)
+            (ended g t old.options.strict why place on new.stop noted.ends some none);
+      }
 
-    -- a command
-    module _ (c : Command) (a : Answer) (reported : Option ResultCode) (says : Says t.line (line.Command c)) (reply : t.reply ≡ Reported a) (coded : reported_code g t.before c a ≡ reported) where
-      causes : (w : Cause) → IsCauseIn a reported w → IsCauseOf g t w
-      causes (cause.BadLine fault) is = absurd is
-      causes (cause.Refused r) is = (c, says, a, reply, is)
-      causes (cause.Code k) is = (c, says, a, reply, (coded ∙ is.0, is.1))
+      -- a command
+      module _ (c : Command) (a : Answer) (reported : Option ResultCode) (says : Says t.line (line.Command c)) (reply : t.reply ≡ Reported a)
+          (coded : reported_code g t.before c a ≡ reported) where
+        causes : (w : Cause) → IsCauseIn a reported w → IsCauseOf g t w
+        causes (cause.BadLine fault) is = absurd is
+        causes (cause.Refused r) is = (c, says, a, reply, is)
+        causes (cause.Code k) is = (c, says, a, reply, (coded ∙ is.0, is.1))
 
-      some_causes : (w : Option Cause) → IfSome w (IsCauseIn a reported) → IfSome w (IsCauseOf g t)
-      some_causes None is = tt
-      some_causes (Some w) is = causes w is
+        some_causes : (w : Option Cause) → IfSome w (IsCauseIn a reported) → IfSome w (IsCauseOf g t)
+        some_causes None is = tt
+        some_causes (Some w) is = causes w is
 
-      same_command : (d : Command) → Says t.line (line.Command d) → d ≡ c
-      same_command d said = let is = says_one t.line (line.Command d) (line.Command c) said says in cc
+        same_command : (d : Command) → Says t.line (line.Command d) → d ≡ c
+        same_command d said = let is = says_one t.line (line.Command d) (line.Command c) said says in cc
 
-      same_answer : (b : Answer) → t.reply ≡ Reported b → b ≡ a
-      same_answer b is = let same : Reported b ≡ Reported a = sym is ∙ reply in cc
+        same_answer : (b : Answer) → t.reply ≡ Reported b → b ≡ a
+        same_answer b is = let same : Reported b ≡ Reported a = sym is ∙ reply in cc
 
-      is_cause_in : (w : Cause) → IsCauseOf g t w → IsCauseIn a reported w
-      is_cause_in (cause.BadLine fault) is = let never : Reported a ≡ BadLine = sym reply ∙ is.0 in absurd cc
-      is_cause_in (cause.Refused r) is = sym (same_answer is.2 is.3) ∙ is.4
-      is_cause_in (cause.Code k) is = (
-        sym coded ∙ subst (λ (d : Command). reported_code g t.before d a ≡ Some k) (same_command is.0 is.1)
-            (subst (λ (b : Answer). reported_code g t.before is.0 b ≡ Some k) (same_answer is.2 is.3) is.4.0),
-        is.4.1,
-      )
+        is_cause_in : (w : Cause) → IsCauseOf g t w → IsCauseIn a reported w
+        is_cause_in (cause.BadLine fault) is = let never : Reported a ≡ BadLine = sym reply ∙ is.0 in absurd cc
+        is_cause_in (cause.Refused r) is = sym (same_answer is.2 is.3) ∙ is.4
+        is_cause_in (cause.Code k) is = (
+          sym coded ∙ subst (λ (d : Command). reported_code g t.before d a ≡ Some k) (same_command is.0 is.1)
+              (subst (λ (b : Answer). reported_code g t.before is.0 b ≡ Some k) (same_answer is.2 is.3) is.4.0),
+          is.4.1,
+        )
 
-      no_causes : (w : Option Cause) → IfNone w ((v : Cause) → IsCauseIn a reported v → ⊥) → IfNone w ((v : Cause) → IsCauseOf g t v → ⊥)
-      no_causes None none = λ v is. none v (is_cause_in v is)
-      no_causes (Some w) none = tt
+        no_causes : (w : Option Cause) → IfNone w ((v : Cause) → IsCauseIn a reported v → ⊥) → IfNone w ((v : Cause) → IsCauseOf g t v → ⊥)
+        no_causes None none = λ v is. none v (is_cause_in v is)
+        no_causes (Some w) none = tt
 
-      pub answer_seen : (outcome : List ℕ) → IsOutcome reported a outcome → text ≡ spaced (place_text place ∷ (command_name c ++ codes ":") ∷ outcome ∷ []) →
-          IfSome why (IsCauseIn a reported) → IfNone why ((w : Cause) → IsCauseIn a reported w → ⊥) → Sees contents g t old new on
-      answer_seen outcome is spelt some none =
-          seen (subst (λ (r : Reply). IsTrace g place t r (line_of text)) (sym reply)
-          (c, says, outcome, subst (λ (k : Option ResultCode). IsOutcome k a outcome) (sym coded) is, ap line_of spelt)) (some_causes why some) (no_causes why none)
+        pub answer_seen : (outcome : List ℕ) → IsOutcome reported a outcome → text ≡ spaced (place_text place ∷ (command_name c ++ codes ":") ∷ outcome ∷ []) →
+            IfSome why (IsCauseIn a reported) → IfNone why ((w : Cause) → IsCauseIn a reported w → ⊥) → Sees contents g t old new on
+        answer_seen outcome is spelt some none =
+            seen (subst (λ (r : Reply). IsTrace g place t r (line_of text)) (sym reply)
+            (c, says, outcome, subst (λ (k : Option ResultCode). IsOutcome k a outcome) (sym coded) is, ap line_of spelt)) (some_causes why some)
+            (no_causes why none)
 
   -- a bad line
-  pub bad_seen : (place : ℕ) (text : List ℕ) (fault : LineFault) → Notes contents place text (Some (cause.BadLine fault)) old new on → place ≡ min (old.line + 1) (2 ^ 64 - 1) →
+  pub bad_seen : (place : ℕ) (text : List ℕ) (fault : LineFault) → Notes contents place text (Some (cause.BadLine fault)) old new on →
+      place ≡ min (old.line + 1) (2 ^ 64 - 1) →
       t.reply ≡ BadLine → IsFaultOf t.line fault → text ≡ spaced (place_text place ∷ cause_text (cause.BadLine fault) ∷ []) → Sees contents g t old new on
   bad_seen place text fault noted next reply is spelt =
-      seen place text (Some (cause.BadLine fault)) noted next (subst (λ (r : Reply). IsTrace g place t r (line_of text)) (sym reply) (fault, is, ap line_of spelt)) (reply, is) tt
+      seen place text (Some (cause.BadLine fault)) noted next
+      (subst (λ (r : Reply). IsTrace g place t r (line_of text)) (sym reply) (fault, is, ap line_of spelt)) (reply, is) tt

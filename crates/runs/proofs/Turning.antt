@@ -21,7 +21,8 @@ use Rattle.runs.proofs.TurnLists.{appends_kept, appends_more, appends_none, line
 -- one of two lists is one of the first or of the second
 split_one : (g : Geometry) (size : ℕ) (c : Image) (ss ts : List Saved) → DenotesOne g size (ss ++ ts) c → DenotesOne g size ss c ⊎ DenotesOne g size ts c
 split_one g size c [] ts one = inr one
-split_one g size c (s ∷ ss) ts one = ⊎_elim (λ here. inl (inl here)) (λ there. ⊎_elim (λ first. inl (inr first)) (λ last. inr last) (split_one g size c ss ts there)) one
+split_one g size c (s ∷ ss) ts one = ⊎_elim (λ here. inl (inl here))
+    (λ there. ⊎_elim (λ first. inl (inr first)) (λ last. inr last) (split_one g size c ss ts there)) one
 
 -- ---- failures
 
@@ -74,16 +75,20 @@ module _ {D S O : Type 0} (disk : D → Disk) (view : S → View D) (parts : S �
   here : (g : Geometry) (m : Machine) (p : Power D S) → Stands disk view parts g p m →
       LeavesOnly (disk_of disk view parts p) (disk_of disk view parts p) (DenotesOne g (disk_of disk view parts p).sectors (candidates m))
   here g (Up r) (power.Up l) stands =
-      subst (λ (x : Running). LeavesOnly (disk (view l.store).beneath) (disk (view l.store).beneath) (DenotesOne g (disk (view l.store).beneath).sectors (x.saved ∷ []))) (sym stands.1)
-      (started (disk (view l.store).beneath) (DenotesOne g (disk (view l.store).beneath).sectors (saved_of (view l.store).snapshots.saved ∷ [])) (only_now (view l.store).beneath) stands.0.leaves)
+      subst (λ (x : Running). LeavesOnly (disk (view l.store).beneath) (disk (view l.store).beneath)
+      (DenotesOne g (disk (view l.store).beneath).sectors (x.saved ∷ []))) (sym stands.1)
+      (started (disk (view l.store).beneath) (DenotesOne g (disk (view l.store).beneath).sectors (saved_of (view l.store).snapshots.saved ∷ []))
+      (only_now (view l.store).beneath) stands.0.leaves)
   here g (Down saved) (power.Down d) stands = started (disk d) (DenotesOne g (disk d).sectors saved) (only_now d) stands
   here g (Down saved) (power.Up l) stands = absurd stands
   here g (Up r) (power.Down d) stands = absurd stands
   here g m power.Between stands = absurd stands
 
   -- a line that is no command
-  no_command : (g : Geometry) (m : Machine) (text : List ℕ) (says : Line) (p : Power D S) (before seen : O) (written wrote : Option (List ℕ)) (result : Result Bool RunFault) (reply : Reply) (on : Bool) →
-      Stands disk view parts g p m → Replies g says m reply m → tells_fault reply ≡ false → sees g (record { line = text; before = m; reply = reply; after = m }) before seen on →
+  no_command : (g : Geometry) (m : Machine) (text : List ℕ) (says : Line) (p : Power D S) (before seen : O) (written wrote : Option (List ℕ))
+      (result : Result Bool RunFault) (reply : Reply) (on : Bool) →
+      Stands disk view parts g p m → Replies g says m reply m → tells_fault reply ≡ false →
+      sees g (record { line = text; before = m; reply = reply; after = m }) before seen on →
       IsWritten written wrote result on (reply_text reply) → TakesTurn disk view parts sees g m text says p p before seen written wrote result
   no_command g m text says p before seen written wrote result reply on stands replies fine is_seen writes =
       let d = disk_of disk view parts p in
@@ -95,29 +100,34 @@ module _ {D S O : Type 0} (disk : D → Disk) (view : S → View D) (parts : S �
         stands = stands;
         size = refl;
         any_moment = leaves_weaker {old = d} {new = d} {P = DenotesOne g size (candidates m)}
-            (λ c. DenotesOne g size (candidates m) c ⊎ ((command : Command) × (says ≡ line.Command command) × DenotesOne g size (second m command) c)) (λ c one. inl one) (here g m p stands);
+            (λ c. DenotesOne g size (candidates m) c ⊎ ((command : Command) × (says ≡ line.Command command) × DenotesOne g size (second m command) c))
+            (λ c one. inl one) (here g m p stands);
         faults = none_reported d reply fine;
         on = on;
         is_seen = is_seen;
         writes = writes;
       }
 
-  pub skipped : (g : Geometry) (m : Machine) (text : List ℕ) (says : Line) (p : Power D S) (before seen : O) (on : Bool) (written : Option (List ℕ)) → says ≡ line.Skip → Stands disk view parts g p m →
+  pub skipped : (g : Geometry) (m : Machine) (text : List ℕ) (says : Line) (p : Power D S) (before seen : O) (on : Bool) (written : Option (List ℕ)) →
+      says ≡ line.Skip → Stands disk view parts g p m →
       ((t : Turn) → t.reply ≡ Nothing → sees g t before seen on) → TakesTurn disk view parts sees g m text says p p before seen written written (Ok on)
   skipped g m text says p before seen on written is stands saw =
       subst (λ (x : Line). TakesTurn disk view parts sees g m text x p p before seen written written (Ok on)) (sym is)
       (no_command g m text line.Skip p before seen written written (Ok on) Nothing on stands (refl, refl) refl (saw _ refl) (refl, appends_none written))
 
-  pub is_bad : (g : Geometry) (m : Machine) (text : List ℕ) (says : Line) (p : Power D S) (before seen : O) (on : Bool) (written wrote : Option (List ℕ)) (result : Result Bool RunFault) →
+  pub is_bad : (g : Geometry) (m : Machine) (text : List ℕ) (says : Line) (p : Power D S) (before seen : O) (on : Bool) (written wrote : Option (List ℕ))
+      (result : Result Bool RunFault) →
       says ≡ line.Bad → Stands disk view parts g p m → ((t : Turn) → t.line ≡ text → t.reply ≡ BadLine → sees g t before seen on) →
       IsWritten written wrote result on bad_line → TakesTurn disk view parts sees g m text says p p before seen written wrote result
   is_bad g m text says p before seen on written wrote result is stands saw writes =
       subst (λ (x : Line). TakesTurn disk view parts sees g m text x p p before seen written wrote result) (sym is)
       (no_command g m text line.Bad p before seen written wrote result BadLine on stands (refl, refl) refl (saw _ refl refl) writes)
 
-  pub answered : (g : Geometry) (m : Machine) (text : List ℕ) (says : Line) (c : Command) (a : Answer) (code : Option ResultCode) (p q : Power D S) (before seen : O) (on : Bool)
+  pub answered : (g : Geometry) (m : Machine) (text : List ℕ) (says : Line) (c : Command) (a : Answer) (code : Option ResultCode) (p q : Power D S)
+      (before seen : O) (on : Bool)
       (written wrote : Option (List ℕ)) (result : Result Bool RunFault) → says ≡ line.Command c → Says text says →
-      Stands disk view parts g p m → Serves disk view parts p c a q → IsCaused (disk_of disk view parts p) (disk_of disk view parts q) a → code ≡ reported_code g m c a →
+      Stands disk view parts g p m → Serves disk view parts p c a q → IsCaused (disk_of disk view parts p) (disk_of disk view parts q) a →
+      code ≡ reported_code g m c a →
       ((t : Turn) → Says t.line (line.Command c) → t.reply ≡ Reported a → reported_code g t.before c a ≡ code → sees g t before seen on) →
       IsWritten written wrote result on (reply_text (Reported a)) → TakesTurn disk view parts sees g m text says p q before seen written wrote result
   answered g m text says c a code p q before seen on written wrote result is said stands serves caused coded saw writes =
@@ -131,8 +141,10 @@ module _ {D S O : Type 0} (disk : D → Disk) (view : S → View D) (parts : S �
         stands = s.stands;
         size = s.leaves.size;
         any_moment = leaves_weaker {old = old} {new = new} {P = DenotesOne g old.sectors (candidates m ++ second m c)}
-            (λ x. DenotesOne g old.sectors (candidates m) x ⊎ ((command : Command) × (line.Command c ≡ line.Command command) × DenotesOne g old.sectors (second m command) x))
-            (λ x one. ⊎_elim (λ first. inl first) (λ last. inr (c, refl, last)) (split_one g old.sectors x (candidates m) (second m c) one)) s.leaves.any_moment;
+            (λ x. DenotesOne g old.sectors (candidates m) x ⊎
+            ((command : Command) × (line.Command c ≡ line.Command command) × DenotesOne g old.sectors (second m command) x))
+            (λ x one. ⊎_elim (λ first. inl first) (λ last. inr (c, refl, last)) (split_one g old.sectors x (candidates m) (second m c) one))
+            s.leaves.any_moment;
         faults = answer_reported old new a caused;
         on = on;
         is_seen = saw (record { line = text; before = m; reply = Reported a; after = s.after }) (subst (Says text) is said) refl (sym coded);
@@ -141,7 +153,8 @@ module _ {D S O : Type 0} (disk : D → Disk) (view : S → View D) (parts : S �
 
   -- ---- a run
 
-  pub begun : (g : Geometry) (m : Machine) (p : Power D S) (seen : O) (line : LineBuffer) (output : Option (List ℕ)) → Holds line [] → Stands disk view parts g p m →
+  pub begun : (g : Geometry) (m : Machine) (p : Power D S) (seen : O) (line : LineBuffer) (output : Option (List ℕ)) → Holds line [] →
+      Stands disk view parts g p m →
       SoFar disk view parts sees g m p p seen seen [] line output output
   begun g m p seen line output empty stands = record {
     turns = [];
@@ -154,14 +167,17 @@ module _ {D S O : Type 0} (disk : D → Disk) (view : S → View D) (parts : S �
   }
 
   -- a turn more
-  turns_more : (g : Geometry) (old mid new : Power D S) (ts : List Turn) (t : Turn) → AreTurnsOf disk view parts g old mid ts → IsTurnOf disk view parts g mid new t →
+  turns_more : (g : Geometry) (old mid new : Power D S) (ts : List Turn) (t : Turn) → AreTurnsOf disk view parts g old mid ts →
+      IsTurnOf disk view parts g mid new t →
       AreTurnsOf disk view parts g old new (ts ++ t ∷ [])
   turns_more g old mid new [] t same turn = (new, subst (λ (p : Power D S). IsTurnOf disk view parts g p new t) same turn, refl)
   turns_more g old mid new (u ∷ us) t goes turn = (goes.0, goes.1, turns_more g goes.0 mid new us t goes.2 turn)
 
   -- more bytes of a line
-  pub longer : (g : Geometry) (m : Machine) (old new : Power D S) (first seen : O) (text : List ℕ) (line longer : LineBuffer) (output output_left : Option (List ℕ)) (bytes : List ℕ) →
-      SoFar disk view parts sees g m old new first seen text line output output_left → IsOneLine bytes → ((l : List ℕ) → Holds line l → Holds longer (l ++ bytes)) →
+  pub longer : (g : Geometry) (m : Machine) (old new : Power D S) (first seen : O) (text : List ℕ) (line longer : LineBuffer)
+      (output output_left : Option (List ℕ)) (bytes : List ℕ) →
+      SoFar disk view parts sees g m old new first seen text line output output_left → IsOneLine bytes →
+      ((l : List ℕ) → Holds line l → Holds longer (l ++ bytes)) →
       SoFar disk view parts sees g m old new first seen (text ++ bytes) longer output output_left
   longer g m old new first seen text line buffer output output_left bytes so_far one extended = record {
     turns = so_far.turns;
@@ -174,8 +190,10 @@ module _ {D S O : Type 0} (disk : D → Disk) (view : S → View D) (parts : S �
   }
 
   -- a line is at its end, and this the text that it ends
-  module _ (g : Geometry) (m : Machine) (old mid new : Power D S) (first before seen : O) (begins : List ℕ) (held next : LineBuffer) (output written wrote : Option (List ℕ))
-      (so_far : SoFar disk view parts sees g m old mid first before begins held output written) (text rest : List ℕ) (lines : AreLines text (lines_in so_far.turns) rest) (empty : Holds next [])
+  module _ (g : Geometry) (m : Machine) (old mid new : Power D S) (first before seen : O) (begins : List ℕ) (held next : LineBuffer)
+      (output written wrote : Option (List ℕ))
+      (so_far : SoFar disk view parts sees g m old mid first before begins held output written) (text rest : List ℕ)
+      (lines : AreLines text (lines_in so_far.turns) rest) (empty : Holds next [])
       (result : Result Bool RunFault) (taken : TakesLine disk view parts sees g so_far.run.after rest mid new before seen written wrote result) where
     abbrev turn : TakesTurn disk view parts sees g so_far.run.after rest taken.0 mid new before seen written wrote result
     turn = taken.2
@@ -193,7 +211,8 @@ module _ {D S O : Type 0} (disk : D → Disk) (view : S → View D) (parts : S �
           stands = turn.stands;
           size = turn.size;
           any_moment = leaves_weaker {old = disk_of disk view parts mid} {new = disk_of disk view parts new}
-              {P = λ c. DenotesOne g size (candidates so_far.run.after) c ⊎ ((command : Command) × (taken.0 ≡ line.Command command) × DenotesOne g size (second so_far.run.after command) c)}
+              {P = λ c. DenotesOne g size (candidates so_far.run.after) c ⊎
+              ((command : Command) × (taken.0 ≡ line.Command command) × DenotesOne g size (second so_far.run.after command) c)}
               (IsLeftIn g size turn_of)
               (λ c has. ⊎_elim (λ first. inl first) (λ besides. inr (besides.0, subst (Says rest) besides.1 taken.1, besides.2)) has) turn.any_moment;
           faults = turn.faults;
@@ -214,7 +233,8 @@ module _ {D S O : Type 0} (disk : D → Disk) (view : S → View D) (parts : S �
     seen_on on = subst (AreSeen (sees g) first seen turns_on) (sym on) all_seen
 
     all_written : Appends written wrote (reply_text turn.reply) → Appends output wrote (output_of turns_on)
-    all_written all = subst (Appends output wrote) (sym (output_more so_far.turns turn_of)) (appends_more output written wrote (output_of so_far.turns) (reply_text turn.reply) so_far.written all)
+    all_written all = subst (Appends output wrote) (sym (output_more so_far.turns turn_of))
+        (appends_more output written wrote (output_of so_far.turns) (reply_text turn.reply) so_far.written all)
 
     cut_short : AppendsFront written wrote (reply_text turn.reply) → IsCutShort turns_on output wrote
     cut_short cut = record {
@@ -227,19 +247,25 @@ module _ {D S O : Type 0} (disk : D → Disk) (view : S → View D) (parts : S �
       written = appends_more output written wrote (output_of so_far.turns) cut.0 so_far.written cut.3;
     }
 
-    stops_by : (r : Result Bool RunFault) (e : RunFault) → Ending r e → IsWritten written wrote r turn.on (reply_text turn.reply) → StopsBy disk view parts sees e turns_on turn.on output wrote
+    stops_by : (r : Result Bool RunFault) (e : RunFault) → Ending r e → IsWritten written wrote r turn.on (reply_text turn.reply) →
+        StopsBy disk view parts sees e turns_on turn.on output wrote
     stops_by (Ok true) e ending writes = absurd ending
-    stops_by (Ok false) e ending writes = subst (λ (f : RunFault). StopsBy disk view parts sees f turns_on turn.on output wrote) (sym ending) (sym writes.0, all_written writes.1)
-    stops_by (Err f) e ending writes = subst (λ (x : RunFault). StopsBy disk view parts sees x turns_on turn.on output wrote) (sym (ending ∙ writes.0)) (cut_short writes.1)
+    stops_by (Ok false) e ending writes = subst (λ (f : RunFault). StopsBy disk view parts sees f turns_on turn.on output wrote) (sym ending)
+        (sym writes.0, all_written writes.1)
+    stops_by (Err f) e ending writes = subst (λ (x : RunFault). StopsBy disk view parts sees x turns_on turn.on output wrote) (sym (ending ∙ writes.0))
+        (cut_short writes.1)
 
     whole_lines : AreLines (text ++ 10 ∷ []) (lines_in turns_on) []
-    whole_lines = subst (λ (ls : List (List ℕ)). AreLines (text ++ 10 ∷ []) ls []) (sym (lines_more so_far.turns turn_of)) (line_more text (lines_in so_far.turns) rest lines)
+    whole_lines = subst (λ (ls : List (List ℕ)). AreLines (text ++ 10 ∷ []) ls []) (sym (lines_more so_far.turns turn_of))
+        (line_more text (lines_in so_far.turns) rest lines)
 
     -- by its newline
-    pub goes_on : true ≡ turn.on → Appends written wrote (reply_text turn.reply) → SoFar disk view parts sees g m old new first seen (text ++ 10 ∷ []) next output wrote
+    pub goes_on : true ≡ turn.on → Appends written wrote (reply_text turn.reply) → SoFar disk view parts sees g m old new first seen (text ++ 10 ∷ []) next
+        output wrote
     goes_on on all = record { turns = turns_on; rest = []; run = more_run; are_seen = seen_on on; lines = whole_lines; held = empty; written = all_written all }
 
-    pub stopped : (more : List ℕ) (e : RunFault) → Ending result e → Stopped disk view parts sees (BeginsWith ((text ++ 10 ∷ []) ++ more)) e g m old new first seen output wrote
+    pub stopped : (more : List ℕ) (e : RunFault) → Ending result e → Stopped disk view parts sees (BeginsWith ((text ++ 10 ∷ []) ++ more)) e g m old new first
+        seen output wrote
     stopped more e ending = record {
       turns = turns_on;
       run = more_run;
@@ -253,15 +279,19 @@ module _ {D S O : Type 0} (disk : D → Disk) (view : S → View D) (parts : S �
     last_lines : (rest ≡ [] → ⊥) → lines_of text ≡ lines_in turns_on
     last_lines some = lines_with_rest text (lines_in so_far.turns) rest lines some ∙ sym (lines_more so_far.turns turn_of)
 
-    pub ended_by_rest : (rest ≡ [] → ⊥) → true ≡ turn.on → Appends written wrote (reply_text turn.reply) → Ended disk view parts sees g m old new first seen text output wrote
+    pub ended_by_rest : (rest ≡ [] → ⊥) → true ≡ turn.on → Appends written wrote (reply_text turn.reply) →
+        Ended disk view parts sees g m old new first seen text output wrote
     ended_by_rest some on all = record { turns = turns_on; run = more_run; are_seen = seen_on on; lines = last_lines some; written = all_written all }
 
-    pub stopped_at_rest : (rest ≡ [] → ⊥) → (e : RunFault) → Ending result e → Stopped disk view parts sees (λ lines. lines_of text ≡ lines) e g m old new first seen output wrote
-    stopped_at_rest some e ending = record { turns = turns_on; run = more_run; on = turn.on; are_seen = all_seen; lines = last_lines some; stops = stops_by result e ending turn.writes }
+    pub stopped_at_rest : (rest ≡ [] → ⊥) → (e : RunFault) → Ending result e → Stopped disk view parts sees (λ lines. lines_of text ≡ lines) e g m old new first
+        seen output wrote
+    stopped_at_rest some e ending =
+        record { turns = turns_on; run = more_run; on = turn.on; are_seen = all_seen; lines = last_lines some; stops = stops_by result e ending turn.writes }
 
   -- nothing is left of the input
   pub ended : (g : Geometry) (m : Machine) (old new : Power D S) (first seen : O) (text : List ℕ) (line : LineBuffer) (output written : Option (List ℕ))
-      (so_far : SoFar disk view parts sees g m old new first seen text line output written) → so_far.rest ≡ [] → Ended disk view parts sees g m old new first seen text output written
+      (so_far : SoFar disk view parts sees g m old new first seen text line output written) → so_far.rest ≡ [] →
+      Ended disk view parts sees g m old new first seen text output written
   ended g m old new first seen text line output written so_far none = record {
     turns = so_far.turns;
     run = so_far.run;
@@ -276,12 +306,15 @@ module _ {D S O : Type 0} (disk : D → Disk) (view : S → View D) (parts : S �
   module _ (first : Power D S) (saw : O) (begun_line : LineBuffer) (had : Option (List ℕ)) where
     abbrev pub Goes : List ℕ → Power D S → O → LineBuffer → Option (List ℕ) → Type 0
     Goes read k seen line written = (g : Geometry) (m : Machine) (start : Power D S) (begins : O) (text : List ℕ) (output : Option (List ℕ)) →
-        SoFar disk view parts sees g m start first begins saw text begun_line output had → SoFar disk view parts sees g m start k begins seen (text ++ read) line output written
+        SoFar disk view parts sees g m start first begins saw text begun_line output had → SoFar disk view parts sees g m start k begins seen (text ++ read)
+        line output written
 
     pub none_read : Goes [] first saw begun_line had
-    none_read g m start begins text output so_far = subst (λ (t : List ℕ). SoFar disk view parts sees g m start first begins saw t begun_line output had) (sym (append-nil text)) so_far
+    none_read g m start begins text output so_far = subst (λ (t : List ℕ). SoFar disk view parts sees g m start first begins saw t begun_line output had)
+        (sym (append-nil text)) so_far
 
-    pub goes_longer : (read : List ℕ) (k : Power D S) (seen : O) (line longer_line : LineBuffer) (written : Option (List ℕ)) (bytes : List ℕ) → Goes read k seen line written → IsOneLine bytes →
+    pub goes_longer : (read : List ℕ) (k : Power D S) (seen : O) (line longer_line : LineBuffer) (written : Option (List ℕ)) (bytes : List ℕ) →
+        Goes read k seen line written → IsOneLine bytes →
         ((l : List ℕ) → Holds line l → Holds longer_line (l ++ bytes)) → Goes (read ++ bytes) k seen longer_line written
     goes_longer read k seen line longer_line written bytes goes one extended g m start begins text output so_far =
         subst (λ (t : List ℕ). SoFar disk view parts sees g m start k begins seen t longer_line output written) (append_assoc text read bytes)
@@ -292,12 +325,15 @@ module _ {D S O : Type 0} (disk : D → Disk) (view : S → View D) (parts : S �
     GoesTo piece rest k seen line written = (read : List ℕ) × (piece ≡ read ++ rest) × Goes read k seen line written
 
     -- a line is at its end, and these are its last bytes
-    module _ (read : List ℕ) (k new : Power D S) (before seen : O) (line next : LineBuffer) (written wrote : Option (List ℕ)) (goes : Goes read k before line written) (bytes : List ℕ) (one : IsOneLine bytes)
+    module _ (read : List ℕ) (k new : Power D S) (before seen : O) (line next : LineBuffer) (written wrote : Option (List ℕ))
+        (goes : Goes read k before line written) (bytes : List ℕ) (one : IsOneLine bytes)
         (empty : (held : List ℕ) → Holds line held → Holds next []) (result : Result Bool RunFault)
-        (turn : (g : Geometry) (m : Machine) (held : List ℕ) → Stands disk view parts g k m → Holds line held → TakesLine disk view parts sees g m (held ++ bytes) k new before seen written wrote result) where
+        (turn : (g : Geometry) (m : Machine) (held : List ℕ) → Stands disk view parts g k m → Holds line held →
+        TakesLine disk view parts sees g m (held ++ bytes) k new before seen written wrote result) where
       text_is : (text : List ℕ) → ((text ++ read) ++ bytes) ++ 10 ∷ [] ≡ text ++ ((read ++ bytes) ++ 10 ∷ [])
       text_is text =
-          append_assoc (text ++ read) bytes (10 ∷ []) ∙ append_assoc text read (bytes ++ 10 ∷ []) ∙ ap (λ (t : List ℕ). text ++ t) (sym (append_assoc read bytes (10 ∷ [])))
+          append_assoc (text ++ read) bytes (10 ∷ []) ∙ append_assoc text read (bytes ++ 10 ∷ []) ∙
+          ap (λ (t : List ℕ). text ++ t) (sym (append_assoc read bytes (10 ∷ [])))
 
       -- the line with its newline, in a run so far
       module _ (g : Geometry) (m : Machine) (start : Power D S) (begins : O) (text : List ℕ) (output : Option (List ℕ))
@@ -308,7 +344,8 @@ module _ {D S O : Type 0} (disk : D → Disk) (view : S → View D) (parts : S �
         abbrev taken : TakesLine disk view parts sees g now.run.after (now.rest ++ bytes) k new before seen written wrote result
         taken = turn g now.run.after now.rest now.run.stands now.held
 
-        on_by_newline : true ≡ taken.2.on → Appends written wrote (reply_text taken.2.reply) → SoFar disk view parts sees g m start new begins seen (text ++ ((read ++ bytes) ++ 10 ∷ [])) next output wrote
+        on_by_newline : true ≡ taken.2.on → Appends written wrote (reply_text taken.2.reply) →
+            SoFar disk view parts sees g m start new begins seen (text ++ ((read ++ bytes) ++ 10 ∷ [])) next output wrote
         on_by_newline on all =
             subst (λ (t : List ℕ). SoFar disk view parts sees g m start new begins seen t next output wrote) (text_is text)
             (goes_on g m start k new begins before seen (text ++ read) line next output written wrote now ((text ++ read) ++ bytes) (now.rest ++ bytes)
@@ -323,37 +360,48 @@ module _ {D S O : Type 0} (disk : D → Disk) (view : S → View D) (parts : S �
             (bytes_more (text ++ read) (lines_in now.turns) now.rest bytes now.lines one) (empty now.rest now.held) result taken more e ending)
 
     -- what is left of a piece begins with the end of a line, which was taken
-    module _ (piece rest : List ℕ) (k new : Power D S) (before seen : O) (line next : LineBuffer) (written wrote : Option (List ℕ)) (goes : GoesTo piece rest k before line written)
-        (end : ℕ) (within : end < length rest) (one : IsOneLine (take end rest)) (newline : slice_index_or rest end 0 ≡ 10) (empty : (held : List ℕ) → Holds line held → Holds next []) where
+    module _ (piece rest : List ℕ) (k new : Power D S) (before seen : O) (line next : LineBuffer) (written wrote : Option (List ℕ))
+        (goes : GoesTo piece rest k before line written)
+        (end : ℕ) (within : end < length rest) (one : IsOneLine (take end rest)) (newline : slice_index_or rest end 0 ≡ 10)
+        (empty : (held : List ℕ) → Holds line held → Holds next []) where
       pub goes_to_next : ((g : Geometry) (m : Machine) (held : List ℕ) → Stands disk view parts g k m → Holds line held →
-          TakesLine disk view parts sees g m (held ++ take end rest) k new before seen written wrote (Ok true)) → GoesTo piece (drop (suc end) rest) new seen next wrote
+          TakesLine disk view parts sees g m (held ++ take end rest) k new before seen written wrote (Ok true)) →
+          GoesTo piece (drop (suc end) rest) new seen next wrote
       goes_to_next turn = (
         (goes.0 ++ take end rest) ++ 10 ∷ [],
         line_taken piece goes.0 rest end goes.1 within newline,
         λ g m start begins text output so_far.
-            let writes = (taken goes.0 k new before seen line next written wrote goes.2 (take end rest) one empty (Ok true) turn g m start begins text output so_far).2.writes in
-            on_by_newline goes.0 k new before seen line next written wrote goes.2 (take end rest) one empty (Ok true) turn g m start begins text output so_far writes.0 writes.1,
+            let writes = (taken goes.0 k new before seen line next written wrote goes.2 (take end rest) one empty (Ok true) turn g m start begins text output
+            so_far).2.writes in
+            on_by_newline goes.0 k new before seen line next written wrote goes.2 (take end rest) one empty (Ok true) turn g m start begins text output so_far
+            writes.0 writes.1,
       )
 
       pub stops_in_piece : (result : Result Bool RunFault) (e : RunFault) → Ending result e →
-          ((g : Geometry) (m : Machine) (held : List ℕ) → Stands disk view parts g k m → Holds line held → TakesLine disk view parts sees g m (held ++ take end rest) k new before seen written wrote result) →
+          ((g : Geometry) (m : Machine) (held : List ℕ) → Stands disk view parts g k m → Holds line held →
+          TakesLine disk view parts sees g m (held ++ take end rest) k new before seen written wrote result) →
           (g : Geometry) (m : Machine) (start : Power D S) (begins : O) (text : List ℕ) (output : Option (List ℕ)) →
-          SoFar disk view parts sees g m start first begins saw text begun_line output had → Stopped disk view parts sees (BeginsWith (text ++ piece)) e g m start new begins seen output wrote
+          SoFar disk view parts sees g m start first begins saw text begun_line output had →
+          Stopped disk view parts sees (BeginsWith (text ++ piece)) e g m start new begins seen output wrote
       stops_in_piece result e ending turn g m start begins text output so_far =
-          stopped_by_newline goes.0 k new before seen line next written wrote goes.2 (take end rest) one empty result turn g m start begins text output so_far e ending (drop (suc end) rest) piece
+          stopped_by_newline goes.0 k new before seen line next written wrote goes.2 (take end rest) one empty result turn g m start begins text output so_far e
+          ending (drop (suc end) rest) piece
           (line_taken piece goes.0 rest end goes.1 within newline)
 
     -- or it has no newline
-    pub goes_to_end : (piece rest : List ℕ) (k : Power D S) (seen : O) (line longer_line : LineBuffer) (written : Option (List ℕ)) → GoesTo piece rest k seen line written → IsOneLine rest →
+    pub goes_to_end : (piece rest : List ℕ) (k : Power D S) (seen : O) (line longer_line : LineBuffer) (written : Option (List ℕ)) →
+        GoesTo piece rest k seen line written → IsOneLine rest →
         ((l : List ℕ) → Holds line l → Holds longer_line (l ++ rest)) → Goes piece k seen longer_line written
     goes_to_end piece rest k seen line longer_line written goes one extended =
-        subst (λ (read : List ℕ). Goes read k seen longer_line written) (sym goes.1) (goes_longer goes.0 k seen line longer_line written rest goes.2 one extended)
+        subst (λ (read : List ℕ). Goes read k seen longer_line written) (sym goes.1)
+        (goes_longer goes.0 k seen line longer_line written rest goes.2 one extended)
 
   -- ---- a run
 
   -- whichever machine the first kernel stands for
   abbrev pub RunsSoFar : Power D S → Power D S → O → O → List ℕ → LineBuffer → Option (List ℕ) → Option (List ℕ) → Type 0
-  RunsSoFar old new first seen text line output output_left = (g : Geometry) (m : Machine) → Stands disk view parts g old m → SoFar disk view parts sees g m old new first seen text line output output_left
+  RunsSoFar old new first seen text line output output_left = (g : Geometry) (m : Machine) → Stands disk view parts g old m →
+      SoFar disk view parts sees g m old new first seen text line output output_left
 
   pub no_text : (old : Option (List ℕ)) → Consumes old old []
   no_text None = tt
@@ -365,7 +413,8 @@ module _ {D S O : Type 0} (disk : D → Disk) (view : S → View D) (parts : S �
       (text : List ℕ) × Consumes input input_left text × RunsSoFar old new first seen text line output output_left
 
   -- what was written stays so
-  kept_so_far : (g : Geometry) (m : Machine) (old new : Power D S) (first seen : O) (text : List ℕ) (line : LineBuffer) (output written kept : Option (List ℕ)) → Keeps written kept →
+  kept_so_far : (g : Geometry) (m : Machine) (old new : Power D S) (first seen : O) (text : List ℕ) (line : LineBuffer) (output written kept : Option (List ℕ))
+      → Keeps written kept →
       SoFar disk view parts sees g m old new first seen text line output written → SoFar disk view parts sees g m old new first seen text line output kept
   kept_so_far g m old new first seen text line output written kept keeps so_far = record {
     turns = so_far.turns;
@@ -377,10 +426,12 @@ module _ {D S O : Type 0} (disk : D → Disk) (view : S → View D) (parts : S �
     written = appends_kept output written kept (output_of so_far.turns) so_far.written keeps;
   }
 
-  pub nothing_read : (k : Power D S) (seen : O) (line : LineBuffer) (input output : Option (List ℕ)) → Holds line [] → HasRead k k seen seen line input input output output
+  pub nothing_read : (k : Power D S) (seen : O) (line : LineBuffer) (input output : Option (List ℕ)) → Holds line [] →
+      HasRead k k seen seen line input input output output
   nothing_read k seen line input output empty = ([], no_text input, λ g m stands. begun g m k seen line output empty stands)
 
-  module _ (old mid : Power D S) (first before : O) (line : LineBuffer) (input read left output written : Option (List ℕ)) (so_far : HasRead old mid first before line input read output written) where
+  module _ (old mid : Power D S) (first before : O) (line : LineBuffer) (input read left output written : Option (List ℕ))
+      (so_far : HasRead old mid first before line input read output written) where
     -- what was written was passed on, or wasn't
     module _ (passed : Option (List ℕ)) (kept : Keeps written passed) where
       pub passed_on : HasRead old mid first before line input read output passed
@@ -388,7 +439,8 @@ module _ {D S O : Type 0} (disk : D → Disk) (view : S → View D) (parts : S �
 
     module _ (bytes : List ℕ) (new : Power D S) (seen : O) (wrote : Option (List ℕ)) (more : Consumes read left bytes) where
       pub piece_on : (next : LineBuffer) → ((g : Geometry) (m : Machine) (start : Power D S) (begins : O) (text : List ℕ) (out : Option (List ℕ)) →
-          SoFar disk view parts sees g m start mid begins before text line out written → SoFar disk view parts sees g m start new begins seen (text ++ bytes) next out wrote) →
+          SoFar disk view parts sees g m start mid begins before text line out written → SoFar disk view parts sees g m start new begins seen (text ++ bytes)
+          next out wrote) →
           HasRead old new first seen next input left output wrote
       piece_on next goes = (
         so_far.0 ++ bytes,
@@ -397,7 +449,8 @@ module _ {D S O : Type 0} (disk : D → Disk) (view : S → View D) (parts : S �
       )
 
       -- a run that stops early reads and writes as it should
-      does_stop : (AreTaken : List (List ℕ) → Type 0) (text : List ℕ) → Consumes input left text → ((lines : List (List ℕ)) → AreTaken lines → AreFirst text left lines) →
+      does_stop : (AreTaken : List (List ℕ) → Type 0) (text : List ℕ) → Consumes input left text →
+          ((lines : List (List ℕ)) → AreTaken lines → AreFirst text left lines) →
           (e : RunFault) (g : Geometry) (m : Machine) (s : Stopped disk view parts sees AreTaken e g m old new first seen output wrote) →
           Does s.turns input left output wrote (Err e) × EndsBy s.on (Err e)
       does_stop AreTaken text consumed are fault.Read g m s = absurd s.stops
@@ -405,11 +458,13 @@ module _ {D S O : Type 0} (disk : D → Disk) (view : S → View D) (parts : S �
       does_stop AreTaken text consumed are fault.Stopped g m s = ((text, consumed, are (lines_in s.turns) s.lines, s.stops.1), s.stops.0)
 
       pub piece_stops : (e : RunFault) → ((g : Geometry) (m : Machine) (start : Power D S) (begins : O) (text : List ℕ) (out : Option (List ℕ)) →
-          SoFar disk view parts sees g m start mid begins before text line out written → Stopped disk view parts sees (BeginsWith (text ++ bytes)) e g m start new begins seen out wrote) →
+          SoFar disk view parts sees g m start mid begins before text line out written → Stopped disk view parts sees (BeginsWith (text ++ bytes)) e g m start
+          new begins seen out wrote) →
           RunsSeen disk view parts sees old new first seen input left output wrote (Err e)
       piece_stops e stops g m stands =
           let s = stops g m old first so_far.0 output (so_far.2 g m stands) in
-          let does = does_stop (BeginsWith (so_far.0 ++ bytes)) (so_far.0 ++ bytes) (Consumes-trans input read left so_far.0 bytes so_far.1 more) (λ lines begin. inl begin) e g m s in
+          let does = does_stop (BeginsWith (so_far.0 ++ bytes)) (so_far.0 ++ bytes) (Consumes-trans input read left so_far.0 bytes so_far.1 more)
+          (λ lines begin. inl begin) e g m s in
           (s.turns, s.run, does.0, s.on, s.are_seen, does.1)
 
     -- the input is at its end
@@ -418,7 +473,8 @@ module _ {D S O : Type 0} (disk : D → Disk) (view : S → View D) (parts : S �
       all_read = subst (Consumes input left) (append-nil so_far.0) (Consumes-trans input read left so_far.0 [] so_far.1 none)
 
       pub rest_stops_run : (e : RunFault) → ((g : Geometry) (m : Machine) (start : Power D S) (begins : O) (text : List ℕ) (out : Option (List ℕ)) →
-          SoFar disk view parts sees g m start mid begins before text line out written → Stopped disk view parts sees (λ lines. lines_of text ≡ lines) e g m start new begins seen out wrote) →
+          SoFar disk view parts sees g m start mid begins before text line out written → Stopped disk view parts sees (λ lines. lines_of text ≡ lines) e g m
+          start new begins seen out wrote) →
           RunsSeen disk view parts sees old new first seen input left output wrote (Err e)
       rest_stops_run e stops g m stands =
           let s = stops g m old first so_far.0 output (so_far.2 g m stands) in
@@ -426,9 +482,11 @@ module _ {D S O : Type 0} (disk : D → Disk) (view : S → View D) (parts : S �
           (s.turns, s.run, does.0, s.on, s.are_seen, does.1)
 
       -- and the answers were passed on, or weren't
-      pub end_passed_on : (passed : Option (List ℕ)) → Keeps wrote passed → ((g : Geometry) (m : Machine) (start : Power D S) (begins : O) (text : List ℕ) (out : Option (List ℕ)) →
+      pub end_passed_on : (passed : Option (List ℕ)) → Keeps wrote passed →
+          ((g : Geometry) (m : Machine) (start : Power D S) (begins : O) (text : List ℕ) (out : Option (List ℕ)) →
           SoFar disk view parts sees g m start mid begins before text line out written → Ended disk view parts sees g m start new begins seen text out wrote) →
-          (result : Result (Unit {0}) RunFault) → IfErr result (λ e. e ≡ fault.Write) → RunsSeen disk view parts sees old new first seen input left output passed result
+          (result : Result (Unit {0}) RunFault) → IfErr result (λ e. e ≡ fault.Write) → RunsSeen disk view parts sees old new first seen input left output
+          passed result
       end_passed_on passed kept ends (Ok a) write g m stands =
           let e = ends g m old first so_far.0 output (so_far.2 g m stands) in
           (e.turns, e.run, (so_far.0, all_read, end, e.lines, appends_kept output wrote passed (output_of e.turns) e.written kept), true, e.are_seen, refl)
@@ -447,7 +505,8 @@ module _ {D S O : Type 0} (disk : D → Disk) (view : S → View D) (parts : S �
 
   module _ (k new : Power D S) (before seen : O) (line : LineBuffer) (next : LineBuffer) (written wrote : Option (List ℕ)) (empty : Holds next [])
       (is_empty : Bool) (tells : (l : List ℕ) → Holds line l → (IsTrue is_empty ↔ (l ≡ []))) (some : is_empty ≡ false) (result : Result Bool RunFault)
-      (turn : (g : Geometry) (m : Machine) (held : List ℕ) → Stands disk view parts g k m → Holds line held → TakesLine disk view parts sees g m held k new before seen written wrote result) where
+      (turn : (g : Geometry) (m : Machine) (held : List ℕ) → Stands disk view parts g k m → Holds line held →
+      TakesLine disk view parts sees g m held k new before seen written wrote result) where
     not_none : (l : List ℕ) → Holds line l → l ≡ [] → ⊥
     not_none l held none = let reported : IsTrue is_empty = (tells l held).1 none in cc
 
@@ -456,13 +515,17 @@ module _ {D S O : Type 0} (disk : D → Disk) (view : S → View D) (parts : S �
     rest_ends ok g m start begins text output so_far =
         let taken = turn g so_far.run.after so_far.rest so_far.run.stands so_far.held in
         let writes = subst (λ (r : Result Bool RunFault). IsWritten written wrote r taken.2.on (reply_text taken.2.reply)) ok taken.2.writes in
-        ended_by_rest g m start k new begins before seen text line next output written wrote so_far text so_far.rest so_far.lines empty result taken (not_none so_far.rest so_far.held) writes.0 writes.1
+        ended_by_rest g m start k new begins before seen text line next output written wrote so_far text so_far.rest so_far.lines empty result taken
+        (not_none so_far.rest so_far.held) writes.0 writes.1
 
-    pub rest_stops : (e : RunFault) → Ending result e → (g : Geometry) (m : Machine) (start : Power D S) (begins : O) (text : List ℕ) (output : Option (List ℕ)) →
-        SoFar disk view parts sees g m start k begins before text line output written → Stopped disk view parts sees (λ lines. lines_of text ≡ lines) e g m start new begins seen output wrote
+    pub rest_stops : (e : RunFault) → Ending result e → (g : Geometry) (m : Machine) (start : Power D S) (begins : O) (text : List ℕ) (output : Option (List ℕ))
+        →
+        SoFar disk view parts sees g m start k begins before text line output written → Stopped disk view parts sees (λ lines. lines_of text ≡ lines) e g m
+        start new begins seen output wrote
     rest_stops e ending g m start begins text output so_far =
         let taken = turn g so_far.run.after so_far.rest so_far.run.stands so_far.held in
-        stopped_at_rest g m start k new begins before seen text line next output written wrote so_far text so_far.rest so_far.lines empty result taken (not_none so_far.rest so_far.held) e ending
+        stopped_at_rest g m start k new begins before seen text line next output written wrote so_far text so_far.rest so_far.lines empty result taken
+        (not_none so_far.rest so_far.held) e ending
 
   -- ---- what the observer adds is left out
 

@@ -17,9 +17,11 @@ tells_fault _ = false
 
 -- an image denotes what a command may save besides
 abbrev pub IsSecondOf : Geometry → ℕ → List ℕ → Machine → Image → Type 0
-IsSecondOf g size text m c = (command : Command) × Says text (line.Command command) × DenotesOne g size (second m command) c
+IsSecondOf g size text m c = (command : Command) × Says text (line.Command command) × DenotesOne g size
+    (second m command) c
 
--- what a crash leaves in the course of a turn: a candidate of the machine before it, or what its command is to save besides
+-- what a crash leaves in the course of a turn: a candidate of the machine before it, or what its command is to save
+-- besides
 abbrev pub IsLeftIn : Geometry → ℕ → Turn → Image → Type 0
 IsLeftIn g size t c = DenotesOne g size (candidates t.before) c ⊎ IsSecondOf g size t.line t.before c
 
@@ -45,7 +47,8 @@ AreFirst text input_left lines = BeginsWith text lines ⊎ (IsAtEnd input_left �
 
 -- these are all lines of a text that are whole, or all lines of an input at its end
 abbrev pub AreAll : List ℕ → Option (List ℕ) → List (List ℕ) → Type 0
-AreAll text input_left lines = ((rest : List ℕ) × AreLines text lines rest) ⊎ (IsAtEnd input_left × (lines_of text ≡ lines))
+AreAll text input_left lines = ((rest : List ℕ) × AreLines text lines rest) ⊎
+    (IsAtEnd input_left × (lines_of text ≡ lines))
 
 -- only the answer to the last of the turns may be cut short
 pub record IsCutShort (turns : List Turn) (output output_left : Option (List ℕ)) : Type 0 where
@@ -62,16 +65,21 @@ pub record IsCutShort (turns : List Turn) (output output_left : Option (List ℕ
 -- turns are the first of the lines read whole, or all lines of an input at its end, and only the answer to the last
 -- may be cut short; or it took the answers to all of these lines, and didn't pass them on. Where the observer ended the
 -- run the turns are the first of the lines read whole, or all lines of an input at its end, and each was answered.
-abbrev pub Does : List Turn → Option (List ℕ) → Option (List ℕ) → Option (List ℕ) → Option (List ℕ) → Result (Unit {0}) RunFault → Type 0
+abbrev pub Does : List Turn → Option (List ℕ) → Option (List ℕ) → Option (List ℕ) → Option (List ℕ) →
+    Result (Unit {0}) RunFault → Type 0
 Does turns input input_left output output_left (Ok a) =
-    (text : List ℕ) × Consumes input input_left text × IsAtEnd input_left × (lines_of text ≡ lines_in turns) × Appends output output_left (output_of turns)
+    (text : List ℕ) × Consumes input input_left text × IsAtEnd input_left × (lines_of text ≡ lines_in turns) × Appends
+    output output_left (output_of turns)
 Does turns input input_left output output_left (Err fault.Read) =
-    (text : List ℕ) × (rest : List ℕ) × Consumes input input_left text × AreLines text (lines_in turns) rest × Appends output output_left (output_of turns)
+    (text : List ℕ) × (rest : List ℕ) × Consumes input input_left text × AreLines text (lines_in turns) rest × Appends
+    output output_left (output_of turns)
 Does turns input input_left output output_left (Err fault.Write) =
     (text : List ℕ) × Consumes input input_left text
-    × ((AreFirst text input_left (lines_in turns) × IsCutShort turns output output_left) ⊎ (AreAll text input_left (lines_in turns) × Appends output output_left (output_of turns)))
+    × ((AreFirst text input_left (lines_in turns) × IsCutShort turns output output_left) ⊎
+    (AreAll text input_left (lines_in turns) × Appends output output_left (output_of turns)))
 Does turns input input_left output output_left (Err fault.Stopped) =
-    (text : List ℕ) × Consumes input input_left text × AreFirst text input_left (lines_in turns) × Appends output output_left (output_of turns)
+    (text : List ℕ) × Consumes input input_left text × AreFirst text input_left (lines_in turns) × Appends output
+    output_left (output_of turns)
 
 -- the device failed exactly where that was answered
 pub record IsReportedBy (old new : Disk) (reply : Reply) : Type 0 where
@@ -87,7 +95,8 @@ pub record IsCounted (Failed : Type 0) (old new : ℕ) : Type 0 where
 -- let it go on there too.
 abbrev pub AreSeen : {O : Type 0} → (Turn → O → O → Bool → Type 0) → O → O → List Turn → Bool → Type 0
 AreSeen sees old new [] on = (new ≡ old) × (on ≡ true)
-AreSeen sees old new (t ∷ ts) on = ((next : _) × sees t old next true × AreSeen sees next new ts on) ⊎ ((ts ≡ []) × (on ≡ false) × sees t old new false)
+AreSeen sees old new (t ∷ ts) on = ((next : _) × sees t old next true × AreSeen sees next new ts on) ⊎
+    ((ts ≡ []) × (on ≡ false) × sees t old new false)
 
 -- it ended the run exactly where the run says so; where the writer failed the observer may have ended it at that line
 abbrev pub EndsBy : Bool → Result (Unit {0}) RunFault → Type 0
@@ -107,7 +116,8 @@ module _ {D S : Type 0} (disk : D → Disk) (view : S → View D) (parts : S →
   pub record IsTurnOf (g : Geometry) (old new : Power D S) (t : Turn) : Type 0 where
     pub stands : Stands disk view parts g new t.after
     pub size : (disk_of disk view parts new).sectors ≡ (disk_of disk view parts old).sectors
-    pub any_moment : LeavesOnly (disk_of disk view parts old) (disk_of disk view parts new) (IsLeftIn g (disk_of disk view parts old).sectors t)
+    pub any_moment : LeavesOnly (disk_of disk view parts old) (disk_of disk view parts new)
+        (IsLeftIn g (disk_of disk view parts old).sectors t)
     pub faults : IsReportedBy (disk_of disk view parts old) (disk_of disk view parts new) t.reply
 
   -- one turn after another, and nothing besides
@@ -123,7 +133,8 @@ module _ {D S : Type 0} (disk : D → Disk) (view : S → View D) (parts : S →
     pub each : AreTurnsOf g old new turns
 
   -- whichever machine the kernel stands for, what was read and written is that of such a run
-  abbrev pub RunsOver : Power D S → Power D S → Option (List ℕ) → Option (List ℕ) → Option (List ℕ) → Option (List ℕ) → Result (Unit {0}) RunFault → Type 0
+  abbrev pub RunsOver : Power D S → Power D S → Option (List ℕ) → Option (List ℕ) → Option (List ℕ) → Option (List ℕ) →
+      Result (Unit {0}) RunFault → Type 0
   RunsOver old new input input_left output output_left result =
       (g : Geometry) (m : Machine) → Stands disk view parts g old m →
       (turns : List Turn) × IsRunOf g m old new turns × Does turns input input_left output output_left result
@@ -136,10 +147,12 @@ module _ {D S : Type 0} (disk : D → Disk) (view : S → View D) (parts : S →
       (turns : List Turn) × IsRunOf g m old new turns × Does turns input input_left output output_left result
       × (on : Bool) × AreSeen (sees g) before after turns on × EndsBy on result
 
-  -- The authority bound. The kernel is up before and after. If each line that was read is by a process of a closed set, or by
+  -- The authority bound. The kernel is up before and after. If each line that was read is by a process of a closed set,
+  -- or by
   -- one made of numbers that were free, then each object outside the set that wasn't free is kept.
   abbrev pub IsConfined : Power D S → Power D S → Option (List ℕ) → Option (List ℕ) → Type 0
-  IsConfined old new input input_left = (g : Geometry) (s t : Running) → Stands disk view parts g old (Up s) → Stands disk view parts g new (Up t) →
+  IsConfined old new input input_left = (g : Geometry) (s t : Running) → Stands disk view parts g old (Up s) →
+      Stands disk view parts g new (Up t) →
       (text : List ℕ) × Consumes input input_left text × ((inside : ℕ → Bool) → IsClosed s.now.objects inside →
       AreLinesBy (with_free s.now.objects inside) (lines_of text) → (n : ℕ) → with_free s.now.objects inside n ≡ false →
       IsKept inside (object_at s.now.objects n) (object_at t.now.objects n))

@@ -23,27 +23,34 @@ IsWritten written wrote (Ok goes_on) on text = (goes_on ≡ on) × Appends writt
 IsWritten written wrote (Err e) on text = (e ≡ fault.Write) × AppendsFront written wrote text
 
 -- The parameters are ghost members of a device, of an object store, and of an observer.
-module _ {D S O : Type 0} (disk : D → Disk) (view : S → View D) (parts : S → Parts) (sees : Geometry → Turn → O → O → Bool → Type 0) where
+module _ {D S O : Type 0} (disk : D → Disk) (view : S → View D) (parts : S → Parts)
+    (sees : Geometry → Turn → O → O → Bool → Type 0) where
   -- a line was taken: the machine after it, what a crash leaves in its course, and what the observer made of it
-  pub record TakesTurn (g : Geometry) (m : Machine) (text : List ℕ) (says : Line) (old new : Power D S) (before seen : O) (written wrote : Option (List ℕ)) (result : Result Bool RunFault) : Type 0 where
+  pub record TakesTurn (g : Geometry) (m : Machine) (text : List ℕ) (says : Line) (old new : Power D S)
+      (before seen : O) (written wrote : Option (List ℕ)) (result : Result Bool RunFault) : Type 0 where
     pub reply : Reply
     pub after : Machine
     pub replies : Replies g says m reply after
     pub stands : Stands disk view parts g new after
     pub size : (disk_of disk view parts new).sectors ≡ (disk_of disk view parts old).sectors
-    pub any_moment : LeavesOnly (disk_of disk view parts old) (disk_of disk view parts new) (λ c. DenotesOne g (disk_of disk view parts old).sectors (candidates m) c
-        ⊎ ((command : Command) × (says ≡ line.Command command) × DenotesOne g (disk_of disk view parts old).sectors (second m command) c))
+    pub any_moment : LeavesOnly (disk_of disk view parts old) (disk_of disk view parts new)
+        (λ c. DenotesOne g (disk_of disk view parts old).sectors (candidates m) c
+        ⊎ ((command : Command) × (says ≡ line.Command command) × DenotesOne g (disk_of disk view parts old).sectors
+        (second m command) c))
     pub faults : IsReportedBy (disk_of disk view parts old) (disk_of disk view parts new) reply
     pub on : Bool
     pub is_seen : sees g (record { line = text; before = m; reply = reply; after = after }) before seen on
     pub writes : IsWritten written wrote result on (reply_text reply)
 
   -- the same, whatever the line says
-  abbrev pub TakesLine : Geometry → Machine → List ℕ → Power D S → Power D S → O → O → Option (List ℕ) → Option (List ℕ) → Result Bool RunFault → Type 0
-  TakesLine g m text old new before seen written wrote result = (says : Line) × Says text says × TakesTurn g m text says old new before seen written wrote result
+  abbrev pub TakesLine : Geometry → Machine → List ℕ → Power D S → Power D S → O → O → Option (List ℕ) →
+      Option (List ℕ) → Result Bool RunFault → Type 0
+  TakesLine g m text old new before seen written wrote result = (says : Line) × Says text says × TakesTurn g m text says
+      old new before seen written wrote result
 
   -- a run so far: its turns, what was read of a line that isn't whole, and the answers written
-  pub record SoFar (g : Geometry) (m : Machine) (old new : Power D S) (before seen : O) (text : List ℕ) (line : LineBuffer) (output output_left : Option (List ℕ)) : Type 0 where
+  pub record SoFar (g : Geometry) (m : Machine) (old new : Power D S) (before seen : O) (text : List ℕ)
+      (line : LineBuffer) (output output_left : Option (List ℕ)) : Type 0 where
     pub turns : List Turn
     pub rest : List ℕ
     pub run : IsRunOf disk view parts g m old new turns
@@ -53,7 +60,8 @@ module _ {D S O : Type 0} (disk : D → Disk) (view : S → View D) (parts : S �
     pub written : Appends output output_left (output_of turns)
 
   -- a run of all lines of a text
-  pub record Ended (g : Geometry) (m : Machine) (old new : Power D S) (before seen : O) (text : List ℕ) (output output_left : Option (List ℕ)) : Type 0 where
+  pub record Ended (g : Geometry) (m : Machine) (old new : Power D S) (before seen : O) (text : List ℕ)
+      (output output_left : Option (List ℕ)) : Type 0 where
     pub turns : List Turn
     pub run : IsRunOf disk view parts g m old new turns
     pub are_seen : AreSeen (sees g) before seen turns true
@@ -67,7 +75,8 @@ module _ {D S O : Type 0} (disk : D → Disk) (view : S → View D) (parts : S �
   StopsBy fault.Stopped turns on output output_left = (on ≡ false) × Appends output output_left (output_of turns)
 
   -- a run of such lines that ended early
-  pub record Stopped (AreTaken : List (List ℕ) → Type 0) (e : RunFault) (g : Geometry) (m : Machine) (old new : Power D S) (before seen : O) (output output_left : Option (List ℕ)) : Type 0 where
+  pub record Stopped (AreTaken : List (List ℕ) → Type 0) (e : RunFault) (g : Geometry) (m : Machine)
+      (old new : Power D S) (before seen : O) (output output_left : Option (List ℕ)) : Type 0 where
     pub turns : List Turn
     pub run : IsRunOf disk view parts g m old new turns
     pub on : Bool

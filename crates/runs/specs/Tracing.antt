@@ -51,9 +51,11 @@ place_text place = decimal place ++ codes ":"
 abbrev pub IsTrace : Geometry → ℕ → Turn → Reply → List ℕ → Type 0
 IsTrace g place t Nothing text = text ≡ []
 IsTrace g place t BadLine text =
-    (why : LineFault) × IsFaultOf t.line why × (text ≡ line_of (spaced (place_text place ∷ cause_text (cause.BadLine why) ∷ [])))
+    (why : LineFault) × IsFaultOf t.line why ×
+    (text ≡ line_of (spaced (place_text place ∷ cause_text (cause.BadLine why) ∷ [])))
 IsTrace g place t (Reported a) text =
-    (c : Command) × Says t.line (line.Command c) × (outcome : List ℕ) × IsOutcome (reported_code g t.before c a) a outcome
+    (c : Command) × Says t.line (line.Command c) × (outcome : List ℕ) × IsOutcome (reported_code g t.before c a) a
+    outcome
     × (text ≡ line_of (spaced (place_text place ∷ (command_name c ++ codes ":") ∷ outcome ∷ [])))
 
 -- Where a strict run ends
@@ -68,7 +70,8 @@ IsCauseIn a reported (cause.Code c) = (reported ≡ Some c) × (c ≢ code.Done)
 abbrev pub IsCauseOf : Geometry → Turn → Cause → Type 0
 IsCauseOf g t (cause.BadLine why) = (t.reply ≡ BadLine) × IsFaultOf t.line why
 IsCauseOf g t why =
-    (c : Command) × Says t.line (line.Command c) × (a : Answer) × (t.reply ≡ Reported a) × IsCauseIn a (reported_code g t.before c a) why
+    (c : Command) × Says t.line (line.Command c) × (a : Answer) × (t.reply ≡ Reported a) × IsCauseIn a
+    (reported_code g t.before c a) why
 
 -- the run ends at this turn with this number exactly where it is strict and the turn is a cause
 abbrev pub Ends : Geometry → ℕ → Turn → Bool → Bool → Option Stop → Type 0
@@ -86,7 +89,8 @@ IsTraced false was_lost is_lost old new text = (new ≡ old) × (is_lost ≡ was
 IsTraced true true false old new text = ⊥
 
 -- what a tracer makes of a turn: the number of the line rises by 1, up to the greatest of 64 bits
-pub record Sees {V : Type 0} (contents : V → Option (List ℕ)) (g : Geometry) (t : Turn) (old new : Tracer V) (on : Bool) : Type 0 where
+pub record Sees {V : Type 0} (contents : V → Option (List ℕ)) (g : Geometry) (t : Turn) (old new : Tracer V) (on : Bool)
+    : Type 0 where
   pub options : new.options ≡ old.options
   pub place : new.line ≡ min (old.line + 1) (2 ^ 64 - 1)
   pub text : List ℕ
@@ -116,10 +120,12 @@ EndsIf false None place on stop = on ≡ true
 EndsIf false (Some why) place on stop = on ≡ true
 
 -- a line was counted, and its trace written
-pub record Notes {V : Type 0} (contents : V → Option (List ℕ)) (at : ℕ) (text : List ℕ) (why : Option Cause) (old new : Tracer V) (on : Bool) : Type 0 where
+pub record Notes {V : Type 0} (contents : V → Option (List ℕ)) (at : ℕ) (text : List ℕ) (why : Option Cause)
+    (old new : Tracer V) (on : Bool) : Type 0 where
   pub options : new.options ≡ old.options
   pub place : new.line ≡ at
-  pub written : IsTraced old.options.trace old.is_lost new.is_lost (contents old.errors) (contents new.errors) (line_of text)
+  pub written : IsTraced old.options.trace old.is_lost new.is_lost (contents old.errors) (contents new.errors)
+      (line_of text)
   pub ends : EndsIf old.options.strict why at on new.stop
 
 -- where a tracer ended the run

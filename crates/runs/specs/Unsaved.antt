@@ -9,7 +9,8 @@ use Rattle.runs.specs.declared.unsaved.Unsaved.{Unsaved}
 abbrev pub nothing_unsaved : Unsaved
 nothing_unsaved = record { present = false; frozen = false }
 
--- Each invocation and store that is carried out isn't committed. A checkpoint freezes what isn't, a commit saves what is
+-- Each invocation and store that is carried out isn't committed. A checkpoint freezes what isn't, a commit saves what
+-- is
 -- frozen, and a restart loses both.
 abbrev pub unsaved_after : Command → Answer → Unsaved → Unsaved
 unsaved_after (command.Evict n) answer.Done old = old

@@ -127,12 +127,18 @@ fn take_piece<D: Device, S: ObjectStore<D>, W: Write, O: Observer>(
     writer: &mut W,
     observer: &mut O,
 ) -> Result<(), RunFault>
-    ensures goes_on { OnOk result ((g : Geometry) (m : Machine) (start : Power D S) (first : O) (text : List ℕ) (output : Option (List ℕ))
-        → SoFar D.disk S.view S.parts O.sees g m start kernel.old first observer.old text line.old output (W.contents writer.old)
-        → SoFar D.disk S.view S.parts O.sees g m start kernel.new first observer.new (text ++ piece.now) line.new output (W.contents writer.new)) }
-    ensures stops { IfErr result (λ e. (g : Geometry) (m : Machine) (start : Power D S) (first : O) (text : List ℕ) (output : Option (List ℕ))
-        → SoFar D.disk S.view S.parts O.sees g m start kernel.old first observer.old text line.old output (W.contents writer.old)
-        → Stopped D.disk S.view S.parts O.sees (BeginsWith (text ++ piece.now)) e g m start kernel.new first observer.new output (W.contents writer.new)) }
+    ensures goes_on { OnOk result
+        ((g : Geometry) (m : Machine) (start : Power D S) (first : O) (text : List ℕ) (output : Option (List ℕ))
+        → SoFar D.disk S.view S.parts O.sees g m start kernel.old first observer.old text line.old output
+        (W.contents writer.old)
+        → SoFar D.disk S.view S.parts O.sees g m start kernel.new first observer.new (text ++ piece.now) line.new output
+        (W.contents writer.new)) }
+    ensures stops { IfErr result
+        (λ e. (g : Geometry) (m : Machine) (start : Power D S) (first : O) (text : List ℕ) (output : Option (List ℕ))
+        → SoFar D.disk S.view S.parts O.sees g m start kernel.old first observer.old text line.old output
+        (W.contents writer.old)
+        → Stopped D.disk S.view S.parts O.sees (BeginsWith (text ++ piece.now)) e g m start kernel.new first
+        observer.new output (W.contents writer.new)) }
     ensures fault { IfErr result (λ e. e ≢ RunFault.Read) }
     ensures unstopped { O.may_end ≡ false → IfErr result (λ e. e ≢ RunFault.Stopped) }
 {
@@ -156,12 +162,18 @@ fn take_rest<D: Device, S: ObjectStore<D>, W: Write, O: Observer>(
     writer: &mut W,
     observer: &mut O,
 ) -> Result<(), RunFault>
-    ensures ends { OnOk result ((g : Geometry) (m : Machine) (start : Power D S) (first : O) (text : List ℕ) (output : Option (List ℕ))
-        → SoFar D.disk S.view S.parts O.sees g m start kernel.old first observer.old text line.old output (W.contents writer.old)
-        → Ended D.disk S.view S.parts O.sees g m start kernel.new first observer.new text output (W.contents writer.new)) }
-    ensures stops { IfErr result (λ e. (g : Geometry) (m : Machine) (start : Power D S) (first : O) (text : List ℕ) (output : Option (List ℕ))
-        → SoFar D.disk S.view S.parts O.sees g m start kernel.old first observer.old text line.old output (W.contents writer.old)
-        → Stopped D.disk S.view S.parts O.sees (λ lines. lines_of text ≡ lines) e g m start kernel.new first observer.new output (W.contents writer.new)) }
+    ensures ends { OnOk result
+        ((g : Geometry) (m : Machine) (start : Power D S) (first : O) (text : List ℕ) (output : Option (List ℕ))
+        → SoFar D.disk S.view S.parts O.sees g m start kernel.old first observer.old text line.old output
+        (W.contents writer.old)
+        → Ended D.disk S.view S.parts O.sees g m start kernel.new first observer.new text output
+        (W.contents writer.new)) }
+    ensures stops { IfErr result
+        (λ e. (g : Geometry) (m : Machine) (start : Power D S) (first : O) (text : List ℕ) (output : Option (List ℕ))
+        → SoFar D.disk S.view S.parts O.sees g m start kernel.old first observer.old text line.old output
+        (W.contents writer.old)
+        → Stopped D.disk S.view S.parts O.sees (λ lines. lines_of text ≡ lines) e g m start kernel.new first
+        observer.new output (W.contents writer.new)) }
     ensures fault { IfErr result (λ e. e ≢ RunFault.Read) }
     ensures unstopped { O.may_end ≡ false → IfErr result (λ e. e ≢ RunFault.Stopped) }
 {

@@ -1,8 +1,8 @@
 -- Two runs of one machine on the same lines.
 use Rattle.runs_laws.proofs.Names.{ℕ, true, List, [], Option, None, Some, refl, sym, ap, subst, append-nil, inl, inr, flat_map-append, Answer, Refusal, Command}
 use Rattle.runs_laws.proofs.Names.{Geometry, Line, Machine, Running, Up, Reply, Reported, Turn, IsRun, Replies, reply_text, output_of, Answers, Outcome, Step}
-use Rattle.runs_laws.proofs.Names.{carried_out, refusal_of, Says, says_one, lines_in, SteadyRunsAgree, is_steady}
-use Rattle.std.proofs.Common.{◌≡◌, ◌∷◌, ◌++◌, ◌∙◌}
+use Rattle.runs_laws.proofs.Names.{carried_out, refusal_of, Says, says_one, lines_in, SteadyRunsAgree, IsSteady, takes_memory, wants_memory_to_show}
+use Rattle.std.proofs.Common.{◌≡◌, ◌∷◌, ◌++◌, ◌∙◌, ◌≢◌}
 use Rattle.model.specs.declared.answer.Answer.TheVariants as answer
 use Rattle.model.specs.declared.answer.Refusal.TheVariants as refusal
 use Rattle.model.specs.declared.line.Line.TheVariants as line
@@ -24,11 +24,22 @@ answers_agree : (s : Running) (o : Outcome) (r : Option Refusal) (x y : Answer) 
 answers_agree s o (Some why) x y a b p q = record { then_up = s; answers = p.0 ∙ sym q.0; first = p.1; second = q.1 }
 answers_agree s o None x y a b p q = record { then_up = o.after; answers = p.0 ∙ sym q.0; first = p.1; second = q.1 }
 
--- a steady answer is the command's own
-own : (g : Geometry) (s : Running) (c : Command) (a : Answer) (after : Machine) → is_steady (Reported a) ≡ true → Step g (Up s) c a after → Answers g s c a after
-own g s c a after steady (inl answers) = answers
-own g s c a after steady (inr (inl wanting)) = let never : is_steady (Reported (answer.Refused refusal.NoMemory)) ≡ true = subst (λ (x : Answer). is_steady (Reported x) ≡ true) wanting.1 steady in cc
-own g s c a after steady (inr (inr failed)) = let never : is_steady (Reported (answer.Refused refusal.Fault)) ≡ true = subst (λ (x : Answer). is_steady (Reported x) ≡ true) failed.1 steady in cc
+-- an answer to a line for which neither the device failed nor memory that its command takes ran out
+record IsFine (l : Line) (p : Reply) : Type 0 where
+  device : p ≢ Reported (answer.Refused refusal.Fault)
+  memory : (c : Command) → l ≡ line.Command c → takes_memory c ≡ true → p ≢ Reported (answer.Refused refusal.NoMemory)
+
+fine : (t : Turn) (l : Line) → IsSteady t → Says t.line l → IsFine l t.reply
+fine t l steady says = record { device = steady.device; memory = λ c is. steady.memory c (subst (Says t.line) is says) }
+
+-- it is the command's own
+own : (g : Geometry) (s : Running) (c : Command) (p : Reply) (a : Answer) (after : Machine) → IsFine (line.Command c) p →
+    p ≡ Reported a → Step g (Up s) c a after → Answers g s c a after
+own g s c p a after steady reported (inl answers) = answers
+own g s c p a after steady reported (inr (inl wanting)) =
+    let takes = wants_memory_to_show g (Up s) c after (subst (λ (x : Answer). Step g (Up s) c x after) wanting.1 (inr (inl wanting))) in
+    absurd (steady.memory c refl takes (reported ∙ ap Reported wanting.1))
+own g s c p a after steady reported (inr (inr failed)) = absurd (steady.device (reported ∙ ap Reported failed.1))
 
 -- two replies to one line
 record AgreeOn (p q : Reply) (a b : Machine) : Type 0 where
@@ -38,13 +49,12 @@ record AgreeOn (p q : Reply) (a b : Machine) : Type 0 where
   second : b ≡ Up then_up
 
 replies_agree : (g : Geometry) (s : Running) (l : Line) (p q : Reply) (a b : Machine) → Replies g l (Up s) p a → Replies g l (Up s) q b →
-    is_steady p ≡ true → is_steady q ≡ true → AgreeOn p q a b
+    IsFine l p → IsFine l q → AgreeOn p q a b
 replies_agree g s line.Skip p q a b x y steady_p steady_q = record { then_up = s; replies = x.0 ∙ sym y.0; first = x.1; second = y.1 }
 replies_agree g s line.Bad p q a b x y steady_p steady_q = record { then_up = s; replies = x.0 ∙ sym y.0; first = x.1; second = y.1 }
 replies_agree g s (line.Command c) p q a b x y steady_p steady_q =
     let reported : Agree x.0 y.0 a b = answers_agree s (carried_out g s c) (refusal_of g s c) x.0 y.0 a b
-    (own g s c x.0 a (subst (λ (r : Reply). is_steady r ≡ true) x.1 steady_p) x.2)
-    (own g s c y.0 b (subst (λ (r : Reply). is_steady r ≡ true) y.1 steady_q) y.2) in
+    (own g s c p x.0 a steady_p x.1 x.2) (own g s c q y.0 b steady_q y.1 y.2) in
     record { then_up = reported.then_up; replies = x.1 ∙ ap Reported reported.answers ∙ sym y.1; first = reported.first; second = reported.second }
 
 same_head : (x y : List ℕ) (xs ys : List (List ℕ)) → x ∷ xs ≡ y ∷ ys → (x ≡ y) × (xs ≡ ys)
@@ -65,7 +75,12 @@ runs_agree g s (t ∷ ts) (u ∷ us) a b run_a run_b same steady_a steady_b =
     let first : Replies g turn_t.0 (Up s) t.reply t.after = subst (λ (m : Machine). Replies g turn_t.0 m t.reply t.after) run_a.0 turn_t.2 in
     let second : Replies g turn_t.0 (Up s) u.reply u.after =
     subst (λ (l : Line). Replies g l (Up s) u.reply u.after) one (subst (λ (m : Machine). Replies g turn_u.0 m u.reply u.after) run_b.0 turn_u.2) in
-    let reported = replies_agree g s turn_t.0 t.reply u.reply t.after u.after first second steady_a.0 steady_b.0 in
+    let reported = replies_agree g s turn_t.0 t.reply u.reply t.after u.after first second
+    (fine t turn_t.0 steady_a.0 turn_t.1) (fine u turn_t.0 steady_b.0 (subst (Says u.line) one turn_u.1)) in
     let rest = runs_agree g reported.then_up ts us a b
-    (subst (λ (m : Machine). IsRun g m ts a) reported.first run_a.2) (subst (λ (m : Machine). IsRun g m us b) reported.second run_b.2) heads.1 steady_a.1 steady_b.1 in
-    (output_cons t ts ∙ ap (λ (r : Reply). reply_text r ++ output_of ts) reported.replies ∙ ap (λ (xs : List ℕ). reply_text u.reply ++ xs) rest.0 ∙ sym (output_cons u us), rest.1)
+    (subst (λ (m : Machine). IsRun g m ts a) reported.first run_a.2) (subst (λ (m : Machine). IsRun g m us b) reported.second run_b.2) heads.1 steady_a.1
+    steady_b.1 in (
+      output_cons t ts ∙ ap (λ (r : Reply). reply_text r ++ output_of ts) reported.replies ∙ ap (λ (xs : List ℕ). reply_text u.reply ++ xs) rest.0 ∙
+          sym (output_cons u us),
+      rest.1,
+    )

@@ -39,7 +39,8 @@ module _ {D S : Type 0} (disk : D → Disk) (view : S → View D) (parts : S →
   before_turns g (Up r) (power.Up l) stands =
       let d = (view l.store).beneath in
       started (disk d) (LeavesSaved g (disk d).sectors (Up r) []) (only_now d)
-      (λ c left. candidate g (disk d).sectors (Up r) [] c (subst (λ (x : Running). DenotesOne g (disk d).sectors (x.saved ∷ []) c) (sym stands.1) (stands.0.leaves c left)))
+      (λ c left. candidate g (disk d).sectors (Up r) [] c
+      (subst (λ (x : Running). DenotesOne g (disk d).sectors (x.saved ∷ []) c) (sym stands.1) (stands.0.leaves c left)))
   before_turns g (Down saved) (power.Down d) stands =
       started (disk d) (LeavesSaved g (disk d).sectors (Down saved) []) (only_now d) (λ c left. candidate g (disk d).sectors (Down saved) [] c (stands c left))
   before_turns g (Down saved) (power.Up l) stands = absurd stands
@@ -55,11 +56,13 @@ module _ {D S : Type 0} (disk : D → Disk) (view : S → View D) (parts : S →
       let turn = goes.1 in
       let size = (of old).sectors in
       let rest : LeavesOnly (of goes.0) (of new) (LeavesSaved g size t.after ts) =
-      subst (λ (n : ℕ). LeavesOnly (of goes.0) (of new) (LeavesSaved g n t.after ts)) turn.size (turns_leave g ts t.after last goes.0 new turn.stands run.2 goes.2) in
+      subst (λ (n : ℕ). LeavesOnly (of goes.0) (of new) (LeavesSaved g n t.after ts)) turn.size
+      (turns_leave g ts t.after last goes.0 new turn.stands run.2 goes.2) in
       subst (λ (x : Machine). LeavesOnly (of old) (of new) (LeavesSaved g size x (t ∷ ts))) run.0
       (leaves_on {old = of old} {mid = of goes.0} {new = of new} {P = LeavesSaved g size t.before (t ∷ ts)}
       (leaves_weaker {old = of old} {new = of goes.0} {P = IsLeftIn g size t} (LeavesSaved g size t.before (t ∷ ts)) (in_turn g size t ts) turn.any_moment)
-      (leaves_weaker {old = of goes.0} {new = of new} {P = LeavesSaved g size t.after ts} (LeavesSaved g size t.before (t ∷ ts)) (λ c is. (is.0, inr (inr is.1), is.2)) rest))
+      (leaves_weaker {old = of goes.0} {new = of new} {P = LeavesSaved g size t.after ts} (LeavesSaved g size t.before (t ∷ ts))
+      (λ c is. (is.0, inr (inr is.1), is.2)) rest))
 
   -- what denotes a saved part is opened there
   opened_there : (g : Geometry) (size : ℕ) (c : Image) (s : Saved) → Denotes g size c s → IsOpenedAt disk view parts g size c s
@@ -71,7 +74,8 @@ module _ {D S : Type 0} (disk : D → Disk) (view : S → View D) (parts : S →
       opens : (d : D) → Denotes g (disk d).sectors (disk d).seen s → (k : Power D S) → Opens disk view parts d k → Stands disk view parts g k (Up (opened g s))
       opens d held k is =
           let one = denotes_one is.geometry g (disk d).sectors (disk d).seen is.saved s is.denoted held in
-          subst (λ (x : Saved). Stands disk view parts g k (Up (opened g x))) one.1 (subst (λ (h : Geometry). Stands disk view parts h k (Up (opened h is.saved))) one.0 is.stands)
+          subst (λ (x : Saved). Stands disk view parts g k (Up (opened g x))) one.1
+          (subst (λ (h : Geometry). Stands disk view parts h k (Up (opened h is.saved))) one.0 is.stands)
 
       refuses : (d : D) → Denotes g (disk d).sectors (disk d).seen s → (back : D) (why : OpenFault) → RefusesToOpen disk d back why → IsNoReason why
       refuses d held back fault.Failed is = tt

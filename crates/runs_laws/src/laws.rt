@@ -5,8 +5,9 @@ ghost use Rattle.runs_laws.specs.Laws.{CrashesAreSurvived, RunsAreConfined, Stea
 use device::Device;
 use object_store::ObjectStore;
 
-/// Where the machine is up, memory doesn't run out and the device doesn't fail, what is written is
-/// settled by the machine at the start and the script: every store, and every device, writes the same.
+/// If the machine is up and the device doesn't fail, the machine at the start and the script settle
+/// what is written: every store, and every device, writes the same. Memory must not run out for a
+/// `show`, a `restart` or a `cut`, and can't run out for another command.
 pub fn steady_runs_agree()
     ensures { SteadyRunsAgree }
 {}

@@ -10,7 +10,8 @@ use Rattle.script.proofs.Texts.{spaced_more}
 -- an access, as its word with a space before it
 access_is : (a : Access) → flat_map (λ w. 32 ∷ w) (access_words a) ≡ access_text a
 access_is a = go (a.0 == 0) (a.0 == 1) where
-  go : (b c : Bool) → flat_map (λ w. 32 ∷ w) (if b then [] else if c then codes "ro" ∷ [] else codes "weak" ∷ []) ≡ (if b then [] else if c then codes " ro" else codes " weak")
+  go : (b c : Bool) → flat_map (λ w. 32 ∷ w) (if b then [] else if c then codes "ro" ∷ [] else codes "weak" ∷ []) ≡
+      (if b then [] else if c then codes " ro" else codes " weak")
   go true c = refl
   go false true = refl
   go false false = refl
@@ -38,7 +39,8 @@ abbrev AreWords : List (List ℕ) → Type 0
 AreWords words = All IsSpaceless words
 
 name_is : (text : List ℕ) → list_all (λ b. not (b == 32)) text ≡ true → IsSpaceless text
-name_is text test = All-weaker (λ b. not (b == 32) ≡ true) (λ b. (b == 32) ≡ false) (λ b e. other (b == 32) e) text (AllPass-from_list_all (λ b. not (b == 32)) text test)
+name_is text test = All-weaker (λ b. not (b == 32) ≡ true) (λ b. (b == 32) ≡ false) (λ b e. other (b == 32) e) text
+    (AllPass-from_list_all (λ b. not (b == 32)) text test)
   where
     other : (b : Bool) → not b ≡ true → b ≡ false
     other true e = absurd cc

@@ -64,7 +64,8 @@ capability_again capability.Discrim has = ([], refl, refl)
 
 access_in_some : (word : List ℕ) (a : Access) → access_in word ≡ Some a → IsAccess a × (word ∷ [] ≡ access_words a)
 unfolding access_in
-access_in_some word a = go (bytes_eq word (codes "ro")) (bytes_eq word (codes "weak")) (bytes_eq-Decides word (codes "ro")).0 (bytes_eq-Decides word (codes "weak")).0
+access_in_some word a = go (bytes_eq word (codes "ro")) (bytes_eq word (codes "weak")) (bytes_eq-Decides word (codes "ro")).0
+    (bytes_eq-Decides word (codes "weak")).0
   where
     go : (b c : Bool) → (b ≡ true → word ≡ codes "ro") → (c ≡ true → word ≡ codes "weak")
         → (if b then Some (record { 0 = 1 }) else if c then Some weak else None) ≡ Some a → IsAccess a × (word ∷ [] ≡ access_words a)
@@ -127,7 +128,8 @@ object_takes make words p e =
       t.1 ∙ ap (λ (w : Words). decimal one.0.0 ∷ w) (u.1 ∙ ap (λ (q : Capability × Words). access_words two.0.0 ++ q.1) is),
     )
 
-one_read : (k : Kind) (words : Words) (p : Capability × Words) (c : Capability) → p.0 ≡ c → HasText c → kind_name k ∷ words ≡ capability_words c ++ p.1 → IsReadFrom k words p
+one_read : (k : Kind) (words : Words) (p : Capability × Words) (c : Capability) → p.0 ≡ c → HasText c → kind_name k ∷ words ≡ capability_words c ++ p.1 →
+    IsReadFrom k words p
 one_read k words p c is has whole = rw is (has, whole)
 
 space_takes : (words : Words) (p : Capability × Words) → capability_at kind.Space words ≡ Some p → IsReadFrom kind.Space words p
@@ -151,25 +153,32 @@ start_takes words p e =
     let two = bind_some (key_at one.0.1) _ p one.2 in
     let t = number_takes words one.0 one.1 in
     let u = key_takes one.0.1 two.0 two.1 in
-    subst (IsReadFrom kind.Start words) (some_is _ _ two.2) ((u.0, t.0), ap (λ (w : Words). codes "start" ∷ w) (t.1 ∙ ap (λ (w : Words). decimal one.0.0 ∷ w) u.1))
+    subst (IsReadFrom kind.Start words) (some_is _ _ two.2)
+    ((u.0, t.0), ap (λ (w : Words). codes "start" ∷ w) (t.1 ∙ ap (λ (w : Words). decimal one.0.0 ∷ w) u.1))
 
 capability_takes : (k : Kind) (words : Words) (p : Capability × Words) → capability_at k words ≡ Some p → IsReadFrom k words p
 unfolding capability_at capability_words
 capability_takes kind.Void words p e = subst (IsReadFrom kind.Void words) (some_is _ _ e) ((tt, tt), refl)
 capability_takes kind.Number words p e =
-    let t = one_takes (λ n. capability.Number n) words p e in one_read kind.Number words p (capability.Number t.0) t.2 (t.1, tt) (ap (λ (w : Words). codes "number" ∷ w) t.3)
+    let t = one_takes (λ n. capability.Number n) words p e in one_read kind.Number words p (capability.Number t.0) t.2 (t.1, tt)
+    (ap (λ (w : Words). codes "number" ∷ w) t.3)
 capability_takes kind.Page words p e =
-    let t = object_takes (λ o a. capability.Page o a) words p e in one_read kind.Page words p (capability.Page t.0 t.1) t.4 (t.3, t.2) (ap (λ (w : Words). codes "page" ∷ w) t.5)
+    let t = object_takes (λ o a. capability.Page o a) words p e in one_read kind.Page words p (capability.Page t.0 t.1) t.4 (t.3, t.2)
+    (ap (λ (w : Words). codes "page" ∷ w) t.5)
 capability_takes kind.Node words p e =
-    let t = object_takes (λ o a. capability.Node o a) words p e in one_read kind.Node words p (capability.Node t.0 t.1) t.4 (t.3, t.2) (ap (λ (w : Words). codes "node" ∷ w) t.5)
+    let t = object_takes (λ o a. capability.Node o a) words p e in one_read kind.Node words p (capability.Node t.0 t.1) t.4 (t.3, t.2)
+    (ap (λ (w : Words). codes "node" ∷ w) t.5)
 capability_takes kind.Space words p e = space_takes words p e
 capability_takes kind.Process words p e =
-    let t = one_takes (λ n. capability.Process n) words p e in one_read kind.Process words p (capability.Process t.0) t.2 (tt, t.1) (ap (λ (w : Words). codes "process" ∷ w) t.3)
+    let t = one_takes (λ n. capability.Process n) words p e in one_read kind.Process words p (capability.Process t.0) t.2 (tt, t.1)
+    (ap (λ (w : Words). codes "process" ∷ w) t.3)
 capability_takes kind.Start words p e = start_takes words p e
 capability_takes kind.Resume words p e =
-    let t = one_takes (λ n. capability.Resume n) words p e in one_read kind.Resume words p (capability.Resume t.0) t.2 (tt, t.1) (ap (λ (w : Words). codes "resume" ∷ w) t.3)
+    let t = one_takes (λ n. capability.Resume n) words p e in one_read kind.Resume words p (capability.Resume t.0) t.2 (tt, t.1)
+    (ap (λ (w : Words). codes "resume" ∷ w) t.3)
 capability_takes kind.Bank words p e =
-    let t = one_takes (λ n. capability.Bank n) words p e in one_read kind.Bank words p (capability.Bank t.0) t.2 (tt, t.1) (ap (λ (w : Words). codes "bank" ∷ w) t.3)
+    let t = one_takes (λ n. capability.Bank n) words p e in one_read kind.Bank words p (capability.Bank t.0) t.2 (tt, t.1)
+    (ap (λ (w : Words). codes "bank" ∷ w) t.3)
 capability_takes kind.Discrim words p e = subst (IsReadFrom kind.Discrim words) (some_is _ _ e) ((tt, tt), refl)
 
 -- ---- the kind of a word
@@ -206,7 +215,8 @@ one_kind j k same = some_is j k (sym (kind_at_name j) ∙ ap kind_at same ∙ ki
 -- ---- what the words of a text name
 
 -- what was read is any capability with these words
-pub arguments_are : (words rest : Words) (word : List ℕ) (k : Kind) (c : Capability) → words ≡ word ∷ rest → word ≡ kind_name k → HasText c → words ≡ capability_words c
+pub arguments_are : (words rest : Words) (word : List ℕ) (k : Kind) (c : Capability) → words ≡ word ∷ rest → word ≡ kind_name k → HasText c →
+    words ≡ capability_words c
     → capability_at k rest ≡ Some (c, [])
 arguments_are words rest word k c split is has whole =
     let again = capability_again c has in
@@ -225,7 +235,8 @@ capability_found words rest left word k c split is read none =
 pub no_words : (c : Capability) → HasText c → [] ≢ capability_words c
 no_words c has e = let again = capability_again c has in absurd (cc (again.1))
 
-pub no_kind : (words rest : Words) (word : List ℕ) → words ≡ word ∷ rest → ((k : Kind) → word ≢ kind_name k) → (c : Capability) → HasText c → words ≢ capability_words c
+pub no_kind : (words rest : Words) (word : List ℕ) → words ≡ word ∷ rest → ((k : Kind) → word ≢ kind_name k) → (c : Capability) → HasText c →
+    words ≢ capability_words c
 no_kind words rest word split none c has whole =
     let again = capability_again c has in
     let both_are : word ∷ rest ≡ kind_name (kind_for c) ∷ again.0 = sym split ∙ whole ∙ again.1 in
@@ -235,7 +246,8 @@ pub no_arguments : (words rest : Words) (word : List ℕ) (k : Kind) → words �
     → (c : Capability) → HasText c → words ≢ capability_words c
 no_arguments words rest word k split is none c has whole = let read = arguments_are words rest word k c split is has whole in absurd cc
 
-pub words_left_over : (words rest left : Words) (word : List ℕ) (k : Kind) (d : Capability) → words ≡ word ∷ rest → word ≡ kind_name k → capability_at k rest ≡ Some (d, left)
+pub words_left_over : (words rest left : Words) (word : List ℕ) (k : Kind) (d : Capability) → words ≡ word ∷ rest → word ≡ kind_name k →
+    capability_at k rest ≡ Some (d, left)
     → left ≢ [] → (c : Capability) → HasText c → words ≢ capability_words c
 words_left_over words rest left word k d split is read some c has whole =
     let other = arguments_are words rest word k c split is has whole in

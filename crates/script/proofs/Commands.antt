@@ -153,11 +153,13 @@ keyword_for (command.Journal n) = keyword.Journal
 keyword_for command.Restart = keyword.Restart
 keyword_for command.Cut = keyword.Cut
 
-pub command_again : (c : Command) → Fits c → (words : Words) × (command_words c ≡ keyword_name (keyword_for c) ∷ words) × (arguments_at (keyword_for c) words ≡ Some (c, []))
+pub command_again : (c : Command) → Fits c → (words : Words) × (command_words c ≡ keyword_name (keyword_for c) ∷ words) ×
+    (arguments_at (keyword_for c) words ≡ Some (c, []))
 unfolding command_words arguments_at invocation_at numbers_at registers_at keyword_for
 command_again (command.Invoke i) fits =
     let sent : registers_at (map decimal i.sent) ≡ Some (i.sent, []) =
-    subst (λ (w : Words). registers_at w ≡ Some (i.sent, [])) (append-nil (map decimal i.sent)) (four_again register_at 32 register_again i.sent [] fits.4 fits.5) in (
+    subst (λ (w : Words). registers_at w ≡ Some (i.sent, [])) (append-nil (map decimal i.sent))
+    (four_again register_at 32 register_again i.sent [] fits.4 fits.5) in (
       decimal i.process ∷ decimal i.register ∷ (map decimal i.words ++ map decimal i.sent),
       refl,
       rw (
@@ -168,8 +170,11 @@ command_again (command.Invoke i) fits =
       ) refl,
     )
 command_again (command.Load p a) fits = (decimal p ∷ decimal a ∷ [], refl, rw (number_again p (decimal a ∷ []) fits.0, number_again a [] fits.1) refl)
-command_again (command.Store p a v) fits =
-    (decimal p ∷ decimal a ∷ decimal v ∷ [], refl, rw (number_again p (decimal a ∷ decimal v ∷ []) fits.0, number_again a (decimal v ∷ []) fits.1, number_again v [] fits.2) refl)
+command_again (command.Store p a v) fits = (
+  decimal p ∷ decimal a ∷ decimal v ∷ [],
+  refl,
+  rw (number_again p (decimal a ∷ decimal v ∷ []) fits.0, number_again a (decimal v ∷ []) fits.1, number_again v [] fits.2) refl,
+)
 command_again (command.Show n) fits = (decimal n ∷ [], refl, rw (number_again n [] fits) refl)
 command_again (command.Evict n) fits = (decimal n ∷ [], refl, rw (number_again n [] fits) refl)
 command_again command.Checkpoint fits = ([], refl, refl)
@@ -200,7 +205,8 @@ invocation_words name process register sent_words sent words one two three four 
 
 invocation_end : (o : Operation) (words : Words) (a b : ℕ × Words) (c d : List ℕ × Words) (p : Command × Words)
     → number_at words ≡ Some a → register_at a.1 ≡ Some b → four_at number_at b.1 ≡ Some c → four_at register_at c.1 ≡ Some d
-    → Some (command.Invoke (record { operation = o; process = a.0; register = b.0; words = c.0; sent = d.0 }), d.1) ≡ Some p → IsReadFrom (keyword.Invoke o) words p
+    → Some (command.Invoke (record { operation = o; process = a.0; register = b.0; words = c.0; sent = d.0 }), d.1) ≡ Some p →
+    IsReadFrom (keyword.Invoke o) words p
 unfolding command_words
 invocation_end o words a b c d p one two three four is =
     let ta = number_takes words a one in
@@ -221,7 +227,8 @@ invocation_takes o words p e =
     let four = bind_some (four_at register_at three.0.1) _ p three.2 in
     invocation_end o words one.0 two.0 three.0 four.0 p one.1 two.1 three.1 four.1 four.2
 
-one_read : (k : Keyword) (words : Words) (p : Command × Words) (c : Command) → p.0 ≡ c → Fits c → keyword_name k ∷ words ≡ command_words c ++ p.1 → IsReadFrom k words p
+one_read : (k : Keyword) (words : Words) (p : Command × Words) (c : Command) → p.0 ≡ c → Fits c → keyword_name k ∷ words ≡ command_words c ++ p.1 →
+    IsReadFrom k words p
 one_read k words p c is fits whole = rw is (fits, whole)
 
 arguments_takes : (k : Keyword) (words : Words) (p : Command × Words) → arguments_at k words ≡ Some p → IsReadFrom k words p
@@ -232,7 +239,8 @@ arguments_takes keyword.Load words p e =
     let two = bind_some (number_at one.0.1) _ p one.2 in
     let a = number_takes words one.0 one.1 in
     let b = number_takes one.0.1 two.0 two.1 in
-    subst (IsReadFrom keyword.Load words) (some_is _ _ two.2) ((a.0, b.0), ap (λ (w : Words). codes "load" ∷ w) (a.1 ∙ ap (λ (w : Words). decimal one.0.0 ∷ w) b.1))
+    subst (IsReadFrom keyword.Load words) (some_is _ _ two.2)
+    ((a.0, b.0), ap (λ (w : Words). codes "load" ∷ w) (a.1 ∙ ap (λ (w : Words). decimal one.0.0 ∷ w) b.1))
 arguments_takes keyword.Store words p e =
     let one = bind_some (number_at words) _ p e in
     let two = bind_some (number_at one.0.1) _ p one.2 in
@@ -244,13 +252,18 @@ arguments_takes keyword.Store words p e =
       (a.0, b.0, c.0),
       ap (λ (w : Words). codes "store" ∷ w) (a.1 ∙ ap (λ (w : Words). decimal one.0.0 ∷ w) (b.1 ∙ ap (λ (w : Words). decimal two.0.0 ∷ w) c.1)),
     )
-arguments_takes keyword.Show words p e = let t = one_takes (λ n. command.Show n) words p e in one_read keyword.Show words p (command.Show t.0) t.2 t.1 (ap (λ (w : Words). codes "show" ∷ w) t.3)
-arguments_takes keyword.Evict words p e = let t = one_takes (λ n. command.Evict n) words p e in one_read keyword.Evict words p (command.Evict t.0) t.2 t.1 (ap (λ (w : Words). codes "evict" ∷ w) t.3)
+arguments_takes keyword.Show words p e = let t = one_takes (λ n. command.Show n) words p e in one_read keyword.Show words p (command.Show t.0) t.2 t.1
+    (ap (λ (w : Words). codes "show" ∷ w) t.3)
+arguments_takes keyword.Evict words p e = let t = one_takes (λ n. command.Evict n) words p e in one_read keyword.Evict words p (command.Evict t.0) t.2 t.1
+    (ap (λ (w : Words). codes "evict" ∷ w) t.3)
 arguments_takes keyword.Checkpoint words p e = subst (IsReadFrom keyword.Checkpoint words) (some_is _ _ e) (tt, refl)
-arguments_takes keyword.Stabilize words p e = let t = one_takes (λ n. command.Stabilize n) words p e in one_read keyword.Stabilize words p (command.Stabilize t.0) t.2 t.1 (ap (λ (w : Words). codes "stabilize" ∷ w) t.3)
+arguments_takes keyword.Stabilize words p e = let t = one_takes (λ n. command.Stabilize n) words p e in one_read keyword.Stabilize words p
+    (command.Stabilize t.0) t.2 t.1 (ap (λ (w : Words). codes "stabilize" ∷ w) t.3)
 arguments_takes keyword.Commit words p e = subst (IsReadFrom keyword.Commit words) (some_is _ _ e) (tt, refl)
-arguments_takes keyword.Migrate words p e = let t = one_takes (λ n. command.Migrate n) words p e in one_read keyword.Migrate words p (command.Migrate t.0) t.2 t.1 (ap (λ (w : Words). codes "migrate" ∷ w) t.3)
-arguments_takes keyword.Journal words p e = let t = one_takes (λ n. command.Journal n) words p e in one_read keyword.Journal words p (command.Journal t.0) t.2 t.1 (ap (λ (w : Words). codes "journal" ∷ w) t.3)
+arguments_takes keyword.Migrate words p e = let t = one_takes (λ n. command.Migrate n) words p e in one_read keyword.Migrate words p (command.Migrate t.0) t.2
+    t.1 (ap (λ (w : Words). codes "migrate" ∷ w) t.3)
+arguments_takes keyword.Journal words p e = let t = one_takes (λ n. command.Journal n) words p e in one_read keyword.Journal words p (command.Journal t.0) t.2
+    t.1 (ap (λ (w : Words). codes "journal" ∷ w) t.3)
 arguments_takes keyword.Restart words p e = subst (IsReadFrom keyword.Restart words) (some_is _ _ e) (tt, refl)
 arguments_takes keyword.Cut words p e = subst (IsReadFrom keyword.Cut words) (some_is _ _ e) (tt, refl)
 
@@ -296,7 +309,8 @@ one_keyword j k same = some_is j k (sym (keyword_at_name j) ∙ ap keyword_at sa
 -- ---- what the words of a line say
 
 -- the arguments that were read are those of any command with these words
-arguments_are : (words rest : Words) (word : List ℕ) (k : Keyword) (c : Command) → words ≡ word ∷ rest → word ≡ keyword_name k → Fits c → words ≡ command_words c
+arguments_are : (words rest : Words) (word : List ℕ) (k : Keyword) (c : Command) → words ≡ word ∷ rest → word ≡ keyword_name k → Fits c →
+    words ≡ command_words c
     → arguments_at k rest ≡ Some (c, [])
 arguments_are words rest word k c split named fits whole =
     let again = command_again c fits in
@@ -319,7 +333,8 @@ pub no_arguments : (words rest : Words) (word : List ℕ) (k : Keyword) → word
     → (c : Command) → Fits c → words ≢ command_words c
 no_arguments words rest word k split named none c fits whole = let read = arguments_are words rest word k c split named fits whole in absurd cc
 
-pub words_left_over : (words rest left : Words) (word : List ℕ) (k : Keyword) (d : Command) → words ≡ word ∷ rest → word ≡ keyword_name k → arguments_at k rest ≡ Some (d, left)
+pub words_left_over : (words rest left : Words) (word : List ℕ) (k : Keyword) (d : Command) → words ≡ word ∷ rest → word ≡ keyword_name k →
+    arguments_at k rest ≡ Some (d, left)
     → left ≢ [] → (c : Command) → Fits c → words ≢ command_words c
 words_left_over words rest left word k d split named read some c fits whole =
     let other = arguments_are words rest word k c split named fits whole in

@@ -35,7 +35,8 @@ front_before a b first second (front, rest, is, k) =
     (front, rest ++ second, ap (λ (xs : List ℕ). xs ++ second) is ∙ append_assoc front rest second, k)
 
 -- the first text was written, and then the second or a beginning of it
-pub writes_after : (a b c : Option (List ℕ)) (r : Result (Unit {0}) RunFault) (first second : List ℕ) → Appends a b first → Writes b c r second → Writes a c r (first ++ second)
+pub writes_after : (a b c : Option (List ℕ)) (r : Result (Unit {0}) RunFault) (first second : List ℕ) → Appends a b first → Writes b c r second →
+    Writes a c r (first ++ second)
 writes_after a b c (Ok x) first second h w = Appends-trans a b c first second h w
 writes_after a b c (Err e) first second h w = (w.0, front_after a b c first second h w.1)
 
@@ -46,7 +47,8 @@ writes_fail a b c e first second third text is h w =
     (w.0, subst (AppendsFront a c) (sym is) (front_before a c (first ++ second) third (front_after a b c first second h w.1)))
 
 -- the first text failed
-pub text_fails : (a b : Option (List ℕ)) (e : RunFault) (first second text : List ℕ) → text ≡ first ++ second → Writes a b (Err e) first → Writes a b (Err e) text
+pub text_fails : (a b : Option (List ℕ)) (e : RunFault) (first second text : List ℕ) → text ≡ first ++ second → Writes a b (Err e) first →
+    Writes a b (Err e) text
 text_fails a b e first second text is w = (w.0, subst (AppendsFront a b) (sym is) (front_before a b first second w.1))
 
 -- the first line failed
@@ -56,7 +58,8 @@ line_fails a b e line spelled second text same is w =
     (w.0, subst (AppendsFront a b) (ap (λ (t : List ℕ). line_of t ++ second) same ∙ sym is) (front_before a b (line_of line) second w.1))
 
 -- the first line was written, and then the second text or a beginning of it
-pub line_and : (a b c : Option (List ℕ)) (r : Result (Unit {0}) RunFault) (line spelled second text : List ℕ) → line ≡ spelled → text ≡ line_of spelled ++ second
+pub line_and : (a b c : Option (List ℕ)) (r : Result (Unit {0}) RunFault) (line spelled second text : List ℕ) → line ≡ spelled →
+    text ≡ line_of spelled ++ second
     → Appends a b (line_of line) → Writes b c r second → Writes a c r text
 line_and a b c r line spelled second text same is h w =
     subst (Writes a c r) (ap (λ (t : List ℕ). line_of t ++ second) same ∙ sym is) (writes_after a b c r (line_of line) second h w)

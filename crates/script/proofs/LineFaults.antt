@@ -37,18 +37,22 @@ no_number old rest word is none n small spelt =
     let some : number_at old ≡ Some (n, rest) = ap number_at (is ∙ ap (λ (w : List ℕ). w ∷ rest) spelt) ∙ number_again n rest small in cc (none, some)
 
 -- a number that is too great for its place stands where a register has to
-pub register_fault : (is_register : Bool) (old left : Words) (n most : ℕ) → number_at old ≡ Some (n, left) → most + 1 ≡ (if is_register then 32 else 2 ^ 64) → most < n →
+pub register_fault : (is_register : Bool) (old left : Words) (n most : ℕ) → number_at old ≡ Some (n, left) → most + 1 ≡ (if is_register then 32 else 2 ^ 64) →
+    most < n →
     (place : ℕ) → (word : List ℕ) × (rest : Words) × (old ≡ word ∷ rest) × IsWordFault word place is_register (fault.NoRegister n)
-register_fault true old left n most read is great place = let t = number_takes old (n, left) read in (decimal n, left, t.1, (refl, refl, omega (arith, is, great)))
+register_fault true old left n most read is great place = let t = number_takes old (n, left) read in
+    (decimal n, left, t.1, (refl, refl, omega (arith, is, great)))
 register_fault false old left n most read is great place = let t = number_takes old (n, left) read in absurd (omega (arith, is, great, t.0))
 
-pub operand_here : (is_register : Bool) (old left : Words) (n most : ℕ) → number_at old ≡ Some (n, left) → most + 1 ≡ (if is_register then 32 else 2 ^ 64) → n ≤ most →
+pub operand_here : (is_register : Bool) (old left : Words) (n most : ℕ) → number_at old ≡ Some (n, left) → most + 1 ≡ (if is_register then 32 else 2 ^ 64) →
+    n ≤ most →
     (word : List ℕ) × (old ≡ word ∷ left) × IsOperand is_register word
 operand_here is_register old left n most read is small =
     let t = number_takes old (n, left) read in
     (decimal n, t.1, (n, subst (λ (bound : ℕ). n < bound) is (omega (arith, small)), refl))
 
-pub word_fault_here : (is_register : Bool) (old rest : Words) (word : List ℕ) (place : ℕ) (why : LineFault) → old ≡ word ∷ rest → ((r : Bool) → IsWordFault word place r why) →
+pub word_fault_here : (is_register : Bool) (old rest : Words) (word : List ℕ) (place : ℕ) (why : LineFault) → old ≡ word ∷ rest →
+    ((r : Bool) → IsWordFault word place r why) →
     (w : List ℕ) × (left : Words) × (old ≡ w ∷ left) × IsWordFault w place is_register why
 word_fault_here is_register old rest word place why is faulty = (word, rest, is, faulty is_register)
 
@@ -64,7 +68,8 @@ Taken registers all count left = (before : Words) × (all ≡ before ++ left) ×
 pub none_taken : (registers : List Bool) (all : Words) → Taken registers all 0 all
 none_taken registers all = ([], refl, refl, tt)
 
-operands_more : (registers : List Bool) (before : Words) (count : ℕ) (word : List ℕ) → count < length registers → length before ≡ count → AreOperands (take count registers) before →
+operands_more : (registers : List Bool) (before : Words) (count : ℕ) (word : List ℕ) → count < length registers → length before ≡ count →
+    AreOperands (take count registers) before →
     IsOperand (get_or registers count false) word → AreOperands (take (suc count) registers) (before ++ word ∷ [])
 operands_more [] before count word lt long are is = absurd (omega (arith, lt))
 operands_more (r ∷ rs) [] zero word lt long are is = (is, tt)
@@ -72,14 +77,16 @@ operands_more (r ∷ rs) [] (suc count) word lt long are is = absurd (omega (ari
 operands_more (r ∷ rs) (w ∷ ws) zero word lt long are is = absurd (omega (arith, long))
 operands_more (r ∷ rs) (w ∷ ws) (suc count) word lt long are is = (are.0, operands_more rs ws count word (omega (arith, lt)) (omega (arith, long)) are.1 is)
 
-pub one_taken : (registers : List Bool) (all : Words) (count : ℕ) (left next : Words) (word : List ℕ) → count < length registers → Taken registers all count left →
+pub one_taken : (registers : List Bool) (all : Words) (count : ℕ) (left next : Words) (word : List ℕ) → count < length registers →
+    Taken registers all count left →
     left ≡ word ∷ next → IsOperand (get_or registers count false) word → Taken registers all (count + 1) next
 one_taken registers all count left next word lt taken is operand =
     let one : count + 1 ≡ suc count = omega arith in (
       taken.0 ++ word ∷ [],
       taken.1 ∙ ap (λ (l : Words). taken.0 ++ l) is ∙ sym (append_assoc taken.0 (word ∷ []) next),
       length_more taken.0 word ∙ ap suc taken.2 ∙ sym one,
-      subst (λ (k : ℕ). AreOperands (take k registers) (taken.0 ++ word ∷ [])) (sym one) (operands_more registers taken.0 count word lt taken.2 taken.3 operand),
+      subst (λ (k : ℕ). AreOperands (take k registers) (taken.0 ++ word ∷ [])) (sym one)
+          (operands_more registers taken.0 count word lt taken.2 taken.3 operand),
     )
   where
     length_more : (ws : Words) (w : List ℕ) → length (ws ++ w ∷ []) ≡ suc (length ws)
@@ -95,7 +102,8 @@ operands_length (r ∷ rs) (w ∷ ws) are = ap suc (operands_length rs ws are.1)
 -- ---- faults of a line
 
 -- a word behind the keyword has a place in the line
-has_word : (line : List ℕ) (k : Keyword) (before after : Words) (word : List ℕ) (place : ℕ) → Names line k (before ++ word ∷ after) → place ≡ length before + 2 → HasWord line place word
+has_word : (line : List ℕ) (k : Keyword) (before after : Words) (word : List ℕ) (place : ℕ) → Names line k (before ++ word ∷ after) →
+    place ≡ length before + 2 → HasWord line place word
 has_word line k before after word place names is = (keyword_name k ∷ before, after, names, omega (arith, is))
 
 at_length : {A : Type 0} (before : List A) (x : A) (after : List A) → slice_get (before ++ x ∷ after) (length before) ≡ Some x
@@ -107,8 +115,10 @@ register_at [] count lt is = absurd (omega (arith, lt))
 register_at (r ∷ rs) zero lt is = ap Some is
 register_at (r ∷ rs) (suc count) lt is = register_at rs count (omega (arith, lt)) is
 
-pub word_is_fault : (k : Keyword) (all left rest : Words) (count place : ℕ) (word : List ℕ) (why : LineFault) → count < length (are_registers k) → Taken (are_registers k) all count left →
-    left ≡ word ∷ rest → place ≡ count + 2 → IsWordFault word place (get_or (are_registers k) count false) why → (line : List ℕ) → Names line k all → IsFaultOf line why
+pub word_is_fault : (k : Keyword) (all left rest : Words) (count place : ℕ) (word : List ℕ) (why : LineFault) → count < length (are_registers k) →
+    Taken (are_registers k) all count left →
+    left ≡ word ∷ rest → place ≡ count + 2 → IsWordFault word place (get_or (are_registers k) count false) why → (line : List ℕ) → Names line k all →
+    IsFaultOf line why
 word_is_fault k all left rest count place word why lt taken is at faulty line names = go why faulty where
   split : all ≡ taken.0 ++ word ∷ rest
   split = taken.1 ∙ ap (λ (l : Words). taken.0 ++ l) is
@@ -127,7 +137,8 @@ word_is_fault k all left rest count place word why lt taken is at faulty line na
     names,
     count,
     register_at (are_registers k) count lt is.0,
-    ap (λ (l : Words). slice_get l count) split ∙ subst (λ (i : ℕ). slice_get (taken.0 ++ word ∷ rest) i ≡ Some word) taken.2 (at_length taken.0 word rest) ∙ ap Some is.1,
+    ap (λ (l : Words). slice_get l count) split ∙ subst (λ (i : ℕ). slice_get (taken.0 ++ word ∷ rest) i ≡ Some word) taken.2 (at_length taken.0 word rest) ∙
+        ap Some is.1,
     is.2,
   )
   go fault.Long is = absurd is
@@ -150,24 +161,28 @@ module _ (k : Keyword) (all left : Words) (count : ℕ) (end : length (are_regis
       (omega (arith, at, operands_length (are_registers k) taken.0 operands)))
 
 -- the same of a table
-module _ (registers : List Bool) (k : Keyword) (same : registers ≡ are_registers k) (all left : Words) (count : ℕ) (taken : Taken registers all count left) where
-  taken_of : Taken (are_registers k) all count left
-  taken_of = subst (λ (rs : List Bool). Taken rs all count left) same taken
+module _ (registers : List Bool) (k : Keyword) (same : registers ≡ are_registers k) (all left : Words) (count : ℕ) (taken : Taken registers all count left)
+  where
+    taken_of : Taken (are_registers k) all count left
+    taken_of = subst (λ (rs : List Bool). Taken rs all count left) same taken
 
-  pub fault_in_table : (rest : Words) (place : ℕ) (word : List ℕ) (why : LineFault) → count < length registers → left ≡ word ∷ rest → place ≡ count + 2 →
-      IsWordFault word place (get_or registers count false) why → (line : List ℕ) → Names line k all → IsFaultOf line why
-  fault_in_table rest place word why lt is at faulty =
-      word_is_fault k all left rest count place word why (subst (λ (rs : List Bool). count < length rs) same lt) taken_of is at
-      (subst (λ (rs : List Bool). IsWordFault word place (get_or rs count false) why) same faulty)
+    pub fault_in_table : (rest : Words) (place : ℕ) (word : List ℕ) (why : LineFault) → count < length registers → left ≡ word ∷ rest → place ≡ count + 2 →
+        IsWordFault word place (get_or registers count false) why → (line : List ℕ) → Names line k all → IsFaultOf line why
+    fault_in_table rest place word why lt is at faulty =
+        word_is_fault k all left rest count place word why (subst (λ (rs : List Bool). count < length rs) same lt) taken_of is at
+        (subst (λ (rs : List Bool). IsWordFault word place (get_or rs count false) why) same faulty)
 
-  pub empty_behind_table : length registers ≤ count → (word : List ℕ) (rest : Words) (place : ℕ) → left ≡ word ∷ rest → place ≡ length registers + 1 + 1 → (length word == 0) ≡ true →
-      (line : List ℕ) → Names line k all → IsFaultOf line (fault.EmptyWord place)
-  empty_behind_table end word rest place is at none =
-      empty_word k all left count (subst (λ (rs : List Bool). length rs ≤ count) same end) taken_of word rest place is (subst (λ (rs : List Bool). place ≡ length rs + 1 + 1) same at) (empty_list word none)
+    pub empty_behind_table : length registers ≤ count → (word : List ℕ) (rest : Words) (place : ℕ) → left ≡ word ∷ rest → place ≡ length registers + 1 + 1 →
+        (length word == 0) ≡ true →
+        (line : List ℕ) → Names line k all → IsFaultOf line (fault.EmptyWord place)
+    empty_behind_table end word rest place is at none =
+        empty_word k all left count (subst (λ (rs : List Bool). length rs ≤ count) same end) taken_of word rest place is
+        (subst (λ (rs : List Bool). place ≡ length rs + 1 + 1) same at) (empty_list word none)
 
 -- ---- a line without a fault is a command's
 
-first : (b : Bool) (bs : List Bool) (ws : Words) → AreOperands (b ∷ bs) ws → (n : ℕ) × (rest : Words) × (n < (if b then 32 else 2 ^ 64)) × (ws ≡ decimal n ∷ rest) × AreOperands bs rest
+first : (b : Bool) (bs : List Bool) (ws : Words) → AreOperands (b ∷ bs) ws →
+    (n : ℕ) × (rest : Words) × (n < (if b then 32 else 2 ^ 64)) × (ws ≡ decimal n ∷ rest) × AreOperands bs rest
 first b bs [] are = absurd are
 first b bs (w ∷ ws) are = (are.0.0, ws, are.0.1, ap (λ (v : List ℕ). v ∷ ws) are.0.2, are.1)
 
@@ -193,7 +208,8 @@ four b bs ws are =
 abbrev Spells : Keyword → Words → Type 0
 Spells k ws = (c : Command) × Fits c × (command_words c ≡ keyword_name k ∷ ws)
 
-one_spells : (k : Keyword) (make : ℕ → Command) → ((n : ℕ) → n < 2 ^ 64 → Fits (make n)) → ((n : ℕ) → command_words (make n) ≡ keyword_name k ∷ decimal n ∷ []) →
+one_spells : (k : Keyword) (make : ℕ → Command) → ((n : ℕ) → n < 2 ^ 64 → Fits (make n)) → ((n : ℕ) → command_words (make n) ≡ keyword_name k ∷ decimal n ∷ [])
+    →
     (ws : Words) → AreOperands (false ∷ []) ws → Spells k ws
 one_spells k make fits words ws are =
     let p = first false [] ws are in
@@ -214,8 +230,11 @@ spells (keyword.Invoke o) ws are =
     )
 spells keyword.Load ws are =
     let p = first false (false ∷ []) ws are in
-    let a = first false [] p.1 p.4 in
-    (command.Load p.0 a.0, (p.2, a.2), ap (λ (w : Words). codes "load" ∷ w) (sym (p.3 ∙ ap (λ (w : Words). decimal p.0 ∷ w) (a.3 ∙ ap (λ (w : Words). decimal a.0 ∷ w) (none a.1 a.4)))))
+    let a = first false [] p.1 p.4 in (
+      command.Load p.0 a.0,
+      (p.2, a.2),
+      ap (λ (w : Words). codes "load" ∷ w) (sym (p.3 ∙ ap (λ (w : Words). decimal p.0 ∷ w) (a.3 ∙ ap (λ (w : Words). decimal a.0 ∷ w) (none a.1 a.4)))),
+    )
 spells keyword.Store ws are =
     let p = first false (false ∷ false ∷ []) ws are in
     let a = first false (false ∷ []) p.1 p.4 in
@@ -223,7 +242,8 @@ spells keyword.Store ws are =
       command.Store p.0 a.0 v.0,
       (p.2, a.2, v.2),
       ap (λ (w : Words). codes "store" ∷ w)
-          (sym (p.3 ∙ ap (λ (w : Words). decimal p.0 ∷ w) (a.3 ∙ ap (λ (w : Words). decimal a.0 ∷ w) (v.3 ∙ ap (λ (w : Words). decimal v.0 ∷ w) (none v.1 v.4))))),
+          (sym (p.3 ∙ ap (λ (w : Words). decimal p.0 ∷ w)
+          (a.3 ∙ ap (λ (w : Words). decimal a.0 ∷ w) (v.3 ∙ ap (λ (w : Words). decimal v.0 ∷ w) (none v.1 v.4))))),
     )
 spells keyword.Show ws are = one_spells keyword.Show (λ n. command.Show n) (λ n small. small) (λ n. refl) ws are
 spells keyword.Evict ws are = one_spells keyword.Evict (λ n. command.Evict n) (λ n small. small) (λ n. refl) ws are

@@ -17,7 +17,8 @@ pub last_register_reads : (words : Words) (n : ℕ) (r : Option ℕ) → number_
 last_register_reads words n None reads is small = tt
 last_register_reads words n (Some x) reads is small = rw is (register_reads words [] n reads (small refl))
 
-pub registers_read : (words one two three : Words) (first second third fourth : ℕ) → register_at words ≡ Some (first, one) → register_at one ≡ Some (second, two)
+pub registers_read : (words one two three : Words) (first second third fourth : ℕ) → register_at words ≡ Some (first, one) →
+    register_at one ≡ Some (second, two)
     → register_at two ≡ Some (third, three) → register_at three ≡ Some (fourth, []) → registers_at words ≡ Some (first ∷ second ∷ third ∷ fourth ∷ [], [])
 unfolding registers_at
 registers_read words one two three first second third fourth a b c d = rw (a, b, c, d) refl
@@ -27,18 +28,22 @@ invocation o process register first second third fourth sent =
     command.Invoke (record { operation = o; process = process; register = register; words = first ∷ second ∷ third ∷ fourth ∷ []; sent = sent })
 
 invocation_read : (o : Operation) (one two three four five six seven : Words) (process register first second third fourth : ℕ) (sent : List ℕ)
-    → number_at one ≡ Some (process, two) → register_at two ≡ Some (register, three) → number_at three ≡ Some (first, four) → number_at four ≡ Some (second, five)
+    → number_at one ≡ Some (process, two) → register_at two ≡ Some (register, three) → number_at three ≡ Some (first, four) →
+    number_at four ≡ Some (second, five)
     → number_at five ≡ Some (third, six) → number_at six ≡ Some (fourth, seven) → registers_at seven ≡ Some (sent, [])
     → arguments_at (keyword.Invoke o) one ≡ Some (invocation o process register first second third fourth sent, [])
 unfolding arguments_at invocation_at numbers_at
 invocation_read o one two three four five six seven process register first second third fourth sent a b c d e f g = rw (a, b, c, d, e, f, g) refl
 
 -- a line that names an operation and ten numbers
-pub invocation_said : (o : Operation) (line : List ℕ) (one two three four five six seven : Words) (process register first second third fourth : ℕ) (sent : List ℕ)
+pub invocation_said : (o : Operation) (line : List ℕ) (one two three four five six seven : Words) (process register first second third fourth : ℕ)
+    (sent : List ℕ)
     → words_of line ≡ operation_name o ∷ one
-    → number_at one ≡ Some (process, two) → register_at two ≡ Some (register, three) → number_at three ≡ Some (first, four) → number_at four ≡ Some (second, five)
+    → number_at one ≡ Some (process, two) → register_at two ≡ Some (register, three) → number_at three ≡ Some (first, four) →
+    number_at four ≡ Some (second, five)
     → number_at five ≡ Some (third, six) → number_at six ≡ Some (fourth, seven) → registers_at seven ≡ Some (sent, [])
-    → Fits (invocation o process register first second third fourth sent) × (words_of line ≡ command_words (invocation o process register first second third fourth sent))
+    → Fits (invocation o process register first second third fourth sent) ×
+    (words_of line ≡ command_words (invocation o process register first second third fourth sent))
 invocation_said o line one two three four five six seven process register first second third fourth sent named a b c d e f g =
     command_found (words_of line) one [] (operation_name o) (keyword.Invoke o) (invocation o process register first second third fourth sent) named refl
     (invocation_read o one two three four five six seven process register first second third fourth sent a b c d e f g) refl
@@ -48,10 +53,12 @@ abbrev four : ℕ → ℕ → ℕ → ℕ → ℕ
 four a b c d = a + b * 256 + c * 65536 + d * 16777216
 
 void_begins : (a b c d : ℕ) → a < 256 → b < 256 → c < 256 → d < 256 → four a b c d ≡ 540024880 → (a ≡ 48) × (b ≡ 32) × (c ≡ 48) × (d ≡ 32)
-void_begins a b c d pa pb pc pd is = (omega (arith, pa, pb, pc, pd, is), omega (arith, pa, pb, pc, pd, is), omega (arith, pa, pb, pc, pd, is), omega (arith, pa, pb, pc, pd, is))
+void_begins a b c d pa pb pc pd is =
+    (omega (arith, pa, pb, pc, pd, is), omega (arith, pa, pb, pc, pd, is), omega (arith, pa, pb, pc, pd, is), omega (arith, pa, pb, pc, pd, is))
 
 void_ends : (a b c d : ℕ) → a < 256 → b < 256 → c < 256 → d < 256 → four a b c d ≡ 807415840 → (a ≡ 32) × (b ≡ 48) × (c ≡ 32) × (d ≡ 48)
-void_ends a b c d pa pb pc pd is = (omega (arith, pa, pb, pc, pd, is), omega (arith, pa, pb, pc, pd, is), omega (arith, pa, pb, pc, pd, is), omega (arith, pa, pb, pc, pd, is))
+void_ends a b c d pa pb pc pd is =
+    (omega (arith, pa, pb, pc, pd, is), omega (arith, pa, pb, pc, pd, is), omega (arith, pa, pb, pc, pd, is), omega (arith, pa, pb, pc, pd, is))
 
 -- the four registers are 0
 pub void_read : (text : List ℕ) (at : ℕ) → length text ≡ at + 7 → ((i : ℕ) → get_or text i 0 < 256)
@@ -70,11 +77,13 @@ void_read text at whole bytes begins ends =
     let third = one_digit text (at + 2 + 2) 0 (omega (arith, whole)) ((omega (arith, fifth), omega (arith, fifth)), omega (arith, fifth)) fifth_space in
     let seventh = moved (at + 2 + 2 + 2) (at + 3 + 3) 48 (omega arith) b.3 in
     let fourth = last_one text (at + 2 + 2 + 2) 0 (omega (arith, whole)) ((omega (arith, seventh), omega (arith, seventh)), omega (arith, seventh)) in
-    registers_read _ _ _ _ 0 0 0 0 (register_reads _ _ 0 first (omega arith)) (register_reads _ _ 0 second (omega arith)) (register_reads _ _ 0 third (omega arith))
+    registers_read _ _ _ _ 0 0 0 0 (register_reads _ _ 0 first (omega arith)) (register_reads _ _ 0 second (omega arith))
+    (register_reads _ _ 0 third (omega arith))
     (register_reads _ _ 0 fourth (omega arith))
 
 -- the command whose keyword and arguments were read
-pub said : (line : List ℕ) (rest : Words) (k : Keyword) (r : Option Command) → words_of line ≡ keyword_name k ∷ rest → IfSome r (λ c. arguments_at k rest ≡ Some (c, []))
+pub said : (line : List ℕ) (rest : Words) (k : Keyword) (r : Option Command) → words_of line ≡ keyword_name k ∷ rest →
+    IfSome r (λ c. arguments_at k rest ≡ Some (c, []))
     → IfSome r (λ c. Fits c × (words_of line ≡ command_words c))
 said line rest k None named read = tt
 said line rest k (Some c) named read = command_found (words_of line) rest [] (keyword_name k) k c named refl read refl

@@ -10,7 +10,8 @@ use Rattle.script.proofs.Split.{word_alone, word_and_more}
 -- a text that begins with a number of digits, up to a space or the end
 abbrev Begins : List ℕ → ℕ → ℕ → Type 0
 Begins text size n =
-    (0 < size) × (size ≤ length text) × AllDigits 10 (take size text) × (get_or text 0 0 ≡ 48 → size ≡ 1) × (n ≡ digits_value 10 (take size text)) × (n < 2 ^ 64)
+    (0 < size) × (size ≤ length text) × AllDigits 10 (take size text) × (get_or text 0 0 ≡ 48 → size ≡ 1) × (n ≡ digits_value 10 (take size text)) ×
+    (n < 2 ^ 64)
 
 word_ends : (text : List ℕ) (size n : ℕ) → Begins text size n → (size < length text → get_or text size 0 ≡ 32) → first_end text ≡ size
 word_ends text size n begins space =
@@ -43,7 +44,8 @@ digits_first text size n begins within space =
 digits_alone : (text : List ℕ) (size n : ℕ) → Begins text size n → size ≡ length text → number_at (words_of text) ≡ Some (n, [])
 digits_alone text size n begins whole =
     let ends = word_ends text size n begins (λ lt. absurd (omega (arith, lt, whole))) in
-    number_gives (Some n) (first_word text) (words_of text) [] (word_alone text size (sym ends) (omega (arith, whole))) (begins.5, word_is text size n begins ends) tt
+    number_gives (Some n) (first_word text) (words_of text) [] (word_alone text size (sym ends) (omega (arith, whole)))
+    (begins.5, word_is text size n begins ends) tt
 
 -- the value of the first digits behind a place
 abbrev Values : List ℕ → ℕ → ℕ → ℕ → Type 0
@@ -85,7 +87,8 @@ begins_behind text at size n within some values first small = (
   small,
 )
 
-number_read : (text : List ℕ) (at size next n : ℕ) → next ≡ at + size + 1 → at + size < length text → get_or text (at + size) 0 ≡ 32 → Begins (drop at text) size n
+number_read : (text : List ℕ) (at size next n : ℕ) → next ≡ at + size + 1 → at + size < length text → get_or text (at + size) 0 ≡ 32 →
+    Begins (drop at text) size n
     → number_at (words_of (drop at text)) ≡ Some (n, words_of (drop next text))
 number_read text at size next n behind within space begins =
     let rest : drop (size + 1) (drop at text) ≡ drop next text = drop-drop (size + 1) at text ∙ ap (λ (k : ℕ). drop k text) (omega (arith, behind)) in
@@ -103,15 +106,18 @@ pub two_digits : (text : List ℕ) (at one two n : ℕ) → at + 2 < length text
 two_digits text at one two n within first some second space is =
     rw is
     (number_read text at 2 (at + 3) (one * 10 + two) (omega arith) within space
-    (begins_behind text at 2 (one * 10 + two) (omega (arith, within)) (omega arith) (values_two text at one two (omega (arith, within)) first second) (λ zero. absurd (some zero)) (omega (arith, first, second))))
+    (begins_behind text at 2 (one * 10 + two) (omega (arith, within)) (omega arith) (values_two text at one two (omega (arith, within)) first second)
+    (λ zero. absurd (some zero)) (omega (arith, first, second))))
 
-pub three_digits : (text : List ℕ) (at one two three n : ℕ) → at + 3 < length text → IsDigit text at one → (get_or text at 0 ≡ 48 → ⊥) → IsDigit text (at + 1) two
+pub three_digits : (text : List ℕ) (at one two three n : ℕ) → at + 3 < length text → IsDigit text at one → (get_or text at 0 ≡ 48 → ⊥) →
+    IsDigit text (at + 1) two
     → IsDigit text (at + 2) three → get_or text (at + 3) 0 ≡ 32 → n ≡ (one * 10 + two) * 10 + three
     → number_at (words_of (drop at text)) ≡ Some (n, words_of (drop (at + 4) text))
 three_digits text at one two three n within first some second third space is =
     rw is
     (number_read text at 3 (at + 4) ((one * 10 + two) * 10 + three) (omega arith) within space
-    (begins_behind text at 3 ((one * 10 + two) * 10 + three) (omega (arith, within)) (omega arith) (values_three text at one two three (omega (arith, within)) first second third)
+    (begins_behind text at 3 ((one * 10 + two) * 10 + three) (omega (arith, within)) (omega arith)
+    (values_three text at one two three (omega (arith, within)) first second third)
     (λ zero. absurd (some zero)) (omega (arith, first, second, third))))
 
 pub last_one : (text : List ℕ) (at n : ℕ) → length text ≡ at + 1 → IsDigit text at n → number_at (words_of (drop at text)) ≡ Some (n, [])
@@ -120,12 +126,14 @@ last_one text at n whole first =
     (begins_behind text at 1 n (omega (arith, whole)) (omega arith) (values_one text at n (omega (arith, whole)) first) (λ _. refl) (omega (arith, first)))
     (omega (arith, whole, length-drop at text))
 
-pub last_two : (text : List ℕ) (at one two n : ℕ) → length text ≡ at + 2 → IsDigit text at one → (get_or text at 0 ≡ 48 → ⊥) → IsDigit text (at + 1) two → n ≡ one * 10 + two
+pub last_two : (text : List ℕ) (at one two n : ℕ) → length text ≡ at + 2 → IsDigit text at one → (get_or text at 0 ≡ 48 → ⊥) → IsDigit text (at + 1) two →
+    n ≡ one * 10 + two
     → number_at (words_of (drop at text)) ≡ Some (n, [])
 last_two text at one two n whole first some second is =
     rw is
     (digits_alone (drop at text) 2 (one * 10 + two)
-    (begins_behind text at 2 (one * 10 + two) (omega (arith, whole)) (omega arith) (values_two text at one two (omega (arith, whole)) first second) (λ zero. absurd (some zero)) (omega (arith, first, second)))
+    (begins_behind text at 2 (one * 10 + two) (omega (arith, whole)) (omega arith) (values_two text at one two (omega (arith, whole)) first second)
+    (λ zero. absurd (some zero)) (omega (arith, first, second)))
     (omega (arith, whole, length-drop at text)))
 
 pub last_three : (text : List ℕ) (at one two three n : ℕ) → length text ≡ at + 3 → IsDigit text at one → (get_or text at 0 ≡ 48 → ⊥) → IsDigit text (at + 1) two
@@ -133,6 +141,7 @@ pub last_three : (text : List ℕ) (at one two three n : ℕ) → length text �
 last_three text at one two three n whole first some second third is =
     rw is
     (digits_alone (drop at text) 3 ((one * 10 + two) * 10 + three)
-    (begins_behind text at 3 ((one * 10 + two) * 10 + three) (omega (arith, whole)) (omega arith) (values_three text at one two three (omega (arith, whole)) first second third)
+    (begins_behind text at 3 ((one * 10 + two) * 10 + three) (omega (arith, whole)) (omega arith)
+    (values_three text at one two three (omega (arith, whole)) first second third)
     (λ zero. absurd (some zero)) (omega (arith, first, second, third)))
     (omega (arith, whole, length-drop at text)))

@@ -19,7 +19,8 @@ pub first_piece : (line : List ℕ) (i : ℕ) → position is_space line ≡ Som
 first_piece line i some =
     let at = position-Some is_space line i 0 some in
     let here : position_or_len is_space line ≡ i = position_or_len_is is_space line i 0 (omega (arith, at.0)) at.2 (λ _. at.1) in
-    let whole : take (length line - (i + 1)) (drop (i + 1) line) ≡ drop (i + 1) line = take_all (length line - (i + 1)) (drop (i + 1) line) (omega (arith, length-drop (i + 1) line)) in
+    let whole : take (length line - (i + 1)) (drop (i + 1) line) ≡ drop (i + 1) line = take_all (length line - (i + 1)) (drop (i + 1) line)
+    (omega (arith, length-drop (i + 1) line)) in
     let split = slice_split_first is_space line 0 (omega (arith, at.0)) in
     rw whole (subst (λ (k : ℕ). words_of line ≡ take k line ∷ words_of (drop (k + 1) line)) here split)
 
@@ -33,7 +34,8 @@ word_and_more text end is within =
 pub word_alone : (text : List ℕ) (end : ℕ) → end ≡ first_end text → length text ≤ end → words_of text ≡ first_word text ∷ []
 word_alone text end is past =
     rw (take_all (first_end text) text (omega (arith, is, past)))
-    (slice_split_none is_space text (All-from_get_or (λ b. is_space b ≡ false) text 0 (λ i lt. fails_before_first is_space text i 0 (omega (arith, is, past, lt)))))
+    (slice_split_none is_space text
+    (All-from_get_or (λ b. is_space b ≡ false) text 0 (λ i lt. fails_before_first is_space text i 0 (omega (arith, is, past, lt)))))
 
 pub begins_with_word : (text : List ℕ) → (left : List (List ℕ)) × (words_of text ≡ first_word text ∷ left)
 begins_with_word text =

@@ -11,7 +11,8 @@ every_keyword =
     ∷ keyword.Load ∷ keyword.Store ∷ keyword.Invoke Call ∷ keyword.Invoke Return ∷ keyword.Invoke Send ∷ []
 
 -- a word that is the name of none in the table is the name of none
-pub no_keyword_left : (word : List ℕ) → ((i : ℕ) → i < 14 → word ≢ keyword_name (get_or every_keyword i (keyword.Invoke Send))) → (k : Keyword) → word ≢ keyword_name k
+pub no_keyword_left : (word : List ℕ) → ((i : ℕ) → i < 14 → word ≢ keyword_name (get_or every_keyword i (keyword.Invoke Send))) → (k : Keyword) →
+    word ≢ keyword_name k
 no_keyword_left word none keyword.Show = none 0 (omega arith)
 no_keyword_left word none keyword.Journal = none 1 (omega arith)
 no_keyword_left word none keyword.Evict = none 2 (omega arith)

@@ -35,8 +35,10 @@ module _ {A : Type 0} (line : ℕ × A → List ℕ) (xs : List A) where
       ∙ flat_map-append line (enumerate_from 0 (take i xs)) (enumerate_from (0 + length (take i xs)) (drop i xs))
 
   pub lines_split : (i : ℕ) (d : A) → i < length xs
-      → flat_map line (enumerate_from 0 xs) ≡ (lines_before i ++ line (i, get_or xs i d)) ++ flat_map line (enumerate_from (0 + length (take (i + 1) xs)) (drop (i + 1) xs))
-  lines_split i d lt = lines_whole (i + 1) ∙ ap (λ (t : List ℕ). t ++ flat_map line (enumerate_from (0 + length (take (i + 1) xs)) (drop (i + 1) xs))) (lines_more i d lt)
+      → flat_map line (enumerate_from 0 xs) ≡ (lines_before i ++ line (i, get_or xs i d)) ++ flat_map line
+      (enumerate_from (0 + length (take (i + 1) xs)) (drop (i + 1) xs))
+  lines_split i d lt = lines_whole (i + 1) ∙ ap (λ (t : List ℕ). t ++ flat_map line (enumerate_from (0 + length (take (i + 1) xs)) (drop (i + 1) xs)))
+      (lines_more i d lt)
 
   pub lines_all : (i : ℕ) → length xs ≤ i → lines_before i ≡ flat_map line (enumerate_from 0 xs)
   lines_all i le = ap (λ (l : List A). flat_map line (enumerate_from 0 l)) (take_all i xs le)
@@ -63,7 +65,8 @@ spaced_is word (next ∷ words) = ap (λ (t : List ℕ). word ++ 32 ∷ t) (spac
 pub spaced_more : (word : List ℕ) (words more : List (List ℕ)) → spaced (word ∷ (words ++ more)) ≡ spaced (word ∷ words) ++ flat_map (λ w. 32 ∷ w) more
 spaced_more word words more =
     spaced_is word (words ++ more) ∙ ap (λ (t : List ℕ). word ++ t) (flat_map-append (λ w. 32 ∷ w) words more)
-    ∙ sym (append_assoc word (flat_map (λ w. 32 ∷ w) words) (flat_map (λ w. 32 ∷ w) more)) ∙ ap (λ (t : List ℕ). t ++ flat_map (λ w. 32 ∷ w) more) (sym (spaced_is word words))
+    ∙ sym (append_assoc word (flat_map (λ w. 32 ∷ w) words) (flat_map (λ w. 32 ∷ w) more)) ∙
+    ap (λ (t : List ℕ). t ++ flat_map (λ w. 32 ∷ w) more) (sym (spaced_is word words))
 
 -- words that are put on a line, one after the other
 abbrev put_all : List ℕ → List (List ℕ) → List ℕ
@@ -78,21 +81,24 @@ put_spaced : (word : List ℕ) (words more numbers last : List (List ℕ))
     → put_all (put_all (spaced (word ∷ words)) more ++ flat_map (λ w. 32 ∷ w) numbers) last ≡ spaced (word ∷ (((words ++ more) ++ numbers) ++ last))
 put_spaced word words more numbers last =
     put_all_is (put_all (spaced (word ∷ words)) more ++ flat_map (λ w. 32 ∷ w) numbers) last
-    ∙ ap (λ (t : List ℕ). (t ++ flat_map (λ w. 32 ∷ w) numbers) ++ flat_map (λ w. 32 ∷ w) last) (put_all_is (spaced (word ∷ words)) more ∙ sym (spaced_more word words more))
+    ∙ ap (λ (t : List ℕ). (t ++ flat_map (λ w. 32 ∷ w) numbers) ++ flat_map (λ w. 32 ∷ w) last)
+    (put_all_is (spaced (word ∷ words)) more ∙ sym (spaced_more word words more))
     ∙ ap (λ (t : List ℕ). t ++ flat_map (λ w. 32 ∷ w) last) (sym (spaced_more word (words ++ more) numbers))
     ∙ sym (spaced_more word ((words ++ more) ++ numbers) last)
 
 -- the first line of a process, as its parts are joined
 abbrev pub process_put : ℕ → ℕ → ℕ → ℕ → List ℕ → List ℕ → List ℕ → List ℕ
 process_put number owner annex key state words space =
-    ((((((((spaced (headed (codes "process") number owner) ++ 32 ∷ codes "annex") ++ 32 ∷ decimal annex) ++ 32 ∷ state) ++ 32 ∷ codes "key") ++ 32 ∷ decimal key) ++ 32 ∷ codes "words")
+    ((((((((spaced (headed (codes "process") number owner) ++ 32 ∷ codes "annex") ++ 32 ∷ decimal annex) ++ 32 ∷ state) ++ 32 ∷ codes "key") ++ 32 ∷ decimal
+    key) ++ 32 ∷ codes "words")
     ++ flat_map (λ n. 32 ∷ decimal n) words) ++ 32 ∷ codes "space") ++ 32 ∷ space
 
 pub process_text : (number owner annex key : ℕ) (state words space : List ℕ) → process_put number owner annex key state words space
     ≡ spaced (headed (codes "process") number owner
     ++ (codes "annex" ∷ decimal annex ∷ state ∷ codes "key" ∷ decimal key ∷ codes "words" ∷ []) ++ map decimal words ++ (codes "space" ∷ space ∷ []))
 process_text number owner annex key state words space =
-    let front = put_all (spaced (headed (codes "process") number owner)) (codes "annex" ∷ decimal annex ∷ state ∷ codes "key" ∷ decimal key ∷ codes "words" ∷ []) in
+    let front = put_all (spaced (headed (codes "process") number owner))
+    (codes "annex" ∷ decimal annex ∷ state ∷ codes "key" ∷ decimal key ∷ codes "words" ∷ []) in
     ap (λ (t : List ℕ). put_all (front ++ t) (codes "space" ∷ space ∷ [])) (sym (flat_map-map (λ w. 32 ∷ w) decimal words))
     ∙ put_spaced (codes "process") (decimal number ∷ codes "owner" ∷ decimal owner ∷ [])
     (codes "annex" ∷ decimal annex ∷ state ∷ codes "key" ∷ decimal key ∷ codes "words" ∷ []) (map decimal words) (codes "space" ∷ space ∷ [])
@@ -111,7 +117,8 @@ module _ (n : ℕ) (o : Object) (registers : Option (List Capability)) (used : �
   unfolding object_text
   object_free is = rw is refl
 
-  pub object_page : (words : List ℕ) → o.content ≡ content.Page words → object_text n o registers used ≡ line_of (spaced (headed (codes "page") n o.owner)) ++ word_lines words
+  pub object_page : (words : List ℕ) → o.content ≡ content.Page words → object_text n o registers used ≡ line_of (spaced (headed (codes "page") n o.owner)) ++
+      word_lines words
   unfolding object_text
   object_page words is = rw is refl
 
@@ -133,7 +140,8 @@ module _ (n : ℕ) (o : Object) (registers : Option (List Capability)) (used : �
   object_root r is = rw is refl
 
   pub object_bank : (limit : ℕ) → o.content ≡ content.Bank limit
-      → object_text n o registers used ≡ line_of (spaced (headed (codes "bank") n o.owner ++ (codes "limit" ∷ decimal limit ∷ codes "used" ∷ decimal used ∷ [])))
+      → object_text n o registers used ≡ line_of
+      (spaced (headed (codes "bank") n o.owner ++ (codes "limit" ∷ decimal limit ∷ codes "used" ∷ decimal used ∷ [])))
   unfolding object_text
   object_bank limit is = rw is refl
 

@@ -26,7 +26,8 @@ Names line k words = words_of line ≡ keyword_name k ∷ words
 
 -- the word at a place of the line, from 1
 abbrev pub HasWord : List ℕ → ℕ → List ℕ → Type 0
-HasWord line place word = (before : Words) × (after : Words) × (words_of line ≡ before ++ word ∷ after) × (place ≡ suc (length before))
+HasWord line place word = (before : Words) × (after : Words) × (words_of line ≡ before ++ word ∷ after) ×
+    (place ≡ suc (length before))
 
 -- the fault is one of the line
 abbrev pub IsFaultOf : List ℕ → LineFault → Type 0
@@ -35,14 +36,19 @@ IsFaultOf line fault.CarriageReturn = (i : ℕ) × (i < length line) × (get_or 
 IsFaultOf line fault.Tab = (i : ℕ) × (i < length line) × (get_or line i 0 ≡ 9)
 IsFaultOf line (fault.EmptyWord place) = HasWord line place []
 IsFaultOf line fault.NoCommand = (k : Keyword) (words : Words) → Names line k words → ⊥
-IsFaultOf line (fault.FewWords count) = (k : Keyword) × (words : Words) × Names line k words × (count ≡ suc (length (are_registers k))) × (length words < length (are_registers k))
-IsFaultOf line (fault.ManyWords count) = (k : Keyword) × (words : Words) × Names line k words × (count ≡ suc (length (are_registers k))) × (length (are_registers k) < length words)
+IsFaultOf line (fault.FewWords count) = (k : Keyword) × (words : Words) × Names line k words ×
+    (count ≡ suc (length (are_registers k))) × (length words < length (are_registers k))
+IsFaultOf line (fault.ManyWords count) = (k : Keyword) × (words : Words) × Names line k words ×
+    (count ≡ suc (length (are_registers k))) × (length (are_registers k) < length words)
 IsFaultOf line (fault.NoNumber place) = (word : List ℕ) × HasWord line place word × (AllDigits 10 word → ⊥)
-IsFaultOf line (fault.LeadingZero place) = (word : List ℕ) × HasWord line place word × (get_or word 0 0 ≡ 48) × (1 < length word)
-IsFaultOf line (fault.Great place) = (word : List ℕ) × HasWord line place word × AllDigits 10 word × (2 ^ 64 ≤ digits_value 10 word)
+IsFaultOf line (fault.LeadingZero place) = (word : List ℕ) × HasWord line place word × (get_or word 0 0 ≡ 48) ×
+    (1 < length word)
+IsFaultOf line (fault.Great place) = (word : List ℕ) × HasWord line place word × AllDigits 10 word ×
+    (2 ^ 64 ≤ digits_value 10 word)
 IsFaultOf line (fault.NoRegister number) =
     (k : Keyword) × (words : Words) × Names line k words
-    × (place : ℕ) × (slice_get (are_registers k) place ≡ Some true) × (slice_get words place ≡ Some (decimal number)) × (31 < number)
+    × (place : ℕ) × (slice_get (are_registers k) place ≡ Some true) × (slice_get words place ≡ Some (decimal number)) ×
+    (31 < number)
 
 -- a word can stand where a register has to, or any number
 abbrev pub IsOperand : Bool → List ℕ → Type 0
@@ -60,7 +66,8 @@ IsWordFault word place is_register (fault.EmptyWord at) = (at ≡ place) × (wor
 IsWordFault word place is_register (fault.NoNumber at) = (at ≡ place) × (AllDigits 10 word → ⊥)
 IsWordFault word place is_register (fault.LeadingZero at) = (at ≡ place) × (get_or word 0 0 ≡ 48) × (1 < length word)
 IsWordFault word place is_register (fault.Great at) = (at ≡ place) × AllDigits 10 word × (2 ^ 64 ≤ digits_value 10 word)
-IsWordFault word place is_register (fault.NoRegister number) = (is_register ≡ true) × (word ≡ decimal number) × (31 < number)
+IsWordFault word place is_register (fault.NoRegister number) = (is_register ≡ true) × (word ≡ decimal number) ×
+    (31 < number)
 IsWordFault word place is_register _ = ⊥
 
 -- a fault in words

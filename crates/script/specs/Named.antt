@@ -40,7 +40,8 @@ capability_words capability.Discrim = codes "discrim" ∷ []
 
 -- the access that a word names
 unfoldable pub access_in : List ℕ → Option Access
-access_in word = if bytes_eq word (codes "ro") then Some (record { 0 = 1 }) else if bytes_eq word (codes "weak") then Some weak else None
+access_in word = if bytes_eq word (codes "ro") then Some (record { 0 = 1 }) else if bytes_eq word (codes "weak") then
+    Some weak else None
 
 -- full where no word is left
 unfoldable pub access_at : Words → Option (Access × Words)

@@ -71,7 +71,16 @@ invocation_at operation words = do
   register ← register_at process.1
   sent_words ← numbers_at register.1
   sent ← registers_at sent_words.1
-  Some (command.Invoke (record { operation = operation; process = process.0; register = register.0; words = sent_words.0; sent = sent.0 }), sent.1)
+  Some (
+    command.Invoke (record {
+      operation = operation;
+      process = process.0;
+      register = register.0;
+      words = sent_words.0;
+      sent = sent.0;
+    }),
+    sent.1,
+  )
 
 -- a command of one number
 abbrev pub one_at : (ℕ → Command) → Words → Option (Command × Words)

@@ -113,7 +113,6 @@ fn refusals_have_texts(rt: HostRuntime) {
 #[test]
 fn faults_of_a_store_are_reported_apart(rt: HostRuntime) {
     for (of_store, of_invocation) in [
-        (PrepareFault::NoMemory, InvokeFault::NoMemory),
         (PrepareFault::LogFull, InvokeFault::LogFull),
         (PrepareFault::Failed, InvokeFault::Failed),
     ] {

@@ -11,7 +11,8 @@ take_none : (bytes : List ℕ) → take 0 bytes ≡ []
 take_none bytes = refl
 
 -- some sectors of it
-pub run_in : (image : Image) (bytes : List ℕ) (at n : ℕ) → IsCopy image bytes → 512 * (at + n) ≤ length bytes → take (512 * n) (drop (512 * at) bytes) ≡ sectors_from image at n
+pub run_in : (image : Image) (bytes : List ℕ) (at n : ℕ) → IsCopy image bytes → 512 * (at + n) ≤ length bytes →
+    take (512 * n) (drop (512 * at) bytes) ≡ sectors_from image at n
 unfolding sectors_from
 run_in image bytes at zero copy inside = take_none (drop (512 * at) bytes)
 run_in image bytes at (suc n) copy inside =
@@ -26,7 +27,8 @@ run_in image bytes at (suc n) copy inside =
     ∙ ap (λ (b : List ℕ). b ++ sectors_from image (at + 1) n) first
 
 -- as the code cuts it
-pub sectors_in : (image : Image) (bytes : List ℕ) (at n : ℕ) → IsCopy image bytes → 512 * (at + n) ≤ length bytes → take (at * 512 + 512 * n - at * 512) (drop (at * 512) bytes) ≡ sectors_from image at n
+pub sectors_in : (image : Image) (bytes : List ℕ) (at n : ℕ) → IsCopy image bytes → 512 * (at + n) ≤ length bytes →
+    take (at * 512 + 512 * n - at * 512) (drop (at * 512) bytes) ≡ sectors_from image at n
 sectors_in image bytes at n copy inside =
     let size : at * 512 + 512 * n - at * 512 ≡ 512 * n = omega arith in
     let start : at * 512 ≡ 512 * at = omega arith in

@@ -24,7 +24,8 @@ module _ (g : Geometry) (es : List Entry) where
   no_directory (entry.Order k object before) broken is =
       let next : k - 1 + 1 ≡ k = omega (arith, broken.0) in
       let inside : k - 1 + 1 < length es = omega (arith, next, broken.1) in
-      let rises : (entry_at es (k - 1)).object < (entry_at es k).object = subst (λ (j : ℕ). (entry_at es (k - 1)).object < (entry_at es j).object) next (is.rising (k - 1) inside) in
+      let rises : (entry_at es (k - 1)).object < (entry_at es k).object = subst (λ (j : ℕ). (entry_at es (k - 1)).object < (entry_at es j).object) next
+      (is.rising (k - 1) inside) in
       omega (arith, rises, broken.2, broken.3, broken.4)
   no_directory (entry.Shared j k slot) broken is = is.apart j k broken.0 broken.1 (broken.2 ∙ sym broken.3)
 

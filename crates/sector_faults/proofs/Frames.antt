@@ -8,20 +8,23 @@ use Rattle.layout.specs.declared.shape.Shape.TheVariants as shape
 use Rattle.sector_faults.specs.declared.fault.SectorFault.TheVariants as fault
 
 -- a slot more has a capability
-pub slots_more : (g : Geometry) (age : ℕ) (bytes : List ℕ) (k : ℕ) → ((j : ℕ) → j < k → HoldsCap g age bytes j) → HoldsCap g age bytes k → (j : ℕ) → j < k + 1 → HoldsCap g age bytes j
+pub slots_more : (g : Geometry) (age : ℕ) (bytes : List ℕ) (k : ℕ) → ((j : ℕ) → j < k → HoldsCap g age bytes j) → HoldsCap g age bytes k → (j : ℕ) → j < k + 1 →
+    HoldsCap g age bytes j
 slots_more g age bytes k before here j lt = elim (cases_lt j k) [
   | inl less ↦ before j less
   | inr le ↦ let same : k ≡ j = omega (arith, lt, le) in subst (HoldsCap g age bytes) same here
 ]
 
 -- as the code cuts it
-pub slot_read : (g : Geometry) (age : ℕ) (bytes : List ℕ) (k at : ℕ) (c : Cap) → at ≡ 32 + 24 * k → IsKeptCap g age c → take (at + 24 - at) (drop at bytes) ≡ capability_bytes c → HoldsCap g age bytes k
+pub slot_read : (g : Geometry) (age : ℕ) (bytes : List ℕ) (k at : ℕ) (c : Cap) → at ≡ 32 + 24 * k → IsKeptCap g age c →
+    take (at + 24 - at) (drop at bytes) ≡ capability_bytes c → HoldsCap g age bytes k
 slot_read g age bytes k at c place kept is =
     let size : at + 24 - at ≡ 24 = omega arith in
     (c, kept, ap (λ (n : ℕ). take 24 (drop n bytes)) (sym place) ∙ ap (λ (n : ℕ). take n (drop at bytes)) (sym size) ∙ is)
 
 -- a frame more can be kept
-pub frames_more : (image : Image) (p : Plan) (h : CheckpointHeader) (es : List Entry) (n : ℕ) → ((m : ℕ) → m < n → IsWholeFrame image p h es m) → IsWholeFrame image p h es n → (m : ℕ) → m < n + 1 → IsWholeFrame image p h es m
+pub frames_more : (image : Image) (p : Plan) (h : CheckpointHeader) (es : List Entry) (n : ℕ) → ((m : ℕ) → m < n → IsWholeFrame image p h es m) →
+    IsWholeFrame image p h es n → (m : ℕ) → m < n + 1 → IsWholeFrame image p h es m
 frames_more image p h es n before here m lt = elim (cases_lt m n) [
   | inl less ↦ before m less
   | inr le ↦ let same : n ≡ m = omega (arith, lt, le) in subst (IsWholeFrame image p h es) same here
@@ -32,7 +35,8 @@ module _ (g : Geometry) (age n at : ℕ) (image : Image) (form : Shape) (run : L
   pub node_at : form ≡ shape.Node → run ≡ sectors_from image at 2 → FitsOr g age n run found → FitsOr g age n (shaped_at image at form) found
   node_at is read fits = subst (λ (s : Shape). FitsOr g age n (shaped_at image at s) found) (sym is) (subst (λ (b : List ℕ). FitsOr g age n b found) read fits)
 
-  pub packed_at : (rank : ℕ) (node : List ℕ) → form ≡ shape.Packed rank → run ≡ sectors_from image at 8 → node ≡ shape_bytes (shape.Packed rank) run → FitsOr g age n node found
+  pub packed_at : (rank : ℕ) (node : List ℕ) → form ≡ shape.Packed rank → run ≡ sectors_from image at 8 → node ≡ shape_bytes (shape.Packed rank) run →
+      FitsOr g age n node found
       → FitsOr g age n (shaped_at image at form) found
   packed_at rank node is read unpacked fits =
       subst (λ (s : Shape). FitsOr g age n (shaped_at image at s) found) (sym is)

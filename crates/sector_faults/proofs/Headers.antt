@@ -14,19 +14,21 @@ second_wins true false m n is less = let never : false ≡ true = is in cc
 second_wins false false m n is less = let never : false ≡ true = is in cc
 
 -- the header of the slot that wins is none
-module _ (log : ℕ) (first first_gate second second_gate : List ℕ) (slot : ℕ) (lt : slot < 2) (wins : slot_of first first_gate second second_gate ≡ Some slot) where
-  refused_in : (f : SectorFault) → RefusesHeader (1 + 2 * slot) log (picked slot first second) f → HasNoneIn log first first_gate second second_gate f
-  refused_in (fault.Header at part) is = (slot, lt, wins, is)
-  refused_in (fault.Small sectors needed) is = absurd is
-  refused_in (fault.Superblock part) is = absurd is
-  refused_in (fault.Geometry part) is = absurd is
-  refused_in (fault.NoHeader one other) is = absurd is
-  refused_in (fault.Directory at part) is = absurd is
-  refused_in (fault.Frame number is_page part) is = absurd is
+module _ (log : ℕ) (first first_gate second second_gate : List ℕ) (slot : ℕ) (lt : slot < 2) (wins : slot_of first first_gate second second_gate ≡ Some slot)
+  where
+    refused_in : (f : SectorFault) → RefusesHeader (1 + 2 * slot) log (picked slot first second) f → HasNoneIn log first first_gate second second_gate f
+    refused_in (fault.Header at part) is = (slot, lt, wins, is)
+    refused_in (fault.Small sectors needed) is = absurd is
+    refused_in (fault.Superblock part) is = absurd is
+    refused_in (fault.Geometry part) is = absurd is
+    refused_in (fault.NoHeader one other) is = absurd is
+    refused_in (fault.Directory at part) is = absurd is
+    refused_in (fault.Frame number is_page part) is = absurd is
 
-  pub none_in : (r : Result CheckpointHeader SectorFault) → IfErr r (RefusesHeader (1 + 2 * slot) log (picked slot first second)) → IfErr r (HasNoneIn log first first_gate second second_gate)
-  none_in (Ok h) is = tt
-  none_in (Err f) is = refused_in f is
+    pub none_in : (r : Result CheckpointHeader SectorFault) → IfErr r (RefusesHeader (1 + 2 * slot) log (picked slot first second)) →
+        IfErr r (HasNoneIn log first first_gate second second_gate)
+    none_in (Ok h) is = tt
+    none_in (Err f) is = refused_in f is
 
 -- of an image whose first sectors these are
 module _ (image : Image) (size log : ℕ) (p : Plan) (same : log ≡ p.geometry.log) where
@@ -61,7 +63,15 @@ module _ (image : Image) (size log : ℕ) (p : Plan) (same : log ≡ p.geometry.
               let spelt_there : picked slot (image 1) (image 3) ≡ header_bytes h = cc in
               is.3.1 h (subst (λ (l : ℕ). IsHeader l h) (sym same) fits) spelt_there,
         ),
-        (p, plan, slot, is.2, place, subst (λ (l : ℕ). Rattle.sector_faults.specs.Breaking.BreaksHeader l (image at) part) same (subst (λ (b : List ℕ). Rattle.sector_faults.specs.Breaking.BreaksHeader log b part) bytes is.3.2)),
+        (
+          p,
+          plan,
+          slot,
+          is.2,
+          place,
+          subst (λ (l : ℕ). Rattle.sector_faults.specs.Breaking.BreaksHeader l (image at) part) same
+              (subst (λ (b : List ℕ). Rattle.sector_faults.specs.Breaking.BreaksHeader log b part) bytes is.3.2),
+        ),
       )
   no_header (fault.Small sectors needed) plan is = absurd is.3
   no_header (fault.Superblock part) plan is = absurd is.3

@@ -26,12 +26,22 @@ cons_range r rs = three (number r.first) (number r.count) (number r.sector) (ran
 ranges_long : (rs : List HomeRange) → length (ranges_bytes rs) ≡ 24 * length rs
 ranges_long [] = no_range
 ranges_long (r ∷ rs) = ap (λ (x : List ℕ). length x) (cons_range r rs) ∙ length-append (number r.first) (number r.count ++ (number r.sector ++ ranges_bytes rs))
-    ∙ omega (arith, length-append (number r.count) (number r.sector ++ ranges_bytes rs), length-append (number r.sector) (ranges_bytes rs), long r.first, long r.count, long r.sector, ranges_long rs)
+    ∙ omega (
+      arith,
+      length-append (number r.count) (number r.sector ++ ranges_bytes rs),
+      length-append (number r.sector) (ranges_bytes rs),
+      long r.first,
+      long r.count,
+      long r.sector,
+      ranges_long rs,
+    )
 
-deep : (a b c d e f g h i j z : List ℕ) → a ++ b ++ c ++ d ++ e ++ f ++ g ++ h ++ i ++ j ++ z ≡ a ++ (b ++ (c ++ (d ++ (e ++ (f ++ (g ++ (h ++ (i ++ (j ++ z)))))))))
+deep : (a b c d e f g h i j z : List ℕ) →
+    a ++ b ++ c ++ d ++ e ++ f ++ g ++ h ++ i ++ j ++ z ≡ a ++ (b ++ (c ++ (d ++ (e ++ (f ++ (g ++ (h ++ (i ++ (j ++ z)))))))))
 deep a b c d e f g h i j z = simp append_assoc
 
-nine : (a b c d e f g h i j : List ℕ) → length (a ++ b ++ c ++ d ++ e ++ f ++ g ++ h ++ i ++ j) ≡ length a + length b + length c + length d + length e + length f + length g + length h + length i + length j
+nine : (a b c d e f g h i j : List ℕ) → length (a ++ b ++ c ++ d ++ e ++ f ++ g ++ h ++ i ++ j) ≡ length a + length b + length c + length d + length e + length
+    f + length g + length h + length i + length j
 nine a b c d e f g h i j = simp length-append
 
 module _ (p : Plan) (is : IsPlan p) where
@@ -39,20 +49,25 @@ module _ (p : Plan) (is : IsPlan p) where
   all_ranges = p.ranges ++ replicate (8 - length p.ranges) unused
 
   eight : length (ranges_bytes all_ranges) ≡ 192
-  eight = ranges_long all_ranges ∙ omega (arith, length-append p.ranges (replicate (8 - length p.ranges) unused), length-replicate (8 - length p.ranges) unused, is.few)
+  eight = ranges_long all_ranges ∙
+      omega (arith, length-append p.ranges (replicate (8 - length p.ranges) unused), length-replicate (8 - length p.ranges) unused, is.few)
 
   abbrev rest : List ℕ
-  rest = number p.geometry.nodes ++ (number p.geometry.pages ++ (number p.geometry.log ++ (number p.half_0 ++ (number p.half_1 ++ (number p.total ++ (ranges_bytes all_ranges ++ zeros 256))))))
+  rest = number p.geometry.nodes ++
+      (number p.geometry.pages ++
+      (number p.geometry.log ++ (number p.half_0 ++ (number p.half_1 ++ (number p.total ++ (ranges_bytes all_ranges ++ zeros 256))))))
 
   abbrev front : List ℕ
   front =
       codes "EROSCKPT" ++ half_number (version_number p.version) ++ half_number (length p.ranges)
-      ++ number p.geometry.nodes ++ number p.geometry.pages ++ number p.geometry.log ++ number p.half_0 ++ number p.half_1 ++ number p.total ++ ranges_bytes all_ranges
+      ++ number p.geometry.nodes ++ number p.geometry.pages ++ number p.geometry.log ++ number p.half_0 ++ number p.half_1 ++ number p.total ++ ranges_bytes
+      all_ranges
 
   begins : superblock_bytes p ≡ codes "EROSCKPT" ++ (half_number (version_number p.version) ++ (half_number (length p.ranges) ++ rest))
   unfolding superblock_bytes
   begins = deep (codes "EROSCKPT") (half_number (version_number p.version)) (half_number (length p.ranges))
-      (number p.geometry.nodes) (number p.geometry.pages) (number p.geometry.log) (number p.half_0) (number p.half_1) (number p.total) (ranges_bytes (p.ranges ++ replicate (8 - length p.ranges) unused)) (zeros 256)
+      (number p.geometry.nodes) (number p.geometry.pages) (number p.geometry.log) (number p.half_0) (number p.half_1) (number p.total)
+      (ranges_bytes (p.ranges ++ replicate (8 - length p.ranges) unused)) (zeros 256)
 
   ends : superblock_bytes p ≡ front ++ zeros 256
   unfolding superblock_bytes
@@ -61,7 +76,18 @@ module _ (p : Plan) (is : IsPlan p) where
   front_long : length front ≡ 256
   front_long = nine (codes "EROSCKPT") (half_number (version_number p.version)) (half_number (length p.ranges))
       (number p.geometry.nodes) (number p.geometry.pages) (number p.geometry.log) (number p.half_0) (number p.half_1) (number p.total) (ranges_bytes all_ranges)
-      ∙ omega (arith, half (version_number p.version), half (length p.ranges), long p.geometry.nodes, long p.geometry.pages, long p.geometry.log, long p.half_0, long p.half_1, long p.total, eight)
+      ∙ omega (
+        arith,
+        half (version_number p.version),
+        half (length p.ranges),
+        long p.geometry.nodes,
+        long p.geometry.pages,
+        long p.geometry.log,
+        long p.half_0,
+        long p.half_1,
+        long p.total,
+        eight,
+      )
 
   pub marked : HasMark (superblock_bytes p)
   marked = record {

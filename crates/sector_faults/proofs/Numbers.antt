@@ -24,5 +24,7 @@ pub number_read : (bytes : List ℕ) (at n : ℕ) → at + 8 ≤ length bytes �
     → drop at bytes ≡ number n ++ drop (at + 8) bytes
 number_read bytes at n inside small is =
     let len : length (take 8 (drop at bytes)) ≡ 8 = omega (arith, length-take 8 (drop at bytes), length-drop at bytes) in
-    let front : number n ≡ take 8 (drop at bytes) = ap number (is ∙ sym (little_from-take 0 8 8 (drop at bytes) (omega arith))) ∙ number_back (take 8 (drop at bytes)) len (small_front bytes at small) in
-    sym (take-append-drop 8 (drop at bytes)) ∙ ap (λ (t : List ℕ). take 8 (drop at bytes) ++ t) (drop-drop 8 at bytes) ∙ ap (λ (t : List ℕ). t ++ drop (at + 8) bytes) (sym front)
+    let front : number n ≡ take 8 (drop at bytes) = ap number (is ∙ sym (little_from-take 0 8 8 (drop at bytes) (omega arith))) ∙
+    number_back (take 8 (drop at bytes)) len (small_front bytes at small) in
+    sym (take-append-drop 8 (drop at bytes)) ∙ ap (λ (t : List ℕ). take 8 (drop at bytes) ++ t) (drop-drop 8 at bytes) ∙
+    ap (λ (t : List ℕ). t ++ drop (at + 8) bytes) (sym front)

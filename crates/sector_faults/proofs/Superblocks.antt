@@ -44,7 +44,9 @@ module _ (size : ℕ) (image : Image) (sector : List ℕ) (is : sector ≡ image
     plan_refused (Err f) broken = no_superblock f (subst (λ (b : List ℕ). BreaksSector b f) is broken)
 
 -- the superblock that was read lies on the device
-pub plan_fits : (size needed : ℕ) (sector : List ℕ) → needed ≡ total_in sector → needed ≤ size → (r : Result Plan SectorFault) → IfOk r (λ p. sector ≡ superblock_bytes p) → IfOk r IsPlan
+pub plan_fits : (size needed : ℕ) (sector : List ℕ) → needed ≡ total_in sector → needed ≤ size → (r : Result Plan SectorFault) →
+    IfOk r (λ p. sector ≡ superblock_bytes p) → IfOk r IsPlan
     → IfOk r (λ p. IsPlan p × (p.total ≤ size))
-plan_fits size needed sector reported large (Ok p) spelt fits = (fits, (let total : needed ≡ p.total = reported ∙ ap total_in spelt ∙ total_reported p fits in omega (arith, total, large)))
+plan_fits size needed sector reported large (Ok p) spelt fits =
+    (fits, (let total : needed ≡ p.total = reported ∙ ap total_in spelt ∙ total_reported p fits in omega (arith, total, large)))
 plan_fits size needed sector reported large (Err f) spelt fits = tt

@@ -7,10 +7,12 @@ use Rattle.sector_faults.specs.declared.fault.SectorFault.TheVariants as fault
 use Rattle.sector_faults.proofs.Directories.{no_spelling}
 
 -- the directory lies behind the last slot
-pub behind_slots : (p : Plan) (generation at : ℕ) → 1 ≤ p.geometry.log → at ≡ slot_sector p generation (p.geometry.log - 1) → at + 9 ≡ directory_sector p generation
+pub behind_slots : (p : Plan) (generation at : ℕ) → 1 ≤ p.geometry.log → at ≡ slot_sector p generation (p.geometry.log - 1) →
+    at + 9 ≡ directory_sector p generation
 behind_slots p generation at some is = omega (arith, some, is)
 
-pub directory_inside : (p : Plan) (generation at n size : ℕ) → IsPlan p → at ≡ slot_sector p generation (p.geometry.log - 1) → n ≤ p.geometry.log → p.total ≤ size
+pub directory_inside : (p : Plan) (generation at n size : ℕ) → IsPlan p → at ≡ slot_sector p generation (p.geometry.log - 1) → n ≤ p.geometry.log →
+    p.total ≤ size
     → 512 * (at + 9 + (n + 31) / 32) ≤ 512 * size
 directory_inside p generation at n size plan is few inside =
     omega (arith, behind_slots p generation at (omega (arith, plan.geometry.least_log)) is, (half_within p generation plan).1, few, inside)
@@ -28,9 +30,17 @@ module _ (image : Image) (size : ℕ) (p : Plan) (h : CheckpointHeader) (es : Li
       ∙ ap (λ (s : ℕ). take (16 * n) (sectors_from image s (directory_length n))) (sym place)
       ∙ ap (take (16 * n)) (sym read) ∙ spelt
 
-  pub directory_fault : (part : DirectoryPart) → HasPlan image size p → HasHeader image p h → length es ≡ n → AllFitting es → BreaksDirectory p.geometry es part → IsFault size image (fault.Directory sector part)
+  pub directory_fault : (part : DirectoryPart) → HasPlan image size p → HasHeader image p h → length es ≡ n → AllFitting es →
+      BreaksDirectory p.geometry es part → IsFault size image (fault.Directory sector part)
   directory_fault part plan header len fits broken = (
-    (p, h, plan, header, λ ds is_directory same_count same. no_spelling p.geometry es part (directory_in image p h.generation h.entries) fits spelt_there broken ds is_directory same),
+    (
+      p,
+      h,
+      plan,
+      header,
+      λ ds is_directory same_count same. no_spelling p.geometry es part (directory_in image p h.generation h.entries) fits spelt_there broken
+          ds is_directory same,
+    ),
     (p, h, es, plan, header, place, len ∙ count, fits, spelt_there, broken),
   )
 

@@ -69,7 +69,8 @@ BreaksGeometry bytes (geometry.Pages n) = (n ≡ number_at bytes 24) × IsOutsid
 BreaksGeometry bytes (geometry.Log n) = (n ≡ number_at bytes 32) × IsOutside 16 4096 n
 BreaksGeometry bytes (geometry.Total n) = (n ≡ number_at bytes 56) × (131072 < n)
 BreaksGeometry bytes geometry.Places =
-    IsGeometry (geometry_in bytes) × (number_at bytes 56 ≤ 131072) × ((p : Plan) → IsPlan p → bytes ≡ superblock_bytes p → ⊥)
+    IsGeometry (geometry_in bytes) × (number_at bytes 56 ≤ 131072) ×
+    ((p : Plan) → IsPlan p → bytes ≡ superblock_bytes p → ⊥)
 
 -- reason 4: why the header of a slot doesn't count
 abbrev pub IsNotCounted : List ℕ → List ℕ → ℕ → NotCounted → Type 0
@@ -77,24 +78,36 @@ IsNotCounted header gate slot uncounted.Closed = is_open gate ≡ false
 IsNotCounted header gate slot (uncounted.Misplaced sequence) = (sequence ≡ sequence_in header) × (sequence % 2 ≢ slot)
 
 abbrev pub header_in : List ℕ → CheckpointHeader
-header_in bytes = record { sequence = number_at bytes 8; generation = number_at bytes 16; entries = number_at bytes 24; age = number_at bytes 32 }
+header_in bytes = record {
+  sequence = number_at bytes 8;
+  generation = number_at bytes 16;
+  entries = number_at bytes 24;
+  age = number_at bytes 32;
+}
 
 -- reason 5: a field is above its limit; or none is, and another byte is wrong
 abbrev pub BreaksHeader : ℕ → List ℕ → HeaderPart → Type 0
-BreaksHeader log bytes (header.Entries entries slots) = (entries ≡ number_at bytes 24) × (slots ≡ log) × (slots < entries)
+BreaksHeader log bytes (header.Entries entries slots) = (entries ≡ number_at bytes 24) × (slots ≡ log) ×
+    (slots < entries)
 BreaksHeader log bytes (header.Age age) = (age ≡ number_at bytes 32) × (2 ^ 62 < age)
-BreaksHeader log bytes (header.Generation generation age) = (generation ≡ number_at bytes 16) × (age ≡ number_at bytes 32) × (2 * age < generation)
+BreaksHeader log bytes (header.Generation generation age) = (generation ≡ number_at bytes 16) ×
+    (age ≡ number_at bytes 32) × (2 * age < generation)
 BreaksHeader log bytes (header.Sequence sequence age) =
-    (sequence ≡ number_at bytes 8) × (age ≡ number_at bytes 32) × (2 * age + (if number_at bytes 24 == 0 then 1 else 0) < sequence)
+    (sequence ≡ number_at bytes 8) × (age ≡ number_at bytes 32) ×
+    (2 * age + (if number_at bytes 24 == 0 then 1 else 0) < sequence)
 BreaksHeader log bytes header.Bytes = IsHeader log (header_in bytes) × (bytes ≡ header_bytes (header_in bytes) → ⊥)
 
--- reason 6: an entry has the number of no object or of no slot, isn't above the entry before it, or has the slot of another
+-- reason 6: an entry has the number of no object or of no slot, isn't above the entry before it, or has the slot of
+-- another
 abbrev pub BreaksDirectory : Geometry → List Entry → DirectoryPart → Type 0
-BreaksDirectory g es (entry.Object k object) = (k < length es) × ((entry_at es k).object ≡ object) × (g.nodes + g.pages ≤ object)
+BreaksDirectory g es (entry.Object k object) = (k < length es) × ((entry_at es k).object ≡ object) ×
+    (g.nodes + g.pages ≤ object)
 BreaksDirectory g es (entry.Slot k slot) = (k < length es) × ((entry_at es k).slot ≡ slot) × (g.log ≤ slot)
 BreaksDirectory g es (entry.Order k object before) =
-    (0 < k) × (k < length es) × ((entry_at es k).object ≡ object) × ((entry_at es (k - 1)).object ≡ before) × (object ≤ before)
-BreaksDirectory g es (entry.Shared j k slot) = (j < k) × (k < length es) × ((entry_at es j).slot ≡ slot) × ((entry_at es k).slot ≡ slot)
+    (0 < k) × (k < length es) × ((entry_at es k).object ≡ object) × ((entry_at es (k - 1)).object ≡ before) ×
+    (object ≤ before)
+BreaksDirectory g es (entry.Shared j k slot) = (j < k) × (k < length es) × ((entry_at es j).slot ≡ slot) ×
+    ((entry_at es k).slot ≡ slot)
 
 -- slot k of a node's frame has a capability that can be kept
 abbrev pub HoldsCap : Geometry → ℕ → List ℕ → ℕ → Type 0
@@ -105,22 +118,28 @@ abbrev pub BreaksFrame : Geometry → ℕ → ℕ → List ℕ → FramePart →
 BreaksFrame g age n bytes (frame.Allocations count most) = (count ≡ number_at bytes 8) × (most ≡ age) × (most < count)
 BreaksFrame g age n bytes (frame.Calls count most) = (count ≡ number_at bytes 16) × (most ≡ age) × (most < count)
 BreaksFrame g age n bytes (frame.Count slot count most) =
-    (n < g.nodes) × (slot < 32) × (HoldsCap g age bytes slot → ⊥) × (count ≡ number_at bytes (48 + 24 * slot)) × (most ≡ age) × (most < count)
+    (n < g.nodes) × (slot < 32) × (HoldsCap g age bytes slot → ⊥) × (count ≡ number_at bytes (48 + 24 * slot)) ×
+    (most ≡ age) × (most < count)
 BreaksFrame g age n bytes (frame.Slot slot) = (n < g.nodes) × (slot < 32) × (HoldsCap g age bytes slot → ⊥)
 BreaksFrame g age n bytes frame.Body =
     (number_at bytes 8 ≤ age) × (number_at bytes 16 ≤ age) × (n < g.nodes → (k : ℕ) → k < 32 → HoldsCap g age bytes k)
 
 -- what a fault names is wrong in the `size` sectors of an image
 abbrev pub BreaksSectors : ℕ → Image → SectorFault → Type 0
-BreaksSectors size c (fault.Small sectors needed) = (sectors ≡ size) × (needed ≡ (if nat_lt size 5 then 5 else total_in (c 0))) × (sectors < needed)
+BreaksSectors size c (fault.Small sectors needed) = (sectors ≡ size) ×
+    (needed ≡ (if nat_lt size 5 then 5 else total_in (c 0))) × (sectors < needed)
 BreaksSectors size c (fault.Superblock part) = BreaksMark (c 0) part
 BreaksSectors size c (fault.Geometry part) = BreaksGeometry (c 0) part
-BreaksSectors size c (fault.NoHeader first second) = IsNotCounted (c 1) (c 2) 0 first × IsNotCounted (c 3) (c 4) 1 second
+BreaksSectors size c (fault.NoHeader first second) = IsNotCounted (c 1) (c 2) 0 first × IsNotCounted (c 3) (c 4) 1
+    second
 BreaksSectors size c (fault.Header sector part) =
-    (p : Plan) × HasPlan c size p × (slot : ℕ) × (committed_slot c ≡ Some slot) × (sector ≡ 1 + 2 * slot) × BreaksHeader p.geometry.log (c sector) part
+    (p : Plan) × HasPlan c size p × (slot : ℕ) × (committed_slot c ≡ Some slot) × (sector ≡ 1 + 2 * slot) × BreaksHeader
+    p.geometry.log (c sector) part
 BreaksSectors size c (fault.Directory sector part) =
-    (p : Plan) × (h : CheckpointHeader) × (es : List Entry) × HasPlan c size p × HasHeader c p h × (sector ≡ directory_sector p h.generation)
-    × (length es ≡ h.entries) × AllFitting es × (directory_in c p h.generation h.entries ≡ directory_bytes es) × BreaksDirectory p.geometry es part
+    (p : Plan) × (h : CheckpointHeader) × (es : List Entry) × HasPlan c size p × HasHeader c p h ×
+    (sector ≡ directory_sector p h.generation)
+    × (length es ≡ h.entries) × AllFitting es × (directory_in c p h.generation h.entries ≡ directory_bytes es) ×
+    BreaksDirectory p.geometry es part
 BreaksSectors size c (fault.Frame number is_page part) =
     (p : Plan) × (h : CheckpointHeader) × (es : List Entry) × HasPlan c size p × HasHeader c p h × HasDirectory c p h es
     × (number < p.geometry.nodes + p.geometry.pages) × (is_page ≡ nat_le p.geometry.nodes number)

@@ -44,7 +44,8 @@ taken_two banks count s r t marks n taken made = record {
 }
 
 -- what is free beside a new object has the role of what is free
-pub still_free : (g : Geometry) (age : ℕ) (p q : Parts) (n m b : ℕ) (c : Content Capability) → AreKeepable g age (frames_of q) → length q.headers ≡ length p.headers
+pub still_free : (g : Geometry) (age : ℕ) (p q : Parts) (n m b : ℕ) (c : Content Capability) → AreKeepable g age (frames_of q) →
+    length q.headers ≡ length p.headers
     → objects_in q ≡ with_new (objects_in p) n b c → m < length p.headers → m ≢ n
     → IsTrue (is_free (content_at (objects_in p) m)) → (header_at q.headers m).role ≡ role.Free
 still_free g age p q n m b c k count objects known two unused =
@@ -109,7 +110,8 @@ module _ (p : Parts) (s : BanksState) (b : ℕ) (asks : MayServe p s b) (n : ℕ
       → IsTaken (chain before b) 1 s u (slice_set (marks_of s) n false) → CarriesOut p q u
   alone_carried f u alone objects keepable taken =
       carried p s b asks q (with_new before n b (fresh_content Void f)) u objects current (λ age k. keepable age (alone_fits f alone) k)
-      (counted_alone p.geometry before (serve_framed p s b asks).size (serve_tree p s b asks) s asks.counted b asks.bank n inside unused (fresh_content Void f) u
+      (counted_alone p.geometry before (serve_framed p s b asks).size (serve_tree p s b asks) s asks.counted b asks.bank n inside unused (fresh_content Void f)
+      u
       (alone_used f alone) (alone_plain f alone) (alone_other f alone) taken)
 
   pub bank_carried : (limit : ℕ) (u v : BanksState) → objects_in q ≡ with_new before n b (content.Bank limit)
@@ -118,12 +120,14 @@ module _ (p : Parts) (s : BanksState) (b : ℕ) (asks : MayServe p s b) (n : ℕ
       → v ≡ record u { usages = slice_set u.usages n 0; limits = slice_set u.limits n limit } → CarriesOut p q v
   bank_carried limit u v objects keepable short place taken is =
       carried p s b asks q (with_new before n b (content.Bank limit)) v objects current keepable
-      (counted_bank p.geometry before (serve_framed p s b asks).size (serve_tree p s b asks) s asks.counted b asks.bank n inside unused limit u v short place taken is)
+      (counted_bank p.geometry before (serve_framed p s b asks).size (serve_tree p s b asks) s asks.counted b asks.bank n inside unused limit u v short place
+      taken is)
 
   pub process_carried : (m : ℕ) (u v : BanksState) → objects_in q ≡ with_new (with_new before n b (new_root m)) m b new_annex
       → ((age : ℕ) → AreKeepable p.geometry age (frames_of p) → AreKeepable p.geometry age (frames_of q))
       → m < length p.headers → m ≢ n → n < p.geometry.nodes → IsTrue (is_free (content_at before m))
-      → IsTaken (chain before b) 2 s u (slice_set (slice_set (marks_of s) n false) m false) → v ≡ record u { annexes = slice_set u.annexes n m } → CarriesOut p q v
+      → IsTaken (chain before b) 2 s u (slice_set (slice_set (marks_of s) n false) m false) → v ≡ record u { annexes = slice_set u.annexes n m } →
+      CarriesOut p q v
   process_carried m u v objects keepable within two place unused_too taken is =
       carried p s b asks q (with_new (with_new before n b (new_root m)) m b new_annex) v objects current keepable
       (counted_process p.geometry before (serve_framed p s b asks).size (serve_tree p s b asks) s asks.counted b asks.bank n inside unused

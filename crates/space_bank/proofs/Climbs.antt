@@ -89,16 +89,19 @@ module _ (os : List Object) (t : IsTree os) (b i c : ℕ) (at : Climbs os b i c)
     pub lowering_here : IsRaising os b c count now old → slice_index now c ≡ slice_index old c
     lowering_here r = omega (arith, r.each c, share_here count, ap (λ m. if m then count else 0) climb_itself)
 
-    pub lowers_on : c ≢ 0 → count ≤ slice_index old c → IsRaising os b c count now old → IsRaising os b (owner_at os c) count (slice_set now c (slice_index now c - count)) old
+    pub lowers_on : c ≢ 0 → count ≤ slice_index old c → IsRaising os b c count now old →
+        IsRaising os b (owner_at os c) count (slice_set now c (slice_index now c - count)) old
     lowers_on on enough r = record {
       size = sym (length-set now c (slice_index now c - count) ∙ sym r.size);
       each = λ x. elim (cases_eq x c) [
-        | inl e ↦ rw (e, get_or-set_same now c (slice_index now c - count) 0 inside) (omega (arith, r.each c, share_here count, share_owner count on, lowering_here r))
+        | inl e ↦ rw (e, get_or-set_same now c (slice_index now c - count) 0 inside)
+            (omega (arith, r.each c, share_here count, share_owner count on, lowering_here r))
         | inr differ ↦ rw (get_or-set_other now c x (slice_index now c - count) 0 differ) (omega (arith, r.each x, share_other count x on differ))
       ];
     }
 
-    pub lowered_last : c ≡ 0 → count ≤ slice_index old c → IsRaising os b c count now old → IsRaised (chain os b) count (slice_set now c (slice_index now c - count)) old
+    pub lowered_last : c ≡ 0 → count ≤ slice_index old c → IsRaising os b c count now old →
+        IsRaised (chain os b) count (slice_set now c (slice_index now c - count)) old
     lowered_last end enough r = record {
       size = sym (length-set now c (slice_index now c - count) ∙ sym r.size);
       each = λ x. elim (cases_eq x c) [

@@ -1,38 +1,41 @@
 -- What is counted, a number at a time.
-use Rattle.space_bank.proofs.Names.{ℕ, false, List, [], length, map, inl, inr, refl, sym, ap, subst, zero-add, arith, IsTrue, slice_index, SomeIff}
-use Rattle.space_bank.proofs.Names.{range_with_len, cases_lt, get_or-map-range_with_len, length-map-range_with_len, map-range_with_len_more, Cap, Capability}
-use Rattle.space_bank.proofs.Names.{Frame, ObjectHeader, Geometry, Content, Object, usage, conveyed, frames_in, held_at, objects_of, Role, is_bank, is_free}
-use Rattle.space_bank.proofs.Names.{is_root, limit_in, root_in, object_count, content_at, Parts, objects_in, content_there, mapped, AreCounted, BanksState}
-use Rattle.space_bank.proofs.Names.{AreKept, AreMarked, kept_number}
+use Rattle.space_bank.proofs.Names.{ℕ, List, [], length, map, inl, inr, refl, sym, ap, subst, zero-add, arith, IsTrue, slice_index, SomeIff, range_with_len}
+use Rattle.space_bank.proofs.Names.{cases_lt, get_or-map-range_with_len, length-map-range_with_len, map-range_with_len_more, Cap, Capability, Frame}
+use Rattle.space_bank.proofs.Names.{ObjectHeader, Geometry, Content, Object, usage, conveyed, frames_in, held_at, objects_of, Role, is_bank, is_free, is_root}
+use Rattle.space_bank.proofs.Names.{limit_in, role_of, object_count, content_at, Parts, objects_in, content_there, mapped, AreCounted, BanksState, AreKept}
+use Rattle.space_bank.proofs.Names.{AreMarked, kept_number, ContentRef, content_behind}
 use Rattle.std.proofs.Common.{◌≡◌, ◌+◌, ◌<◌, ◌≤◌, ◌^◌, ◌++◌, ◌∙◌, ◌∷◌}
 use Rattle.std.specs.Prelude.{Some}
 use Rattle.model.specs.declared.object.Content.TheVariants as content
+use Rattle.model.specs.declared.object.ContentRef.TheVariants as content_ref
 use Rattle.model.specs.declared.object.Role.TheVariants as role
 
--- what is no process has no annex, and what is no bank no limit
-pub annex_of_other : (c : Content Capability) → is_root c ≡ false → (root_in c).annex ≡ 0
-annex_of_other content.Free other = refl
-annex_of_other (content.Page words) other = refl
-annex_of_other (content.Node slots) other = refl
-annex_of_other (content.Root r) other = cc
-annex_of_other (content.Annex registers) other = refl
-annex_of_other (content.Bank limit) other = refl
+-- no number is kept of an object with another role
+pub kept_other : (r : Role) (c : Content Capability) → (role_of c ≡ r → ⊥) → kept_number r c ≡ 0
+kept_other role.Free c other = refl
+kept_other role.Page c other = refl
+kept_other role.Node c other = refl
+kept_other role.Annex c other = refl
+kept_other role.Root content.Free other = refl
+kept_other role.Root (content.Page words) other = refl
+kept_other role.Root (content.Node slots) other = refl
+kept_other role.Root (content.Root r) other = absurd (other refl)
+kept_other role.Root (content.Annex registers) other = refl
+kept_other role.Root (content.Bank limit) other = refl
+kept_other role.Bank content.Free other = refl
+kept_other role.Bank (content.Page words) other = refl
+kept_other role.Bank (content.Node slots) other = refl
+kept_other role.Bank (content.Root r) other = refl
+kept_other role.Bank (content.Annex registers) other = refl
+kept_other role.Bank (content.Bank limit) other = absurd (other refl)
 
-pub limit_of_other : (c : Content Capability) → is_bank c ≡ false → limit_in c ≡ 0
-limit_of_other content.Free other = refl
-limit_of_other (content.Page words) other = refl
-limit_of_other (content.Node slots) other = refl
-limit_of_other (content.Root r) other = refl
-limit_of_other (content.Annex registers) other = refl
-limit_of_other (content.Bank limit) other = cc
-
-pub no_limit : (c : Content Cap) → ((x : ℕ) → c ≡ content.Bank x → ⊥) → limit_in c ≡ 0
-no_limit content.Free bank = refl
-no_limit (content.Page words) bank = refl
-no_limit (content.Node slots) bank = refl
-no_limit (content.Root r) bank = refl
-no_limit (content.Annex registers) bank = refl
-no_limit (content.Bank limit) bank = absurd (bank limit refl)
+pub no_limit : (r : ContentRef) → ((x : ℕ) → r ≡ content_ref.Bank x → ⊥) → limit_in (content_behind r) ≡ 0
+no_limit content_ref.Free bank = refl
+no_limit (content_ref.Page words) bank = refl
+no_limit (content_ref.Node slots) bank = refl
+no_limit (content_ref.Root root) bank = refl
+no_limit (content_ref.Annex registers) bank = refl
+no_limit (content_ref.Bank limit) bank = absurd (bank limit refl)
 
 -- the limit of what is held at a number
 pub limit_held : (p : Parts) (n : ℕ) (c : Content Cap) → n < length p.headers → c ≡ held_at p.contents n →
@@ -94,7 +97,8 @@ module _ (g : Geometry) (os : List Object) (s : BanksState) (below : (b : ℕ) �
         annex_each = ap length kept.annexes_are ∙ length-map-range_with_len h 0 g.nodes;
         usage = usages;
         limit = λ b bank. ap (λ (xs : List ℕ). slice_index xs b) kept.limits_are ∙ get_or-map-range_with_len f 0 g.nodes b b 0 (below b bank) (zero-add b);
-        annex = λ p root. ap (λ (xs : List ℕ). slice_index xs p) kept.annexes_are ∙ get_or-map-range_with_len h 0 g.nodes p p 0 (process_below p root) (zero-add p);
+        annex = λ p root. ap (λ (xs : List ℕ). slice_index xs p) kept.annexes_are ∙ get_or-map-range_with_len h 0 g.nodes p p 0 (process_below p root)
+            (zero-add p);
         room = room;
       }
 

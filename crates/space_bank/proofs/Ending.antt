@@ -60,7 +60,8 @@ pub record IsReleased (banks : List ℕ) (count : ℕ) (s t : BanksState) (set :
 -- A set of objects that have the contents of those that are counted is given up.
 pub counted_gone : (g : Geometry) (os vs : List Object) (s t : BanksState) (set banks : List ℕ) (count : ℕ) → AreCounted g os s
     → ((n : ℕ) → content_at vs n ≡ content_at os n) → IsReleased banks count s t set
-    → ((x : ℕ) → IsTrue (is_bank (content_at os x)) → is_member set x ≡ false → usage (rescind set vs) x + (if is_member banks x then count else 0) ≡ usage os x)
+    → ((x : ℕ) → IsTrue (is_bank (content_at os x)) → is_member set x ≡ false → usage (rescind set vs) x + (if is_member banks x then count else 0) ≡ usage os
+    x)
     → AreCounted g (rescind set vs) t
 counted_gone g os vs s t set banks count counted same released usages =
     counted_from g os (rescind set vs) s t counted
@@ -127,7 +128,8 @@ module _ {S : Type 0} (parts : S → Parts) (Fetched Announced : S → ℕ → T
       stays : (n : ℕ) → is_free (content_at (objects_in (parts new)) n) ≡ false → is_member set n ≡ false
       stays n used = used_stays set (objects_in (parts old)) n (sym (ap (λ (os : List Object). is_free (content_at os n)) objects) ∙ used)
 
-  pub snapshots_then_ended : (twice : (s t u : S) → Continues s t → Continues t u → Continues s u) (old mid new : S) → KeepsRest parts Fetched Announced Continues old mid
+  pub snapshots_then_ended : (twice : (s t u : S) → Continues s t → Continues t u → Continues s u) (old mid new : S) →
+      KeepsRest parts Fetched Announced Continues old mid
       → SameFree (parts old) (parts mid) → KeepsObjects parts Fetched Announced Continues mid new → KeepsObjects parts Fetched Announced Continues old new
   snapshots_then_ended twice old mid new a free b = record {
     count = b.count ∙ a.count;

@@ -69,7 +69,8 @@ module _ (os : List Object) (base : ℕ) (marks : List Bool) (same : (n : ℕ) �
   pub found_only : (n : ℕ) → IsNextMarked marks 0 n → HasNoneMarked marks (n + 1) → are_free os (range_with_len base (length marks)) ≡ (base + n) ∷ []
   found_only n first none = found_one n first ∙ ap (λ (xs : List ℕ). (base + n) ∷ xs) (none_free (n + 1) none)
 
-  pub found_two : (n m : ℕ) → IsNextMarked marks 0 n → IsNextMarked marks (n + 1) m → are_free os (range_with_len base (length marks)) ≡ (base + n) ∷ (base + m) ∷ free_from (m + 1)
+  pub found_two : (n m : ℕ) → IsNextMarked marks 0 n → IsNextMarked marks (n + 1) m → are_free os (range_with_len base (length marks)) ≡ (base + n) ∷ (base + m)
+      ∷ free_from (m + 1)
   found_two n m first second = found_one n first ∙ ap (λ (xs : List ℕ). (base + n) ∷ xs) (next_free (n + 1) m second)
 
 -- a process is made of the first two nodes that are free
@@ -77,7 +78,8 @@ module _ (os : List Object) (marks : List Bool) (same : (n : ℕ) → n < length
   pub process_missing : IsNextMarked marks 0 n → HasNoneMarked marks (n + 1) → None ≡ process_at b (are_free os (range_with_len 0 (length marks)))
   process_missing first none = ap (process_at b) (sym (found_only os 0 marks same n first none))
 
-  pub process_found : (m : ℕ) → IsNextMarked marks 0 n → IsNextMarked marks (n + 1) m → Some (MakeProcess n m b) ≡ process_at b (are_free os (range_with_len 0 (length marks)))
+  pub process_found : (m : ℕ) → IsNextMarked marks 0 n → IsNextMarked marks (n + 1) m →
+      Some (MakeProcess n m b) ≡ process_at b (are_free os (range_with_len 0 (length marks)))
   process_found m first second =
       ap (λ (r : ℕ). Some (MakeProcess r m b)) (sym (zero-add n))
       ∙ ap (λ (a : ℕ). Some (MakeProcess (0 + n) a b)) (sym (zero-add m))
@@ -98,10 +100,11 @@ module _ (g : Geometry) (os : List Object) (s : BanksState) (h : AreCounted g os
       ap (λ (k : ℕ). are_free os (range_with_len 0 k)) all
 
   pub pages_marked : marks ≡ s.free_pages → (first : ℕ) → first ≡ g.nodes → AreMarked os first (length marks) marks
-  pages_marked are first is = subst (λ (n : ℕ). AreMarked os n (length marks) marks) (sym is) (subst (λ (m : List Bool). AreMarked os g.nodes (length m) m) (sym are) (record {
-    size = refl;
-    each = λ n inside. h.page n (omega (arith, inside, h.pages));
-  }))
+  pages_marked are first is = subst (λ (n : ℕ). AreMarked os n (length marks) marks) (sym is)
+      (subst (λ (m : List Bool). AreMarked os g.nodes (length m) m) (sym are) (record {
+        size = refl;
+        each = λ n inside. h.page n (omega (arith, inside, h.pages));
+      }))
 
   pub pages_are : marks ≡ s.free_pages → (first : ℕ) → first ≡ g.nodes → free_pages g os ≡ are_free os (range_with_len first (length marks))
   unfolding free_pages

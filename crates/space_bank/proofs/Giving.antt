@@ -11,7 +11,8 @@ use Rattle.space_bank.proofs.Ending.{once_of_differ}
 use Rattle.space_bank.proofs.Standing.{serve_tree}
 
 -- what a capability frees, where a bank owns it
-pub freed_list : (g : Geometry) (os : List Object) (b : ℕ) (c : Capability) (list : List ℕ) → IsNow g os → IsTrue (is_bank (content_at os b)) → NamesItsKind os c
+pub freed_list : (g : Geometry) (os : List Object) (b : ℕ) (c : Capability) (list : List ℕ) → IsNow g os → IsTrue (is_bank (content_at os b)) →
+    NamesItsKind os c
     → freed_by os c ≡ list → 0 < length list → owner_at os (slice_index list 0) ≡ b → MayGiveUp os b list
 freed_list g os b c [] h is names frees some own = absurd (omega arith)
 freed_list g os b c (n ∷ ns) h is names frees some own =
@@ -25,7 +26,8 @@ freed_list g os b c (n ∷ ns) h is names frees some own =
       lowered = λ x bank stays. omega (arith, usage_freed g os c b n ns h own frees names x bank, freed_fits g os c b n ns h own frees names x bank);
     }
 
-pub freed_gives : (g : Geometry) (os : List Object) (b : ℕ) (list : List ℕ) → IsNow g os → IsTrue (is_bank (content_at os b)) → IsFreedOf os b list → MayGiveUp os b list
+pub freed_gives : (g : Geometry) (os : List Object) (b : ℕ) (list : List ℕ) → IsNow g os → IsTrue (is_bank (content_at os b)) → IsFreedOf os b list →
+    MayGiveUp os b list
 freed_gives g os b list h is freed = freed_list g os b freed.sent list h is freed.held.1 freed.frees freed.some freed.owner
 
 -- no bank above another is under it
@@ -55,7 +57,8 @@ module _ (os : List Object) (t : IsTree os) (b : ℕ) (is : IsTrue (is_bank (con
       ])
 
 -- a bank with all that is under it
-pub destroyed_gives : (g : Geometry) (os : List Object) (b : ℕ) → IsNow g os → IsTrue (is_bank (content_at os b)) → b ≢ 0 → MayGiveUp os (owner_at os b) (under os b)
+pub destroyed_gives : (g : Geometry) (os : List Object) (b : ℕ) → IsNow g os → IsTrue (is_bank (content_at os b)) → b ≢ 0 →
+    MayGiveUp os (owner_at os b) (under os b)
 destroyed_gives g os b h is on = record {
   once = once_of_differ (under os b) (under_once os b);
   used = (under_given_up g os h.frame b is on).used;
@@ -68,7 +71,8 @@ member_some [] x member = absurd (false≢true member)
 member_some (y ∷ ys) x member = omega arith
 
 -- a bank is under itself, so the list begins within what it stands in
-pub under_within : (p : Parts) (s : BanksState) (b : ℕ) (list : List ℕ) (skip : ℕ) → MayServe p s b → drop skip list ≡ under (objects_in p) b → skip ≤ length list
+pub under_within : (p : Parts) (s : BanksState) (b : ℕ) (list : List ℕ) (skip : ℕ) → MayServe p s b → drop skip list ≡ under (objects_in p) b →
+    skip ≤ length list
 under_within p s b list skip asks is =
     let os = objects_in p in
     let inside = used_within os b (used_where is_bank refl (content_at os b) asks.bank) in

@@ -33,7 +33,8 @@ one_may g os b from count f c bank room place kind [] are is = cc
 one_may g os b from count f c bank room place kind (n ∷ ns) are is =
     let e : Make n f b ≡ c = cc in
     let free = first_free os from count n ns are in
-    subst (λ (x : BankChange). MayMake g os (numbers_of x) x) e (record { listed = refl; bank = bank; room = room; unused = free.unused; place = place n free; kind = kind })
+    subst (λ (x : BankChange). MayMake g os (numbers_of x) x) e
+    (record { listed = refl; bank = bank; room = room; unused = free.unused; place = place n free; kind = kind })
 
 -- a new process, at the first two
 two_may : (g : Geometry) (os : List Object) (b : ℕ) (c : BankChange) → IsTrue (is_bank (content_at os b)) → IsTrue (has_quota os b 2) → (ns : List ℕ)
@@ -61,7 +62,8 @@ short_chain : (length_of : ℕ) (short : Bool) → nat_lt length_of 16 ≡ short
 short_chain n true is e = ltb-true n 16 is
 short_chain n false is e = cc
 
-new_may : (g : Geometry) (os : List Object) (b : ℕ) (c : BankChange) → IsTrue (is_bank (content_at os b)) → (kind : New) → IsTrue (has_quota os b (count_of kind))
+new_may : (g : Geometry) (os : List Object) (b : ℕ) (c : BankChange) → IsTrue (is_bank (content_at os b)) → (kind : New) →
+    IsTrue (has_quota os b (count_of kind))
     → made_for g os b kind ≡ Some c → is_deep os b kind ≡ false → MayMake g os (numbers_of c) c
 unfolding free_nodes free_pages
 new_may g os b c bank new.Page room some short =
@@ -86,28 +88,32 @@ names_there os us frame (Resume p) n ns some names = cc
 names_there os us frame (Bank b) n ns some names = cc
 names_there os us frame Discrim n ns some names = cc
 
-module _ (g : Geometry) (os : List Object) (b : ℕ) (bank : IsTrue (is_bank (content_at os b))) (us : List Object) (frame : SameFrame os us) (now : IsNow g us) where
-  bank_there : IsTrue (is_bank (content_at us b))
-  bank_there = (tests_at os us frame b).bank ∙ bank
+module _ (g : Geometry) (os : List Object) (b : ℕ) (bank : IsTrue (is_bank (content_at os b))) (us : List Object) (frame : SameFrame os us) (now : IsNow g us)
+  where
+    bank_there : IsTrue (is_bank (content_at us b))
+    bank_there = (tests_at os us frame b).bank ∙ bank
 
-  pub may_new : (kind : New) (c : BankChange) → has_quota os b (count_of kind) ≡ true → made_for g os b kind ≡ Some c → is_deep os b kind ≡ false → MayMake g us (numbers_of c) c
-  may_new kind c room some short =
-      new_may g us b c bank_there kind (room_alike os us frame b (count_of kind) ∙ room) (made_alike os us frame g b kind ∙ some) (deep_alike os us frame g b kind ∙ short)
+    pub may_new : (kind : New) (c : BankChange) → has_quota os b (count_of kind) ≡ true → made_for g os b kind ≡ Some c → is_deep os b kind ≡ false →
+        MayMake g us (numbers_of c) c
+    may_new kind c room some short =
+        new_may g us b c bank_there kind (room_alike os us frame b (count_of kind) ∙ room) (made_alike os us frame g b kind ∙ some)
+        (deep_alike os us frame g b kind ∙ short)
 
-  pub may_free : (c : Capability) (n : ℕ) (ns : List ℕ) → NamesItsKind os c → freed_by os c ≡ n ∷ ns → owner_at os n ≡ b → GivesUp us (n ∷ ns) b
-  may_free c n ns names some own = record {
-    bank = bank_there;
-    gives = freed_list g us b c (n ∷ ns) now bank_there (names_there os us frame c n ns some names) (freed_alike os us frame c ∙ some) (omega arith) ((frame.alike n).owner ∙ own);
-  }
+    pub may_free : (c : Capability) (n : ℕ) (ns : List ℕ) → NamesItsKind os c → freed_by os c ≡ n ∷ ns → owner_at os n ≡ b → GivesUp us (n ∷ ns) b
+    may_free c n ns names some own = record {
+      bank = bank_there;
+      gives = freed_list g us b c (n ∷ ns) now bank_there (names_there os us frame c n ns some names) (freed_alike os us frame c ∙ some) (omega arith)
+          ((frame.alike n).owner ∙ own);
+    }
 
-  pub may_destroy : b ≢ 0 → (above : ℕ) → above ≡ owner_at os b → GivesUp us (under os b) above
-  may_destroy on above is =
-      let owner : above ≡ owner_at us b = is ∙ sym (frame.alike b).owner in
-      record {
-        bank = subst (λ (x : ℕ). IsTrue (is_bank (content_at us x))) (sym owner) (owner_bank us (tree_of g us now.frame) b bank_there);
-        gives = subst (λ (x : ℕ). MayGiveUp us x (under os b)) (sym owner)
-            (subst (λ (ns : List ℕ). MayGiveUp us (owner_at us b) ns) (under_alike os us frame b) (destroyed_gives g us b now bank_there on));
-      }
+    pub may_destroy : b ≢ 0 → (above : ℕ) → above ≡ owner_at os b → GivesUp us (under os b) above
+    may_destroy on above is =
+        let owner : above ≡ owner_at us b = is ∙ sym (frame.alike b).owner in
+        record {
+          bank = subst (λ (x : ℕ). IsTrue (is_bank (content_at us x))) (sym owner) (owner_bank us (tree_of g us now.frame) b bank_there);
+          gives = subst (λ (x : ℕ). MayGiveUp us x (under os b)) (sym owner)
+              (subst (λ (ns : List ℕ). MayGiveUp us (owner_at us b) ns) (under_alike os us frame b) (destroyed_gives g us b now bank_there on));
+        }
 
-  pub may_return : b ≢ 0 → Transfers us (b ∷ owned_by os b) b
-  may_return on = record { bank = bank_there; other = on; listed = ap (λ (ns : List ℕ). b ∷ ns) (sym (owned_alike os us frame b)) }
+    pub may_return : b ≢ 0 → Transfers us (b ∷ owned_by os b) b
+    may_return on = record { bank = bank_there; other = on; listed = ap (λ (ns : List ℕ). b ∷ ns) (sym (owned_alike os us frame b)) }

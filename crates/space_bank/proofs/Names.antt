@@ -1,9 +1,9 @@
 -- The names that the proofs here cite: of other crates, and of the definitions of this one.
-pub use Rattle.capability.proofs.Frames.{bank_used, content_there, length_objects, owner_read}
+pub use Rattle.capability.proofs.FrameLists.{bank_used, content_there, length_objects, owner_read}
 pub use Rattle.capability.proofs.Keeping.{keepable_at, keepable_count, keepable_later, keepable_roles}
 pub use Rattle.capability.proofs.KindNumbers.{bank_number, root_number}
 pub use Rattle.capability.proofs.Mapped.{mapped}
-pub use Rattle.capability.proofs.Roles.{role_bank, role_free, role_no_bank, role_read, role_used}
+pub use Rattle.capability.proofs.Roles.{role_free, role_read, role_used}
 pub use Rattle.capability.proofs.SnapshotLaws.{keeps_twice, only_reads_twice}
 pub use Rattle.capability.specs.Changes.{bank_changed, reply_of_code}
 pub use Rattle.capability.specs.Parts.{AreGivenUp, FreshFits, HaveTheirRoles, IsFreshAt, IsOnce, KeepsRest, OnlyFetches, Parts, Renews, frames_of}
@@ -17,7 +17,7 @@ unfoldable pub use Rattle.model.specs.Bank.{chain, usage}
 pub use Rattle.model.specs.Banking.{allocated, are_free, bank_allocated, freed, freed_by, least, left_of, new_annex, new_root, process_allocated, transferred}
 unfoldable pub use Rattle.model.specs.Banking.{free_nodes, free_pages, has_quota, inherited, on_bank, owned_by, remaining, under, with_new}
 pub use Rattle.model.specs.Capability.{full}
-pub use Rattle.model.specs.Frame.{conveyed, given_up, header_at, held_at}
+pub use Rattle.model.specs.Frame.{content_behind, conveyed, given_up, header_at, held_at}
 unfoldable pub use Rattle.model.specs.Frame.{frames_in, objects_of}
 pub use Rattle.model.specs.Keepable.{AreCurrent, AreKeepable, IsSoundFrames, world_at}
 pub use Rattle.model.specs.Object.{free, is_bank, is_free, is_root, limit_in, map_content, role_of, root_in}
@@ -26,6 +26,7 @@ pub use Rattle.model.specs.Revoke.{is_given_up, is_member, names_member, void_wh
 unfoldable pub use Rattle.model.specs.Revoke.{rescind}
 pub use Rattle.model.specs.Sound.{HasShape, IsOfKind, MayBeHeld, NamesItsKind, object_count}
 pub use Rattle.model.specs.World.{content_at, object_at, owner_at}
+pub use Rattle.model.specs.contracts.object.Role.{the_type}
 pub use Rattle.model.specs.declared.capability.Cap.{Cap}
 pub use Rattle.model.specs.declared.capability.Capability.{Capability}
 pub use Rattle.model.specs.declared.capability.Capability.TheVariants.{Bank, Discrim, Node, Number, Page, Process, Resume, Space, Start, Void}
@@ -33,6 +34,7 @@ pub use Rattle.model.specs.declared.frame.Frame.{Frame}
 pub use Rattle.model.specs.declared.frame.ObjectHeader.{ObjectHeader}
 pub use Rattle.model.specs.declared.geometry.Geometry.{Geometry}
 pub use Rattle.model.specs.declared.object.Content.{Content}
+pub use Rattle.model.specs.declared.object.ContentRef.{ContentRef}
 pub use Rattle.model.specs.declared.object.Object.{Object}
 pub use Rattle.model.specs.declared.object.Role.{Role}
 pub use Rattle.model.specs.declared.order.Arguments.{Arguments}
@@ -57,7 +59,7 @@ pub use Rattle.model_laws.proofs.SoundParts.{IsFramed, nearly_from}
 pub use Rattle.model_laws.proofs.Usage.{SameFrame, chain_same, frame_refl, tests_at, usage_same}
 pub use Rattle.number_set.specs.Marks.{HasAllMarked, HasNoneMarked, IsNextMarked, IsNextUnmarked, is_marked}
 pub use Rattle.std.proofs.Common.{Bool, Global, List, None, Option, Some, Vec, [], add-one, ap, append_assoc, arith, cond, drop, false, get_or, inl, inr}
-pub use Rattle.std.proofs.Common.{length, map, min, nat_eq, not, refl, subst, suc, sym, take, true, vec_len, zero, zero-add, ℕ, ⊎_elim}
+pub use Rattle.std.proofs.Common.{length, map, min, nat_eq, not, refl, rules, subst, suc, sym, take, true, vec_len, zero, zero-add, ℕ, ⊎_elim}
 pub use Rattle.std.proofs.lemmas.Bool.{and_parts, cases_Bool, cases_eq, cases_lt, eq-eqb, eqb-true, false_from_ne_true, false≢true, le-leb, leb-true, lt-leb}
 pub use Rattle.std.proofs.lemmas.Bool.{ltb-true, ne_eqb, or_cases, or_left}
 pub use Rattle.std.proofs.lemmas.List.{append-nil, ext_get_or, get_or-append_right, get_or-set_other, get_or-set_same, get_or_append_left, get_or_past}

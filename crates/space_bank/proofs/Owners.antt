@@ -17,11 +17,13 @@ transferred_content false b o = refl
 pub transferred_same : (list : List ℕ) (b : ℕ) (os us : List Object) → AreTransferred list b os us → (n : ℕ) → content_at us n ≡ content_at os n
 transferred_same list b os us are n = ap (λ (o : Object). o.content) (are.each n) ∙ transferred_content (is_member list n) b (object_at os n)
 
-pub transferred_used : (list : List ℕ) (b : ℕ) (os us : List Object) → AreTransferred list b os us → (n : ℕ) → is_free (content_at os n) ≡ false → is_free (content_at us n) ≡ false
+pub transferred_used : (list : List ℕ) (b : ℕ) (os us : List Object) → AreTransferred list b os us → (n : ℕ) → is_free (content_at os n) ≡ false →
+    is_free (content_at us n) ≡ false
 transferred_used list b os us are n used = ap (λ (c : Content Capability). is_free c) (transferred_same list b os us are n) ∙ used
 
 -- one more of a list
-pub transferred_more : (list : List ℕ) (i b : ℕ) (os us vs : List Object) → i < length list → slice_index list i < length us → AreTransferred (take i list) b os us
+pub transferred_more : (list : List ℕ) (i b : ℕ) (os us vs : List Object) → i < length list → slice_index list i < length us →
+    AreTransferred (take i list) b os us
     → vs ≡ slice_set us (slice_index list i) (record { owner = b; content = content_at us (slice_index list i) }) → AreTransferred (take (i + 1) list) b os vs
 transferred_more list i b os us vs inside known are is =
     let m = slice_index list i in
@@ -33,8 +35,10 @@ transferred_more list i b os us vs inside known are is =
           ap (λ (xs : List Object). object_at xs n) is
           ∙ elim (cases_eq n m) [
             | inl e ↦
-                let now : is_member (take (i + 1) list) n ≡ true = more ∙ (ap (λ b. is_member (take i list) n || b) (eq-eqb n m e) ∙ either (is_member (take i list) n)) in
-                let here : object_at (slice_set us m next) n ≡ next = ap (λ (k : ℕ). object_at (slice_set us m next) k) e ∙ get_or-set_same us m next free known in
+                let now : is_member (take (i + 1) list) n ≡ true = more ∙
+                (ap (λ b. is_member (take i list) n || b) (eq-eqb n m e) ∙ either (is_member (take i list) n)) in
+                let here : object_at (slice_set us m next) n ≡ next = ap (λ (k : ℕ). object_at (slice_set us m next) k) e ∙
+                get_or-set_same us m next free known in
                 here
                 ∙ (ap (λ (c : Content Capability). let o : Object = record { owner = b; content = c } in o)
                 (transferred_same (take i list) b os us are m ∙ ap (λ (k : ℕ). content_at os k) (sym e))

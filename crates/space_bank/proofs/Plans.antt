@@ -30,19 +30,23 @@ abbrev pub answer : List ℕ → OrderPlan
 answer words = record { reply = record { code = code.Done; words = words; capability = Void }; change = change.Nothing }
 
 module _ (g : Geometry) (os : List Object) (b : ℕ) (order : BankOrder) (args : Arguments) (plan : OrderPlan) where
-  pub refused_as : (why : ResultCode) → ((us : List Object) → SameFrame os us → on_bank g us b order args ≡ refused us why) → plan ≡ refusal why → PlansAs g os b order args [] plan
+  pub refused_as : (why : ResultCode) → ((us : List Object) → SameFrame os us → on_bank g us b order args ≡ refused us why) → plan ≡ refusal why →
+      PlansAs g os b order args [] plan
   refused_as why is plans = subst (λ (q : OrderPlan). PlansAs g os b order args [] q) (sym plans) (record { outcome = is; may = λ us frame now. refl })
 
-  pub made_as : (list : List ℕ) (c : Capability) (x : BankChange) → ((us : List Object) → SameFrame os us → on_bank g us b order args ≡ made (bank_changed us list x) list c)
+  pub made_as : (list : List ℕ) (c : Capability) (x : BankChange) →
+      ((us : List Object) → SameFrame os us → on_bank g us b order args ≡ made (bank_changed us list x) list c)
       → ((us : List Object) → SameFrame os us → IsNow g us → MayMake g us list x) → plan ≡ making c x → PlansAs g os b order args list plan
   made_as list c x is may plans = subst (λ (q : OrderPlan). PlansAs g os b order args list q) (sym plans) (record { outcome = is; may = may })
 
-  pub replying_as : (x y z : ℕ) → ((us : List Object) → SameFrame os us → on_bank g us b order args ≡ replying_three us x y z) → plan ≡ answer (x ∷ y ∷ z ∷ []) → PlansAs g os b order args [] plan
+  pub replying_as : (x y z : ℕ) → ((us : List Object) → SameFrame os us → on_bank g us b order args ≡ replying_three us x y z) →
+      plan ≡ answer (x ∷ y ∷ z ∷ []) → PlansAs g os b order args [] plan
   replying_as x y z is plans = subst (λ (q : OrderPlan). PlansAs g os b order args [] q) (sym plans) (record { outcome = is; may = λ us frame now. refl })
 
 -- what is planned as a list of numbers, and listed
 module _ (p : Parts) (b : ℕ) (order : BankOrder) (args : Arguments) (first list : List ℕ) (plan : OrderPlan) where
-  pub planned_as : (written : List ℕ) → PlansAs p.geometry (objects_in p) b order args written plan → list ≡ first ++ written → IsPlanned p b order args first plan list
+  pub planned_as : (written : List ℕ) → PlansAs p.geometry (objects_in p) b order args written plan → list ≡ first ++ written →
+      IsPlanned p b order args first plan list
   planned_as written plans is =
       let same : (on_bank p.geometry (objects_in p) b order args).written ≡ written =
       ap (λ (o : OrderOutcome). o.written) (plans.outcome (objects_in p) (frame_refl (objects_in p))) in
@@ -65,7 +69,8 @@ two_allocated os b [] = refl
 two_allocated os b (r ∷ []) = refl
 two_allocated os b (r ∷ a ∷ ns) = refl
 
-deep_allocated : (os : List Object) (b limit : ℕ) (ns : List ℕ) → bank_allocated os b ns limit ≡ allocated_by os (is_deep os b (new.Bank limit)) (new_at b (fresh.Bank limit) ns)
+deep_allocated : (os : List Object) (b limit : ℕ) (ns : List ℕ) → bank_allocated os b ns limit ≡ allocated_by os (is_deep os b (new.Bank limit))
+    (new_at b (fresh.Bank limit) ns)
 deep_allocated os b limit [] = refl
 deep_allocated os b limit (n ∷ ns) = turned (nat_lt (length (chain os b)) 16) _ _
   where
@@ -79,11 +84,13 @@ unfolding on_bank
 allocating_is g os b bank.NewPage args kind is =
     let e : new.Page ≡ kind = cc in
     subst (λ (k : New). on_bank g os b bank.NewPage args ≡ allocating g os b k) e
-    (ap (λ (o : OrderOutcome). if has_quota os b 1 then o else refused os code.Limit) (one_allocated os b fresh.Page (λ n. Page n full) (λ n. refl) (free_pages g os)))
+    (ap (λ (o : OrderOutcome). if has_quota os b 1 then o else refused os code.Limit)
+    (one_allocated os b fresh.Page (λ n. Page n full) (λ n. refl) (free_pages g os)))
 allocating_is g os b bank.NewNode args kind is =
     let e : new.Node ≡ kind = cc in
     subst (λ (k : New). on_bank g os b bank.NewNode args ≡ allocating g os b k) e
-    (ap (λ (o : OrderOutcome). if has_quota os b 1 then o else refused os code.Limit) (one_allocated os b fresh.Node (λ n. Node n full) (λ n. refl) (free_nodes g os)))
+    (ap (λ (o : OrderOutcome). if has_quota os b 1 then o else refused os code.Limit)
+    (one_allocated os b fresh.Node (λ n. Node n full) (λ n. refl) (free_nodes g os)))
 allocating_is g os b bank.NewProcess args kind is =
     let e : new.Process ≡ kind = cc in
     subst (λ (k : New). on_bank g os b bank.NewProcess args ≡ allocating g os b k) e
@@ -112,14 +119,16 @@ module _ (os us : List Object) (frame : SameFrame os us) (g : Geometry) (b : ℕ
   deep_alike (new.Bank limit) = ap (λ (xs : List ℕ). not (nat_lt (length xs) 16)) (chain_same os us frame b)
 
 -- by the tests that the code makes
-module _ (g : Geometry) (os : List Object) (b : ℕ) (order : BankOrder) (args : Arguments) (kind : New) (is : new_of order args ≡ Some kind) (us : List Object) (frame : SameFrame os us) where
+module _ (g : Geometry) (os : List Object) (b : ℕ) (order : BankOrder) (args : Arguments) (kind : New) (is : new_of order args ≡ Some kind) (us : List Object)
+    (frame : SameFrame os us) where
   pub new_limit : has_quota os b (count_of kind) ≡ false → on_bank g us b order args ≡ refused us code.Limit
   new_limit full = allocating_is g us b order args kind is ∙ rw (room_alike os us frame b (count_of kind), full) refl
 
   pub new_none : has_quota os b (count_of kind) ≡ true → made_for g os b kind ≡ None → on_bank g us b order args ≡ refused us code.NoFrame
   new_none room none = allocating_is g us b order args kind is ∙ rw (room_alike os us frame b (count_of kind), room, made_alike os us frame g b kind, none) refl
 
-  pub new_deep : (c : BankChange) → has_quota os b (count_of kind) ≡ true → made_for g os b kind ≡ Some c → is_deep os b kind ≡ true → on_bank g us b order args ≡ refused us code.TooDeep
+  pub new_deep : (c : BankChange) → has_quota os b (count_of kind) ≡ true → made_for g os b kind ≡ Some c → is_deep os b kind ≡ true →
+      on_bank g us b order args ≡ refused us code.TooDeep
   new_deep c room some deep =
       allocating_is g us b order args kind is
       ∙ rw (room_alike os us frame b (count_of kind), room, made_alike os us frame g b kind, some, deep_alike os us frame g b kind, deep) refl
@@ -218,10 +227,18 @@ process_room p s t b c q n h sent is few listed =
     let process : IsTrue (is_root (content_at os q)) = (subst (λ (d : Capability). MayBeHeld os d) is sent).1 in
     let known : q < p.geometry.nodes = root_number p.geometry q (content_at os q) (h.sound.1.sound.kinds q) process in
     let other : q ≡ b → ⊥ = λ e. root_not_bank (content_at os b) (subst (λ (m : ℕ). IsTrue (is_root (content_at os m))) e process) h.bank in
-    omega (arith, node_of_bank p s b h, h.counted.room, ap (λ (u : BanksState). length u.listed) listed, length-append s.listed (n ∷ []), ap (λ (u : BanksState). u.room) listed)
+    omega (
+      arith,
+      node_of_bank p s b h,
+      h.counted.room,
+      ap (λ (u : BanksState). length u.listed) listed,
+      length-append s.listed (n ∷ []),
+      ap (λ (u : BanksState). u.room) listed,
+    )
 
 -- the annex of a process that may be sent is kept
-pub annex_kept : (p : Parts) (s : BanksState) (b : ℕ) (c : Capability) → IsBankOf p s b → MayBeHeld (objects_in p) c → annex_among s.annexes c ≡ annex_of (objects_in p) c
+pub annex_kept : (p : Parts) (s : BanksState) (b : ℕ) (c : Capability) → IsBankOf p s b → MayBeHeld (objects_in p) c →
+    annex_among s.annexes c ≡ annex_of (objects_in p) c
 annex_kept p s b (Process q) h sent = ap (λ (n : ℕ). n ∷ []) (h.counted.annex q sent.1)
 annex_kept p s b Void h sent = refl
 annex_kept p s b (Number n) h sent = refl

@@ -13,7 +13,8 @@ abbrev pub SameFree : Parts → Parts → Type 0
 SameFree p q = (n : ℕ) → is_free (content_at (objects_in q) n) ≡ is_free (content_at (objects_in p) n)
 
 -- a count of allocations by whether the object was given up
-counted : (gone : Bool) (member : Bool) (h k : ObjectHeader) → gone ≡ member → k ≡ (if member then given_up h else h) → k.allocations ≡ h.allocations + (if gone then 1 else 0)
+counted : (gone : Bool) (member : Bool) (h k : ObjectHeader) → gone ≡ member → k ≡ (if member then given_up h else h) →
+    k.allocations ≡ h.allocations + (if gone then 1 else 0)
 counted true true h k e is = ap (λ (x : ObjectHeader). x.allocations) is
 counted false false h k e is = let same = ap (λ (x : ObjectHeader). x.allocations) is in omega (arith, same)
 counted true false h k e is = cc

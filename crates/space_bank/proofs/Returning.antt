@@ -79,7 +79,8 @@ module _ (p : Parts) (s : BanksState) (b : ℕ) (asks : MayServe p s b) (on : b 
   one_enough x member =
       let t = serve_tree p s b asks in
       let bank = chain_banks before t (owner_at before b) x (owner_bank before t b asks.bank) member in
-      let differ : x ≢ b = λ e. false≢true (sym (chain_once before t b asks.bank on) ∙ (ap (λ (m : ℕ). is_member (chain before (owner_at before b)) m) (sym e) ∙ member)) in
+      let differ : x ≢ b = λ e. false≢true
+      (sym (chain_once before t b asks.bank on) ∙ (ap (λ (m : ℕ). is_member (chain before (owner_at before b)) m) (sym e) ∙ member)) in
       let all = ap {B = ℕ} (λ t. if t then 1 else 0) member in
       omega (arith, asks.counted.usage x bank, returned_fits p.geometry before b (serve_now p s b asks) asks.bank on x differ, all)
 
@@ -91,10 +92,12 @@ module _ (p : Parts) (s : BanksState) (b : ℕ) (asks : MayServe p s b) (on : b 
       let is = inherited_by before us b are in
       record {
         counted = subst (λ (vs : List Object). AreCounted p.geometry vs t) (sym objects)
-            (counted_gone p.geometry before us s t (b ∷ []) (chain before (owner_at before b)) 1 asks.counted (transferred_same (owned_by before b) (owner_at before b) before us are) released
+            (counted_gone p.geometry before us s t (b ∷ []) (chain before (owner_at before b)) 1 asks.counted
+            (transferred_same (owned_by before b) (owner_at before b) before us are) released
             (λ x bank stays.
             let differ : x ≢ b = λ e. false≢true (sym stays ∙ member_head x b [] e) in
-            let after : usage (rescind (b ∷ []) us) x ≡ usage (rescind (b ∷ []) (inherited before b)) x = ap (λ (vs : List Object). usage (rescind (b ∷ []) vs) x) is in
+            let after : usage (rescind (b ∷ []) us) x ≡ usage (rescind (b ∷ []) (inherited before b)) x = ap
+            (λ (vs : List Object). usage (rescind (b ∷ []) vs) x) is in
             omega (
               arith,
               after,
@@ -106,7 +109,8 @@ module _ (p : Parts) (s : BanksState) (b : ℕ) (asks : MayServe p s b) (on : b 
       }
 
   -- the bank's counts can rise after what it owns is transferred
-  module _ (q : Parts) (keepable : (age : ℕ) → AreKeepable p.geometry age (frames_of p) → AreKeepable p.geometry age (frames_of q)) (known : b < length q.headers) where
+  module _ (q : Parts) (keepable : (age : ℕ) → AreKeepable p.geometry age (frames_of p) → AreKeepable p.geometry age (frames_of q))
+      (known : b < length q.headers) where
     pub transferred_allocations : (header_at q.headers b).allocations < 2 ^ 64 - 1
     transferred_allocations =
         omega (arith, few_allocations p.geometry asks.sound.0 q (keepable asks.sound.0 asks.sound.1.keepable) b known, asks.sound.1.sound.age)

@@ -62,7 +62,8 @@ limit_shape (content.Annex registers) shape = omega arith
 limit_shape (content.Bank limit) shape = shape
 
 -- quota in a chain
-pub room_within : (os : List Object) (b count x : ℕ) → IsTrue (has_quota os b count) → is_member (chain os b) x ≡ true → usage os x + count ≤ limit_in (content_at os x)
+pub room_within : (os : List Object) (b count x : ℕ) → IsTrue (has_quota os b count) → is_member (chain os b) x ≡ true →
+    usage os x + count ≤ limit_in (content_at os x)
 unfolding has_quota
 room_within os b count x room member =
     leb-true (usage os x + count) (limit_in (content_at os x))

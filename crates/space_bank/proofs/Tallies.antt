@@ -20,7 +20,8 @@ marked_more before now next list i inside known is marks n =
     elim (cases_eq n m) [
       | inl e ↦
           let here : slice_index_or next n false ≡ true =
-          ap (λ (bs : List Bool). slice_index_or bs n false) is ∙ (ap (λ k. slice_index_or (slice_set now m true) k false) e ∙ get_or-set_same now m true false known) in
+          ap (λ (bs : List Bool). slice_index_or bs n false) is ∙
+          (ap (λ k. slice_index_or (slice_set now m true) k false) e ∙ get_or-set_same now m true false known) in
           here ∙ sym (rw (more, eq-eqb n m e) (either (is_member (take i list) n) (slice_index_or before n false)))
       | inr differ ↦
           let other : slice_index_or next n false ≡ slice_index_or now n false =

@@ -85,7 +85,8 @@ used_raised os t b n owner old new bank inside later used is raised so =
     let counted = used_by os b n inside adds (used_under os t b n bank later used) in
     more ∙ ap (λ (k : ℕ). k + cond (is_member (chain os (owner_at os n)) b) 1 0) so ∙ sym counted
 
-pub owner_of_used : (os : List Object) → IsTree os → (n owner : ℕ) → is_free (content_at os n) ≡ false → owner ≡ owner_at os n → IsTrue (is_bank (content_at os owner))
+pub owner_of_used : (os : List Object) → IsTree os → (n owner : ℕ) → is_free (content_at os n) ≡ false → owner ≡ owner_at os n →
+    IsTrue (is_bank (content_at os owner))
 owner_of_used os t n owner used is =
     subst (λ (m : ℕ). IsTrue (is_bank (content_at os m))) (sym is)
     (t.owners n (λ none. let wrong : false ≡ true = sym used ∙ none in cc))

@@ -75,7 +75,9 @@ is_deep os b (new.Bank limit) = not (nat_lt (length (chain os b)) 16)
 -- the outcome of an order that allocates: over a limit, no free number, too deep, or done
 abbrev pub allocated_by : List Object → Bool → Option BankChange → OrderOutcome
 allocated_by os deep None = refused os code.NoFrame
-allocated_by os deep (Some c) = if deep then refused os code.TooDeep else made (bank_changed os (numbers_of c) c) (numbers_of c) (given_by c)
+allocated_by os deep (Some c) = if deep then refused os code.TooDeep else made (bank_changed os (numbers_of c) c)
+    (numbers_of c) (given_by c)
 
 abbrev pub allocating : Geometry → List Object → ℕ → New → OrderOutcome
-allocating g os b n = if has_quota os b (count_of n) then allocated_by os (is_deep os b n) (made_for g os b n) else refused os code.Limit
+allocating g os b n = if has_quota os b (count_of n) then allocated_by os (is_deep os b n) (made_for g os b n) else
+    refused os code.Limit

@@ -39,7 +39,8 @@ pub record MayAsk (p : Parts) (s : BanksState) (b : ℕ) (args : Arguments) : Ty
 
 -- What lies beside the objects goes on as it was, counts of allocations rise where objects are given up, and what
 -- isn't free stays fetched and announced. The parameters are ghost members of a store of present frames.
-pub record KeepsObjects {S : Type 0} (parts : S → Parts) (Fetched Announced : S → ℕ → Type 0) (Continues : S → S → Type 0) (old new : S) : Type 0 where
+pub record KeepsObjects {S : Type 0} (parts : S → Parts) (Fetched Announced : S → ℕ → Type 0)
+    (Continues : S → S → Type 0) (old new : S) : Type 0 where
   pub count : length (parts new).headers ≡ length (parts old).headers
   pub renews : Renews (parts old) (parts new)
   pub touched : (parts new).touched ≡ (parts old).touched

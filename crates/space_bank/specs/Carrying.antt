@@ -24,7 +24,8 @@ pub record MayServe (p : Parts) (s : BanksState) (b : ℕ) : Type 0 where
 pub record CarriesOut (old new : Parts) (s : BanksState) : Type 0 where
   pub counted : AreCounted old.geometry (objects_in new) s
   pub current : AreCurrent (frames_of new)
-  pub keepable : (age : ℕ) → age + 1 < 2 ^ 64 → AreKeepable old.geometry age (frames_of old) → AreKeepable old.geometry (age + 1) (frames_of new)
+  pub keepable : (age : ℕ) → age + 1 < 2 ^ 64 → AreKeepable old.geometry age (frames_of old) →
+      AreKeepable old.geometry (age + 1) (frames_of new)
 
 -- a new object that is one frame and no bank
 abbrev pub IsAlone : Fresh → Type 0
@@ -52,7 +53,8 @@ pub record MayGiveUp (os : List Object) (above : ℕ) (list : List ℕ) : Type 0
 -- objects that a list names are a bank's, and the others as they were
 pub record AreTransferred (list : List ℕ) (b : ℕ) (old new : List Object) : Type 0 where
   pub size : length new ≡ length old
-  pub each : (n : ℕ) → object_at new n ≡ (if is_member list n then record { owner = b; content = content_at old n } else object_at old n)
+  pub each : (n : ℕ) → object_at new n ≡
+      (if is_member list n then record { owner = b; content = content_at old n } else object_at old n)
 
 -- a new object that is a page, a node, or a bank under a chain that isn't as long as it may be
 abbrev pub IsMadeUnder : List Object → ℕ → Fresh → Type 0
@@ -105,11 +107,14 @@ IsForBank g os list _ = ⊥
 
 -- An order is planned that writes the numbers of a list. Whatever else changes in words, slots and states before it is
 -- carried out, its outcome is the planned one, and the change may be made.
-pub record PlansAs (g : Geometry) (os : List Object) (b : ℕ) (order : BankOrder) (args : Arguments) (written : List ℕ) (plan : OrderPlan) : Type 0 where
+pub record PlansAs (g : Geometry) (os : List Object) (b : ℕ) (order : BankOrder) (args : Arguments) (written : List ℕ)
+    (plan : OrderPlan) : Type 0 where
   pub outcome : (us : List Object) → SameFrame os us → on_bank g us b order args ≡ outcome_by us written plan
   pub may : (us : List Object) → SameFrame os us → IsNow g us → IsForBank g us written plan.change
 
 -- a plan, and what is listed, behind the numbers that the invocation writes itself
-pub record IsPlanned (p : Parts) (b : ℕ) (order : BankOrder) (args : Arguments) (first : List ℕ) (plan : OrderPlan) (list : List ℕ) : Type 0 where
-  pub plans : PlansAs p.geometry (objects_in p) b order args (on_bank p.geometry (objects_in p) b order args).written plan
+pub record IsPlanned (p : Parts) (b : ℕ) (order : BankOrder) (args : Arguments) (first : List ℕ) (plan : OrderPlan)
+    (list : List ℕ) : Type 0 where
+  pub plans : PlansAs p.geometry (objects_in p) b order args (on_bank p.geometry (objects_in p) b order args).written
+      plan
   pub listed : list ≡ first ++ (on_bank p.geometry (objects_in p) b order args).written

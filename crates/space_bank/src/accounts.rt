@@ -9,12 +9,12 @@ ghost use Rattle.space_bank.specs.Chains.{IsRaised};
 
 use crate::banks::Banks;
 use crate::chains::{lower, raise};
-use capability::PresentFrames;
+use capability::Frames;
 
 impl Banks {
     /// Adds `count` to what each bank in the chain of `bank` accounts for, where none of their
     /// limits is passed.
-    pub(crate) fn account<F: PresentFrames>(&mut self, store: &F, bank: u64, count: u64)
+    pub(crate) fn account<F: Frames>(&mut self, store: &F, bank: u64, count: u64)
         requires asks { MayServe (F.parts store.now) self.old bank }
         requires room { IsTrue (has_quota (objects_in (F.parts store.now)) bank count) }
         ensures usages { IsRaised (chain (objects_in (F.parts store.now)) bank) count
@@ -25,7 +25,7 @@ impl Banks {
     }
 
     /// Subtracts `count` from what each bank in the chain of `bank` accounts for.
-    pub(crate) fn release<F: PresentFrames>(&mut self, store: &F, bank: u64, count: u64)
+    pub(crate) fn release<F: Frames>(&mut self, store: &F, bank: u64, count: u64)
         requires asks { MayServe (F.parts store.now) self.old bank }
         requires enough { (b : ℕ)
             → is_member (chain (objects_in (F.parts store.now)) bank) b ≡ true

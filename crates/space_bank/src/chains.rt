@@ -9,12 +9,12 @@ ghost use Rattle.capability.specs.Parts.{objects_in};
 ghost use Rattle.space_bank.specs.Chains.{IsRaised};
 
 use crate::walking::MAX_CHAIN;
-use capability::PresentFrames;
+use capability::Frames;
 
 /// Adds a count to the usage of each bank in a chain.
 ///
 /// Goes over at most 16 banks, in the table alone.
-pub(crate) fn raise<F: PresentFrames>(usages: &mut [u64], store: &F, bank: u64, count: u64)
+pub(crate) fn raise<F: Frames>(usages: &mut [u64], store: &F, bank: u64, count: u64)
     requires tree { IsTree (objects_in (F.parts store.now)) }
     requires bank { IsTrue (is_bank (content_at (objects_in (F.parts store.now)) bank)) }
     requires each { (b : ℕ)
@@ -39,7 +39,7 @@ pub(crate) fn raise<F: PresentFrames>(usages: &mut [u64], store: &F, bank: u64, 
 /// Subtracts a count from the usage of each bank in a chain.
 ///
 /// Goes over at most 16 banks, in the table alone.
-pub(crate) fn lower<F: PresentFrames>(usages: &mut [u64], store: &F, bank: u64, count: u64)
+pub(crate) fn lower<F: Frames>(usages: &mut [u64], store: &F, bank: u64, count: u64)
     requires tree { IsTree (objects_in (F.parts store.now)) }
     requires bank { IsTrue (is_bank (content_at (objects_in (F.parts store.now)) bank)) }
     requires each { (b : ℕ)

@@ -1,5 +1,5 @@
 // What there is, counted from the objects.
-ghost use Rattle.std.specs.Prelude.{◌≡◌, ◌↔◌, ℕ, ◌+◌, ◌<◌, ◌≤◌, ◌^◌, false, length, map, slice_index, IfOk, IsErrOf};
+ghost use Rattle.std.specs.Prelude.{◌≡◌, ◌↔◌, ℕ, ◌+◌, ◌<◌, ◌≤◌, ◌^◌, false, length, map, slice_index, IfOk, IsErr};
 ghost use Rattle.std.specs.Prelude.{IsTrue};
 ghost use Rattle.std.specs.List.{range_with_len};
 ghost use Rattle.model.specs.Bank.{usage as usage_of};
@@ -14,34 +14,26 @@ ghost use Rattle.space_bank.specs.Counting.{AreKept, AreMarked, kept_number};
 use crate::banks::Banks;
 use crate::chains::raise;
 use crate::walking::{is_free, owner};
-use capability::{PrepareFault, PresentFrames, objects, roots};
-use model::{Content, Role};
+use capability::{Frames, ReadFault, objects, roots};
+use device::Failed;
+use model::{ContentRef, Role};
 use number_set::NumberSet;
 use std::alloc::{AllocError, Global};
 
-// Whether a number is that of a bank.
-fn is_bank<F: PresentFrames>(store: &F, number: u64) -> bool
-    requires { HaveTheirRoles (frames_of (F.parts store.now)) }
-    ensures { result
-        ≡ counts_as_bank (content_at (objects_in (F.parts store.now)) number) }
-{
-    matches!(store.table().header(number).role, Role::Bank)
-}
-
 // The limit of a bank that is fetched, 0 where it is no bank.
-fn limit_there<F: PresentFrames>(store: &F, number: u64) -> u64
+fn limit_there<F: Frames>(store: &F, number: u64) -> u64
     requires { F.IsFetched store.now number }
     ensures { result
         ≡ limit_in (content_at (objects_in (F.parts store.now)) number) }
 {
     match store.frame(number) {
-        Content::Bank { limit } => *limit,
+        ContentRef::Bank { limit } => limit,
         _ => 0,
     }
 }
 
 // The number that is kept of an object with a role, which is fetched.
-fn number_there<F: PresentFrames>(store: &F, number: u64, role: Role) -> u64
+fn number_there<F: Frames>(store: &F, number: u64, role: Role) -> u64
     requires { F.IsFetched store.now number }
     ensures { result ≡ kept_number role (content_at (objects_in (F.parts store.now)) number) }
 {
@@ -52,54 +44,35 @@ fn number_there<F: PresentFrames>(store: &F, number: u64, role: Role) -> u64
     }
 }
 
-// Whether an object has a role for which a number is kept. If not, the number is 0.
-fn is_kept<F: PresentFrames>(store: &F, number: u64, role: Role) -> bool
-    requires { HaveTheirRoles (frames_of (F.parts store.now)) }
-    ensures { result ≡ false
-        → kept_number role (content_at (objects_in (F.parts store.now)) number) ≡ 0 }
-{
-    match role {
-        Role::Bank => is_bank(store, number),
-        Role::Root => roots::is_process(store, number),
-        _ => false,
-    }
-}
-
 // The number that is kept of an object with a role, which is fetched for it; 0 in another role.
-fn read_number<F: PresentFrames>(
-    alloc: Global,
-    store: &mut F,
-    number: u64,
-    role: Role,
-) -> Result<u64, PrepareFault>
+fn read_number<F: Frames>(store: &mut F, number: u64, role: Role) -> Result<u64, Failed>
     requires known { number < length (F.parts store.old).headers }
     requires keepable { AreKeepable (F.parts store.old).geometry u64.MAX
         (frames_of (F.parts store.old)) }
     ensures kept { IfOk result (λ kept. kept
         ≡ kept_number role (content_at (objects_in (F.parts store.old)) number)) }
-    ensures only_reads { OnlyReads F.parts F.ContinuesTo store.old store.new result }
+    ensures cause { IsErr result ↔ ((F.parts store.old).failures < (F.parts store.new).failures) }
+    ensures later { (F.parts store.old).failures ≤ (F.parts store.new).failures }
+    ensures snapshots { OnlyFetches F.parts F.ContinuesTo store.old store.new }
 {
-    if !is_kept(store, number, role) {
+    if store.table().header(number).role != role {
         return Ok(0);
     }
-    match objects::fetch(store, alloc, &[number]) {
-        Err(fault) => Err(fault),
-        Ok(()) => Ok(number_there(store, number, role)),
-    }
+    store.fetch(&[number])?;
+    Ok(number_there(store, number, role))
 }
 
 /// The numbers that are kept of the objects below a count, by number: the limits of banks, or the
 /// annexes of processes, and 0 in another role. Each object with the role is fetched, one at a time;
 /// nothing else is.
 ///
-/// `NoMemory` where memory ran out, `Failed` exactly where the device failed, and never `LogFull`,
-/// since nothing is announced. No object is another than before.
-pub fn read_numbers<F: PresentFrames>(
+/// `NoMemory` if memory ran out, and `Failed` exactly if the device failed. No object changes.
+pub fn read_numbers<F: Frames>(
     alloc: Global,
     store: &mut F,
     count: u64,
     role: Role,
-) -> Result<Vec<u64>, PrepareFault>
+) -> Result<Vec<u64>, ReadFault>
     requires known { count ≤ length (F.parts store.old).headers }
     requires keepable { AreKeepable (F.parts store.old).geometry u64.MAX
         (frames_of (F.parts store.old)) }
@@ -108,15 +81,9 @@ pub fn read_numbers<F: PresentFrames>(
         ≡ map (λ n. kept_number role (content_at objects n)) (range_with_len 0 count)) }
     ensures only_reads { OnlyReads F.parts F.ContinuesTo store.old store.new result }
 {
-    let mut kept = match Vec::with_capacity(alloc, count as usize) {
-        Ok(kept) => kept,
-        Err(_) => return Err(PrepareFault::NoMemory),
-    };
+    let mut kept = Vec::with_capacity(alloc, count as usize)?;
     for number in 0..count {
-        match read_number(alloc, store, number, role) {
-            Err(fault) => return Err(fault),
-            Ok(one) => kept.push_reserved(one),
-        }
+        kept.push_reserved(read_number(store, number, role)?);
     }
     Ok(kept)
 }
@@ -124,30 +91,25 @@ pub fn read_numbers<F: PresentFrames>(
 /// The limits of all banks below a count by number, 0 for what is no bank. Each bank is fetched,
 /// one at a time; nothing else is.
 ///
-/// `NoMemory` where memory ran out, `Failed` exactly where the device failed, and never `LogFull`,
-/// since nothing is announced. No object is another than before.
-pub fn read_limits<F: PresentFrames>(
+/// `NoMemory` if memory ran out, and `Failed` exactly if the device failed. No object changes.
+pub fn read_limits<F: Frames>(
     alloc: Global,
     store: &mut F,
     count: u64,
-) -> Result<Vec<u64>, PrepareFault>
+) -> Result<Vec<u64>, ReadFault>
     requires known { count ≤ length (F.parts store.old).headers }
     requires keepable { AreKeepable (F.parts store.old).geometry u64.MAX
         (frames_of (F.parts store.old)) }
     ensures limits { let objects = objects_in (F.parts store.old) in
         IfOk result (λ limits. limits.items
         ≡ map (λ n. limit_in (content_at objects n)) (range_with_len 0 count)) }
-    ensures room { IsErrOf result PrepareFault.LogFull → ⊥ }
-    ensures cause { IsErrOf result PrepareFault.Failed
-        ↔ ((F.parts store.old).failures < (F.parts store.new).failures) }
-    ensures later { (F.parts store.old).failures ≤ (F.parts store.new).failures }
-    ensures snapshots { OnlyFetches F.parts F.ContinuesTo store.old store.new }
+    ensures only_reads { OnlyReads F.parts F.ContinuesTo store.old store.new result }
 {
     read_numbers(alloc, store, count, Role::Bank)
 }
 
 // Which of `count` numbers from `first` on are free.
-fn free_numbers<F: PresentFrames>(
+fn free_numbers<F: Frames>(
     alloc: Global,
     store: &F,
     first: u64,
@@ -166,7 +128,7 @@ fn free_numbers<F: PresentFrames>(
 }
 
 // Adds up how many objects each bank accounts for, from nothing.
-fn add_usages<F: PresentFrames>(store: &F, usages: &mut [u64])
+fn add_usages<F: Frames>(store: &F, usages: &mut [u64])
     requires roles { HaveTheirRoles (frames_of (F.parts store.now)) }
     requires tree { IsTree (objects_in (F.parts store.now)) }
     requires each { (b : ℕ)
@@ -187,11 +149,7 @@ fn add_usages<F: PresentFrames>(store: &F, usages: &mut [u64])
 
 /// How many objects each bank accounts for, by number, from the table alone. The banks are a tree.
 /// Fails only where memory runs out.
-pub fn count_usages<F: PresentFrames>(
-    alloc: Global,
-    store: &F,
-    count: u64,
-) -> Result<Vec<u64>, AllocError>
+pub fn count_usages<F: Frames>(alloc: Global, store: &F, count: u64) -> Result<Vec<u64>, AllocError>
     requires roles { HaveTheirRoles (frames_of (F.parts store.now)) }
     requires tree { IsTree (objects_in (F.parts store.now)) }
     requires each { (b : ℕ)
@@ -208,58 +166,26 @@ pub fn count_usages<F: PresentFrames>(
     Ok(usages)
 }
 
-// The limits of banks and the annexes of processes, among the nodes.
-fn read_all<F: PresentFrames>(
-    alloc: Global,
-    store: &mut F,
-    nodes: u64,
-) -> Result<(Vec<u64>, Vec<u64>), PrepareFault>
-    requires known { nodes ≤ length (F.parts store.old).headers }
-    requires keepable { AreKeepable (F.parts store.old).geometry u64.MAX
-        (frames_of (F.parts store.old)) }
-    ensures kept { IfOk result (λ kept. AreKept (objects_in (F.parts store.old)) nodes
-        kept.0.items kept.1.items) }
-    ensures only_reads { OnlyReads F.parts F.ContinuesTo store.old store.new result }
-{
-    let limits = match read_numbers(alloc, store, nodes, Role::Bank) {
-        Ok(limits) => limits,
-        Err(fault) => return Err(fault),
-    };
-    match read_numbers(alloc, store, nodes, Role::Root) {
-        Ok(annexes) => Ok((limits, annexes)),
-        Err(fault) => Err(fault),
-    }
-}
-
 impl Banks {
     /// Counts what there is. Each bank is fetched for its limit and each process for its annex, one at a
     /// time; nothing else is.
     ///
-    /// Takes all the memory that any order will need; no other call takes any. `NoMemory` where
-    /// memory ran out, `Failed` exactly where the device failed, and never `LogFull`, since nothing
-    /// is announced. No object is another than before.
-    pub fn count<F: PresentFrames>(alloc: Global, store: &mut F) -> Result<Banks, PrepareFault>
+    /// Takes all the memory that any order will need; no other call takes any. `NoMemory` if memory
+    /// ran out, and `Failed` exactly if the device failed. No object changes.
+    pub fn count<F: Frames>(alloc: Global, store: &mut F) -> Result<Banks, ReadFault>
         requires sound { AreSound (F.parts store.old) }
         ensures counted { IfOk result (AreCounted (F.parts store.old).geometry
             (objects_in (F.parts store.old))) }
-        ensures room { IsErrOf result PrepareFault.LogFull → ⊥ }
-        ensures cause { IsErrOf result PrepareFault.Failed
-            ↔ ((F.parts store.old).failures < (F.parts store.new).failures) }
-        ensures later { (F.parts store.old).failures ≤ (F.parts store.new).failures }
-        ensures snapshots { OnlyFetches F.parts F.ContinuesTo store.old store.new }
+        ensures only_reads { OnlyReads F.parts F.ContinuesTo store.old store.new result }
     {
         let nodes = store.geometry().nodes;
-        match read_all(alloc, store, nodes) {
-            Err(fault) => Err(fault),
-            Ok((limits, annexes)) => match Banks::with_numbers(alloc, store, limits, annexes) {
-                Err(_) => Err(PrepareFault::NoMemory),
-                Ok(banks) => Ok(banks),
-            },
-        }
+        let limits = read_numbers(alloc, store, nodes, Role::Bank)?;
+        let annexes = read_numbers(alloc, store, nodes, Role::Root)?;
+        Ok(Banks::with_numbers(alloc, store, limits, annexes)?)
     }
 
     // Counts what there is beside the limits and the annexes.
-    fn with_numbers<F: PresentFrames>(
+    fn with_numbers<F: Frames>(
         alloc: Global,
         store: &F,
         limits: Vec<u64>,

@@ -11,12 +11,12 @@ ghost use Rattle.space_bank.specs.Planning.{AreFree, IsBankOf, writers};
 use crate::banks::Banks;
 use crate::marking::next_used;
 use crate::walking::{is_under, owner};
-use capability::{Caller, PresentFrames};
+use capability::{Caller, Frames};
 use model::Operation;
 use number_set::NumberSet;
 
 // Lists a bank and all that is under it, by number. Goes over the numbers that aren't free.
-fn list_under<F: PresentFrames>(
+fn list_under<F: Frames>(
     store: &F,
     nodes: &NumberSet,
     pages: &NumberSet,
@@ -45,7 +45,7 @@ fn list_under<F: PresentFrames>(
 
 // Lists what a bank itself owns, by number. Number 0 isn't among it. Goes over the numbers that
 // aren't free.
-fn list_owned<F: PresentFrames>(
+fn list_owned<F: Frames>(
     store: &F,
     nodes: &NumberSet,
     pages: &NumberSet,
@@ -101,7 +101,7 @@ impl Banks {
     }
 
     // Lists a bank and all that is under it behind those that are listed.
-    pub(crate) fn list_under<F: PresentFrames>(&mut self, store: &F, bank: u64)
+    pub(crate) fn list_under<F: Frames>(&mut self, store: &F, bank: u64)
         requires bank { IsBankOf (F.parts store.now) self.old bank }
         requires room { length self.old.listed + length (F.parts store.now).headers
             ≤ self.old.room }
@@ -112,7 +112,7 @@ impl Banks {
     }
 
     // Lists what a bank itself owns behind those that are listed.
-    pub(crate) fn list_owned<F: PresentFrames>(&mut self, store: &F, bank: u64)
+    pub(crate) fn list_owned<F: Frames>(&mut self, store: &F, bank: u64)
         requires bank { IsBankOf (F.parts store.now) self.old bank }
         requires other { bank ≢ 0 }
         requires room { length self.old.listed + length (F.parts store.now).headers

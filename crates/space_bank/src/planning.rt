@@ -15,7 +15,7 @@ ghost use Rattle.space_bank.specs.Planning.{IsBankOf, annex_among, annex_of};
 use crate::banks::Banks;
 use crate::planning_new::New;
 use crate::walking::owner;
-use capability::{BankChange, Change, OrderPlan, PresentFrames};
+use capability::{BankChange, Change, Frames, OrderPlan};
 use model::{Access, Arguments, BankOrder, Capability, ResultCode};
 
 // The object that a capability frees, the root of a process: none where it frees nothing.
@@ -42,7 +42,7 @@ impl Banks {
     /// Changes nothing else and takes no memory. A new object is planned at the least number that
     /// is free. If more than one code applies, the plan has the least.
     #[tactic(auto, using(crate::proofs::Plans::bank_requested))]
-    pub fn plan<F: PresentFrames>(
+    pub fn plan<F: Frames>(
         &mut self,
         store: &F,
         bank: u64,
@@ -72,7 +72,7 @@ impl Banks {
 
     /// How many more objects a bank may account for, by its own limit and all above it; how many it
     /// accounts for; and its own limit.
-    pub fn remaining<F: PresentFrames>(&self, store: &F, bank: u64) -> [u64; 3]
+    pub fn remaining<F: Frames>(&self, store: &F, bank: u64) -> [u64; 3]
         requires { IsBankOf (F.parts store.now) self.now bank }
         ensures { let objects = objects_in (F.parts store.now) in result
             ≡ left_in_chain objects bank ∷ usage_of objects bank
@@ -87,12 +87,7 @@ impl Banks {
     }
 
     // What a capability frees, where the bank owns it.
-    fn plan_free<F: PresentFrames>(
-        &mut self,
-        store: &F,
-        bank: u64,
-        capability: Capability,
-    ) -> OrderPlan
+    fn plan_free<F: Frames>(&mut self, store: &F, bank: u64, capability: Capability) -> OrderPlan
         requires bank { IsBankOf (F.parts store.now) self.old bank }
         requires few { length self.old.listed ≤ 2 }
         requires sent { MayBeHeld (objects_in (F.parts store.now)) capability }
@@ -128,7 +123,7 @@ impl Banks {
     }
 
     // A bank and all that is under it are destroyed.
-    fn plan_destroy<F: PresentFrames>(&mut self, store: &F, bank: u64) -> OrderPlan
+    fn plan_destroy<F: Frames>(&mut self, store: &F, bank: u64) -> OrderPlan
         requires bank { IsBankOf (F.parts store.now) self.old bank }
         requires few { length self.old.listed ≤ 2 }
         ensures planned { (args : Arguments) → IsPlanned (F.parts store.now) bank
@@ -144,7 +139,7 @@ impl Banks {
     }
 
     // A bank is destroyed, and what it owns goes to its own owner.
-    fn plan_return<F: PresentFrames>(&mut self, store: &F, bank: u64) -> OrderPlan
+    fn plan_return<F: Frames>(&mut self, store: &F, bank: u64) -> OrderPlan
         requires bank { IsBankOf (F.parts store.now) self.old bank }
         requires few { length self.old.listed ≤ 2 }
         ensures planned { (args : Arguments) → IsPlanned (F.parts store.now) bank

@@ -15,7 +15,7 @@ ghost use Rattle.space_bank.specs.Planning.{IsBankOf};
 
 use crate::banks::Banks;
 use crate::walking::{MAX_CHAIN, chain_length};
-use capability::{BankChange, Change, Fresh, OrderPlan, PresentFrames};
+use capability::{BankChange, Change, Frames, Fresh, OrderPlan};
 use model::{Access, Capability, ResultCode};
 use number_set::NumberSet;
 
@@ -102,7 +102,7 @@ fn given_for(number: u64, fresh: Fresh) -> Capability
 }
 
 // Whether a new object is a bank, under a chain that is as long as it may be.
-fn is_deep<F: PresentFrames>(store: &F, bank: u64, new: New) -> bool
+fn is_deep<F: Frames>(store: &F, bank: u64, new: New) -> bool
     ensures { result ≡ is_deep (objects_in (F.parts store.now)) bank new }
 {
     match new {
@@ -113,7 +113,7 @@ fn is_deep<F: PresentFrames>(store: &F, bank: u64, new: New) -> bool
 
 impl Banks {
     // What is made of the least free numbers, if enough are free.
-    fn next_free<F: PresentFrames>(&self, store: &F, bank: u64, new: New) -> Option<BankChange>
+    fn next_free<F: Frames>(&self, store: &F, bank: u64, new: New) -> Option<BankChange>
         requires { IsBankOf (F.parts store.now) self.now bank }
         ensures made { result ≡ made_for (F.parts store.now).geometry
             (objects_in (F.parts store.now)) bank new }
@@ -145,7 +145,7 @@ impl Banks {
 
     // A new object, at the least free number of its kind. A process takes two, its root and its
     // annex, and a bank a chain that isn't as long as it may be.
-    pub(crate) fn plan_new<F: PresentFrames>(&mut self, store: &F, bank: u64, new: New) -> OrderPlan
+    pub(crate) fn plan_new<F: Frames>(&mut self, store: &F, bank: u64, new: New) -> OrderPlan
         requires bank { IsBankOf (F.parts store.now) self.old bank }
         requires few { length self.old.listed ≤ 2 }
         ensures planned { (order : BankOrder) (args : Arguments) → new_of order args ≡ Some new

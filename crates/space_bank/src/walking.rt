@@ -9,21 +9,21 @@ ghost use Rattle.capability.specs.Parts.{HaveTheirRoles, frames_of, objects_in};
 ghost use Rattle.space_bank.specs.Planning.{IsBankOf};
 
 use crate::banks::Banks;
-use capability::PresentFrames;
+use capability::Frames;
 use model::Role;
 
 /// How many banks a chain has at most.
 pub(crate) const MAX_CHAIN: usize = 16;
 
 // The owner of what stands at a number.
-pub(crate) fn owner<F: PresentFrames>(store: &F, number: u64) -> u64
+pub(crate) fn owner<F: Frames>(store: &F, number: u64) -> u64
     ensures { result ≡ owner_at (objects_in (F.parts store.now)) number }
 {
     store.table().header(number).owner
 }
 
 // Whether a number is free. What is no number is.
-pub(crate) fn is_free<F: PresentFrames>(store: &F, number: u64) -> bool
+pub(crate) fn is_free<F: Frames>(store: &F, number: u64) -> bool
     requires { HaveTheirRoles (frames_of (F.parts store.now)) }
     ensures { result
         ≡ counts_as_free (content_at (objects_in (F.parts store.now)) number) }
@@ -33,7 +33,7 @@ pub(crate) fn is_free<F: PresentFrames>(store: &F, number: u64) -> bool
 
 /// Whether a bank is in the chain that begins with another, which has at most 16 banks (KeyKOS,
 /// EROS: banks form a tree). Goes from owner to owner in the table alone.
-pub fn is_in_chain<F: PresentFrames>(store: &F, first: u64, bank: u64) -> bool
+pub fn is_in_chain<F: Frames>(store: &F, first: u64, bank: u64) -> bool
     ensures { result
         ≡ list_any (nat_eq bank) (chain (objects_in (F.parts store.now)) first) }
 {
@@ -51,7 +51,7 @@ pub fn is_in_chain<F: PresentFrames>(store: &F, first: u64, bank: u64) -> bool
 }
 
 // Whether the chain of what stands at a number passes through a bank.
-pub(crate) fn is_under<F: PresentFrames>(store: &F, bank: u64, number: u64) -> bool
+pub(crate) fn is_under<F: Frames>(store: &F, bank: u64, number: u64) -> bool
     requires { HaveTheirRoles (frames_of (F.parts store.now)) }
     ensures { let objects = objects_in (F.parts store.now) in
         result ≡ lies_under objects bank (object_at objects number) }
@@ -60,7 +60,7 @@ pub(crate) fn is_under<F: PresentFrames>(store: &F, bank: u64, number: u64) -> b
 }
 
 // How many banks the chain of a bank has.
-pub(crate) fn chain_length<F: PresentFrames>(store: &F, bank: u64) -> usize
+pub(crate) fn chain_length<F: Frames>(store: &F, bank: u64) -> usize
     ensures { result ≡ length (chain (objects_in (F.parts store.now)) bank) }
 {
     let mut current = bank;
@@ -85,7 +85,7 @@ impl Banks {
     }
 
     // Whether `count` more objects of a bank pass the limit of no bank in its chain.
-    pub(crate) fn has_quota<F: PresentFrames>(&self, store: &F, bank: u64, count: u64) -> bool
+    pub(crate) fn has_quota<F: Frames>(&self, store: &F, bank: u64, count: u64) -> bool
         requires { IsBankOf (F.parts store.now) self.now bank }
         ensures { result ≡ is_room (objects_in (F.parts store.now)) bank count }
     {
@@ -103,7 +103,7 @@ impl Banks {
     }
 
     // How many more objects of a bank pass the limit of no bank in its chain.
-    pub(crate) fn least_left<F: PresentFrames>(&self, store: &F, bank: u64) -> u64
+    pub(crate) fn least_left<F: Frames>(&self, store: &F, bank: u64) -> u64
         requires { IsBankOf (F.parts store.now) self.now bank }
         ensures { result ≡ remaining (objects_in (F.parts store.now)) bank }
     {

@@ -66,7 +66,8 @@ pub record OpensSession (bytes : List ℕ) (cache : ℕ) (s : Session) : Type 0 
 
 -- a text was run as a script, over the same kind of kernel
 abbrev pub RunsKernel : HostKernel → HostKernel → List ℕ → List ℕ → List ℕ → Result (Unit {0}) RunFault → Type 0
-RunsKernel (store.Plain old) (store.Plain new) = RunsText (objects.view_of host_disk) (objects.parts_of host_disk) old new
+RunsKernel (store.Plain old) (store.Plain new) = RunsText (objects.view_of host_disk) (objects.parts_of host_disk) old
+    new
 RunsKernel (store.Bounded old) (store.Bounded new) =
     RunsText (objects.view_of host_disk) (objects.parts_of host_disk) old new
 RunsKernel (store.Plain old) (store.Bounded new) = λ text before after result. ⊥

@@ -112,8 +112,8 @@ impl Pending {
         }
     }
 
-    /// Notes that the host has taken all calls, so the next `add` may drop them. Returns nothing. The mark is in a cell, which
-    /// no contract sees: what `add` ensures holds with it and without it.
+    /// Notes that the host has taken all calls, so the next `add` may drop them. Returns nothing. The mark is
+    /// in a cell, which no contract sees: what `add` ensures holds with it and without it.
     pub fn note_taken(&self) {
         self.taken.set(self.count);
     }

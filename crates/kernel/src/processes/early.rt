@@ -4,19 +4,13 @@ ghost use Rattle.model.specs.Keepable.{IsSoundFrames};
 ghost use Rattle.capability.specs.Parts.{OnlyFetches, frames_of, objects_in};
 ghost use Rattle.kernel.specs.Machine.{IsEarly, NeedsNoLook};
 
-use capability::{PrepareFault, PresentFrames, objects, roots};
+use capability::{Frames, roots};
 use device::Failed;
 use model::Refusal;
-use std::alloc::Global;
 
-/// The refusal of a command because its process doesn't run, or `None`. `NoProcess` needs no memory
-/// and leaves the store untouched. Fails exactly where the device does.
-pub fn early<F: PresentFrames>(
-    alloc: Global,
-    store: &mut F,
-    age: u64,
-    process: u64,
-) -> Result<Option<Refusal>, Failed>
+/// The refusal of a command because its process doesn't run, or `None`. `NoProcess` leaves the store
+/// untouched. Fails exactly if the device fails.
+pub fn early<F: Frames>(store: &mut F, age: u64, process: u64) -> Result<Option<Refusal>, Failed>
     requires sound { IsSoundFrames (F.parts store.old).geometry age
         (frames_of (F.parts store.old)) }
     ensures why { IfOk result (λ why. IsEarly (objects_in (F.parts store.old)) process why) }
@@ -29,12 +23,7 @@ pub fn early<F: PresentFrames>(
     if !roots::is_process(store, process) {
         return Ok(Some(Refusal::NoProcess));
     }
-    match objects::fetch(store, alloc, &[process]) {
-        Ok(()) => {}
-        Err(PrepareFault::Failed) => return Err(Failed),
-        Err(PrepareFault::NoMemory) => return Ok(Some(Refusal::NoMemory)),
-        Err(PrepareFault::LogFull) => unreachable!(),
-    }
+    store.fetch(&[process])?;
     if roots::is_running(store, process) {
         return Ok(None);
     }

@@ -11,12 +11,11 @@ ghost use Rattle.kernel.specs.Machine.{IsOfEarly, IsUnlooked, NeedsNoLook, Perfo
 use crate::processes::age::is_worn;
 use crate::processes::early::early;
 use crate::processes::unserved::Unserved;
-use capability::{PresentFrames, roots};
+use capability::{Frames, PresentFrames, roots};
 use device::Failed;
 use gate::InvokeFault;
 use model::{Invocation, Refusal, ResultCode};
 use space_bank::Banks;
-use std::alloc::Global;
 
 // A refusal of `early`, as that of an invocation.
 fn early_refusal(refusal: Refusal) -> Unserved
@@ -26,19 +25,13 @@ fn early_refusal(refusal: Refusal) -> Unserved
     match refusal {
         Refusal::NoProcess => Unserved::NoProcess,
         Refusal::NotRunning => Unserved::Fault(InvokeFault::NotRunning),
-        Refusal::NoMemory => Unserved::Fault(InvokeFault::NoMemory),
         _ => unreachable!(),
     }
 }
 
 // Refuses an invocation at the greatest age: by `Worn`, if the process runs.
 #[inline(never)]
-fn refuse_worn<F: PresentFrames>(
-    alloc: Global,
-    store: &mut F,
-    age: u64,
-    invocation: &Invocation,
-) -> Unserved
+fn refuse_worn<F: Frames>(store: &mut F, age: u64, invocation: &Invocation) -> Unserved
     requires sound { IsSoundFrames (F.parts store.old).geometry age
         (frames_of (F.parts store.old)) }
     requires worn { 2 ^ 62 ≤ age }
@@ -47,7 +40,7 @@ fn refuse_worn<F: PresentFrames>(
     ensures untouched { NeedsNoLook (refusal_of result) → store.new ≡ store.old }
     ensures snapshots { OnlyFetches F.parts F.ContinuesTo store.old store.new }
 {
-    match early(alloc, store, age, invocation.process) {
+    match early(store, age, invocation.process) {
         Ok(why) => match why {
             Some(refusal) => early_refusal(refusal),
             None => Unserved::Worn,
@@ -60,12 +53,11 @@ fn refuse_worn<F: PresentFrames>(
 /// result code of the order, or none through a gate.
 ///
 /// A refusal changes nothing: the first that applies of `NoProcess`, `NotRunning`, `Worn` at the
-/// greatest age, `Stalled` and `LogFull`, or `NoMemory` if memory ran out. `NoProcess` leaves the
-/// store untouched. `banks` keeps the usages of the banks as they are afterwards.
+/// greatest age, `Stalled` and `LogFull`. `NoProcess` leaves the store untouched. `banks` keeps the
+/// usages of the banks as they are afterwards.
 ///
 /// `Failed`: the device failed, and nothing has changed.
 pub fn invoke<F: PresentFrames>(
-    alloc: Global,
     store: &mut F,
     banks: &mut Banks,
     age: &mut u64,
@@ -78,19 +70,20 @@ pub fn invoke<F: PresentFrames>(
     ensures serves { Performs age.old (F.parts store.old) (command.Invoke invocation.now)
         (answer_with result) age.new (F.parts store.new) }
     ensures untouched { IsUnlooked (answer_with result) → store.new ≡ store.old }
-    ensures code { IfOk result (λ code. code ≡ code_with (F.parts store.old).geometry (objects_in (F.parts store.old)) invocation.now Done) }
+    ensures code { IfOk result
+        (λ code. code ≡ code_with (F.parts store.old).geometry (objects_in (F.parts store.old)) invocation.now Done) }
     ensures later { age.old ≤ age.new }
     ensures counted { AreCounted (F.parts store.new).geometry
         (objects_in (F.parts store.new)) banks.new }
     ensures continues { F.ContinuesTo store.old store.new }
 {
     if is_worn(*age) {
-        return Err(refuse_worn(alloc, store, *age, invocation));
+        return Err(refuse_worn(store, *age, invocation));
     }
     if !roots::is_process(store, invocation.process) {
         return Err(Unserved::NoProcess);
     }
-    match gate::invoke(alloc, store, banks, invocation) {
+    match gate::invoke(store, banks, invocation) {
         Ok(code) => {
             *age += 1;
             Ok(code)

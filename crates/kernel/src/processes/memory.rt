@@ -5,34 +5,18 @@ ghost use Rattle.model.specs.Keepable.{IsSoundFrames};
 ghost use Rattle.capability.specs.Parts.{OnlyFetches, frames_of, objects_in};
 ghost use Rattle.space_bank.specs.Banks.{AreCounted, BanksState};
 ghost use Rattle.kernel.specs.Machine.{IsReportedOnce, IsUnlooked, Performs, answer_of};
-ghost use Rattle.kernel.specs.Prepared.{refused_by};
 
 use crate::processes::early::early;
-use capability::{PrepareFault, PresentFrames};
+use capability::{Frames, PrepareFault, PresentFrames};
 use device::Failed;
 use model::{Answer, Refusal};
-use std::alloc::Global;
-
-/// What is answered where objects weren't prepared.
-pub(crate) fn refused(fault: PrepareFault) -> Result<Answer, Failed>
-    ensures answer { answer_of result ≡ Answer.Refused (refused_by fault) }
-    ensures only_reads { IsUnlooked (answer_of result) → ⊥ }
-    ensures reported_once { IsReportedOnce result }
-{
-    match fault {
-        PrepareFault::NoMemory => Ok(Answer::Refused(Refusal::NoMemory)),
-        PrepareFault::LogFull => Ok(Answer::Refused(Refusal::LogFull)),
-        PrepareFault::Failed => Err(Failed),
-    }
-}
 
 /// Reads the word at an address in the address space of a process, at an age, which stays.
 ///
 /// The answer is `Value`, or `MemoryFault` where the walk stops. It is refused by the first that
-/// applies of `NoProcess` and `NotRunning`; or by `NoMemory` where memory ran out. It fails exactly
-/// where the device does. Nothing is changed, and at `NoProcess` the store isn't touched.
-pub fn load<F: PresentFrames>(
-    alloc: Global,
+/// applies of `NoProcess` and `NotRunning`. It fails exactly if the device fails. Nothing is changed,
+/// and at `NoProcess` the store isn't touched.
+pub fn load<F: Frames>(
     store: &mut F,
     age: u64,
     process: u64,
@@ -44,15 +28,13 @@ pub fn load<F: PresentFrames>(
     ensures untouched { IsUnlooked (answer_of result) → store.new ≡ store.old }
     ensures reported_once { IsReportedOnce result }
     ensures snapshots { OnlyFetches F.parts F.ContinuesTo store.old store.new }
-    ensures continues { F.ContinuesTo store.old store.new }
 {
-    if let Some(refusal) = early(alloc, store, age, process)? {
+    if let Some(refusal) = early(store, age, process)? {
         return Ok(Answer::Refused(refusal));
     }
-    match address_space::load(alloc, store, process, address) {
-        Ok(Ok(word)) => Ok(Answer::Value(word)),
-        Ok(Err(fault)) => Ok(Answer::MemoryFault(fault)),
-        Err(fault) => refused(fault),
+    match address_space::load(store, process, address)? {
+        Ok(word) => Ok(Answer::Value(word)),
+        Err(fault) => Ok(Answer::MemoryFault(fault)),
     }
 }
 
@@ -60,10 +42,9 @@ pub fn load<F: PresentFrames>(
 ///
 /// The answer is `Done`, or `MemoryFault` where the walk stops or the page is read-only, also where
 /// the log is full. It is refused, and changes nothing, by the first that applies of `NoProcess`,
-/// `NotRunning` and `LogFull`; or by `NoMemory` where memory ran out. It fails exactly where the
-/// device does. At `NoProcess` the store isn't touched. What is counted of banks stays what there is.
+/// `NotRunning` and `LogFull`. It fails exactly if the device fails. At `NoProcess` the store isn't
+/// touched. What is counted of banks stays what there is.
 pub fn store<F: PresentFrames>(
-    alloc: Global,
     store: &mut F,
     age: u64,
     process: u64,
@@ -81,12 +62,13 @@ pub fn store<F: PresentFrames>(
         (objects_in (F.parts store.new)) banks }
     ensures continues { F.ContinuesTo store.old store.new }
 {
-    if let Some(refusal) = early(alloc, store, age, process)? {
+    if let Some(refusal) = early(store, age, process)? {
         return Ok(Answer::Refused(refusal));
     }
-    match address_space::store(alloc, store, process, address, word) {
+    match address_space::store(store, process, address, word) {
         Ok(Ok(())) => Ok(Answer::Done),
         Ok(Err(fault)) => Ok(Answer::MemoryFault(fault)),
-        Err(fault) => refused(fault),
+        Err(PrepareFault::LogFull) => Ok(Answer::Refused(Refusal::LogFull)),
+        Err(PrepareFault::Failed) => Err(Failed),
     }
 }

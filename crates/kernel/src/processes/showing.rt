@@ -9,8 +9,7 @@ ghost use Rattle.capability.specs.Parts.{OnlyReads, OnlyFetches, frames_of, obje
 ghost use Rattle.space_bank.specs.Banks.{AreCounted};
 ghost use Rattle.kernel.specs.Machine.{IsReportedOnce, IsUnlooked, Performs, answer_of};
 
-use crate::processes::memory::refused;
-use capability::{PrepareFault, PresentFrames, objects, view};
+use capability::{Frames, ReadFault, view};
 use device::Failed;
 use model::{Answer, Capability, Content, Description, Refusal, Shown, Slots};
 use space_bank::Banks;
@@ -27,34 +26,32 @@ fn used_by(banks: &Banks, content: &Content<Capability>, number: u64) -> u64
 }
 
 // The registers of a process, by its annex.
-fn registers_of<F: PresentFrames>(
+fn registers_of<F: Frames>(
     alloc: Global,
     store: &mut F,
     annex: u64,
-) -> Result<Slots<Capability>, PrepareFault>
+) -> Result<Slots<Capability>, ReadFault>
     requires keepable { AreKeepable (F.parts store.old).geometry u64.MAX
         (frames_of (F.parts store.old)) }
     requires annex { IsTrue (is_annex
         (content_at (objects_in (F.parts store.old)) annex)) }
-    ensures registers { IfOk result (λ registers. registers ≡ slots_in (content_at (objects_in (F.parts store.old)) annex)) }
+    ensures registers { IfOk result
+        (λ registers. registers ≡ slots_in (content_at (objects_in (F.parts store.old)) annex)) }
     ensures only_reads { OnlyReads F.parts F.ContinuesTo store.old store.new result }
 {
-    objects::fetch(store, alloc, &[annex])?;
-    match view::registers(alloc, store, annex) {
-        Ok(registers) => Ok(registers),
-        Err(_) => Err(PrepareFault::NoMemory),
-    }
+    store.fetch(&[annex])?;
+    Ok(view::registers(alloc, store, annex)?)
 }
 
 // An object with what is shown beside it: the registers of a process, the usage of a bank. Stale
 // capabilities are void.
-fn shown<F: PresentFrames>(
+fn shown<F: Frames>(
     alloc: Global,
     store: &mut F,
     banks: &Banks,
     age: u64,
     number: u64,
-) -> Result<Answer, PrepareFault>
+) -> Result<Answer, ReadFault>
     requires sound { IsSoundFrames (F.parts store.old).geometry age
         (frames_of (F.parts store.old)) }
     requires counted { AreCounted (F.parts store.old).geometry
@@ -63,10 +60,8 @@ fn shown<F: PresentFrames>(
     ensures answer { IfOk result (λ answer. answer ≡ shown (objects_in (F.parts store.old)) number) }
     ensures only_reads { OnlyReads F.parts F.ContinuesTo store.old store.new result }
 {
-    objects::fetch(store, alloc, &[number])?;
-    let Ok(object) = view::object(alloc, store, number) else {
-        return Err(PrepareFault::NoMemory);
-    };
+    store.fetch(&[number])?;
+    let object = view::object(alloc, store, number)?;
     let used = used_by(banks, &object.content, number);
     let registers = match &object.content {
         Content::Root(root) => Some(registers_of(alloc, store, root.annex)?),
@@ -78,17 +73,14 @@ fn shown<F: PresentFrames>(
         registers,
         used,
     };
-    match Shown::new(alloc, description) {
-        Ok(shown) => Ok(Answer::Shown(shown)),
-        Err(_) => Err(PrepareFault::NoMemory),
-    }
+    Ok(Answer::Shown(Shown::new(alloc, description)?))
 }
 
 /// Shows the object with a number.
 ///
-/// It is refused by `BadNumber` where no object has the number, and the store isn't touched then; and by `NoMemory` where memory ran
-/// out. It fails exactly where the device does.
-pub fn show<F: PresentFrames>(
+/// It is refused by `BadNumber` if no object has the number, and the store isn't touched then; and by
+/// `NoMemory` if memory ran out. It fails exactly if the device fails.
+pub fn show<F: Frames>(
     alloc: Global,
     store: &mut F,
     banks: &Banks,
@@ -110,6 +102,7 @@ pub fn show<F: PresentFrames>(
     }
     match shown(alloc, store, banks, age, number) {
         Ok(answer) => Ok(answer),
-        Err(fault) => refused(fault),
+        Err(ReadFault::NoMemory) => Ok(Answer::Refused(Refusal::NoMemory)),
+        Err(ReadFault::Failed) => Err(Failed),
     }
 }

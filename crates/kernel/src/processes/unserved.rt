@@ -21,7 +21,6 @@ fn refusal_by(fault: InvokeFault) -> Refusal
         InvokeFault::NotRunning => Refusal::NotRunning,
         InvokeFault::Stalled => Refusal::Stalled,
         InvokeFault::LogFull => Refusal::LogFull,
-        InvokeFault::NoMemory => Refusal::NoMemory,
         InvokeFault::Failed => Refusal::Fault,
     }
 }

@@ -127,8 +127,8 @@ impl Books {
         self.adopt(device, header, spare)
     }
 
-    /// Saves a page with other words, under its saved header, where no checkpoint is on its way and all that is saved is
-    /// home.
+    /// Saves a page with other words, under its saved header, where no checkpoint is on its way and all that
+    /// is saved is home.
     pub(crate) fn save_page<D: Device>(
         &mut self,
         device: &mut D,

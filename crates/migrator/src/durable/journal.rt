@@ -10,7 +10,7 @@ ghost use Rattle.migrator.specs.Durable.{stored_of, is_sound, left_of, MayJourna
 
 use crate::durable::Durable;
 use device::{Device, Failed};
-use model::{ObjectHeader, Refusal, Words};
+use model::{ObjectHeader, Refusal, WORDS, Words};
 
 impl<D: Device> Durable<D> {
     /// The header of the saved frame of an object, where all that is saved is home. One sector is
@@ -35,7 +35,7 @@ impl<D: Device> Durable<D> {
         &mut self,
         number: u64,
         header: ObjectHeader,
-        words: &Words,
+        words: &[u64; WORDS],
         age: u64,
     ) -> Result<u64, Failed>
         requires free { (stored_of D.disk self.old).frozen ≡ None }
@@ -57,14 +57,8 @@ impl<D: Device> Durable<D> {
         ensures cause { Counts (D.disk self.old.beneath) (D.disk self.new.beneath) result }
     {
         let (books, device) = (&mut self.books, &mut self.device);
-        let Ok(()) = books.save_page(
-            device,
-            &mut self.spare,
-            number,
-            header,
-            words.as_slice(),
-            age,
-        ) else {
+        let Ok(()) = books.save_page(device, &mut self.spare, number, header, &words[..], age)
+        else {
             return Err(Failed);
         };
         Ok(self.books.header.generation)

@@ -2,7 +2,7 @@
 ghost use Rattle.std.specs.Prelude.{◌≡◌, ◌+◌, ◌≤◌, [], length, replicate, take, vec_capacity, IfOk, IfErr, OnOk};
 ghost use Rattle.device.specs.Calls.{Only};
 ghost use Rattle.layout.specs.Image.{HasPlan};
-ghost use Rattle.layout.specs.Spelt.{frames_read};
+ghost use Rattle.layout.specs.Spelt.{count_of, frames_read};
 ghost use Rattle.layout.specs.Superblock.{Plan};
 ghost use Rattle.frame_io.specs.Calls.{ReadsOnly};
 ghost use Rattle.migrator.specs.Durable.{stored_of};
@@ -110,7 +110,8 @@ impl Reserve {
 impl<I: Intake> Sink<I> {
     fn new(alloc: Global, geometry: Geometry) -> Result<Sink<I>, AllocError>
         requires { geometry.nodes + geometry.pages ≤ 8192 }
-        ensures { IfOk result (λ sink. I.Took sink.taken []) }
+        ensures none { IfOk result (λ sink. I.Took sink.taken []) }
+        ensures room { IfOk result (λ sink. geometry.nodes + geometry.pages ≤ I.room sink.taken) }
     {
         Ok(Sink {
             taken: I::new(alloc, geometry)?,
@@ -131,6 +132,7 @@ fn read_into<D: Device, I: Intake>(
     requires plan { HasPlan (D.disk device.old).seen (D.disk device.old).sectors plan }
     requires reserved { IsReserve plan reserve }
     requires none { I.Took taken [] }
+    requires room { count_of plan ≤ I.room taken }
     ensures plan { IfOk result (λ parts. parts.plan ≡ plan) }
     ensures read { IfOk result (λ parts. IsRead (D.disk device.old).seen plan
         parts.header parts.reserve.directories.saved.items) }

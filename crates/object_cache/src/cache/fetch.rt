@@ -1,64 +1,70 @@
 // Objects are brought into memory.
-ghost use Rattle.std.specs.Prelude.{◌≡◌, ◌↔◌, ℕ, ◌<◌, ◌≤◌, None, length, OnOk, OnErr, IsErrOf};
+ghost use Rattle.std.specs.Prelude.{◌≡◌, ℕ, ◌<◌, ◌≤◌, None, false, true, length, OnOk, OnErr};
 ghost use Rattle.std.specs.List.{All, Contains};
-ghost use Rattle.model.specs.Frame.{held_at};
+ghost use Rattle.device.specs.Calls.{Counts};
 ghost use Rattle.model.specs.Keepable.{AreKeepable};
+ghost use Rattle.model.specs.Machine.{touched_count};
+ghost use Rattle.migrator.specs.Durable.{stored_of};
+ghost use Rattle.cache_entries.specs.Entries.{entry_at};
+ghost use Rattle.cache_entries.specs.Order.{used_in_turn, with_new};
+ghost use Rattle.layout.specs.Frame.{content_of};
+ghost use Rattle.object_cache.specs.Memory.{masked};
 ghost use Rattle.capability.specs.Parts.{frames_of};
 ghost use Rattle.checkpoint.specs.Saved.{most};
 ghost use Rattle.object_cache.specs.StoreState.{GoesOnIn, IsFetchedIn, parts_of, cached_at, with_cached};
 ghost use Rattle.object_cache.specs.Prepared.{IsRecentIn, on_device_with};
 
 use crate::cache::Cache;
-use capability::{MAX_FETCHED, PrepareFault};
-use device::Device;
-use model::{Cap, Content};
-use std::alloc::Global;
+use crate::frozen::mask;
+use cache_entries::Entries;
+use capability::MAX_FETCHED;
+use device::{Device, Failed};
+use layout::{Body, Scratch};
+use model::Role;
+
+// Makes what was read of an object an entry, or nothing where the object is free.
+fn insert_read(entries: &mut Entries, number: u64, role: Role, body: &Body, scratch: &Scratch)
+    requires known { number < length entries.old.at }
+    requires absent { entry_at entries.old.at number ≡ None }
+    requires room { length entries.old.order < entries.old.most }
+    ensures { entries.new ≡ with_new number
+        (masked role (content_of body.now scratch.now.slots scratch.now.words)) entries.old }
+{
+    entries.insert(number, mask(role, body.content(scratch)));
+}
 
 impl<D: Device> Cache<D> {
-    // Frees a place for an entry, as a part of preparing.
-    fn make_place(&mut self) -> Result<(), PrepareFault>
-        requires keepable { AreKeepable (parts_of D.disk self.old).geometry most
-            (frames_of (parts_of D.disk self.old)) }
-        ensures room { OnOk result (length self.new.order < self.new.most) }
-        ensures uncached { (n : ℕ) → cached_at self.old.cached n ≡ None → cached_at self.new.cached n ≡ None }
-        ensures recent { (k n : ℕ) → k ≤ 7 → IsRecentIn self.old k n → IsRecentIn self.new k n }
-        ensures rest { self.new ≡ on_device_with self.old self.new }
-        ensures empty { self.old.staging ≡ None → self.new.staging ≡ None }
-        ensures continues { GoesOnIn D.disk self.old self.new }
-        ensures full { IsErrOf result PrepareFault.LogFull → ⊥ }
-        ensures cause { IsErrOf result PrepareFault.Failed
-            ↔ ((D.disk self.old.durable.beneath).failures < (D.disk self.new.durable.beneath).failures) }
-    {
-        match self.make_room() {
-            Ok(()) => Ok(()),
-            Err(_) => Err(PrepareFault::Failed),
-        }
-    }
-
-    // Makes what was read an entry, as a part of preparing.
-    fn take_in(&mut self, number: u64, content: Content<Cap>) -> Result<(), PrepareFault>
+    // Reads what an object holds that has no entry, where the staging buffer is empty, and makes it one.
+    fn read(&mut self, number: u64) -> Result<(), Failed>
         requires known { number < length self.old.headers }
-        requires uncached { cached_at self.old.cached number ≡ None }
+        requires uncached { cached_at self.old.cached number ≡ false }
+        requires empty { self.old.staging ≡ None }
         requires room { length self.old.order < self.old.most }
-        requires read { content ≡ held_at self.old.contents number }
+        ensures cached { OnOk result (self.new
+            ≡ with_cached number (record self.old { durable = self.new.durable })) }
         ensures fetched { OnOk result (IsFetchedIn self.new number) }
-        ensures cached { OnOk result (self.new ≡ with_cached number self.old) }
-        ensures unchanged { OnErr result (self.new ≡ self.old) }
-        ensures full { IsErrOf result PrepareFault.LogFull → ⊥ }
-        ensures cause { IsErrOf result PrepareFault.Failed → ⊥ }
+        ensures unread { OnErr result (self.new ≡ record self.old { durable = self.new.durable }) }
+        ensures continues { GoesOnIn D.disk self.old self.new }
+        ensures cause { Counts (D.disk self.old.durable.beneath) (D.disk self.new.durable.beneath) result }
     {
-        match self.insert(number, content) {
-            Ok(()) => Ok(()),
-            Err(_) => Err(PrepareFault::NoMemory),
-        }
+        let read = self.durable.fetch(number, &mut self.scratch)?;
+        let header = self.table.header(number);
+        insert_read(
+            &mut self.entries,
+            number,
+            header.role,
+            &read.1,
+            &self.scratch,
+        );
+        Ok(())
     }
 
     // Brings an object that has no entry into memory, where the staging buffer is empty. The seven
     // entries used last stay.
     #[inline(never)]
-    fn bring(&mut self, alloc: Global, number: u64) -> Result<(), PrepareFault>
+    fn bring(&mut self, number: u64) -> Result<(), Failed>
         requires known { number < length self.old.headers }
-        requires uncached { cached_at self.old.cached number ≡ None }
+        requires uncached { cached_at self.old.cached number ≡ false }
         requires empty { self.old.staging ≡ None }
         requires keepable { AreKeepable (parts_of D.disk self.old).geometry most
             (frames_of (parts_of D.disk self.old)) }
@@ -68,17 +74,14 @@ impl<D: Device> Cache<D> {
         ensures rest { self.new ≡ on_device_with self.old self.new }
         ensures empty { self.new.staging ≡ None }
         ensures continues { GoesOnIn D.disk self.old self.new }
-        ensures full { IsErrOf result PrepareFault.LogFull → ⊥ }
-        ensures cause { IsErrOf result PrepareFault.Failed
-            ↔ ((D.disk self.old.durable.beneath).failures < (D.disk self.new.durable.beneath).failures) }
+        ensures cause { Counts (D.disk self.old.durable.beneath) (D.disk self.new.durable.beneath) result }
     {
-        self.make_place()?;
-        let content = self.read(alloc, number)?;
-        self.take_in(number, content)
+        self.make_room()?;
+        self.read(number)
     }
 
     // Brings an object into memory, or says that it was used last.
-    fn fetch_one(&mut self, alloc: Global, number: u64) -> Result<(), PrepareFault>
+    fn fetch_one(&mut self, number: u64) -> Result<(), Failed>
         requires known { number < length self.old.headers }
         requires empty { self.old.staging ≡ None }
         requires keepable { AreKeepable (parts_of D.disk self.old).geometry most
@@ -89,18 +92,16 @@ impl<D: Device> Cache<D> {
         ensures rest { self.new ≡ on_device_with self.old self.new }
         ensures empty { self.new.staging ≡ None }
         ensures continues { GoesOnIn D.disk self.old self.new }
-        ensures full { IsErrOf result PrepareFault.LogFull → ⊥ }
-        ensures cause { IsErrOf result PrepareFault.Failed
-            ↔ ((D.disk self.old.durable.beneath).failures < (D.disk self.new.durable.beneath).failures) }
+        ensures cause { Counts (D.disk self.old.durable.beneath) (D.disk self.new.durable.beneath) result }
     {
         if self.use_now(number) {
             return Ok(());
         }
-        self.bring(alloc, number)
+        self.bring(number)
     }
 
     // Brings the objects of a list into memory, where the staging buffer is empty.
-    pub(crate) fn fetch_all(&mut self, alloc: Global, fetched: &[u64]) -> Result<(), PrepareFault>
+    fn fetch_all(&mut self, fetched: &[u64]) -> Result<(), Failed>
         requires few { length fetched.now ≤ MAX_FETCHED }
         requires known { All (λ n. n < length self.old.headers) fetched.now }
         requires empty { self.old.staging ≡ None }
@@ -109,13 +110,60 @@ impl<D: Device> Cache<D> {
         ensures fetched { OnOk result ((n : ℕ) → Contains fetched.now n → IsFetchedIn self.new n) }
         ensures rest { self.new ≡ on_device_with self.old self.new }
         ensures continues { GoesOnIn D.disk self.old self.new }
-        ensures full { IsErrOf result PrepareFault.LogFull → ⊥ }
-        ensures cause { IsErrOf result PrepareFault.Failed
-            ↔ ((D.disk self.old.durable.beneath).failures < (D.disk self.new.durable.beneath).failures) }
+        ensures cause { Counts (D.disk self.old.durable.beneath) (D.disk self.new.durable.beneath) result }
     {
         for number in fetched {
-            self.fetch_one(alloc, *number)?;
+            self.fetch_one(*number)?;
         }
         Ok(())
+    }
+
+    // Marks objects as used, in turn, up to the first that isn't among the last few used. Returns
+    // whether it marked them all; then they are in memory.
+    fn use_again(&mut self, numbers: &[u64]) -> bool
+        requires { All (λ n. n < length self.old.headers) numbers.now }
+        ensures fetched { result ≡ true → (n : ℕ) → Contains numbers.now n → IsFetchedIn self.new n }
+        ensures used { result ≡ true → self.new.order ≡ used_in_turn numbers.now self.old.order }
+        ensures rest { self.new ≡ record self.old { order = self.new.order } }
+        ensures within { touched_count self.old.touched
+            ≤ (stored_of D.disk self.old.durable).saved.geometry.log }
+        ensures continues { GoesOnIn D.disk self.old self.new }
+    {
+        self.entries.use_again(numbers)
+    }
+
+    // Brings the objects of a list into memory, once the staging buffer is emptied.
+    fn bring_all(&mut self, fetched: &[u64]) -> Result<(), Failed>
+        requires few { length fetched.now ≤ MAX_FETCHED }
+        requires known { All (λ n. n < length self.old.headers) fetched.now }
+        requires keepable { AreKeepable (parts_of D.disk self.old).geometry most
+            (frames_of (parts_of D.disk self.old)) }
+        ensures fetched { OnOk result ((n : ℕ) → Contains fetched.now n → IsFetchedIn self.new n) }
+        ensures rest { self.new ≡ on_device_with self.old self.new }
+        ensures continues { GoesOnIn D.disk self.old self.new }
+        ensures cause { Counts (D.disk self.old.durable.beneath) (D.disk self.new.durable.beneath) result }
+    {
+        self.empty_staging()?;
+        self.fetch_all(fetched)
+    }
+
+    /// Brings objects into memory, at most 8. If all were used lately, it only says that they were
+    /// used again. Fails exactly where the device does.
+    pub fn fetch(&mut self, fetched: &[u64]) -> Result<(), Failed>
+        requires few { length fetched.now ≤ MAX_FETCHED }
+        requires known { All (λ n. n < length self.old.headers) fetched.now }
+        requires keepable { AreKeepable (parts_of D.disk self.old).geometry most
+            (frames_of (parts_of D.disk self.old)) }
+        ensures fetched { OnOk result ((n : ℕ) → Contains fetched.now n → IsFetchedIn self.new n) }
+        ensures within { touched_count self.old.touched
+            ≤ (stored_of D.disk self.old.durable).saved.geometry.log }
+        ensures rest { self.new ≡ on_device_with self.old self.new }
+        ensures continues { GoesOnIn D.disk self.old self.new }
+        ensures cause { Counts (D.disk self.old.durable.beneath) (D.disk self.new.durable.beneath) result }
+    {
+        if self.use_again(fetched) {
+            return Ok(());
+        }
+        self.bring_all(fetched)
     }
 }

@@ -60,7 +60,7 @@ fn save_read<D: Device>(
     ensures cause { Counts (D.disk durable.old.beneath) (D.disk durable.new.beneath) result }
 {
     match durable.fetch(number, scratch) {
-        Ok(_) => durable.save_page(number, header, &scratch.words, age),
+        Ok(_) => durable.save_page(number, header, scratch.words.as_array(), age),
         Err(_) => Err(Failed),
     }
 }
@@ -100,10 +100,10 @@ fn save_present<D: Device>(
         (stored_of D.disk durable.old).saved) }
     ensures cause { Counts (D.disk durable.old.beneath) (D.disk durable.new.beneath) result }
 {
-    match entries.get(number) {
-        Some(entry) => save_content(durable, &entry.present, header, number, age),
-        None => save_read(durable, scratch, header, number, age),
+    if entries.holds(number) {
+        return save_content(durable, entries.present(number), header, number, age);
     }
+    save_read(durable, scratch, header, number, age)
 }
 
 // Saves a page with the words that it has now, where nothing refuses it.
@@ -159,10 +159,11 @@ impl<D: Device> Cache<D> {
     /// other objects what was saved. Returns the new generation. It takes no memory: the words of a
     /// page that isn't in memory are read into the scratch buffer, which `open` allocated.
     ///
-    /// It is refused by `CheckpointRunning` exactly where a checkpoint is on its way, else by `MigrationPending` exactly
-    /// where something saved isn't home, else by `BadNumber` exactly where no object has the number, else by
-    /// `NotJournaled(NotPage)` exactly where it isn't a page, else by `NotJournaled(Renewed)` exactly where no page is
-    /// saved, or the saved one was freed since. It returns `Fault` exactly where the device failed.
+    /// It is refused by `CheckpointRunning` exactly where a checkpoint is on its way, else by
+    /// `MigrationPending` exactly where something saved isn't home, else by `BadNumber` exactly where no
+    /// object has the number, else by `NotJournaled(NotPage)` exactly where it isn't a page, else by
+    /// `NotJournaled(Renewed)` exactly where no page is saved, or the saved one was freed since. It returns
+    /// `Fault` exactly where the device failed.
     pub fn journal(&mut self, number: u64, age: u64) -> Result<u64, Refusal>
         requires keepable { AreKeepable (parts_of D.disk self.old).geometry u64.MAX
             (frames_of (parts_of D.disk self.old)) }

@@ -6,8 +6,7 @@ ghost use Rattle.checkpoint.specs.Refused.{IsRefused};
 ghost use Rattle.checkpoint.specs.Saved.{LeavesSaved};
 ghost use Rattle.checkpoint.specs.Snapshots.{left_in};
 ghost use Rattle.object_store.specs.Store.{whole, FrozenFrames, IsStabilizeAnswer, stabilized};
-ghost use Rattle.object_cache.specs.declared.held.Held.{Held};
-ghost use Rattle.object_cache.specs.Memory.{Nothing, mark_at};
+ghost use Rattle.object_cache.specs.Memory.{Held, Nothing, mark_at};
 ghost use Rattle.object_cache.specs.StoreState.{GoesOnIn, PutsBy, on_device, on_device_frozen, owed_at, parts_of};
 ghost use Rattle.object_cache.specs.StoreState.{pending_count, view_of};
 
@@ -123,7 +122,8 @@ impl<D: Device> Cache<D> {
         ensures rest { self.new ≡ on_device_frozen self.old self.new }
         ensures geometry { (parts_of D.disk self.new).geometry ≡ (parts_of D.disk self.old).geometry }
         ensures snapshots { (f : FrozenFrames) → (view_of D.disk self.old).snapshots.frozen ≡ Some f
-            → OnOk result ((view_of D.disk self.new).snapshots ≡ stabilized count f (view_of D.disk self.old).snapshots) }
+            → OnOk result ((view_of D.disk self.new).snapshots
+            ≡ stabilized count f (view_of D.disk self.old).snapshots) }
         ensures stopped { (f : FrozenFrames) → (view_of D.disk self.old).snapshots.frozen ≡ Some f
             → OnErr result ((k : ℕ) × (k ≤ count)
             × ((view_of D.disk self.new).snapshots ≡ stabilized k f (view_of D.disk self.old).snapshots)) }

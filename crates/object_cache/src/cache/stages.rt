@@ -11,7 +11,7 @@ ghost use Rattle.checkpoint.specs.Snapshots.{MayCommit, committed, freezing, lef
 ghost use Rattle.object_store.specs.Store.{all_frozen, whole, FrozenFrames};
 ghost use Rattle.object_cache.specs.StoreState.{AreObjectsOf, IsWhole, parts_of, view_of};
 
-use crate::all_objects::{AllObjects, take_bodies};
+use crate::all_objects::{AllObjects, copy_bodies};
 use crate::cache::Cache;
 use checkpoint::Checkpoint;
 use device::{Device, Failed};
@@ -42,7 +42,7 @@ impl<D: Device> Cache<D> {
             ..
         } = self;
         let headers = table.into_headers();
-        match take_bodies(alloc, entries, headers.len()) {
+        match copy_bodies(alloc, &entries, headers.len()) {
             Ok(contents) => (durable, Ok(AllObjects { headers, contents })),
             Err(_) => (durable, Err(AllocError)),
         }
@@ -96,17 +96,20 @@ impl<D: Device> Cache<D> {
         requires ready { (f : FrozenFrames) → (view_of D.disk self.old).snapshots.frozen ≡ Some f
             → MayCommit whole age f (view_of D.disk self.old).snapshots.saved }
         ensures answer { IsCommitAnswer (D.disk self.old.durable.beneath) (D.disk self.new.durable.beneath)
-            (left_in whole (view_of D.disk self.old).snapshots) (view_of D.disk self.old).snapshots.saved.generation result }
+            (left_in whole (view_of D.disk self.old).snapshots) (view_of D.disk self.old).snapshots.saved.generation
+            result }
         ensures unchanged { IsRefused result → self.new ≡ self.old }
         ensures rest { self.new ≡ record self.old { durable = self.new.durable; frozen = self.new.frozen } }
         ensures geometry { (parts_of D.disk self.new).geometry ≡ (parts_of D.disk self.old).geometry }
         ensures snapshots { (f : FrozenFrames) → (view_of D.disk self.old).snapshots.frozen ≡ Some f
-            → OnOk result ((view_of D.disk self.new).snapshots ≡ committed whole age f (view_of D.disk self.old).snapshots) }
+            → OnOk result ((view_of D.disk self.new).snapshots
+            ≡ committed whole age f (view_of D.disk self.old).snapshots) }
         ensures sound { OnOk result ((view_of D.disk self.new).is_sound) }
         ensures size { (D.disk self.new.durable.beneath).sectors ≡ (D.disk self.old.durable.beneath).sectors }
         ensures any_moment { (f : FrozenFrames) → (view_of D.disk self.old).snapshots.frozen ≡ Some f → f.left ≡ 0
             → LeavesEither (D.disk self.old.durable.beneath) (D.disk self.new.durable.beneath)
-            (view_of D.disk self.old).snapshots.saved (next_saved whole age f (view_of D.disk self.old).snapshots.saved) }
+            (view_of D.disk self.old).snapshots.saved
+            (next_saved whole age f (view_of D.disk self.old).snapshots.saved) }
     {
         let Some(left) = self.left() else {
             return Err(Refusal::NoCheckpoint);
@@ -128,12 +131,14 @@ impl<D: Device> Cache<D> {
         ensures rest { self.new ≡ record self.old { durable = self.new.durable; frozen = self.new.frozen } }
         ensures geometry { (parts_of D.disk self.new).geometry ≡ (parts_of D.disk self.old).geometry }
         ensures snapshots { (f : FrozenFrames) → (view_of D.disk self.old).snapshots.frozen ≡ Some f
-            → OnOk result ((view_of D.disk self.new).snapshots ≡ committed whole age f (view_of D.disk self.old).snapshots) }
+            → OnOk result ((view_of D.disk self.new).snapshots
+            ≡ committed whole age f (view_of D.disk self.old).snapshots) }
         ensures sound { OnOk result ((view_of D.disk self.new).is_sound) }
         ensures size { (D.disk self.new.durable.beneath).sectors ≡ (D.disk self.old.durable.beneath).sectors }
         ensures any_moment { (f : FrozenFrames) → (view_of D.disk self.old).snapshots.frozen ≡ Some f
             → LeavesEither (D.disk self.old.durable.beneath) (D.disk self.new.durable.beneath)
-            (view_of D.disk self.old).snapshots.saved (next_saved whole age f (view_of D.disk self.old).snapshots.saved) }
+            (view_of D.disk self.old).snapshots.saved
+            (next_saved whole age f (view_of D.disk self.old).snapshots.saved) }
     {
         self.durable.commit(age)
     }

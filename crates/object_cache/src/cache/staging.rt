@@ -3,8 +3,7 @@ ghost use Rattle.std.specs.Prelude.{◌≡◌, ◌≢◌, ◌<◌, ◌≤◌, No
 ghost use Rattle.model.specs.Machine.{touched_count};
 ghost use Rattle.migrator.specs.Durable.{stored_of};
 ghost use Rattle.device.specs.Calls.{Counts};
-ghost use Rattle.object_cache.specs.declared.held.Held.{Held};
-ghost use Rattle.object_cache.specs.Memory.{Nothing};
+ghost use Rattle.object_cache.specs.Memory.{Held, Nothing};
 ghost use Rattle.object_cache.specs.StoreState.{GoesOnIn, on_device, owed_at, pending_count};
 
 use crate::cache::Cache;
@@ -25,9 +24,9 @@ impl<D: Device> Cache<D> {
         let Some(held) = self.staging.get() else {
             unreachable!()
         };
-        let number = held.number;
+        let number = held.0;
         let header = self.frozen_headers.header(number);
-        put_body(&mut self.durable, number, header, &held.content)?;
+        put_body(&mut self.durable, number, header, held.1)?;
         self.pending.set(number as usize, false);
         self.staging.let_go();
         Ok(())
@@ -46,7 +45,7 @@ impl<D: Device> Cache<D> {
         let Some(held) = self.staging.get() else {
             return Ok(());
         };
-        let number = held.number;
+        let number = held.0;
         if self.owes(number) {
             return self.put_own_frozen(number);
         }

@@ -1,5 +1,5 @@
 // A store of objects over a device.
-ghost use Rattle.std.specs.Prelude.{◌≡◌, ◌<◌, None, false, length, IfOk, IfErr, OnOk};
+ghost use Rattle.std.specs.Prelude.{◌≡◌, ◌<◌, false, length, IfOk, IfErr, OnOk};
 ghost use Rattle.capability.specs.Parts.{frames_of};
 ghost use Rattle.checkpoint.specs.Opened.{Refuses};
 ghost use Rattle.checkpoint.specs.Saved.{most};
@@ -71,7 +71,7 @@ impl<D: Device, P: Policy> ObjectStore<D> for Store<D, P> {
         requires known { number < length self.old.headers }
         requires keepable { AreKeepable (parts_of D.disk self.old).geometry most
             (frames_of (parts_of D.disk self.old)) }
-        ensures gone { OnOk result (P.KEEPS_ALL ≡ false → cached_at self.new.cached number ≡ None) }
+        ensures gone { OnOk result (P.KEEPS_ALL ≡ false → cached_at self.new.cached number ≡ false) }
         ensures rest { self.new ≡ record (on_device self.old self.new) {
           cached = self.new.cached;
           order = self.new.order;

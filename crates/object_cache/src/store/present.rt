@@ -1,23 +1,18 @@
 // The objects of a store as they are now.
 use crate::policy::Policy;
 use crate::store::Store;
-use capability::{Fresh, ObjectTable, PrepareFault, PresentFrames};
-use device::Device;
-use model::{Cap, Content, Geometry};
-use std::alloc::Global;
+use capability::{Frames, Fresh, ObjectTable, PrepareFault, PresentFrames};
+use device::{Device, Failed};
+use model::{Cap, ContentRef, Geometry, Root};
 
-impl<D: Device, P: Policy> PresentFrames for Store<D, P> {
-    ghost use Rattle.object_cache.specs.StoreState.{parts_of, IsFetchedIn, IsAnnouncedIn, ContinuesIn, with_content_in};
+impl<D: Device, P: Policy> Frames for Store<D, P> {
+    ghost use Rattle.object_cache.specs.StoreState.{parts_of, IsFetchedIn, ContinuesIn};
 
     ghost parts = { parts_of D.disk };
 
     ghost IsFetched = { IsFetchedIn };
 
-    ghost IsAnnounced = { IsAnnouncedIn D.disk };
-
     ghost ContinuesTo = { ContinuesIn P.KEEPS_ALL D.disk };
-
-    ghost with_content = { with_content_in };
 
     fn geometry(&self) -> Geometry {
         self.cache.geometry()
@@ -27,24 +22,55 @@ impl<D: Device, P: Policy> PresentFrames for Store<D, P> {
         self.cache.table()
     }
 
-    fn prepare(
-        &mut self,
-        alloc: Global,
-        fetched: &[u64],
-        written: &[u64],
-    ) -> Result<(), PrepareFault> {
+    fn fetch(&mut self, numbers: &[u64]) -> Result<(), Failed> {
+        // A use of a field makes the invariant known here.
+        let _ = &self.cache;
         if P::KEEPS_ALL {
-            return self.cache.make_writable(alloc, written);
+            return Ok(());
         }
-        self.cache.prepare(alloc, fetched, written)
+        self.cache.fetch(numbers)
     }
 
-    fn frame(&self, number: u64) -> &Content<Cap> {
+    fn frame(&self, number: u64) -> ContentRef<'_> {
         self.cache.frame(number)
     }
 
-    fn frame_mut(&mut self, number: u64) -> &mut Content<Cap> {
-        self.cache.frame_mut(number)
+    ghost use Rattle.object_cache.specs.PresentLaws.{continues_same, continues_twice};
+
+    ghost known_fetched = { λ s n there. (there.header, there.content) };
+
+    ghost continues_same = { λ s. continues_same D.disk P.KEEPS_ALL D.only_now s };
+
+    ghost continues_twice = { λ s t u first second.
+        continues_twice D.disk P.KEEPS_ALL D.counts_now s t u first second };
+}
+
+impl<D: Device, P: Policy> PresentFrames for Store<D, P> {
+    ghost use Rattle.object_cache.specs.StoreState.{IsAnnouncedIn};
+
+    ghost IsAnnounced = { IsAnnouncedIn };
+
+    fn prepare(&mut self, fetched: &[u64], written: &[u64]) -> Result<(), PrepareFault> {
+        if P::KEEPS_ALL {
+            return self.cache.make_writable(written);
+        }
+        self.cache.prepare(fetched, written)
+    }
+
+    fn set_word(&mut self, number: u64, index: usize, word: u64) {
+        self.cache.set_word(number, index, word);
+    }
+
+    fn set_slot(&mut self, number: u64, slot: usize, held: Cap) {
+        self.cache.set_slot(number, slot, held);
+    }
+
+    fn set_last_slots(&mut self, number: u64, held: [Cap; 4]) {
+        self.cache.set_last_slots(number, held);
+    }
+
+    fn set_root(&mut self, process: u64, root: Root<Cap>) {
+        self.cache.set_root(process, root);
     }
 
     fn claim(&mut self, number: u64, fresh: Fresh, owner: u64) {
@@ -63,23 +89,5 @@ impl<D: Device, P: Policy> PresentFrames for Store<D, P> {
         self.cache.consume(root);
     }
 
-    ghost use Rattle.std.proofs.Common.{refl};
-    ghost use Rattle.object_cache.specs.PresentLaws.{continues_same, continues_with, continues_twice, fetched_content};
-    ghost use Rattle.object_cache.specs.PresentLaws.{announced_content};
-
-    ghost parts_with = { λ s n c. refl };
-
-    ghost fetched_with = { λ s n c m there. fetched_content s n c m there };
-
-    ghost announced_with = { λ s n c m there. announced_content D.disk s n c m there };
-
-    ghost known_fetched = { λ s n there. (there.header, there.content) };
-
     ghost known_announced = { λ s n there. (there.header, there.content) };
-
-    ghost continues_same = { λ s. continues_same D.disk P.KEEPS_ALL D.only_now s };
-
-    ghost continues_with = { λ s t n c there first. continues_with D.disk P.KEEPS_ALL s t n c first };
-
-    ghost continues_twice = { λ s t u first second. continues_twice D.disk P.KEEPS_ALL D.counts_now s t u first second };
 }

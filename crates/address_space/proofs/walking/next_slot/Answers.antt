@@ -5,11 +5,11 @@ use Rattle.address_space.proofs.walking.next_slot.Goals as goal
 
 pub look-requires-clause-known : goal.look-requires-clause-known
 look-requires-clause-known g c =
-    space_known (g.F.PresentFrames.parts c.args.frames.now) c.args.tree.node c.args.tree.height c.args.tree.access c.requires.held
+    space_known (g.F.Frames.parts c.args.frames.now) c.args.tree.node c.args.tree.height c.args.tree.access c.requires.held
 
 pub returns-clause-held : goal.returns-clause-held
 returns-clause-held g c =
-    let os = objects_in (g.F.PresentFrames.parts c.args.frames.now) in
+    let os = objects_in (g.F.Frames.parts c.args.frames.now) in
     let slot = c.args.index / 32 ^ (c.args.tree.height - 1) % 32 in
     let is : c.slot.result ≡ slot_at os c.args.tree.node slot = search rules in
     subst (λ (s : Capability). MayBeHeld os s) (sym is) (c.requires.sound.1.sound.slots c.args.tree.node slot)

@@ -16,4 +16,5 @@ returns c =
     let within : c.args.place < length c.args.numbers.now = slice_get_within c.args.numbers.now c.args.place c.args.number c.requires.there in
     let last : c.loop-i.i ≡ length c.args.numbers.now - 1 = omega (arith, within, c.loop-i-test.false, c.loop-i.auto.i-end (omega (arith, within))) in
     subst (λ k. set c.loop-i.numbers k c.args.number ≡ without c.args.number c.args.numbers.now ++ c.args.number ∷ []) last
-    (moved_last c.args.number c.loop-i.numbers c.args.numbers.now c.args.place c.loop-i.i c.requires.there c.requires.once c.loop-i.auto.i (omega (arith, last, within)) c.loop-i.invariant)
+    (moved_last c.args.number c.loop-i.numbers c.args.numbers.now c.args.place c.loop-i.i c.requires.there c.requires.once c.loop-i.auto.i
+    (omega (arith, last, within)) c.loop-i.invariant)

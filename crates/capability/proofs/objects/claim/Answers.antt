@@ -4,21 +4,22 @@ use Rattle.capability.proofs.objects.claim.Goals as goal
 
 pub returns-clause-objects : goal.returns-clause-objects
 returns-clause-objects g c =
-    let old = g.F.PresentFrames.parts c.args.store.now in
-    let new = g.F.PresentFrames.parts c.claim.new.self in
+    let old = g.F.Frames.parts c.args.store.now in
+    let new = g.F.Frames.parts c.claim.new.self in
     let at = g.met.F.PresentFrames.known_announced c.args.store.now c.args.number c.requires.announced in
-    claim_objects old new c.args.number at.1 c.args.fresh c.args.owner c.claim.ensures.parts
+    claim_objects old new c.args.number at.1 c.args.fresh c.args.owner c.claim.ensures.parts_are
 
 pub returns-clause-current : goal.returns-clause-current
 returns-clause-current g c =
-    let old = g.F.PresentFrames.parts c.args.store.now in
-    let new = g.F.PresentFrames.parts c.claim.new.self in
+    let old = g.F.Frames.parts c.args.store.now in
+    let new = g.F.Frames.parts c.claim.new.self in
     let at = g.met.F.PresentFrames.known_announced c.args.store.now c.args.number c.requires.announced in
-    claim_stays_current old new c.args.number at.1 c.args.fresh c.args.owner c.claim.ensures.parts
+    claim_stays_current old new c.args.number at.1 c.args.fresh c.args.owner c.claim.ensures.parts_are
 
 pub returns-clause-keepable : goal.returns-clause-keepable
 returns-clause-keepable g c =
-    let old = g.F.PresentFrames.parts c.args.store.now in
-    let new = g.F.PresentFrames.parts c.claim.new.self in
+    let old = g.F.Frames.parts c.args.store.now in
+    let new = g.F.Frames.parts c.claim.new.self in
     let at = g.met.F.PresentFrames.known_announced c.args.store.now c.args.number c.requires.announced in
-    λ age fits keepable. claim_stays_keepable age old new c.args.number at.0 at.1 c.args.fresh c.args.owner c.ranges.owner.fits fits c.requires.place c.claim.ensures.parts keepable
+    λ age fits keepable. claim_stays_keepable age old new c.args.number at.0 at.1 c.args.fresh c.args.owner c.ranges.owner.fits fits c.requires.place
+    c.claim.ensures.parts_are keepable

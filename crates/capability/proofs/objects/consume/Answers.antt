@@ -4,21 +4,21 @@ use Rattle.capability.proofs.objects.consume.Goals as goal
 
 pub returns-clause-objects : goal.returns-clause-objects
 returns-clause-objects g c =
-    let old = g.F.PresentFrames.parts c.args.store.now in
-    let new = g.F.PresentFrames.parts c.consume.new.self in
+    let old = g.F.Frames.parts c.args.store.now in
+    let new = g.F.Frames.parts c.consume.new.self in
     let at = g.met.F.PresentFrames.known_announced c.args.store.now c.args.process c.requires.announced in
-    objects_called c.args.process old new at.0 c.consume.ensures.parts c.requires.current
+    objects_called c.args.process old new at.0 c.consume.ensures.parts_are c.requires.current
 
 pub returns-clause-current : goal.returns-clause-current
 returns-clause-current g c =
-    let old = g.F.PresentFrames.parts c.args.store.now in
-    let new = g.F.PresentFrames.parts c.consume.new.self in
+    let old = g.F.Frames.parts c.args.store.now in
+    let new = g.F.Frames.parts c.consume.new.self in
     let at = g.met.F.PresentFrames.known_announced c.args.store.now c.args.process c.requires.announced in
-    current_called c.args.process old new at.0 c.consume.ensures.parts c.requires.current
+    current_called c.args.process old new at.0 c.consume.ensures.parts_are c.requires.current
 
 pub returns-clause-keepable : goal.returns-clause-keepable
 returns-clause-keepable g c =
-    let old = g.F.PresentFrames.parts c.args.store.now in
-    let new = g.F.PresentFrames.parts c.consume.new.self in
+    let old = g.F.Frames.parts c.args.store.now in
+    let new = g.F.Frames.parts c.consume.new.self in
     let at = g.met.F.PresentFrames.known_announced c.args.store.now c.args.process c.requires.announced in
-    λ age few keepable. call_stays_keepable old.geometry age old new c.args.process at.0 few c.consume.ensures.parts keepable
+    λ age few keepable. call_stays_keepable old.geometry age old new c.args.process at.0 few c.consume.ensures.parts_are keepable

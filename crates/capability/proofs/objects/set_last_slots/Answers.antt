@@ -2,11 +2,11 @@ use Rattle.capability.proofs.Names.{rules, List, ap, sym, Cap, ObjectHeader, Con
 use Rattle.capability.proofs.Names.{length, get_or, [], map, ℕ, arith}
 use Rattle.std.proofs.Common.{◌≡◌, ◌<◌, ◌∙◌, ◌∷◌}
 use Rattle.capability.proofs.Edited.{edited, slots_edit}
-use Rattle.capability.proofs.Edits.{put}
 use Rattle.capability.proofs.objects.set_last_slots.Goals as goal
 
 -- a list of four, element by element
-four : (f : Capability → Cap) (cs : List Capability) → length cs ≡ 4 → map f cs ≡ f (get_or cs 0 Void) ∷ f (get_or cs 1 Void) ∷ f (get_or cs 2 Void) ∷ f (get_or cs 3 Void) ∷ []
+four : (f : Capability → Cap) (cs : List Capability) → length cs ≡ 4 → map f cs ≡ f (get_or cs 0 Void) ∷ f (get_or cs 1 Void) ∷ f (get_or cs 2 Void) ∷ f
+    (get_or cs 3 Void) ∷ []
 four f [] size = absurd (omega arith)
 four f (a ∷ []) size = absurd (omega arith)
 four f (a ∷ b ∷ []) size = absurd (omega arith)
@@ -16,17 +16,16 @@ four f (a ∷ b ∷ c ∷ d ∷ e ∷ cs) size = absurd (omega arith)
 
 pub returns : goal.returns
 returns g c =
-    let F = g.F.PresentFrames in
-    let M = g.met.F.PresentFrames in
+    let F = g.F.Frames in
     let s = c.args.store.now in
     let n = c.args.number in
-    let new = c.put_last_slots.new.content in
-    let at = M.known_announced s n c.requires.announced in
+    let at = g.met.F.PresentFrames.known_announced s n c.requires.announced in
     let caps = c.args.message.now.capabilities in
     let size : length caps ≡ 4 = search rules in
     let live = λ (hs : List ObjectHeader). map (live_cap hs) caps in
-    let held : c.live_cap.result ∷ c.live_cap-2.result ∷ c.live_cap-3.result ∷ c.live_cap-4.result ∷ [] ≡ live c.table-table.result.now = cc (c.live_cap.ensures, c.live_cap-2.ensures, c.live_cap-3.ensures, c.live_cap-4.ensures, four (live_cap c.table-table.result.now) caps size) in
-    let is = put (F.parts s) (F.parts (F.with_content s n new)) n (λ (d : Content Cap). with_slots_in d 28 (live c.table-table.result.now)) c.frame_mut.result.now new (M.parts_with s n new)
-    (c.put_last_slots.ensures ∙ ap (with_slots_in c.frame_mut.result.now 28) held) c.frame_mut.ensures.value in
-    edited F.parts F.IsFetched F.IsAnnounced F.ContinuesTo F.with_content M.parts_with M.fetched_with M.announced_with M.continues_same M.continues_with s n new _ _ c.requires.announced
-    (slots_edit (F.parts s) _ n at.0 at.1 28 (omega arith) caps (is ∙ ap (λ (hs : List ObjectHeader). with_held (F.parts s) n (with_slots_in (held_at (F.parts s).contents n) 28 (live hs))) c.table-table.ensures))
+    let held : c.live_cap.result ∷ c.live_cap-2.result ∷ c.live_cap-3.result ∷ c.live_cap-4.result ∷ [] ≡ live c.table-table.result.now = cc
+    (c.live_cap.ensures, c.live_cap-2.ensures, c.live_cap-3.ensures, c.live_cap-4.ensures, four (live_cap c.table-table.result.now) caps size) in
+    edited F.parts F.IsFetched g.F.PresentFrames.IsAnnounced F.ContinuesTo s _ n _ _ _ c.set_last_slots.ensures
+    (slots_edit (F.parts s) _ n at.0 at.1 28 (omega arith) caps
+    (c.set_last_slots.ensures.parts_are ∙ ap (λ (cs : List Cap). with_held (F.parts s) n (with_slots_in (held_at (F.parts s).contents n) 28 cs))
+    (held ∙ ap live c.table-table.ensures)))

@@ -4,21 +4,22 @@ use Rattle.capability.proofs.objects.set_owner.Goals as goal
 
 pub returns-clause-objects : goal.returns-clause-objects
 returns-clause-objects g c =
-    let old = g.F.PresentFrames.parts c.args.store.now in
-    let new = g.F.PresentFrames.parts c.set_owner.new.self in
+    let old = g.F.Frames.parts c.args.store.now in
+    let new = g.F.Frames.parts c.set_owner.new.self in
     let at = g.met.F.PresentFrames.known_announced c.args.store.now c.args.number c.requires.announced in
-    owner_objects old new c.args.number at.0 at.1 c.args.bank c.set_owner.ensures.parts
+    owner_objects old new c.args.number at.0 at.1 c.args.bank c.set_owner.ensures.parts_are
 
 pub returns-clause-current : goal.returns-clause-current
 returns-clause-current g c =
-    let old = g.F.PresentFrames.parts c.args.store.now in
-    let new = g.F.PresentFrames.parts c.set_owner.new.self in
+    let old = g.F.Frames.parts c.args.store.now in
+    let new = g.F.Frames.parts c.set_owner.new.self in
     let at = g.met.F.PresentFrames.known_announced c.args.store.now c.args.number c.requires.announced in
-    owner_stays_current old new c.args.number at.0 at.1 c.args.bank c.set_owner.ensures.parts
+    owner_stays_current old new c.args.number at.0 at.1 c.args.bank c.set_owner.ensures.parts_are
 
 pub returns-clause-keepable : goal.returns-clause-keepable
 returns-clause-keepable g c =
-    let old = g.F.PresentFrames.parts c.args.store.now in
-    let new = g.F.PresentFrames.parts c.set_owner.new.self in
+    let old = g.F.Frames.parts c.args.store.now in
+    let new = g.F.Frames.parts c.set_owner.new.self in
     let at = g.met.F.PresentFrames.known_announced c.args.store.now c.args.number c.requires.announced in
-    λ age unowned keepable. owner_stays_keepable old.geometry age old new c.args.number at.0 c.args.bank c.ranges.bank.fits unowned c.set_owner.ensures.parts keepable
+    λ age unowned keepable. owner_stays_keepable old.geometry age old new c.args.number at.0 c.args.bank c.ranges.bank.fits unowned
+    c.set_owner.ensures.parts_are keepable

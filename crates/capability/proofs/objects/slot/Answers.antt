@@ -1,22 +1,16 @@
-use Rattle.capability.proofs.Names.{List, sym, ap, ⊎_elim, ObjectHeader, conveyed}
-use Rattle.std.proofs.Common.{◌∙◌}
-use Rattle.model.specs.declared.object.Content.TheVariants as content
-use Rattle.capability.proofs.Frames.{slot_there, no_slot_there}
+use Rattle.capability.proofs.Names.{sym, arith, content_behind}
+use Rattle.capability.proofs.FrameLists.{slot_there, no_slot_there}
 use Rattle.capability.proofs.objects.slot.Goals as goal
 
-pub returns-in_default : goal.returns-in_default
-returns-in_default g c =
-    let p = g.F.PresentFrames.parts c.args.store.now in
-    let known = (g.met.F.PresentFrames.known_fetched c.args.store.now c.args.number c.requires.fetched).0 in
-    sym (no_slot_there p c.args.number known c.frame.result.now (sym c.frame.ensures) c.args.slot c.in_default.not-Node c.in_default.not-Annex)
+pub returns-in-Some : goal.returns-in-Some
+returns-in-Some g c =
+    let p = g.F.Frames.parts c.args.store.now in
+    let known = (g.met.F.Frames.known_fetched c.args.store.now c.args.number c.requires.fetched).0 in
+    slot_there p c.args.number known (content_behind c.frame.result) (sym c.frame.ensures) c.in-Some.slots.now c.in-Some.ensures.some
+    c.table.result.now c.table.ensures c.args.slot _ c.conveyed.result c.conveyed.ensures (omega (arith, c.in-Some.ensures.length, c.requires.within))
 
-pub returns-in-Node : goal.returns-in-Node
-returns-in-Node g c =
-    let p = g.F.PresentFrames.parts c.args.store.now in
-    let known = (g.met.F.PresentFrames.known_fetched c.args.store.now c.args.number c.requires.fetched).0 in
-    c.conveyed.ensures
-    ∙ ap (λ (hs : List ObjectHeader). conveyed hs c.get.result) c.table.ensures
-    ∙ sym (⊎_elim
-    (λ is. slot_there p c.args.number known (content.Node c.in-Node.slots) (sym c.frame.ensures ∙ is) c.args.slot c.get.result c.get.ensures.value)
-    (λ is. slot_there p c.args.number known (content.Annex c.in-Node.slots) (sym c.frame.ensures ∙ is) c.args.slot c.get.result c.get.ensures.value)
-    c.in-Node.is)
+pub returns-in-None : goal.returns-in-None
+returns-in-None g c =
+    let p = g.F.Frames.parts c.args.store.now in
+    let known = (g.met.F.Frames.known_fetched c.args.store.now c.args.number c.requires.fetched).0 in
+    sym (no_slot_there p c.args.number known (content_behind c.frame.result) (sym c.frame.ensures) c.args.slot (c.slots_behind.ensures.none c.in-None.is))

@@ -7,4 +7,5 @@ returns-in-Some c = flagged (rows_of (found_of c.args.inner.now)) c.args.name.no
     (given (found_of c.args.inner.now) c.args.name.now c.get_str.result c.in-Some.word c.get_str.ensures (search rules)) (search rules)
 
 pub returns-in-None : goal.returns-in-None
-returns-in-None c = unflagged (rows_of (found_of c.args.inner.now)) c.args.name.now (missing (found_of c.args.inner.now) c.args.name.now c.get_str.result c.get_str.ensures (search rules))
+returns-in-None c = unflagged (rows_of (found_of c.args.inner.now)) c.args.name.now
+    (missing (found_of c.args.inner.now) c.args.name.now c.get_str.result c.get_str.ensures (search rules))

@@ -12,7 +12,9 @@ returns-in-None-clause-none c = λ _. numbers_bad c.args.words.now c.loop-word.w
 pub loop-word-preserved : goal.loop-word-preserved
 loop-word-preserved c =
     let before = numbers_next c.args.words.now c.loop-word.word-index no_word c.loop-word-test.true c.loop-word.numbers.items c.in-Some.number
-    c.loop-word.invariant (held (IsNumber 0 greatest_number (get_or c.args.words.now c.loop-word.word-index no_word).now) c.number_in.result c.in-Some.number c.number_in.ensures.named (search rules)) in
+    c.loop-word.invariant
+    (held (IsNumber 0 greatest_number (get_or c.args.words.now c.loop-word.word-index no_word).now) c.number_in.result c.in-Some.number
+    c.number_in.ensures.named (search rules)) in
     search rules
 
 pub returns-clause-named : goal.returns-clause-named

@@ -8,10 +8,12 @@ returns-in_err-image-clause-none c = λ _. lacks (codes "draw") (codes "IMAGE") 
     (missing (found_of c.args.inner.now) (codes "IMAGE") _ c.get_str.ensures (search rules))
 
 pub returns-in_err-from-clause-none : goal.returns-in_err-from-clause-none
-returns-in_err-from-clause-none c = λ _. wrong (codes "draw") (codes "from") (rows_of (found_of c.args.inner.now)) 0 18446744073709551615 refl (c.number_of.ensures.none (search rules))
+returns-in_err-from-clause-none c = λ _. wrong (codes "draw") (codes "from") (rows_of (found_of c.args.inner.now)) 0 18446744073709551615 refl
+    (c.number_of.ensures.none (search rules))
 
 pub returns-in_err-to-clause-none : goal.returns-in_err-to-clause-none
-returns-in_err-to-clause-none c = λ _. wrong (codes "draw") (codes "to") (rows_of (found_of c.args.inner.now)) 0 18446744073709551615 refl (c.number_of-2.ensures.none (search rules))
+returns-in_err-to-clause-none c = λ _. wrong (codes "draw") (codes "to") (rows_of (found_of c.args.inner.now)) 0 18446744073709551615 refl
+    (c.number_of-2.ensures.none (search rules))
 
 pub returns-clause-named : goal.returns-clause-named
 returns-clause-named c = (

@@ -8,7 +8,8 @@ returns-in_err-image-clause-none c = λ _. lacks (codes "reach") (codes "IMAGE")
     (missing (found_of c.args.inner.now) (codes "IMAGE") _ c.get_str.ensures (search rules))
 
 pub returns-in_err-shows-clause-none : goal.returns-in_err-shows-clause-none
-returns-in_err-shows-clause-none c = λ _. wrong (codes "reach") (codes "shows") (rows_of (found_of c.args.inner.now)) 0 18446744073709551615 refl (c.number_of.ensures.none (search rules))
+returns-in_err-shows-clause-none c = λ _. wrong (codes "reach") (codes "shows") (rows_of (found_of c.args.inner.now)) 0 18446744073709551615 refl
+    (c.number_of.ensures.none (search rules))
 
 pub returns-clause-named : goal.returns-clause-named
 returns-clause-named c = λ numbers. (

@@ -16,9 +16,11 @@ returns-in-Some-2-clause-named c =
     )
 
 pub returns-in-None-2-clause-none : goal.returns-in-None-2-clause-none
-returns-in-None-2-clause-none c = λ _. wrong_all (codes "reach") (codes "P") (rows_of (found_of c.args.inner.now)) 0 18446744073709551615 (texts_of c.in-Some.words.now) refl
+returns-in-None-2-clause-none c = λ _. wrong_all (codes "reach") (codes "P") (rows_of (found_of c.args.inner.now)) 0 18446744073709551615
+    (texts_of c.in-Some.words.now) refl
     (given_all (found_of c.args.inner.now) (codes "P") c.get_raw.result c.in-Some.words c.get_raw.ensures (search rules))
     (c.in_ok-processes-in-Some.ensures.none (search rules))
 
 pub returns-in-None-clause-none : goal.returns-in-None-clause-none
-returns-in-None-clause-none c = λ _. lacks_all (codes "reach") (codes "P") (rows_of (found_of c.args.inner.now)) refl (missing_all (found_of c.args.inner.now) (codes "P") c.get_raw.result c.get_raw.ensures (search rules))
+returns-in-None-clause-none c = λ _. lacks_all (codes "reach") (codes "P") (rows_of (found_of c.args.inner.now)) refl
+    (missing_all (found_of c.args.inner.now) (codes "P") c.get_raw.result c.get_raw.ensures (search rules))

@@ -7,12 +7,16 @@ use Rattle.command_line.proofs.requested.read_job.Goals as goal
 pub returns-in_err-matches-clause-refused : goal.returns-in_err-matches-clause-refused
 returns-in_err-matches-clause-refused g c =
     let p = err_from_is_err_and c.from_residual.result c.from_residual.ensures.1 in
-    rw (p.1, p.2) (parse_refused (map g.S.AsStr.text c.args.words.now) c.args.command.now c.in_err-matches.field-0.0 c.requires.0 c.in_err-matches.ensures.passes c.in_err-matches.ensures.kinds)
+    rw (p.1, p.2) (parse_refused (map g.S.AsStr.text c.args.words.now) c.args.command.now c.in_err-matches.field-0.0 c.requires.0
+    c.in_err-matches.ensures.passes c.in_err-matches.ensures.kinds)
 
 pub returns-in_ok-error-in-None-clause-refused : goal.returns-in_ok-error-in-None-clause-refused
-returns-in_ok-error-in-None-clause-refused g c = value_refused (map g.S.AsStr.text c.args.words.now) c.in_ok-error-in-None.field-0 c.in_ok-error-in-None.ensures.kind
-    (unnamed (map g.S.AsStr.text c.args.words.now) c.args.command.now c.in_ok-matches.matches c.requires.0 c.in_ok-matches.ensures.ok.2 (c.in_ok-job.ensures.none (search rules)))
+returns-in_ok-error-in-None-clause-refused g c = value_refused (map g.S.AsStr.text c.args.words.now) c.in_ok-error-in-None.field-0
+    c.in_ok-error-in-None.ensures.kind
+    (unnamed (map g.S.AsStr.text c.args.words.now) c.args.command.now c.in_ok-matches.matches c.requires.0 c.in_ok-matches.ensures.ok.2
+    (c.in_ok-job.ensures.none (search rules)))
 
 pub returns-in-Some-clause-named : goal.returns-in-Some-clause-named
-returns-in-Some-clause-named g c = named_by (map g.S.AsStr.text c.args.words.now) c.args.command.now c.in_ok-matches.matches c.requires.0 c.in_ok-matches.ensures.ok.2 c.in-Some.job
+returns-in-Some-clause-named g c = named_by (map g.S.AsStr.text c.args.words.now) c.args.command.now c.in_ok-matches.matches c.requires.0
+    c.in_ok-matches.ensures.ok.2 c.in-Some.job
     (held (NamesJob (subcommand_rows_of c.in_ok-matches.matches)) c.in_ok-job.field-0 c.in-Some.job c.in_ok-job.ensures.named (search rules))

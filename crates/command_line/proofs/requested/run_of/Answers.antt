@@ -12,7 +12,8 @@ returns-in_err-word-clause-none c = λ _. lacks (codes "run") (codes "SCRIPT") (
     (missing (found_of c.args.inner.now) (codes "SCRIPT") _ c.get_str-2.ensures (search rules))
 
 pub returns-in_err-cache-clause-none : goal.returns-in_err-cache-clause-none
-returns-in_err-cache-clause-none c = λ _. wrong (codes "run") (codes "cache") (rows_of (found_of c.args.inner.now)) 8 8192 refl (c.cache_of.ensures.none (search rules))
+returns-in_err-cache-clause-none c = λ _. wrong (codes "run") (codes "cache") (rows_of (found_of c.args.inner.now)) 8 8192 refl
+    (c.cache_of.ensures.none (search rules))
 
 pub returns-in_err-stop_after-clause-none : goal.returns-in_err-stop_after-clause-none
 returns-in_err-stop_after-clause-none c =
@@ -24,7 +25,8 @@ returns-clause-named c = (
   held (IsCache (rows_of (found_of c.args.inner.now))) c.cache_of.result c.in_ok-cache.cache c.cache_of.ensures.named (search rules),
   c.flag_of-trace.ensures,
   c.flag_of-strict.ensures,
-  held (IsNumberOption (rows_of (found_of c.args.inner.now)) (codes "stop-after")) c.number_of.result c.in_ok-stop_after.stop_after c.number_of.ensures.named (search rules),
+  held (IsNumberOption (rows_of (found_of c.args.inner.now)) (codes "stop-after")) c.number_of.result c.in_ok-stop_after.stop_after c.number_of.ensures.named
+      (search rules),
   given (found_of c.args.inner.now) (codes "IMAGE") c.get_str.result c.in_ok-image.image c.get_str.ensures (search rules),
   c.in_ok-word.word.now,
   given (found_of c.args.inner.now) (codes "SCRIPT") c.get_str-2.result c.in_ok-word.word c.get_str-2.ensures (search rules),

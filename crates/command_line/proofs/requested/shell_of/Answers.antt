@@ -8,7 +8,8 @@ returns-in_err-image-clause-none c = λ _. lacks (codes "shell") (codes "IMAGE")
     (missing (found_of c.args.inner.now) (codes "IMAGE") _ c.get_str.ensures (search rules))
 
 pub returns-in_err-cache-clause-none : goal.returns-in_err-cache-clause-none
-returns-in_err-cache-clause-none c = λ _. wrong (codes "shell") (codes "cache") (rows_of (found_of c.args.inner.now)) 8 8192 refl (c.cache_of.ensures.none (search rules))
+returns-in_err-cache-clause-none c = λ _. wrong (codes "shell") (codes "cache") (rows_of (found_of c.args.inner.now)) 8 8192 refl
+    (c.cache_of.ensures.none (search rules))
 
 pub returns-clause-named : goal.returns-clause-named
 returns-clause-named c = (

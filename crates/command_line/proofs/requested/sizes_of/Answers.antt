@@ -17,7 +17,10 @@ returns-in_err-number_of-3-clause-none c =
 
 pub returns-clause-named : goal.returns-clause-named
 returns-clause-named c = (
-  held (IsNumberOption (rows_of (found_of c.args.inner.now)) (codes "nodes")) c.number_of.result c.in_ok-number_of.field-0 c.number_of.ensures.named (search rules),
-  held (IsNumberOption (rows_of (found_of c.args.inner.now)) (codes "pages")) c.number_of-2.result c.in_ok-number_of-2.field-0 c.number_of-2.ensures.named (search rules),
-  held (IsNumberOption (rows_of (found_of c.args.inner.now)) (codes "log")) c.number_of-3.result c.in_ok-number_of-3.field-0 c.number_of-3.ensures.named (search rules),
+  held (IsNumberOption (rows_of (found_of c.args.inner.now)) (codes "nodes")) c.number_of.result c.in_ok-number_of.field-0 c.number_of.ensures.named
+      (search rules),
+  held (IsNumberOption (rows_of (found_of c.args.inner.now)) (codes "pages")) c.number_of-2.result c.in_ok-number_of-2.field-0 c.number_of-2.ensures.named
+      (search rules),
+  held (IsNumberOption (rows_of (found_of c.args.inner.now)) (codes "log")) c.number_of-3.result c.in_ok-number_of-3.field-0 c.number_of-3.ensures.named
+      (search rules),
 )

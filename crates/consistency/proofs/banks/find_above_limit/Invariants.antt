@@ -5,4 +5,4 @@ use Rattle.consistency.proofs.banks.find_above_limit.Given as goal
 
 abbrev pub invariant-loop-number : goal.invariant-loop-number
 invariant-loop-number g l =
-    (b : ℕ) → b < l.number → role_at (frames_of (g.F.PresentFrames.parts l.store)) b ≡ role.Bank → slice_index l.usages b ≤ slice_index l.limits b
+    (b : ℕ) → b < l.number → role_at (frames_of (g.F.Frames.parts l.store)) b ≡ role.Bank → slice_index l.usages b ≤ slice_index l.limits b

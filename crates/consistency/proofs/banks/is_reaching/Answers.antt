@@ -6,5 +6,6 @@ use Rattle.consistency.proofs.banks.is_reaching.Goals as goal
 
 pub returns-else-not-has_role : goal.returns-else-not-has_role
 returns-else-not-has_role g c =
-    let fs = frames_of (g.F.PresentFrames.parts c.args.store.now) in
-    reaches c.is_in_chain.result (chain (objects_of fs) c.args.number) (role_at fs c.args.number ≡ role.Bank) c.is_in_chain.ensures (c.has_role.ensures.0 c.if-not-has_role.false)
+    let fs = frames_of (g.F.Frames.parts c.args.store.now) in
+    reaches c.is_in_chain.result (chain (objects_of fs) c.args.number) (role_at fs c.args.number ≡ role.Bank) c.is_in_chain.ensures
+    (c.has_role.ensures.0 c.if-not-has_role.false)

@@ -4,5 +4,5 @@ use Rattle.consistency.proofs.capabilities.are_all_named.Goals as goal
 
 pub loop-capability-preserved : goal.loop-capability-preserved
 loop-capability-preserved g c =
-    named_more (frames_of (g.F.PresentFrames.parts c.args.store.now)) c.args.held.now c.loop-capability.capability-index _ c.loop-capability-test.true
+    named_more (frames_of (g.F.Frames.parts c.args.store.now)) c.args.held.now c.loop-capability.capability-index _ c.loop-capability-test.true
     c.loop-capability.invariant (c.is_named.ensures.0 c.if-not-is_named.false)

@@ -4,7 +4,8 @@ use Rattle.consistency.proofs.capabilities.are_named.Goals as goal
 
 pub returns-clause-named : goal.returns-clause-named
 returns-clause-named g c = (
-  λ _. named_whole (g.F.PresentFrames.parts c.args.store.now) c.table.result.now c.count-number-end.result c.loop-number.number c.table.ensures c.count-number-end.ensures
+  λ _. named_whole (g.F.Frames.parts c.args.store.now) c.table.result.now c.count-number-end.result c.loop-number.number c.table.ensures
+      c.count-number-end.ensures
       c.loop-number-test.false c.loop-number.invariant.each,
   λ _. refl,
 )

@@ -3,10 +3,11 @@ use Rattle.consistency.proofs.capabilities.is_named.Goals as goal
 
 pub returns-then-held-current : goal.returns-then-held-current
 returns-then-held-current g c =
-    named_live (g.F.PresentFrames.parts c.args.store.now) c.table.result.now c.args.held c.current_count-current.result c.table.ensures c.current_count-current.ensures
+    named_live (g.F.Frames.parts c.args.store.now) c.table.result.now c.args.held c.current_count-current.result c.table.ensures c.current_count-current.ensures
     c.names_its_role.result c.if-held-current.true c.names_its_role.ensures
 
 pub returns : goal.returns
 returns g c =
-    named_stale (g.F.PresentFrames.parts c.args.store.now) c.table.result.now c.args.held c.current_count-current.result c.table.ensures c.current_count-current.ensures
+    named_stale (g.F.Frames.parts c.args.store.now) c.table.result.now c.args.held c.current_count-current.result c.table.ensures
+    c.current_count-current.ensures
     c.if-held-current.false

@@ -5,4 +5,4 @@ use Rattle.consistency.proofs.processes.are_all_taken.Given as goal
 
 abbrev pub invariant-loop-number : goal.invariant-loop-number
 invariant-loop-number g l =
-    (a : ℕ) → a < l.number → role_at (frames_of (g.F.PresentFrames.parts l.store)) a ≡ role.Annex → is_taken l.taken a ≡ true
+    (a : ℕ) → a < l.number → role_at (frames_of (g.F.Frames.parts l.store)) a ≡ role.Annex → is_taken l.taken a ≡ true

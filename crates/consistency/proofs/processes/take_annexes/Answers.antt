@@ -8,7 +8,7 @@ use Rattle.consistency.proofs.processes.take_annexes.Goals.{in-Some+else-not-tak
 
 pub loop-root-preserved : goal.loop-root-preserved
 loop-root-preserved g c =
-    let p = g.F.PresentFrames.parts c.args.store.now in
+    let p = g.F.Frames.parts c.args.store.now in
     let n = c.loop-root.root in
     let old = c.loop-root.taken in
     let before = c.loop-root.invariant.taken in
@@ -21,7 +21,8 @@ loop-root-preserved g c =
           record {
             size = c.match-note.auto.taken ∙ c.loop-root.invariant.size;
             taken = subst (λ (t : List Bool). AreTaken (frames_of p) (n + 1) t) (sym w.taken-is)
-                (taken_more (frames_of p) n old before w.take_annex.new.taken a (root_noted (frames_of p) c.args.notes.now c.requires.notes n w.in-Some.note w.in-Some.is) takes room);
+                (taken_more (frames_of p) n old before w.take_annex.new.taken a
+                (root_noted (frames_of p) c.args.notes.now c.requires.notes n w.in-Some.note w.in-Some.is) takes room);
           }
       | in_default w ↦ record {
         size = c.match-note.auto.taken ∙ c.loop-root.invariant.size;
@@ -32,7 +33,7 @@ loop-root-preserved g c =
 
 pub returns-clause-yes : goal.returns-clause-yes
 returns-clause-yes g c = λ _.
-    let p = g.F.PresentFrames.parts c.args.store.now in
+    let p = g.F.Frames.parts c.args.store.now in
     let whole : c.loop-root.root ≡ length p.headers =
     omega (arith, c.loop-root-test.false, c.loop-root.auto.root-end, c.requires.notes.count, length_in p.headers p.contents) in
     subst (λ (n : ℕ). AreTaken (frames_of p) n c.loop-root.taken) whole c.loop-root.invariant.taken

@@ -8,5 +8,6 @@ returns-then-not-has_targets-clause-fault c =
     let fields : HasFields c.args.description.now = c.has_fields.ensures.0 c.if-not-has_fields.false in (
       numbers,
       fields,
-      λ fs is named. let targets = c.has_targets.ensures.1 (named_targets c.args.description.now fs numbers is fields named) in let none = c.if-not-has_targets.true in cc,
+      λ fs is named. let targets = c.has_targets.ensures.1 (named_targets c.args.description.now fs numbers is fields named) in let none =
+          c.if-not-has_targets.true in cc,
     )

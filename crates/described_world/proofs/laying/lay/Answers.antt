@@ -10,23 +10,28 @@ lay_banks-requires-clause-within c =
 
 pub lay_roots-requires-clause-within : goal.lay_roots-requires-clause-within
 lay_roots-requires-clause-within c =
-    all_within c.args.description.now OfRoot c.args.description.now.processes.items c.deref-2.result.now _ c.requires.numbers (λ e there. there) c.deref-2.ensures.value
+    all_within c.args.description.now OfRoot c.args.description.now.processes.items c.deref-2.result.now _ c.requires.numbers (λ e there. there)
+    c.deref-2.ensures.value
     (c.lay_banks.ensures.headers ∙ c.in_ok-world.ensures.count.headers)
 
 pub lay_annexes-requires-clause-within : goal.lay_annexes-requires-clause-within
 lay_annexes-requires-clause-within c =
-    all_within c.args.description.now OfAnnex c.args.description.now.processes.items c.deref-3.result.now _ c.requires.numbers (λ e there. there) c.deref-3.ensures.value
+    all_within c.args.description.now OfAnnex c.args.description.now.processes.items c.deref-3.result.now _ c.requires.numbers (λ e there. there)
+    c.deref-3.ensures.value
     (c.lay_roots.ensures.headers ∙ c.lay_banks.ensures.headers ∙ c.in_ok-world.ensures.count.headers)
 
 pub lay_nodes-requires-clause-within : goal.lay_nodes-requires-clause-within
 lay_nodes-requires-clause-within c =
-    all_within c.args.description.now OfNode c.args.description.now.nodes.items c.deref-4.result.now _ c.requires.numbers (λ e there. there) c.deref-4.ensures.value
+    all_within c.args.description.now OfNode c.args.description.now.nodes.items c.deref-4.result.now _ c.requires.numbers (λ e there. there)
+    c.deref-4.ensures.value
     (c.in_ok-lay_annexes.ensures.headers ∙ c.lay_roots.ensures.headers ∙ c.lay_banks.ensures.headers ∙ c.in_ok-world.ensures.count.headers)
 
 pub lay_pages-requires-clause-within : goal.lay_pages-requires-clause-within
 lay_pages-requires-clause-within c =
-    all_within c.args.description.now OfPage c.args.description.now.pages.items c.deref-5.result.now _ c.requires.numbers (λ e there. there) c.deref-5.ensures.value
-    (c.in_ok-lay_nodes.ensures.headers ∙ c.in_ok-lay_annexes.ensures.headers ∙ c.lay_roots.ensures.headers ∙ c.lay_banks.ensures.headers ∙ c.in_ok-world.ensures.count.headers)
+    all_within c.args.description.now OfPage c.args.description.now.pages.items c.deref-5.result.now _ c.requires.numbers (λ e there. there)
+    c.deref-5.ensures.value
+    (c.in_ok-lay_nodes.ensures.headers ∙ c.in_ok-lay_annexes.ensures.headers ∙ c.lay_roots.ensures.headers ∙ c.lay_banks.ensures.headers ∙
+    c.in_ok-world.ensures.count.headers)
 
 pub returns-clause-frames : goal.returns-clause-frames
 returns-clause-frames c =

@@ -12,10 +12,13 @@ loop-node-preserved c =
     more_laid OfNode c.args.nodes.now c.args.world.now c.loop-node.world _ c.loop-node.node-index c.node-item.result
     (split_at c.args.nodes.now c.loop-node.node-index c.node-item.result c.loop-node-test.true c.node-item.is)
     (search rules)
-    (put_same _ _ _ _ _ _ (ap content.Node c.in_ok-slots.ensures ∙ ap (λ xs. content.Node (slots_of xs)) c.deref.ensures.value) c.put.ensures) c.loop-node.invariant
+    (put_same _ _ _ _ _ _ (ap content.Node c.in_ok-slots.ensures ∙ ap (λ xs. content.Node (slots_of xs)) c.deref.ensures.value) c.put.ensures)
+    c.loop-node.invariant
 
 pub put-requires-clause-within : goal.put-requires-clause-within
-put-requires-clause-within c = still_within _ _ _ (subst (λ e. e.number < vec_len c.args.world.now.headers) (sym c.node-item.is) (c.requires.within c.loop-node.node-index c.node-item.result c.loop-node-test.true)) c.loop-node.invariant.headers
+put-requires-clause-within c = still_within _ _ _
+    (subst (λ e. e.number < vec_len c.args.world.now.headers) (sym c.node-item.is)
+    (c.requires.within c.loop-node.node-index c.node-item.result c.loop-node-test.true)) c.loop-node.invariant.headers
 
 pub put-requires-clause-even : goal.put-requires-clause-even
 put-requires-clause-even c = c.loop-node.invariant.contents ∙ c.requires.even ∙ sym c.loop-node.invariant.headers

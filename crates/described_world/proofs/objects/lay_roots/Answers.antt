@@ -14,10 +14,13 @@ loop-process-preserved c =
     (put_same _ _ _ _ _ _ c.root_of.ensures.root c.put.ensures) c.loop-process.invariant
 
 pub put-requires-clause-within : goal.put-requires-clause-within
-put-requires-clause-within c = still_within _ _ _ (subst (λ e. e.root < vec_len c.args.world.now.headers) (sym c.process-item.is) (c.requires.within c.loop-process.process-index c.process-item.result c.loop-process-test.true)) c.loop-process.invariant.headers
+put-requires-clause-within c = still_within _ _ _
+    (subst (λ e. e.root < vec_len c.args.world.now.headers) (sym c.process-item.is)
+    (c.requires.within c.loop-process.process-index c.process-item.result c.loop-process-test.true)) c.loop-process.invariant.headers
 
 pub put-requires-clause-even : goal.put-requires-clause-even
 put-requires-clause-even c = c.loop-process.invariant.contents ∙ c.requires.even ∙ sym c.loop-process.invariant.headers
 
 pub returns : goal.returns
-returns c = all_laid OfRoot c.args.processes.now c.args.world.now c.loop-process.world c.loop-process.process-index c.loop-process-test.false c.loop-process.invariant
+returns c = all_laid OfRoot c.args.processes.now c.args.world.now c.loop-process.world c.loop-process.process-index c.loop-process-test.false
+    c.loop-process.invariant

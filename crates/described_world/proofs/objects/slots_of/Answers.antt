@@ -4,7 +4,8 @@ use Rattle.described_world.proofs.objects.slots_of.Goals as goal
 
 pub loop-entry-preserved : goal.loop-entry-preserved
 loop-entry-preserved c =
-    each_wrote (λ s. s.index) slot_held c.args.entries.now c.loop-entry.slots _ _ c.loop-entry.entry-index (record { index = 0; capability = None }) c.slot_held.result c.loop-entry-test.true c.set.ensures.set
+    each_wrote (λ s. s.index) slot_held c.args.entries.now c.loop-entry.slots _ _ c.loop-entry.entry-index (record { index = 0; capability = None })
+    c.slot_held.result c.loop-entry-test.true c.set.ensures.set
     c.slot_held.ensures c.loop-entry.invariant
 
 pub returns : goal.returns

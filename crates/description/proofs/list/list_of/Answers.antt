@@ -11,7 +11,8 @@ returns-in_err-entry g c =
     let v = c.index.result.now in
     let within : c.loop-i.i < length vs = grind (arith, common_steps) in
     let at : get_or vs c.loop-i.i v ≡ v = grind (arith, common_steps) in
-    failed_list (λ x. P (view v) x) (λ xs. IsList P (view c.args.value.now) xs) c.in_err-entry.field-0.0 c.from_residual-in_err-entry.result c.from_residual-in_err-entry.ensures.1 c.in_err-entry.ensures
+    failed_list (λ x. P (view v) x) (λ xs. IsList P (view c.args.value.now) xs) c.in_err-entry.field-0.0 c.from_residual-in_err-entry.result
+    c.from_residual-in_err-entry.ensures.1 c.in_err-entry.ensures
     (λ xs list. each_read P (view c.args.value.now) vs c.loop-i.i xs v c.in_ok-items.ensures within at list)
 
 pub loop-i-preserved : goal.loop-i-preserved
@@ -21,4 +22,5 @@ loop-i-preserved g c =
     let within : c.loop-i.i < length vs = grind (arith, common_steps) in
     let at : get_or vs c.loop-i.i v ≡ v = grind (arith, common_steps) in
     let ok : is_ok c.push.result ≡ true = grind (arith, common_steps) in
-    rw (c.push.ensures.items, ok) (one_more g.T.FromValue.IsSaid vs c.loop-i.i c.loop-i.list.items v c.in_ok-entry.entry within at c.loop-i.invariant c.in_ok-entry.ensures)
+    rw (c.push.ensures.items, ok)
+    (one_more g.T.FromValue.IsSaid vs c.loop-i.i c.loop-i.list.items v c.in_ok-entry.entry within at c.loop-i.invariant c.in_ok-entry.ensures)

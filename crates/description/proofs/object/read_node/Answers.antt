@@ -3,16 +3,20 @@ use Rattle.description.proofs.Parts.{failed}
 use Rattle.description.proofs.object.read_node.Goals as goal
 
 pub returns-in_err-check_keys : goal.returns-in_err-check_keys
-returns-in_err-check_keys c = failed _ (IsNode (table_view c.args.table.now)) c.in_err-check_keys.field-0.0 c.from_residual.result c.from_residual.ensures.1 c.in_err-check_keys.ensures (λ _ is. (tt, is.known))
+returns-in_err-check_keys c = failed _ (IsNode (table_view c.args.table.now)) c.in_err-check_keys.field-0.0 c.from_residual.result c.from_residual.ensures.1
+    c.in_err-check_keys.ensures (λ _ is. (tt, is.known))
 
 pub returns-in_err-owner : goal.returns-in_err-owner
-returns-in_err-owner c = failed _ (IsNode (table_view c.args.table.now)) c.in_err-owner.field-0.0 c.from_residual-in_err-owner.result c.from_residual-in_err-owner.ensures.1 c.in_err-owner.ensures (λ p is. (p.owner, is.owner))
+returns-in_err-owner c = failed _ (IsNode (table_view c.args.table.now)) c.in_err-owner.field-0.0 c.from_residual-in_err-owner.result
+    c.from_residual-in_err-owner.ensures.1 c.in_err-owner.ensures (λ p is. (p.owner, is.owner))
 
 pub returns-in_err-number : goal.returns-in_err-number
-returns-in_err-number c = failed _ (IsNode (table_view c.args.table.now)) c.in_err-number.field-0.0 c.from_residual-in_err-number.result c.from_residual-in_err-number.ensures.1 c.in_err-number.ensures (λ p is. (p.number, is.number))
+returns-in_err-number c = failed _ (IsNode (table_view c.args.table.now)) c.in_err-number.field-0.0 c.from_residual-in_err-number.result
+    c.from_residual-in_err-number.ensures.1 c.in_err-number.ensures (λ p is. (p.number, is.number))
 
 pub returns-in_err-slots : goal.returns-in_err-slots
-returns-in_err-slots c = failed _ (IsNode (table_view c.args.table.now)) c.in_err-slots.field-0.0 c.from_residual-in_err-slots.result c.from_residual-in_err-slots.ensures.1 c.in_err-slots.ensures (λ p is. (p.slots.items, is.slots))
+returns-in_err-slots c = failed _ (IsNode (table_view c.args.table.now)) c.in_err-slots.field-0.0 c.from_residual-in_err-slots.result
+    c.from_residual-in_err-slots.ensures.1 c.in_err-slots.ensures (λ p is. (p.slots.items, is.slots))
 
 pub returns : goal.returns
 returns c = record {

@@ -4,35 +4,44 @@ use Rattle.description.proofs.Parts.{failed}
 use Rattle.description.proofs.read.read_description.Goals as goal
 
 pub returns-in_err-check_keys : goal.returns-in_err-check_keys
-returns-in_err-check_keys c = failed _ (IsDescription (table_view c.args.table.now)) c.in_err-check_keys.field-0.0 c.from_residual.result c.from_residual.ensures.1 c.in_err-check_keys.ensures (λ _ is. (tt, is.known))
+returns-in_err-check_keys c = failed _ (IsDescription (table_view c.args.table.now)) c.in_err-check_keys.field-0.0 c.from_residual.result
+    c.from_residual.ensures.1 c.in_err-check_keys.ensures (λ _ is. (tt, is.known))
 
 pub returns-in_err-geometry : goal.returns-in_err-geometry
-returns-in_err-geometry c = failed _ (IsDescription (table_view c.args.table.now)) c.in_err-geometry.field-0.0 c.from_residual-in_err-geometry.result c.from_residual-in_err-geometry.ensures.1 c.in_err-geometry.ensures (λ d is. (d.geometry, is.geometry))
+returns-in_err-geometry c = failed _ (IsDescription (table_view c.args.table.now)) c.in_err-geometry.field-0.0 c.from_residual-in_err-geometry.result
+    c.from_residual-in_err-geometry.ensures.1 c.in_err-geometry.ensures (λ d is. (d.geometry, is.geometry))
 
 pub returns-in_err-layout : goal.returns-in_err-layout
-returns-in_err-layout c = failed _ (IsDescription (table_view c.args.table.now)) c.in_err-layout.field-0.0 c.from_residual-in_err-layout.result c.from_residual-in_err-layout.ensures.1 c.in_err-layout.ensures (λ d is. (d.layout, is.layout))
+returns-in_err-layout c = failed _ (IsDescription (table_view c.args.table.now)) c.in_err-layout.field-0.0 c.from_residual-in_err-layout.result
+    c.from_residual-in_err-layout.ensures.1 c.in_err-layout.ensures (λ d is. (d.layout, is.layout))
 
 pub returns-in_err-age : goal.returns-in_err-age
-returns-in_err-age c = failed _ (IsDescription (table_view c.args.table.now)) c.in_err-age.field-0.0 c.from_residual-in_err-age.result c.from_residual-in_err-age.ensures.1 c.in_err-age.ensures (λ d is. (d.age, is.age))
+returns-in_err-age c = failed _ (IsDescription (table_view c.args.table.now)) c.in_err-age.field-0.0 c.from_residual-in_err-age.result
+    c.from_residual-in_err-age.ensures.1 c.in_err-age.ensures (λ d is. (d.age, is.age))
 
 pub returns-in_err-ranges : goal.returns-in_err-ranges
 returns-in_err-ranges c =
     let ms = table_view c.args.table.now in
     let g = c.in_ok-geometry.geometry in
-    failed (λ (rs : List NumberRange). AtOr (whole_ranges g) (codes "ranges") (IsList IsRange) ms rs) (IsDescription ms) c.in_err-ranges.field-0.0 c.from_residual-in_err-ranges.result c.from_residual-in_err-ranges.ensures.1
+    failed (λ (rs : List NumberRange). AtOr (whole_ranges g) (codes "ranges") (IsList IsRange) ms rs) (IsDescription ms) c.in_err-ranges.field-0.0
+    c.from_residual-in_err-ranges.result c.from_residual-in_err-ranges.ensures.1
     c.in_err-ranges.ensures (λ d is. at_either (codes "ranges") (IsList IsRange) ms (whole_ranges d.geometry) (whole_ranges g) d.ranges.items is.ranges)
 
 pub returns-in_err-banks : goal.returns-in_err-banks
-returns-in_err-banks c = failed _ (IsDescription (table_view c.args.table.now)) c.in_err-banks.field-0.0 c.from_residual-in_err-banks.result c.from_residual-in_err-banks.ensures.1 c.in_err-banks.ensures (λ d is. (d.banks.items, is.banks))
+returns-in_err-banks c = failed _ (IsDescription (table_view c.args.table.now)) c.in_err-banks.field-0.0 c.from_residual-in_err-banks.result
+    c.from_residual-in_err-banks.ensures.1 c.in_err-banks.ensures (λ d is. (d.banks.items, is.banks))
 
 pub returns-in_err-processes : goal.returns-in_err-processes
-returns-in_err-processes c = failed _ (IsDescription (table_view c.args.table.now)) c.in_err-processes.field-0.0 c.from_residual-in_err-processes.result c.from_residual-in_err-processes.ensures.1 c.in_err-processes.ensures (λ d is. (d.processes.items, is.processes))
+returns-in_err-processes c = failed _ (IsDescription (table_view c.args.table.now)) c.in_err-processes.field-0.0 c.from_residual-in_err-processes.result
+    c.from_residual-in_err-processes.ensures.1 c.in_err-processes.ensures (λ d is. (d.processes.items, is.processes))
 
 pub returns-in_err-nodes : goal.returns-in_err-nodes
-returns-in_err-nodes c = failed _ (IsDescription (table_view c.args.table.now)) c.in_err-nodes.field-0.0 c.from_residual-in_err-nodes.result c.from_residual-in_err-nodes.ensures.1 c.in_err-nodes.ensures (λ d is. (d.nodes.items, is.nodes))
+returns-in_err-nodes c = failed _ (IsDescription (table_view c.args.table.now)) c.in_err-nodes.field-0.0 c.from_residual-in_err-nodes.result
+    c.from_residual-in_err-nodes.ensures.1 c.in_err-nodes.ensures (λ d is. (d.nodes.items, is.nodes))
 
 pub returns-in_err-pages : goal.returns-in_err-pages
-returns-in_err-pages c = failed _ (IsDescription (table_view c.args.table.now)) c.in_err-pages.field-0.0 c.from_residual-in_err-pages.result c.from_residual-in_err-pages.ensures.1 c.in_err-pages.ensures (λ d is. (d.pages.items, is.pages))
+returns-in_err-pages c = failed _ (IsDescription (table_view c.args.table.now)) c.in_err-pages.field-0.0 c.from_residual-in_err-pages.result
+    c.from_residual-in_err-pages.ensures.1 c.in_err-pages.ensures (λ d is. (d.pages.items, is.pages))
 
 pub returns : goal.returns
 returns c = record {

@@ -19,8 +19,12 @@ loop-i-preserved g c =
     let within : c.loop-i.i < length vs = grind (arith, common_steps) in
     let at : get_or vs c.loop-i.i v ≡ v = grind (arith, common_steps) in
     let before = c.loop-i.invariant in
-    let x = c.in-Ok-from_value.field-0 in
-    (before.0 ++ x ∷ [], omega (arith, before.1, length-append before.0 (x ∷ [])), one_more g.T.FromValue.IsSaid vs c.loop-i.i before.0 v x within at before.2 c.in-Ok-from_value.ensures)
+    let x = c.in-Ok-from_value.field-0 in (
+      before.0 ++ x ∷ [],
+      omega (arith, before.1, length-append before.0 (x ∷ [])),
+      one_more g.T.FromValue.IsSaid vs c.loop-i.i before.0 v x within at before.2
+          c.in-Ok-from_value.ensures,
+    )
 
 pub unreachable-requires : goal.unreachable-requires
 unreachable-requires g c =

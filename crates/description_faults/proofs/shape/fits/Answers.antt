@@ -40,7 +40,8 @@ pub returns-in-BankOwner : goal.returns-in-BankOwner
 returns-in-BankOwner c = rw c.in-BankOwner.is c.has_number-in-BankOwner.ensures
 
 pub returns-in-BankLimit : goal.returns-in-BankLimit
-returns-in-BankLimit c = let ms = table_view c.args.table.now in rw c.in-BankLimit.is (reads_decided (λ n. At (codes "limit") IsWideNumber ms n) c.wide_number.result c.decided.result c.decided.ensures c.wide_number.ensures)
+returns-in-BankLimit c = let ms = table_view c.args.table.now in rw c.in-BankLimit.is
+    (reads_decided (λ n. At (codes "limit") IsWideNumber ms n) c.wide_number.result c.decided.result c.decided.ensures c.wide_number.ensures)
 
 pub returns-in-ProcessRoot : goal.returns-in-ProcessRoot
 returns-in-ProcessRoot c = rw c.in-ProcessRoot.is c.has_number-in-ProcessRoot.ensures
@@ -52,16 +53,21 @@ pub returns-in-ProcessOwner : goal.returns-in-ProcessOwner
 returns-in-ProcessOwner c = rw c.in-ProcessOwner.is c.has_number-in-ProcessOwner.ensures
 
 pub returns-in-ProcessState : goal.returns-in-ProcessState
-returns-in-ProcessState c = let ms = table_view c.args.table.now in rw c.in-ProcessState.is (reads_decided (λ s. At (codes "state") IsState ms s) c.state.result c.decided-in-ProcessState.result c.decided-in-ProcessState.ensures c.state.ensures)
+returns-in-ProcessState c = let ms = table_view c.args.table.now in rw c.in-ProcessState.is
+    (reads_decided (λ s. At (codes "state") IsState ms s) c.state.result c.decided-in-ProcessState.result c.decided-in-ProcessState.ensures c.state.ensures)
 
 pub returns-in-ProcessKey : goal.returns-in-ProcessKey
 returns-in-ProcessKey c = rw c.in-ProcessKey.is c.may_have_number-in-ProcessKey.ensures
 
 pub returns-in-ProcessWords : goal.returns-in-ProcessWords
-returns-in-ProcessWords c = let ms = table_view c.args.table.now in rw c.in-ProcessWords.is (reads_decided (λ words. AtOr (0 ∷ 0 ∷ 0 ∷ 0 ∷ []) (codes "words") AreFour ms words) c.four_or_zeros.result c.decided-in-ProcessWords.result c.decided-in-ProcessWords.ensures c.four_or_zeros.ensures)
+returns-in-ProcessWords c = let ms = table_view c.args.table.now in rw c.in-ProcessWords.is
+    (reads_decided (λ words. AtOr (0 ∷ 0 ∷ 0 ∷ 0 ∷ []) (codes "words") AreFour ms words) c.four_or_zeros.result c.decided-in-ProcessWords.result
+    c.decided-in-ProcessWords.ensures c.four_or_zeros.ensures)
 
 pub returns-in-ProcessSpace : goal.returns-in-ProcessSpace
-returns-in-ProcessSpace c = let ms = table_view c.args.table.now in rw c.in-ProcessSpace.is (reads_decided (λ space. AtOr (Some Void) (codes "space") IsCapability ms space) c.capability_or_void.result c.decided-in-ProcessSpace.result c.decided-in-ProcessSpace.ensures c.capability_or_void.ensures)
+returns-in-ProcessSpace c = let ms = table_view c.args.table.now in rw c.in-ProcessSpace.is
+    (reads_decided (λ space. AtOr (Some Void) (codes "space") IsCapability ms space) c.capability_or_void.result c.decided-in-ProcessSpace.result
+    c.decided-in-ProcessSpace.ensures c.capability_or_void.ensures)
 
 pub returns-in-ProcessRegisters : goal.returns-in-ProcessRegisters
 returns-in-ProcessRegisters c = rw c.in-ProcessRegisters.is c.may_have_list-in-ProcessRegisters.ensures

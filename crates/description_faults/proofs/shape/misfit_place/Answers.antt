@@ -9,5 +9,6 @@ unreachable-requires c =
     let ms = table_view c.args.table.now in
     let keys = keys_of name.Whole in
     let whole = all_fit ms name.Whole
-    (at_none (All (λ key. Fits key ms) keys) (λ key. Contains keys key × (Fits key ms → ⊥)) c.in_ok-misfit.misfit c.in-None.is c.in_ok-misfit.ensures) c.requires.known in
+    (at_none (All (λ key. Fits key ms) keys) (λ key. Contains keys key × (Fits key ms → ⊥)) c.in_ok-misfit.misfit c.in-None.is c.in_ok-misfit.ensures)
+    c.requires.known in
     c.requires.refused whole.0 whole.1

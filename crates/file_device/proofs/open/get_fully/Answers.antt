@@ -1,6 +1,6 @@
 use Rattle.file_device.proofs.Names.{rules, arith, length, length-take, option_map, refl, ap, resizes}
 use Rattle.std.proofs.Common.{◌≡◌, ◌≤◌, ◌-◌, ◌∙◌}
-use Rattle.file_device.proofs.Openings.{gets_none, gets_on, stays_within, keeps_length}
+use Rattle.file_device.proofs.Openings.{gets_on, stays_within, keeps_length}
 use Rattle.file_device.proofs.open.get_fully.Goals as goal
 use Rattle.file_device.proofs.open.get_fully.Goals.{in-Ok+in_ok-append-in-Ok, in-Err+else-ne}
 

@@ -13,26 +13,30 @@ use Rattle.gate.proofs.carrying.carry_out.Goals as goal
 pub leave-requires-clause-announced : goal.leave-requires-clause-announced
 leave-requires-clause-announced g c other =
     let caller = c.args.caller in
-    process_listed (g.F.PresentFrames.IsAnnounced c.args.store.now) caller.operation caller.process caller.annex (drop (writer_count caller.operation) c.args.banks.now.listed)
+    process_listed (g.F.PresentFrames.IsAnnounced c.args.store.now) caller.operation caller.process caller.annex
+    (drop (writer_count caller.operation) c.args.banks.now.listed)
     c.args.banks.now.listed c.requires.planned.listed other c.requires.announced
 
 pub change-requires : goal.change-requires
 change-requires g c =
-    let old = g.F.PresentFrames.parts c.args.store.now in
-    let mid = g.F.PresentFrames.parts c.leave.new.store in
+    let old = g.F.Frames.parts c.args.store.now in
+    let mid = g.F.Frames.parts c.leave.new.store in
     let caller = c.args.caller in
     let banks = c.args.banks.now in
     let same = c.leave.ensures.snapshots.geometry in
-    let sound : AreSound mid = before_sound old mid banks c.requires.sound c.requires.counted caller.operation caller.process c.requires.running c.leave.ensures.objects same
+    let sound : AreSound mid = before_sound old mid banks c.requires.sound c.requires.counted caller.operation caller.process c.requires.running
+    c.leave.ensures.objects same
     (c.leave.ensures.current c.requires.sound.1.current) (c.leave.ensures.keepable c.requires.sound.0 c.requires.sound.1.keepable) in
     let may = before_may old mid banks c.requires.sound c.requires.counted caller.operation caller.process c.requires.running c.leave.ensures.objects same
     c.args.invocation.now caller c.args.plan banks.listed c.requires.planned sound in
     let counts = c.writer_count.ensures in
     rw counts (record {
       sound = sound;
-      counted = before_counted old mid banks c.requires.sound c.requires.counted caller.operation caller.process c.requires.running c.leave.ensures.objects same;
+      counted = before_counted old mid banks c.requires.sound c.requires.counted caller.operation caller.process c.requires.running c.leave.ensures.objects
+          same;
       may = may;
-      within = writers_within caller.operation caller.process caller.annex (drop (writer_count caller.operation) banks.listed) banks.listed c.requires.planned.listed;
+      within = writers_within caller.operation caller.process caller.annex (drop (writer_count caller.operation) banks.listed) banks.listed
+          c.requires.planned.listed;
       announced = All-drop (g.F.PresentFrames.IsAnnounced c.leave.new.store) (writer_count caller.operation) banks.listed
           (λ k d inside. c.leave.ensures.snapshots.announced _ (c.requires.announced k d inside));
       fetched = λ k d inside. c.leave.ensures.snapshots.fetched _ (c.requires.fetched.2 k d inside);
@@ -40,18 +44,19 @@ change-requires g c =
 
 pub answer-requires-clause-roles : goal.answer-requires-clause-roles
 answer-requires-clause-roles g c =
-    let mid = g.F.PresentFrames.parts c.leave.new.store in
+    let mid = g.F.Frames.parts c.leave.new.store in
     let sound = c.requires.sound in
     let same = c.leave.ensures.snapshots.geometry in
-    keepable_roles mid.geometry (sound.0 + 1) (frames_of (g.F.PresentFrames.parts c.change.new.store))
+    keepable_roles mid.geometry (sound.0 + 1) (frames_of (g.F.Frames.parts c.change.new.store))
     (c.change.ensures.keepable sound.0 (omega (arith, sound.1.sound.age))
-    (in_geometry mid.geometry (g.F.PresentFrames.parts c.args.store.now).geometry sound.0 (frames_of mid) same (c.leave.ensures.keepable sound.0 sound.1.keepable)))
+    (in_geometry mid.geometry (g.F.Frames.parts c.args.store.now).geometry sound.0 (frames_of mid) same (c.leave.ensures.keepable sound.0 sound.1.keepable)))
 
 pub answer-requires-clause-root : goal.answer-requires-clause-root
 answer-requires-clause-root g c call is =
     let caller = c.args.caller in
-    let used = root_used (content_at (objects_in (g.F.PresentFrames.parts c.change.new.store)) caller.process) is in
-    let announced = process_listed (g.F.PresentFrames.IsAnnounced c.args.store.now) caller.operation caller.process caller.annex (drop (writer_count caller.operation) c.args.banks.now.listed)
+    let used = root_used (content_at (objects_in (g.F.Frames.parts c.change.new.store)) caller.process) is in
+    let announced = process_listed (g.F.PresentFrames.IsAnnounced c.args.store.now) caller.operation caller.process caller.annex
+    (drop (writer_count caller.operation) c.args.banks.now.listed)
     c.args.banks.now.listed c.requires.planned.listed (no_send caller.operation call) c.requires.announced in (
       c.change.ensures.snapshots.fetched caller.process used (c.leave.ensures.snapshots.fetched caller.process c.requires.fetched.0),
       c.change.ensures.snapshots.announced caller.process used (c.leave.ensures.snapshots.announced caller.process announced),
@@ -59,9 +64,9 @@ answer-requires-clause-root g c call is =
 
 pub answer-requires-clause-annex : goal.answer-requires-clause-annex
 answer-requires-clause-annex g c call is =
-    let old = g.F.PresentFrames.parts c.args.store.now in
+    let old = g.F.Frames.parts c.args.store.now in
     let os = objects_in old in
-    let new = objects_in (g.F.PresentFrames.parts c.change.new.store) in
+    let new = objects_in (g.F.Frames.parts c.change.new.store) in
     let caller = c.args.caller in
     let plan = c.args.plan in
     let listed = c.args.banks.now.listed in
@@ -70,7 +75,7 @@ answer-requires-clause-annex g c call is =
     let process = running_process os caller.process c.requires.running in
     let frame = frame_before caller.operation os caller.process process in
     let objects : new ≡ changed us rest plan.change =
-    c.change.ensures.objects ∙ ap (λ (k : ℕ). changed (objects_in (g.F.PresentFrames.parts c.leave.new.store)) (drop k listed) plan.change) c.writer_count.ensures
+    c.change.ensures.objects ∙ ap (λ (k : ℕ). changed (objects_in (g.F.Frames.parts c.leave.new.store)) (drop k listed) plan.change) c.writer_count.ensures
     ∙ ap (λ (vs : List Object). changed vs rest plan.change) c.leave.ensures.objects in
     let still : is_process (changed us rest plan.change) caller.process ≡ true = subst (λ (vs : List Object). is_process vs caller.process ≡ true) objects is in
     let was : is_process us caller.process ≡ true = (tests_at os us frame caller.process).root ∙ process in
@@ -78,18 +83,20 @@ answer-requires-clause-annex g c call is =
     ap (λ (vs : List Object). annex_at vs caller.process) objects
     ∙ c.requires.planned.plans.annex us frame caller.process was still ∙ (frame.alike caller.process).annex ∙ sym c.requires.annex in
     let after : is_annex (content_at new (annex_at new caller.process)) ≡ true =
-    subst (λ (vs : List Object). is_annex (content_at vs (annex_at vs caller.process)) ≡ true) (sym objects) (c.requires.after.frame.annexes caller.process still).0 in
+    subst (λ (vs : List Object). is_annex (content_at vs (annex_at vs caller.process)) ≡ true) (sym objects)
+    (c.requires.after.frame.annexes caller.process still).0 in
     let used = annex_used (content_at new (annex_at new caller.process)) after in
-    let announced = annex_listed (g.F.PresentFrames.IsAnnounced c.args.store.now) caller.operation caller.process caller.annex rest listed c.requires.planned.listed call c.requires.announced in (
+    let announced = annex_listed (g.F.PresentFrames.IsAnnounced c.args.store.now) caller.operation caller.process caller.annex rest listed
+    c.requires.planned.listed call c.requires.announced in (
       c.change.ensures.snapshots.fetched (annex_at new caller.process) used
-          (c.leave.ensures.snapshots.fetched (annex_at new caller.process) (subst (g.F.PresentFrames.IsFetched c.args.store.now) (sym same) c.requires.fetched.1)),
+          (c.leave.ensures.snapshots.fetched (annex_at new caller.process) (subst (g.F.Frames.IsFetched c.args.store.now) (sym same) c.requires.fetched.1)),
       c.change.ensures.snapshots.announced (annex_at new caller.process) used
           (c.leave.ensures.snapshots.announced (annex_at new caller.process) (subst (g.F.PresentFrames.IsAnnounced c.args.store.now) (sym same) announced)),
     )
 
 pub returns-clause-objects : goal.returns-clause-objects
 returns-clause-objects g c =
-    let mid = objects_in (g.F.PresentFrames.parts c.leave.new.store) in
+    let mid = objects_in (g.F.Frames.parts c.leave.new.store) in
     let caller = c.args.caller in
     let plan = c.args.plan in
     let listed = c.args.banks.now.listed in
@@ -103,19 +110,20 @@ returns-clause-current g c = c.answer.ensures.current c.change.ensures.current
 
 pub returns-clause-counted : goal.returns-clause-counted
 returns-clause-counted g c =
-    let us = objects_in (g.F.PresentFrames.parts c.change.new.store) in
+    let us = objects_in (g.F.Frames.parts c.change.new.store) in
     let caller = c.args.caller in
-    let old = g.F.PresentFrames.parts c.args.store.now in
-    subst (λ (h : Geometry). AreCounted h (objects_in (g.F.PresentFrames.parts c.answer.new.store)) c.change.new.banks) c.leave.ensures.snapshots.geometry
-    (subst (λ (vs : List Object). AreCounted (g.F.PresentFrames.parts c.leave.new.store).geometry vs c.change.new.banks) (sym c.answer.ensures.objects)
-    (counted_on (g.F.PresentFrames.parts c.leave.new.store).geometry us _ c.change.new.banks (answered_frame caller.operation us caller.process c.args.plan.reply) c.change.ensures.counted))
+    let old = g.F.Frames.parts c.args.store.now in
+    subst (λ (h : Geometry). AreCounted h (objects_in (g.F.Frames.parts c.answer.new.store)) c.change.new.banks) c.leave.ensures.snapshots.geometry
+    (subst (λ (vs : List Object). AreCounted (g.F.Frames.parts c.leave.new.store).geometry vs c.change.new.banks) (sym c.answer.ensures.objects)
+    (counted_on (g.F.Frames.parts c.leave.new.store).geometry us _ c.change.new.banks (answered_frame caller.operation us caller.process c.args.plan.reply)
+    c.change.ensures.counted))
 
 pub returns-clause-keepable : goal.returns-clause-keepable
 returns-clause-keepable g c age young fits k =
-    let old = g.F.PresentFrames.parts c.args.store.now in
-    let mid = g.F.PresentFrames.parts c.leave.new.store in
-    let then = g.F.PresentFrames.parts c.change.new.store in
-    let new = g.F.PresentFrames.parts c.answer.new.store in
+    let old = g.F.Frames.parts c.args.store.now in
+    let mid = g.F.Frames.parts c.leave.new.store in
+    let then = g.F.Frames.parts c.change.new.store in
+    let new = g.F.Frames.parts c.answer.new.store in
     let first = c.leave.ensures.snapshots.geometry in
     let second = c.change.ensures.snapshots.geometry in
     in_geometry old.geometry then.geometry (age + 1) (frames_of new) (sym (second ∙ first))
@@ -125,12 +133,13 @@ returns-clause-keepable g c age young fits k =
 
 pub returns-clause-beside : goal.returns-clause-beside
 returns-clause-beside g c =
-    let old = g.F.PresentFrames.parts c.args.store.now in
-    let mid = g.F.PresentFrames.parts c.leave.new.store in
-    let then = g.F.PresentFrames.parts c.change.new.store in
-    let new = g.F.PresentFrames.parts c.answer.new.store in
+    let old = g.F.Frames.parts c.args.store.now in
+    let mid = g.F.Frames.parts c.leave.new.store in
+    let then = g.F.Frames.parts c.change.new.store in
+    let new = g.F.Frames.parts c.answer.new.store in
     let caller = c.args.caller in
-    let frame = before_frame old mid c.args.banks.now c.requires.sound c.requires.counted caller.operation caller.process c.requires.running c.leave.ensures.objects c.leave.ensures.snapshots.geometry in
+    let frame = before_frame old mid c.args.banks.now c.requires.sound c.requires.counted caller.operation caller.process c.requires.running
+    c.leave.ensures.objects c.leave.ensures.snapshots.geometry in
     let freed = free_in_frame then new _ c.answer.ensures.objects (answered_frame caller.operation (objects_in then) caller.process c.args.plan.reply) in
     record {
       renews = renews_after old mid new c.leave.ensures.snapshots.allocations (free_in_frame old mid (objects_in mid) refl frame)
@@ -138,5 +147,6 @@ returns-clause-beside g c =
       touched = c.answer.ensures.snapshots.touched ∙ c.change.ensures.snapshots.touched ∙ c.leave.ensures.snapshots.touched;
       geometry = c.answer.ensures.snapshots.geometry ∙ c.change.ensures.snapshots.geometry ∙ c.leave.ensures.snapshots.geometry;
       failures = c.answer.ensures.snapshots.failures ∙ c.change.ensures.snapshots.failures ∙ c.leave.ensures.snapshots.failures;
-      continues = g.met.F.PresentFrames.continues_twice _ _ _ c.leave.ensures.snapshots.continues (g.met.F.PresentFrames.continues_twice _ _ _ c.change.ensures.snapshots.continues c.answer.ensures.snapshots.continues);
+      continues = g.met.F.Frames.continues_twice _ _ _ c.leave.ensures.snapshots.continues
+          (g.met.F.Frames.continues_twice _ _ _ c.change.ensures.snapshots.continues c.answer.ensures.snapshots.continues);
     }

@@ -7,7 +7,7 @@ use Rattle.gate.proofs.delivery.deliver.Goals as goal
 pub returns-clause-objects : goal.returns-clause-objects
 returns-clause-objects g c =
     let m = c.args.message in
-    let before = objects_in (g.F.PresentFrames.parts c.args.store.now) in
+    let before = objects_in (g.F.Frames.parts c.args.store.now) in
     let caps = m.capabilities in
     c.set_last_slots.ensures.objects
     ∙ ap (λ (os : List Object). with_slots_from os c.annex-annex.result 28 caps) c.set_message.ensures.objects
@@ -16,17 +16,19 @@ returns-clause-objects g c =
 
 pub returns-clause-keepable : goal.returns-clause-keepable
 returns-clause-keepable g c = λ age fits keepable.
-    let F = g.F.PresentFrames in
+    let F = g.F.Frames in
     let old = F.parts c.args.store.now in
     let mid = F.parts c.set_message.new.store in
     let same = c.set_message.ensures.snapshots.geometry in
     let now = in_geometry mid.geometry old.geometry age (frames_of mid) same (c.set_message.ensures.keepable age tt keepable) in
     in_geometry old.geometry mid.geometry age (frames_of (F.parts c.set_last_slots.new.store)) (sym same)
     (c.set_last_slots.ensures.keepable age
-    (λ k d within. fits_kept mid.geometry age mid now _ (subst (λ (h : Geometry). FitsCap h (get_or c.args.message.capabilities k d)) (sym same) (fits k d within)))
+    (λ k d within. fits_kept mid.geometry age mid now _
+    (subst (λ (h : Geometry). FitsCap h (get_or c.args.message.capabilities k d)) (sym same) (fits k d within)))
     now)
 
 pub returns-clause-snapshots : goal.returns-clause-snapshots
 returns-clause-snapshots g c =
-    let F = g.F.PresentFrames in
-    keeps_twice F.parts F.IsFetched F.IsAnnounced F.ContinuesTo g.met.F.PresentFrames.continues_twice _ _ _ c.set_message.ensures.snapshots c.set_last_slots.ensures.snapshots
+    let F = g.F.Frames in
+    keeps_twice F.parts F.IsFetched g.F.PresentFrames.IsAnnounced F.ContinuesTo g.met.F.Frames.continues_twice _ _ _ c.set_message.ensures.snapshots
+    c.set_last_slots.ensures.snapshots

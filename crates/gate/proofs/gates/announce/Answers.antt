@@ -5,7 +5,7 @@ use Rattle.gate.proofs.gates.announce.Goals as goal
 
 pub prepare-requires-clause-announced : goal.prepare-requires-clause-announced
 prepare-requires-clause-announced g c =
-    let count = length (g.F.PresentFrames.parts c.args.store.now).headers in
+    let count = length (g.F.Frames.parts c.args.store.now).headers in
     let i = c.args.invocation.now in
     subst (λ (ns : List ℕ). All (λ n. n < count) ns) (sym (c.as_slice.ensures ∙ c.through-written.ensures))
     (all_through (λ n. n < count) i.operation i.process c.args.receiver c.args.annex c.requires.process c.requires.receiver c.requires.annex)
@@ -18,7 +18,8 @@ returns-clause-announced g c =
 
 pub returns-clause-prepares : goal.returns-clause-prepares
 returns-clause-prepares g c =
-    subst (λ (ns : List ℕ). Prepares g.F.PresentFrames.parts g.F.PresentFrames.ContinuesTo c.args.store.now c.prepare.new.self ns c.prepare.result) (c.as_slice.ensures ∙ c.through-written.ensures)
+    subst (λ (ns : List ℕ). Prepares g.F.Frames.parts g.F.Frames.ContinuesTo c.args.store.now c.prepare.new.self ns c.prepare.result)
+    (c.as_slice.ensures ∙ c.through-written.ensures)
     (record {
       touched = c.prepare.ensures.touched;
       within = c.prepare.ensures.within;

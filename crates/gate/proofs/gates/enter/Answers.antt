@@ -7,43 +7,49 @@ use Rattle.gate.proofs.gates.enter.Goals as goal
 
 pub deliver-requires-clause-process : goal.deliver-requires-clause-process
 deliver-requires-clause-process g c =
-    let old = objects_in (g.F.PresentFrames.parts c.args.store.now) in
+    let old = objects_in (g.F.Frames.parts c.args.store.now) in
     ap (λ (os : List Object). is_process os c.args.gate.process) c.leave.ensures.objects
     ∙ after_process old c.args.invocation.now c.requires.process c.args.gate.process ∙ c.requires.receiver
 
 pub deliver-requires-clause-annex_fetched : goal.deliver-requires-clause-annex_fetched
 deliver-requires-clause-annex_fetched g c =
-    let old = objects_in (g.F.PresentFrames.parts c.args.store.now) in
-    let same = ap (λ (os : List Object). annex_at os c.args.gate.process) c.leave.ensures.objects ∙ after_annex old c.args.invocation.now c.args.gate.process ∙ sym c.requires.annex in
-    subst (g.F.PresentFrames.IsFetched c.leave.new.store) (sym same) (c.leave.ensures.snapshots.fetched c.args.annex c.requires.fetched.2)
+    let old = objects_in (g.F.Frames.parts c.args.store.now) in
+    let same = ap (λ (os : List Object). annex_at os c.args.gate.process) c.leave.ensures.objects ∙ after_annex old c.args.invocation.now c.args.gate.process ∙
+    sym c.requires.annex in
+    subst (g.F.Frames.IsFetched c.leave.new.store) (sym same) (c.leave.ensures.snapshots.fetched c.args.annex c.requires.fetched.2)
 
 pub deliver-requires-clause-annex_announced : goal.deliver-requires-clause-annex_announced
 deliver-requires-clause-annex_announced g c =
-    let old = objects_in (g.F.PresentFrames.parts c.args.store.now) in
-    let same = ap (λ (os : List Object). annex_at os c.args.gate.process) c.leave.ensures.objects ∙ after_annex old c.args.invocation.now c.args.gate.process ∙ sym c.requires.annex in
+    let old = objects_in (g.F.Frames.parts c.args.store.now) in
+    let same = ap (λ (os : List Object). annex_at os c.args.gate.process) c.leave.ensures.objects ∙ after_annex old c.args.invocation.now c.args.gate.process ∙
+    sym c.requires.annex in
     subst (g.F.PresentFrames.IsAnnounced c.leave.new.store) (sym same) (c.leave.ensures.snapshots.announced c.args.annex c.requires.announced.1)
 
 pub consume-requires-clause-calls : goal.consume-requires-clause-calls
 consume-requires-clause-calls g c =
-    subst (λ (hs : List ObjectHeader). (header_at hs c.args.gate.process).calls < 2 ^ 64 - 1) (sym (c.deliver.ensures.headers ∙ c.leave.ensures.headers)) c.requires.calls
+    subst (λ (hs : List ObjectHeader). (header_at hs c.args.gate.process).calls < 2 ^ 64 - 1) (sym (c.deliver.ensures.headers ∙ c.leave.ensures.headers))
+    c.requires.calls
 
 pub returns-then-gate-clause-keepable : goal.returns-then-gate-clause-keepable
 returns-then-gate-clause-keepable g c age young fits k =
-    let old = g.F.PresentFrames.parts c.args.store.now in
-    let mid = g.F.PresentFrames.parts c.leave.new.store in
-    let now = g.F.PresentFrames.parts c.deliver.new.store in
+    let old = g.F.Frames.parts c.args.store.now in
+    let mid = g.F.Frames.parts c.leave.new.store in
+    let now = g.F.Frames.parts c.deliver.new.store in
     let first = in_geometry mid.geometry old.geometry age (frames_of mid) c.leave.ensures.snapshots.geometry (c.leave.ensures.keepable age k) in
-    let all = subst (λ (cs : List Capability). All (FitsCap mid.geometry) cs) (sym c.message-message.ensures.capabilities) (rw c.leave.ensures.snapshots.geometry fits) in
+    let all = subst (λ (cs : List Capability). All (FitsCap mid.geometry) cs) (sym c.message-message.ensures.capabilities)
+    (rw c.leave.ensures.snapshots.geometry fits) in
     let second = in_geometry now.geometry mid.geometry age (frames_of now) c.deliver.ensures.snapshots.geometry (c.deliver.ensures.keepable age all first) in
-    in_geometry old.geometry now.geometry (age + 1) (frames_of (g.F.PresentFrames.parts c.consume.new.store)) (sym (c.deliver.ensures.snapshots.geometry ∙ c.leave.ensures.snapshots.geometry))
+    in_geometry old.geometry now.geometry (age + 1) (frames_of (g.F.Frames.parts c.consume.new.store))
+    (sym (c.deliver.ensures.snapshots.geometry ∙ c.leave.ensures.snapshots.geometry))
     (c.consume.ensures.keepable age young second)
 
 pub returns-else-gate-clause-keepable : goal.returns-else-gate-clause-keepable
 returns-else-gate-clause-keepable g c age young fits k =
-    let old = g.F.PresentFrames.parts c.args.store.now in
-    let mid = g.F.PresentFrames.parts c.leave.new.store in
-    let now = g.F.PresentFrames.parts c.deliver.new.store in
+    let old = g.F.Frames.parts c.args.store.now in
+    let mid = g.F.Frames.parts c.leave.new.store in
+    let now = g.F.Frames.parts c.deliver.new.store in
     let first = in_geometry mid.geometry old.geometry age (frames_of mid) c.leave.ensures.snapshots.geometry (c.leave.ensures.keepable age k) in
-    let all = subst (λ (cs : List Capability). All (FitsCap mid.geometry) cs) (sym c.message-message.ensures.capabilities) (rw c.leave.ensures.snapshots.geometry fits) in
+    let all = subst (λ (cs : List Capability). All (FitsCap mid.geometry) cs) (sym c.message-message.ensures.capabilities)
+    (rw c.leave.ensures.snapshots.geometry fits) in
     keepable_later old.geometry age (age + 1) (frames_of now) (omega arith)
     (in_geometry old.geometry mid.geometry age (frames_of now) (sym c.leave.ensures.snapshots.geometry) (c.deliver.ensures.keepable age all first))

@@ -1,9 +1,9 @@
-use Rattle.std.proofs.Common.{sym}
-use Rattle.gate.proofs.Known.{named_known}
+use Rattle.gate.proofs.Names.{ℕ, length, sym}
+use Rattle.std.proofs.Common.{◌<◌}
+use Rattle.gate.proofs.Known.{named_known, one_known}
 use Rattle.gate.proofs.looking.look_at_named.Goals as goal
 
-pub look-requires : goal.look-requires
-look-requires g c = record {
-  known = named_known (g.F.PresentFrames.parts c.args.store.now) c.args.capability c.requires.kind c.in-Some.object (sym c.in-Some.ensures);
-  keepable = c.requires.keepable;
-}
+pub fetch-requires-clause-known : goal.fetch-requires-clause-known
+fetch-requires-clause-known g c =
+    one_known (λ (n : ℕ). n < length (g.F.Frames.parts c.args.store.now).headers) c.in-Some.object
+    (named_known (g.F.Frames.parts c.args.store.now) c.args.capability c.requires.kind c.in-Some.object (sym c.in-Some.ensures))

@@ -9,7 +9,8 @@ returns-in_err-blueprint-clause-refused g c =
     rw (p.1, p.2) (size_refuses (table_view c.args.table.now) (g.D.Device.disk c.args.device.now).sectors _ c.in_err-blueprint.ensures.refused)
 
 pub returns-in_err-blueprint-clause-any_moment : goal.returns-in_err-blueprint-clause-any_moment
-returns-in_err-blueprint-clause-any_moment g c = nothing_written_of (table_view c.args.table.now) (g.D.Device.disk c.args.device.now) (g.met.D.Device.only_now c.args.device.now)
+returns-in_err-blueprint-clause-any_moment g c = nothing_written_of (table_view c.args.table.now) (g.D.Device.disk c.args.device.now)
+    (g.met.D.Device.only_now c.args.device.now)
 
 pub returns-clause-built : goal.returns-clause-built
 returns-clause-built g c = c.build.ensures.built (table_view c.args.table.now) c.in_ok-blueprint.ensures.read

@@ -10,7 +10,8 @@ write_saved-requires-clause-directory g c =
     let laid : c.lay_out_again-superblock.result ≡ laid_again Two s.plan = search rules in
     let entries : c.args.entries.now ≡ numbered 0 s.directory = c.requires.entries in
     subst (λ (geometry : Geometry). IsDirectory geometry c.args.entries.now) (sym (ap (λ (p : Plan). p.geometry) laid))
-    (subst (λ (es : List Entry). IsDirectory s.plan.geometry es) (sym entries) (directory_fits c.requires.encoded.0 c.requires.encoded.1 s c.requires.encoded.2))
+    (subst (λ (es : List Entry). IsDirectory s.plan.geometry es) (sym entries)
+    (directory_fits c.requires.encoded.0 c.requires.encoded.1 s c.requires.encoded.2))
 
 pub write_saved-requires-clause-count : goal.write_saved-requires-clause-count
 write_saved-requires-clause-count g c =
@@ -28,7 +29,8 @@ returns-in-Ok-clause-crash g c x left =
     let count : c.saved-checkpoint.result.entries ≡ s.header.entries = search rules in
     let age : c.saved-checkpoint.result.age ≡ s.header.age = search rules in
     let frames : frames_in c.args.headers.now c.args.contents.now ≡ s.frames = c.requires.frames in
-    subst (λ (state : SavedState). Encodes x (g.E.Device.disk c.write_saved.new.device).sectors state) (same_state s _ _ _ _ _ _ laid generation count age entries frames) (c.in-Ok.ensures.crash x left)
+    subst (λ (state : SavedState). Encodes x (g.E.Device.disk c.write_saved.new.device).sectors state)
+    (same_state s _ _ _ _ _ _ laid generation count age entries frames) (c.in-Ok.ensures.crash x left)
 
 pub returns-in-Ok-clause-any_moment : goal.returns-in-Ok-clause-any_moment
 returns-in-Ok-clause-any_moment g c =
@@ -39,7 +41,8 @@ returns-in-Ok-clause-any_moment g c =
     let count : c.saved-checkpoint.result.entries ≡ s.header.entries = search rules in
     let age : c.saved-checkpoint.result.age ≡ s.header.age = search rules in
     let frames : frames_in c.args.headers.now c.args.contents.now ≡ s.frames = c.requires.frames in
-    subst (λ (saved : SavedFrames). LeavesOnly (g.E.Device.disk c.args.new.now) (g.E.Device.disk c.write_saved.new.device) (λ x. IsLeftWriting (g.E.Device.disk c.args.new.now) saved x))
+    subst (λ (saved : SavedFrames). LeavesOnly (g.E.Device.disk c.args.new.now) (g.E.Device.disk c.write_saved.new.device)
+    (λ x. IsLeftWriting (g.E.Device.disk c.args.new.now) saved x))
     (ap kept_of (same_state s _ _ _ _ _ _ laid generation count age entries frames)) c.write_saved.ensures.any_moment
 
 pub returns-in-Err-clause-any_moment : goal.returns-in-Err-clause-any_moment
@@ -51,5 +54,6 @@ returns-in-Err-clause-any_moment g c =
     let count : c.saved-checkpoint.result.entries ≡ s.header.entries = search rules in
     let age : c.saved-checkpoint.result.age ≡ s.header.age = search rules in
     let frames : frames_in c.args.headers.now c.args.contents.now ≡ s.frames = c.requires.frames in
-    subst (λ (saved : SavedFrames). LeavesOnly (g.E.Device.disk c.args.new.now) (g.E.Device.disk c.write_saved.new.device) (λ x. IsLeftWriting (g.E.Device.disk c.args.new.now) saved x))
+    subst (λ (saved : SavedFrames). LeavesOnly (g.E.Device.disk c.args.new.now) (g.E.Device.disk c.write_saved.new.device)
+    (λ x. IsLeftWriting (g.E.Device.disk c.args.new.now) saved x))
     (ap kept_of (same_state s _ _ _ _ _ _ laid generation count age entries frames)) c.write_saved.ensures.any_moment

@@ -11,22 +11,28 @@ returns-in-Ok-in_order-clause-total g c =
 
 pub returns-in-Ok-in_order-clause-encodes : goal.returns-in-Ok-in_order-clause-encodes
 returns-in-Ok-in_order-clause-encodes g c =
-    subst (λ (s : DurableState _). OnOk c.write_over-written.result (Encodes (g.E.Device.disk c.write_over-written.new.new).seen (g.E.Device.disk c.write_over-written.new.new).sectors (upgraded (saved_state (seen_of g.D.Device.disk s) s.books))))
+    subst (λ (s : DurableState _). OnOk c.write_over-written.result
+    (Encodes (g.E.Device.disk c.write_over-written.new.new).seen (g.E.Device.disk c.write_over-written.new.new).sectors
+    (upgraded (saved_state (seen_of g.D.Device.disk s) s.books))))
     c.into_parts-saved.ensures.durable c.write_over-written.ensures.encodes
 
 pub returns-in-Ok-in_order-clause-crash : goal.returns-in-Ok-in_order-clause-crash
 returns-in-Ok-in_order-clause-crash g c =
-    subst (λ (s : DurableState _). OnOk c.write_over-written.result ((x : Image) → (g.E.Device.disk c.write_over-written.new.new).may_leave x → Encodes x (g.E.Device.disk c.write_over-written.new.new).sectors (upgraded (saved_state (seen_of g.D.Device.disk s) s.books))))
+    subst (λ (s : DurableState _). OnOk c.write_over-written.result
+    ((x : Image) → (g.E.Device.disk c.write_over-written.new.new).may_leave x → Encodes x (g.E.Device.disk c.write_over-written.new.new).sectors
+    (upgraded (saved_state (seen_of g.D.Device.disk s) s.books))))
     c.into_parts-saved.ensures.durable c.write_over-written.ensures.crash
 
 pub returns-in-Ok-in_order-clause-elsewhere : goal.returns-in-Ok-in_order-clause-elsewhere
 returns-in-Ok-in_order-clause-elsewhere g c =
-    subst (λ (s : DurableState _). OnOk c.write_over-written.result (Elsewhere 0 (laid_again Two s.books.plan).total (g.E.Device.disk c.args.new.now).seen (g.E.Device.disk c.write_over-written.new.new).seen))
+    subst (λ (s : DurableState _). OnOk c.write_over-written.result
+    (Elsewhere 0 (laid_again Two s.books.plan).total (g.E.Device.disk c.args.new.now).seen (g.E.Device.disk c.write_over-written.new.new).seen))
     c.into_parts-saved.ensures.durable c.write_over-written.ensures.elsewhere
 
 pub returns-in-Ok-in_order-clause-small : goal.returns-in-Ok-in_order-clause-small
 returns-in-Ok-in_order-clause-small g c =
-    subst (λ (s : DurableState _). IsErrOf c.write_over-written.result fault.Small → (g.E.Device.disk c.args.new.now).sectors < (laid_again Two s.books.plan).total)
+    subst (λ (s : DurableState _). IsErrOf c.write_over-written.result fault.Small →
+    (g.E.Device.disk c.args.new.now).sectors < (laid_again Two s.books.plan).total)
     c.into_parts-saved.ensures.durable c.write_over-written.ensures.small
 
 pub returns-in-Ok-in_order-clause-opened : goal.returns-in-Ok-in_order-clause-opened

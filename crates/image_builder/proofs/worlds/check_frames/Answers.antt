@@ -10,5 +10,6 @@ returns-in-Err-Inconsistent-clause-refused c =
     let cs = c.args.frames.now.contents in
     let whole = c.described_is_whole.ensures d (frames_in hs cs) laid.numbers laid.fields laid.described in
     let why = c.in-Err-Inconsistent.why in
-    reason_refused d c.requires.limits hs cs laid whole why c.fault_for.result (c.in-Err-Inconsistent.ensures.inconsistent why (rw c.in-Err-Inconsistent.field-0-is refl))
+    reason_refused d c.requires.limits hs cs laid whole why c.fault_for.result
+    (c.in-Err-Inconsistent.ensures.inconsistent why (rw c.in-Err-Inconsistent.field-0-is refl))
     c.fault_for.ensures.target c.fault_for.ensures.owner

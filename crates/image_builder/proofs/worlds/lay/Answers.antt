@@ -20,12 +20,15 @@ returns-in-Ok-clause-laid c =
 
 pub returns-in-Err-Number-clause-refused : goal.returns-in-Err-Number-clause-refused
 returns-in-Err-Number-clause-refused c =
-    number_refused c.args.description.now c.requires (subst (λ (fault : WorldFault). IsWorldFault c.args.description.now fault) c.in-Err-Number.field-0-is c.in-Err-Number.ensures.fault)
+    number_refused c.args.description.now c.requires
+    (subst (λ (fault : WorldFault). IsWorldFault c.args.description.now fault) c.in-Err-Number.field-0-is c.in-Err-Number.ensures.fault)
 
 pub returns-in-Err-Field-clause-refused : goal.returns-in-Err-Field-clause-refused
 returns-in-Err-Field-clause-refused c =
-    field_refused c.args.description.now c.requires (subst (λ (fault : WorldFault). IsWorldFault c.args.description.now fault) c.in-Err-Field.field-0-is c.in-Err-Field.ensures.fault)
+    field_refused c.args.description.now c.requires
+    (subst (λ (fault : WorldFault). IsWorldFault c.args.description.now fault) c.in-Err-Field.field-0-is c.in-Err-Field.ensures.fault)
 
 pub returns-in-Err-Target-clause-refused : goal.returns-in-Err-Target-clause-refused
 returns-in-Err-Target-clause-refused c =
-    target_refused c.args.description.now c.requires (subst (λ (fault : WorldFault). IsWorldFault c.args.description.now fault) c.in-Err-Target.field-0-is c.in-Err-Target.ensures.fault)
+    target_refused c.args.description.now c.requires
+    (subst (λ (fault : WorldFault). IsWorldFault c.args.description.now fault) c.in-Err-Target.field-0-is c.in-Err-Target.ensures.fault)

@@ -25,7 +25,9 @@ returns-clause-refused g c =
     c.write.ensures.refused
 
 pub returns-then-sectors-total-clause-any_moment : goal.returns-then-sectors-total-clause-any_moment
-returns-then-sectors-total-clause-any_moment g c = nothing_written c.args.description.now (g.D.Device.disk c.args.device.now) (g.met.D.Device.only_now c.args.device.now)
+returns-then-sectors-total-clause-any_moment g c = nothing_written c.args.description.now (g.D.Device.disk c.args.device.now)
+    (g.met.D.Device.only_now c.args.device.now)
 
 pub returns-in_err-world-clause-any_moment : goal.returns-in_err-world-clause-any_moment
-returns-in_err-world-clause-any_moment g c = nothing_written c.args.description.now (g.D.Device.disk c.args.device.now) (g.met.D.Device.only_now c.args.device.now)
+returns-in_err-world-clause-any_moment g c = nothing_written c.args.description.now (g.D.Device.disk c.args.device.now)
+    (g.met.D.Device.only_now c.args.device.now)

@@ -3,7 +3,9 @@ use Rattle.image_drawer.proofs.restricting.restrict_processes.Goals as goal
 
 pub loop-process-preserved : goal.loop-process-preserved
 loop-process-preserved c =
-    zip_set (IsPartOfProcess (is_marked c.args.inside.now)) c.loop-process.process-index c.args.processes.now c.loop-process.processes c.process-item.result c.restrict_process.new.process (omega arith) c.restrict_process.ensures c.loop-process.invariant
+    zip_set (IsPartOfProcess (is_marked c.args.inside.now)) c.loop-process.process-index c.args.processes.now c.loop-process.processes c.process-item.result
+    c.restrict_process.new.process (omega arith) c.restrict_process.ensures c.loop-process.invariant
 
 pub returns : goal.returns
-returns c = zip_whole (IsPartOfProcess (is_marked c.args.inside.now)) c.loop-process.process-index c.args.processes.now c.loop-process.processes (omega arith) c.loop-process.invariant
+returns c = zip_whole (IsPartOfProcess (is_marked c.args.inside.now)) c.loop-process.process-index c.args.processes.now c.loop-process.processes (omega arith)
+    c.loop-process.invariant

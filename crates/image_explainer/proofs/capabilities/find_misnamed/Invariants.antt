@@ -4,8 +4,8 @@ use Rattle.image_explainer.proofs.capabilities.find_misnamed.Given as goal
 
 abbrev pub invariant-loop-number : goal.invariant-loop-number
 invariant-loop-number g l =
-    let fs = frames_of (g.F.PresentFrames.parts l.initial.store) in
+    let fs = frames_of (g.F.Frames.parts l.initial.store) in
     record {
       each : (m : ℕ) → m < l.number → All (IsNamed fs) (caps_in (frame_at fs m).content);
-      looked : HasLooked g.F.PresentFrames.parts g.F.PresentFrames.ContinuesTo l.initial.store l.store;
+      looked : HasLooked g.F.Frames.parts g.F.Frames.ContinuesTo l.initial.store l.store;
     }

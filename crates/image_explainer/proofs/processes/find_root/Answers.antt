@@ -4,8 +4,9 @@ use Rattle.image_explainer.proofs.processes.find_root.Goals as goal
 
 pub loop-root-preserved : goal.loop-root-preserved
 loop-root-preserved g c =
-    matched_more (frames_of (g.F.PresentFrames.parts c.args.store.now)) c.loop-root.root c.loop-root.invariant c.in-None.ensures.none
+    matched_more (frames_of (g.F.Frames.parts c.args.store.now)) c.loop-root.root c.loop-root.invariant c.in-None.ensures.none
 
 pub returns-clause-none : goal.returns-clause-none
 returns-clause-none g c =
-    all_matched (frames_of (g.F.PresentFrames.parts c.args.store.now)) c.args.notes.now c.loop-root.root c.requires (omega (arith, c.loop-root-test.false)) c.loop-root.invariant
+    all_matched (frames_of (g.F.Frames.parts c.args.store.now)) c.args.notes.now c.loop-root.root c.requires (omega (arith, c.loop-root-test.false))
+    c.loop-root.invariant

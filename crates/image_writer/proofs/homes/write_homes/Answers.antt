@@ -9,7 +9,8 @@ pub returns-in_err-write_home-clause-elsewhere : goal.returns-in_err-write_home-
 returns-in_err-write_home-clause-elsewhere g c =
     let below : c.loop-number.number < c.args.count = search rules in
     let lt = rw c.requires.count at below in
-    stays_between (g.D.Device.disk c.args.device.now).seen (g.D.Device.disk c.loop-number.device).seen (g.D.Device.disk c.write_home.new.device).seen c.args.home.now c.loop-number.number
+    stays_between (g.D.Device.disk c.args.device.now).seen (g.D.Device.disk c.loop-number.device).seen (g.D.Device.disk c.write_home.new.device).seen
+    c.args.home.now c.loop-number.number
     c.requires.plan lt c.write_home.ensures.writes.elsewhere c.loop-number.invariant.1
 
 pub loop-number-preserved : goal.loop-number-preserved
@@ -23,15 +24,19 @@ loop-number-preserved g c =
       | then-is_first+in_ok-write_home w ↦
           let same : (g.D.Device.disk w.write_home.new.device).failures ≡ (g.D.Device.disk c.loop-number.device).failures = search rules in
           rw w.device-is (
-            one_more (g.D.Device.disk c.args.device.now).seen (g.D.Device.disk c.loop-number.device).seen (g.D.Device.disk w.write_home.new.device).seen p n c.requires.plan lt w.write_home.ensures.writes.elsewhere
+            one_more (g.D.Device.disk c.args.device.now).seen (g.D.Device.disk c.loop-number.device).seen (g.D.Device.disk w.write_home.new.device).seen p n
+                c.requires.plan lt w.write_home.ensures.writes.elsewhere
                 frames c.loop-number.invariant.0 w.in_ok-write_home.ensures.written,
-            stays_between (g.D.Device.disk c.args.device.now).seen (g.D.Device.disk c.loop-number.device).seen (g.D.Device.disk w.write_home.new.device).seen p n c.requires.plan lt w.write_home.ensures.writes.elsewhere
+            stays_between (g.D.Device.disk c.args.device.now).seen (g.D.Device.disk c.loop-number.device).seen (g.D.Device.disk w.write_home.new.device).seen p
+                n c.requires.plan lt w.write_home.ensures.writes.elsewhere
                 c.loop-number.invariant.1,
             w.write_home.ensures.writes.size ∙ c.loop-number.invariant.2,
             same ∙ c.loop-number.invariant.3,
             leaves_closed (home_place p n) (place_length p n) {old = g.D.Device.disk c.loop-number.device} {new = g.D.Device.disk w.write_home.new.device}
                 (inr (places_within p n c.requires.plan lt).0) c.loop-number.invariant.4 w.write_home.ensures.writes,
-            closed_on (home_place p n) (place_length p n) {old = g.D.Device.disk c.args.device.now} {mid = g.D.Device.disk c.loop-number.device} {new = g.D.Device.disk w.write_home.new.device}
+            closed_on (home_place p n)
+                (place_length p n) {old = g.D.Device.disk c.args.device.now} {mid = g.D.Device.disk c.loop-number.device} {new = g.D.Device.disk
+                w.write_home.new.device}
                 c.loop-number.invariant.5 (inr (places_within p n c.requires.plan lt).0) c.loop-number.invariant.4 w.write_home.ensures.writes,
           )
       | else-is_first w ↦
@@ -51,12 +56,16 @@ pub returns-in_err-write_home-clause-closed : goal.returns-in_err-write_home-cla
 returns-in_err-write_home-clause-closed g c =
     let below : c.loop-number.number < c.args.count = search rules in
     let lt = rw c.requires.count at below in
-    leaves_closed (home_place c.args.home.now c.loop-number.number) (place_length c.args.home.now c.loop-number.number) {old = g.D.Device.disk c.loop-number.device} {new = g.D.Device.disk c.write_home.new.device}
+    leaves_closed (home_place c.args.home.now c.loop-number.number)
+    (place_length c.args.home.now c.loop-number.number) {old = g.D.Device.disk c.loop-number.device} {new = g.D.Device.disk c.write_home.new.device}
     (inr (places_within c.args.home.now c.loop-number.number c.requires.plan lt).0) c.loop-number.invariant.4 c.write_home.ensures.writes
 
 pub returns-in_err-write_home-clause-any_moment : goal.returns-in_err-write_home-clause-any_moment
 returns-in_err-write_home-clause-any_moment g c =
     let below : c.loop-number.number < c.args.count = search rules in
     let lt = rw c.requires.count at below in
-    closed_on (home_place c.args.home.now c.loop-number.number) (place_length c.args.home.now c.loop-number.number) {old = g.D.Device.disk c.args.device.now} {mid = g.D.Device.disk c.loop-number.device} {new = g.D.Device.disk c.write_home.new.device}
-    c.loop-number.invariant.5 (inr (places_within c.args.home.now c.loop-number.number c.requires.plan lt).0) c.loop-number.invariant.4 c.write_home.ensures.writes
+    closed_on (home_place c.args.home.now c.loop-number.number)
+    (place_length c.args.home.now c.loop-number.number) {old = g.D.Device.disk c.args.device.now} {mid = g.D.Device.disk c.loop-number.device} {new =
+    g.D.Device.disk c.write_home.new.device}
+    c.loop-number.invariant.5 (inr (places_within c.args.home.now c.loop-number.number c.requires.plan lt).0) c.loop-number.invariant.4
+    c.write_home.ensures.writes

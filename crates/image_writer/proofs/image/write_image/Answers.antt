@@ -10,8 +10,11 @@ write_saved-requires-clause-directory g c = no_directory c.args.superblock.now.g
 
 pub returns-clause-holds : goal.returns-clause-holds
 returns-clause-holds g c =
-    on_ok c.write_saved.result (λ denotes. (first_state c.args.superblock.now c.args.age (frames_in c.args.headers.now c.args.contents.now), denotes, refl)) c.write_saved.ensures.denotes
+    on_ok c.write_saved.result (λ denotes. (first_state c.args.superblock.now c.args.age (frames_in c.args.headers.now c.args.contents.now), denotes, refl))
+    c.write_saved.ensures.denotes
 
 pub returns-clause-crash : goal.returns-clause-crash
 returns-clause-crash g c =
-    on_ok c.write_saved.result (λ crash x left. (first_state c.args.superblock.now c.args.age (frames_in c.args.headers.now c.args.contents.now), crash x left, refl)) c.write_saved.ensures.crash
+    on_ok c.write_saved.result
+    (λ crash x left. (first_state c.args.superblock.now c.args.age (frames_in c.args.headers.now c.args.contents.now), crash x left, refl))
+    c.write_saved.ensures.crash

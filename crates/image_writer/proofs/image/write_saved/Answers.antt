@@ -7,8 +7,10 @@ pub returns-clause-denotes : goal.returns-clause-denotes
 returns-clause-denotes g c =
     let size = c.open_gate.ensures.size ∙ c.write_parts.ensures.size in
     on_ok c.open_gate.result
-    (λ gate. denotes c.args.superblock.now c.args.header c.args.entries.now (frames_in c.args.headers.now c.args.contents.now) (g.D.Device.disk c.write_parts.new.device).seen (g.D.Device.disk c.open_gate.new.device).seen
-    c.in_ok-write_parts.ensures.written c.requires.first c.open_gate.ensures.elsewhere (ap is_open gate) (g.D.Device.disk c.open_gate.new.device).sectors c.requires.header c.requires.directory c.requires.count
+    (λ gate. denotes c.args.superblock.now c.args.header c.args.entries.now (frames_in c.args.headers.now c.args.contents.now)
+    (g.D.Device.disk c.write_parts.new.device).seen (g.D.Device.disk c.open_gate.new.device).seen
+    c.in_ok-write_parts.ensures.written c.requires.first c.open_gate.ensures.elsewhere (ap is_open gate) (g.D.Device.disk c.open_gate.new.device).sectors
+    c.requires.header c.requires.directory c.requires.count
     (omega (arith, size, c.requires.inside)) c.requires.keepable)
     c.open_gate.ensures.written
 
@@ -17,10 +19,13 @@ returns-clause-crash g c =
     let size = c.open_gate.ensures.size ∙ c.write_parts.ensures.size in
     let fs = frames_in c.args.headers.now c.args.contents.now in
     durable_is c.open_gate.result (g.D.Device.disk c.open_gate.new.device).may_leave
-    (λ (i : Image). Encodes i (g.D.Device.disk c.open_gate.new.device).sectors (state_of c.args.superblock.now c.args.header c.args.entries.now fs)) (g.D.Device.disk c.open_gate.new.device).seen
+    (λ (i : Image). Encodes i (g.D.Device.disk c.open_gate.new.device).sectors (state_of c.args.superblock.now c.args.header c.args.entries.now fs))
+    (g.D.Device.disk c.open_gate.new.device).seen
     (on_ok c.open_gate.result
-    (λ gate. denotes c.args.superblock.now c.args.header c.args.entries.now fs (g.D.Device.disk c.write_parts.new.device).seen (g.D.Device.disk c.open_gate.new.device).seen
-    c.in_ok-write_parts.ensures.written c.requires.first c.open_gate.ensures.elsewhere (ap is_open gate) (g.D.Device.disk c.open_gate.new.device).sectors c.requires.header c.requires.directory c.requires.count
+    (λ gate. denotes c.args.superblock.now c.args.header c.args.entries.now fs (g.D.Device.disk c.write_parts.new.device).seen
+    (g.D.Device.disk c.open_gate.new.device).seen
+    c.in_ok-write_parts.ensures.written c.requires.first c.open_gate.ensures.elsewhere (ap is_open gate) (g.D.Device.disk c.open_gate.new.device).sectors
+    c.requires.header c.requires.directory c.requires.count
     (omega (arith, size, c.requires.inside)) c.requires.keepable)
     c.open_gate.ensures.written)
     c.open_gate.ensures.durable
@@ -28,19 +33,22 @@ returns-clause-crash g c =
 pub returns-clause-elsewhere : goal.returns-clause-elsewhere
 returns-clause-elsewhere g c =
     let enough = five c.args.superblock.now c.in_ok-write_parts.ensures.written.plan in
-    elsewhere_on 0 c.args.superblock.now.total (g.D.Device.disk c.args.device.now).seen (g.D.Device.disk c.write_parts.new.device).seen (g.D.Device.disk c.open_gate.new.device).seen
+    elsewhere_on 0 c.args.superblock.now.total (g.D.Device.disk c.args.device.now).seen (g.D.Device.disk c.write_parts.new.device).seen
+    (g.D.Device.disk c.open_gate.new.device).seen
     c.write_parts.ensures.elsewhere (widened c.args.superblock.now.total 2 1 _ _ (omega (arith, enough)) c.open_gate.ensures.elsewhere)
 
 pub returns-in_err-write_parts-clause-any_moment : goal.returns-in_err-write_parts-clause-any_moment
 returns-in_err-write_parts-clause-any_moment g c =
     not_yet {old = g.D.Device.disk c.args.device.now} {mid = g.D.Device.disk c.write_parts.new.device}
-    (kept_of (state_of c.args.superblock.now c.args.header c.args.entries.now (frames_in c.args.headers.now c.args.contents.now))) c.write_parts.ensures.any_moment
+    (kept_of (state_of c.args.superblock.now c.args.header c.args.entries.now (frames_in c.args.headers.now c.args.contents.now)))
+    c.write_parts.ensures.any_moment
 
 pub returns-clause-any_moment : goal.returns-clause-any_moment
 returns-clause-any_moment g c =
     opening_run c.args.superblock.now c.args.header c.args.entries.now (frames_in c.args.headers.now c.args.contents.now)
     {old = g.D.Device.disk c.args.device.now} {mid = g.D.Device.disk c.write_parts.new.device} {new = g.D.Device.disk c.open_gate.new.device}
-    c.in_ok-write_parts.ensures.written c.requires.first c.requires.header c.requires.directory c.requires.count c.requires.inside c.requires.keepable c.write_parts.ensures.any_moment c.open_gate.ensures.any_moment
+    c.in_ok-write_parts.ensures.written c.requires.first c.requires.header c.requires.directory c.requires.count c.requires.inside c.requires.keepable
+    c.write_parts.ensures.any_moment c.open_gate.ensures.any_moment
 
 pub open_gate-requires-clause-inside : goal.open_gate-requires-clause-inside
 open_gate-requires-clause-inside g c =

@@ -7,5 +7,6 @@ pub unreachable-requires : goal.unreachable-requires
 unreachable-requires c =
     c.in-Err.ensures.refused (
     subst (λ (g : Geometry). MayBeLaid g c.put_numbers.new.into) (sym c.geometry.ensures.value)
-    (subst (λ (rs : List NumberRange). MayBeLaid c.args.superblock.now.geometry rs) (sym (c.put_numbers.ensures ∙ ap (λ (rs : List HomeRange). map numbers_of rs) c.ranges-ranges.ensures.value))
+    (subst (λ (rs : List NumberRange). MayBeLaid c.args.superblock.now.geometry rs)
+    (sym (c.put_numbers.ensures ∙ ap (λ (rs : List HomeRange). map numbers_of rs) c.ranges-ranges.ensures.value))
     (may_be_laid c.args.superblock.now c.geometry.ensures.fits)))

@@ -5,5 +5,7 @@ use Rattle.jobs.proofs.inspecting.read_info.Goals as goal
 pub returns-in-Ok-lines : goal.returns-in-Ok-lines
 returns-in-Ok-lines g c =
     let s = saved_by g.D.Device.disk c.in-Ok.live.store in
-    informed g.D.Device.disk g.met.D.Device.seen_left c.args.device c.in-Ok.live c.in-Ok.ensures.opened c.lines_in-lines.result.1 c.lines_in-lines.ensures.device
-    c.in-Ok-lines.lines.items (lines_found c.lines_in-lines.result.0 c.in-Ok-lines.lines (info_lines s.plan (saved_of (kept_of s))) c.in-Ok-lines.is c.lines_in-lines.ensures.lines)
+    informed g.D.Device.disk g.met.D.Device.seen_left c.args.device c.in-Ok.live c.in-Ok.ensures.opened c.lines_in-lines.result.1
+    c.lines_in-lines.ensures.device
+    c.in-Ok-lines.lines.items
+    (lines_found c.lines_in-lines.result.0 c.in-Ok-lines.lines (info_lines s.plan (saved_of (kept_of s))) c.in-Ok-lines.is c.lines_in-lines.ensures.lines)

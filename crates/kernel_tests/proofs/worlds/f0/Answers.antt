@@ -1,7 +1,5 @@
-use Rattle.kernel_tests.proofs.Names.{ap, length, map, replicate, IfOk-weaker, world_at, untouched, f0, small, frames_of, PlainState, parts_of, fresh_header}
-use Rattle.kernel_tests.proofs.Names.{prime_header}
+use Rattle.kernel_tests.proofs.Names.{ap, length, map, IfOk-weaker, world_at, f0, small, frames_of, PlainState, parts_of, fresh_header, prime_header}
 use Rattle.std.proofs.Common.{◌≡◌, ◌∙◌}
-use Rattle.model.specs.declared.object.Content.TheVariants as content
 use Rattle.kernel_tests.proofs.FreshWorlds.{f0_count, f0_headers, f0_of_fresh}
 use Rattle.kernel_tests.proofs.worlds.f0.Goals as goal
 
@@ -15,8 +13,6 @@ returns-clause-world c =
       geometry = small;
       headers = map prime_header cs;
       contents = cs;
-      touched = untouched small;
-      spares = replicate 24 content.Free;
     } in
     IfOk-weaker c.prime_world.result (λ (p : PlainState). p ≡ made) (λ (p : PlainState). world_at 0 (frames_of (parts_of p)) ≡ f0)
     (λ p is. ap (λ (q : PlainState). world_at 0 (frames_of (parts_of q))) is ∙ f0_of_fresh cs c.in_ok-f0_contents.ensures)
@@ -29,8 +25,6 @@ returns-clause-headers c =
       geometry = small;
       headers = map prime_header cs;
       contents = cs;
-      touched = untouched small;
-      spares = replicate 24 content.Free;
     } in
     IfOk-weaker c.prime_world.result (λ (p : PlainState). p ≡ made) (λ (p : PlainState). p.headers ≡ map fresh_header f0.objects)
     (λ p is. ap (λ (q : PlainState). q.headers) is ∙ f0_headers cs c.in_ok-f0_contents.ensures)

@@ -5,9 +5,11 @@ use Rattle.layout.proofs.bytes.put_number.Goals as goal
 pub returns-clause-before : goal.returns-clause-before
 unfolding number
 returns-clause-before c =
-    written_before c.args.bytes.now _ c.args.at c.args.n c.requires (written c.args.bytes.now c.write_u64.new.buf c.args.at c.args.n c.requires c.write_u64.ensures)
+    written_before c.args.bytes.now _ c.args.at c.args.n c.requires
+    (written c.args.bytes.now c.write_u64.new.buf c.args.at c.args.n c.requires c.write_u64.ensures)
 
 pub returns-clause-after : goal.returns-clause-after
 unfolding number
 returns-clause-after c =
-    written_after c.args.bytes.now _ c.args.at c.args.n c.requires (written c.args.bytes.now c.write_u64.new.buf c.args.at c.args.n c.requires c.write_u64.ensures)
+    written_after c.args.bytes.now _ c.args.at c.args.n c.requires
+    (written c.args.bytes.now c.write_u64.new.buf c.args.at c.args.n c.requires c.write_u64.ensures)

@@ -5,16 +5,19 @@ use Rattle.layout.proofs.capability.decode_capability.Goals as goal
 
 pub returns-then-read-clause-found : goal.returns-then-read-clause-found
 returns-then-read-clause-found c =
-    let read = three_read c.args.bytes.now c.number_at-head.result c.number_at-object.result c.number_at-count.result c.requires c.number_at-head.ensures c.number_at-object.ensures c.number_at-count.ensures in
+    let read = three_read c.args.bytes.now c.number_at-head.result c.number_at-object.result c.number_at-count.result c.requires c.number_at-head.ensures
+    c.number_at-object.ensures c.number_at-count.ensures in
     let spelt = as_numbers (record { what = c.assembled-read.result.what; count = c.number_at-count.result }) c.assembled-read.ensures.fits in
     let is = c.assembled-read.ensures.spelt.0 c.if-read.true in
     (is.2, read ∙ rw (spelt, is.0, is.1) refl)
 
 pub returns-else-read-clause-refused : goal.returns-else-read-clause-refused
 returns-else-read-clause-refused c =
-    let read = three_read c.args.bytes.now c.number_at-head.result c.number_at-object.result c.number_at-count.result c.requires c.number_at-head.ensures c.number_at-object.ensures c.number_at-count.ensures in (
+    let read = three_read c.args.bytes.now c.number_at-head.result c.number_at-object.result c.number_at-count.result c.requires c.number_at-head.ensures
+    c.number_at-object.ensures c.number_at-count.ensures in (
       refl,
-      none_spelt c.args.geometry c.args.age c.args.bytes.now c.number_at-head.result c.number_at-object.result c.number_at-count.result c.from_bits_retain-access.result.0 c.assembled-read.result.what
+      none_spelt c.args.geometry c.args.age c.args.bytes.now c.number_at-head.result c.number_at-object.result c.number_at-count.result
+          c.from_bits_retain-access.result.0 c.assembled-read.result.what
           (omega arith) (omega arith) (omega arith) read (c.from_bits_retain-access.ensures tt) c.assembled-read.ensures.what
           (λ h n f. false≢true (sym c.if-read.false ∙ c.assembled-read.ensures.spelt.1 (h, n, f))),
     )

@@ -19,4 +19,5 @@ returns-clause-packed c =
 pub returns-clause-others : goal.returns-clause-others
 returns-clause-others c = λ other lt differ.
     let size : length c.copy_from_slice.new.self ≡ 800 = ap length c.copy_from_slice.ensures.after ∙ front_long c.args.node.now c.requires.node in
-    other_part c.args.cluster.now c.copy_from_slice.new.self c.args.rank other (800 * c.args.rank + 800 - 800 * c.args.rank) c.requires.rank lt differ c.requires.cluster size (omega arith)
+    other_part c.args.cluster.now c.copy_from_slice.new.self c.args.rank other (800 * c.args.rank + 800 - 800 * c.args.rank) c.requires.rank lt differ
+    c.requires.cluster size (omega arith)

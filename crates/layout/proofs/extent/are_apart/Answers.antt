@@ -12,4 +12,5 @@ returns-then-not-is_apart_from_all c = (
 
 pub loop-i-preserved : goal.loop-i-preserved
 loop-i-preserved c =
-    apart_more c.args.extents.now c.loop-i.i (extent_at c.args.extents.now c.loop-i.i) refl c.loop-i.invariant (c.is_apart_from_all.ensures.0 c.if-not-is_apart_from_all.false)
+    apart_more c.args.extents.now c.loop-i.i (extent_at c.args.extents.now c.loop-i.i) refl c.loop-i.invariant
+    (c.is_apart_from_all.ensures.0 c.if-not-is_apart_from_all.false)

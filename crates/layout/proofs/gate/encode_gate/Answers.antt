@@ -14,7 +14,8 @@ first_set : (g : Gate) (bytes : List ℕ) → bytes ≡ zeros 512 → set bytes 
 first_set Closed bytes e = ap (λ (xs : List ℕ). set xs 0 0) (e ∙ one_zero)
 first_set Open bytes e = ap (λ (xs : List ℕ). set xs 0 1) (e ∙ one_zero)
 
-tag_is : (g : Gate) (bytes : List ℕ) → set bytes 0 (first_byte g) ≡ gate_bytes g → set bytes 0 (denote.Enum.Declared.tag_of Rattle.layout.specs.contracts.gate.Gate.the_type g) ≡ gate_bytes g
+tag_is : (g : Gate) (bytes : List ℕ) → set bytes 0 (first_byte g) ≡ gate_bytes g →
+    set bytes 0 (denote.Enum.Declared.tag_of Rattle.layout.specs.contracts.gate.Gate.the_type g) ≡ gate_bytes g
 tag_is Closed bytes e = e
 tag_is Open bytes e = e
 

@@ -9,23 +9,39 @@ use Rattle.layout.proofs.header.decode_header.Goals.{else-magic-eq-HEADER_MAGIC-
 
 pub returns-then-is_header-clause-found : goal.returns-then-is_header-clause-found
 returns-then-is_header-clause-found c =
-    let read = five_read c.args.bytes.now c.number_at-magic.result c.number_at-sequence.result c.number_at-generation.result c.number_at-entries.result c.number_at-age.result
+    let read = five_read c.args.bytes.now c.number_at-magic.result c.number_at-sequence.result c.number_at-generation.result c.number_at-entries.result
+    c.number_at-age.result
     c.number_at-magic.ensures c.number_at-sequence.ensures c.number_at-generation.ensures c.number_at-entries.ensures c.number_at-age.ensures in
-    let header : CheckpointHeader = record { sequence = c.number_at-sequence.result; generation = c.number_at-generation.result; entries = c.number_at-entries.result; age = c.number_at-age.result } in (
+    let header : CheckpointHeader =
+    record {
+      sequence = c.number_at-sequence.result;
+      generation = c.number_at-generation.result;
+      entries = c.number_at-entries.result;
+      age = c.number_at-age.result;
+    } in (
       search rules,
       read ∙ ap (λ (m : ℕ). stream (m ∷ fields header) (drop 40 c.args.bytes.now)) c.if-magic-eq-HEADER_MAGIC.true
-          ∙ ap (λ (r : List ℕ). stream (0x4441_4548_534f_5245 ∷ fields header) r) (c.is_blank_from-is_blank.ensures.0 c.if-is_blank.true ∙ ap (λ (n : ℕ). zeros (n - 40)) c.requires)
+          ∙ ap (λ (r : List ℕ). stream (0x4441_4548_534f_5245 ∷ fields header) r)
+          (c.is_blank_from-is_blank.ensures.0 c.if-is_blank.true ∙ ap (λ (n : ℕ). zeros (n - 40)) c.requires)
           ∙ sym (header_stream header),
     )
 
 pub returns-else-magic-eq-HEADER_MAGIC-clause-refused : goal.returns-else-magic-eq-HEADER_MAGIC-clause-refused
 returns-else-magic-eq-HEADER_MAGIC-clause-refused c =
-    let read = five_read c.args.bytes.now c.number_at-magic.result c.number_at-sequence.result c.number_at-generation.result c.number_at-entries.result c.number_at-age.result
+    let read = five_read c.args.bytes.now c.number_at-magic.result c.number_at-sequence.result c.number_at-generation.result c.number_at-entries.result
+    c.number_at-age.result
     c.number_at-magic.ensures c.number_at-sequence.ensures c.number_at-generation.ensures c.number_at-entries.ensures c.number_at-age.ensures in
-    let header : CheckpointHeader = record { sequence = c.number_at-sequence.result; generation = c.number_at-generation.result; entries = c.number_at-entries.result; age = c.number_at-age.result } in (
+    let header : CheckpointHeader =
+    record {
+      sequence = c.number_at-sequence.result;
+      generation = c.number_at-generation.result;
+      entries = c.number_at-entries.result;
+      age = c.number_at-age.result;
+    } in (
       refl,
       λ h is e.
-          let has = spelt_header c.args.room c.args.bytes.now _ c.number_at-magic.result header h (omega arith, (omega arith, (omega arith, (omega arith, (omega arith, tt))))) read is e in
+          let has = spelt_header c.args.room c.args.bytes.now _ c.number_at-magic.result header h
+          (omega arith, (omega arith, (omega arith, (omega arith, (omega arith, tt))))) read is e in
           elim c.else-magic-eq-HEADER_MAGIC.branch [
             | else-magic-eq-HEADER_MAGIC-via-then-magic-eq-HEADER_MAGIC+then-is_blank+else-is_header w ↦
                 false≢true (sym w.if-is_header.false ∙ w.is_header.ensures.1 (subst (IsHeader c.args.room) (sym has.header_is) is))

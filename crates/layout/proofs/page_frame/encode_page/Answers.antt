@@ -4,5 +4,6 @@ use Rattle.layout.proofs.page_frame.encode_page.Goals as goal
 
 pub returns : goal.returns
 returns c =
-    page_written (record { header = c.args.header; content = content.Page c.args.words.now }) c.put_front.new.into _ c.encode_words.new.into c.put_front.ensures.before c.encode_words.ensures
+    page_written (record { header = c.args.header; content = content.Page c.args.words.now }) c.put_front.new.into _ c.encode_words.new.into
+    c.put_front.ensures.before c.encode_words.ensures
     (put_last c.put_front.new.into c.encode_words.new.into 512)

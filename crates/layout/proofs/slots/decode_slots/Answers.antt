@@ -12,7 +12,8 @@ returns-in_err-cap-clause-refused c =
     let refused = c.in_err-cap.ensures.refused in
     rw (p.1) (
       p.2 ∙ refused.0,
-      none_spelt c.args.geometry c.args.age c.args.bytes.now c.loop-i.i (omega (arith, c.as_slice-i-end.ensures.length, ap length c.as_slice-i-end.ensures.value))
+      none_spelt c.args.geometry c.args.age c.args.bytes.now c.loop-i.i
+          (omega (arith, c.as_slice-i-end.ensures.length, ap length c.as_slice-i-end.ensures.value))
           (λ cap fits e. refused.1 cap fits (piece_is c.args.bytes.now (24 * c.loop-i.i) ∙ e)),
     )
 
@@ -20,9 +21,11 @@ pub loop-i-preserved : goal.loop-i-preserved
 loop-i-preserved c =
     let found = c.in_ok-cap.ensures.found in
     rw (c.set.ensures.set)
-    (slot_read c.args.geometry c.args.age c.args.bytes.now c.loop-i.into c.loop-i.i c.in_ok-cap.cap (omega (arith, c.as_slice-i-end.ensures.length, ap length c.as_slice-i-end.ensures.value)) c.loop-i.invariant found.0
+    (slot_read c.args.geometry c.args.age c.args.bytes.now c.loop-i.into c.loop-i.i c.in_ok-cap.cap
+    (omega (arith, c.as_slice-i-end.ensures.length, ap length c.as_slice-i-end.ensures.value)) c.loop-i.invariant found.0
     (sym (piece_is c.args.bytes.now (24 * c.loop-i.i)) ∙ found.1))
 
 pub returns-clause-found : goal.returns-clause-found
 returns-clause-found c =
-    all_read c.args.geometry c.args.age c.args.bytes.now c.loop-i.into c.loop-i.i (omega (arith, c.as_slice-i-end.ensures.length, ap length c.as_slice-i-end.ensures.value)) c.requires c.loop-i.invariant
+    all_read c.args.geometry c.args.age c.args.bytes.now c.loop-i.into c.loop-i.i
+    (omega (arith, c.as_slice-i-end.ensures.length, ap length c.as_slice-i-end.ensures.value)) c.requires c.loop-i.invariant

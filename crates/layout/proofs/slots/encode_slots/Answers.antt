@@ -9,4 +9,5 @@ loop-i-init c = sym slots_bytes-nil
 pub loop-i-preserved : goal.loop-i-preserved
 loop-i-preserved c =
     let len : length c.loop-i.into ≡ 24 * length c.args.caps.now = omega arith in
-    slot_written c.args.caps.now c.loop-i.into c.encode_capability.new.into c.loop-i.i _ void_held c.loop-i-test.true len (omega arith) c.loop-i.invariant c.encode_capability.ensures
+    slot_written c.args.caps.now c.loop-i.into c.encode_capability.new.into c.loop-i.i _ void_held c.loop-i-test.true len (omega arith) c.loop-i.invariant
+    c.encode_capability.ensures

@@ -17,13 +17,16 @@ returns-then-magic-ne-SUPERBLOCK_MAGIC-clause-none c = λ mark.
 pub returns-clause-mark : goal.returns-clause-mark
 returns-clause-mark c =
     let blank : drop 256 c.args.bytes.now ≡ zeros 256 = c.is_blank_from.ensures.0 c.if-not-is_blank_from.false ∙ ap (λ (n : ℕ). zeros (n - 256)) c.requires in
-    marked c.args.bytes.now c.number_at-magic.result c.number_at-second.result c.number_at-magic.ensures c.number_at-second.ensures (omega arith) c.with_number.result c.if-magic-ne-SUPERBLOCK_MAGIC.false blank
+    marked c.args.bytes.now c.number_at-magic.result c.number_at-second.result c.number_at-magic.ensures c.number_at-second.ensures (omega arith)
+    c.with_number.result c.if-magic-ne-SUPERBLOCK_MAGIC.false blank
     c.with_number.ensures.some
 
 pub returns-clause-version : goal.returns-clause-version
 returns-clause-version c =
-    versions_reported c.args.bytes.now c.number_at-magic.result c.number_at-second.result c.number_at-magic.ensures c.number_at-second.ensures (omega arith) c.with_number.result c.with_number.ensures.some
+    versions_reported c.args.bytes.now c.number_at-magic.result c.number_at-second.result c.number_at-magic.ensures c.number_at-second.ensures (omega arith)
+    c.with_number.result c.with_number.ensures.some
 
 pub returns-clause-none : goal.returns-clause-none
 returns-clause-none c =
-    unmarked c.args.bytes.now c.number_at-magic.result c.number_at-second.result c.number_at-magic.ensures c.number_at-second.ensures (omega arith) c.with_number.result c.with_number.ensures.none
+    unmarked c.args.bytes.now c.number_at-magic.result c.number_at-second.result c.number_at-magic.ensures c.number_at-second.ensures (omega arith)
+    c.with_number.result c.with_number.ensures.none

@@ -8,5 +8,7 @@ loop-i-init c = sym no_range
 pub loop-i-preserved : goal.loop-i-preserved
 loop-i-preserved c =
     let r : HomeRange = get_or c.args.ranges.now c.loop-i.i unused in
-    range_written c.args.ranges.now c.loop-i.i r c.loop-i.into c.put_number.new.bytes c.put_number-in-loop-i.new.bytes c.put_number-in-loop-i-2.new.bytes c.loop-i-test.true c.loop-i.invariant
-    c.put_number.ensures.before c.put_number-in-loop-i.ensures.before c.put_number-in-loop-i-2.ensures.before (get_or_default c.args.ranges.now c.loop-i.i unused r c.loop-i-test.true)
+    range_written c.args.ranges.now c.loop-i.i r c.loop-i.into c.put_number.new.bytes c.put_number-in-loop-i.new.bytes c.put_number-in-loop-i-2.new.bytes
+    c.loop-i-test.true c.loop-i.invariant
+    c.put_number.ensures.before c.put_number-in-loop-i.ensures.before c.put_number-in-loop-i-2.ensures.before
+    (get_or_default c.args.ranges.now c.loop-i.i unused r c.loop-i-test.true)

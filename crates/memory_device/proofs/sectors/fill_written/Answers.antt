@@ -9,6 +9,7 @@ fill_sector-requires c = record {
 
 pub loop-entry-preserved : goal.loop-entry-preserved
 loop-entry-preserved c = record {
-  patched = patches_on _ _ _ _ _ _ _ c.loop-entry.invariant.patched c.fill_sector.ensures.patched (names_more c.args.entries.now c.loop-entry.entry-index _ (omega arith));
+  patched = patches_on _ _ _ _ _ _ _ c.loop-entry.invariant.patched c.fill_sector.ensures.patched
+      (names_more c.args.entries.now c.loop-entry.entry-index _ (omega arith));
   fits = λ was. c.fill_sector.ensures.fits (c.loop-entry.invariant.fits was);
 }

@@ -3,8 +3,10 @@ use Rattle.memory_device.proofs.sectors.put.Goals as goal
 
 pub returns-clause-written : goal.returns-clause-written
 returns-clause-written c =
-    put_written c.args.sectors.now c.args.from.now _ c.args.at _ _ c.copy_from_slice.ensures.after (omega arith) (omega arith) c.requires.whole c.requires.inside
+    put_written c.args.sectors.now c.args.from.now _ c.args.at _ _ c.copy_from_slice.ensures.after (omega arith) (omega arith) c.requires.whole
+    c.requires.inside
 
 pub returns-clause-elsewhere : goal.returns-clause-elsewhere
 returns-clause-elsewhere c =
-    put_elsewhere c.args.sectors.now c.args.from.now _ c.args.at _ _ c.copy_from_slice.ensures.after (omega arith) (omega arith) c.requires.whole c.requires.inside
+    put_elsewhere c.args.sectors.now c.args.from.now _ c.args.at _ _ c.copy_from_slice.ensures.after (omega arith) (omega arith) c.requires.whole
+    c.requires.inside

@@ -9,24 +9,30 @@ gather-requires-clause-shape g c = (begins c.args.plan.now c.args.entry.object c
 
 pub pack_node-requires-clause-end : goal.pack_node-requires-clause-end
 pack_node-requires-clause-end g c =
-    packed_end (sectors_from (g.D.Device.disk c.read_packed.new.device).seen c.slot_sector.result 8) c.read_packed.new.node (Packed c.args.rank) c.args.rank refl (sym c.in_ok-read_packed.ensures.found) c.read_packed.ensures.length
+    packed_end (sectors_from (g.D.Device.disk c.read_packed.new.device).seen c.slot_sector.result 8) c.read_packed.new.node (Packed c.args.rank) c.args.rank
+    refl (sym c.in_ok-read_packed.ensures.found) c.read_packed.ensures.length
 
 pub blank_rest-requires-clause-object : goal.blank_rest-requires-clause-object
 blank_rest-requires-clause-object g c = rw c.new-home.ensures (omega (arith, c.requires.object))
 
 pub blank_rest-requires-clause-shape : goal.blank_rest-requires-clause-shape
-blank_rest-requires-clause-shape g c = rw c.new-home.ensures (begins c.args.plan.now c.args.entry.object c.args.rank c.requires.plan c.requires.object c.requires.shape).first
+blank_rest-requires-clause-shape g c = rw c.new-home.ensures
+    (begins c.args.plan.now c.args.entry.object c.args.rank c.requires.plan c.requires.object c.requires.shape).first
 
 pub returns-clause-filled : goal.returns-clause-filled
 returns-clause-filled g c =
-    let seen = agrees_is (g.D.Device.disk c.read_packed.new.device).seen (g.D.Device.disk c.gather.new.device).seen c.read_packed.ensures.reads.seen ∙ agrees_is (g.D.Device.disk c.gather.new.device).seen (g.D.Device.disk c.args.device.now).seen c.gather.ensures.reads.seen in
-    let read = subst (λ (image : Image). shaped_at image c.slot_sector.result (Packed c.args.rank) ≡ c.read_packed.new.node) seen c.in_ok-read_packed.ensures.found in
+    let seen = agrees_is (g.D.Device.disk c.read_packed.new.device).seen (g.D.Device.disk c.gather.new.device).seen c.read_packed.ensures.reads.seen ∙
+    agrees_is (g.D.Device.disk c.gather.new.device).seen (g.D.Device.disk c.args.device.now).seen c.gather.ensures.reads.seen in
+    let read = subst (λ (image : Image). shaped_at image c.slot_sector.result (Packed c.args.rank) ≡ c.read_packed.new.node) seen
+    c.in_ok-read_packed.ensures.found in
     let there = rw (c.slot_sector.ensures.value, c.new-log.ensures) at read in
     let start = begins c.args.plan.now c.args.entry.object c.args.rank c.requires.plan c.requires.object c.requires.shape in
     rw c.copy_from_slice.ensures.after
-    (filled_on (g.D.Device.disk c.args.device.now).seen c.args.plan.now c.args.generation (c.args.entry.object - c.args.rank) c.args.entry c.pack_node.new.cluster c.blank_rest.new.cluster start.home c.requires.object
+    (filled_on (g.D.Device.disk c.args.device.now).seen c.args.plan.now c.args.generation (c.args.entry.object - c.args.rank) c.args.entry
+    c.pack_node.new.cluster c.blank_rest.new.cluster start.home c.requires.object
     (rw c.new-home.ensures at c.blank_rest.ensures.frames)
-    (filled (g.D.Device.disk c.args.device.now).seen c.args.plan.now c.args.generation c.args.rank c.args.entry c.read_packed.new.node c.gather.new.cluster c.pack_node.new.cluster
+    (filled (g.D.Device.disk c.args.device.now).seen c.args.plan.now c.args.generation c.args.rank c.args.entry c.read_packed.new.node c.gather.new.cluster
+    c.pack_node.new.cluster
     c.requires.plan c.requires.object c.requires.shape c.in_ok-gather.ensures.gathered there c.pack_node.ensures.packed c.pack_node.ensures.others))
 
 pub returns-clause-zeros : goal.returns-clause-zeros

@@ -11,8 +11,10 @@ blank_rest-requires-clause-shape g c = rw c.new-home.ensures c.requires.shape
 
 pub returns-clause-copied : goal.returns-clause-copied
 returns-clause-copied g c =
-    copied_blank c.write_frame.result (g.D.Device.disk c.args.device.now).seen (g.D.Device.disk c.write_frame.new.device).seen c.args.plan.now c.args.generation c.args.directory.now c.args.first
-    c.gather.new.cluster c.blank_rest.new.cluster c.in_ok-gather.ensures.gathered (rw c.new-home.ensures at c.blank_rest.ensures.frames) (rw c.new-home.ensures at c.write_frame.ensures.written)
+    copied_blank c.write_frame.result (g.D.Device.disk c.args.device.now).seen (g.D.Device.disk c.write_frame.new.device).seen c.args.plan.now c.args.generation
+    c.args.directory.now c.args.first
+    c.gather.new.cluster c.blank_rest.new.cluster c.in_ok-gather.ensures.gathered (rw c.new-home.ensures at c.blank_rest.ensures.frames)
+    (rw c.new-home.ensures at c.write_frame.ensures.written)
 
 pub returns-clause-zeros : goal.returns-clause-zeros
 returns-clause-zeros g c =
@@ -21,10 +23,12 @@ returns-clause-zeros g c =
 
 pub returns-clause-touches : goal.returns-clause-touches
 returns-clause-touches g c =
-    cluster_touched (g.D.Device.disk c.args.device.now) (g.D.Device.disk c.gather.new.device) (g.D.Device.disk c.write_frame.new.device) c.args.plan.now c.new-home.result c.args.first c.new-home.ensures c.requires.shape
+    cluster_touched (g.D.Device.disk c.args.device.now) (g.D.Device.disk c.gather.new.device) (g.D.Device.disk c.write_frame.new.device) c.args.plan.now
+    c.new-home.result c.args.first c.new-home.ensures c.requires.shape
     c.gather.ensures.reads c.write_frame.ensures.writes
 
 pub returns-clause-cause : goal.returns-clause-cause
 returns-clause-cause g c =
     let same : (g.D.Device.disk c.gather.new.device).failures ≡ (g.D.Device.disk c.args.device.now).failures = search rules in
-    counts_on (g.D.Device.disk c.args.device.now) (g.D.Device.disk c.gather.new.device) (g.D.Device.disk c.write_frame.new.device) c.write_frame.result same c.write_frame.ensures.cause
+    counts_on (g.D.Device.disk c.args.device.now) (g.D.Device.disk c.gather.new.device) (g.D.Device.disk c.write_frame.new.device) c.write_frame.result same
+    c.write_frame.ensures.cause

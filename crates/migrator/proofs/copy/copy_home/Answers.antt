@@ -8,7 +8,8 @@ returns-in-Node-clause-copied g c =
     let from = rw c.new-log.ensures at c.slot_sector-from.ensures.value in
     let to = rw c.new-home.ensures at c.place-to.ensures.value in
     on_ok c.copy_node.result
-    (λ copied. copied_own (g.D.Device.disk c.args.device.now).seen (g.D.Device.disk c.copy_node.new.device).seen c.args.plan.now c.args.generation c.args.directory.now c.args.entry.object c.args.entry.slot
+    (λ copied. copied_own (g.D.Device.disk c.args.device.now).seen (g.D.Device.disk c.copy_node.new.device).seen c.args.plan.now c.args.generation
+    c.args.directory.now c.args.entry.object c.args.entry.slot
     c.slot_sector-from.result c.place-to.result Node c.shape.ensures.plan c.requires.object tt c.in-Node.ensures.value c.requires.entry from to copied)
     c.copy_node.ensures.copied
 
@@ -17,7 +18,8 @@ returns-in-Page-clause-copied g c =
     let from = rw c.new-log.ensures at c.slot_sector-from.ensures.value in
     let to = rw c.new-home.ensures at c.place-to.ensures.value in
     on_ok c.copy_page.result
-    (λ copied. copied_own (g.D.Device.disk c.args.device.now).seen (g.D.Device.disk c.copy_page.new.device).seen c.args.plan.now c.args.generation c.args.directory.now c.args.entry.object c.args.entry.slot
+    (λ copied. copied_own (g.D.Device.disk c.args.device.now).seen (g.D.Device.disk c.copy_page.new.device).seen c.args.plan.now c.args.generation
+    c.args.directory.now c.args.entry.object c.args.entry.slot
     c.slot_sector-from.result c.place-to.result Page c.shape.ensures.plan c.requires.object tt c.in-Page.ensures.value c.requires.entry from to copied)
     c.copy_page.ensures.copied
 
@@ -36,7 +38,8 @@ pub returns-in-Packed-clause-touches : goal.returns-in-Packed-clause-touches
 returns-in-Packed-clause-touches g c =
     let packed = sym c.shape.ensures.value ∙ c.in-Packed.is in
     let start = begins c.args.plan.now c.args.entry.object c.in-Packed.rank c.shape.ensures.plan c.requires.object packed in
-    subst (λ (n : ℕ). Touches (home_place c.args.plan.now c.args.entry.object) n (g.D.Device.disk c.args.device.now) (g.D.Device.disk c.copy_cluster.new.device)) (ap shape_length (sym packed))
+    subst (λ (n : ℕ). Touches (home_place c.args.plan.now c.args.entry.object) n (g.D.Device.disk c.args.device.now)
+    (g.D.Device.disk c.copy_cluster.new.device)) (ap shape_length (sym packed))
     (subst (λ (at : ℕ). Touches at 8 (g.D.Device.disk c.args.device.now) (g.D.Device.disk c.copy_cluster.new.device)) start.home c.copy_cluster.ensures.touches)
 
 pub returns-in-Node-clause-zeros : goal.returns-in-Node-clause-zeros
@@ -49,4 +52,5 @@ pub returns-in-Packed-clause-zeros : goal.returns-in-Packed-clause-zeros
 returns-in-Packed-clause-zeros g c =
     let packed = sym c.shape.ensures.value ∙ c.in-Packed.is in
     let start = begins c.args.plan.now c.args.entry.object c.in-Packed.rank c.shape.ensures.plan c.requires.object packed in
-    zeros_there c.copy_cluster.result c.args.plan.now c.args.entry.object c.in-Packed.rank (g.D.Device.disk c.copy_cluster.new.device).seen packed start.home c.copy_cluster.ensures.zeros
+    zeros_there c.copy_cluster.result c.args.plan.now c.args.entry.object c.in-Packed.rank (g.D.Device.disk c.copy_cluster.new.device).seen packed start.home
+    c.copy_cluster.ensures.zeros

@@ -5,7 +5,8 @@ use Rattle.migrator.proofs.find.find.Goals.{else-at-entries-via-then-at-entries+
 
 pub returns-then-entries-at : goal.returns-then-entries-at
 returns-then-entries-at c =
-    sym (found_at c.args.entries.now c.args.number c.first_from-at.result (entry_at c.args.entries.now c.first_from-at.result) c.requires c.if-at-entries.true refl c.if-entries-at.true)
+    sym (found_at c.args.entries.now c.args.number c.first_from-at.result (entry_at c.args.entries.now c.first_from-at.result) c.requires c.if-at-entries.true
+    refl c.if-entries-at.true)
 
 pub returns-else-at-entries : goal.returns-else-at-entries
 returns-else-at-entries c =

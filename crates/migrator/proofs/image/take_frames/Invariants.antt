@@ -1,5 +1,6 @@
 use Rattle.migrator.proofs.Names.{ℕ, IsSpelt, ReadsOnly}
-use Rattle.std.proofs.Common.{◌≡◌, ◌<◌}
+use Rattle.std.proofs.Common.{◌≡◌, ◌<◌, ◌≤◌}
+use Rattle.layout.specs.Spelt.{count_of}
 use Rattle.migrator.proofs.Reading.{frames_until}
 use Rattle.migrator.proofs.image.take_frames.Given as goal
 
@@ -8,3 +9,4 @@ invariant-loop-number g l =
     ReadsOnly (g.D.Device.disk l.fn.device) (g.D.Device.disk l.device) × ((g.D.Device.disk l.device).failures ≡ (g.D.Device.disk l.fn.device).failures)
     × ((n : ℕ) → n < l.number → IsSpelt (g.D.Device.disk l.fn.device).seen l.plan l.header.age l.header.generation l.directory n)
     × g.I.Intake.Took l.taken (frames_until (g.D.Device.disk l.fn.device).seen l.plan l.header.generation l.directory l.number)
+    × (count_of l.plan ≤ g.I.Intake.room l.taken)

@@ -14,8 +14,10 @@ loop-number-preserved c =
     let next = c.in-Some.ensures.some in
     record {
       long = length-set c.loop-number.frozen c.in-Some.number c.header.result ∙ is.long;
-      before = one_more c.loop-number.frozen c.args.table.now c.args.marks.now c.loop-number.from is.before c.in-Some.number next (omega (arith, next.inside, is.long, c.requires.each)) c.header.result c.header.ensures;
+      before = one_more c.loop-number.frozen c.args.table.now c.args.marks.now c.loop-number.from is.before c.in-Some.number next
+          (omega (arith, next.inside, is.long, c.requires.each)) c.header.result c.header.ensures;
     }
 
 pub returns-clause-marked : goal.returns-clause-marked
-returns-clause-marked c = all_copied c.loop-number.frozen c.args.table.now c.args.marks.now c.loop-number.from c.loop-number.invariant.before (c.in_default.ensures.none refl)
+returns-clause-marked c = all_copied c.loop-number.frozen c.args.table.now c.args.marks.now c.loop-number.from c.loop-number.invariant.before
+    (c.in_default.ensures.none refl)

@@ -23,13 +23,15 @@ loop-step-init c =
 pub loop-step-smaller : goal.loop-step-smaller
 loop-step-smaller c =
     let searched = c.in_ok-levels.ensures in
-    back_level c.args.objects.now c.args.starts.now searched.0 c.in_ok-levels.levels searched.1 searched.2 c.args.object c.loop-step.at c.loop-step.steps.items c.loop-step.invariant c.in-Some.step (sym c.in-Some.ensures)
+    back_level c.args.objects.now c.args.starts.now searched.0 c.in_ok-levels.levels searched.1 searched.2 c.args.object c.loop-step.at c.loop-step.steps.items
+    c.loop-step.invariant c.in-Some.step (sym c.in-Some.ensures)
     level_of (λ f. refl)
 
 pub loop-step-preserved : goal.loop-step-preserved
 loop-step-preserved c =
     let searched = c.in_ok-levels.ensures in
-    back_next c.args.objects.now c.args.starts.now searched.0 c.in_ok-levels.levels searched.1 searched.2 c.args.object c.loop-step.at c.loop-step.steps.items c.loop-step.invariant c.in-Some.step c.push.new.self.items
+    back_next c.args.objects.now c.args.starts.now searched.0 c.in_ok-levels.levels searched.1 searched.2 c.args.object c.loop-step.at c.loop-step.steps.items
+    c.loop-step.invariant c.in-Some.step c.push.new.self.items
     (sym c.in-Some.ensures) (search rules)
 
 pub returns-clause-shortest : goal.returns-clause-shortest
@@ -37,7 +39,8 @@ returns-clause-shortest c =
     let searched = c.in_ok-levels.ensures in
     let reversed : c.reverse.new.self.items ≡ reverse c.loop-step.steps.items = search rules in
     subst (λ (steps : List Step). IsShortest c.args.objects.now c.args.starts.now steps c.args.object) (sym reversed)
-    (back_shortest c.args.objects.now c.args.starts.now searched.0 c.in_ok-levels.levels searched.1 searched.2 c.args.object c.loop-step.at c.loop-step.steps.items c.loop-step.invariant
+    (back_shortest c.args.objects.now c.args.starts.now searched.0 c.in_ok-levels.levels searched.1 searched.2 c.args.object c.loop-step.at
+    c.loop-step.steps.items c.loop-step.invariant
     (sym c.in_default.ensures) (sym c.if-not-contains.ensures))
 
 pub returns-clause-reach : goal.returns-clause-reach

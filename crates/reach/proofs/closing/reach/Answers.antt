@@ -12,11 +12,13 @@ loop-start-preserved c =
     c.add.ensures.least
 
 pub loop-number-init : goal.loop-number-init
-loop-number-init c = all_begun c.args.objects.now c.args.starts.now c.loop-start.start-index c.loop-start.frontier c.loop-start.invariant (omega (arith, c.loop-start-test.false))
+loop-number-init c = all_begun c.args.objects.now c.args.starts.now c.loop-start.start-index c.loop-start.frontier c.loop-start.invariant
+    (omega (arith, c.loop-start-test.false))
 
 pub loop-number-preserved : goal.loop-number-preserved
 loop-number-preserved c =
-    one_followed c.args.objects.now c.args.starts.now c.in-Some.number c.loop-number.frontier c.take.new.self c.follow_member.new.frontier c.loop-number.invariant
+    one_followed c.args.objects.now c.args.starts.now c.in-Some.number c.loop-number.frontier c.take.new.self c.follow_member.new.frontier
+    c.loop-number.invariant
     c.in-Some.ensures.some c.follow_member.ensures.grows c.follow_member.ensures.closed c.follow_member.ensures.least
 
 pub returns-clause-reach : goal.returns-clause-reach
@@ -26,7 +28,8 @@ returns-clause-reach c =
 
 pub returns-clause-count : goal.returns-clause-count
 returns-clause-count c =
-    ap (λ (marks : List Bool). length marks) c.into_found.ensures ∙ ap (λ (f : Frontier). length f.found) (c.in_default.ensures.none refl).same ∙ c.loop-number.invariant.count
+    ap (λ (marks : List Bool). length marks) c.into_found.ensures ∙ ap (λ (f : Frontier). length f.found) (c.in_default.ensures.none refl).same ∙
+    c.loop-number.invariant.count
 
 pub returns-clause-bounds : goal.returns-clause-bounds
 returns-clause-bounds c = bounds_runs c.args.objects.now (is_marked c.into_found.result) (returns-clause-reach c).closed

@@ -6,15 +6,22 @@ use Rattle.reach.proofs.explaining.print_steps.Goals as goal
 pub returns-in_err-write_to : goal.returns-in_err-write_to
 returns-in_err-write_to g c =
     let p = err_from_is_err_and c.from_residual.result c.from_residual.ensures.1 in
-    rw (p.1, p.2) (writes_fail _ _ _ _ _ _ _ _ (plain_split (step_line c.args.objects.now) c.args.steps.now c.loop-step.step-index (record { from = 0; way = way.Annex; to = 0 }) c.loop-step-test.true)
+    rw (p.1, p.2) (writes_fail _ _ _ _ _ _ _ _
+    (plain_split (step_line c.args.objects.now) c.args.steps.now c.loop-step.step-index (record { from = 0; way = way.Annex; to = 0 })
+    c.loop-step-test.true)
     c.loop-step.invariant
-    (subst (λ (text : List ℕ). Writes (g.W.Write.contents c.loop-step.writer) (g.W.Write.contents c.write_to.new.writer) (Err c.in_err-write_to.field-0.0) (line_of text)) c.line_of_step.ensures.text c.in_err-write_to.ensures))
+    (subst (λ (text : List ℕ). Writes (g.W.Write.contents c.loop-step.writer) (g.W.Write.contents c.write_to.new.writer) (Err c.in_err-write_to.field-0.0)
+    (line_of text)) c.line_of_step.ensures.text c.in_err-write_to.ensures))
 
 pub loop-step-preserved : goal.loop-step-preserved
 loop-step-preserved g c =
-    subst (Appends _ _) (sym (plain_more (step_line c.args.objects.now) c.args.steps.now c.loop-step.step-index (record { from = 0; way = way.Annex; to = 0 }) c.loop-step-test.true))
+    subst (Appends _ _) (sym
+    (plain_more (step_line c.args.objects.now) c.args.steps.now c.loop-step.step-index (record { from = 0; way = way.Annex; to = 0 })
+    c.loop-step-test.true))
     (Appends-trans _ _ _ _ _ c.loop-step.invariant
-    (subst (λ (text : List ℕ). Appends (g.W.Write.contents c.loop-step.writer) (g.W.Write.contents c.write_to.new.writer) (line_of text)) c.line_of_step.ensures.text c.in_ok-write_to.ensures))
+    (subst (λ (text : List ℕ). Appends (g.W.Write.contents c.loop-step.writer) (g.W.Write.contents c.write_to.new.writer) (line_of text))
+    c.line_of_step.ensures.text c.in_ok-write_to.ensures))
 
 pub returns : goal.returns
-returns g c = subst (Appends _ _) (plain_all (step_line c.args.objects.now) c.args.steps.now c.loop-step.step-index c.loop-step-test.false) c.loop-step.invariant
+returns g c = subst (Appends _ _) (plain_all (step_line c.args.objects.now) c.args.steps.now c.loop-step.step-index c.loop-step-test.false)
+    c.loop-step.invariant

@@ -4,9 +4,11 @@ use Rattle.reach.proofs.explaining.print_to.Goals as goal
 pub returns-in_err-print_steps : goal.returns-in_err-print_steps
 returns-in_err-print_steps g c =
     let p = err_from_is_err_and c.from_residual.result c.from_residual.ensures.1 in
-    rw (p.1, p.2) (text_fails _ _ _ (flat_map (step_line c.args.objects.now) c.args.steps.now) (line_of (spaced (words_of c.args.object (object_at c.args.objects.now c.args.object)))) _ refl c.in_err-print_steps.ensures)
+    rw (p.1, p.2) (text_fails _ _ _ (flat_map (step_line c.args.objects.now) c.args.steps.now)
+    (line_of (spaced (words_of c.args.object (object_at c.args.objects.now c.args.object)))) _ refl c.in_err-print_steps.ensures)
 
 pub returns : goal.returns
 returns g c =
-    writes_after _ (g.W.Write.contents c.print_steps.new.writer) _ _ (flat_map (step_line c.args.objects.now) c.args.steps.now) (line_of (spaced (words_of c.args.object (object_at c.args.objects.now c.args.object))))
+    writes_after _ (g.W.Write.contents c.print_steps.new.writer) _ _ (flat_map (step_line c.args.objects.now) c.args.steps.now)
+    (line_of (spaced (words_of c.args.object (object_at c.args.objects.now c.args.object))))
     c.in_ok-print_steps.ensures c.print_object.ensures

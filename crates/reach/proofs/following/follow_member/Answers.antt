@@ -20,13 +20,15 @@ pub returns-in-Node-clause-least : goal.returns-in-Node-clause-least
 returns-in-Node-clause-least c other closed =
     let is = content_is c.args.objects.now c.args.number c.index-objects-number.result (content.Node c.in-Node.slots) c.requires.known c.in-Node.is in
     c.follow_all.ensures.least other
-    (slots_stay c.args.objects.now c.args.number c.as_slice.result.now other (ap (λ (x : Content Capability). slots_in x) is ∙ sym c.as_slice.ensures.value) closed)
+    (slots_stay c.args.objects.now c.args.number c.as_slice.result.now other (ap (λ (x : Content Capability). slots_in x) is ∙ sym c.as_slice.ensures.value)
+    closed)
 
 pub returns-in-Annex-clause-least : goal.returns-in-Annex-clause-least
 returns-in-Annex-clause-least c other closed =
     let is = content_is c.args.objects.now c.args.number c.index-objects-number.result (content.Annex c.in-Annex.registers) c.requires.known c.in-Annex.is in
     c.follow_all-in-Annex.ensures.least other
-    (slots_stay c.args.objects.now c.args.number c.as_slice-in-Annex.result.now other (ap (λ (x : Content Capability). slots_in x) is ∙ sym c.as_slice-in-Annex.ensures.value) closed)
+    (slots_stay c.args.objects.now c.args.number c.as_slice-in-Annex.result.now other
+    (ap (λ (x : Content Capability). slots_in x) is ∙ sym c.as_slice-in-Annex.ensures.value) closed)
 
 pub returns-in-Root-clause-least : goal.returns-in-Root-clause-least
 returns-in-Root-clause-least c other closed within =

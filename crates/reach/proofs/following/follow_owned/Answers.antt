@@ -14,10 +14,12 @@ loop-number-preserved c =
     elim c.if-is_owned.branch [
       | then-is_owned w ↦ rw (w.frontier-is) (record {
         grows = grows_more c.args.frontier.now c.loop-number.frontier w.add.new.self i.grows w.add.ensures.grows;
-        owned = owned_next (is_marked c.loop-number.frontier.found) (is_marked w.add.new.self.found) os c.args.bank at w.add.ensures.grows.found i.owned (λ free owned. w.add.ensures.found);
+        owned = owned_next (is_marked c.loop-number.frontier.found) (is_marked w.add.new.self.found) os c.args.bank at w.add.ensures.grows.found i.owned
+            (λ free owned. w.add.ensures.found);
         least = λ other all within.
             let test = c.is_owned.ensures.0 w.if-is_owned.true in
-            w.add.ensures.least other (all at (ap (λ (p : Object). is_free p.content) is ∙ test.0) (ap (λ (p : Object). p.owner) is ∙ test.1)) (i.least other all within);
+            w.add.ensures.least other (all at (ap (λ (p : Object). is_free p.content) is ∙ test.0) (ap (λ (p : Object). p.owner) is ∙ test.1))
+            (i.least other all within);
       })
       | else-is_owned w ↦ rw (w.frontier-is) (record {
         grows = i.grows;

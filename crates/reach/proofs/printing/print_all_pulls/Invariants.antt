@@ -2,4 +2,5 @@ use Rattle.reach.proofs.Names.{take, flat_map, enumerate_from, Appends, member_p
 use Rattle.reach.proofs.printing.print_all_pulls.Given as goal
 
 abbrev pub invariant-loop-number : goal.invariant-loop-number
-invariant-loop-number g l = Appends (g.W.Write.contents l.fn.writer) (g.W.Write.contents l.writer) (flat_map (member_pulls l.objects l.inside) (enumerate_from 0 (take l.number l.objects)))
+invariant-loop-number g l = Appends (g.W.Write.contents l.fn.writer) (g.W.Write.contents l.writer)
+    (flat_map (member_pulls l.objects l.inside) (enumerate_from 0 (take l.number l.objects)))

@@ -5,13 +5,16 @@ use Rattle.reach.proofs.printing.print_pulls.Goals as goal
 pub returns-in_err-print_pull : goal.returns-in_err-print_pull
 returns-in_err-print_pull g c =
     let p = err_from_is_err_and c.from_residual.result c.from_residual.ensures.1 in
-    rw (p.1, p.2) (writes_fail _ _ _ _ _ _ _ _ (lines_split (pull_line c.args.name.now c.args.number c.args.place.now) c.args.capabilities.now c.loop-index.index Void c.loop-index-test.true)
+    rw (p.1, p.2) (writes_fail _ _ _ _ _ _ _ _
+    (lines_split (pull_line c.args.name.now c.args.number c.args.place.now) c.args.capabilities.now c.loop-index.index Void c.loop-index-test.true)
     c.loop-index.invariant c.in_err-print_pull.ensures)
 
 pub loop-index-preserved : goal.loop-index-preserved
 loop-index-preserved g c =
-    subst (Appends _ _) (sym (lines_more (pull_line c.args.name.now c.args.number c.args.place.now) c.args.capabilities.now c.loop-index.index Void c.loop-index-test.true))
+    subst (Appends _ _) (sym
+    (lines_more (pull_line c.args.name.now c.args.number c.args.place.now) c.args.capabilities.now c.loop-index.index Void c.loop-index-test.true))
     (Appends-trans _ _ _ _ _ c.loop-index.invariant c.in_ok-print_pull.ensures)
 
 pub returns : goal.returns
-returns g c = subst (Appends _ _) (lines_all (pull_line c.args.name.now c.args.number c.args.place.now) c.args.capabilities.now c.loop-index.index (omega arith)) c.loop-index.invariant
+returns g c = subst (Appends _ _)
+    (lines_all (pull_line c.args.name.now c.args.number c.args.place.now) c.args.capabilities.now c.loop-index.index (omega arith)) c.loop-index.invariant

@@ -13,7 +13,8 @@ closed marks = spaced (codes "closed" ∷ decimal (count_by (λ b. b) marks) ∷
 abbrev pulled : List Object → List Bool → List ℕ
 pulled os marks = flat_map (member_pulls os marks) (enumerate_from 0 os)
 
-counted : (marks : List Bool) (text : List ℕ) (count : ℕ) → text ≡ spaced (codes "closed" ∷ decimal count ∷ []) → count ≡ count_by (λ b. b) marks → text ≡ closed marks
+counted : (marks : List Bool) (text : List ℕ) (count : ℕ) → text ≡ spaced (codes "closed" ∷ decimal count ∷ []) → count ≡ count_by (λ b. b) marks →
+    text ≡ closed marks
 counted marks text count is same = is ∙ ap (λ (n : ℕ). spaced (codes "closed" ∷ decimal n ∷ [])) same
 
 pub returns-in_err-print_members : goal.returns-in_err-print_members
@@ -22,7 +23,8 @@ returns-in_err-print_members g c =
     let p = err_from_is_err_and c.from_residual.result c.from_residual.ensures.1 in
     let os = c.args.objects.now in
     let marks = c.args.inside.now in
-    rw (p.1, p.2) (text_fails _ _ _ (members os marks) (line_of (closed marks) ++ pulled os marks) _ (append_assoc (members os marks) (line_of (closed marks)) (pulled os marks)) c.in_err-print_members.ensures)
+    rw (p.1, p.2) (text_fails _ _ _ (members os marks) (line_of (closed marks) ++ pulled os marks) _
+    (append_assoc (members os marks) (line_of (closed marks)) (pulled os marks)) c.in_err-print_members.ensures)
 
 pub returns-in_err-write_to : goal.returns-in_err-write_to
 unfolding reach_text
@@ -32,7 +34,8 @@ returns-in_err-write_to g c =
     let marks = c.args.inside.now in
     let is = counted marks c.numbered.result c.count_members.result c.numbered.ensures.text c.count_members.ensures in
     rw (p.1, p.2) (writes_fail _ _ _ _ (members os marks) (line_of (closed marks)) (pulled os marks) _ refl c.in_ok-print_members.ensures
-    (subst (λ (l : List ℕ). Writes (g.W.Write.contents c.print_members.new.writer) (g.W.Write.contents c.write_to.new.writer) (Err c.in_err-write_to.field-0.0) (line_of l)) is c.in_err-write_to.ensures))
+    (subst (λ (l : List ℕ). Writes (g.W.Write.contents c.print_members.new.writer) (g.W.Write.contents c.write_to.new.writer) (Err c.in_err-write_to.field-0.0)
+    (line_of l)) is c.in_err-write_to.ensures))
 
 pub returns : goal.returns
 unfolding reach_text
@@ -42,5 +45,6 @@ returns g c =
     let is = counted marks c.numbered.result c.count_members.result c.numbered.ensures.text c.count_members.ensures in
     writes_after _ (g.W.Write.contents c.write_to.new.writer) _ _ (members os marks ++ line_of (closed marks)) (pulled os marks)
     (Appends-trans _ (g.W.Write.contents c.print_members.new.writer) _ (members os marks) (line_of (closed marks)) c.in_ok-print_members.ensures
-    (subst (λ (l : List ℕ). Appends (g.W.Write.contents c.print_members.new.writer) (g.W.Write.contents c.write_to.new.writer) (line_of l)) is c.in_ok-write_to.ensures))
+    (subst (λ (l : List ℕ). Appends (g.W.Write.contents c.print_members.new.writer) (g.W.Write.contents c.write_to.new.writer) (line_of l)) is
+    c.in_ok-write_to.ensures))
     c.print_all_pulls.ensures

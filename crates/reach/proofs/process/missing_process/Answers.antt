@@ -4,7 +4,8 @@ use Rattle.std.proofs.Common.{◌≡◌, ◌<◌, ◌∷◌, slice_index_or}
 use Rattle.reach.proofs.process.missing_process.Goals as goal
 
 module _ (os : List Object) where
-  find_first : (xs : List ℕ) (i : ℕ) → ((k d : ℕ) → k < i → IsTrue (is_process os (slice_index_or xs k d))) → i < length xs → is_process os (slice_index_or xs i 0) ≡ false
+  find_first : (xs : List ℕ) (i : ℕ) → ((k d : ℕ) → k < i → IsTrue (is_process os (slice_index_or xs k d))) → i < length xs →
+      is_process os (slice_index_or xs i 0) ≡ false
       → find (λ n. not (is_process os n)) xs ≡ Some (slice_index_or xs i 0)
   find_first [] i before lt other = absurd (omega (arith, lt))
   find_first (x ∷ xs) zero before lt other = let test : not (is_process os x) ≡ true = ap not other in rw test refl
@@ -20,7 +21,8 @@ module _ (os : List Object) where
 
 pub returns-then-not-is_process-clause-first : goal.returns-then-not-is_process-clause-first
 returns-then-not-is_process-clause-first c =
-    sym (find_first c.args.objects.now c.args.numbers.now c.loop-number.number-index c.loop-number.invariant c.loop-number-test.true (sym c.if-not-is_process.ensures))
+    sym (find_first c.args.objects.now c.args.numbers.now c.loop-number.number-index c.loop-number.invariant c.loop-number-test.true
+    (sym c.if-not-is_process.ensures))
 
 pub loop-number-preserved : goal.loop-number-preserved
 loop-number-preserved c k d lt = elim (cases_lt k c.loop-number.number-index) [
@@ -28,11 +30,13 @@ loop-number-preserved c k d lt = elim (cases_lt k c.loop-number.number-index) [
   | inr past ↦
       let here : c.loop-number.number-index ≡ k = omega (arith, past, lt) in
       subst (λ (j : ℕ). IsTrue (is_process c.args.objects.now (slice_index_or c.args.numbers.now j d))) here
-      (subst (λ (n : ℕ). IsTrue (is_process c.args.objects.now n)) (get_or_default c.args.numbers.now c.loop-number.number-index 0 d c.loop-number-test.true) (sym c.if-not-is_process.ensures))
+      (subst (λ (n : ℕ). IsTrue (is_process c.args.objects.now n)) (get_or_default c.args.numbers.now c.loop-number.number-index 0 d c.loop-number-test.true)
+      (sym c.if-not-is_process.ensures))
 ]
 
 pub returns-clause-first : goal.returns-clause-first
-returns-clause-first c = sym (find_none c.args.objects.now c.args.numbers.now (λ k d lt. c.loop-number.invariant k d (omega (arith, lt, c.loop-number-test.false))))
+returns-clause-first c = sym
+    (find_none c.args.objects.now c.args.numbers.now (λ k d lt. c.loop-number.invariant k d (omega (arith, lt, c.loop-number-test.false))))
 
 pub returns-clause-none : goal.returns-clause-none
 returns-clause-none c none k d lt = c.loop-number.invariant k d (omega (arith, lt, c.loop-number-test.false))

@@ -7,14 +7,17 @@ loop-index-init c = finds_none (IsHeldIn c.args.slots.now 0 c.args.from) c.args.
 
 pub find-requires-clause-known : goal.find-requires-clause-known
 find-requires-clause-known c =
-    subst (λ (n : ℕ). NamesWithin n (slice_index_or c.args.slots.now c.loop-index.index Void)) (sym c.loop-index.invariant.count) (c.requires.known c.loop-index.index Void c.loop-index-test.true)
+    subst (λ (n : ℕ). NamesWithin n (slice_index_or c.args.slots.now c.loop-index.index Void)) (sym c.loop-index.invariant.count)
+    (c.requires.known c.loop-index.index Void c.loop-index-test.true)
 
 pub find-requires-clause-level : goal.find-requires-clause-level
 find-requires-clause-level c = omega (arith, c.requires.level, c.loop-index.invariant.later)
 
 pub loop-index-preserved : goal.loop-index-preserved
-loop-index-preserved c = held_next c.args.slots.now c.loop-index.index c.args.from c.args.level c.args.levels.now c.loop-index.levels c.find.new.levels c.loop-index.invariant c.find.ensures
+loop-index-preserved c = held_next c.args.slots.now c.loop-index.index c.args.from c.args.level c.args.levels.now c.loop-index.levels c.find.new.levels
+    c.loop-index.invariant c.find.ensures
 
 pub returns : goal.returns
 returns c =
-    subst (λ (n : ℕ). FindsBy (IsHeldIn c.args.slots.now n c.args.from) c.args.level c.args.levels.now c.loop-index.levels) (omega (arith, c.loop-index.auto.index-end, c.loop-index-test.false)) c.loop-index.invariant
+    subst (λ (n : ℕ). FindsBy (IsHeldIn c.args.slots.now n c.args.from) c.args.level c.args.levels.now c.loop-index.levels)
+    (omega (arith, c.loop-index.auto.index-end, c.loop-index-test.false)) c.loop-index.invariant

@@ -20,12 +20,14 @@ find_held-requires-in-Annex-clause-known c =
 pub returns-in-Node : goal.returns-in-Node
 returns-in-Node c =
     let is = content_is c.args.objects.now c.args.number c.index-objects-number.result (content.Node c.in-Node.slots) c.requires.known c.in-Node.is in
-    finds_of_slots c.args.objects.now c.args.number c.args.level c.args.levels.now c.find_held.new.levels c.as_slice.result.now (is ∙ ap content.Node (sym c.as_slice.ensures.value)) c.find_held.ensures
+    finds_of_slots c.args.objects.now c.args.number c.args.level c.args.levels.now c.find_held.new.levels c.as_slice.result.now
+    (is ∙ ap content.Node (sym c.as_slice.ensures.value)) c.find_held.ensures
 
 pub returns-in-Annex : goal.returns-in-Annex
 returns-in-Annex c =
     let is = content_is c.args.objects.now c.args.number c.index-objects-number.result (content.Annex c.in-Annex.registers) c.requires.known c.in-Annex.is in
-    finds_of_registers c.args.objects.now c.args.number c.args.level c.args.levels.now c.find_held-in-Annex.new.levels c.as_slice-in-Annex.result.now (is ∙ ap content.Annex (sym c.as_slice-in-Annex.ensures.value))
+    finds_of_registers c.args.objects.now c.args.number c.args.level c.args.levels.now c.find_held-in-Annex.new.levels c.as_slice-in-Annex.result.now
+    (is ∙ ap content.Annex (sym c.as_slice-in-Annex.ensures.value))
     c.find_held-in-Annex.ensures
 
 pub returns-in-Bank : goal.returns-in-Bank

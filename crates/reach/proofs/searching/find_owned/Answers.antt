@@ -23,7 +23,8 @@ loop-number-preserved c =
     elim c.if-is_owned.branch [
       | then-is_owned w ↦
           let test = c.is_owned.ensures.0 w.if-is_owned.true in
-          rw (w.levels-is) (owned_next_step os at c.args.bank c.args.level (record { from = c.args.bank; way = way.Owner; to = at }) c.args.levels.now c.loop-number.levels w.add.new.self refl refl refl
+          rw (w.levels-is) (owned_next_step os at c.args.bank c.args.level (record { from = c.args.bank; way = way.Owner; to = at }) c.args.levels.now
+          c.loop-number.levels w.add.new.self refl refl refl
           (ap (λ (p : Object). is_free p.content) is ∙ test.0) (ap (λ (p : Object). p.owner) is ∙ test.1) c.loop-number.invariant w.add.ensures)
       | else-is_owned w ↦
           rw (w.levels-is) (owned_skip os at c.args.bank c.args.level c.args.levels.now c.loop-number.levels
@@ -34,4 +35,5 @@ loop-number-preserved c =
 
 pub returns : goal.returns
 returns c =
-    subst (λ (n : ℕ). FindsBy (IsOwnedBelow c.args.objects.now n c.args.bank) c.args.level c.args.levels.now c.loop-number.levels) (omega (arith, c.loop-number.auto.number-end, c.loop-number-test.false)) c.loop-number.invariant
+    subst (λ (n : ℕ). FindsBy (IsOwnedBelow c.args.objects.now n c.args.bank) c.args.level c.args.levels.now c.loop-number.levels)
+    (omega (arith, c.loop-number.auto.number-end, c.loop-number-test.false)) c.loop-number.invariant

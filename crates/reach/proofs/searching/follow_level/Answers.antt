@@ -6,7 +6,8 @@ use Rattle.reach.proofs.searching.follow_level.Goals as goal
 use Rattle.reach.proofs.searching.follow_level.Goals.{then-is_at, else-is_at}
 
 pub loop-number-init : goal.loop-number-init
-loop-number-init c = finds_none (IsFromLevel c.args.objects.now c.args.levels.now c.args.level 0) (c.args.level + 1) c.args.levels.now (λ s from. absurd (omega (arith, from.1)))
+loop-number-init c = finds_none (IsFromLevel c.args.objects.now c.args.levels.now c.args.level 0) (c.args.level + 1) c.args.levels.now
+    (λ s from. absurd (omega (arith, from.1)))
 
 pub overflow_add-level : goal.overflow_add-level
 overflow_add-level c =
@@ -22,7 +23,8 @@ loop-number-preserved c =
     let i = c.loop-number.number in
     elim c.if-is_at.branch [
       | then-is_at w ↦
-          rw (w.levels-is) (level_next os c.args.levels.now c.loop-number.levels c.args.level i c.loop-number.invariant w.find_of_object.new.levels (sym w.if-is_at.ensures) w.find_of_object.ensures)
+          rw (w.levels-is) (level_next os c.args.levels.now c.loop-number.levels c.args.level i c.loop-number.invariant w.find_of_object.new.levels
+          (sym w.if-is_at.ensures) w.find_of_object.ensures)
       | else-is_at w ↦
           rw (w.levels-is) (level_skip os c.args.levels.now c.loop-number.levels c.args.level i c.loop-number.invariant (sym w.if-is_at.ensures))
     ]

@@ -1,10 +1,12 @@
-use Rattle.reach.proofs.Names.{take, objects_in}
+use Rattle.reach.proofs.Names.{take, OnlyFetches, objects_in}
 use Rattle.std.proofs.Common.{◌≡◌}
-use Rattle.reach.proofs.Looking.{HasLooked}
 use Rattle.reach.proofs.world.read_objects.Given as goal
 
 abbrev pub invariant-loop-number : goal.invariant-loop-number
-invariant-loop-number g l = record {
-  read : l.objects.items ≡ take l.number (objects_in (g.F.PresentFrames.parts l.initial.store));
-  looked : HasLooked g.F.PresentFrames.parts g.F.PresentFrames.ContinuesTo l.initial.store l.store;
-}
+invariant-loop-number g l =
+    let parts = g.F.Frames.parts in
+    record {
+      read : l.objects.items ≡ take l.number (objects_in (parts l.initial.store));
+      snapshots : OnlyFetches parts g.F.Frames.ContinuesTo l.initial.store l.store;
+      failures : (parts l.store).failures ≡ (parts l.initial.store).failures;
+    }

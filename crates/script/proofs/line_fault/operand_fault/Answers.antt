@@ -7,13 +7,16 @@ number_fault-requires c = no_number c.args.words.now c.next.new.self c.in-Some.w
 
 pub returns-in-None-number-clause-fault : goal.returns-in-None-number-clause-fault
 returns-in-None-number-clause-fault c =
-    word_fault_here c.args.is_register c.args.words.now c.next.new.self c.in-Some.word.now c.args.place c.number_fault.result (sym c.copy-ahead.ensures ∙ c.in-Some.ensures) c.number_fault.ensures
+    word_fault_here c.args.is_register c.args.words.now c.next.new.self c.in-Some.word.now c.args.place c.number_fault.result
+    (sym c.copy-ahead.ensures ∙ c.in-Some.ensures) c.number_fault.ensures
 
 pub returns-then-number-most-clause-fault : goal.returns-then-number-most-clause-fault
 returns-then-number-most-clause-fault c =
-    register_fault c.args.is_register c.args.words.now c.number.new.self c.in-Some-number.number c.greatest-most.result c.in-Some-number.ensures c.greatest-most.ensures c.if-number-most.true c.args.place
+    register_fault c.args.is_register c.args.words.now c.number.new.self c.in-Some-number.number c.greatest-most.result c.in-Some-number.ensures
+    c.greatest-most.ensures c.if-number-most.true c.args.place
 
 pub returns-else-number-most-clause-none : goal.returns-else-number-most-clause-none
 returns-else-number-most-clause-none c =
-    operand_here c.args.is_register c.args.words.now c.number.new.self c.in-Some-number.number c.greatest-most.result c.in-Some-number.ensures c.greatest-most.ensures
+    operand_here c.args.is_register c.args.words.now c.number.new.self c.in-Some-number.number c.greatest-most.result c.in-Some-number.ensures
+    c.greatest-most.ensures
     (omega (arith, c.if-number-most.false))

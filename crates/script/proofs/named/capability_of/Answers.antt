@@ -18,10 +18,12 @@ returns-in_err-capability-clause-none c = rw c.from_residual-in_err-capability.e
 
 pub returns-then-is_empty-clause-some : goal.returns-then-is_empty-clause-some
 returns-then-is_empty-clause-some c =
-    let found = capability_found _ _ _ _ _ _ (sym c.new-words.ensures ∙ c.in_ok-next.ensures) c.in_ok-kind.ensures.found c.in_ok-capability.ensures (grind arith) in
+    let found = capability_found _ _ _ _ _ _ (sym c.new-words.ensures ∙ c.in_ok-next.ensures) c.in_ok-kind.ensures.found c.in_ok-capability.ensures
+    (grind arith) in
     (found.0.0, found.0.1, text_from_words c.args.text.now _ found.1)
 
 pub returns-else-is_empty-clause-none : goal.returns-else-is_empty-clause-none
 returns-else-is_empty-clause-none c = λ d well small.
     no_text c.args.text.now d (well, small)
-    (words_left_over _ _ _ _ _ _ (sym c.new-words.ensures ∙ c.in_ok-next.ensures) c.in_ok-kind.ensures.found c.in_ok-capability.ensures (grind arith) d (well, small))
+    (words_left_over _ _ _ _ _ _ (sym c.new-words.ensures ∙ c.in_ok-next.ensures) c.in_ok-kind.ensures.found c.in_ok-capability.ensures (grind arith) d
+    (well, small))

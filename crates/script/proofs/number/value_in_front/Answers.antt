@@ -20,14 +20,16 @@ returns-then-not-is_ascii_digit-clause-none c = λ digits.
 
 pub returns-in_err-number-clause-none : goal.returns-in_err-number-clause-none
 returns-in_err-number-clause-none c = rw c.from_residual.ensures (λ digits.
-    let past = goes_on c.args.text.now c.loop-size.size c.loop-size.invariant.first c.loop-size-test.true (λ space. omega (arith, space, c.if-not-is_ascii_digit.ensures.cases)) in
+    let past = goes_on c.args.text.now c.loop-size.size c.loop-size.invariant.first c.loop-size-test.true
+    (λ space. omega (arith, space, c.if-not-is_ascii_digit.ensures.cases)) in
     word_great c.args.text.now c.loop-size.size c.loop-size.number past c.loop-size.invariant.value
     c.if-not-is_ascii_digit.ensures.cases
     (λ small. omega (arith, small, c.in_err-number.ensures.none, c.from.ensures)))
 
 pub loop-size-preserved : goal.loop-size-preserved
 loop-size-preserved c =
-    let past = goes_on c.args.text.now c.loop-size.size c.loop-size.invariant.first c.loop-size-test.true (λ space. omega (arith, space, c.if-not-is_ascii_digit.ensures.cases)) in
+    let past = goes_on c.args.text.now c.loop-size.size c.loop-size.invariant.first c.loop-size-test.true
+    (λ space. omega (arith, space, c.if-not-is_ascii_digit.ensures.cases)) in
     let more = value_more c.args.text.now c.loop-size.size c.loop-size.number c.loop-size-test.true c.loop-size.invariant.digits
     c.loop-size.invariant.value c.if-not-is_ascii_digit.ensures.cases in
     record {

@@ -8,14 +8,21 @@ pub returns-then-line-gt-LONGEST_LINE-clause-reads : goal.returns-then-line-gt-L
 returns-then-line-gt-LONGEST_LINE-clause-reads c = λ d fits spelt. absurd (omega (arith, length-spelling d fits, ap length spelt))
 
 pub returns-then-is_skipped-clause-reads : goal.returns-then-is_skipped-clause-reads
-returns-then-is_skipped-clause-reads c = λ d fits spelt. let skipped : IsSkipped c.args.line.now = grind arith in absurd (spelling_said d fits (subst IsSkipped spelt skipped))
+returns-then-is_skipped-clause-reads c = λ d fits spelt. let skipped : IsSkipped c.args.line.now = grind arith in absurd
+    (spelling_said d fits (subst IsSkipped spelt skipped))
 
 pub returns-in-Some-short_invocation-clause-says : goal.returns-in-Some-short_invocation-clause-says
-returns-in-Some-short_invocation-clause-says c = (c.in-Some-short_invocation.ensures.0, spelling_from_words c.args.line.now (command.Invoke c.in-Some-short_invocation.invocation) c.in-Some-short_invocation.ensures.1)
+returns-in-Some-short_invocation-clause-says c = (
+  c.in-Some-short_invocation.ensures.0,
+  spelling_from_words c.args.line.now (command.Invoke c.in-Some-short_invocation.invocation)
+      c.in-Some-short_invocation.ensures.1,
+)
 
 pub returns-in-Some-short_invocation-clause-reads : goal.returns-in-Some-short_invocation-clause-reads
 returns-in-Some-short_invocation-clause-reads c = λ d fits spelt.
-    ap (λ e. line.Command e) (one_spelling c.args.line.now (command.Invoke c.in-Some-short_invocation.invocation) d c.in-Some-short_invocation.ensures.0 fits c.in-Some-short_invocation.ensures.1 spelt)
+    ap (λ e. line.Command e)
+    (one_spelling c.args.line.now (command.Invoke c.in-Some-short_invocation.invocation) d c.in-Some-short_invocation.ensures.0 fits
+    c.in-Some-short_invocation.ensures.1 spelt)
 
 pub returns-in-Some-clause-says : goal.returns-in-Some-clause-says
 returns-in-Some-clause-says c =

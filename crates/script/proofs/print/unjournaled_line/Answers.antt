@@ -8,4 +8,5 @@ returns-in-NotPage-clause-text c = c.new.ensures ∙ ap (λ (why : Unjournaled).
 
 pub returns-in-Renewed-clause-text : goal.returns-in-Renewed-clause-text
 unfolding digits
-returns-in-Renewed-clause-text c = c.new-in-Renewed.ensures ∙ ap (λ (why : Unjournaled). codes "not journaled " ++ decimal (unjournaled_number why)) (sym c.in-Renewed.is)
+returns-in-Renewed-clause-text c = c.new-in-Renewed.ensures ∙ ap (λ (why : Unjournaled). codes "not journaled " ++ decimal (unjournaled_number why))
+    (sym c.in-Renewed.is)

@@ -7,7 +7,8 @@ pub returns-in_err-print_capability : goal.returns-in_err-print_capability
 unfolding capability_lines
 returns-in_err-print_capability g c =
     let p = err_from_is_err_and c.from_residual.result c.from_residual.ensures.1 in
-    rw (p.1, p.2) (writes_fail _ _ _ _ _ _ _ _ (lines_split (capability_line c.args.name.now) c.args.capabilities.now c.loop-index.index Void c.loop-index-test.true)
+    rw (p.1, p.2) (writes_fail _ _ _ _ _ _ _ _
+    (lines_split (capability_line c.args.name.now) c.args.capabilities.now c.loop-index.index Void c.loop-index-test.true)
     c.loop-index.invariant c.in_err-print_capability.ensures)
 
 pub loop-index-preserved : goal.loop-index-preserved

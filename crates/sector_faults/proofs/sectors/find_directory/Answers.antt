@@ -27,6 +27,7 @@ returns-in-Some-clause-refused c = λ image copy plan header.
     ∙ ap (λ (q : Plan). slot_sector q c.args.header.generation (c.geometry-geometry.result.log - 1)) c.new.ensures
     ∙ ap (λ (g : Geometry). slot_sector p c.args.header.generation (g.log - 1)) c.geometry-geometry.ensures.value in
     directory_fault image c.args.size p c.args.header c.read_entries.new.into c.slot_sector-sector.result (c.slot_sector-sector.result + 9) c.sectors.result.now
-    (omega (arith, plan.fits.geometry.least_log)) at refl (length c.args.entries.now) c.requires.length (c.sectors.ensures.value image copy) c.read_entries.ensures.bytes
+    (omega (arith, plan.fits.geometry.least_log)) at refl (length c.args.entries.now) c.requires.length (c.sectors.ensures.value image copy)
+    c.read_entries.ensures.bytes
     c.in-Some.part plan header c.read_entries.ensures.size c.read_entries.ensures.fits
     (subst (λ (g : Geometry). BreaksDirectory g c.read_entries.new.into c.in-Some.part) c.geometry-geometry.ensures.value c.in-Some.ensures.some)

@@ -7,7 +7,7 @@ use Rattle.space_bank.proofs.counting.add_usages.Goals.{then-not-is_free, else-n
 
 pub loop-number-init : goal.loop-number-init
 loop-number-init g c =
-    let os = objects_in (g.F.PresentFrames.parts c.args.store.now) in
+    let os = objects_in (g.F.Frames.parts c.args.store.now) in
     record {
       size = refl;
       each = λ b bank. c.requires.none b ∙ sym (used_first os c.requires.tree b);
@@ -15,7 +15,7 @@ loop-number-init g c =
 
 pub raise-requires : goal.raise-requires
 raise-requires g c =
-    let os = objects_in (g.F.PresentFrames.parts c.args.store.now) in
+    let os = objects_in (g.F.Frames.parts c.args.store.now) in
     let used : is_free (content_at os c.loop-number.number) ≡ false = sym c.is_free.ensures ∙ c.if-not-is_free.true in
     let bank = owner_of_used os c.requires.tree c.loop-number.number c.owner.result used c.owner.ensures in
     record {
@@ -24,15 +24,17 @@ raise-requires g c =
       each = λ b is. omega (arith, c.requires.each b is, c.loop-number.invariant.size);
       few = λ b member.
           let so = c.loop-number.invariant.each b (chain_banks os c.requires.tree c.owner.result b bank member) in
-          raise_fits os b c.loop-number.number c.count-number-end.result (slice_index c.loop-number.usages b) so c.loop-number-test.true c.count-number-end.type_inv;
+          raise_fits os b c.loop-number.number c.count-number-end.result (slice_index c.loop-number.usages b) so c.loop-number-test.true
+          c.count-number-end.type_inv;
     }
 
 pub loop-number-preserved : goal.loop-number-preserved
 loop-number-preserved g c =
-    let p = g.F.PresentFrames.parts c.args.store.now in
+    let p = g.F.Frames.parts c.args.store.now in
     let os = objects_in p in
     let n = c.loop-number.number in
-    let inside : n < length os = inside_read p c.table.result.now c.count-number-end.result n c.table.ensures c.count-number-end.ensures c.loop-number-test.true in
+    let inside : n < length os = inside_read p c.table.result.now c.count-number-end.result n c.table.ensures c.count-number-end.ensures c.loop-number-test.true
+    in
     elim c.if-not-is_free.branch [
       | then-not-is_free w ↦
           let used : is_free (content_at os n) ≡ false = sym c.is_free.ensures ∙ w.if-not-is_free.true in
@@ -56,7 +58,8 @@ loop-number-preserved g c =
 
 pub returns-clause-counted : goal.returns-clause-counted
 returns-clause-counted g c = λ b bank.
-    let p = g.F.PresentFrames.parts c.args.store.now in
+    let p = g.F.Frames.parts c.args.store.now in
     let os = objects_in p in
     c.loop-number.invariant.each b bank
-    ∙ sym (used_whole os b c.loop-number.number (past_read p c.table.result.now c.count-number-end.result c.loop-number.number c.table.ensures c.count-number-end.ensures c.loop-number-test.false))
+    ∙ sym (used_whole os b c.loop-number.number
+    (past_read p c.table.result.now c.count-number-end.result c.loop-number.number c.table.ensures c.count-number-end.ensures c.loop-number-test.false))

@@ -4,14 +4,17 @@ use Rattle.space_bank.proofs.counting.read_numbers.Goals as goal
 
 pub loop-number-preserved : goal.loop-number-preserved
 loop-number-preserved g c =
-    let parts = g.F.PresentFrames.parts in
+    let parts = g.F.Frames.parts in
     let inv = c.loop-number.invariant in
-    let ok = c.in-Ok-read_number.ensures in
+    let ok = c.in_ok-read_number.ensures in
     record {
-      kept = numbers_more (parts c.args.store.now) (parts c.loop-number.store) c.args.role c.loop-number.number c.in-Ok-read_number.one c.loop-number.kept.items c.push_reserved.new.self.items
+      kept = numbers_more (parts c.args.store.now) (parts c.loop-number.store) c.args.role c.loop-number.number c.in_ok-read_number.field-0
+          c.loop-number.kept.items c.push_reserved.new.self.items
           inv.snapshots.headers inv.snapshots.contents ok.kept inv.kept c.push_reserved.ensures.items;
       size = omega (arith, inv.size, c.push_reserved.ensures.len);
       room = omega (arith, inv.room, c.push_reserved.ensures.capacity);
-      failures = never_failed (parts c.args.store.now).failures (parts c.loop-number.store).failures (parts c.read_number.new.store).failures inv.failures ok.only_reads.later (λ more. let wrong = ok.only_reads.cause.1 more in cc);
-      snapshots = only_reads_twice parts g.F.PresentFrames.ContinuesTo g.met.F.PresentFrames.continues_twice c.args.store.now c.loop-number.store c.read_number.new.store inv.snapshots ok.only_reads.snapshots;
+      failures = never_failed (parts c.args.store.now).failures (parts c.loop-number.store).failures (parts c.read_number.new.store).failures inv.failures
+          ok.later (λ more. let wrong = ok.cause.1 more in cc);
+      snapshots = only_reads_twice parts g.F.Frames.ContinuesTo g.met.F.Frames.continues_twice c.args.store.now c.loop-number.store c.read_number.new.store
+          inv.snapshots ok.snapshots;
     }

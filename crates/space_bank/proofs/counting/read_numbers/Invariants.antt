@@ -4,11 +4,11 @@ use Rattle.space_bank.proofs.counting.read_numbers.Given as goal
 
 abbrev pub invariant-loop-number : goal.invariant-loop-number
 invariant-loop-number g l =
-    let os = objects_in (g.F.PresentFrames.parts l.initial.store) in
+    let os = objects_in (g.F.Frames.parts l.initial.store) in
     record {
       kept : l.kept.items ≡ map (λ n. kept_number l.role (content_at os n)) (range_with_len 0 l.number);
       size : vec_len l.kept ≡ l.number;
       room : l.count ≤ vec_capacity l.kept;
-      failures : (g.F.PresentFrames.parts l.store).failures ≡ (g.F.PresentFrames.parts l.initial.store).failures;
-      snapshots : OnlyFetches g.F.PresentFrames.parts g.F.PresentFrames.ContinuesTo l.initial.store l.store;
+      failures : (g.F.Frames.parts l.store).failures ≡ (g.F.Frames.parts l.initial.store).failures;
+      snapshots : OnlyFetches g.F.Frames.parts g.F.Frames.ContinuesTo l.initial.store l.store;
     }

@@ -8,12 +8,12 @@ use Rattle.space_bank.proofs.listing.list_owned.Goals.{then-owner-bank, else-own
 
 pub next_used-requires-clause-few : goal.next_used-requires-clause-few
 next_used-requires-clause-few g c =
-    let p = g.F.PresentFrames.parts c.args.store.now in
+    let p = g.F.Frames.parts c.args.store.now in
     omega (arith, c.requires.free.each, length_objects p.headers p.contents, c.requires.room, c.args.listed.now.small)
 
 pub push_reserved-requires : goal.push_reserved-requires
 push_reserved-requires g c =
-    let p = g.F.PresentFrames.parts c.args.store.now in
+    let p = g.F.Frames.parts c.args.store.now in
     let os = objects_in p in
     let n = c.in-Some.number in
     let next : IsNextUsed os c.loop-number.from n = c.in-Some.ensures.some os c.requires.free in
@@ -23,13 +23,13 @@ push_reserved-requires g c =
 
 pub overflow_add-from : goal.overflow_add-from
 overflow_add-from g c =
-    let p = g.F.PresentFrames.parts c.args.store.now in
+    let p = g.F.Frames.parts c.args.store.now in
     let next : IsNextUsed (objects_in p) c.loop-number.from c.in-Some.number = c.in-Some.ensures.some (objects_in p) c.requires.free in
     record { fits = omega (arith, next.inside, length_objects p.headers p.contents, c.requires.room, c.args.listed.now.small) }
 
 pub loop-number-preserved : goal.loop-number-preserved
 loop-number-preserved g c =
-    let os = objects_in (g.F.PresentFrames.parts c.args.store.now) in
+    let os = objects_in (g.F.Frames.parts c.args.store.now) in
     let test = is_listed_owned os c.args.bank in
     let n = c.in-Some.number in
     let next : IsNextUsed os c.loop-number.from n = c.in-Some.ensures.some os c.requires.free in
@@ -60,8 +60,9 @@ loop-number-preserved g c =
 
 pub returns-clause-listed : goal.returns-clause-listed
 returns-clause-listed g c =
-    let os = objects_in (g.F.PresentFrames.parts c.args.store.now) in
+    let os = objects_in (g.F.Frames.parts c.args.store.now) in
     let none : HasNoneUsed os c.loop-number.from = c.in_default.ensures.none os c.requires.free refl in
-    listed_up_to (is_listed_owned os c.args.bank) c.args.listed.now.items c.loop-number.listed.items c.loop-number.from (length os) c.loop-number.invariant.within c.loop-number.invariant.listed
+    listed_up_to (is_listed_owned os c.args.bank) c.args.listed.now.items c.loop-number.listed.items c.loop-number.from (length os)
+    c.loop-number.invariant.within c.loop-number.invariant.listed
     (λ m past inside. free_not_owned os c.args.bank m (none m past inside))
     ∙ ap (λ (xs : List ℕ). c.args.listed.now.items ++ xs) (owned_whole os c.args.bank (length os) refl)

@@ -5,7 +5,7 @@ use Rattle.space_bank.proofs.listing.list_owned.Given as goal
 
 abbrev pub invariant-loop-number : goal.invariant-loop-number
 invariant-loop-number g l =
-    let os = objects_in (g.F.PresentFrames.parts l.store) in
+    let os = objects_in (g.F.Frames.parts l.store) in
     record {
       listed : l.listed.items ≡ l.initial.listed.items ++ filter (is_listed_owned os l.bank) (range_with_len 0 l.from);
       count : vec_len l.listed ≤ vec_len l.initial.listed + (l.from - 1);
@@ -14,4 +14,4 @@ invariant-loop-number g l =
     }
 
 abbrev pub decreases-loop-number : goal.decreases-loop-number
-decreases-loop-number g l = length (objects_in (g.F.PresentFrames.parts l.store)) - l.from
+decreases-loop-number g l = length (objects_in (g.F.Frames.parts l.store)) - l.from

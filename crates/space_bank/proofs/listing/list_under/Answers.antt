@@ -9,24 +9,24 @@ use Rattle.space_bank.proofs.listing.list_under.Goals.{then-number-bank-via-else
 
 pub next_used-requires-clause-few : goal.next_used-requires-clause-few
 next_used-requires-clause-few g c =
-    let p = g.F.PresentFrames.parts c.args.store.now in
+    let p = g.F.Frames.parts c.args.store.now in
     omega (arith, c.requires.free.each, length_objects p.headers p.contents, c.requires.room, c.args.listed.now.small)
 
 pub push_reserved-requires : goal.push_reserved-requires
 push_reserved-requires g c =
-    let p = g.F.PresentFrames.parts c.args.store.now in
+    let p = g.F.Frames.parts c.args.store.now in
     let next : IsNextUsed (objects_in p) c.loop-number.from c.in-Some.number = c.in-Some.ensures.some (objects_in p) c.requires.free in
     omega (arith, next.past, next.inside, length_objects p.headers p.contents, c.requires.room, c.loop-number.invariant.count, c.loop-number.invariant.room)
 
 pub overflow_add-from : goal.overflow_add-from
 overflow_add-from g c =
-    let p = g.F.PresentFrames.parts c.args.store.now in
+    let p = g.F.Frames.parts c.args.store.now in
     let next : IsNextUsed (objects_in p) c.loop-number.from c.in-Some.number = c.in-Some.ensures.some (objects_in p) c.requires.free in
     record { fits = omega (arith, next.inside, length_objects p.headers p.contents, c.requires.room, c.args.listed.now.small) }
 
 pub loop-number-preserved : goal.loop-number-preserved
 loop-number-preserved g c =
-    let os = objects_in (g.F.PresentFrames.parts c.args.store.now) in
+    let os = objects_in (g.F.Frames.parts c.args.store.now) in
     let test = is_listed_under os c.args.bank in
     let n = c.in-Some.number in
     let next : IsNextUsed os c.loop-number.from n = c.in-Some.ensures.some os c.requires.free in
@@ -61,8 +61,9 @@ loop-number-preserved g c =
 
 pub returns-clause-listed : goal.returns-clause-listed
 returns-clause-listed g c =
-    let os = objects_in (g.F.PresentFrames.parts c.args.store.now) in
+    let os = objects_in (g.F.Frames.parts c.args.store.now) in
     let none : HasNoneUsed os c.loop-number.from = c.in_default.ensures.none os c.requires.free refl in
-    listed_up_to (is_listed_under os c.args.bank) c.args.listed.now.items c.loop-number.listed.items c.loop-number.from (length os) c.loop-number.invariant.within c.loop-number.invariant.listed
+    listed_up_to (is_listed_under os c.args.bank) c.args.listed.now.items c.loop-number.listed.items c.loop-number.from (length os)
+    c.loop-number.invariant.within c.loop-number.invariant.listed
     (λ m past inside. free_not_under os c.args.bank m c.requires.bank (none m past inside))
     ∙ ap (λ (xs : List ℕ). c.args.listed.now.items ++ xs) (under_whole os c.args.bank (length os) refl)

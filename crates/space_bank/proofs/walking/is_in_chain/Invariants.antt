@@ -4,5 +4,5 @@ use Rattle.space_bank.proofs.walking.is_in_chain.Given as goal
 
 abbrev pub invariant-loop-step : goal.invariant-loop-step
 invariant-loop-step g l =
-    let os = objects_in (g.F.PresentFrames.parts l.store) in
+    let os = objects_in (g.F.Frames.parts l.store) in
     list_any (nat_eq l.bank) (chain os l.first) ≡ list_any (nat_eq l.bank) (chain_within (16 - l._step) os l.link)

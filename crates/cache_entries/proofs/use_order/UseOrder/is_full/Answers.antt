@@ -1,18 +1,15 @@
-use Rattle.cache_entries.proofs.Names.{ℕ, length, ap, arith, nat_le, keys_of, length-map, OrderState}
-use Rattle.std.proofs.Common.{◌≡◌, ◌∙◌}
-use Rattle.cache_entries.proofs.Turns.{length_in_turn}
+use Rattle.cache_entries.proofs.Names.{ℕ, ap, length, nat_le, subst, sym, AreSpread, OrderState}
+use Rattle.std.proofs.Common.{◌∙◌}
+use Rattle.cache_entries.proofs.Turns.{length_in_turn, spread_in_turn}
 use Rattle.cache_entries.proofs.use_order.UseOrder.is_full.Goals as goal
 
-pub returns : goal.returns
-returns c =
+pub returns-clause-spread : goal.returns-clause-spread
+returns-clause-spread c =
     let i = c.self.inside in
-    let count : c.len.result ≡ length c.args.self.now.numbers =
-    omega (
-      arith,
-      c.len.ensures.len,
-      length-map i.order.entries (λ (e : ℕ × Unit {0}). e.0),
-      length_in_turn i.latest.items (keys_of i.order.entries) c.self.invariant.0.listed,
-      ap (λ (o : OrderState). length o.numbers) c.self.view_is,
-    ) in
-    let most : c.get.result ≡ c.args.self.now.most = c.get.ensures.value ∙ c.cap.ensures ∙ ap (λ (o : OrderState). o.most) c.self.view_is in
-    ap (λ (k : ℕ). nat_le k c.len.result) most ∙ ap (nat_le c.args.self.now.most) count
+    subst AreSpread c.self.view_is (spread_in_turn i.latest.items i.order c.self.invariant.0.listed c.is_full.ensures.spread)
+
+pub returns-clause-full : goal.returns-clause-full
+returns-clause-full c =
+    let i = c.self.inside in
+    c.is_full.ensures.full ∙ ap (nat_le i.order.most) (sym (length_in_turn i.latest.items i.order.numbers c.self.invariant.0.listed))
+    ∙ ap (λ (o : OrderState). nat_le o.most (length o.numbers)) c.self.view_is

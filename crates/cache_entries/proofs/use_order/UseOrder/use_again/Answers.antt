@@ -13,14 +13,16 @@ loop-number-preserved c =
     let used = c.use_one_again.ensures.used c.if-not-use_one_again.false in
     record {
       numbers = ap (λ (o : OrderState). o.numbers) used ∙ one_more s.numbers t.numbers ns i c.loop-number-test.true before.numbers;
+      same_places = ap (λ (o : OrderState). o.places) used ∙ before.same_places;
       same_most = ap (λ (o : OrderState). o.most) used ∙ before.same_most;
-      listed = listed_more s.numbers t.numbers ns i c.loop-number-test.true before.numbers (c.use_one_again.ensures.listed c.if-not-use_one_again.false) before.listed;
+      listed = listed_more s.numbers t.numbers ns i c.loop-number-test.true before.numbers (c.use_one_again.ensures.listed c.if-not-use_one_again.false)
+          before.listed;
     }
 
 pub returns-then-ends_with : goal.returns-then-ends_with
 returns-then-ends_with c =
     let latest = c.self.inside.latest.items in
-    let keys = keys_of c.self.inside.order.entries in
+    let keys = c.self.inside.order.numbers in
     let ns = c.args.numbers.now in
     let end = c.ends_with.ensures c.if-ends_with.true in
     let is : latest ≡ end.0 ++ ns = sym c.deref.ensures.value ∙ end.1 in
@@ -32,10 +34,12 @@ returns-then-ends_with c =
           ∙ used_again end.0 ns keys (subst AllDiffer is c.self.invariant.0.once)
           ∙ ap (λ (ks : List ℕ). used_in_turn ns (used_in_turn ks keys)) (sym is)
           ∙ ap (λ (ks : List ℕ). used_in_turn ks (used_in_turn latest keys)) (sym whole));
+      same_places = refl;
       same_most = refl;
       listed = λ n has.
           ap (λ (o : OrderState). is_member o.numbers n) (sym c.self.view_is)
           ∙ member_in_turn latest keys n c.self.invariant.0.listed
-          ∙ c.self.invariant.0.listed n (ap (λ (ks : List ℕ). is_member ks n) is ∙ in_behind end.0 ns n (ap (λ (ks : List ℕ). is_member ks n) (sym whole) ∙ has));
+          ∙ c.self.invariant.0.listed n (ap (λ (ks : List ℕ). is_member ks n) is ∙ in_behind end.0 ns n
+          (ap (λ (ks : List ℕ). is_member ks n) (sym whole) ∙ has));
       whole = λ said. omega arith;
     }

@@ -14,7 +14,7 @@ invariant_of-self c =
     let i = c.self.inside in
     let n = c.args.number in
     let moved = c.move_to_end.ensures.moved in (
-      subst (λ (ns : List ℕ). AreLatest ns (keys_of i.order.entries)) (sym moved) (again_latest i.latest.items (keys_of i.order.entries) c.self.invariant.0 n (has_number c)),
+      subst (λ (ns : List ℕ). AreLatest ns i.order.numbers) (sym moved) (again_latest i.latest.items i.order.numbers c.self.invariant.0 n (has_number c)),
       omega (arith, c.self.invariant.1, ap length moved, length-append (without n i.latest.items) (n ∷ []), length_without n i.latest.items (has_number c)),
       omega (arith, c.self.invariant.2, c.move_to_end.ensures.capacity),
     )
@@ -24,14 +24,16 @@ returns-clause-listed c =
     let i = c.self.inside in
     let n = c.args.number in
     λ _. ap (λ (o : OrderState). is_member o.numbers n) (sym c.self.view_is)
-    ∙ member_in_turn i.latest.items (keys_of i.order.entries) n c.self.invariant.0.listed
+    ∙ member_in_turn i.latest.items i.order.numbers n c.self.invariant.0.listed
     ∙ c.self.invariant.0.listed n (has_number c)
 
 pub returns-clause-used : goal.returns-clause-used
 returns-clause-used c =
     let i = c.self.inside in
     let n = c.args.number in
-    let keys = keys_of i.order.entries in
-    λ _. ap (λ (ns : List ℕ). let o : OrderState = record { numbers = used_in_turn ns keys; most = i.order.cap } in o) c.move_to_end.ensures.moved
-    ∙ ap (λ (ns : List ℕ). let o : OrderState = record { numbers = ns; most = i.order.cap } in o) (used_once_more n i.latest.items keys c.self.invariant.0.once)
+    let keys = i.order.numbers in
+    λ _. ap (λ (ns : List ℕ). let o : OrderState = record { numbers = used_in_turn ns keys; places = i.order.places; most = i.order.most } in o)
+    c.move_to_end.ensures.moved
+    ∙ ap (λ (ns : List ℕ). let o : OrderState = record { numbers = ns; places = i.order.places; most = i.order.most } in o)
+    (used_once_more n i.latest.items keys c.self.invariant.0.once)
     ∙ ap (used_last n) c.self.view_is

@@ -25,13 +25,15 @@ pub returns-in_err-prepare-clause-elsewhere : goal.returns-in_err-prepare-clause
 returns-in_err-prepare-clause-elsewhere g c =
     let old = (g.D.Device.disk c.args.device.now).seen in
     let mid = (g.D.Device.disk c.sync.new.self).seen in
-    elsewhere_on (header_sector c.args.header) 2 old mid (g.D.Device.disk c.prepare.new.device).seen (elsewhere_same (header_sector c.args.header) 2 old mid c.sync.ensures.seen) c.prepare.ensures.keeps.elsewhere
+    elsewhere_on (header_sector c.args.header) 2 old mid (g.D.Device.disk c.prepare.new.device).seen
+    (elsewhere_same (header_sector c.args.header) 2 old mid c.sync.ensures.seen) c.prepare.ensures.keeps.elsewhere
 
 pub returns-in_err-prepare-clause-any_moment : goal.returns-in_err-prepare-clause-any_moment
 returns-in_err-prepare-clause-any_moment g c =
     let first = sync_run c.args.header c.requires.one (g.met.D.Device.only_now c.args.device.now) c.sync.ensures.time c.sync.ensures.crash in
     commit_run c.args.header (g.met.D.Device.seen_left c.args.device.now) c.sync.ensures.seen first
-    (preparing_run c.args.header (g.D.Device.disk c.sync.new.self).seen {old = g.D.Device.disk c.sync.new.self} {new = g.D.Device.disk c.prepare.new.device} c.prepare.ensures.any_moment)
+    (preparing_run c.args.header (g.D.Device.disk c.sync.new.self).seen {old = g.D.Device.disk c.sync.new.self} {new = g.D.Device.disk c.prepare.new.device}
+    c.prepare.ensures.any_moment)
 
 pub returns-in_err-prepare-clause-in_order : goal.returns-in_err-prepare-clause-in_order
 returns-in_err-prepare-clause-in_order g c =
@@ -41,7 +43,8 @@ returns-in_err-prepare-clause-in_order g c =
 pub open_gate-requires-clause-next : goal.open_gate-requires-clause-next
 open_gate-requires-clause-next g c =
     let mid = (g.D.Device.disk c.sync.new.self).seen in
-    let next = subst (λ (image : Image). Precedes image c.args.header) (sym (agrees_is mid (g.D.Device.disk c.args.device.now).seen c.sync.ensures.seen)) c.requires.next in
+    let next = subst (λ (image : Image). Precedes image c.args.header) (sym (agrees_is mid (g.D.Device.disk c.args.device.now).seen c.sync.ensures.seen))
+    c.requires.next in
     precedes_on c.args.header mid (g.D.Device.disk c.prepare.new.device).seen next c.prepare.ensures.keeps
 
 pub returns-clause-committed : goal.returns-clause-committed
@@ -49,7 +52,9 @@ returns-clause-committed g c =
     let mid = (g.D.Device.disk c.sync.new.self).seen in
     let new = (g.D.Device.disk c.open_gate.new.device).seen in
     let same = agrees_is mid (g.D.Device.disk c.args.device.now).seen c.sync.ensures.seen in
-    on_ok c.open_gate.result (λ has. subst (λ (image : Image). HasNew c.args.header image new) same (new_on c.args.header mid (g.D.Device.disk c.prepare.new.device).seen new c.prepare.ensures.keeps has)) c.open_gate.ensures.committed
+    on_ok c.open_gate.result
+    (λ has. subst (λ (image : Image). HasNew c.args.header image new) same
+    (new_on c.args.header mid (g.D.Device.disk c.prepare.new.device).seen new c.prepare.ensures.keeps has)) c.open_gate.ensures.committed
 
 pub returns-clause-elsewhere : goal.returns-clause-elsewhere
 returns-clause-elsewhere g c =
@@ -57,19 +62,24 @@ returns-clause-elsewhere g c =
     let mid = (g.D.Device.disk c.sync.new.self).seen in
     let new = (g.D.Device.disk c.open_gate.new.device).seen in
     elsewhere_on (header_sector c.args.header) 2 old mid new (elsewhere_same (header_sector c.args.header) 2 old mid c.sync.ensures.seen)
-    (either_elsewhere c.args.header mid new (either_on c.args.header mid (g.D.Device.disk c.prepare.new.device).seen new c.prepare.ensures.keeps c.open_gate.ensures.seen))
+    (either_elsewhere c.args.header mid new
+    (either_on c.args.header mid (g.D.Device.disk c.prepare.new.device).seen new c.prepare.ensures.keeps c.open_gate.ensures.seen))
 
 pub returns-clause-any_moment : goal.returns-clause-any_moment
 returns-clause-any_moment g c =
     let mid = (g.D.Device.disk c.sync.new.self).seen in
     let first = sync_run c.args.header c.requires.one (g.met.D.Device.only_now c.args.device.now) c.sync.ensures.time c.sync.ensures.crash in
     commit_run c.args.header (g.met.D.Device.seen_left c.args.device.now) c.sync.ensures.seen first
-    (publishing_run c.args.header mid (g.D.Device.disk c.prepare.new.device).seen {old = g.D.Device.disk c.sync.new.self} {mid = g.D.Device.disk c.prepare.new.device} {new = g.D.Device.disk c.open_gate.new.device}
+    (publishing_run c.args.header mid
+    (g.D.Device.disk c.prepare.new.device).seen {old = g.D.Device.disk c.sync.new.self} {mid = g.D.Device.disk c.prepare.new.device} {new = g.D.Device.disk
+    c.open_gate.new.device}
     c.prepare.ensures.keeps c.prepare.ensures.any_moment c.open_gate.ensures.any_moment)
 
 pub returns-clause-in_order : goal.returns-clause-in_order
 returns-clause-in_order g c =
     let first = sync_order c.args.header (g.met.D.Device.only_now c.args.device.now) c.sync.ensures.time c.sync.ensures.crash in
     commit_order c.args.header (g.met.D.Device.seen_left c.args.device.now) c.sync.ensures.seen first
-    (publishing_order c.args.header (g.D.Device.disk c.sync.new.self).seen {old = g.D.Device.disk c.sync.new.self} {mid = g.D.Device.disk c.prepare.new.device} {new = g.D.Device.disk c.open_gate.new.device}
+    (publishing_order c.args.header
+    (g.D.Device.disk c.sync.new.self).seen {old = g.D.Device.disk c.sync.new.self} {mid = g.D.Device.disk c.prepare.new.device} {new = g.D.Device.disk
+    c.open_gate.new.device}
     c.prepare.ensures.in_order c.open_gate.ensures.in_order)

@@ -18,6 +18,7 @@ pub returns-clause-rest : goal.returns-clause-rest
 returns-clause-rest g c =
     let few : length c.args.entries.now ≤ 4096 = search rules in
     on_ok c.write_sectors.result
-    (λ written. zeros_behind (g.D.Device.disk c.write_sectors.new.device).seen (directory_sector c.args.self.now c.args.generation) (length c.args.entries.now) c.put_entries.new.into few
+    (λ written. zeros_behind (g.D.Device.disk c.write_sectors.new.device).seen (directory_sector c.args.self.now c.args.generation) (length c.args.entries.now)
+    c.put_entries.new.into few
     (rw c.directory_sector-at.ensures.value at written) c.put_entries.ensures.rest)
     c.write_sectors.ensures.written

@@ -9,14 +9,17 @@ invariant_of-self g c =
     let same = c.put.auto.sectors ∙ ap length c.deref_mut.ensures.value in
     record {
       sound = rw (rewritten c.args.self.now.copy.len c.put.new.sectors c.args.self.now.copy.items c.args.self.now.copy.ok.0 same)
-          (copy_written c.args.self.now.sectors c.args.self.now.copy.items _ _ s _ c.write-answer.ensures.first _ c.put.new.sectors c.args.from.now c.args.at c.write-answer.ensures.events
+          (copy_written c.args.self.now.sectors c.args.self.now.copy.items _ _ s _ c.write-answer.ensures.first _ c.put.new.sectors c.args.from.now c.args.at
+          c.write-answer.ensures.events
           same c.put.ensures.fits c.put.ensures.written (rw c.deref_mut.ensures.value at c.put.ensures.elsewhere));
     }
 
 pub returns-clause-crash : goal.returns-clause-crash
 returns-clause-crash g c =
-    copy_tears c.args.self.now.sectors c.args.self.now.copy.items _ _ c.args.self.now.sound _ c.write-answer.ensures.first _ c.put.new.sectors c.args.from.now c.args.at c.write-answer.ensures.events 0 0
+    copy_tears c.args.self.now.sectors c.args.self.now.copy.items _ _ c.args.self.now.sound _ c.write-answer.ensures.first _ c.put.new.sectors c.args.from.now
+    c.args.at c.write-answer.ensures.events 0 0
 
 pub returns-clause-time : goal.returns-clause-time
 returns-clause-time g c =
-    write_elapses c.args.self.now.sectors c.args.self.now.copy.items _ _ c.args.self.now.sound _ c.write-answer.ensures.first _ c.put.new.sectors c.args.from.now c.args.at c.write-answer.ensures.events _ _
+    write_elapses c.args.self.now.sectors c.args.self.now.copy.items _ _ c.args.self.now.sound _ c.write-answer.ensures.first _ c.put.new.sectors
+    c.args.from.now c.args.at c.write-answer.ensures.events _ _

@@ -6,4 +6,5 @@ returns-clause-rest c = (c.sharers-nodes.result, c.sharers-nodes.ensures.all, c.
 
 pub returns-clause-frames : goal.returns-clause-frames
 returns-clause-frames c =
-    cluster_stays c.args.self.now c.args.first c.sharers-nodes.result c.args.cluster.now c.blank_behind.new.cluster c.sharers-nodes.ensures.plan c.requires.object c.requires.shape c.sharers-nodes.ensures.all c.blank_behind.ensures.places
+    cluster_stays c.args.self.now c.args.first c.sharers-nodes.result c.args.cluster.now c.blank_behind.new.cluster c.sharers-nodes.ensures.plan
+    c.requires.object c.requires.shape c.sharers-nodes.ensures.all c.blank_behind.ensures.places

@@ -7,11 +7,14 @@ returns-in-Packed-clause-all c =
     c.self.view_is c.range_with.ensures.fits c.requires.object c.in-Some.ensures.value c.in-Packed.ensures.value c.min.ensures
 
 pub returns-in-Node-clause-all : goal.returns-in-Node-clause-all
-returns-in-Node-clause-all c = own_reported c.self.inside.superblock.now c.args.self.now c.args.number _ c.self.view_is c.range_with.ensures.fits c.requires.object tt c.in-Node.ensures.value
+returns-in-Node-clause-all c = own_reported c.self.inside.superblock.now c.args.self.now c.args.number _ c.self.view_is c.range_with.ensures.fits
+    c.requires.object tt c.in-Node.ensures.value
 
 pub returns-in-Page-clause-all : goal.returns-in-Page-clause-all
-returns-in-Page-clause-all c = own_reported c.self.inside.superblock.now c.args.self.now c.args.number _ c.self.view_is c.range_with.ensures.fits c.requires.object tt c.in-Page.ensures.value
+returns-in-Page-clause-all c = own_reported c.self.inside.superblock.now c.args.self.now c.args.number _ c.self.view_is c.range_with.ensures.fits
+    c.requires.object tt c.in-Page.ensures.value
 
 pub returns-in-None-clause-all : goal.returns-in-None-clause-all
 returns-in-None-clause-all c =
-    absurd (no_range_reported c.self.inside.superblock.now c.args.self.now c.args.number c.self.view_is c.range_with.ensures.fits c.requires.object c.in-None.ensures.value)
+    absurd (no_range_reported c.self.inside.superblock.now c.args.self.now c.args.number c.self.view_is c.range_with.ensures.fits c.requires.object
+    c.in-None.ensures.value)

@@ -15,7 +15,8 @@ returns-in-Ok-clause-opened g c =
     let beneath = c.in-Ok.live.store.durable.beneath in
     let w = c.in-Ok.ensures.opened in
     record {
-      saves = seen_encodes (disk c.args.old) (disk beneath) (saved_by disk c.in-Ok.live.store) w.up.store (g.met.D.Device.seen_left beneath) w.only_reads.seen w.only_reads.size;
+      saves = seen_encodes (disk c.args.old) (disk beneath) (saved_by disk c.in-Ok.live.store) w.up.store (g.met.D.Device.seen_left beneath) w.only_reads.seen
+          w.only_reads.size;
       only_reads = w.only_reads;
       failures = w.failures;
     }

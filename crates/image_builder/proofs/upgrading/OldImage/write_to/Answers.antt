@@ -8,8 +8,10 @@ pub returns-clause-upgraded : goal.returns-clause-upgraded
 returns-clause-upgraded g c = λ old opened.
     let disk = g.D.Device.disk in
     let o = subst (λ (s : StoreState g.row.D.Denot). IsOpenedFrom disk old s) (sym c.self.view_is) opened in
-    counted c.write_store-written.result.0 (disk old) (g.E.Device.disk c.args.new.now) (g.E.Device.disk c.write_store-written.new.new) (saved_by disk c.self.inside.store)
-    o.saves c.self.invariant.sound c.write_store-written.ensures.total c.write_store-written.ensures.encodes c.write_store-written.ensures.crash c.write_store-written.ensures.elsewhere
+    counted c.write_store-written.result.0 (disk old) (g.E.Device.disk c.args.new.now) (g.E.Device.disk c.write_store-written.new.new)
+    (saved_by disk c.self.inside.store)
+    o.saves c.self.invariant.sound c.write_store-written.ensures.total c.write_store-written.ensures.encodes c.write_store-written.ensures.crash
+    c.write_store-written.ensures.elsewhere
 
 pub returns-clause-refused : goal.returns-clause-refused
 returns-clause-refused g c = λ old opened.
@@ -22,7 +24,8 @@ pub returns-clause-any_moment : goal.returns-clause-any_moment
 returns-clause-any_moment g c = λ old opened.
     let disk = g.D.Device.disk in
     let o = subst (λ (s : StoreState g.row.D.Denot). IsOpenedFrom disk old s) (sym c.self.view_is) opened in
-    left_upgrading (disk old) (saved_by disk c.self.inside.store) {before = g.E.Device.disk c.args.new.now} {new = g.E.Device.disk c.write_store-written.new.new}
+    left_upgrading (disk old)
+    (saved_by disk c.self.inside.store) {before = g.E.Device.disk c.args.new.now} {new = g.E.Device.disk c.write_store-written.new.new}
     o.saves c.write_store-written.ensures.any_moment
 
 pub returns-clause-reads : goal.returns-clause-reads
@@ -31,6 +34,8 @@ returns-clause-reads g c = λ old opened.
     let o = subst (λ (s : StoreState g.row.D.Denot). IsOpenedFrom disk old s) (sym c.self.view_is) opened in (
       c.write_store-written.result.1,
       c.close.ensures,
-      subst (λ (d : g.row.D.Denot). IsOnlyRead (disk old) (disk d) (IsErrOf c.write_store-written.result.0 (fault.Old opening.Failed))) (sym c.write_store-written.ensures.device)
-          (read_where_opened c.write_store-written.result.0 (disk old) (disk c.self.inside.store.durable.beneath) c.write_store-written.ensures.opened o.only_reads o.failures),
+      subst (λ (d : g.row.D.Denot). IsOnlyRead (disk old) (disk d) (IsErrOf c.write_store-written.result.0 (fault.Old opening.Failed)))
+          (sym c.write_store-written.ensures.device)
+          (read_where_opened c.write_store-written.result.0 (disk old) (disk c.self.inside.store.durable.beneath) c.write_store-written.ensures.opened
+          o.only_reads o.failures),
     )

@@ -17,5 +17,6 @@ returns g c = writes_same _ _ _ _ _
       c.word.ensures,
       c.begin-line.ensures.text,
     )
-    (ap line_of (arrow_put c.args.self.holder c.args.self.target (place_text c.args.self.place) (kind_text c.args.self.capability) (style_text (access_bits c.args.self.capability)))))
+    (ap line_of (arrow_put c.args.self.holder c.args.self.target (place_text c.args.self.place) (kind_text c.args.self.capability)
+    (style_text (access_bits c.args.self.capability)))))
     c.print.ensures

@@ -1,27 +1,28 @@
-use Rattle.kernel.proofs.Names.{subst, sym, Answer, Performs, counted_looked, ReadsAs, looked_as}
+use Rattle.kernel.proofs.Names.{sym, counted_looked, ReadsAs, looked_as}
 use Rattle.std.proofs.Common.{◌∙◌}
-use Rattle.model.specs.declared.command.Command.TheVariants as command
 use Rattle.kernel.proofs.Performing.{fault_serves, invoked_serves, no_process_serves}
 use Rattle.kernel.proofs.processes.invocation.invoke.Goals as goal
 
 pub returns-then-not-is_process-clause-serves : goal.returns-then-not-is_process-clause-serves
 returns-then-not-is_process-clause-serves g c =
-    let p = g.F.PresentFrames.parts c.args.store.now in
+    let p = g.F.Frames.parts c.args.store.now in
     no_process_serves p c.args.age.now c.args.invocation.now c.requires.sound (sym c.is_process.ensures ∙ c.if-not-is_process.true)
 
 pub returns-in-Ok-clause-serves : goal.returns-in-Ok-clause-serves
 returns-in-Ok-clause-serves g c =
-    invoked_serves g.F.PresentFrames.parts g.F.PresentFrames.ContinuesTo c.args.age.now c.args.store.now c.invoke.new.store c.args.invocation.now
-    (sym c.is_process.ensures ∙ c.if-not-is_process.false) c.requires.sound (c.is_worn.ensures.young c.if-is_worn.false) c.in-Ok.code c.in-Ok.ensures.state c.in-Ok.ensures.invoked
+    invoked_serves g.F.Frames.parts g.F.Frames.ContinuesTo c.args.age.now c.args.store.now c.invoke.new.store c.args.invocation.now
+    (sym c.is_process.ensures ∙ c.if-not-is_process.false) c.requires.sound (c.is_worn.ensures.young c.if-is_worn.false) c.in-Ok.code c.in-Ok.ensures.state
+    c.in-Ok.ensures.invoked
 
 pub returns-in-Err-clause-serves : goal.returns-in-Err-clause-serves
 returns-in-Err-clause-serves g c =
-    fault_serves g.F.PresentFrames.parts g.F.PresentFrames.ContinuesTo c.args.age.now c.args.store.now c.invoke.new.store c.args.invocation.now
-    (sym c.is_process.ensures ∙ c.if-not-is_process.false) c.requires.sound (c.is_worn.ensures.young c.if-is_worn.false) c.in-Err.fault c.in-Err.ensures.state c.in-Err.ensures.invoked
+    fault_serves g.F.Frames.parts g.F.Frames.ContinuesTo c.args.age.now c.args.store.now c.invoke.new.store c.args.invocation.now
+    (sym c.is_process.ensures ∙ c.if-not-is_process.false) c.requires.sound (c.is_worn.ensures.young c.if-is_worn.false) c.in-Err.fault c.in-Err.ensures.state
+    c.in-Err.ensures.invoked
 
 pub returns-then-is_worn-clause-counted : goal.returns-then-is_worn-clause-counted
 returns-then-is_worn-clause-counted g c =
-    let old = g.F.PresentFrames.parts c.args.store.now in
-    let new = g.F.PresentFrames.parts c.refuse_worn.new.store in
+    let old = g.F.Frames.parts c.args.store.now in
+    let new = g.F.Frames.parts c.refuse_worn.new.store in
     let only_reads : ReadsAs old new = looked_as c.refuse_worn.ensures.snapshots in
     counted_looked old new c.args.banks.now only_reads c.requires.counted

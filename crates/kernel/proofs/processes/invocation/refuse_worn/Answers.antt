@@ -8,12 +8,12 @@ use Rattle.kernel.proofs.processes.invocation.refuse_worn.Goals as goal
 
 pub early_refusal-requires : goal.early_refusal-requires
 early_refusal-requires g c =
-    let os = objects_in (g.F.PresentFrames.parts c.args.store.now) in
+    let os = objects_in (g.F.Frames.parts c.args.store.now) in
     early_is os c.args.invocation.now.process c.in-Some.refusal (subst (IsEarly os c.args.invocation.now.process) c.in-Some.is c.in-Ok.ensures.why)
 
 pub returns-in-Some-clause-serves : goal.returns-in-Some-clause-serves
 returns-in-Some-clause-serves g c =
-    let F = g.F.PresentFrames in
+    let F = g.F.Frames in
     let old = F.parts c.args.store.now in
     let i = c.args.invocation.now in
     let early = subst (IsEarly (objects_in old) i.process) c.in-Some.is c.in-Ok.ensures.why in
@@ -25,7 +25,7 @@ returns-in-Some-clause-serves g c =
 
 pub returns-in-None-clause-serves : goal.returns-in-None-clause-serves
 returns-in-None-clause-serves g c =
-    let F = g.F.PresentFrames in
+    let F = g.F.Frames in
     let old = F.parts c.args.store.now in
     let i = c.args.invocation.now in
     let runs = subst (IsEarly (objects_in old) i.process) c.in-None.is c.in-Ok.ensures.why in
@@ -36,7 +36,7 @@ returns-in-None-clause-serves g c =
 
 pub returns-in-Err-clause-serves : goal.returns-in-Err-clause-serves
 returns-in-Err-clause-serves g c =
-    let F = g.F.PresentFrames in
+    let F = g.F.Frames in
     let rose = c.in-Err.ensures.cause.0 refl in
     refused_serves c.args.age (F.parts c.args.store.now) (F.parts c.early.new.store) (command.Invoke c.args.invocation.now) refusal.Fault
     (looked_same F.parts F.ContinuesTo c.args.store.now c.early.new.store c.early.ensures.snapshots) c.requires.sound c.early.ensures.later

@@ -1,40 +1,51 @@
-use Rattle.kernel.proofs.Names.{Ok, Err, subst, List, ap, Frame, objects_of, same_frames, ReadsAs, looked_as, objects_in, IsEarly, answer_of}
-use Rattle.kernel.proofs.Counted.{looked_counted, same_counted, stored_counted}
+use Rattle.kernel.proofs.Names.{Ok, Err, subst, ReadsAs, looked_as, objects_in, IsEarly}
+use Rattle.kernel.proofs.Counted.{looked_counted, stored_counted}
 use Rattle.kernel.proofs.Performing.{ok_stayed}
 use Rattle.kernel.proofs.ProcessSteps.{early_none}
-use Rattle.kernel.proofs.MemoryServing.{early_store, store_answers, store_is_refused}
+use Rattle.kernel.proofs.MemoryServing.{early_store, store_answers, store_full}
 use Rattle.kernel.proofs.processes.memory.store.Goals as goal
 
 pub returns-in-Some-clause-serves : goal.returns-in-Some-clause-serves
 returns-in-Some-clause-serves g c =
-    early_store g.F.PresentFrames.parts g.F.PresentFrames.ContinuesTo c.args.age c.args.store.now c.early.new.store c.args.process c.args.address c.in-Some.refusal
-    c.requires (subst (IsEarly (objects_in (g.F.PresentFrames.parts c.args.store.now)) c.args.process) c.in-Some.is c.in_ok-refusal.ensures.why) c.early.ensures.snapshots c.early.ensures.later (ok_stayed c.in_ok-refusal.field-0 c.in_ok-refusal.ensures.cause) c.args.word
+    early_store g.F.Frames.parts g.F.Frames.ContinuesTo c.args.age c.args.store.now c.early.new.store c.args.process c.args.address c.in-Some.refusal
+    c.requires
+    (subst (IsEarly (objects_in (g.F.Frames.parts c.args.store.now)) c.args.process) c.in-Some.is c.in_ok-refusal.ensures.why)
+    c.early.ensures.snapshots c.early.ensures.later (ok_stayed c.in_ok-refusal.field-0 c.in_ok-refusal.ensures.cause) c.args.word
 
 pub returns-in-Ok-Ok-clause-serves : goal.returns-in-Ok-Ok-clause-serves
 returns-in-Ok-Ok-clause-serves g c =
     let said = c.in-Ok-Ok.ensures in
-    store_answers g.F.PresentFrames.parts g.F.PresentFrames.ContinuesTo c.args.age c.args.store.now c.early.new.store c.store.new.frames c.args.process c.args.address
-    c.requires (early_none (objects_in (g.F.PresentFrames.parts c.args.store.now)) c.args.process c.in_ok-refusal.field-0 c.in_default.not-Some c.in_ok-refusal.ensures.why) c.early.ensures.snapshots c.early.ensures.later (ok_stayed c.in_ok-refusal.field-0 c.in_ok-refusal.ensures.cause) c.args.word said.writes.geometry said.writes.headers said.writes.later
+    store_answers g.F.Frames.parts g.F.Frames.ContinuesTo c.args.age c.args.store.now c.early.new.store c.store.new.frames c.args.process c.args.address
+    c.requires
+    (early_none (objects_in (g.F.Frames.parts c.args.store.now)) c.args.process c.in_ok-refusal.field-0 c.in_default.not-Some c.in_ok-refusal.ensures.why)
+    c.early.ensures.snapshots c.early.ensures.later (ok_stayed c.in_ok-refusal.field-0 c.in_ok-refusal.ensures.cause) c.args.word said.writes.geometry
+    said.writes.headers said.writes.later
     c.in-Ok-Ok.field-0 (Ok tt) c.in-Ok-Ok.field-0-is said.stored said.writes.sound said.writes.cause
 
 pub returns-in-Ok-Err-clause-serves : goal.returns-in-Ok-Err-clause-serves
 returns-in-Ok-Err-clause-serves g c =
     let said = c.in-Ok-Err.ensures in
-    store_answers g.F.PresentFrames.parts g.F.PresentFrames.ContinuesTo c.args.age c.args.store.now c.early.new.store c.store.new.frames c.args.process c.args.address
-    c.requires (early_none (objects_in (g.F.PresentFrames.parts c.args.store.now)) c.args.process c.in_ok-refusal.field-0 c.in_default.not-Some c.in_ok-refusal.ensures.why) c.early.ensures.snapshots c.early.ensures.later (ok_stayed c.in_ok-refusal.field-0 c.in_ok-refusal.ensures.cause) c.args.word said.writes.geometry said.writes.headers said.writes.later
+    store_answers g.F.Frames.parts g.F.Frames.ContinuesTo c.args.age c.args.store.now c.early.new.store c.store.new.frames c.args.process c.args.address
+    c.requires
+    (early_none (objects_in (g.F.Frames.parts c.args.store.now)) c.args.process c.in_ok-refusal.field-0 c.in_default.not-Some c.in_ok-refusal.ensures.why)
+    c.early.ensures.snapshots c.early.ensures.later (ok_stayed c.in_ok-refusal.field-0 c.in_ok-refusal.ensures.cause) c.args.word said.writes.geometry
+    said.writes.headers said.writes.later
     c.in-Ok-Err.field-0 (Err c.in-Ok-Err.fault) c.in-Ok-Err.field-0-is said.stored said.writes.sound said.writes.cause
 
-pub returns-in-Err-clause-serves : goal.returns-in-Err-clause-serves
-returns-in-Err-clause-serves g c =
-    let said = c.in-Err.ensures in
-    store_is_refused g.F.PresentFrames.parts g.F.PresentFrames.ContinuesTo c.args.age c.args.store.now c.early.new.store c.store.new.frames c.args.process c.args.address
-    c.requires (early_none (objects_in (g.F.PresentFrames.parts c.args.store.now)) c.args.process c.in_ok-refusal.field-0 c.in_default.not-Some c.in_ok-refusal.ensures.why) c.early.ensures.snapshots c.early.ensures.later (ok_stayed c.in_ok-refusal.field-0 c.in_ok-refusal.ensures.cause) c.args.word said.writes.geometry said.writes.headers said.writes.later
-    c.in-Err.fault (answer_of c.refused.result) c.refused.ensures.answer said.writes.unchanged said.writes.cause said.full
+pub returns-in-Err-LogFull-clause-serves : goal.returns-in-Err-LogFull-clause-serves
+returns-in-Err-LogFull-clause-serves g c =
+    let said = c.in-Err-LogFull.ensures in
+    store_full g.F.Frames.parts g.F.Frames.ContinuesTo c.args.age c.args.store.now c.early.new.store c.store.new.frames c.args.process c.args.address
+    c.requires
+    (early_none (objects_in (g.F.Frames.parts c.args.store.now)) c.args.process c.in_ok-refusal.field-0 c.in_default.not-Some c.in_ok-refusal.ensures.why)
+    c.early.ensures.snapshots c.early.ensures.later (ok_stayed c.in_ok-refusal.field-0 c.in_ok-refusal.ensures.cause) c.args.word said.writes.geometry
+    said.writes.headers said.writes.later
+    c.in-Err-LogFull.field-0 c.in-Err-LogFull.field-0-is said.writes.unchanged said.writes.cause said.full
 
 pub returns-in-Some-clause-counted : goal.returns-in-Some-clause-counted
 returns-in-Some-clause-counted g c banks counted =
-    let old = g.F.PresentFrames.parts c.args.store.now in
-    let mid = g.F.PresentFrames.parts c.early.new.store in
+    let old = g.F.Frames.parts c.args.store.now in
+    let mid = g.F.Frames.parts c.early.new.store in
     let snapshots = c.early.ensures.snapshots in
     let only_reads : ReadsAs old mid = looked_as snapshots in
     let here = looked_counted old mid banks only_reads counted in
@@ -42,31 +53,22 @@ returns-in-Some-clause-counted g c banks counted =
 
 pub returns-in-Ok-Ok-clause-counted : goal.returns-in-Ok-Ok-clause-counted
 returns-in-Ok-Ok-clause-counted g c banks counted =
-    let old = g.F.PresentFrames.parts c.args.store.now in
-    let mid = g.F.PresentFrames.parts c.early.new.store in
+    let old = g.F.Frames.parts c.args.store.now in
+    let mid = g.F.Frames.parts c.early.new.store in
     let snapshots = c.early.ensures.snapshots in
     let only_reads : ReadsAs old mid = looked_as snapshots in
     let here = looked_counted old mid banks only_reads counted in
     let said = c.in-Ok-Ok.ensures in
-    stored_counted mid (g.F.PresentFrames.parts c.store.new.frames) banks c.args.process c.args.address c.args.word c.in-Ok-Ok.field-0 said.writes.geometry said.stored here
+    stored_counted mid (g.F.Frames.parts c.store.new.frames) banks c.args.process c.args.address c.args.word c.in-Ok-Ok.field-0 said.writes.geometry said.stored
+    here
 
 pub returns-in-Ok-Err-clause-counted : goal.returns-in-Ok-Err-clause-counted
 returns-in-Ok-Err-clause-counted g c banks counted =
-    let old = g.F.PresentFrames.parts c.args.store.now in
-    let mid = g.F.PresentFrames.parts c.early.new.store in
+    let old = g.F.Frames.parts c.args.store.now in
+    let mid = g.F.Frames.parts c.early.new.store in
     let snapshots = c.early.ensures.snapshots in
     let only_reads : ReadsAs old mid = looked_as snapshots in
     let here = looked_counted old mid banks only_reads counted in
     let said = c.in-Ok-Err.ensures in
-    stored_counted mid (g.F.PresentFrames.parts c.store.new.frames) banks c.args.process c.args.address c.args.word c.in-Ok-Err.field-0 said.writes.geometry said.stored here
-
-pub returns-in-Err-clause-counted : goal.returns-in-Err-clause-counted
-returns-in-Err-clause-counted g c banks counted =
-    let old = g.F.PresentFrames.parts c.args.store.now in
-    let mid = g.F.PresentFrames.parts c.early.new.store in
-    let snapshots = c.early.ensures.snapshots in
-    let only_reads : ReadsAs old mid = looked_as snapshots in
-    let here = looked_counted old mid banks only_reads counted in
-    let said = c.in-Err.ensures in
-    let new = g.F.PresentFrames.parts c.store.new.frames in
-    same_counted mid new banks said.writes.geometry (ap (λ (fs : List Frame). objects_of fs) (same_frames mid new said.writes.unchanged.headers said.writes.unchanged.contents)) here
+    stored_counted mid (g.F.Frames.parts c.store.new.frames) banks c.args.process c.args.address c.args.word c.in-Ok-Err.field-0 said.writes.geometry
+    said.stored here

@@ -19,7 +19,8 @@ invariant_of-self c =
         c.len-self.ensures,
         c.mark.new.entries.ok.0,
       )
-          (sound_cut _ _ _ _ _ _ s c.settle.new.present c.settle.new.synced c.mark.new.entries.items c.args.outcome present_same synced_same (present_fits s.present_fits) (synced_fits s.synced_fits)
+          (sound_cut _ _ _ _ _ _ s c.settle.new.present c.settle.new.synced c.mark.new.entries.items c.args.outcome present_same synced_same
+          (present_fits s.present_fits) (synced_fits s.synced_fits)
           c.settle.ensures.same (λ i. left i ∙ left_sound _ _ _ _ _ _ s c.args.outcome i) c.mark.ensures.items);
     }
 
@@ -28,7 +29,13 @@ returns-clause-past c = past_cut c.args.outcome c.args.self.now.entries.items c.
 
 pub returns-clause-entries : goal.returns-clause-entries
 returns-clause-entries c =
-    omega (arith, c.mark.new.entries.ok.0, c.args.self.now.entries.ok.0, ap length c.mark.ensures.items, length-marked c.args.outcome c.args.self.now.entries.items)
+    omega (
+      arith,
+      c.mark.new.entries.ok.0,
+      c.args.self.now.entries.ok.0,
+      ap length c.mark.ensures.items,
+      length-marked c.args.outcome c.args.self.now.entries.items,
+    )
 
 pub returns-clause-left : goal.returns-clause-left
 returns-clause-left c =
@@ -38,5 +45,6 @@ returns-clause-left c =
     let left = rw (take_rest, c.deref.ensures.value, c.deref_mut.ensures.value, c.deref_mut-2.ensures.value) at c.settle.ensures.left in
     let present_fits = rw c.deref_mut.ensures.value at c.settle.ensures.present_fits in
     let synced_fits = rw c.deref_mut-2.ensures.value at c.settle.ensures.synced_fits in
-    cut_left _ _ _ _ _ _ s c.settle.new.present c.settle.new.synced c.mark.new.entries.items c.args.outcome present_same synced_same (present_fits s.present_fits) (synced_fits s.synced_fits)
+    cut_left _ _ _ _ _ _ s c.settle.new.present c.settle.new.synced c.mark.new.entries.items c.args.outcome present_same synced_same
+    (present_fits s.present_fits) (synced_fits s.synced_fits)
     c.settle.ensures.same (λ i. left i ∙ left_sound _ _ _ _ _ _ s c.args.outcome i) c.mark.ensures.items

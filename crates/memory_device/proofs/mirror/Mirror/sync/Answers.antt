@@ -11,7 +11,11 @@ invariant_of-self c =
     let patched = rw (take_rest, c.deref-2.ensures.value, c.deref.ensures.value, c.deref_mut.ensures.value) at c.copy_written.ensures.patched in
     let fits = rw c.deref_mut.ensures.value at c.copy_written.ensures.fits in
     record {
-      sound = rw (rewritten c.args.self.now.synced.len c.copy_written.new.into c.args.self.now.synced.items c.args.self.now.synced.ok.0 same, c.len-self.ensures, c.note.new.entries.ok.0)
+      sound = rw (
+        rewritten c.args.self.now.synced.len c.copy_written.new.into c.args.self.now.synced.items c.args.self.now.synced.ok.0 same,
+        c.len-self.ensures,
+        c.note.new.entries.ok.0,
+      )
           (sound_synced _ _ _ _ _ _ s c.copy_written.new.into c.note.new.entries.items same (fits s.synced_fits) patched c.note.ensures.items);
     }
 

@@ -23,7 +23,8 @@ returns-in_err-move_some-clause-size g c = c.in_err-move_some.ensures.unmoved.2.
 pub returns-in_err-move_some-clause-any_moment : goal.returns-in_err-move_some-clause-any_moment
 returns-in_err-move_some-clause-any_moment g c =
     let part = c.in_err-move_some.ensures.unmoved in
-    part_moments (g.D.Device.disk c.args.device.now) (g.D.Device.disk c.move_some.new.device) c.args.self.now c.move_some.new.self c.args.count part.0 part.2 c.requires.sound
+    part_moments (g.D.Device.disk c.args.device.now) (g.D.Device.disk c.move_some.new.device) c.args.self.now c.move_some.new.self c.args.count part.0 part.2
+    c.requires.sound
 
 pub finish-requires-clause-some : goal.finish-requires-clause-some
 finish-requires-clause-some g c = (c.is_to_finish.ensures.yes c.if-is_to_finish.true).0
@@ -37,7 +38,8 @@ finish-requires-clause-sound g c = c.in_ok-move_some.ensures.moved.goes_on.sound
 pub returns-in_err-finish-clause-unmoved : goal.returns-in_err-finish-clause-unmoved
 returns-in_err-finish-clause-unmoved g c =
     let books = c.args.self.now in
-    on_err c.from_residual-in_err-finish.result (books.header.entries - (books.moved + c.share-some.result.0), omega arith, c.in_err-finish.ensures.unchanged ∙ c.in_ok-move_some.ensures.moved.stored)
+    on_err c.from_residual-in_err-finish.result
+    (books.header.entries - (books.moved + c.share-some.result.0), omega arith, c.in_err-finish.ensures.unchanged ∙ c.in_ok-move_some.ensures.moved.stored)
 
 pub returns-in_err-finish-clause-untouched : goal.returns-in_err-finish-clause-untouched
 returns-in_err-finish-clause-untouched g c =
@@ -53,17 +55,22 @@ returns-in_err-finish-clause-size g c = c.finish.ensures.size ∙ c.in_ok-move_s
 pub returns-in_err-finish-clause-any_moment : goal.returns-in_err-finish-clause-any_moment
 returns-in_err-finish-clause-any_moment g c =
     let all = (c.is_to_finish.ensures.yes c.if-is_to_finish.true).1 in
-    all_moments (g.D.Device.disk c.args.device.now) (g.D.Device.disk c.move_some.new.device) c.args.self.now c.move_some.new.self c.args.count _ c.requires.stands.kept.few c.share-some.ensures.lesser c.in_ok-move_some.ensures.moved all (g.D.Device.disk c.finish.new.device) c.requires.sound c.finish.ensures.any_moment
+    all_moments (g.D.Device.disk c.args.device.now) (g.D.Device.disk c.move_some.new.device) c.args.self.now c.move_some.new.self c.args.count _
+    c.requires.stands.kept.few c.share-some.ensures.lesser c.in_ok-move_some.ensures.moved all (g.D.Device.disk c.finish.new.device) c.requires.sound
+    c.finish.ensures.any_moment
 
 pub returns-then-is_to_finish-clause-left : goal.returns-then-is_to_finish-clause-left
 returns-then-is_to_finish-clause-left g c =
     let all = (c.is_to_finish.ensures.yes c.if-is_to_finish.true).1 in
-    all_number (g.D.Device.disk c.args.device.now) (g.D.Device.disk c.move_some.new.device) c.args.self.now c.move_some.new.self c.args.count _ c.requires.stands.kept.few c.share-some.ensures.lesser c.in_ok-move_some.ensures.moved all
+    all_number (g.D.Device.disk c.args.device.now) (g.D.Device.disk c.move_some.new.device) c.args.self.now c.move_some.new.self c.args.count _
+    c.requires.stands.kept.few c.share-some.ensures.lesser c.in_ok-move_some.ensures.moved all
 
 pub returns-then-is_to_finish-clause-moved : goal.returns-then-is_to_finish-clause-moved
 returns-then-is_to_finish-clause-moved g c =
     let all = (c.is_to_finish.ensures.yes c.if-is_to_finish.true).1 in
-    all_stored (g.D.Device.disk c.args.device.now) (g.D.Device.disk c.move_some.new.device) c.args.self.now c.move_some.new.self c.args.count _ c.requires.stands.kept.few c.share-some.ensures.lesser c.in_ok-move_some.ensures.moved all (g.D.Device.disk c.finish.new.device) c.finish.new.self c.in_ok-finish.ensures.finished
+    all_stored (g.D.Device.disk c.args.device.now) (g.D.Device.disk c.move_some.new.device) c.args.self.now c.move_some.new.self c.args.count _
+    c.requires.stands.kept.few c.share-some.ensures.lesser c.in_ok-move_some.ensures.moved all (g.D.Device.disk c.finish.new.device) c.finish.new.self
+    c.in_ok-finish.ensures.finished
 
 pub returns-then-is_to_finish-clause-untouched : goal.returns-then-is_to_finish-clause-untouched
 returns-then-is_to_finish-clause-untouched g c =
@@ -82,19 +89,24 @@ returns-then-is_to_finish-clause-size g c = c.finish.ensures.size ∙ c.in_ok-mo
 pub returns-then-is_to_finish-clause-any_moment : goal.returns-then-is_to_finish-clause-any_moment
 returns-then-is_to_finish-clause-any_moment g c =
     let all = (c.is_to_finish.ensures.yes c.if-is_to_finish.true).1 in
-    all_moments (g.D.Device.disk c.args.device.now) (g.D.Device.disk c.move_some.new.device) c.args.self.now c.move_some.new.self c.args.count _ c.requires.stands.kept.few c.share-some.ensures.lesser c.in_ok-move_some.ensures.moved all (g.D.Device.disk c.finish.new.device) c.requires.sound c.finish.ensures.any_moment
+    all_moments (g.D.Device.disk c.args.device.now) (g.D.Device.disk c.move_some.new.device) c.args.self.now c.move_some.new.self c.args.count _
+    c.requires.stands.kept.few c.share-some.ensures.lesser c.in_ok-move_some.ensures.moved all (g.D.Device.disk c.finish.new.device) c.requires.sound
+    c.finish.ensures.any_moment
 
 pub returns-then-is_to_finish-clause-cause : goal.returns-then-is_to_finish-clause-cause
 returns-then-is_to_finish-clause-cause g c = ok_counts (counted_ok c.in_ok-finish.ensures.cause ∙ counted_ok c.in_ok-move_some.ensures.cause)
 
 pub returns-clause-left : goal.returns-clause-left
-returns-clause-left g c = c.share-some.ensures.left ∙ left_number (g.D.Device.disk c.args.device.now) (g.D.Device.disk c.move_some.new.device) c.args.self.now c.move_some.new.self c.args.count _ c.requires.stands.kept.few c.share-some.ensures.lesser c.in_ok-move_some.ensures.moved
+returns-clause-left g c = c.share-some.ensures.left ∙ left_number (g.D.Device.disk c.args.device.now) (g.D.Device.disk c.move_some.new.device) c.args.self.now
+    c.move_some.new.self c.args.count _ c.requires.stands.kept.few c.share-some.ensures.lesser c.in_ok-move_some.ensures.moved
 
 pub returns-clause-moved : goal.returns-clause-moved
 returns-clause-moved g c =
     let mid = c.move_some.new.self in
-    let why = subst (λ (b : Books). (b.header.entries ≡ 0) ⊎ (mid.moved < mid.header.entries)) c.in_ok-move_some.ensures.moved.books (c.is_to_finish.ensures.no c.if-is_to_finish.false) in
-    left_stored (g.D.Device.disk c.args.device.now) (g.D.Device.disk c.move_some.new.device) c.args.self.now c.move_some.new.self c.args.count _ c.requires.stands.kept.few c.share-some.ensures.lesser c.in_ok-move_some.ensures.moved why
+    let why = subst (λ (b : Books). (b.header.entries ≡ 0) ⊎ (mid.moved < mid.header.entries)) c.in_ok-move_some.ensures.moved.books
+    (c.is_to_finish.ensures.no c.if-is_to_finish.false) in
+    left_stored (g.D.Device.disk c.args.device.now) (g.D.Device.disk c.move_some.new.device) c.args.self.now c.move_some.new.self c.args.count _
+    c.requires.stands.kept.few c.share-some.ensures.lesser c.in_ok-move_some.ensures.moved why
 
 pub returns-clause-untouched : goal.returns-clause-untouched
 returns-clause-untouched g c = λ none. c.move_some.ensures.none (omega (arith, none, c.share-some.ensures.lesser.1))
@@ -109,7 +121,8 @@ pub returns-clause-size : goal.returns-clause-size
 returns-clause-size g c = c.in_ok-move_some.ensures.moved.goes_on.size
 
 pub returns-clause-any_moment : goal.returns-clause-any_moment
-returns-clause-any_moment g c = left_moments (g.D.Device.disk c.args.device.now) (g.D.Device.disk c.move_some.new.device) c.args.self.now c.move_some.new.self c.args.count _ c.requires.stands.kept.few c.share-some.ensures.lesser c.in_ok-move_some.ensures.moved c.requires.sound
+returns-clause-any_moment g c = left_moments (g.D.Device.disk c.args.device.now) (g.D.Device.disk c.move_some.new.device) c.args.self.now c.move_some.new.self
+    c.args.count _ c.requires.stands.kept.few c.share-some.ensures.lesser c.in_ok-move_some.ensures.moved c.requires.sound
 
 pub returns-clause-cause : goal.returns-clause-cause
 returns-clause-cause g c = ok_counts (counted_ok c.in_ok-move_some.ensures.cause)

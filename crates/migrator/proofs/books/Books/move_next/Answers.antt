@@ -7,7 +7,8 @@ use Rattle.migrator.proofs.books.Books.move_next.Goals as goal
 pub copy_home-requires-clause-entry : goal.copy_home-requires-clause-entry
 copy_home-requires-clause-entry g c =
     let b = c.args.self.now in
-    rw c.as_slice-entries.ensures (own_slot b.directory b.moved c.requires.stands.kept.directory.rising (omega (arith, c.requires.some, c.requires.stands.kept.count)))
+    rw c.as_slice-entries.ensures
+    (own_slot b.directory b.moved c.requires.stands.kept.directory.rising (omega (arith, c.requires.some, c.requires.stands.kept.count)))
 
 pub returns-then-not-is_first-clause-stands : goal.returns-then-not-is_first-clause-stands
 returns-then-not-is_first-clause-stands g c =
@@ -24,13 +25,15 @@ returns-in_err-copy_home-clause-stands g c =
 
 pub returns-in_err-copy_home-clause-unmoved : goal.returns-in_err-copy_home-clause-unmoved
 returns-in_err-copy_home-clause-unmoved g c =
-    on_err c.from_residual.result (uncopied_moved (g.D.Device.disk c.args.device.now) (g.D.Device.disk c.copy_home.new.device) c.args.self.now c.requires.stands c.requires.some
+    on_err c.from_residual.result
+    (uncopied_moved (g.D.Device.disk c.args.device.now) (g.D.Device.disk c.copy_home.new.device) c.args.self.now c.requires.stands c.requires.some
     (rw c.as_slice-entries.ensures at (c.is_first.ensures.yes c.if-not-is_first.false)) (rw c.as_slice-entries.ensures at c.copy_home.ensures.touches))
 
 pub returns-clause-stands : goal.returns-clause-stands
 returns-clause-stands g c =
     copied_durable (g.D.Device.disk c.args.device.now) (g.D.Device.disk c.copy_home.new.device) c.args.self.now c.requires.stands c.requires.some
-    (rw c.as_slice-entries.ensures at (c.is_first.ensures.yes c.if-not-is_first.false)) (rw c.as_slice-entries.ensures at c.copy_home.ensures.touches) (rw c.as_slice-entries.ensures at c.in_ok-copy_home.ensures.copied)
+    (rw c.as_slice-entries.ensures at (c.is_first.ensures.yes c.if-not-is_first.false)) (rw c.as_slice-entries.ensures at c.copy_home.ensures.touches)
+    (rw c.as_slice-entries.ensures at c.in_ok-copy_home.ensures.copied)
 
 pub returns-clause-moved : goal.returns-clause-moved
 returns-clause-moved g c =

@@ -4,20 +4,26 @@ use Rattle.migrator.proofs.FrozenFrames.{put_twice}
 use Rattle.migrator.proofs.Moving.{goes_trans}
 use Rattle.migrator.proofs.Saving.{err_then, ok_then, on_err}
 use Rattle.migrator.proofs.Tearing.{torn_room}
+use Rattle.model.specs.Frame.{content_behind}
 use Rattle.migrator.proofs.books.Books.put_running.Goals as goal
 
 pub returns-clause-put : goal.returns-clause-put
 returns-clause-put g c =
-    let f : Frame = record { header = c.args.header; content = c.args.content.now } in
-    ok_then c.put_written.result (λ is. is ∙ ap (with_frozen c.args.number (Kept f)) c.tear.ensures.torn ∙ put_twice (stored_on (g.D.Device.disk c.args.device.now) c.args.self.now) c.args.number Broken (Kept f)) c.put_written.ensures.put
+    let f : Frame = record { header = c.args.header; content = (content_behind c.args.content) } in
+    ok_then c.put_written.result
+    (λ is. is ∙ ap (with_frozen c.args.number (Kept f)) c.tear.ensures.torn ∙ put_twice (stored_on (g.D.Device.disk c.args.device.now) c.args.self.now)
+    c.args.number Broken (Kept f)) c.put_written.ensures.put
 
 pub returns-clause-broken : goal.returns-clause-broken
 returns-clause-broken g c =
-    err_then c.put_written.result (λ is. is ∙ ap (with_frozen c.args.number Broken) c.tear.ensures.torn ∙ put_twice (stored_on (g.D.Device.disk c.args.device.now) c.args.self.now) c.args.number Broken Broken) c.put_written.ensures.broken
+    err_then c.put_written.result
+    (λ is. is ∙ ap (with_frozen c.args.number Broken) c.tear.ensures.torn ∙ put_twice (stored_on (g.D.Device.disk c.args.device.now) c.args.self.now)
+    c.args.number Broken Broken) c.put_written.ensures.broken
 
 pub returns-clause-goes_on : goal.returns-clause-goes_on
 returns-clause-goes_on g c =
-    goes_trans (g.D.Device.disk c.args.device.now) (g.D.Device.disk c.tear.new.device) (g.D.Device.disk c.put_written.new.device) c.args.self.now c.tear.new.self c.put_written.new.self
+    goes_trans (g.D.Device.disk c.args.device.now) (g.D.Device.disk c.tear.new.device) (g.D.Device.disk c.put_written.new.device) c.args.self.now
+    c.tear.new.self c.put_written.new.self
     (ap (λ (s : Stored). s.saved) c.tear.ensures.torn) c.tear.ensures.goes_on c.put_written.ensures.goes_on
 
 pub returns-in_err-tear-clause-broken : goal.returns-in_err-tear-clause-broken
@@ -37,11 +43,13 @@ put_written-requires-clause-object g c = subst (λ (p : Plan). IsObject p.geomet
 
 pub put_written-requires-clause-keepable : goal.put_written-requires-clause-keepable
 put_written-requires-clause-keepable g c =
-    subst (λ (p : Plan). IsKeepable p.geometry most c.args.number (record { header = c.args.header; content = c.args.content.now })) (sym c.tear.ensures.goes_on.plan) c.requires.keepable
+    subst (λ (p : Plan). IsKeepable p.geometry most c.args.number (record { header = c.args.header; content = (content_behind c.args.content) }))
+    (sym c.tear.ensures.goes_on.plan) c.requires.keepable
 
 pub put_written-requires-clause-room : goal.put_written-requires-clause-room
 put_written-requires-clause-room g c =
-    torn_room (g.D.Device.disk c.args.device.now) (g.D.Device.disk c.tear.new.device) c.args.self.now c.tear.new.self c.args.size c.args.number c.requires.running c.tear.ensures.size c.tear.ensures.torn c.requires.object
+    torn_room (g.D.Device.disk c.args.device.now) (g.D.Device.disk c.tear.new.device) c.args.self.now c.tear.new.self c.args.size c.args.number
+    c.requires.running c.tear.ensures.size c.tear.ensures.torn c.requires.object
 
 pub returns-clause-cause : goal.returns-clause-cause
 returns-clause-cause g c = counts_on (counted_ok c.in_ok-tear.ensures.cause) c.put_written.ensures.cause

@@ -8,14 +8,19 @@ pub slot_sector-sector-requires : goal.slot_sector-sector-requires
 slot_sector-sector-requires g c =
     let disk = g.D.Device.disk c.args.device.now in
     let b = c.args.self.now in
-    record { slot = rw c.new-log.ensures (whole_low (seen_by disk.seen b) b.plan (frozen_generation b) b.frozen c.args.number c.args.slot (place_at b.frozen c.args.number) c.requires.stands.kept.frozen refl c.requires.place) }
+    record {
+      slot = rw c.new-log.ensures
+          (whole_low (seen_by disk.seen b) b.plan (frozen_generation b) b.frozen c.args.number c.args.slot (place_at b.frozen c.args.number)
+          c.requires.stands.kept.frozen refl c.requires.place);
+    }
 
 pub read-requires : goal.read-requires
 read-requires g c =
     let disk = g.D.Device.disk c.args.device.now in
     let b = c.args.self.now in
     let at = rw c.new-log.ensures at c.slot_sector-sector.ensures.value in
-    let own = own_spelt disk.sectors disk.seen b b.unwritten c.requires.stands.kept c.requires.stands.unwritten c.args.number c.args.slot c.requires.object c.requires.place at (c.is_for.ensures.yes c.if-is_for.true) in
+    let own = own_spelt disk.sectors disk.seen b b.unwritten c.requires.stands.kept c.requires.stands.unwritten c.args.number c.args.slot c.requires.object
+    c.requires.place at (c.is_for.ensures.yes c.if-is_for.true) in
     record { spelt = rw (c.shape-shape.ensures.value, c.geometry.ensures.value) own }
 
 pub returns-then-is_for-clause-found : goal.returns-then-is_for-clause-found
@@ -23,29 +28,36 @@ returns-then-is_for-clause-found g c =
     let disk = g.D.Device.disk c.args.device.now in
     let b = c.args.self.now in
     let at = rw c.new-log.ensures at c.slot_sector-sector.ensures.value in
-    own_frame disk.sectors disk.seen b b.unwritten c.requires.stands.kept c.requires.stands.unwritten c.args.number c.args.slot (frame_of c.read.result c.read.new.scratch) c.requires.place at (c.is_for.ensures.yes c.if-is_for.true)
+    own_frame disk.sectors disk.seen b b.unwritten c.requires.stands.kept c.requires.stands.unwritten c.args.number c.args.slot
+    (frame_of c.read.result c.read.new.scratch) c.requires.place at (c.is_for.ensures.yes c.if-is_for.true)
     (rw (c.shape-shape.ensures.value, c.geometry.ensures.value) at c.read.ensures)
 
 pub read_put-requires-clause-slot : goal.read_put-requires-clause-slot
 read_put-requires-clause-slot g c =
     let disk = g.D.Device.disk c.args.device.now in
     let b = c.args.self.now in
-    whole_low (seen_by disk.seen b) b.plan (frozen_generation b) b.frozen c.args.number c.args.slot (place_at b.frozen c.args.number) c.requires.stands.kept.frozen refl c.requires.place
+    whole_low (seen_by disk.seen b) b.plan (frozen_generation b) b.frozen c.args.number c.args.slot (place_at b.frozen c.args.number)
+    c.requires.stands.kept.frozen refl c.requires.place
 
 pub read_put-requires-clause-spelt : goal.read_put-requires-clause-spelt
 read_put-requires-clause-spelt g c =
     let disk = g.D.Device.disk c.args.device.now in
     let b = c.args.self.now in
     let at = rw c.new-log.ensures at c.slot_sector-sector.ensures.value in
-    let low = whole_low (seen_by disk.seen b) b.plan (frozen_generation b) b.frozen c.args.number c.args.slot (place_at b.frozen c.args.number) c.requires.stands.kept.frozen refl c.requires.place in
-    let raw = frozen_raw disk.sectors disk.seen b b.unwritten c.requires.stands.kept c.requires.stands.unwritten c.args.slot c.args.number low (λ u some here. c.is_for.ensures.no c.if-is_for.false u some (here ∙ sym at)) in
-    subst (λ (bytes : List ℕ). IsFrameOf b.plan.geometry most c.args.number bytes (frame_from b.plan.geometry c.args.number bytes)) raw (c.requires.stands.kept.frozen.spelt c.args.number c.args.slot c.requires.object c.requires.place)
+    let low = whole_low (seen_by disk.seen b) b.plan (frozen_generation b) b.frozen c.args.number c.args.slot (place_at b.frozen c.args.number)
+    c.requires.stands.kept.frozen refl c.requires.place in
+    let raw = frozen_raw disk.sectors disk.seen b b.unwritten c.requires.stands.kept c.requires.stands.unwritten c.args.slot c.args.number low
+    (λ u some here. c.is_for.ensures.no c.if-is_for.false u some (here ∙ sym at)) in
+    subst (λ (bytes : List ℕ). IsFrameOf b.plan.geometry most c.args.number bytes (frame_from b.plan.geometry c.args.number bytes)) raw
+    (c.requires.stands.kept.frozen.spelt c.args.number c.args.slot c.requires.object c.requires.place)
 
 pub returns-clause-found : goal.returns-clause-found
 returns-clause-found g c =
     let disk = g.D.Device.disk c.args.device.now in
     let b = c.args.self.now in
     let at = rw c.new-log.ensures at c.slot_sector-sector.ensures.value in
-    let low = whole_low (seen_by disk.seen b) b.plan (frozen_generation b) b.frozen c.args.number c.args.slot (place_at b.frozen c.args.number) c.requires.stands.kept.frozen refl c.requires.place in
-    let raw = frozen_raw disk.sectors disk.seen b b.unwritten c.requires.stands.kept c.requires.stands.unwritten c.args.slot c.args.number low (λ u some here. c.is_for.ensures.no c.if-is_for.false u some (here ∙ sym at)) in
+    let low = whole_low (seen_by disk.seen b) b.plan (frozen_generation b) b.frozen c.args.number c.args.slot (place_at b.frozen c.args.number)
+    c.requires.stands.kept.frozen refl c.requires.place in
+    let raw = frozen_raw disk.sectors disk.seen b b.unwritten c.requires.stands.kept c.requires.stands.unwritten c.args.slot c.args.number low
+    (λ u some here. c.is_for.ensures.no c.if-is_for.false u some (here ∙ sym at)) in
     ok_weaker c.read_put.result (λ read e. e ∙ ap (frame_from b.plan.geometry c.args.number) (sym raw)) c.read_put.ensures.found

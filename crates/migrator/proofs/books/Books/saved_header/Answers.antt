@@ -11,8 +11,10 @@ returns-clause-found g c =
     let new = g.D.Device.disk c.read_header_of.new.device in
     let b = c.args.self.now in
     let place = rw c.new-home.ensures at c.place-at.ensures.value in
-    let same = ap (λ (image : Image). bytes_at image (home_place b.plan c.args.number) b.plan c.args.number) (agrees_is new.seen disk.seen c.read_header_of.ensures.reads.seen)
+    let same = ap (λ (image : Image). bytes_at image (home_place b.plan c.args.number) b.plan c.args.number)
+    (agrees_is new.seen disk.seen c.read_header_of.ensures.reads.seen)
     ∙ home_raw disk.sectors disk.seen b b.unwritten c.requires.stands.kept c.requires.stands.unwritten c.requires.home c.args.number c.requires.object in
     ok_weaker c.read_header_of.result
-    (λ header is. header_read (seen_by disk.seen b) disk.sectors new.seen b c.requires.stands.kept c.requires.home c.args.number c.place-at.result c.shape.result c.requires.object place c.shape.ensures.value c.shape.ensures.fits same header is)
+    (λ header is. header_read (seen_by disk.seen b) disk.sectors new.seen b c.requires.stands.kept c.requires.home c.args.number c.place-at.result
+    c.shape.result c.requires.object place c.shape.ensures.value c.shape.ensures.fits same header is)
     c.read_header_of.ensures.found

@@ -6,7 +6,8 @@ use Rattle.migrator.proofs.Tables.{whole_taken}
 use Rattle.migrator.proofs.durable.Durable.commit.Goals as goal
 
 -- what is left of the checkpoint on its way
-reported : (image : Image) (b : Books) (size left : ℕ) → b.size ≡ Some size → left ≡ left_of (frozen_of image b size) → option_map left_of (option_map (frozen_of image b) b.size) ≡ Some left
+reported : (image : Image) (b : Books) (size left : ℕ) → b.size ≡ Some size → left ≡ left_of (frozen_of image b size) →
+    option_map left_of (option_map (frozen_of image b) b.size) ≡ Some left
 reported image b size left is same = ap (λ o. option_map left_of (option_map (frozen_of image b) o)) is ∙ ap Some (sym same)
 
 pub overflow_sub-left : goal.overflow_sub-left
@@ -21,8 +22,13 @@ returns-then-left-ne0-clause-answer g c =
     let disk = g.D.Device.disk c.self.inside.device in
     let b = c.self.inside.books in
     let some : 0 < c.in-Some.size - c.whole.result = search rules in
-    let left = ap (λ (n : ℕ). c.in-Some.size - n) (c.whole.ensures ∙ sym (kept_whole (seen_by disk.seen b) b.plan (frozen_generation b) b.frozen c.self.invariant.kept.frozen.count)) in
-    (refl, subst (λ t. option_map left_of (stored_of g.D.Device.disk t).frozen ≡ Some (c.in-Some.size - c.whole.result)) c.self.view_is (reported (seen_by disk.seen b) b c.in-Some.size (c.in-Some.size - c.whole.result) c.in-Some.is left), some)
+    let left = ap (λ (n : ℕ). c.in-Some.size - n)
+    (c.whole.ensures ∙ sym (kept_whole (seen_by disk.seen b) b.plan (frozen_generation b) b.frozen c.self.invariant.kept.frozen.count)) in (
+      refl,
+      subst (λ t. option_map left_of (stored_of g.D.Device.disk t).frozen ≡ Some (c.in-Some.size - c.whole.result)) c.self.view_is
+          (reported (seen_by disk.seen b) b c.in-Some.size (c.in-Some.size - c.whole.result) c.in-Some.is left),
+      some,
+    )
 
 pub commit-requires-clause-stands : goal.commit-requires-clause-stands
 commit-requires-clause-stands g c = c.self.invariant
@@ -39,7 +45,8 @@ pub commit-requires-clause-later : goal.commit-requires-clause-later
 commit-requires-clause-later g c =
     let disk = g.D.Device.disk c.self.inside.device in
     let b = c.self.inside.books in
-    let ready = subst (λ t. (f : FrozenPuts) → (stored_of g.D.Device.disk t).frozen ≡ Some f → MayCommit puts c.args.age f (stored_of g.D.Device.disk t).saved) (sym c.self.view_is) c.requires.ready in
+    let ready = subst (λ t. (f : FrozenPuts) → (stored_of g.D.Device.disk t).frozen ≡ Some f → MayCommit puts c.args.age f (stored_of g.D.Device.disk t).saved)
+    (sym c.self.view_is) c.requires.ready in
     let may = ready (frozen_of (seen_by disk.seen b) b c.in-Some.size) (ap (option_map (frozen_of (seen_by disk.seen b) b)) c.in-Some.is) in
     may.later
 
@@ -47,7 +54,8 @@ pub commit-requires-clause-most : goal.commit-requires-clause-most
 commit-requires-clause-most g c =
     let disk = g.D.Device.disk c.self.inside.device in
     let b = c.self.inside.books in
-    let ready = subst (λ t. (f : FrozenPuts) → (stored_of g.D.Device.disk t).frozen ≡ Some f → MayCommit puts c.args.age f (stored_of g.D.Device.disk t).saved) (sym c.self.view_is) c.requires.ready in
+    let ready = subst (λ t. (f : FrozenPuts) → (stored_of g.D.Device.disk t).frozen ≡ Some f → MayCommit puts c.args.age f (stored_of g.D.Device.disk t).saved)
+    (sym c.self.view_is) c.requires.ready in
     let may = ready (frozen_of (seen_by disk.seen b) b c.in-Some.size) (ap (option_map (frozen_of (seen_by disk.seen b) b)) c.in-Some.is) in
     may.most
 
@@ -55,10 +63,12 @@ pub commit-requires-clause-keepable : goal.commit-requires-clause-keepable
 commit-requires-clause-keepable g c =
     let disk = g.D.Device.disk c.self.inside.device in
     let b = c.self.inside.books in
-    let ready = subst (λ t. (f : FrozenPuts) → (stored_of g.D.Device.disk t).frozen ≡ Some f → MayCommit puts c.args.age f (stored_of g.D.Device.disk t).saved) (sym c.self.view_is) c.requires.ready in
+    let ready = subst (λ t. (f : FrozenPuts) → (stored_of g.D.Device.disk t).frozen ≡ Some f → MayCommit puts c.args.age f (stored_of g.D.Device.disk t).saved)
+    (sym c.self.view_is) c.requires.ready in
     let may = ready (frozen_of (seen_by disk.seen b) b c.in-Some.size) (ap (option_map (frozen_of (seen_by disk.seen b) b)) c.in-Some.is) in
     let none : c.in-Some.size - c.whole.result ≡ 0 = search rules in
-    let left = ap (λ (n : ℕ). c.in-Some.size - n) (c.whole.ensures ∙ sym (kept_whole (seen_by disk.seen b) b.plan (frozen_generation b) b.frozen c.self.invariant.kept.frozen.count)) in
+    let left = ap (λ (n : ℕ). c.in-Some.size - n)
+    (c.whole.ensures ∙ sym (kept_whole (seen_by disk.seen b) b.plan (frozen_generation b) b.frozen c.self.invariant.kept.frozen.count)) in
     may.keepable (sym left ∙ none)
 
 pub returns-clause-stable : goal.returns-clause-stable
@@ -66,7 +76,8 @@ returns-clause-stable g c =
     let disk = g.D.Device.disk c.self.inside.device in
     let b = c.self.inside.books in
     let none : c.in-Some.size - c.whole.result ≡ 0 = search rules in
-    let left = ap (λ (n : ℕ). c.in-Some.size - n) (c.whole.ensures ∙ sym (kept_whole (seen_by disk.seen b) b.plan (frozen_generation b) b.frozen c.self.invariant.kept.frozen.count)) in
+    let left = ap (λ (n : ℕ). c.in-Some.size - n)
+    (c.whole.ensures ∙ sym (kept_whole (seen_by disk.seen b) b.plan (frozen_generation b) b.frozen c.self.invariant.kept.frozen.count)) in
     subst (λ t. (f : FrozenPuts) × ((stored_of g.D.Device.disk t).frozen ≡ Some f) × (left_of f ≡ 0)) c.self.view_is
     (frozen_of (seen_by disk.seen b) b c.in-Some.size, ap (option_map (frozen_of (seen_by disk.seen b) b)) c.in-Some.is, sym left ∙ none)
 
@@ -75,8 +86,10 @@ returns-clause-answer g c =
     let disk = g.D.Device.disk c.self.inside.device in
     let b = c.self.inside.books in
     let none : c.in-Some.size - c.whole.result ≡ 0 = search rules in
-    let left = ap (λ (n : ℕ). c.in-Some.size - n) (c.whole.ensures ∙ sym (kept_whole (seen_by disk.seen b) b.plan (frozen_generation b) b.frozen c.self.invariant.kept.frozen.count)) in
-    let over = subst (λ t. option_map left_of (stored_of g.D.Device.disk t).frozen ≡ Some 0) c.self.view_is (reported (seen_by disk.seen b) b c.in-Some.size 0 c.in-Some.is (sym none ∙ left)) in
+    let left = ap (λ (n : ℕ). c.in-Some.size - n)
+    (c.whole.ensures ∙ sym (kept_whole (seen_by disk.seen b) b.plan (frozen_generation b) b.frozen c.self.invariant.kept.frozen.count)) in
+    let over = subst (λ t. option_map left_of (stored_of g.D.Device.disk t).frozen ≡ Some 0) c.self.view_is
+    (reported (seen_by disk.seen b) b c.in-Some.size 0 c.in-Some.is (sym none ∙ left)) in
     (search rules, over, search rules)
 
 pub returns-in_default-commit-clause-answer : goal.returns-in_default-commit-clause-answer
@@ -84,6 +97,8 @@ returns-in_default-commit-clause-answer g c =
     let disk = g.D.Device.disk c.self.inside.device in
     let b = c.self.inside.books in
     let none : c.in-Some.size - c.whole.result ≡ 0 = search rules in
-    let left = ap (λ (n : ℕ). c.in-Some.size - n) (c.whole.ensures ∙ sym (kept_whole (seen_by disk.seen b) b.plan (frozen_generation b) b.frozen c.self.invariant.kept.frozen.count)) in
-    let over = subst (λ t. option_map left_of (stored_of g.D.Device.disk t).frozen ≡ Some 0) c.self.view_is (reported (seen_by disk.seen b) b c.in-Some.size 0 c.in-Some.is (sym none ∙ left)) in
+    let left = ap (λ (n : ℕ). c.in-Some.size - n)
+    (c.whole.ensures ∙ sym (kept_whole (seen_by disk.seen b) b.plan (frozen_generation b) b.frozen c.self.invariant.kept.frozen.count)) in
+    let over = subst (λ t. option_map left_of (stored_of g.D.Device.disk t).frozen ≡ Some 0) c.self.view_is
+    (reported (seen_by disk.seen b) b c.in-Some.size 0 c.in-Some.is (sym none ∙ left)) in
     (search rules, over)

@@ -7,4 +7,5 @@ left-requires g c = let disk = g.D.Device.disk c.self.inside.device in (disk.sec
 
 pub returns : goal.returns
 returns g c =
-    subst (λ t. c.left.result ≡ option_map left_of (stored_of g.D.Device.disk t).frozen) c.self.view_is (c.left.ensures (seen_by (g.D.Device.disk c.self.inside.device).seen c.self.inside.books))
+    subst (λ t. c.left.result ≡ option_map left_of (stored_of g.D.Device.disk t).frozen) c.self.view_is
+    (c.left.ensures (seen_by (g.D.Device.disk c.self.inside.device).seen c.self.inside.books))

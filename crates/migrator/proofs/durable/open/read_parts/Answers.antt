@@ -17,8 +17,12 @@ pub returns-in-Ok-new-clause-took : goal.returns-in-Ok-new-clause-took
 returns-in-Ok-new-clause-took g c =
     let seen = agrees_is (g.D.Device.disk c.read_plan.new.device).seen (g.D.Device.disk c.args.device.now).seen c.read_plan.ensures.only_reads.seen in
     if_both c.read_with_sink.result
-    (λ parts plan took. subst (λ (i : Image). g.I.Intake.Took parts.taken (frames_read i parts.plan parts.header.generation (take parts.header.entries parts.reserve.directories.saved.items))) seen
-    (subst (λ (p : Plan). g.I.Intake.Took parts.taken (frames_read (g.D.Device.disk c.read_plan.new.device).seen p parts.header.generation (take parts.header.entries parts.reserve.directories.saved.items))) (sym plan) took))
+    (λ parts plan took. subst
+    (λ (i : Image). g.I.Intake.Took parts.taken
+    (frames_read i parts.plan parts.header.generation (take parts.header.entries parts.reserve.directories.saved.items))) seen
+    (subst (λ (p : Plan). g.I.Intake.Took parts.taken
+    (frames_read (g.D.Device.disk c.read_plan.new.device).seen p parts.header.generation (take parts.header.entries parts.reserve.directories.saved.items)))
+    (sym plan) took))
     c.read_with_sink.ensures.plan c.read_with_sink.ensures.took
 
 pub returns-in-Ok-new-clause-refused : goal.returns-in-Ok-new-clause-refused

@@ -7,7 +7,8 @@ returns-in_err-number-clause-none c _ = all_are_marked _ _ _ c.self.invariant _ 
     (λ m past within. c.in_err-number.ensures.none refl m past (words_hold _ _ _ c.self.invariant _ c.self.view_is _ c.deref.ensures.value m within))
 
 pub returns-then-number-self-clause-some : goal.returns-then-number-self-clause-some
-returns-then-number-self-clause-some c = missing_is_unmarked _ _ _ c.self.invariant _ c.self.view_is _ c.deref.ensures.value c.args.from _ c.if-number-self.true c.in_ok-number.ensures.some
+returns-then-number-self-clause-some c = missing_is_unmarked _ _ _ c.self.invariant _ c.self.view_is _ c.deref.ensures.value c.args.from _ c.if-number-self.true
+    c.in_ok-number.ensures.some
 
 pub returns-else-number-self-clause-none : goal.returns-else-number-self-clause-none
 returns-else-number-self-clause-none c _ = all_are_marked _ _ _ c.self.invariant _ c.self.view_is _ c.deref.ensures.value c.args.from

@@ -1,4 +1,4 @@
-use Rattle.object_cache.proofs.Names.{refl, sym, ap, subst, arith, option_copied, touched_count, stored_of, let_go, StoreState, goes_on_same}
+use Rattle.object_cache.proofs.Names.{refl, sym, ap, subst, arith, option_map, held_behind, touched_count, stored_of, let_go, StoreState, goes_on_same}
 use Rattle.std.proofs.Common.{◌≤◌, ◌∙◌}
 use Rattle.object_cache.proofs.Outcomes.{ok_then}
 use Rattle.object_cache.proofs.Paying.{let_go_own, ok_counts, paid_put}
@@ -6,16 +6,19 @@ use Rattle.object_cache.proofs.Settling.{held_number}
 use Rattle.object_cache.proofs.cache.Cache.empty_staging.Goals as goal
 
 pub returns-in_default-clause-empty : goal.returns-in_default-clause-empty
-returns-in_default-clause-empty g c = ap (λ (t : StoreState g.row.D.Denot). t.staging) (sym c.self.view_is) ∙ sym c.get.ensures ∙ ap option_copied c.in_default.is
+returns-in_default-clause-empty g c = ap (λ (t : StoreState g.row.D.Denot). t.staging) (sym c.self.view_is) ∙ sym c.get.ensures ∙
+    ap (option_map held_behind) c.in_default.is
 
 pub returns-in_default-clause-fewer : goal.returns-in_default-clause-fewer
 returns-in_default-clause-fewer g c =
-    λ some. absurd (some (ap (λ (t : StoreState g.row.D.Denot). t.staging) (sym c.self.view_is) ∙ sym c.get.ensures ∙ ap option_copied c.in_default.is))
+    λ some. absurd (some (ap (λ (t : StoreState g.row.D.Denot). t.staging) (sym c.self.view_is) ∙ sym c.get.ensures ∙
+    ap (option_map held_behind) c.in_default.is))
 
 pub returns-in_default-clause-within : goal.returns-in_default-clause-within
 returns-in_default-clause-within g c =
     let kept = c.self.invariant.0 in
-    subst (λ (t : StoreState g.row.D.Denot). touched_count t.touched ≤ (stored_of g.D.Device.disk t.durable).saved.geometry.log) c.self.view_is (omega (arith, kept.counted, kept.within))
+    subst (λ (t : StoreState g.row.D.Denot). touched_count t.touched ≤ (stored_of g.D.Device.disk t.durable).saved.geometry.log) c.self.view_is
+    (omega (arith, kept.counted, kept.within))
 
 pub returns-in_default-clause-put : goal.returns-in_default-clause-put
 returns-in_default-clause-put g c = refl
@@ -28,7 +31,8 @@ returns-in_default-clause-cause g c = ok_counts refl
 
 pub owes-requires : goal.owes-requires
 owes-requires g c =
-    held_number g.D.Device.disk _ _ _ _ _ _ _ c.self.view_is c.self.invariant.0 c.in-Some.held.now (sym c.get.ensures ∙ ap option_copied c.in-Some.is)
+    held_number g.D.Device.disk _ _ _ _ _ _ _ c.self.view_is c.self.invariant.0 (held_behind c.in-Some.held)
+    (sym c.get.ensures ∙ ap (option_map held_behind) c.in-Some.is)
 
 pub put_own_frozen-requires-clause-fetched : goal.put_own_frozen-requires-clause-fetched
 put_own_frozen-requires-clause-fetched g c = c.owes.ensures.fetched c.if-owes.true
@@ -38,9 +42,10 @@ put_own_frozen-requires-clause-owed g c = c.owes.ensures.yes c.if-owes.true
 
 pub returns-then-owes-clause-empty : goal.returns-then-owes-clause-empty
 returns-then-owes-clause-empty g c =
-    let held = c.in-Some.held.now in
-    let staging = ap (λ (t : StoreState g.row.D.Denot). t.staging) (sym c.self.view_is) ∙ sym c.get.ensures ∙ ap option_copied c.in-Some.is in
-    ok_then c.put_own_frozen.result c.put_own_frozen.ensures.put (λ is. ap (λ (t : StoreState g.row.D.Denot). t.staging) is ∙ ap (let_go held.number) staging ∙ let_go_own held)
+    let held = (held_behind c.in-Some.held) in
+    let staging = ap (λ (t : StoreState g.row.D.Denot). t.staging) (sym c.self.view_is) ∙ sym c.get.ensures ∙ ap (option_map held_behind) c.in-Some.is in
+    ok_then c.put_own_frozen.result c.put_own_frozen.ensures.put
+    (λ is. ap (λ (t : StoreState g.row.D.Denot). t.staging) is ∙ ap (let_go held.number) staging ∙ let_go_own held)
 
 pub returns-then-owes-clause-fewer : goal.returns-then-owes-clause-fewer
 returns-then-owes-clause-fewer g c = ok_then c.put_own_frozen.result c.put_own_frozen.ensures.fewer (λ less some. less)
@@ -48,10 +53,12 @@ returns-then-owes-clause-fewer g c = ok_then c.put_own_frozen.result c.put_own_f
 pub returns-then-owes-clause-within : goal.returns-then-owes-clause-within
 returns-then-owes-clause-within g c =
     let kept = c.self.invariant.0 in
-    subst (λ (t : StoreState g.row.D.Denot). touched_count t.touched ≤ (stored_of g.D.Device.disk t.durable).saved.geometry.log) c.self.view_is (omega (arith, kept.counted, kept.within))
+    subst (λ (t : StoreState g.row.D.Denot). touched_count t.touched ≤ (stored_of g.D.Device.disk t.durable).saved.geometry.log) c.self.view_is
+    (omega (arith, kept.counted, kept.within))
 
 pub returns-then-owes-clause-put : goal.returns-then-owes-clause-put
-returns-then-owes-clause-put g c = paid_put c.put_own_frozen.result c.args.self.now c.put_own_frozen.new.self c.in-Some.held.now.number c.put_own_frozen.ensures.put c.put_own_frozen.ensures.unput
+returns-then-owes-clause-put g c = paid_put c.put_own_frozen.result c.args.self.now c.put_own_frozen.new.self c.in-Some.held.0 c.put_own_frozen.ensures.put
+    c.put_own_frozen.ensures.unput
 
 pub returns-then-owes-clause-continues : goal.returns-then-owes-clause-continues
 returns-then-owes-clause-continues g c = c.put_own_frozen.ensures.continues
@@ -60,7 +67,12 @@ pub returns-then-owes-clause-cause : goal.returns-then-owes-clause-cause
 returns-then-owes-clause-cause g c = c.put_own_frozen.ensures.cause
 
 pub put_held-requires : goal.put_held-requires
-put_held-requires g c = (c.in-Some.held.now, ap (λ (t : StoreState g.row.D.Denot). t.staging) (sym c.self.view_is) ∙ sym c.get.ensures ∙ ap option_copied c.in-Some.is, c.owes.ensures.none c.if-owes.false)
+put_held-requires g c = (
+  (held_behind c.in-Some.held),
+  ap (λ (t : StoreState g.row.D.Denot). t.staging) (sym c.self.view_is) ∙ sym c.get.ensures ∙
+      ap (option_map held_behind) c.in-Some.is,
+  c.owes.ensures.none c.if-owes.false,
+)
 
 pub returns-clause-empty : goal.returns-clause-empty
 returns-clause-empty g c = c.put_held.ensures.empty
@@ -71,7 +83,8 @@ returns-clause-fewer g c = ok_then c.put_held.result c.put_held.ensures.fewer (�
 pub returns-clause-within : goal.returns-clause-within
 returns-clause-within g c =
     let kept = c.self.invariant.0 in
-    subst (λ (t : StoreState g.row.D.Denot). touched_count t.touched ≤ (stored_of g.D.Device.disk t.durable).saved.geometry.log) c.self.view_is (omega (arith, kept.counted, kept.within))
+    subst (λ (t : StoreState g.row.D.Denot). touched_count t.touched ≤ (stored_of g.D.Device.disk t.durable).saved.geometry.log) c.self.view_is
+    (omega (arith, kept.counted, kept.within))
 
 pub returns-clause-put : goal.returns-clause-put
 returns-clause-put g c = c.put_held.ensures.put

@@ -13,20 +13,23 @@ pub put_away-requires-clause-keepable : goal.put_away-requires-clause-keepable
 put_away-requires-clause-keepable g c =
     let i = c.self.inside in
     let m = memory_of i.table i.frozen_headers i.touched i.dirty i.pending i.entries.at i.staging in
-    keepable_at (stored_of g.D.Device.disk c.args.self.now.durable).saved.geometry most (parts_of g.D.Device.disk c.args.self.now) c.args.number c.requires.known c.requires.keepable
+    keepable_at (stored_of g.D.Device.disk c.args.self.now.durable).saved.geometry most (parts_of g.D.Device.disk c.args.self.now) c.args.number
+    c.requires.known c.requires.keepable
 
 pub returns-then-holds-clause-gone : goal.returns-then-holds-clause-gone
 returns-then-holds-clause-gone g c =
     let i = c.self.inside in
     let m = memory_of i.table i.frozen_headers i.touched i.dirty i.pending i.entries.at i.staging in
-    ok_then c.put_away.result c.put_away.ensures.away (λ away. ap (λ (t : StoreState g.row.D.Denot). cached_at t.cached c.args.number) away ∙ cached_gone c.args.self.now.cached c.args.number)
+    ok_then c.put_away.result c.put_away.ensures.away
+    (λ away. ap (λ (t : StoreState g.row.D.Denot). cached_at t.cached c.args.number) away ∙ cached_gone c.args.self.now.cached c.args.number)
 
 pub returns-clause-gone : goal.returns-clause-gone
 returns-clause-gone g c =
     uncached_by g.D.Device.disk _ _ _ _ _ _ _ c.self.view_is c.self.invariant.0 c.args.number (sym c.holds.ensures ∙ c.if-holds.false)
 
 pub returns-then-holds-clause-rest : goal.returns-then-holds-clause-rest
-returns-then-holds-clause-rest g c = away_rest c.put_away.result c.args.self.now c.put_away.new.self c.args.number c.put_away.ensures.away c.put_away.ensures.stays
+returns-then-holds-clause-rest g c = away_rest c.put_away.result c.args.self.now c.put_away.new.self c.args.number c.put_away.ensures.away
+    c.put_away.ensures.stays
 
 pub returns-then-holds-clause-continues : goal.returns-then-holds-clause-continues
 returns-then-holds-clause-continues g c = c.put_away.ensures.continues

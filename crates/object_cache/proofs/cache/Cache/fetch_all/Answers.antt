@@ -1,11 +1,12 @@
-use Rattle.object_cache.proofs.Names.{refl, arith, IsFetchedIn, goes_on_same, goes_on_twice}
+use Rattle.object_cache.proofs.Names.{refl, arith, counted_ok, IsFetchedIn, goes_on_same, goes_on_twice}
 use Rattle.std.proofs.Common.{◌∙◌}
-use Rattle.object_cache.proofs.Bringing.{keepable_on, rest_on, no_failure, all_listed, recent_on}
+use Rattle.object_cache.proofs.Bringing.{keepable_on, rest_on, all_listed, recent_on}
 use Rattle.object_cache.proofs.cache.Cache.fetch_all.Goals as goal
 
 pub returns-in_err-fetch_one-clause-continues : goal.returns-in_err-fetch_one-clause-continues
 returns-in_err-fetch_one-clause-continues g c =
-    goes_on_twice g.D.Device.disk g.met.D.Device.counts_now c.args.self.now c.loop-number.self c.fetch_one.new.self c.loop-number.invariant.3 c.fetch_one.ensures.continues
+    goes_on_twice g.D.Device.disk g.met.D.Device.counts_now c.args.self.now c.loop-number.self c.fetch_one.new.self c.loop-number.invariant.3
+    c.fetch_one.ensures.continues
 
 pub loop-number-preserved : goal.loop-number-preserved
 loop-number-preserved g c =
@@ -19,7 +20,7 @@ loop-number-preserved g c =
       rest_on s t u before.1 c.fetch_one.ensures.rest,
       c.fetch_one.ensures.empty,
       goes_on_twice disk g.met.D.Device.counts_now s t u before.3 c.fetch_one.ensures.continues,
-      no_failure c.in_ok-fetch_one.field-0 (disk t.durable.beneath).failures (disk u.durable.beneath).failures ok.cause c.fetch_one.ensures.continues.later ∙ before.4,
+      counted_ok ok.cause ∙ before.4,
     )
 
 pub returns-clause-fetched : goal.returns-clause-fetched
@@ -35,7 +36,8 @@ pub fetch_one-requires-clause-empty : goal.fetch_one-requires-clause-empty
 fetch_one-requires-clause-empty g c = c.loop-number.invariant.2
 
 pub fetch_one-requires-clause-keepable : goal.fetch_one-requires-clause-keepable
-fetch_one-requires-clause-keepable g c = keepable_on g.D.Device.disk c.args.self.now c.loop-number.self c.loop-number.invariant.1 c.loop-number.invariant.3 c.requires.keepable
+fetch_one-requires-clause-keepable g c = keepable_on g.D.Device.disk c.args.self.now c.loop-number.self c.loop-number.invariant.1 c.loop-number.invariant.3
+    c.requires.keepable
 
 pub returns-clause-rest : goal.returns-clause-rest
 returns-clause-rest g c = c.loop-number.invariant.1

@@ -24,7 +24,8 @@ pub returns-then-use_now-clause-continues : goal.returns-then-use_now-clause-con
 returns-then-use_now-clause-continues g c =
     let s = c.args.self.now in
     subst (GoesOnIn g.D.Device.disk s) (sym (c.use_now.ensures.used c.if-use_now.true))
-    (continues_cached g.D.Device.disk s s s.cached s.owed (c.args.number ∷ without c.args.number s.order) (goes_on_same g.D.Device.disk g.met.D.Device.only_now s))
+    (continues_cached g.D.Device.disk s s s.cached s.owed (c.args.number ∷ without c.args.number s.order)
+    (goes_on_same g.D.Device.disk g.met.D.Device.only_now s))
 
 pub returns-clause-recent : goal.returns-clause-recent
 returns-clause-recent g c =

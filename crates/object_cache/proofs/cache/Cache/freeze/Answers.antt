@@ -9,22 +9,35 @@ freeze-requires-clause-enough g c =
 pub invariant_of-self-2 : goal.invariant_of-self-2
 invariant_of-self-2 g c =
     let i = c.self.inside in
-    rw (c.clear.ensures, c.clear-2.ensures, c.swap.ensures.x_after, c.swap.ensures.y_after) (freeze_stands g.D.Device.disk _ _ _ _ _ _ _ c.self.view_is c.self.invariant.0 c.freeze.new.self (none_of left_of (stored_of g.D.Device.disk i.durable).frozen c.in_ok-freeze.ensures.answer.0) c.in_ok-freeze.ensures.frozen c.take_marked.new.self c.take_marked.ensures.count c.take_marked.ensures.marked c.requires.keepable, c.self.invariant.1)
+    rw (c.clear.ensures, c.clear-2.ensures, c.swap.ensures.x_after, c.swap.ensures.y_after) (
+      freeze_stands g.D.Device.disk _ _ _ _ _ _ _ c.self.view_is c.self.invariant.0 c.freeze.new.self
+          (none_of left_of (stored_of g.D.Device.disk i.durable).frozen c.in_ok-freeze.ensures.answer.0) c.in_ok-freeze.ensures.frozen c.take_marked.new.self
+          c.take_marked.ensures.count c.take_marked.ensures.marked c.requires.keepable,
+      c.self.invariant.1,
+    )
 
 pub returns-clause-contents : goal.returns-clause-contents
 returns-clause-contents g c =
     let i = c.self.inside in
-    rw (c.clear.ensures, c.clear-2.ensures, c.swap.ensures.x_after, c.swap.ensures.y_after) (freeze_contents g.D.Device.disk _ _ _ _ _ _ _ c.self.view_is c.self.invariant.0 c.freeze.new.self (none_of left_of (stored_of g.D.Device.disk i.durable).frozen c.in_ok-freeze.ensures.answer.0) c.in_ok-freeze.ensures.frozen c.take_marked.new.self c.take_marked.ensures.count c.take_marked.ensures.marked c.requires.keepable)
+    rw (c.clear.ensures, c.clear-2.ensures, c.swap.ensures.x_after, c.swap.ensures.y_after)
+    (freeze_contents g.D.Device.disk _ _ _ _ _ _ _ c.self.view_is c.self.invariant.0 c.freeze.new.self
+    (none_of left_of (stored_of g.D.Device.disk i.durable).frozen c.in_ok-freeze.ensures.answer.0) c.in_ok-freeze.ensures.frozen c.take_marked.new.self
+    c.take_marked.ensures.count c.take_marked.ensures.marked c.requires.keepable)
 
 pub returns-clause-touched : goal.returns-clause-touched
 returns-clause-touched g c =
     let i = c.self.inside in
-    rw c.clear-2.ensures (freeze_touched g.D.Device.disk _ _ _ _ _ _ _ c.self.view_is c.self.invariant.0 c.freeze.new.self (none_of left_of (stored_of g.D.Device.disk i.durable).frozen c.in_ok-freeze.ensures.answer.0) c.in_ok-freeze.ensures.frozen c.take_marked.new.self c.take_marked.ensures.count c.take_marked.ensures.marked c.requires.keepable)
+    rw c.clear-2.ensures (freeze_touched g.D.Device.disk _ _ _ _ _ _ _ c.self.view_is c.self.invariant.0 c.freeze.new.self
+    (none_of left_of (stored_of g.D.Device.disk i.durable).frozen c.in_ok-freeze.ensures.answer.0) c.in_ok-freeze.ensures.frozen c.take_marked.new.self
+    c.take_marked.ensures.count c.take_marked.ensures.marked c.requires.keepable)
 
 pub returns-clause-snapshots : goal.returns-clause-snapshots
 returns-clause-snapshots g c =
     let i = c.self.inside in
-    rw (c.clear.ensures, c.clear-2.ensures, c.swap.ensures.x_after, c.swap.ensures.y_after) (freeze_snapshots g.D.Device.disk _ _ _ _ _ _ _ c.self.view_is c.self.invariant.0 c.freeze.new.self (none_of left_of (stored_of g.D.Device.disk i.durable).frozen c.in_ok-freeze.ensures.answer.0) c.in_ok-freeze.ensures.frozen c.take_marked.new.self c.take_marked.ensures.count c.take_marked.ensures.marked c.requires.keepable)
+    rw (c.clear.ensures, c.clear-2.ensures, c.swap.ensures.x_after, c.swap.ensures.y_after)
+    (freeze_snapshots g.D.Device.disk _ _ _ _ _ _ _ c.self.view_is c.self.invariant.0 c.freeze.new.self
+    (none_of left_of (stored_of g.D.Device.disk i.durable).frozen c.in_ok-freeze.ensures.answer.0) c.in_ok-freeze.ensures.frozen c.take_marked.new.self
+    c.take_marked.ensures.count c.take_marked.ensures.marked c.requires.keepable)
 
 pub returns-clause-sound : goal.returns-clause-sound
 returns-clause-sound g c =

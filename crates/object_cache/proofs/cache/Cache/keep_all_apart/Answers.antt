@@ -7,19 +7,18 @@ use Rattle.object_cache.proofs.cache.Cache.keep_all_apart.Goals as goal
 pub loop-number-init : goal.loop-number-init
 loop-number-init g c = ((λ k below. absurd (omega (arith, below))), refl)
 
-pub returns-in_err-keep_one_apart-clause-rest : goal.returns-in_err-keep_one_apart-clause-rest
-returns-in_err-keep_one_apart-clause-rest g c = owed_on c.args.self.now c.loop-number.self c.keep_one_apart.new.self c.loop-number.invariant.1 c.keep_one_apart.ensures.rest
-
 pub loop-number-preserved : goal.loop-number-preserved
 loop-number-preserved g c = (
-  items_more (λ n. owed_at c.loop-number.self.owed n ≢ Shared) (λ n. owed_at c.keep_one_apart.new.self.owed n ≢ Shared) c.args.written.now c.loop-number.number-index
-      c.keep_one_apart.ensures.others c.in_ok-keep_one_apart.ensures.apart c.loop-number.invariant.0,
+  items_more (λ n. owed_at c.loop-number.self.owed n ≢ Shared) (λ n. owed_at c.keep_one_apart.new.self.owed n ≢ Shared) c.args.written.now
+      c.loop-number.number-index
+      c.keep_one_apart.ensures.others c.keep_one_apart.ensures.apart c.loop-number.invariant.0,
   owed_on c.args.self.now c.loop-number.self c.keep_one_apart.new.self c.loop-number.invariant.1 c.keep_one_apart.ensures.rest,
 )
 
 pub returns-clause-apart : goal.returns-clause-apart
 returns-clause-apart g c =
-    all_listed (λ n. owed_at c.loop-number.self.owed n ≢ Shared) c.args.written.now c.loop-number.number-index (omega (arith, c.loop-number-test.false)) c.loop-number.invariant.0
+    all_listed (λ n. owed_at c.loop-number.self.owed n ≢ Shared) c.args.written.now c.loop-number.number-index (omega (arith, c.loop-number-test.false))
+    c.loop-number.invariant.0
 
 pub returns-clause-rest : goal.returns-clause-rest
 returns-clause-rest g c = c.loop-number.invariant.1

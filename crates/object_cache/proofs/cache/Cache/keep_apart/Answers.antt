@@ -1,23 +1,21 @@
-use Rattle.object_cache.proofs.Names.{Some, sym, ap, memory_of}
-use Rattle.std.proofs.Common.{◌∙◌}
+use Rattle.object_cache.proofs.Names.{memory_of}
 use Rattle.object_cache.proofs.Objects.{has_entry}
 use Rattle.object_cache.proofs.Apart.{apart_stands, apart_seen}
 use Rattle.object_cache.proofs.cache.Cache.keep_apart.Goals as goal
 
-pub present-requires : goal.present-requires
-present-requires g c =
+pub keep_apart-requires : goal.keep_apart-requires
+keep_apart-requires g c =
     let i = c.self.inside in
-    has_entry g.D.Device.disk i.durable (memory_of i.table i.frozen_headers i.touched i.dirty i.pending i.entries.at i.staging) i.left i.entries.order i.entries.most c.args.self.now c.self.view_is c.args.number c.requires.fetched
+    has_entry g.D.Device.disk i.durable (memory_of i.table i.frozen_headers i.touched i.dirty i.pending i.entries.at i.staging) i.left i.entries.order
+    i.entries.most c.args.self.now c.self.view_is c.args.number c.requires.fetched
 
 pub invariant_of-self : goal.invariant_of-self
 invariant_of-self g c =
-    rw c.set_kept.ensures (
-      apart_stands g.D.Device.disk _ _ _ _ _ _ _ c.self.view_is c.self.invariant.0 c.args.number c.requires.fetched c.requires.shared
-          c.in_ok-copy.copy (c.present.ensures ∙ ap Some (sym c.in_ok-copy.ensures)),
+    rw c.keep_apart.ensures (
+      apart_stands g.D.Device.disk _ _ _ _ _ _ _ c.self.view_is c.self.invariant.0 c.args.number c.requires.fetched c.requires.shared,
       c.self.invariant.1,
     )
 
-pub returns-clause-apart : goal.returns-clause-apart
-returns-clause-apart g c =
-    rw c.set_kept.ensures (apart_seen g.D.Device.disk _ _ _ _ _ _ _ c.self.view_is c.self.invariant.0 c.args.number c.requires.fetched c.requires.shared
-    c.in_ok-copy.copy (c.present.ensures ∙ ap Some (sym c.in_ok-copy.ensures)))
+pub returns : goal.returns
+returns g c =
+    rw c.keep_apart.ensures (apart_seen g.D.Device.disk _ _ _ _ _ _ _ c.self.view_is c.self.invariant.0 c.args.number c.requires.fetched c.requires.shared)

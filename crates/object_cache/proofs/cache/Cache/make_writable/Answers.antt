@@ -1,6 +1,5 @@
 use Rattle.object_cache.proofs.Names.{refl, sym, touching, goes_on_same, goes_on_twice}
-use Rattle.object_cache.proofs.Preparing.{continues_ready, rest_marked, rest_ready, within_ready}
-use Rattle.object_cache.proofs.Outcomes.{ok_then}
+use Rattle.object_cache.proofs.Preparing.{continues_ready, fetched_ready, rest_marked}
 use Rattle.object_cache.proofs.cache.Cache.make_writable.Goals as goal
 
 pub returns-then-is_ready-clause-announced : goal.returns-then-is_ready-clause-announced
@@ -18,35 +17,28 @@ returns-then-is_ready-clause-rest g c = refl
 pub returns-then-is_ready-clause-continues : goal.returns-then-is_ready-clause-continues
 returns-then-is_ready-clause-continues g c = goes_on_same g.D.Device.disk g.met.D.Device.only_now c.args.self.now
 
-pub returns-in_err-make_ready-clause-within : goal.returns-in_err-make_ready-clause-within
-returns-in_err-make_ready-clause-within g c = within_ready g.D.Device.disk c.args.self.now c.make_ready.new.self c.make_ready.ensures.rest c.is_ready.ensures.within
-
-pub returns-in_err-make_ready-clause-rest : goal.returns-in_err-make_ready-clause-rest
-returns-in_err-make_ready-clause-rest g c = rest_ready c.args.self.now c.make_ready.new.self c.make_ready.ensures.rest
-
-pub returns-in_err-make_ready-clause-continues : goal.returns-in_err-make_ready-clause-continues
-returns-in_err-make_ready-clause-continues g c = continues_ready g.D.Device.disk g.met.D.Device.only_now c.args.self.now c.make_ready.new.self c.make_ready.ensures.rest
-
 pub announce-requires-clause-apart : goal.announce-requires-clause-apart
-announce-requires-clause-apart g c = c.in_ok-make_ready.ensures.apart
+announce-requires-clause-apart g c = c.keep_all_apart.ensures.apart
 
 pub returns-clause-announced : goal.returns-clause-announced
 returns-clause-announced g c =
-    ok_then c.announce.result c.announce.ensures.announced (λ all n has. all n has (c.in_ok-make_ready.ensures.room n has))
+    c.announce.ensures.announced
 
 pub returns-clause-fetched : goal.returns-clause-fetched
-returns-clause-fetched g c = λ n there. c.announce.ensures.fetched n (c.make_ready.ensures.fetched n there)
+returns-clause-fetched g c = λ n there. c.announce.ensures.fetched n
+    (fetched_ready c.args.self.now c.keep_all_apart.new.self c.keep_all_apart.ensures.rest n there)
 
 pub returns-clause-within : goal.returns-clause-within
 returns-clause-within g c = c.announce.ensures.within
 
 pub returns-clause-rest : goal.returns-clause-rest
 returns-clause-rest g c =
-    rest_marked c.announce.result c.args.self.now c.make_ready.new.self c.announce.new.self
-    (touching c.make_ready.new.self.touched c.args.written.now) (touching c.make_ready.new.self.dirty c.args.written.now)
-    c.make_ready.ensures.rest c.announce.ensures.marked c.announce.ensures.unchanged
+    rest_marked c.announce.result c.args.self.now c.keep_all_apart.new.self c.announce.new.self
+    (touching c.keep_all_apart.new.self.touched c.args.written.now) (touching c.keep_all_apart.new.self.dirty c.args.written.now)
+    c.keep_all_apart.ensures.rest c.announce.ensures.marked c.announce.ensures.unchanged
 
 pub returns-clause-continues : goal.returns-clause-continues
 returns-clause-continues g c =
-    goes_on_twice g.D.Device.disk g.met.D.Device.counts_now c.args.self.now c.make_ready.new.self c.announce.new.self
-    (continues_ready g.D.Device.disk g.met.D.Device.only_now c.args.self.now c.make_ready.new.self c.make_ready.ensures.rest) c.announce.ensures.continues
+    goes_on_twice g.D.Device.disk g.met.D.Device.counts_now c.args.self.now c.keep_all_apart.new.self c.announce.new.self
+    (continues_ready g.D.Device.disk g.met.D.Device.only_now c.args.self.now c.keep_all_apart.new.self c.keep_all_apart.ensures.rest)
+    c.announce.ensures.continues

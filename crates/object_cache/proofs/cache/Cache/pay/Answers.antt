@@ -9,13 +9,16 @@ pub put_own_frozen-requires-clause-owed : goal.put_own_frozen-requires-clause-ow
 put_own_frozen-requires-clause-owed g c = c.owes.ensures.yes c.if-owes.true
 
 pub returns-then-owes-clause-paid : goal.returns-then-owes-clause-paid
-returns-then-owes-clause-paid g c = paid c.put_own_frozen.result c.args.self.now c.put_own_frozen.new.self c.args.number c.put_own_frozen.ensures.put c.put_own_frozen.ensures.unput
+returns-then-owes-clause-paid g c = paid c.put_own_frozen.result c.args.self.now c.put_own_frozen.new.self c.args.number c.put_own_frozen.ensures.put
+    c.put_own_frozen.ensures.unput
 
 pub returns-then-owes-clause-put : goal.returns-then-owes-clause-put
-returns-then-owes-clause-put g c = paid_put c.put_own_frozen.result c.args.self.now c.put_own_frozen.new.self c.args.number c.put_own_frozen.ensures.put c.put_own_frozen.ensures.unput
+returns-then-owes-clause-put g c = paid_put c.put_own_frozen.result c.args.self.now c.put_own_frozen.new.self c.args.number c.put_own_frozen.ensures.put
+    c.put_own_frozen.ensures.unput
 
 pub returns-then-owes-clause-empty : goal.returns-then-owes-clause-empty
-returns-then-owes-clause-empty g c = paid_empty c.put_own_frozen.result c.args.self.now c.put_own_frozen.new.self c.args.number c.put_own_frozen.ensures.put c.put_own_frozen.ensures.unput
+returns-then-owes-clause-empty g c = paid_empty c.put_own_frozen.result c.args.self.now c.put_own_frozen.new.self c.args.number c.put_own_frozen.ensures.put
+    c.put_own_frozen.ensures.unput
 
 pub returns-then-owes-clause-continues : goal.returns-then-owes-clause-continues
 returns-then-owes-clause-continues g c = c.put_own_frozen.ensures.continues

@@ -5,7 +5,8 @@ use Rattle.object_cache.proofs.Outcomes.{on_ok}
 use Rattle.object_cache.proofs.cache.Cache.prepare.Goals as goal
 
 pub returns-in_err-fetch-clause-within : goal.returns-in_err-fetch-clause-within
-returns-in_err-fetch-clause-within g c = within_on g.D.Device.disk c.args.self.now c.fetch.new.self c.fetch.ensures.rest c.fetch.ensures.continues c.fetch.ensures.within
+returns-in_err-fetch-clause-within g c = within_on g.D.Device.disk c.args.self.now c.fetch.new.self c.fetch.ensures.rest c.fetch.ensures.continues
+    c.fetch.ensures.within
 
 pub returns-in_err-fetch-clause-before : goal.returns-in_err-fetch-clause-before
 returns-in_err-fetch-clause-before g c = c.fetch.ensures.within
@@ -17,7 +18,8 @@ pub returns-in_err-fetch-clause-continues : goal.returns-in_err-fetch-clause-con
 returns-in_err-fetch-clause-continues g c = c.fetch.ensures.continues
 
 pub make_writable-requires : goal.make_writable-requires
-make_writable-requires g c = subst (λ (t : StoreState g.row.D.Denot). All (λ n. n < length t.headers) c.args.written.now) (sym c.fetch.ensures.rest) c.requires.announced
+make_writable-requires g c = subst (λ (t : StoreState g.row.D.Denot). All (λ n. n < length t.headers) c.args.written.now) (sym c.fetch.ensures.rest)
+    c.requires.announced
 
 pub returns-clause-fetched : goal.returns-clause-fetched
 returns-clause-fetched g c = on_ok c.make_writable.result (λ n has. c.make_writable.ensures.fetched n (c.in_ok-fetch.ensures.fetched n has))
@@ -36,4 +38,5 @@ returns-clause-rest g c = rest_on_ready c.args.self.now c.fetch.new.self c.make_
 
 pub returns-clause-continues : goal.returns-clause-continues
 returns-clause-continues g c =
-    goes_on_twice g.D.Device.disk g.met.D.Device.counts_now c.args.self.now c.fetch.new.self c.make_writable.new.self c.fetch.ensures.continues c.make_writable.ensures.continues
+    goes_on_twice g.D.Device.disk g.met.D.Device.counts_now c.args.self.now c.fetch.new.self c.make_writable.new.self c.fetch.ensures.continues
+    c.make_writable.ensures.continues

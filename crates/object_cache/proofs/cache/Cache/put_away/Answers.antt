@@ -1,4 +1,4 @@
-use Rattle.object_cache.proofs.Names.{set, None, ap, counted_ok, without, goes_on_twice, StoreState, owed_at}
+use Rattle.object_cache.proofs.Names.{set, false, ap, counted_ok, without, goes_on_twice, StoreState, owed_at}
 use Rattle.std.proofs.Common.{◌∙◌}
 use Rattle.object_cache.proofs.Leading.{continues_cached, put_on}
 use Rattle.object_cache.proofs.Outcomes.{on_err}
@@ -7,13 +7,16 @@ use Rattle.object_cache.proofs.cache.Cache.put_away.Goals as goal
 
 pub returns-in_err-write_back-clause-continues : goal.returns-in_err-write_back-clause-continues
 returns-in_err-write_back-clause-continues g c =
-    goes_on_twice g.D.Device.disk g.met.D.Device.counts_now c.args.self.now c.pay.new.self c.write_back.new.self c.pay.ensures.continues c.write_back.ensures.continues
+    goes_on_twice g.D.Device.disk g.met.D.Device.counts_now c.args.self.now c.pay.new.self c.write_back.new.self c.pay.ensures.continues
+    c.write_back.ensures.continues
 
 pub returns-clause-continues : goal.returns-clause-continues
 returns-clause-continues g c =
     rw c.drop_entry.ensures
-    (continues_cached g.D.Device.disk c.args.self.now c.write_back.new.self (set c.write_back.new.self.cached c.args.number None) c.write_back.new.self.owed (without c.args.number c.write_back.new.self.order)
-    (goes_on_twice g.D.Device.disk g.met.D.Device.counts_now c.args.self.now c.pay.new.self c.write_back.new.self c.pay.ensures.continues c.write_back.ensures.continues))
+    (continues_cached g.D.Device.disk c.args.self.now c.write_back.new.self (set c.write_back.new.self.cached c.args.number false) c.write_back.new.self.owed
+    (without c.args.number c.write_back.new.self.order)
+    (goes_on_twice g.D.Device.disk g.met.D.Device.counts_now c.args.self.now c.pay.new.self c.write_back.new.self c.pay.ensures.continues
+    c.write_back.ensures.continues))
 
 pub pay-requires : goal.pay-requires
 pay-requires g c = c.requires.fetched
@@ -31,16 +34,19 @@ pub write_back-requires-clause-fetched : goal.write_back-requires-clause-fetched
 write_back-requires-clause-fetched g c = fetched_on c.args.self.now c.pay.new.self c.args.number c.pay.ensures.put c.requires.fetched
 
 pub write_back-requires-clause-keepable : goal.write_back-requires-clause-keepable
-write_back-requires-clause-keepable g c = keepable_on g.D.Device.disk c.args.self.now c.pay.new.self c.args.number c.pay.ensures.put c.pay.ensures.continues c.requires.keepable
+write_back-requires-clause-keepable g c = keepable_on g.D.Device.disk c.args.self.now c.pay.new.self c.args.number c.pay.ensures.put c.pay.ensures.continues
+    c.requires.keepable
 
 pub returns-in_err-write_back-clause-stays : goal.returns-in_err-write_back-clause-stays
-returns-in_err-write_back-clause-stays g c = on_err c.from_residual-in_err-write_back.result (put_on c.args.self.now c.pay.new.self c.write_back.new.self c.pay.ensures.put c.write_back.ensures.put)
+returns-in_err-write_back-clause-stays g c = on_err c.from_residual-in_err-write_back.result
+    (put_on c.args.self.now c.pay.new.self c.write_back.new.self c.pay.ensures.put c.write_back.ensures.put)
 
 pub returns-in_err-write_back-clause-empty : goal.returns-in_err-write_back-clause-empty
 returns-in_err-write_back-clause-empty g c = λ empty. c.write_back.ensures.staging ∙ c.pay.ensures.empty empty
 
 pub drop_entry-requires-clause-fetched : goal.drop_entry-requires-clause-fetched
-drop_entry-requires-clause-fetched g c = fetched_on c.args.self.now c.write_back.new.self c.args.number (put_on c.args.self.now c.pay.new.self c.write_back.new.self c.pay.ensures.put c.write_back.ensures.put) c.requires.fetched
+drop_entry-requires-clause-fetched g c = fetched_on c.args.self.now c.write_back.new.self c.args.number
+    (put_on c.args.self.now c.pay.new.self c.write_back.new.self c.pay.ensures.put c.write_back.ensures.put) c.requires.fetched
 
 pub drop_entry-requires-clause-clean : goal.drop_entry-requires-clause-clean
 drop_entry-requires-clause-clean g c = c.in_ok-write_back.ensures.clean
@@ -49,14 +55,18 @@ pub drop_entry-requires-clause-owed : goal.drop_entry-requires-clause-owed
 drop_entry-requires-clause-owed g c = ap (λ os. owed_at os c.args.number) c.write_back.ensures.owed ∙ c.in_ok-pay.ensures.paid
 
 pub drop_entry-requires-clause-masked : goal.drop_entry-requires-clause-masked
-drop_entry-requires-clause-masked g c = masked_on g.D.Device.disk c.args.self.now c.write_back.new.self c.args.number (put_on c.args.self.now c.pay.new.self c.write_back.new.self c.pay.ensures.put c.write_back.ensures.put) c.requires.keepable
+drop_entry-requires-clause-masked g c = masked_on g.D.Device.disk c.args.self.now c.write_back.new.self c.args.number
+    (put_on c.args.self.now c.pay.new.self c.write_back.new.self c.pay.ensures.put c.write_back.ensures.put) c.requires.keepable
 
 pub returns-clause-away : goal.returns-clause-away
-returns-clause-away g c = away_on c.args.self.now c.write_back.new.self c.drop_entry.new.self c.args.number (put_on c.args.self.now c.pay.new.self c.write_back.new.self c.pay.ensures.put c.write_back.ensures.put) c.drop_entry.ensures
+returns-clause-away g c = away_on c.args.self.now c.write_back.new.self c.drop_entry.new.self c.args.number
+    (put_on c.args.self.now c.pay.new.self c.write_back.new.self c.pay.ensures.put c.write_back.ensures.put) c.drop_entry.ensures
 
 pub returns-clause-empty : goal.returns-clause-empty
-returns-clause-empty g c = λ empty. ap (λ (t : StoreState g.row.D.Denot). t.staging) c.drop_entry.ensures ∙ c.write_back.ensures.staging ∙ c.pay.ensures.empty empty
+returns-clause-empty g c = λ empty. ap (λ (t : StoreState g.row.D.Denot). t.staging) c.drop_entry.ensures ∙ c.write_back.ensures.staging ∙
+    c.pay.ensures.empty empty
 
 pub returns-clause-cause : goal.returns-clause-cause
 returns-clause-cause g c =
-    ok_counts (ap (λ (t : StoreState g.row.D.Denot). (g.D.Device.disk t.durable.beneath).failures) c.drop_entry.ensures ∙ counted_ok c.in_ok-write_back.ensures.cause ∙ counted_ok c.in_ok-pay.ensures.cause)
+    ok_counts (ap (λ (t : StoreState g.row.D.Denot). (g.D.Device.disk t.durable.beneath).failures) c.drop_entry.ensures ∙
+    counted_ok c.in_ok-write_back.ensures.cause ∙ counted_ok c.in_ok-pay.ensures.cause)

@@ -6,12 +6,14 @@ use Rattle.object_cache.proofs.Turns.{few_left, none_marked}
 use Rattle.object_cache.proofs.cache.Cache.put_next.Goals as goal
 
 pub returns-in-None-clause-fewer : goal.returns-in-None-clause-fewer
-returns-in-None-clause-fewer g c = omega (arith, none_marked c.self.inside.pending (c.next.ensures.none c.in-None.is), ap (λ (t : StoreState g.row.D.Denot). pending_count t) c.self.view_is)
+returns-in-None-clause-fewer g c = omega
+    (arith, none_marked c.self.inside.pending (c.next.ensures.none c.in-None.is), ap (λ (t : StoreState g.row.D.Denot). pending_count t) c.self.view_is)
 
 pub returns-then-is_held-clause-fewer : goal.returns-then-is_held-clause-fewer
 returns-then-is_held-clause-fewer g c =
     let held = sym (c.is_held.ensures ∙ ap (λ (t : StoreState g.row.D.Denot). is_some t.staging) c.self.view_is) ∙ c.if-is_held.true in
-    ok_then c.empty_staging.result c.empty_staging.ensures.fewer (λ fewer. let less = fewer (λ none. true≢false (sym held ∙ ap is_some none)) in omega (arith, less))
+    ok_then c.empty_staging.result c.empty_staging.ensures.fewer
+    (λ fewer. let less = fewer (λ none. true≢false (sym held ∙ ap is_some none)) in omega (arith, less))
 
 pub returns-then-is_held-clause-few : goal.returns-then-is_held-clause-few
 returns-then-is_held-clause-few g c =

@@ -16,7 +16,8 @@ pub returns-then-owes-clause-fewer : goal.returns-then-owes-clause-fewer
 returns-then-owes-clause-fewer g c = c.put_own_frozen.ensures.fewer
 
 pub returns-then-owes-clause-put : goal.returns-then-owes-clause-put
-returns-then-owes-clause-put g c = paid_put c.put_own_frozen.result c.args.self.now c.put_own_frozen.new.self c.args.number c.put_own_frozen.ensures.put c.put_own_frozen.ensures.unput
+returns-then-owes-clause-put g c = paid_put c.put_own_frozen.result c.args.self.now c.put_own_frozen.new.self c.args.number c.put_own_frozen.ensures.put
+    c.put_own_frozen.ensures.unput
 
 pub returns-then-owes-clause-continues : goal.returns-then-owes-clause-continues
 returns-then-owes-clause-continues g c = c.put_own_frozen.ensures.continues

@@ -7,7 +7,9 @@ use Rattle.object_cache.proofs.cache.Cache.use_now.Goals as goal
 pub invariant_of-self : goal.invariant_of-self
 invariant_of-self g c =
     let i = c.self.inside in
-    whichever c.promote.result (λ (e : EntriesState). IsCache (stored_of g.D.Device.disk i.durable) (memory_of i.table i.frozen_headers i.touched i.dirty i.pending e.at i.staging) i.left i.count × (8 ≤ e.most))
+    whichever c.promote.result
+    (λ (e : EntriesState). IsCache (stored_of g.D.Device.disk i.durable) (memory_of i.table i.frozen_headers i.touched i.dirty i.pending e.at i.staging)
+    i.left i.count × (8 ≤ e.most))
     c.promote.new.self (used_now c.args.number i.entries) i.entries c.promote.ensures.used c.promote.ensures.unchanged c.self.invariant c.self.invariant
 
 pub returns-clause-fetched : goal.returns-clause-fetched

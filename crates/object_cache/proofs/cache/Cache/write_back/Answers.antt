@@ -8,16 +8,20 @@ pub put_present-requires-clause-keepable : goal.put_present-requires-clause-keep
 put_present-requires-clause-keepable g c = c.requires.keepable
 
 pub returns-then-contains-clause-clean : goal.returns-then-contains-clause-clean
-returns-then-contains-clause-clean g c = written_clean c.put_present.result c.args.self.now c.put_present.new.self c.args.number c.put_present.ensures.put c.put_present.ensures.unput
+returns-then-contains-clause-clean g c = written_clean c.put_present.result c.args.self.now c.put_present.new.self c.args.number c.put_present.ensures.put
+    c.put_present.ensures.unput
 
 pub returns-then-contains-clause-owed : goal.returns-then-contains-clause-owed
-returns-then-contains-clause-owed g c = (written_same c.put_present.result c.args.self.now c.put_present.new.self c.args.number c.put_present.ensures.put c.put_present.ensures.unput).0
+returns-then-contains-clause-owed g c =
+    (written_same c.put_present.result c.args.self.now c.put_present.new.self c.args.number c.put_present.ensures.put c.put_present.ensures.unput).0
 
 pub returns-then-contains-clause-put : goal.returns-then-contains-clause-put
-returns-then-contains-clause-put g c = (written_same c.put_present.result c.args.self.now c.put_present.new.self c.args.number c.put_present.ensures.put c.put_present.ensures.unput).2
+returns-then-contains-clause-put g c =
+    (written_same c.put_present.result c.args.self.now c.put_present.new.self c.args.number c.put_present.ensures.put c.put_present.ensures.unput).2
 
 pub returns-then-contains-clause-staging : goal.returns-then-contains-clause-staging
-returns-then-contains-clause-staging g c = (written_same c.put_present.result c.args.self.now c.put_present.new.self c.args.number c.put_present.ensures.put c.put_present.ensures.unput).1
+returns-then-contains-clause-staging g c =
+    (written_same c.put_present.result c.args.self.now c.put_present.new.self c.args.number c.put_present.ensures.put c.put_present.ensures.unput).1
 
 pub returns-then-contains-clause-continues : goal.returns-then-contains-clause-continues
 returns-then-contains-clause-continues g c = c.put_present.ensures.continues

@@ -7,11 +7,14 @@ pub returns-then-is_none : goal.returns-then-is_none
 returns-then-is_none c =
     let old = c.args.self.now in
     let to = c.args.step.to in
-    let none : found_at old to ≡ None = get_or_default old.found.items to None c.index.result.now c.requires.known ∙ sym c.index.ensures ∙ none_of c.index.result.now c.if-is_none.ensures in
-    added old _ to (record { level = c.args.level; step = Some c.args.step }) none c.requires.known refl c.args.step c.args.level refl refl refl c.requires.level c.max-self.ensures
+    let none : found_at old to ≡ None = get_or_default old.found.items to None c.index.result.now c.requires.known ∙ sym c.index.ensures ∙
+    none_of c.index.result.now c.if-is_none.ensures in
+    added old _ to (record { level = c.args.level; step = Some c.args.step }) none c.requires.known refl c.args.step c.args.level refl refl refl
+    c.requires.level c.max-self.ensures
 
 pub returns-else-is_none : goal.returns-else-is_none
 returns-else-is_none c =
     let old = c.args.self.now in
     let some = some_of c.index.result.now c.if-is_none.ensures in
-    added_before c.args.step c.args.level some.0 old (get_or_default old.found.items c.args.step.to None c.index.result.now c.requires.known ∙ sym c.index.ensures ∙ some.1)
+    added_before c.args.step c.args.level some.0 old
+    (get_or_default old.found.items c.args.step.to None c.index.result.now c.requires.known ∙ sym c.index.ensures ∙ some.1)

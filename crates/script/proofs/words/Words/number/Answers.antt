@@ -15,15 +15,18 @@ returns-in_err-front c =
 pub returns : goal.returns
 returns c =
     let view : words_of c.in_ok-rest.rest.now ≡ c.args.self.now = rw c.in_ok-rest.was at c.self.view_is in
-    number_gives (Some c.in_ok-front.front.number) (first_word c.in_ok-rest.rest.now) c.args.self.now (words_left (option_map (λ r. r.now) c.behind_first-self-inside.result))
+    number_gives (Some c.in_ok-front.front.number) (first_word c.in_ok-rest.rest.now) c.args.self.now
+    (words_left (option_map (λ r. r.now) c.behind_first-self-inside.result))
     (sym view ∙ c.behind_first-self-inside.ensures) c.in_ok-front.ensures.found tt
 
 pub returns-then-is_ascii_digit : goal.returns-then-is_ascii_digit
 returns-then-is_ascii_digit c =
     let view : words_of c.in_ok-rest.rest.now ≡ c.args.self.now = rw c.in_ok-rest.was at c.self.view_is in
-    ap number_at (sym view) ∙ digit_alone c.in_ok-rest.rest.now c.from.result c.in-len2-up.len_at_least c.if-space-eq32.true c.if-is_ascii_digit.ensures.cases c.from.ensures
+    ap number_at (sym view) ∙ digit_alone c.in_ok-rest.rest.now c.from.result c.in-len2-up.len_at_least c.if-space-eq32.true c.if-is_ascii_digit.ensures.cases
+    c.from.ensures
 
 pub returns-then-is_ascii_digit-2 : goal.returns-then-is_ascii_digit-2
 returns-then-is_ascii_digit-2 c =
     let view : words_of c.in_ok-rest.rest.now ≡ c.args.self.now = rw c.in_ok-rest.was at c.self.view_is in
-    ap number_at (sym view) ∙ digit_last c.in_ok-rest.rest.now c.from-then-is_ascii_digit-2.result c.in-len1.len_at_least c.in-len1.len_below c.if-is_ascii_digit-2.ensures.cases c.from-then-is_ascii_digit-2.ensures
+    ap number_at (sym view) ∙ digit_last c.in_ok-rest.rest.now c.from-then-is_ascii_digit-2.result c.in-len1.len_at_least c.in-len1.len_below
+    c.if-is_ascii_digit-2.ensures.cases c.from-then-is_ascii_digit-2.ensures

@@ -7,10 +7,10 @@ use Rattle.space_bank.proofs.banks.Banks.carry_out.Goals as goal
 
 pub make_one-requires : goal.make_one-requires
 make_one-requires g c =
-    let p = g.F.PresentFrames.parts c.args.store.now in
+    let p = g.F.Frames.parts c.args.store.now in
     let list = drop c.args.skip c.args.self.now.listed in
     let m = subst (λ (x : BankChange). MayMake p.geometry (objects_in p) list x) c.in-Make.is c.requires.may in
-    let fetched = subst (λ (x : BankChange). All (g.F.PresentFrames.IsFetched c.args.store.now) (numbers_of x)) c.in-Make.is c.requires.fetched in
+    let fetched = subst (λ (x : BankChange). All (g.F.Frames.IsFetched c.args.store.now) (numbers_of x)) c.in-Make.is c.requires.fetched in
     let announced = subst (λ (ns : List ℕ). All (g.F.PresentFrames.IsAnnounced c.args.store.now) ns) m.listed c.requires.announced in
     record {
       asks = record { sound = c.requires.sound; counted = c.requires.counted; bank = m.bank };
@@ -27,17 +27,18 @@ returns-in-Make-clause-objects g c = rw c.in-Make.is c.make_one.ensures.objects
 
 pub returns-in-Make-clause-snapshots : goal.returns-in-Make-clause-snapshots
 returns-in-Make-clause-snapshots g c =
-    let os = objects_in (g.F.PresentFrames.parts c.args.store.now) in
-    let us = objects_in (g.F.PresentFrames.parts c.make_one.new.store) in
-    snapshots_alone g.F.PresentFrames.parts g.F.PresentFrames.IsFetched g.F.PresentFrames.IsAnnounced g.F.PresentFrames.ContinuesTo c.args.store.now c.make_one.new.store c.make_one.ensures.snapshots
+    let os = objects_in (g.F.Frames.parts c.args.store.now) in
+    let us = objects_in (g.F.Frames.parts c.make_one.new.store) in
+    snapshots_alone g.F.Frames.parts g.F.Frames.IsFetched g.F.PresentFrames.IsAnnounced g.F.Frames.ContinuesTo c.args.store.now c.make_one.new.store
+    c.make_one.ensures.snapshots
     (new_stays os us c.in-Make.number c.in-Make.bank (fresh_content Void c.in-Make.fresh) (fresh_used c.in-Make.fresh) c.make_one.ensures.objects)
 
 pub new_process-requires : goal.new_process-requires
 new_process-requires g c =
-    let p = g.F.PresentFrames.parts c.args.store.now in
+    let p = g.F.Frames.parts c.args.store.now in
     let list = drop c.args.skip c.args.self.now.listed in
     let m = subst (λ (x : BankChange). MayMake p.geometry (objects_in p) list x) c.in-MakeProcess.is c.requires.may in
-    let fetched = subst (λ (x : BankChange). All (g.F.PresentFrames.IsFetched c.args.store.now) (numbers_of x)) c.in-MakeProcess.is c.requires.fetched in
+    let fetched = subst (λ (x : BankChange). All (g.F.Frames.IsFetched c.args.store.now) (numbers_of x)) c.in-MakeProcess.is c.requires.fetched in
     let announced = subst (λ (ns : List ℕ). All (g.F.PresentFrames.IsAnnounced c.args.store.now) ns) m.listed c.requires.announced in
     record {
       asks = record { sound = c.requires.sound; counted = c.requires.counted; bank = m.bank };
@@ -58,18 +59,19 @@ returns-in-MakeProcess-clause-objects g c = rw c.in-MakeProcess.is c.new_process
 
 pub returns-in-MakeProcess-clause-snapshots : goal.returns-in-MakeProcess-clause-snapshots
 returns-in-MakeProcess-clause-snapshots g c =
-    let os = objects_in (g.F.PresentFrames.parts c.args.store.now) in
-    let us = objects_in (g.F.PresentFrames.parts c.new_process.new.store) in
+    let os = objects_in (g.F.Frames.parts c.args.store.now) in
+    let us = objects_in (g.F.Frames.parts c.new_process.new.store) in
     let root = c.in-MakeProcess.root in
     let annex = c.in-MakeProcess.annex in
     let bank = c.in-MakeProcess.bank in
     let mid = with_new os root bank (new_root annex) in
-    snapshots_alone g.F.PresentFrames.parts g.F.PresentFrames.IsFetched g.F.PresentFrames.IsAnnounced g.F.PresentFrames.ContinuesTo c.args.store.now c.new_process.new.store c.new_process.ensures.snapshots
+    snapshots_alone g.F.Frames.parts g.F.Frames.IsFetched g.F.PresentFrames.IsAnnounced g.F.Frames.ContinuesTo c.args.store.now c.new_process.new.store
+    c.new_process.ensures.snapshots
     (λ n used. new_stays mid us annex bank new_annex refl c.new_process.ensures.objects n (new_stays os mid root bank (new_root annex) refl refl n used))
 
 pub give_up-requires : goal.give_up-requires
 give_up-requires g c =
-    let p = g.F.PresentFrames.parts c.args.store.now in
+    let p = g.F.Frames.parts c.args.store.now in
     let m = subst (λ (x : BankChange). MayMake p.geometry (objects_in p) (drop c.args.skip c.args.self.now.listed) x) c.in-GiveUp.is c.requires.may in
     record {
       asks = record { sound = c.requires.sound; counted = c.requires.counted; bank = m.bank };
@@ -83,7 +85,7 @@ returns-in-GiveUp-clause-objects g c = rw c.in-GiveUp.is c.give_up.ensures.objec
 
 pub return_to_parent-requires : goal.return_to_parent-requires
 return_to_parent-requires g c =
-    let p = g.F.PresentFrames.parts c.args.store.now in
+    let p = g.F.Frames.parts c.args.store.now in
     let m = subst (λ (x : BankChange). MayMake p.geometry (objects_in p) (drop c.args.skip c.args.self.now.listed) x) c.in-Transfer.is c.requires.may in
     record {
       asks = record { sound = c.requires.sound; counted = c.requires.counted; bank = m.bank };

@@ -5,12 +5,12 @@ use Rattle.space_bank.proofs.banks.Banks.destroy.Goals as goal
 
 pub give_up-requires-clause-asks : goal.give_up-requires-clause-asks
 give_up-requires-clause-asks g c =
-    let p = g.F.PresentFrames.parts c.args.store.now in
+    let p = g.F.Frames.parts c.args.store.now in
     serve_parent p c.args.self.now c.args.bank _ c.requires.asks (owner_read p c.table.result.now _ c.args.bank c.table.ensures c.header-parent.ensures)
 
 pub give_up-requires-clause-gives : goal.give_up-requires-clause-gives
 give_up-requires-clause-gives g c =
-    let p = g.F.PresentFrames.parts c.args.store.now in
+    let p = g.F.Frames.parts c.args.store.now in
     let os = objects_in p in
     let owner = owner_read p c.table.result.now _ c.args.bank c.table.ensures c.header-parent.ensures in
     rw owner (subst (λ (list : List ℕ). MayGiveUp os (owner_at os c.args.bank) list) (sym c.requires.listed)
@@ -18,4 +18,4 @@ give_up-requires-clause-gives g c =
 
 pub give_up-requires-clause-within : goal.give_up-requires-clause-within
 give_up-requires-clause-within g c =
-    under_within (g.F.PresentFrames.parts c.args.store.now) c.args.self.now c.args.bank c.args.self.now.listed c.args.skip c.requires.asks c.requires.listed
+    under_within (g.F.Frames.parts c.args.store.now) c.args.self.now c.args.bank c.args.self.now.listed c.args.skip c.requires.asks c.requires.listed

@@ -10,41 +10,45 @@ release-requires-clause-enough g c =
     let s = c.args.self.now in
     let count : c.len.result - c.args.skip ≡ length (drop c.args.skip s.listed) =
     omega (arith, length-drop c.args.skip s.listed, c.len.ensures, ap (λ (k : BanksState). length k.listed) c.self.view_is, c.self.inside.listed.ok.0) in
-    rw count (enough_used (g.F.PresentFrames.parts c.args.store.now) s c.args.above (drop c.args.skip s.listed) c.requires.asks c.requires.gives)
+    rw count (enough_used (g.F.Frames.parts c.args.store.now) s c.args.above (drop c.args.skip s.listed) c.requires.asks c.requires.gives)
 
 pub rescind-requires-clause-allocations : goal.rescind-requires-clause-allocations
 rescind-requires-clause-allocations g c =
-    let p = g.F.PresentFrames.parts c.args.store.now in
+    let p = g.F.Frames.parts c.args.store.now in
     let s = c.args.self.now in
-    let known : AreKnown p (drop c.args.skip s.listed) = λ k d inside. (g.met.F.PresentFrames.known_announced c.args.store.now _ (c.requires.announced k d inside)).0 in
+    let known : AreKnown p (drop c.args.skip s.listed) = λ k d inside.
+    (g.met.F.PresentFrames.known_announced c.args.store.now _ (c.requires.announced k d inside)).0 in
     let part = rest_is c.deref.result.now s.listed c.args.skip
     (c.deref.ensures.value ∙ (ap (λ (k : BanksState). k.listed) c.self-2.view_is ∙ ap (λ (k : BanksState). k.listed) c.release.ensures.kept)) in
     rw part (list_allocations p s c.args.above c.requires.asks (drop c.args.skip s.listed) known)
 
 pub rescind-requires-clause-calls : goal.rescind-requires-clause-calls
 rescind-requires-clause-calls g c =
-    let p = g.F.PresentFrames.parts c.args.store.now in
+    let p = g.F.Frames.parts c.args.store.now in
     let s = c.args.self.now in
-    let known : AreKnown p (drop c.args.skip s.listed) = λ k d inside. (g.met.F.PresentFrames.known_announced c.args.store.now _ (c.requires.announced k d inside)).0 in
+    let known : AreKnown p (drop c.args.skip s.listed) = λ k d inside.
+    (g.met.F.PresentFrames.known_announced c.args.store.now _ (c.requires.announced k d inside)).0 in
     let part = rest_is c.deref.result.now s.listed c.args.skip
     (c.deref.ensures.value ∙ (ap (λ (k : BanksState). k.listed) c.self-2.view_is ∙ ap (λ (k : BanksState). k.listed) c.release.ensures.kept)) in
     rw part (list_calls p s c.args.above c.requires.asks (drop c.args.skip s.listed) known)
 
 pub mark_free-requires-clause-known : goal.mark_free-requires-clause-known
 mark_free-requires-clause-known g c =
-    let p = g.F.PresentFrames.parts c.args.store.now in
+    let p = g.F.Frames.parts c.args.store.now in
     let s = c.args.self.now in
-    let known : AreKnown p (drop c.args.skip s.listed) = λ k d inside. (g.met.F.PresentFrames.known_announced c.args.store.now _ (c.requires.announced k d inside)).0 in
+    let known : AreKnown p (drop c.args.skip s.listed) = λ k d inside.
+    (g.met.F.PresentFrames.known_announced c.args.store.now _ (c.requires.announced k d inside)).0 in
     let part = rest_is c.deref-2.result.now s.listed c.args.skip
     (c.deref-2.ensures.value ∙ (ap (λ (k : BanksState). k.listed) c.self-2.view_is ∙ ap (λ (k : BanksState). k.listed) c.release.ensures.kept)) in
     let marks : length c.self-2.inside.nodes + length c.self-2.inside.pages ≡ length s.free_nodes + length s.free_pages =
-    ap (λ (k : BanksState). length k.free_nodes + length k.free_pages) c.self-2.view_is ∙ ap (λ (k : BanksState). length k.free_nodes + length k.free_pages) c.release.ensures.kept in
+    ap (λ (k : BanksState). length k.free_nodes + length k.free_pages) c.self-2.view_is ∙ ap (λ (k : BanksState). length k.free_nodes + length k.free_pages)
+    c.release.ensures.kept in
     rw (part, marks) (list_marks p s c.args.above c.requires.asks (drop c.args.skip s.listed) known)
 
 pub returns-clause-carried : goal.returns-clause-carried
 returns-clause-carried g c =
-    let p = g.F.PresentFrames.parts c.args.store.now in
-    let q = g.F.PresentFrames.parts c.rescind.new.store in
+    let p = g.F.Frames.parts c.args.store.now in
+    let q = g.F.Frames.parts c.rescind.new.store in
     let s = c.args.self.now in
     let list = drop c.args.skip s.listed in
     let banks = chain (objects_in p) c.args.above in
@@ -67,11 +71,11 @@ returns-clause-carried g c =
 
 pub returns-clause-snapshots : goal.returns-clause-snapshots
 returns-clause-snapshots g c =
-    let os = objects_in (g.F.PresentFrames.parts c.args.store.now) in
+    let os = objects_in (g.F.Frames.parts c.args.store.now) in
     let s = c.args.self.now in
     let part = rest_is c.deref.result.now s.listed c.args.skip
     (c.deref.ensures.value ∙ (ap (λ (k : BanksState). k.listed) c.self-2.view_is ∙ ap (λ (k : BanksState). k.listed) c.release.ensures.kept)) in
-    ended_snapshots g.F.PresentFrames.parts g.F.PresentFrames.IsFetched g.F.PresentFrames.IsAnnounced g.F.PresentFrames.ContinuesTo c.args.store.now c.rescind.new.store
+    ended_snapshots g.F.Frames.parts g.F.Frames.IsFetched g.F.PresentFrames.IsAnnounced g.F.Frames.ContinuesTo c.args.store.now c.rescind.new.store
     (take (length c.deref.result.now - c.args.skip) (drop c.args.skip c.deref.result.now))
     c.rescind.ensures.given_up c.rescind.ensures.objects
     (subst (λ (xs : List ℕ). (n : ℕ) → is_member xs n ≡ true → is_free (content_at os n) ≡ false) (sym part) c.requires.gives.used)

@@ -6,7 +6,7 @@ use Rattle.space_bank.proofs.banks.Banks.least_left.Goals as goal
 
 pub left-least-requires : goal.left-least-requires
 left-least-requires g c =
-    let p = g.F.PresentFrames.parts c.args.store.now in
+    let p = g.F.Frames.parts c.args.store.now in
     record {
       usage = usage_known p c.args.self.now c.args.bank c.requires;
       limit = limit_known p c.args.self.now c.args.bank c.requires;
@@ -15,7 +15,7 @@ left-least-requires g c =
 
 pub loop-step-init : goal.loop-step-init
 loop-step-init g c =
-    let p = g.F.PresentFrames.parts c.args.store.now in
+    let p = g.F.Frames.parts c.args.store.now in
     let os = objects_in p in
     record {
       same = least_begun os c.args.bank c.left-least.result (c.left-least.ensures ∙ left_counted p c.args.self.now c.args.bank c.requires);
@@ -24,7 +24,7 @@ loop-step-init g c =
 
 pub left-requires : goal.left-requires
 left-requires g c =
-    let p = g.F.PresentFrames.parts c.args.store.now in
+    let p = g.F.Frames.parts c.args.store.now in
     record {
       usage = usage_known p c.args.self.now c.loop-step.current c.loop-step.invariant.there;
       limit = limit_known p c.args.self.now c.loop-step.current c.loop-step.invariant.there;
@@ -33,25 +33,29 @@ left-requires g c =
 
 pub returns-then-current-eq0 : goal.returns-then-current-eq0
 returns-then-current-eq0 g c =
-    let p = g.F.PresentFrames.parts c.args.store.now in
+    let p = g.F.Frames.parts c.args.store.now in
     let os = objects_in p in
-    let here : c.left.result ≡ left_of os c.loop-step.current = c.left.ensures ∙ left_counted p c.args.self.now c.loop-step.current c.loop-step.invariant.there in
+    let here : c.left.result ≡ left_of os c.loop-step.current = c.left.ensures ∙ left_counted p c.args.self.now c.loop-step.current c.loop-step.invariant.there
+    in
     sym (c.loop-step.invariant.same
-    ∙ least_last os c.loop-step._step c.loop-step.current c.loop-step.least c.left.result c.min-least.result c.loop-step-test.true here c.min-least.ensures c.if-current-eq0.true)
+    ∙ least_last os c.loop-step._step c.loop-step.current c.loop-step.least c.left.result c.min-least.result c.loop-step-test.true here c.min-least.ensures
+    c.if-current-eq0.true)
 
 pub loop-step-preserved : goal.loop-step-preserved
 loop-step-preserved g c =
-    let p = g.F.PresentFrames.parts c.args.store.now in
+    let p = g.F.Frames.parts c.args.store.now in
     let os = objects_in p in
-    let here : c.left.result ≡ left_of os c.loop-step.current = c.left.ensures ∙ left_counted p c.args.self.now c.loop-step.current c.loop-step.invariant.there in
+    let here : c.left.result ≡ left_of os c.loop-step.current = c.left.ensures ∙ left_counted p c.args.self.now c.loop-step.current c.loop-step.invariant.there
+    in
     record {
       same = c.loop-step.invariant.same
-          ∙ least_next os c.loop-step._step c.loop-step.current c.loop-step.least c.left.result c.min-least.result c.loop-step-test.true here c.min-least.ensures c.owner-current.result c.if-current-eq0.false c.owner-current.ensures;
+          ∙ least_next os c.loop-step._step c.loop-step.current c.loop-step.least c.left.result c.min-least.result c.loop-step-test.true here
+          c.min-least.ensures c.owner-current.result c.if-current-eq0.false c.owner-current.ensures;
       there = owner_is_bank p c.args.self.now c.loop-step.current c.loop-step.invariant.there c.owner-current.result c.owner-current.ensures;
     }
 
 pub returns : goal.returns
 returns g c =
-    let os = objects_in (g.F.PresentFrames.parts c.args.store.now) in
+    let os = objects_in (g.F.Frames.parts c.args.store.now) in
     let past = chain_past os c.loop-step._step c.loop-step.current c.loop-step-test.false in
     sym (c.loop-step.invariant.same ∙ least_on os c.loop-step.least (chain_within (16 - c.loop-step._step) os c.loop-step.current) [] past)

@@ -4,9 +4,9 @@ use Rattle.space_bank.proofs.Plans.{bank_roles}
 use Rattle.space_bank.proofs.banks.Banks.list_under.Goals as goal
 
 pub list_under-requires-clause-roles : goal.list_under-requires-clause-roles
-list_under-requires-clause-roles g c = bank_roles (g.F.PresentFrames.parts c.args.store.now) c.args.self.now c.args.bank c.requires.bank
+list_under-requires-clause-roles g c = bank_roles (g.F.Frames.parts c.args.store.now) c.args.self.now c.args.bank c.requires.bank
 
 pub list_under-requires-clause-free : goal.list_under-requires-clause-free
 list_under-requires-clause-free g c =
-    bank_free (g.F.PresentFrames.parts c.args.store.now) c.args.self.now c.args.bank c.requires.bank c.self.inside.nodes c.self.inside.pages
+    bank_free (g.F.Frames.parts c.args.store.now) c.args.self.now c.args.bank c.requires.bank c.self.inside.nodes c.self.inside.pages
     (ap (λ (s : BanksState). s.free_nodes) c.self.view_is) (ap (λ (s : BanksState). s.free_pages) c.self.view_is)

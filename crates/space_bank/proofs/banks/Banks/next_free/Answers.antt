@@ -6,7 +6,7 @@ use Rattle.space_bank.proofs.banks.Banks.next_free.Goals as goal
 
 pub returns-in-Page-clause-made : goal.returns-in-Page-clause-made
 returns-in-Page-clause-made g c =
-    let p = g.F.PresentFrames.parts c.args.store.now in
+    let p = g.F.Frames.parts c.args.store.now in
     let os = objects_in p in
     let marks = c.self.inside.pages in
     let are = ap (λ (s : BanksState). s.free_pages) c.self.view_is in
@@ -17,7 +17,7 @@ returns-in-Page-clause-made g c =
 
 pub returns-in-Node-clause-made : goal.returns-in-Node-clause-made
 returns-in-Node-clause-made g c =
-    let p = g.F.PresentFrames.parts c.args.store.now in
+    let p = g.F.Frames.parts c.args.store.now in
     let os = objects_in p in
     let marks = c.self.inside.nodes in
     let are = ap (λ (s : BanksState). s.free_nodes) c.self.view_is in
@@ -27,7 +27,7 @@ returns-in-Node-clause-made g c =
 
 pub returns-in-Process-clause-made : goal.returns-in-Process-clause-made
 returns-in-Process-clause-made g c =
-    let p = g.F.PresentFrames.parts c.args.store.now in
+    let p = g.F.Frames.parts c.args.store.now in
     let os = objects_in p in
     let marks = c.self.inside.nodes in
     let are = ap (λ (s : BanksState). s.free_nodes) c.self.view_is in
@@ -37,7 +37,7 @@ returns-in-Process-clause-made g c =
 
 pub returns-in-Bank-clause-made : goal.returns-in-Bank-clause-made
 returns-in-Bank-clause-made g c =
-    let p = g.F.PresentFrames.parts c.args.store.now in
+    let p = g.F.Frames.parts c.args.store.now in
     let os = objects_in p in
     let marks = c.self.inside.nodes in
     let are = ap (λ (s : BanksState). s.free_nodes) c.self.view_is in

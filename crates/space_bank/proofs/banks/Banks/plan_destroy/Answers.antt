@@ -7,16 +7,17 @@ use Rattle.space_bank.proofs.banks.Banks.plan_destroy.Goals as goal
 
 pub returns-then-bank-eq0-clause-planned : goal.returns-then-bank-eq0-clause-planned
 returns-then-bank-eq0-clause-planned g c = λ args.
-    let p = g.F.PresentFrames.parts c.args.store.now in
+    let p = g.F.Frames.parts c.args.store.now in
     let os = objects_in p in
     let first = c.args.self.now.listed in
     planned_none p c.args.bank bank.Destroy args first first c.refused.result
-    (refused_as p.geometry os c.args.bank bank.Destroy args c.refused.result code.PrimeBank (λ us frame. destroy_prime p.geometry us c.args.bank args c.if-bank-eq0.true)
+    (refused_as p.geometry os c.args.bank bank.Destroy args c.refused.result code.PrimeBank
+    (λ us frame. destroy_prime p.geometry us c.args.bank args c.if-bank-eq0.true)
     c.refused.ensures) refl
 
 pub list_under-requires : goal.list_under-requires
 list_under-requires g c =
-    let p = g.F.PresentFrames.parts c.args.store.now in
+    let p = g.F.Frames.parts c.args.store.now in
     record {
       bank = c.requires.bank;
       room = bank_room p c.args.self.now c.args.bank c.requires.bank (length c.args.self.now.listed) c.requires.few;
@@ -24,7 +25,7 @@ list_under-requires g c =
 
 pub returns-clause-planned : goal.returns-clause-planned
 returns-clause-planned g c = λ args.
-    let p = g.F.PresentFrames.parts c.args.store.now in
+    let p = g.F.Frames.parts c.args.store.now in
     let os = objects_in p in
     let first = c.args.self.now.listed in
     planned_as p c.args.bank bank.Destroy args first c.list_under.new.self.listed c.changed.result (under os c.args.bank)

@@ -9,20 +9,22 @@ use Rattle.space_bank.proofs.banks.Banks.plan_return.Goals as goal
 
 pub returns-then-bank-eq0-clause-planned : goal.returns-then-bank-eq0-clause-planned
 returns-then-bank-eq0-clause-planned g c = λ args.
-    let p = g.F.PresentFrames.parts c.args.store.now in
+    let p = g.F.Frames.parts c.args.store.now in
     let os = objects_in p in
     let first = c.args.self.now.listed in
     planned_none p c.args.bank bank.ReturnToParent args first first c.refused.result
-    (refused_as p.geometry os c.args.bank bank.ReturnToParent args c.refused.result code.PrimeBank (λ us frame. return_prime p.geometry us c.args.bank args c.if-bank-eq0.true)
+    (refused_as p.geometry os c.args.bank bank.ReturnToParent args c.refused.result code.PrimeBank
+    (λ us frame. return_prime p.geometry us c.args.bank args c.if-bank-eq0.true)
     c.refused.ensures) refl
 
 pub list_owned-requires-clause-bank : goal.list_owned-requires-clause-bank
 list_owned-requires-clause-bank g c =
-    bank_listing (g.F.PresentFrames.parts c.args.store.now) c.args.self.now c.args.bank c.requires.bank c.list.new.self (c.args.self.now.listed ++ c.args.bank ∷ []) c.list.ensures
+    bank_listing (g.F.Frames.parts c.args.store.now) c.args.self.now c.args.bank c.requires.bank c.list.new.self (c.args.self.now.listed ++ c.args.bank ∷ [])
+    c.list.ensures
 
 pub list_owned-requires-clause-room : goal.list_owned-requires-clause-room
 list_owned-requires-clause-room g c =
-    let p = g.F.PresentFrames.parts c.args.store.now in
+    let p = g.F.Frames.parts c.args.store.now in
     let first = c.args.self.now.listed in
     omega (
       arith,
@@ -34,7 +36,7 @@ list_owned-requires-clause-room g c =
 
 pub returns-clause-planned : goal.returns-clause-planned
 returns-clause-planned g c = λ args.
-    let p = g.F.PresentFrames.parts c.args.store.now in
+    let p = g.F.Frames.parts c.args.store.now in
     let os = objects_in p in
     let first = c.args.self.now.listed in
     let own = owned_by os c.args.bank in

@@ -13,18 +13,18 @@ use Rattle.space_bank.proofs.banks.Banks.return_to_parent.Goals as goal
 
 pub release-requires-clause-asks : goal.release-requires-clause-asks
 release-requires-clause-asks g c =
-    let p = g.F.PresentFrames.parts c.args.store.now in
+    let p = g.F.Frames.parts c.args.store.now in
     serve_parent p c.args.self.now c.args.bank _ c.requires.asks (owner_read p c.table.result.now _ c.args.bank c.table.ensures c.header-parent.ensures)
 
 pub release-requires-clause-enough : goal.release-requires-clause-enough
 release-requires-clause-enough g c =
-    let p = g.F.PresentFrames.parts c.args.store.now in
+    let p = g.F.Frames.parts c.args.store.now in
     rw (owner_read p c.table.result.now _ c.args.bank c.table.ensures c.header-parent.ensures)
     (one_enough p c.args.self.now c.args.bank c.requires.asks c.requires.other)
 
 pub transfer-requires-clause-announced : goal.transfer-requires-clause-announced
 transfer-requires-clause-announced g c =
-    let os = objects_in (g.F.PresentFrames.parts c.args.store.now) in
+    let os = objects_in (g.F.Frames.parts c.args.store.now) in
     let s = c.args.self.now in
     let announced = g.F.PresentFrames.IsAnnounced c.args.store.now in
     let part : take (length c.deref.result.now - (c.args.skip + 1)) (drop (c.args.skip + 1) c.deref.result.now) ≡ owned_by os c.args.bank =
@@ -36,7 +36,7 @@ transfer-requires-clause-announced g c =
 
 pub transfer-requires-clause-used : goal.transfer-requires-clause-used
 transfer-requires-clause-used g c =
-    let os = objects_in (g.F.PresentFrames.parts c.args.store.now) in
+    let os = objects_in (g.F.Frames.parts c.args.store.now) in
     let s = c.args.self.now in
     let part : take (length c.deref.result.now - (c.args.skip + 1)) (drop (c.args.skip + 1) c.deref.result.now) ≡ owned_by os c.args.bank =
     rest_is c.deref.result.now s.listed (c.args.skip + 1)
@@ -46,14 +46,14 @@ transfer-requires-clause-used g c =
 
 pub rescind-requires-clause-announced : goal.rescind-requires-clause-announced
 rescind-requires-clause-announced g c =
-    let os = objects_in (g.F.PresentFrames.parts c.args.store.now) in
+    let os = objects_in (g.F.Frames.parts c.args.store.now) in
     let first = subst (λ (list : List ℕ). All (g.F.PresentFrames.IsAnnounced c.args.store.now) list) c.requires.listed c.requires.announced 0 0 (omega arith) in
     one_all (g.F.PresentFrames.IsAnnounced c.transfer.new.store) c.args.bank (c.transfer.ensures.snapshots.announced c.args.bank first)
 
 pub rescind-requires-clause-allocations : goal.rescind-requires-clause-allocations
 rescind-requires-clause-allocations g c =
-    let p = g.F.PresentFrames.parts c.args.store.now in
-    let q = g.F.PresentFrames.parts c.transfer.new.store in
+    let p = g.F.Frames.parts c.args.store.now in
+    let q = g.F.Frames.parts c.transfer.new.store in
     let first = subst (λ (list : List ℕ). All (g.F.PresentFrames.IsAnnounced c.args.store.now) list) c.requires.listed c.requires.announced 0 0 (omega arith) in
     let known = g.met.F.PresentFrames.known_announced c.transfer.new.store c.args.bank (c.transfer.ensures.snapshots.announced c.args.bank first) in
     one_all (λ n. (header_at q.headers n).allocations < 2 ^ 64 - 1) c.args.bank
@@ -61,8 +61,8 @@ rescind-requires-clause-allocations g c =
 
 pub rescind-requires-clause-calls : goal.rescind-requires-clause-calls
 rescind-requires-clause-calls g c =
-    let p = g.F.PresentFrames.parts c.args.store.now in
-    let q = g.F.PresentFrames.parts c.transfer.new.store in
+    let p = g.F.Frames.parts c.args.store.now in
+    let q = g.F.Frames.parts c.transfer.new.store in
     let first = subst (λ (list : List ℕ). All (g.F.PresentFrames.IsAnnounced c.args.store.now) list) c.requires.listed c.requires.announced 0 0 (omega arith) in
     let known = g.met.F.PresentFrames.known_announced c.transfer.new.store c.args.bank (c.transfer.ensures.snapshots.announced c.args.bank first) in
     one_all (λ n. (header_at q.headers n).calls < 2 ^ 64 - 1) c.args.bank
@@ -70,9 +70,9 @@ rescind-requires-clause-calls g c =
 
 pub returns-clause-objects : goal.returns-clause-objects
 returns-clause-objects g c =
-    let p = g.F.PresentFrames.parts c.args.store.now in
+    let p = g.F.Frames.parts c.args.store.now in
     let os = objects_in p in
-    let us = objects_in (g.F.PresentFrames.parts c.transfer.new.store) in
+    let us = objects_in (g.F.Frames.parts c.transfer.new.store) in
     let s = c.args.self.now in
     let owner = owner_read p c.table.result.now _ c.args.bank c.table.ensures c.header-parent.ensures in
     let part : take (length c.deref.result.now - (c.args.skip + 1)) (drop (c.args.skip + 1) c.deref.result.now) ≡ owned_by os c.args.bank =
@@ -86,9 +86,9 @@ returns-clause-objects g c =
 
 pub returns-clause-carried : goal.returns-clause-carried
 returns-clause-carried g c =
-    let p = g.F.PresentFrames.parts c.args.store.now in
-    let q = g.F.PresentFrames.parts c.transfer.new.store in
-    let r = g.F.PresentFrames.parts c.rescind.new.store in
+    let p = g.F.Frames.parts c.args.store.now in
+    let q = g.F.Frames.parts c.transfer.new.store in
+    let r = g.F.Frames.parts c.rescind.new.store in
     let os = objects_in p in
     let us = objects_in q in
     let s = c.args.self.now in
@@ -107,27 +107,38 @@ returns-clause-carried g c =
     let first = subst (λ (list : List ℕ). All (g.F.PresentFrames.IsAnnounced c.args.store.now) list) c.requires.listed c.requires.announced 0 0 (omega arith) in
     let known = (g.met.F.PresentFrames.known_announced c.args.store.now b first).0 in
     let marks : length (c.self.inside.nodes ++ c.self.inside.pages) ≡ length (s.free_nodes ++ s.free_pages) =
-    ap (λ (k : BanksState). length (k.free_nodes ++ k.free_pages)) c.self.view_is ∙ ap (λ (k : BanksState). length (k.free_nodes ++ k.free_pages)) c.release.ensures.kept in
+    ap (λ (k : BanksState). length (k.free_nodes ++ k.free_pages)) c.self.view_is ∙
+    ap (λ (k : BanksState). length (k.free_nodes ++ k.free_pages)) c.release.ensures.kept in
     let inside : b < length (c.self.inside.nodes ++ c.self.inside.pages) =
-    omega (arith, known, marks, length-append s.free_nodes s.free_pages, serve_count p s b c.requires.asks, c.requires.asks.counted.nodes, c.requires.asks.counted.pages) in
+    omega (
+      arith,
+      known,
+      marks,
+      length-append s.free_nodes s.free_pages,
+      serve_count p s b c.requires.asks,
+      c.requires.asks.counted.nodes,
+      c.requires.asks.counted.pages,
+    ) in
     returned_carried p s b c.requires.asks c.requires.other r _ us transferred
     (released_then banks 1 s c.release.new.self _ c.mark.new.nodes c.mark.new.pages (b ∷ []) raised c.release.ensures.kept c.self.view_is
-    c.mark.ensures.nodes c.mark.ensures.pages (mark_one (c.self.inside.nodes ++ c.self.inside.pages) (c.mark.new.nodes ++ c.mark.new.pages) b inside c.mark.ensures.marks))
+    c.mark.ensures.nodes c.mark.ensures.pages
+    (mark_one (c.self.inside.nodes ++ c.self.inside.pages) (c.mark.new.nodes ++ c.mark.new.pages) b inside c.mark.ensures.marks))
     c.rescind.ensures.objects c.rescind.ensures.current
     (λ age few k. subst (λ (h : Geometry). AreKeepable h (age + 1) (frames_of r)) c.transfer.ensures.snapshots.geometry
-    (c.rescind.ensures.keepable age few (subst (λ (h : Geometry). AreKeepable h age (frames_of q)) (sym c.transfer.ensures.snapshots.geometry) (c.transfer.ensures.keepable age k))))
+    (c.rescind.ensures.keepable age few
+    (subst (λ (h : Geometry). AreKeepable h age (frames_of q)) (sym c.transfer.ensures.snapshots.geometry) (c.transfer.ensures.keepable age k))))
 
 pub returns-clause-snapshots : goal.returns-clause-snapshots
 returns-clause-snapshots g c =
-    let q = g.F.PresentFrames.parts c.transfer.new.store in
-    let os = objects_in (g.F.PresentFrames.parts c.args.store.now) in
+    let q = g.F.Frames.parts c.transfer.new.store in
+    let os = objects_in (g.F.Frames.parts c.args.store.now) in
     let us = objects_in q in
     let list = take (length c.deref.result.now - (c.args.skip + 1)) (drop (c.args.skip + 1) c.deref.result.now) in
-    let free : SameFree (g.F.PresentFrames.parts c.args.store.now) q =
+    let free : SameFree (g.F.Frames.parts c.args.store.now) q =
     λ n. ap (λ (k : Content Capability). is_free k) (transferred_same list c.header-parent.result.owner os us c.transfer.ensures.objects n) in
-    snapshots_then_ended g.F.PresentFrames.parts g.F.PresentFrames.IsFetched g.F.PresentFrames.IsAnnounced g.F.PresentFrames.ContinuesTo g.met.F.PresentFrames.continues_twice
+    snapshots_then_ended g.F.Frames.parts g.F.Frames.IsFetched g.F.PresentFrames.IsAnnounced g.F.Frames.ContinuesTo g.met.F.Frames.continues_twice
     c.args.store.now c.transfer.new.store c.rescind.new.store c.transfer.ensures.snapshots free
-    (ended_snapshots g.F.PresentFrames.parts g.F.PresentFrames.IsFetched g.F.PresentFrames.IsAnnounced g.F.PresentFrames.ContinuesTo c.transfer.new.store c.rescind.new.store
+    (ended_snapshots g.F.Frames.parts g.F.Frames.IsFetched g.F.PresentFrames.IsAnnounced g.F.Frames.ContinuesTo c.transfer.new.store c.rescind.new.store
     (c.args.bank ∷ []) c.rescind.ensures.given_up c.rescind.ensures.objects
     (λ n member. free n ∙ only_used os c.args.bank c.requires.asks.bank n member)
     c.rescind.ensures.fetched c.rescind.ensures.announced c.rescind.ensures.continues)

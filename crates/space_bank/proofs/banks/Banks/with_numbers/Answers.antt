@@ -6,20 +6,21 @@ use Rattle.space_bank.proofs.banks.Banks.with_numbers.Goals as goal
 
 pub free_numbers-requires-2-clause-fits : goal.free_numbers-requires-2-clause-fits
 free_numbers-requires-2-clause-fits g c =
-    let p = g.F.PresentFrames.parts c.args.store.now in
+    let p = g.F.Frames.parts c.args.store.now in
     let sound = c.requires.sound in
-    numbers_fit p c.table.result.now c.geometry-geometry.result c.count.result c.table.ensures c.count.ensures c.count.type_inv c.geometry-geometry.ensures.geometry
+    numbers_fit p c.table.result.now c.geometry-geometry.result c.count.result c.table.ensures c.count.ensures c.count.type_inv
+    c.geometry-geometry.ensures.geometry
     (keepable_count p.geometry sound.0 p sound.1.keepable)
 
 pub count_usages-requires-clause-roles : goal.count_usages-requires-clause-roles
 count_usages-requires-clause-roles g c =
-    let p = g.F.PresentFrames.parts c.args.store.now in
+    let p = g.F.Frames.parts c.args.store.now in
     let sound = c.requires.sound in
     keepable_roles p.geometry sound.0 (frames_of p) sound.1.keepable
 
 pub returns : goal.returns
 returns g c =
-    let p = g.F.PresentFrames.parts c.args.store.now in
+    let p = g.F.Frames.parts c.args.store.now in
     let os = objects_in p in
     let sound = c.requires.sound in
     let count = keepable_count p.geometry sound.0 p sound.1.keepable in
@@ -37,17 +38,18 @@ returns g c =
     } in
     counted_from p.geometry os made (λ b bank. bank_number p.geometry b (content_at os b) (sound.1.sound.kinds b) bank)
     (λ q root. root_number p.geometry q (content_at os q) (sound.1.sound.kinds q) root)
-    c.geometry-geometry.result c.geometry-geometry.ensures.geometry c.in_ok-nodes.ensures c.in_ok-pages.ensures c.in_ok-usages.ensures.size c.in_ok-usages.ensures.counted
+    c.geometry-geometry.result c.geometry-geometry.ensures.geometry c.in_ok-nodes.ensures c.in_ok-pages.ensures c.in_ok-usages.ensures.size
+    c.in_ok-usages.ensures.counted
     c.requires.kept room
 
 pub free_numbers-requires-2-clause-roles : goal.free_numbers-requires-2-clause-roles
 free_numbers-requires-2-clause-roles g c =
-    let p = g.F.PresentFrames.parts c.args.store.now in
+    let p = g.F.Frames.parts c.args.store.now in
     let sound = c.requires.sound in
     keepable_roles p.geometry sound.0 (frames_of p) sound.1.keepable
 
 pub count_usages-requires-clause-each : goal.count_usages-requires-clause-each
 count_usages-requires-clause-each g c = λ b bank.
-    let p = g.F.PresentFrames.parts c.args.store.now in
+    let p = g.F.Frames.parts c.args.store.now in
     let below = bank_number p.geometry b (content_at (objects_in p) b) (c.requires.sound.1.sound.kinds b) bank in
     subst (λ (h : Geometry). b < h.nodes) (sym c.geometry-geometry.ensures.geometry) below

@@ -7,4 +7,5 @@ pub returns-then-KEEPS_ALL-clause-fetched : goal.returns-then-KEEPS_ALL-clause-f
 returns-then-KEEPS_ALL-clause-fetched g c =
     on_ok c.make_writable.result (λ n has. c.make_writable.ensures.fetched n
     (c.self.invariant (sym c.KEEPS_ALL.ensures ∙ c.if-KEEPS_ALL.true) n
-    (subst (λ (t : StoreState g.row.D.Denot). n < length t.headers) (sym c.self.view_is) (All-contains (λ k. k < length c.args.self.now.headers) c.args.fetched.now n c.requires.known has))))
+    (subst (λ (t : StoreState g.row.D.Denot). n < length t.headers) (sym c.self.view_is)
+    (All-contains (λ k. k < length c.args.self.now.headers) c.args.fetched.now n c.requires.known has))))

@@ -1,0 +1,288 @@
+-- Bodies by place.
+use Rattle.cache_entries.proofs.Names.{inl, inr, ℕ, Bool, true, false, List, [], length, set, get_or, replicate, Option, Some, None, IsSome, is_some}
+use Rattle.cache_entries.proofs.Names.{true≢false, refl, sym, ap, subst, arith, length-set, cases_eq, cases_lt, get_or-set_same, get_or-set_other, get_or_past}
+use Rattle.cache_entries.proofs.Names.{get_or_default, get_or-map-range_with_len, length-map-range_with_len, get_or-replicate, length-replicate, set-get_or}
+use Rattle.cache_entries.proofs.Names.{fill_by_all, item_at, Kind, Content, Cap, held_at, with_word_in, with_slot_in, AreBodies, HasRoom, kind_at, kind_of}
+use Rattle.cache_entries.proofs.Names.{content_in, content_at, contents_in, with_words_of, with_slots_of, words_are_of, slots_are_of, is_root_kind, slots_from}
+use Rattle.cache_entries.proofs.Names.{take, take_more, length-take-le, with_root_in, with_slots_in, Root}
+use Rattle.std.proofs.Common.{◌≡◌, ◌≢◌, ◌+◌, ◌<◌, ◌≤◌, ◌∷◌, ◌++◌, ◌∙◌}
+use Rattle.model.specs.declared.object.Content.TheVariants as content
+use Rattle.cache_entries.specs.declared.bodies.Kind.TheVariants as kind
+use Rattle.cache_entries.proofs.Lists.{changed_once}
+
+length_contents : (ks : List Kind) (ps : List (Option (List ℕ))) (ns : List (Option (List Cap))) → length (contents_in ks ps ns) ≡ length ks
+unfolding contents_in
+length_contents ks ps ns = length-map-range_with_len (content_at ks ps ns) 0 (length ks)
+
+read : (ks : List Kind) (ps : List (Option (List ℕ))) (ns : List (Option (List Cap))) (k : ℕ) → held_at (contents_in ks ps ns) k ≡ content_at ks ps ns k
+unfolding contents_in
+read ks ps ns k = elim (cases_lt k (length ks)) [
+  | inl within ↦ get_or-map-range_with_len (content_at ks ps ns) 0 (length ks) k k content.Free within (omega arith)
+  | inr past ↦
+      get_or_past (contents_in ks ps ns) k content.Free (omega (arith, past, length_contents ks ps ns))
+      ∙ sym (ap (λ (b : Kind). content_in b (item_at ps k) (item_at ns k)) (get_or_past ks k kind.Free past))
+]
+
+-- what a body of a kind has
+word_room : (a : Kind) (w : List ℕ) (s : Option (List Cap)) → words_are_of a ≡ true → HasRoom a (Some w) s
+word_room kind.Free w s is = absurd (true≢false (sym is))
+word_room kind.Page w s is = refl
+word_room kind.Node w s is = absurd (true≢false (sym is))
+word_room (kind.Root root) w s is = absurd (true≢false (sym is))
+word_room kind.Annex w s is = absurd (true≢false (sym is))
+word_room (kind.Bank limit) w s is = absurd (true≢false (sym is))
+
+slot_room : (a : Kind) (o : Option (List ℕ)) (t : List Cap) → slots_are_of a ≡ true → HasRoom a o (Some t)
+slot_room kind.Free o t is = absurd (true≢false (sym is))
+slot_room kind.Page o t is = absurd (true≢false (sym is))
+slot_room kind.Node o t is = refl
+slot_room (kind.Root root) o t is = absurd (true≢false (sym is))
+slot_room kind.Annex o t is = refl
+slot_room (kind.Bank limit) o t is = absurd (true≢false (sym is))
+
+some_words : (a : Kind) (o : Option (List ℕ)) (s : Option (List Cap)) → words_are_of a ≡ true → HasRoom a o s → IsSome o
+some_words kind.Free o s is room = absurd (true≢false (sym is))
+some_words kind.Page o s is room = room
+some_words kind.Node o s is room = absurd (true≢false (sym is))
+some_words (kind.Root root) o s is room = absurd (true≢false (sym is))
+some_words kind.Annex o s is room = absurd (true≢false (sym is))
+some_words (kind.Bank limit) o s is room = absurd (true≢false (sym is))
+
+some_slots : (a : Kind) (o : Option (List ℕ)) (s : Option (List Cap)) → slots_are_of a ≡ true → HasRoom a o s → IsSome s
+some_slots kind.Free o s is room = absurd (true≢false (sym is))
+some_slots kind.Page o s is room = absurd (true≢false (sym is))
+some_slots kind.Node o s is room = room
+some_slots (kind.Root root) o s is room = absurd (true≢false (sym is))
+some_slots kind.Annex o s is room = room
+some_slots (kind.Bank limit) o s is room = absurd (true≢false (sym is))
+
+-- a body is another one
+pub record Puts (ks : List Kind) (ps : List (Option (List ℕ))) (ns : List (Option (List Cap))) (after : List (Content Cap)) : Type 0 where
+  pub are : AreBodies ks ps ns
+  pub contents : contents_in ks ps ns ≡ after
+
+-- a root of a content
+module _ (root : Root Cap) where
+  pub root_in : (a : Kind) (o : Option (List ℕ)) (s : Option (List Cap)) → is_root_kind a ≡ true → with_root_in (λ r. root) (content_in a o s) ≡
+      content.Root root
+  root_in kind.Free o s is = absurd (true≢false (sym is))
+  root_in kind.Page o s is = absurd (true≢false (sym is))
+  root_in kind.Node o s is = absurd (true≢false (sym is))
+  root_in (kind.Root old) o s is = refl
+  root_in kind.Annex o s is = absurd (true≢false (sym is))
+  root_in (kind.Bank limit) o s is = absurd (true≢false (sym is))
+
+  pub no_root : (a : Kind) (o : Option (List ℕ)) (s : Option (List Cap)) → is_root_kind a ≡ false → content_in a o s ≡ with_root_in (λ r. root)
+      (content_in a o s)
+  no_root kind.Free o s none = refl
+  no_root kind.Page o s none = refl
+  no_root kind.Node o s none = refl
+  no_root (kind.Root old) o s none = absurd (true≢false none)
+  no_root kind.Annex o s none = refl
+  no_root (kind.Bank limit) o s none = refl
+
+module _ (ks : List Kind) (ps : List (Option (List ℕ))) (ns : List (Option (List Cap))) (are : AreBodies ks ps ns) (v : List (Content Cap))
+    (view : contents_in ks ps ns ≡ v)
+    (k : ℕ) (within : k < length v) where
+  pub kind_within : k < length ks
+  kind_within = omega (arith, within, ap length view, length_contents ks ps ns)
+
+  pub page_within : k < length ps
+  page_within = omega (arith, kind_within, are.pages)
+
+  pub node_within : k < length ns
+  node_within = omega (arith, kind_within, are.nodes)
+
+  replaced : (qs : List (Option (List ℕ))) (ms : List (Option (List Cap))) (b : Kind) (c : Content Cap) → length qs ≡ length ps → length ms ≡ length ns →
+      ((m : ℕ) → m ≢ k → item_at qs m ≡ item_at ps m) → ((m : ℕ) → m ≢ k → item_at ms m ≡ item_at ns m) →
+      HasRoom b (item_at qs k) (item_at ms k) → content_in b (item_at qs k) (item_at ms k) ≡ c → Puts (set ks k b) qs ms (set v k c)
+  replaced qs ms b c pages nodes same_pages same_nodes room is =
+      let here : kind_at (set ks k b) k ≡ b = get_or-set_same ks k b kind.Free kind_within in record {
+        are = record {
+          pages = omega (arith, pages, are.pages, length-set ks k b);
+          nodes = omega (arith, nodes, are.nodes, length-set ks k b);
+          room = λ m. elim (cases_eq m k) [
+            | inl same ↦
+                subst (λ (i : ℕ). HasRoom (kind_at (set ks k b) i) (item_at qs i) (item_at ms i)) (sym same)
+                (subst (λ (a : Kind). HasRoom a (item_at qs k) (item_at ms k)) (sym here) room)
+            | inr other ↦ rw (get_or-set_other ks k m b kind.Free other, same_pages m other, same_nodes m other) (are.room m)
+          ];
+        };
+        contents =
+            changed_once (contents_in ks ps ns) (contents_in (set ks k b) qs ms) k content.Free c
+            (length_contents (set ks k b) qs ms ∙ length-set ks k b ∙ sym (length_contents ks ps ns))
+            (omega (arith, kind_within, length_contents ks ps ns))
+            (read (set ks k b) qs ms k ∙ ap (λ (a : Kind). content_in a (item_at qs k) (item_at ms k)) here ∙ is)
+            (λ m other. read (set ks k b) qs ms m ∙ rw (get_or-set_other ks k m b kind.Free other, same_pages m other, same_nodes m other)
+            (sym (read ks ps ns m)))
+            ∙ ap (λ (cs : List (Content Cap)). set cs k c) view;
+      }
+
+  worded : (b : Kind) (w : List ℕ) (c : Content Cap) → HasRoom b (Some w) (item_at ns k) → content_in b (Some w) (item_at ns k) ≡ c →
+      Puts (set ks k b) (set ps k (Some w)) ns (set v k c)
+  worded b w c room is =
+      let here : item_at (set ps k (Some w)) k ≡ Some w = get_or-set_same ps k (Some w) None page_within in
+      replaced (set ps k (Some w)) ns b c (length-set ps k (Some w)) refl (λ m other. get_or-set_other ps k m (Some w) None other) (λ m other. refl)
+      (subst (λ (o : Option (List ℕ)). HasRoom b o (item_at ns k)) (sym here) room)
+      (ap (λ (o : Option (List ℕ)). content_in b o (item_at ns k)) here ∙ is)
+
+  slotted : (b : Kind) (s : List Cap) (c : Content Cap) → HasRoom b (item_at ps k) (Some s) → content_in b (item_at ps k) (Some s) ≡ c →
+      Puts (set ks k b) ps (set ns k (Some s)) (set v k c)
+  slotted b s c room is =
+      let here : item_at (set ns k (Some s)) k ≡ Some s = get_or-set_same ns k (Some s) None node_within in
+      replaced ps (set ns k (Some s)) b c refl (length-set ns k (Some s)) (λ m other. refl) (λ m other. get_or-set_other ns k m (Some s) None other)
+      (subst (λ (o : Option (List Cap)). HasRoom b (item_at ps k) o) (sym here) room)
+      (ap (λ (o : Option (List Cap)). content_in b (item_at ps k) o) here ∙ is)
+
+  bare : (b : Kind) (c : Content Cap) → HasRoom b (item_at ps k) (item_at ns k) → content_in b (item_at ps k) (item_at ns k) ≡ c → Puts (set ks k b) ps ns
+      (set v k c)
+  bare b c room is = replaced ps ns b c refl refl (λ m other. refl) (λ m other. refl) room is
+
+  pub puts : (c : Content Cap) → Puts (set ks k (kind_of c)) (with_words_of c k ps) (with_slots_of c k ns) (set v k c)
+  puts content.Free = bare kind.Free content.Free tt refl
+  puts (content.Page words) = worded kind.Page words (content.Page words) refl refl
+  puts (content.Node slots) = slotted kind.Node slots (content.Node slots) refl refl
+  puts (content.Root root) = bare (kind.Root root) (content.Root root) tt refl
+  puts (content.Annex slots) = slotted kind.Annex slots (content.Annex slots) refl refl
+  puts (content.Bank limit) = bare (kind.Bank limit) (content.Bank limit) tt refl
+
+  module _ (b : Kind) (b_is : b ≡ get_or ks k b) where
+    there : b ≡ kind_at ks k
+    there = b_is ∙ get_or_default ks k b kind.Free kind_within
+
+    pub room_of : HasRoom b (item_at ps k) (item_at ns k)
+    room_of = subst (λ (a : Kind). HasRoom a (item_at ps k) (item_at ns k)) (sym there) (are.room k)
+
+    pub held : held_at v k ≡ content_in b (item_at ps k) (item_at ns k)
+    held =
+        ap (λ (cs : List (Content Cap)). held_at cs k) (sym view) ∙ read ks ps ns k
+        ∙ ap (λ (a : Kind). content_in a (item_at ps k) (item_at ns k)) (sym there)
+
+    same_kinds : set ks k b ≡ ks
+    same_kinds = ap (set ks k) there ∙ set-get_or ks k kind.Free
+
+    pub unchanged : (c : Content Cap) → content_in b (item_at ps k) (item_at ns k) ≡ c → v ≡ set v k c
+    unchanged c is = sym (set-get_or v k content.Free) ∙ ap (set v k) (held ∙ is)
+
+    module _ (index word : ℕ) where
+      no_words : (a : Kind) (o : Option (List ℕ)) (s : Option (List Cap)) → words_are_of a ≡ false → content_in a o s ≡ with_word_in (content_in a o s)
+          index word
+      no_words kind.Page o s none = absurd (true≢false none)
+      no_words kind.Free o s none = refl
+      no_words kind.Node o s none = refl
+      no_words (kind.Root root) o s none = refl
+      no_words kind.Annex o s none = refl
+      no_words (kind.Bank limit) o s none = refl
+
+      pub no_page : words_are_of b ≡ false → v ≡ set v k (with_word_in (held_at v k) index word)
+      no_page none =
+          unchanged (with_word_in (content_in b (item_at ps k) (item_at ns k)) index word) (no_words b (item_at ps k) (item_at ns k) none)
+          ∙ ap (λ (c : Content Cap). set v k (with_word_in c index word)) (sym held)
+
+      word_in : (a : Kind) (w : List ℕ) (s : Option (List Cap)) → words_are_of a ≡ true → with_word_in (content_in a (Some w) s) index word ≡ content_in a
+          (Some (set w index word)) s
+      word_in kind.Page w s is = refl
+      word_in kind.Free w s is = absurd (true≢false (sym is))
+      word_in kind.Node w s is = absurd (true≢false (sym is))
+      word_in (kind.Root root) w s is = absurd (true≢false (sym is))
+      word_in kind.Annex w s is = absurd (true≢false (sym is))
+      word_in (kind.Bank limit) w s is = absurd (true≢false (sym is))
+
+      pub word_put : words_are_of b ≡ true → (w : List ℕ) → item_at ps k ≡ Some w →
+          Puts ks (set ps k (Some (set w index word))) ns (set v k (with_word_in (held_at v k) index word))
+      word_put is w here =
+          let after : content_in b (Some (set w index word)) (item_at ns k) ≡ with_word_in (held_at v k) index word =
+          sym (word_in b w (item_at ns k) is) ∙ ap (λ (c : Content Cap). with_word_in c index word)
+          (ap (λ (o : Option (List ℕ)). content_in b o (item_at ns k)) (sym here) ∙ sym held) in
+          subst (λ (js : List Kind). Puts js (set ps k (Some (set w index word))) ns (set v k (with_word_in (held_at v k) index word))) same_kinds
+          (worded b (set w index word) (with_word_in (held_at v k) index word) (word_room b (set w index word) (item_at ns k) is) after)
+
+    pub slots_there : slots_are_of b ≡ true → IsSome (item_at ns k)
+    slots_there is = some_slots b (item_at ps k) (item_at ns k) is room_of
+
+    pub words_there : words_are_of b ≡ true → IsSome (item_at ps k)
+    words_there is = some_words b (item_at ps k) (item_at ns k) is room_of
+
+    pub root_put : (root : Root Cap) → is_root_kind b ≡ true → Puts (set ks k (kind.Root root)) ps ns (set v k (with_root_in (λ r. root) (held_at v k)))
+    root_put root is =
+        bare (kind.Root root) (with_root_in (λ r. root) (held_at v k)) tt
+        (sym (ap (with_root_in (λ r. root)) held ∙ root_in root b (item_at ps k) (item_at ns k) is))
+
+    pub no_root_there : (root : Root Cap) → is_root_kind b ≡ false → v ≡ set v k (with_root_in (λ r. root) (held_at v k))
+    no_root_there root none =
+        unchanged (with_root_in (λ r. root) (content_in b (item_at ps k) (item_at ns k))) (no_root root b (item_at ps k) (item_at ns k) none)
+        ∙ ap (λ (c : Content Cap). set v k (with_root_in (λ r. root) c)) (sym held)
+
+    -- the slots of a body are others
+    pub slots_put : slots_are_of b ≡ true → (s t : List Cap) → item_at ns k ≡ Some s → (change : Content Cap → Content Cap) →
+        ((a : Kind) → slots_are_of a ≡ true → change (content_in a (item_at ps k) (Some s)) ≡ content_in a (item_at ps k) (Some t)) →
+        Puts ks ps (set ns k (Some t)) (set v k (change (held_at v k)))
+    slots_put is s t here change changes =
+        let after : content_in b (item_at ps k) (Some t) ≡ change (held_at v k) =
+        sym (changes b is) ∙ ap change (ap (content_in b (item_at ps k)) (sym here) ∙ sym held) in
+        subst (λ (js : List Kind). Puts js ps (set ns k (Some t)) (set v k (change (held_at v k)))) same_kinds
+        (slotted b t (change (held_at v k)) (slot_room b (item_at ps k) t is) after)
+
+    pub no_slots : slots_are_of b ≡ false → (change : Content Cap → Content Cap) →
+        ((a : Kind) (o : Option (List ℕ)) (s : Option (List Cap)) → slots_are_of a ≡ false → change (content_in a o s) ≡ content_in a o s) →
+        v ≡ set v k (change (held_at v k))
+    no_slots none change same =
+        unchanged (change (content_in b (item_at ps k) (item_at ns k))) (sym (same b (item_at ps k) (item_at ns k) none))
+        ∙ ap (λ (c : Content Cap). set v k (change c)) (sym held)
+
+-- a slot of a content
+module _ (slot : ℕ) (c : Cap) where
+  pub slot_in : (o : Option (List ℕ)) (s : List Cap) (a : Kind) → slots_are_of a ≡ true → with_slot_in (content_in a o (Some s)) slot c ≡ content_in a o
+      (Some (set s slot c))
+  slot_in o s kind.Node is = refl
+  slot_in o s kind.Annex is = refl
+  slot_in o s kind.Page is = absurd (true≢false (sym is))
+  slot_in o s kind.Free is = absurd (true≢false (sym is))
+  slot_in o s (kind.Root root) is = absurd (true≢false (sym is))
+  slot_in o s (kind.Bank limit) is = absurd (true≢false (sym is))
+
+  pub no_slot : (a : Kind) (o : Option (List ℕ)) (s : Option (List Cap)) → slots_are_of a ≡ false → with_slot_in (content_in a o s) slot c ≡ content_in a o s
+  no_slot kind.Node o s none = absurd (true≢false none)
+  no_slot kind.Annex o s none = absurd (true≢false none)
+  no_slot kind.Page o s none = refl
+  no_slot kind.Free o s none = refl
+  no_slot (kind.Root root) o s none = refl
+  no_slot (kind.Bank limit) o s none = refl
+
+all_held : (ks : List Kind) (ps : List (Option (List ℕ))) (ns : List (Option (List Cap))) → ((k : ℕ) → kind_at ks k ≡ kind.Free) → replicate (length ks)
+    content.Free ≡ contents_in ks ps ns
+unfolding contents_in
+all_held ks ps ns free =
+    (fill_by_all (content_at ks ps ns) (replicate (length ks) content.Free) (length ks) content.Free (length-replicate (length ks) content.Free)
+    (λ k below. get_or-replicate (length ks) k content.Free content.Free below ∙ sym (ap (λ (a : Kind). content_in a (item_at ps k) (item_at ns k)) (free k))))
+
+-- slots of a content from one on
+pub slots_in : (o : Option (List ℕ)) (s : List Cap) (i : ℕ) (cs : List Cap) (a : Kind) → slots_are_of a ≡ true →
+    with_slots_in (content_in a o (Some s)) i cs ≡ content_in a o (Some (slots_from s i cs))
+slots_in o s i [] a is = refl
+slots_in o s i (c ∷ cs) a is =
+    ap (λ (d : Content Cap). with_slots_in d (i + 1) cs) (slot_in i c o s a is) ∙ slots_in o (set s i c) (i + 1) cs a is
+
+pub no_slots_in : (i : ℕ) (cs : List Cap) (a : Kind) (o : Option (List ℕ)) (s : Option (List Cap)) → slots_are_of a ≡ false → with_slots_in
+    (content_in a o s) i cs ≡ content_in a o s
+no_slots_in i [] a o s none = refl
+no_slots_in i (c ∷ cs) a o s none = ap (λ (d : Content Cap). with_slots_in d (i + 1) cs) (no_slot i c a o s none) ∙ no_slots_in (i + 1) cs a o s none
+
+-- no place holds anything at first
+pub none_held : (n : ℕ) (ks : List Kind) (ps : List (Option (List ℕ))) (ns : List (Option (List Cap))) → ks ≡ replicate n kind.Free → ps ≡ replicate n
+    None → ns ≡ replicate n None →
+    Puts ks ps ns (replicate n content.Free)
+none_held n ks ps ns kinds pages nodes =
+    let count : length ks ≡ n = ap length kinds ∙ length-replicate n kind.Free in
+    let free : (k : ℕ) → kind_at ks k ≡ kind.Free = λ k. ap (λ (js : List Kind). kind_at js k) kinds ∙ elim (cases_lt k n) [
+      | inl below ↦ get_or-replicate n k kind.Free kind.Free below
+      | inr past ↦ get_or_past (replicate n kind.Free) k kind.Free (omega (arith, past, length-replicate n kind.Free))
+    ] in
+    record {
+      are = record {
+        pages = omega (arith, ap length pages, length-replicate {A = Option (List ℕ)} n None, count);
+        nodes = omega (arith, ap length nodes, length-replicate {A = Option (List Cap)} n None, count);
+        room = λ k. subst (λ (a : Kind). HasRoom a (item_at ps k) (item_at ns k)) (sym (free k)) tt;
+      };
+      contents = sym (all_held ks ps ns free) ∙ ap (λ (m : ℕ). replicate m content.Free) count;
+    }

@@ -1,0 +1,469 @@
+-- Places of numbers.
+use Rattle.cache_entries.proofs.Names.{inl, inr, ℕ, zero, suc, Bool, true, false, true≢false, List, [], length, map, set, take, get_or, Option, Some, None}
+use Rattle.cache_entries.proofs.Names.{is_some, refl, sym, ap, subst, arith, nat_eq, eqb-true, nat_lt, cond, cases_eq, cases_lt, lt-ltb, le-ltb, length-map}
+use Rattle.cache_entries.proofs.Names.{length-set, length-take-le, length-append, take_all, get_or_default, get_or-replicate, length-replicate, replicate}
+use Rattle.cache_entries.proofs.Names.{get_or-set_same, get_or-set_other, get_or_past, none-some, same_Some, slice_get, is_member, AllDiffer, ArePlaced}
+use Rattle.cache_entries.proofs.Names.{AreSpread, OrderState, order_of, place_at, place_below, used_last, used_longest_ago, without}
+use Rattle.std.proofs.Common.{◌≡◌, ◌≢◌, ◌⊎◌, ◌+◌, ◌-◌, ◌<◌, ◌≤◌, ◌∷◌, ◌++◌, ◌∙◌}
+use Rattle.cache_entries.proofs.Lists.{changed_once, get_map}
+use Rattle.cache_entries.proofs.Orders.{differ_without, gone, length_without, member_head, member_tail, still}
+use Rattle.cache_entries.proofs.Recent.{front_apart, front_stays, listed_member}
+use Rattle.cache_entries.proofs.Turns.{at_end, differ_end, either, in_tail, member_used, not_here, not_at_end, without_here, without_tail}
+
+-- ---- members of a list and of its first ones
+
+either_of : (m : ℕ) (ms : List ℕ) (n : ℕ) → is_member (m ∷ ms) n ≡ true → (n ≡ m) ⊎ (is_member ms n ≡ true)
+either_of m ms n is = elim (either (nat_eq n m) (is_member ms n) is) [ inl same ↦ inl (eqb-true n m same) | inr later ↦ inr later ]
+
+pub in_front : (k : ℕ) (ns : List ℕ) (n : ℕ) → is_member (take k ns) n ≡ true → is_member ns n ≡ true
+in_front zero ns n is = absurd (true≢false (sym is))
+in_front (suc k) [] n is = is
+in_front (suc k) (m ∷ ms) n is = elim (either_of m (take k ms) n is) [
+  | inl same ↦ member_head n m ms same
+  | inr later ↦ in_tail m ms n (in_front k ms n later)
+]
+
+-- the first ones, once one of them is taken out
+front_used : (p : ℕ) (ns : List ℕ) (k : ℕ) → is_member (take (suc k) ns) p ≡ true → take k (without p ns) ≡ without p (take (suc k) ns)
+front_used p [] k is = absurd (true≢false (sym is))
+front_used p (m ∷ ms) zero is = elim (either_of m [] p is) [
+  | inl same ↦ sym (without_here p m [] same)
+  | inr later ↦ absurd (true≢false (sym later))
+]
+front_used p (m ∷ ms) (suc k) is = elim (cases_eq p m) [
+  | inl same ↦ ap (take (suc k)) (without_here p m ms same) ∙ sym (without_here p m (take (suc k) ms) same)
+  | inr other ↦ elim (either_of m (take (suc k) ms) p is) [
+    | inl same ↦ absurd (other same)
+    | inr later ↦ ap (take (suc k)) (without_tail p m ms other) ∙ ap (λ (rest : List ℕ). m ∷ rest) (front_used p ms k later) ∙ sym
+        (without_tail p m (take (suc k) ms) other)
+  ]
+]
+
+take_front : (k : ℕ) (ns : List ℕ) (n : ℕ) → k ≤ length ns → take k (ns ++ n ∷ []) ≡ take k ns
+take_front zero ns n few = refl
+take_front (suc k) [] n few = absurd (omega (arith, few))
+take_front (suc k) (m ∷ ms) n few = ap (λ (rest : List ℕ). m ∷ rest) (take_front k ms n (omega (arith, few)))
+
+differ_front : (k : ℕ) (ns : List ℕ) → AllDiffer ns → AllDiffer (take k ns)
+differ_front zero ns once = tt
+differ_front (suc k) [] once = tt
+differ_front (suc k) (m ∷ ms) once = (none_in (is_member (take k ms) m) refl, differ_front k ms once.1)
+  where
+    none_in : (t : Bool) → is_member (take k ms) m ≡ t → is_member (take k ms) m ≡ false
+    none_in true is = absurd (true≢false (sym (in_front k ms m is) ∙ once.0))
+    none_in false is = is
+
+plus_one : (k : ℕ) → k + 1 ≡ suc k
+plus_one k = omega arith
+
+-- ---- the numbers of places
+
+module _ (f : ℕ → ℕ) where
+  member_map : (ps : List ℕ) (p : ℕ) → is_member ps p ≡ true → is_member (map f ps) (f p) ≡ true
+  member_map [] p is = is
+  member_map (q ∷ qs) p is = elim (either_of q qs p is) [
+    | inl same ↦ member_head (f p) (f q) (map f qs) (ap f same)
+    | inr later ↦ in_tail (f q) (map f qs) (f p) (member_map qs p later)
+  ]
+
+  map_member : (ps : List ℕ) (n : ℕ) → is_member (map f ps) n ≡ true → (p : ℕ) × (is_member ps p ≡ true) × (f p ≡ n)
+  map_member [] n is = absurd (true≢false (sym is))
+  map_member (q ∷ qs) n is = elim (either_of (f q) (map f qs) n is) [
+    | inl same ↦ (q, member_head q q qs refl, sym same)
+    | inr later ↦ let p = map_member qs n later in (p.0, in_tail q qs p.0 p.1, p.2)
+  ]
+
+  not_mapped : (ps : List ℕ) (n : ℕ) → ((p : ℕ) → is_member ps p ≡ true → f p ≢ n) → is_member (map f ps) n ≡ false
+  not_mapped ps n none = go (is_member (map f ps) n) refl
+    where
+      go : (t : Bool) → is_member (map f ps) n ≡ t → is_member (map f ps) n ≡ false
+      go true is = let p = map_member ps n is in absurd (none p.0 p.1 p.2)
+      go false is = is
+
+  differ_map : (ps : List ℕ) → AllDiffer ps → ((p q : ℕ) → is_member ps p ≡ true → is_member ps q ≡ true → f p ≡ f q → p ≡ q) → AllDiffer (map f ps)
+  differ_map [] once apart = tt
+  differ_map (p ∷ ps) once apart = (
+    not_mapped ps (f p) (λ q is same. true≢false (sym is ∙ ap (is_member ps) (apart q p (in_tail p ps q is) (member_head p p ps refl) same) ∙ once.0)),
+    differ_map ps once.1 (λ q r is_q is_r. apart q r (in_tail p ps q is_q) (in_tail p ps r is_r)),
+  )
+
+  map_without : (p : ℕ) (ps : List ℕ) → ((q : ℕ) → is_member ps q ≡ true → f p ≡ f q → p ≡ q) → map f (without p ps) ≡ without (f p) (map f ps)
+  map_without p [] apart = refl
+  map_without p (q ∷ qs) apart = elim (cases_eq p q) [
+    | inl same ↦ ap (map f) (without_here p q qs same) ∙ sym (without_here (f p) (f q) (map f qs) (ap f same))
+    | inr other ↦
+        ap (map f) (without_tail p q qs other)
+        ∙ ap (λ (rest : List ℕ). f q ∷ rest) (map_without p qs (λ r is. apart r (in_tail q qs r is)))
+        ∙ sym (without_tail (f p) (f q) (map f qs) (λ same. other (apart q (member_head q q qs refl) same)))
+  ]
+
+same_map : (f g : ℕ → ℕ) (ps : List ℕ) → ((p : ℕ) → is_member ps p ≡ true → f p ≡ g p) → map f ps ≡ map g ps
+same_map f g [] same = refl
+same_map f g (p ∷ ps) same =
+    ap (λ (n : ℕ). n ∷ map f ps) (same p (member_head p p ps refl))
+    ∙ ap (λ (rest : List ℕ). g p ∷ rest) (same_map f g ps (λ q is. same q (in_tail p ps q is)))
+
+-- ---- the place of a number
+
+pub below_is : (most p : ℕ) → p < most → place_below most p ≡ Some p
+below_is most p below = ap (λ (t : Bool). cond t (Some p) None) (lt-ltb p most below)
+
+past_is : (most p : ℕ) → most ≤ p → place_below most p ≡ None
+past_is most p past = ap (λ (t : Bool). cond t (Some p) None) (le-ltb p most past)
+
+pub place_of : (ps : List ℕ) (most n : ℕ) → place_at (map (place_below most) ps) n ≡ place_below most (get_or ps n most)
+place_of ps most n = get_map (place_below most) ps n most None (past_is most most (omega arith))
+
+placed_at : (most p q : ℕ) → place_below most p ≡ Some q → (p ≡ q) × (p < most)
+placed_at most p q is = elim (cases_lt p most) [
+  | inl below ↦ (same_Some p q (sym (below_is most p below) ∙ is), below)
+  | inr past ↦ absurd (none-some q (sym (past_is most p past) ∙ is))
+]
+
+some_below : (most p : ℕ) → is_some (place_below most p) ≡ true → p < most
+some_below most p is = elim (cases_lt p most) [
+  | inl below ↦ below
+  | inr past ↦ absurd (true≢false (sym is ∙ ap is_some (past_is most p past)))
+]
+
+none_past : (most p : ℕ) → place_below most p ≡ None → most ≤ p
+none_past most p is = elim (cases_lt p most) [
+  | inl below ↦ absurd (none-some p (sym is ∙ below_is most p below))
+  | inr past ↦ past
+]
+
+-- an order that is seen as a value is another one
+pub record Spreads (keys numbers places : List ℕ) (count : ℕ) (s : OrderState) : Type 0 where
+  pub are : ArePlaced keys numbers places count
+  pub view : order_of keys numbers places count ≡ s
+
+module _ (keys numbers places : List ℕ) (count : ℕ) (are : ArePlaced keys numbers places count) where
+  abbrev most : ℕ
+  most = length numbers
+
+  abbrev used : List ℕ
+  used = take count keys
+
+  abbrev number : ℕ → ℕ
+  number p = get_or numbers p 0
+
+  abbrev place : ℕ → ℕ
+  place n = get_or places n most
+
+  pub inside : (p : ℕ) → is_member used p ≡ true → p < most
+  inside p is = are.known p (in_front count keys p is)
+
+  injective : (p q : ℕ) → is_member used p ≡ true → is_member used q ≡ true → number p ≡ number q → p ≡ q
+  injective p q is_p is_q same = sym (are.back p is_p) ∙ ap place same ∙ are.back q is_q
+
+  pub place_known : (n : ℕ) → place n < most → n < length places
+  place_known n below = elim (cases_lt n (length places)) [
+    | inl known ↦ known
+    | inr past ↦ absurd (omega (arith, below, get_or_past places n most past))
+  ]
+
+  places_set : (n p : ℕ) (o : Option ℕ) → n < length places → place_below most p ≡ o → map (place_below most) (set places n p) ≡ set
+      (map (place_below most) places) n o
+  places_set n p o known is =
+      changed_once (map (place_below most) places) (map (place_below most) (set places n p)) n None o
+      (length-map (set places n p) (place_below most) ∙ length-set places n p ∙ sym (length-map places (place_below most)))
+      (omega (arith, known, length-map places (place_below most)))
+      (place_of (set places n p) most n ∙ ap (place_below most) (get_or-set_same places n p most known) ∙ is)
+      (λ m other. place_of (set places n p) most m ∙ ap (place_below most) (get_or-set_other places n m p most other) ∙ sym (place_of places most m))
+
+  pub length_used : length (map number used) ≡ count
+  length_used = length-map used number ∙ length-take-le count keys (omega (arith, are.few, are.all))
+
+  pub spread : AreSpread (order_of keys numbers places count)
+  spread = record {
+    listed = λ n. elim (cases_lt (place n) most) [
+      | inl below ↦
+          subst (λ (m : ℕ). is_member (map number used) m ≡ true) (are.forth n below) (member_map number used (place n) (are.used n below))
+          ∙ sym (ap is_some (place_of places most n ∙ below_is most (place n) below))
+      | inr past ↦
+          not_mapped number used n (λ p is same. omega (arith, past, inside p is, sym (ap place same) ∙ are.back p is))
+          ∙ sym (ap is_some (place_of places most n ∙ past_is most (place n) past))
+    ];
+    once = differ_map number used (differ_front count keys are.once) injective;
+    few = omega (arith, length_used, are.few);
+    within = λ n p is. let at = placed_at most (place n) p (sym (place_of places most n) ∙ is) in omega (arith, at.0, at.1);
+    apart = λ n m p is_n is_m.
+        let at = placed_at most (place n) p (sym (place_of places most n) ∙ is_n) in
+        let same = placed_at most (place m) p (sym (place_of places most m) ∙ is_m) in
+        sym (are.forth n at.1) ∙ ap number (at.0 ∙ sym same.0) ∙ are.forth m same.1;
+  }
+
+  -- the same of an order that is seen as a value
+  module _ (s : OrderState) (view : order_of keys numbers places count ≡ s) where
+    pub spread_is : AreSpread s
+    spread_is = subst AreSpread view spread
+
+    pub count_is : count ≡ length s.numbers
+    count_is = sym length_used ∙ ap (λ (o : OrderState). length o.numbers) view
+
+    pub most_is : most ≡ s.most
+    most_is = ap (λ (o : OrderState). o.most) view
+
+    pub known_is : length places ≡ length s.places
+    known_is = sym (length-map places (place_below most)) ∙ ap (λ (o : OrderState). length o.places) view
+
+    pub place_is : (n : ℕ) → place_at s.places n ≡ place_below most (place n)
+    place_is n = ap (λ (o : OrderState). place_at o.places n) (sym view) ∙ place_of places most n
+
+    pub some_place : (n : ℕ) → is_some (place_at s.places n) ≡ true → place n < most
+    some_place n is = some_below most (place n) (sym (ap is_some (place_is n)) ∙ is)
+
+    pub listed_place : (n : ℕ) → is_member s.numbers n ≡ true → place n < most
+    listed_place n is = some_place n (sym (spread_is.listed n) ∙ is)
+
+    pub no_place : (n : ℕ) → place_at s.places n ≡ None → most ≤ place n
+    no_place n is = none_past most (place n) (sym (place_is n) ∙ is)
+
+    pub has_place : (n q : ℕ) → n < length s.places → q ≡ get_or places n q → nat_lt q most ≡ is_some (place_at s.places n)
+    has_place n q known is =
+        let same : q ≡ place n = is ∙ get_or_default places n q most (omega (arith, known, known_is)) in
+        elim (cases_lt q most) [
+          | inl below ↦ lt-ltb q most below ∙ sym (ap is_some (place_is n ∙ below_is most (place n) (omega (arith, below, same))))
+          | inr past ↦ le-ltb q most past ∙ sym (ap is_some (place_is n ∙ past_is most (place n) (omega (arith, past, same))))
+        ]
+
+  module _ (n : ℕ) (below : place n < most) where
+    here : is_member used (place n) ≡ true
+    here = are.used n below
+
+    front : (k : ℕ) → count ≡ suc k → take k (without (place n) keys) ≡ without (place n) used
+    front k is = front_used (place n) keys k (ap (λ (c : ℕ). is_member (take c keys) (place n)) (sym is) ∙ here) ∙ ap
+        (λ (c : ℕ). without (place n) (take c keys)) (sym is)
+
+    pub listed : is_member keys (place n) ≡ true
+    listed = in_front count keys (place n) here
+
+    numbers_left : map number (without (place n) used) ≡ without n (map number used)
+    numbers_left =
+        map_without number (place n) used (λ q is. injective (place n) q here is)
+        ∙ ap (λ (m : ℕ). without m (map number used)) (are.forth n below)
+
+    some_used : (c : ℕ) → is_member (take c keys) (place n) ≡ true → (k : ℕ) × (c ≡ suc k)
+    some_used zero is = absurd (true≢false (sym is))
+    some_used (suc k) is = (k, refl)
+
+    pub count_some : 1 ≤ count
+    count_some = let k = some_used count here in omega (arith, k.1)
+
+    pub known_place : (q : ℕ) → q ≡ get_or places n q → q ≡ place n
+    known_place q is = is ∙ get_or_default places n q most (place_known n below)
+
+    -- it is used last
+    module _ (s : OrderState) (view : order_of keys numbers places count ≡ s) where
+      pub promoted_last : (after : List ℕ) → after ≡ place n ∷ without (place n) keys → Spreads after numbers places count (used_last n s)
+      promoted_last after is =
+          let k = some_used count here in
+          let front_is : take count after ≡ place n ∷ without (place n) used =
+          ap (take count) is ∙ ap (λ (c : ℕ). take c (place n ∷ without (place n) keys)) k.1
+          ∙ ap (λ (rest : List ℕ). place n ∷ rest) (front k.0 k.1) in
+          let same : (p : ℕ) → is_member (take count after) p ≡ is_member used p =
+          λ p. ap (λ (ps : List ℕ). is_member ps p) front_is ∙ member_used (place n) used p here in
+          record {
+            are = record {
+              once = subst AllDiffer (sym is) (gone (place n) keys are.once, differ_without (place n) keys are.once);
+              all = omega (arith, ap length is, length_without (place n) keys listed, are.all);
+              known = λ p known. are.known p (sym (member_used (place n) keys p listed) ∙ ap (λ (ps : List ℕ). is_member ps p) (sym is) ∙ known);
+              some = are.some;
+              few = are.few;
+              back = λ p known. are.back p (sym (same p) ∙ known);
+              used = λ m below. same (place m) ∙ are.used m below;
+              forth = are.forth;
+            };
+            view =
+                ap (λ (ns : List ℕ). let o : OrderState = record { numbers = ns; places = map (place_below most) places; most = most } in o)
+                (ap (map number) front_is ∙ ap (λ (m : ℕ). m ∷ map number (without (place n) used)) (are.forth n below) ∙ ap (λ (ns : List ℕ). n ∷ ns)
+                numbers_left)
+                ∙ ap (used_last n) view;
+          }
+
+      -- its place is free
+      pub removed : (after : List ℕ) (c : ℕ) → after ≡ without (place n) keys ++ place n ∷ [] → c + 1 ≡ count →
+          Spreads after numbers (set places n most) c (record { numbers = without n s.numbers; places = set s.places n None; most = s.most })
+      removed after c is less =
+          let left : length (without (place n) keys) + 1 ≡ length keys = length_without (place n) keys listed in
+          let front_is : take c after ≡ without (place n) used =
+          ap (take c) is ∙ take_front c (without (place n) keys) (place n) (omega (arith, left, less, are.few, are.all)) ∙ front c (omega (arith, less)) in
+          let once : AllDiffer used = differ_front count keys are.once in
+          let size : n < length places = place_known n below in
+          let other_place : (m : ℕ) → m ≢ n → get_or (set places n most) m most ≡ place m = λ m other. get_or-set_other places n m most most other in
+          let no_place : get_or (set places n most) n most ≡ most = get_or-set_same places n most most size in
+          let apart : (p : ℕ) → is_member (take c after) p ≡ true → p ≢ place n =
+          λ p known same. true≢false (sym known ∙ ap (λ (ps : List ℕ). is_member ps p) front_is ∙ ap (is_member (without (place n) used)) same ∙ gone
+          (place n) used once) in
+          let was : (p : ℕ) → is_member (take c after) p ≡ true → is_member used p ≡ true =
+          λ p known. sym (still (place n) used p (apart p known)) ∙ ap (λ (ps : List ℕ). is_member ps p) (sym front_is) ∙ known in
+          let others : (m : ℕ) → get_or (set places n most) m most < most → m ≢ n =
+          λ m less same. omega (arith, less, ap (λ (i : ℕ). get_or (set places n most) i most) same, no_place) in
+          record {
+            are = record {
+              once = subst AllDiffer (sym is) (differ_end (without (place n) keys) (place n) (differ_without (place n) keys are.once)
+                  (gone (place n) keys are.once));
+              all = omega (arith, ap length is, length-append (without (place n) keys) (place n ∷ []), left, are.all);
+              known = λ p known. elim (at_end (without (place n) keys) (place n) p (ap (λ (ps : List ℕ). is_member ps p) (sym is) ∙ known)) [
+                | inl there ↦ elim (cases_eq p (place n)) [
+                  | inl same ↦ omega (arith, same, below)
+                  | inr other ↦ are.known p (sym (still (place n) keys p other) ∙ there)
+                ]
+                | inr same ↦ omega (arith, same, below)
+              ];
+              some = are.some;
+              few = omega (arith, less, are.few);
+              back = λ p known.
+                  let old = was p known in
+                  other_place (number p) (λ same. apart p known (sym (are.back p old) ∙ ap place same)) ∙ are.back p old;
+              used = λ m less.
+                  let other = others m less in
+                  let old : place m < most = omega (arith, less, other_place m other) in
+                  ap (λ (i : ℕ). is_member (take c after) i) (other_place m other)
+                  ∙ ap (λ (ps : List ℕ). is_member ps (place m)) front_is
+                  ∙ still (place n) used (place m) (λ same. other (sym (are.forth m old) ∙ ap number same ∙ are.forth n below))
+                  ∙ are.used m old;
+              forth = λ m less.
+                  let other = others m less in
+                  ap number (other_place m other) ∙ are.forth m (omega (arith, less, other_place m other));
+            };
+            view =
+                ap (λ (ns : List ℕ). let o : OrderState = record { numbers = ns; places = map (place_below most) (set places n most); most = most } in o)
+                (ap (map number) front_is ∙ numbers_left)
+                ∙ ap (λ (os : List (Option ℕ)). let o : OrderState = record { numbers = without n (map number used); places = os; most = most } in o)
+                (places_set n most None size (past_is most most (omega arith)))
+                ∙ ap (λ (o : OrderState). let t : OrderState = record { numbers = without n o.numbers; places = set o.places n None; most = o.most } in t) view;
+          }
+
+  -- a number gets the place that was used longest ago
+  module _ (p n : ℕ) (last : slice_get keys (length keys - 1) ≡ Some p) (short : count < most) (known : n < length places) (absent : most ≤ place n) where
+    p_below : p < most
+    p_below = are.known p (listed_member keys (length keys - 1) p last)
+
+    p_free : is_member used p ≡ false
+    p_free = go (is_member used p) refl
+      where
+        go : (t : Bool) → is_member used p ≡ t → is_member used p ≡ false
+        go true is = absurd (front_apart p keys (length keys - 1) count p (omega (arith, short, are.all)) are.once last (omega (arith, short, are.all)) is refl)
+        go false is = is
+
+    abbrev numbers_after : List ℕ
+    numbers_after = set numbers p n
+
+    abbrev places_after : List ℕ
+    places_after = set places n p
+
+    same_most : length numbers_after ≡ most
+    same_most = length-set numbers p n
+
+    place_after : (m : ℕ) → get_or places_after m (length numbers_after) ≡ get_or places_after m most
+    place_after m = ap (get_or places_after m) same_most
+
+    number_after : (q : ℕ) → is_member used q ≡ true → get_or numbers_after q 0 ≡ number q
+    number_after q is = get_or-set_other numbers p q n 0 (λ same. true≢false (sym is ∙ ap (is_member used) same ∙ p_free))
+
+    pub fresh : (m : ℕ) → place_at (map (place_below most) places) m ≢ Some p
+    fresh m is =
+        let at = placed_at most (place m) p (sym (place_of places most m) ∙ is) in
+        true≢false (sym (are.used m at.1) ∙ ap (is_member used) at.0 ∙ p_free)
+
+    pub inserted : (s : OrderState) → order_of keys numbers places count ≡ s → (after : List ℕ) (c : ℕ) → after ≡ p ∷ without p keys → c ≡ count + 1 →
+        Spreads after numbers_after places_after c (record { numbers = n ∷ s.numbers; places = set s.places n (Some p); most = s.most })
+    inserted s view after c is more =
+        let listed = listed_member keys (length keys - 1) p last in
+        let front_is : take c after ≡ p ∷ used =
+        ap (take c) is ∙ ap (λ (k : ℕ). take k (p ∷ without p keys)) more ∙ ap (λ (k : ℕ). take k (p ∷ without p keys)) (plus_one count)
+        ∙ ap (λ (rest : List ℕ). p ∷ rest) (front_stays p keys (length keys - 1) count (omega (arith, short, are.all)) are.once last
+        (omega (arith, short, are.all))) in
+        let new_place : get_or places_after n most ≡ p = get_or-set_same places n p most known in
+        let old_place : (m : ℕ) → m ≢ n → get_or places_after m most ≡ place m = λ m other. get_or-set_other places n m p most other in
+        let new_number : get_or numbers_after p 0 ≡ n = get_or-set_same numbers p n 0 p_below in
+        record {
+          are = record {
+            once = subst AllDiffer (sym is) (gone p keys are.once, differ_without p keys are.once);
+            all = omega (arith, ap length is, length_without p keys listed, are.all, same_most);
+            known = λ q is_q. omega (arith, are.known q (sym (member_used p keys q listed) ∙ ap (λ (ps : List ℕ). is_member ps q) (sym is) ∙ is_q), same_most);
+            some = omega (arith, are.some, same_most);
+            few = omega (arith, more, short, same_most);
+            back = λ q is_q. place_after (get_or numbers_after q 0) ∙ elim (either_of p used q (ap (λ (ps : List ℕ). is_member ps q) (sym front_is) ∙ is_q)) [
+              | inl same ↦ ap (λ (i : ℕ). get_or places_after (get_or numbers_after i 0) most) same ∙ ap (λ (i : ℕ). get_or places_after i most) new_number
+                  ∙ new_place ∙ sym same
+              | inr old ↦
+                  ap (λ (i : ℕ). get_or places_after i most) (number_after q old)
+                  ∙ old_place (number q) (λ same. omega (arith, absent, inside q old, sym (are.back q old) ∙ ap place same))
+                  ∙ are.back q old
+            ];
+            used = λ m less. ap (λ (ps : List ℕ). is_member ps (get_or places_after m (length numbers_after))) front_is
+                ∙ ap (is_member (p ∷ used)) (place_after m) ∙ elim (cases_eq m n) [
+                  | inl same ↦ member_head (get_or places_after m most) p used (ap (λ (i : ℕ). get_or places_after i most) same ∙ new_place)
+                  | inr other ↦
+                      ap (is_member (p ∷ used)) (old_place m other)
+                      ∙ in_tail p used (place m) (are.used m (omega (arith, less, place_after m, old_place m other, same_most)))
+                ];
+            forth = λ m less. ap (λ (i : ℕ). get_or numbers_after i 0) (place_after m) ∙ elim (cases_eq m n) [
+              | inl same ↦ ap (λ (i : ℕ). get_or numbers_after i 0) (ap (λ (i : ℕ). get_or places_after i most) same ∙ new_place) ∙ new_number ∙ sym same
+              | inr other ↦
+                  let old : place m < most = omega (arith, less, place_after m, old_place m other, same_most) in
+                  ap (λ (i : ℕ). get_or numbers_after i 0) (old_place m other) ∙ number_after (place m) (are.used m old) ∙ are.forth m old
+            ];
+          };
+          view =
+              ap (λ (k : ℕ). let o : OrderState = record
+              { numbers = map (λ q. get_or numbers_after q 0) (take c after); places = map (place_below k) places_after; most = k } in o) same_most
+              ∙ ap (λ (ns : List ℕ). let o : OrderState = record { numbers = ns; places = map (place_below most) places_after; most = most } in o)
+              (ap (map (λ q. get_or numbers_after q 0)) front_is ∙ ap (λ (m : ℕ). m ∷ map (λ q. get_or numbers_after q 0) used) new_number
+              ∙ ap (λ (ns : List ℕ). n ∷ ns) (same_map (λ q. get_or numbers_after q 0) number used number_after))
+              ∙ ap (λ (os : List (Option ℕ)). let o : OrderState = record { numbers = n ∷ map number used; places = os; most = most } in o)
+              (places_set n p (Some p) known (below_is most p p_below))
+              ∙ ap (λ (o : OrderState). let t : OrderState = record { numbers = n ∷ o.numbers; places = set o.places n (Some p); most = o.most } in t) view;
+        }
+
+  -- the number of the place that was used longest ago, where all have one
+  pub least_number : (s : OrderState) → order_of keys numbers places count ≡ s → s.most ≤ length s.numbers → (p n : ℕ) → used_longest_ago keys ≡ Some p →
+      n ≡ get_or numbers p n →
+      Some n ≡ used_longest_ago s.numbers
+  least_number s view many p n last is =
+      let full : most ≤ count = omega (arith, many, count_is s view, most_is s view) in
+      let whole : used ≡ keys = take_all count keys (omega (arith, full, are.all)) in
+      ap Some (is ∙ get_or_default numbers p n 0 (are.known p (listed_member keys (length keys - 1) p last))) ∙ sym (
+      ap (slice_get (map number used)) (omega (arith, length_used, full, are.few, are.all))
+      ∙ ap (λ (ps : List ℕ). slice_get (map number ps) (length keys - 1)) whole
+      ∙ mapped keys (length keys - 1) last) ∙ ap (λ (o : OrderState). used_longest_ago o.numbers) view
+    where
+      mapped : (ps : List ℕ) (k : ℕ) → slice_get ps k ≡ Some p → slice_get (map number ps) k ≡ Some (number p)
+      mapped [] k at = absurd (none-some p at)
+      mapped (q ∷ qs) zero at = ap (λ (i : ℕ). Some (number i)) (same_Some q p at)
+      mapped (q ∷ qs) (suc k) at = mapped qs k at
+
+-- no number has a place at first
+pub none_placed : (keys numbers places : List ℕ) (most count : ℕ) → 0 < most → AllDiffer keys → length keys ≡ most →
+    ((p : ℕ) → is_member keys p ≡ true → p < most) →
+    length numbers ≡ most → places ≡ replicate count most →
+    Spreads keys numbers places 0 (record { numbers = []; places = replicate count None; most = most })
+none_placed keys numbers places most count some once all known size is =
+    let past : (n : ℕ) → get_or places n (length numbers) ≡ length numbers =
+    λ n. ap (get_or places n) size ∙ ap (λ (ps : List ℕ). get_or ps n most) is ∙ elim (cases_lt n count) [
+      | inl below ↦ get_or-replicate count n most most below
+      | inr past ↦ get_or_past (replicate count most) n most (omega (arith, past, length-replicate count most))
+    ] ∙ sym size in
+    record {
+      are = record {
+        once = once;
+        all = omega (arith, all, size);
+        known = λ p here. omega (arith, known p here, size);
+        some = omega (arith, some, size);
+        few = omega arith;
+        back = λ p here. absurd (true≢false (sym here));
+        used = λ n below. absurd (omega (arith, below, past n));
+        forth = λ n below. absurd (omega (arith, below, past n));
+      };
+      view =
+          ap (λ (m : ℕ). let o : OrderState = record { numbers = []; places = map (place_below m) places; most = m } in o) size
+          ∙ ap (λ (os : List (Option ℕ)). let o : OrderState = record { numbers = []; places = os; most = most } in o)
+          (ap (map (place_below most)) is ∙ none_below count);
+    }
+  where
+    none_below : (k : ℕ) → map (place_below most) (replicate k most) ≡ replicate k None
+    none_below zero = refl
+    none_below (suc k) = ap (λ (o : Option ℕ). o ∷ map (place_below most) (replicate k most)) (past_is most most (omega arith)) ∙ ap
+        (λ (os : List (Option ℕ)). None ∷ os) (none_below k)

@@ -1,0 +1,167 @@
+-- Entries by number, whose bodies are at places.
+use Rattle.cache_entries.proofs.Names.{inl, inr, ℕ, zero, suc, [], Bool, true, false, true≢false, List, length, map, set, get_or, replicate, Option, Some, None}
+use Rattle.cache_entries.proofs.Names.{is_some, IsSome, option_map, cond, refl, sym, ap, subst, arith, length-map, length-set, get_or-set_same}
+use Rattle.cache_entries.proofs.Names.{get_or-set_other, cases_eq, cases_lt, get_or_past, same_Some, Content, Cap, held_at, Entry, changing, entry_at}
+use Rattle.cache_entries.proofs.Names.{AreOrdered, AreSpread, AreStored, EntriesState, OrderState, entries_of, entry_in, place_at, with_entry_of, with_new}
+use Rattle.cache_entries.proofs.Names.{without, without_entry, AllDiffer, is_member}
+use Rattle.std.proofs.Common.{◌≡◌, ◌≢◌, ◌<◌, ◌≤◌, ◌∷◌, ◌∙◌}
+use Rattle.model.specs.declared.object.Content.TheVariants as content
+use Rattle.cache_entries.proofs.Lists.{changed_once, get_map}
+
+some_map : {X Y : Type 0} (f : X → Y) (o : Option X) → is_some (option_map f o) ≡ is_some o
+some_map f None = refl
+some_map f (Some x) = refl
+
+some_within : {X : Type 0} (os : List (Option X)) (n : ℕ) → is_some (get_or os n None) ≡ true → n < length os
+some_within os n is = elim (cases_lt n (length os)) [
+  | inl within ↦ within
+  | inr past ↦ absurd (true≢false (sym is ∙ ap is_some (get_or_past os n None past)))
+]
+
+module _ (o : OrderState) (ps ks : List (Content Cap)) (ms : List Bool) (are : AreStored o.most ps ks ms) (s : EntriesState)
+    (view : entries_of o ps ks ms ≡ s) where
+  abbrev entry : ℕ → Entry
+  entry = entry_in ps ks ms
+
+  at_is : (n : ℕ) → entry_at s.at n ≡ option_map entry (place_at o.places n)
+  at_is n = ap (λ (t : EntriesState). entry_at t.at n) (sym view) ∙ get_map (option_map entry) o.places n None None refl
+
+  pub some_is : (n : ℕ) → is_some (place_at o.places n) ≡ is_some (entry_at s.at n)
+  some_is n = sym (ap is_some (at_is n) ∙ some_map entry (place_at o.places n))
+
+  pub known_is : length o.places ≡ length s.at
+  known_is = sym (length-map o.places (option_map entry)) ∙ ap (λ (t : EntriesState). length t.at) view
+
+  pub ordered : AreSpread o → AreOrdered s
+  ordered spread = record {
+    listed = λ n. ap (λ (t : EntriesState). is_member t.order n) (sym view) ∙ spread.listed n ∙ some_is n;
+    once = subst (λ (t : EntriesState). AllDiffer t.order) view spread.once;
+    few = subst (λ (t : EntriesState). length t.order ≤ t.most) view spread.few;
+  }
+
+  -- a number that has a place
+  module _ (n p : ℕ) (at : place_at o.places n ≡ Some p) (spread : AreSpread o) where
+    pub entry_is : entry_at s.at n ≡ Some (entry p)
+    entry_is = at_is n ∙ ap (option_map entry) at
+
+    pub below : p < o.most
+    below = spread.within n p at
+
+    pub present_within : p < length ps
+    present_within = omega (arith, below, are.presents)
+
+    pub kept_within : p < length ks
+    kept_within = omega (arith, below, are.kepts)
+
+    pub mark_within : p < length ms
+    mark_within = omega (arith, below, are.marks)
+
+    replaced : (qs js : List (Content Cap)) (ls : List Bool) (change : Entry → Entry) → entry_in qs js ls p ≡ change (entry p) →
+        ((q : ℕ) → q ≢ p → entry_in qs js ls q ≡ entry q) → entries_of o qs js ls ≡ with_entry_of change n s
+    replaced qs js ls change here others =
+        ap (λ (es : List (Option Entry)). let t : EntriesState = record { at = es; order = o.numbers; most = o.most } in t)
+        (changed_once (map (option_map entry) o.places) (map (option_map (entry_in qs js ls)) o.places) n None (option_map change (entry_at s.at n))
+        (length-map o.places (option_map (entry_in qs js ls)) ∙ sym (length-map o.places (option_map entry)))
+        (omega (arith, some_within o.places n (ap is_some at), length-map o.places (option_map entry)))
+        (get_map (option_map (entry_in qs js ls)) o.places n None None refl ∙ ap (option_map (entry_in qs js ls)) at
+        ∙ ap Some here ∙ sym (ap (option_map change) entry_is))
+        (λ m other. get_map (option_map (entry_in qs js ls)) o.places m None None refl
+        ∙ elsewhere (place_at o.places m) (λ q is. others q (λ same. other (spread.apart m n p (is ∙ ap Some same) at)))
+        ∙ sym (get_map (option_map entry) o.places m None None refl)))
+        ∙ ap (λ (t : EntriesState). let u : EntriesState = record { at = set t.at n (option_map change (entry_at s.at n)); order = t.order; most = t.most }
+        in u) view
+      where
+        elsewhere : (r : Option ℕ) → ((q : ℕ) → r ≡ Some q → entry_in qs js ls q ≡ entry q) → option_map (entry_in qs js ls) r ≡ option_map entry r
+        elsewhere None same = refl
+        elsewhere (Some q) same = ap Some (same q refl)
+
+    -- it holds something else now
+    pub present_put : (change : Content Cap → Content Cap) → entries_of o (set ps p (change (held_at ps p))) ks ms ≡ with_entry_of (changing change) n s
+    present_put change =
+        let c = change (held_at ps p) in
+        replaced (set ps p c) ks ms (changing change)
+        (ap (λ (d : Content Cap). let e : Entry = record { present = d; kept = (entry p).kept } in e) (get_or-set_same ps p c content.Free present_within))
+        (λ q other. ap (λ (d : Content Cap). let e : Entry = record { present = d; kept = (entry q).kept } in e) (get_or-set_other ps p q c content.Free other))
+
+    -- something else is kept, or nothing
+    abbrev kept_by : Bool → Content Cap → Option (Content Cap)
+    kept_by mark c = cond mark (Some c) None
+
+    pub kept_put : entries_of o ps (set ks p (held_at ps p)) (set ms p true) ≡ with_entry_of (λ e. record e { kept = Some e.present }) n s
+    kept_put =
+        let c = held_at ps p in
+        replaced ps (set ks p c) (set ms p true) (λ e. record e { kept = Some e.present })
+        (ap (λ (d : Option (Content Cap)). let e : Entry = record { present = held_at ps p; kept = d } in e)
+        (ap (λ (t : Bool). kept_by t (held_at (set ks p c) p)) (get_or-set_same ms p true false mark_within) ∙ ap Some
+        (get_or-set_same ks p c content.Free kept_within)))
+        (λ q other. ap (λ (d : Option (Content Cap)). let e : Entry = record { present = held_at ps q; kept = d } in e)
+        (ap (λ (t : Bool). kept_by t (held_at (set ks p c) q)) (get_or-set_other ms p q true false other)
+        ∙ ap (kept_by (get_or ms q false)) (get_or-set_other ks p q c content.Free other)))
+
+    pub kept_dropped : entries_of o ps ks (set ms p false) ≡ with_entry_of (λ e. record e { kept = None }) n s
+    kept_dropped =
+        replaced ps ks (set ms p false) (λ e. record e { kept = None })
+        (ap (λ (t : Bool). let e : Entry = record { present = held_at ps p; kept = kept_by t (held_at ks p) } in e)
+        (get_or-set_same ms p false false mark_within))
+        (λ q other. ap (λ (t : Bool). let e : Entry = record { present = held_at ps q; kept = kept_by t (held_at ks q) } in e)
+        (get_or-set_other ms p q false false other))
+
+  -- a number gets a place that none has
+  pub entered : (n p : ℕ) (c : Content Cap) → n < length o.places → p < o.most → ((m : ℕ) → place_at o.places m ≢ Some p) →
+      entries_of (record { numbers = n ∷ o.numbers; places = set o.places n (Some p); most = o.most }) (set ps p c) ks (set ms p false) ≡ with_new n c s
+  entered n p c known within fresh =
+      let qs = set ps p c in
+      let ls = set ms p false in
+      let new : Entry = record { present = c; kept = None } in
+      let here : entry_in qs ks ls p ≡ new =
+      ap (λ (d : Content Cap). let e : Entry = record { present = d; kept = (entry_in qs ks ls p).kept } in e)
+      (get_or-set_same ps p c content.Free (omega (arith, within, are.presents)))
+      ∙ ap (λ (t : Bool). let e : Entry = record { present = c; kept = cond t (Some (held_at ks p)) None } in e)
+      (get_or-set_same ms p false false (omega (arith, within, are.marks))) in
+      let other_entry : (q : ℕ) → q ≢ p → entry_in qs ks ls q ≡ entry q =
+      λ q other. ap (λ (d : Content Cap). let e : Entry = record { present = d; kept = (entry_in qs ks ls q).kept } in e)
+      (get_or-set_other ps p q c content.Free other)
+      ∙ ap (λ (t : Bool). let e : Entry = record { present = held_at ps q; kept = cond t (Some (held_at ks q)) None } in e)
+      (get_or-set_other ms p q false false other) in
+      ap (λ (es : List (Option Entry)). let t : EntriesState = record { at = es; order = n ∷ o.numbers; most = o.most } in t)
+      (changed_once (map (option_map entry) o.places) (map (option_map (entry_in qs ks ls)) (set o.places n (Some p))) n None (Some new)
+      (length-map (set o.places n (Some p)) (option_map (entry_in qs ks ls)) ∙ length-set o.places n (Some p) ∙ sym (length-map o.places (option_map entry)))
+      (omega (arith, known, length-map o.places (option_map entry)))
+      (get_map (option_map (entry_in qs ks ls)) (set o.places n (Some p)) n None None refl
+      ∙ ap (option_map (entry_in qs ks ls)) (get_or-set_same o.places n (Some p) None known) ∙ ap Some here)
+      (λ m other. get_map (option_map (entry_in qs ks ls)) (set o.places n (Some p)) m None None refl
+      ∙ ap (option_map (entry_in qs ks ls)) (get_or-set_other o.places n m (Some p) None other)
+      ∙ elsewhere (entry_in qs ks ls) (place_at o.places m) (λ q is. other_entry q (λ same. fresh m (is ∙ ap Some same)))
+      ∙ sym (get_map (option_map entry) o.places m None None refl)))
+      ∙ ap (with_new n c) view
+    where
+      elsewhere : (f : ℕ → Entry) (r : Option ℕ) → ((q : ℕ) → r ≡ Some q → f q ≡ entry q) → option_map f r ≡ option_map entry r
+      elsewhere f None same = refl
+      elsewhere f (Some q) same = ap Some (same q refl)
+
+  -- a number loses its place
+  pub left : (n : ℕ) → is_some (place_at o.places n) ≡ true →
+      entries_of (record { numbers = without n o.numbers; places = set o.places n None; most = o.most }) ps ks ms ≡ without_entry n s
+  left n is =
+      ap (λ (es : List (Option Entry)). let t : EntriesState = record { at = es; order = without n o.numbers; most = o.most } in t)
+      (changed_once (map (option_map entry) o.places) (map (option_map entry) (set o.places n None)) n None None
+      (length-map (set o.places n None) (option_map entry) ∙ length-set o.places n None ∙ sym (length-map o.places (option_map entry)))
+      (omega (arith, some_within o.places n is, length-map o.places (option_map entry)))
+      (get_map (option_map entry) (set o.places n None) n None None refl ∙ ap (option_map entry)
+      (get_or-set_same o.places n None None (some_within o.places n is)))
+      (λ m other. get_map (option_map entry) (set o.places n None) m None None refl
+      ∙ ap (option_map entry) (get_or-set_other o.places n m None None other)
+      ∙ sym (get_map (option_map entry) o.places m None None refl)))
+      ∙ ap (without_entry n) view
+
+-- no number has an entry at first
+pub none_stored : (o : OrderState) (ps ks : List (Content Cap)) (ms : List Bool) (count most : ℕ) → o ≡ record
+    { numbers = []; places = replicate count None; most = most } →
+    entries_of o ps ks ms ≡ record { at = replicate count None; order = []; most = most }
+none_stored o ps ks ms count most is =
+    ap (λ (p : OrderState). entries_of p ps ks ms) is
+    ∙ ap (λ (es : List (Option Entry)). let t : EntriesState = record { at = es; order = []; most = most } in t) (go count)
+  where
+    go : (k : ℕ) → map (option_map (entry_in ps ks ms)) (replicate k None) ≡ replicate k None
+    go zero = refl
+    go (suc k) = ap (λ (es : List (Option Entry)). None ∷ es) (go k)

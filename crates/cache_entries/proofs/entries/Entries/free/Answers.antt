@@ -1,0 +1,8 @@
+use Rattle.model.specs.declared.object.Content.TheVariants as content
+use Rattle.cache_entries.proofs.Stored.{present_put}
+use Rattle.cache_entries.proofs.entries.Entries.free.Goals as goal
+
+pub returns-then-has : goal.returns-then-has
+returns-then-has c =
+    rw c.put.ensures (present_put c.self.inside.order c.self.inside.presents c.self.inside.kepts c.self.inside.marks.items c.self.invariant c.args.self.now
+    c.self.view_is c.args.number c.place-place.result c.place-place.ensures.place c.place-place.ensures.spread (λ x. content.Free))

@@ -1,0 +1,9 @@
+use Rattle.cache_entries.proofs.Names.{ℕ, ap, length, nat_le, subst, sym, AreSpread, OrderState}
+use Rattle.std.proofs.Common.{◌∙◌}
+use Rattle.cache_entries.proofs.Turns.{length_in_turn, spread_in_turn}
+use Rattle.cache_entries.proofs.use_order.UseOrder.place.Goals as goal
+
+pub returns-clause-spread : goal.returns-clause-spread
+returns-clause-spread c =
+    let i = c.self.inside in
+    subst AreSpread c.self.view_is (spread_in_turn i.latest.items i.order c.self.invariant.0.listed c.place.ensures.spread)

@@ -1,0 +1,79 @@
+-- The bodies of objects by place.
+use Rattle.std.specs.Prelude.{◌≡◌, ◌+◌, ◌∷◌, ℕ, Bool, true, false, List, [], Option, Some, IsSome, length, map}
+use Rattle.std.specs.Prelude.{slice_index_or, slice_set}
+use Rattle.std.specs.List.{range_with_len}
+use Rattle.std.specs.Option.{unwrap_or}
+use Rattle.model.specs.declared.capability.Cap.{Cap}
+use Rattle.model.specs.declared.object.Content.{Content}
+use Rattle.model.specs.declared.object.Content.TheVariants as content
+use Rattle.cache_entries.specs.Slab.{item_at}
+use Rattle.cache_entries.specs.declared.bodies.Kind.{Kind}
+use Rattle.cache_entries.specs.declared.bodies.Kind.TheVariants as kind
+
+-- what a body of a kind holds, with these words or slots
+abbrev pub content_in : Kind → Option (List ℕ) → Option (List Cap) → Content Cap
+content_in kind.Free words slots = content.Free
+content_in kind.Page words slots = content.Page (unwrap_or words [])
+content_in kind.Node words slots = content.Node (unwrap_or slots [])
+content_in (kind.Root root) words slots = content.Root root
+content_in kind.Annex words slots = content.Annex (unwrap_or slots [])
+content_in (kind.Bank limit) words slots = content.Bank limit
+
+-- whether it has words, or slots
+abbrev pub words_are_of : Kind → Bool
+words_are_of kind.Page = true
+words_are_of _ = false
+
+abbrev pub slots_are_of : Kind → Bool
+slots_are_of kind.Node = true
+slots_are_of kind.Annex = true
+slots_are_of _ = false
+
+abbrev pub is_root_kind : Kind → Bool
+is_root_kind (kind.Root root) = true
+is_root_kind _ = false
+
+-- slots with these from the i-th on
+abbrev pub slots_from : List Cap → ℕ → List Cap → List Cap
+slots_from slots i [] = slots
+slots_from slots i (c ∷ cs) = slots_from (slice_set slots i c) (i + 1) cs
+
+-- whether the words or slots of that kind are there
+abbrev pub HasRoom : Kind → Option (List ℕ) → Option (List Cap) → Type 0
+HasRoom kind.Page words slots = IsSome words
+HasRoom kind.Node words slots = IsSome slots
+HasRoom kind.Annex words slots = IsSome slots
+HasRoom _ words slots = Unit {0}
+
+abbrev pub kind_at : List Kind → ℕ → Kind
+kind_at ks k = slice_index_or ks k kind.Free
+
+abbrev pub content_at : List Kind → List (Option (List ℕ)) → List (Option (List Cap)) → ℕ → Content Cap
+content_at ks ps ns k = content_in (kind_at ks k) (item_at ps k) (item_at ns k)
+
+-- what the bodies at all places hold
+unfoldable pub contents_in : List Kind → List (Option (List ℕ)) → List (Option (List Cap)) → List (Content Cap)
+contents_in ks ps ns = map (content_at ks ps ns) (range_with_len 0 (length ks))
+
+pub record AreBodies (ks : List Kind) (ps : List (Option (List ℕ))) (ns : List (Option (List Cap))) : Type 0 where
+  pub pages : length ps ≡ length ks
+  pub nodes : length ns ≡ length ks
+  pub room : (k : ℕ) → HasRoom (kind_at ks k) (item_at ps k) (item_at ns k)
+
+-- the kind of a content, and where the rest of it is put
+abbrev pub kind_of : Content Cap → Kind
+kind_of content.Free = kind.Free
+kind_of (content.Page words) = kind.Page
+kind_of (content.Node slots) = kind.Node
+kind_of (content.Root root) = kind.Root root
+kind_of (content.Annex registers) = kind.Annex
+kind_of (content.Bank limit) = kind.Bank limit
+
+abbrev pub with_words_of : Content Cap → ℕ → List (Option (List ℕ)) → List (Option (List ℕ))
+with_words_of (content.Page words) k ps = slice_set ps k (Some words)
+with_words_of _ k ps = ps
+
+abbrev pub with_slots_of : Content Cap → ℕ → List (Option (List Cap)) → List (Option (List Cap))
+with_slots_of (content.Node slots) k ns = slice_set ns k (Some slots)
+with_slots_of (content.Annex registers) k ns = slice_set ns k (Some registers)
+with_slots_of _ k ns = ns

@@ -1,0 +1,303 @@
+// The bodies of objects by place, in memory that was reserved for them.
+ghost use Rattle.std.specs.Prelude.{◌≡◌, ◌<◌, ◌≤◌, Some, None, length, replicate, slice_set, IfOk};
+ghost use Rattle.capability.specs.Objects.{with_root_in, with_slots_in};
+ghost use Rattle.capability.specs.Parts.{fresh_content};
+ghost use Rattle.model.specs.Frame.{content_behind, held_at, void_held};
+ghost use Rattle.model.specs.Object.{with_slot_in, with_word_in};
+ghost use Rattle.model.specs.declared.object.Content.{Content};
+ghost use Rattle.cache_entries.specs.Bodies.{kind_of, slots_are_of, with_slots_of, with_words_of};
+ghost use Rattle.cache_entries.specs.Bodies.{is_root_kind, slots_from, words_are_of};
+
+use crate::slab::Slab;
+use capability::Fresh;
+use contents::{Page, SLOTS};
+use model::{Cap, ContentRef, Root, State};
+use std::alloc::{AllocError, Global};
+use std::marker::Model;
+
+/// What a body is, but for the words of a page and the slots of a node or an annex.
+#[derive(Drop)]
+pub(crate) enum Kind {
+    Free,
+    Page,
+    Node,
+    Root(Root<Cap>),
+    Annex,
+    Bank { limit: u64 },
+}
+
+/// The body of an object at each place, in memory that was reserved for any.
+#[derive(Drop)]
+pub(crate) struct Bodies {
+    kinds: Vec<Kind>,
+    pages: Slab<Page>,
+    /// The slots of nodes and the registers of annexes.
+    nodes: Slab<[Cap; SLOTS]>,
+}
+
+impl Model for Bodies {
+    ghost use Rattle.std.specs.Prelude.{List};
+    ghost use Rattle.model.specs.declared.capability.Cap.{Cap as CapValue};
+    ghost use Rattle.model.specs.declared.object.Content.{Content as ContentValue};
+    ghost use Rattle.cache_entries.specs.Bodies.{AreBodies, contents_in};
+
+    ghost Value = { List (ContentValue CapValue) };
+
+    ghost view = { λ b. contents_in b.kinds.items b.pages b.nodes };
+
+    ghost invariant = { λ b. AreBodies b.kinds.items b.pages b.nodes };
+}
+
+// The kinds of places that hold nothing. Fails only where memory runs out.
+fn free_kinds(alloc: Global, most: usize) -> Result<Vec<Kind>, AllocError>
+    ensures { IfOk result (λ kinds. kinds.items ≡ replicate most Kind.Free) }
+{
+    let mut kinds = Vec::with_capacity(alloc, most)?;
+    for _ in 0..most {
+        kinds.push(Kind::Free)?;
+    }
+    Ok(kinds)
+}
+
+// Puts words into the page at a place.
+fn put_page(pages: &mut Slab<Page>, place: usize, words: &[u64; 512])
+    requires { place < length pages.old }
+    ensures { pages.new ≡ slice_set pages.old place (Some words.now) }
+{
+    if pages.has(place) {
+        pages.item_mut(place).put(words);
+    } else {
+        pages.add(place, Page::of(words));
+    }
+}
+
+// Makes all words of the page at a place 0.
+fn clear_page(pages: &mut Slab<Page>, place: usize)
+    requires { place < length pages.old }
+    ensures { pages.new ≡ slice_set pages.old place (Some (replicate 512 0)) }
+{
+    if pages.has(place) {
+        pages.item_mut(place).clear();
+    } else {
+        pages.add(place, Page::blank());
+    }
+}
+
+// Puts capabilities into all slots at a place.
+fn put_slots(nodes: &mut Slab<[Cap; SLOTS]>, place: usize, slots: &[Cap; SLOTS])
+    requires { place < length nodes.old }
+    ensures { nodes.new ≡ slice_set nodes.old place (Some slots.now) }
+{
+    if nodes.has(place) {
+        *nodes.item_mut(place) = *slots;
+    } else {
+        nodes.add(place, *slots);
+    }
+}
+
+// What a content is, but for its words and slots.
+fn kind_behind(content: ContentRef<'_>) -> Kind
+    ensures { result ≡ kind_of (content_behind content.entry) }
+{
+    match content {
+        ContentRef::Free => Kind::Free,
+        ContentRef::Page(_) => Kind::Page,
+        ContentRef::Node(_) => Kind::Node,
+        ContentRef::Root(root) => Kind::Root(Root {
+            state: root.state,
+            words: root.words,
+            key: root.key,
+            annex: root.annex,
+            space: root.space,
+        }),
+        ContentRef::Annex(_) => Kind::Annex,
+        ContentRef::Bank { limit } => Kind::Bank { limit },
+    }
+}
+
+// Whether a body is that of a page.
+fn is_page(kind: &Kind) -> bool
+    ensures { result ≡ words_are_of kind.now }
+{
+    match kind {
+        Kind::Page => true,
+        _ => false,
+    }
+}
+
+// Whether a body is that of the root of a process.
+fn is_root(kind: &Kind) -> bool
+    ensures { result ≡ is_root_kind kind.now }
+{
+    match kind {
+        Kind::Root(_) => true,
+        _ => false,
+    }
+}
+
+// Whether a body has slots.
+fn has_slots(kind: &Kind) -> bool
+    ensures { result ≡ slots_are_of kind.now }
+{
+    match kind {
+        Kind::Node => true,
+        Kind::Annex => true,
+        _ => false,
+    }
+}
+
+// Puts the words or slots of a content to a place.
+fn put_arrays(
+    pages: &mut Slab<Page>,
+    nodes: &mut Slab<[Cap; SLOTS]>,
+    place: usize,
+    content: ContentRef<'_>,
+)
+    requires pages { place < length pages.old }
+    requires nodes { place < length nodes.old }
+    ensures pages { pages.new ≡ with_words_of (content_behind content.entry) place pages.old }
+    ensures nodes { nodes.new ≡ with_slots_of (content_behind content.entry) place nodes.old }
+{
+    match content {
+        ContentRef::Page(words) => put_page(pages, place, words),
+        ContentRef::Node(slots) => put_slots(nodes, place, slots),
+        ContentRef::Annex(registers) => put_slots(nodes, place, registers),
+        _ => {}
+    }
+}
+
+// Puts capabilities into the last slots.
+fn put_last(slots: &mut [Cap; SLOTS], held: &[Cap])
+    requires { length held.now ≤ 4 }
+    ensures { slots.new ≡ slots_from slots.old 28 held.now }
+{
+    for i in 0..held.len() {
+        slots[28 + i] = held[i];
+    }
+}
+
+// What a new object is, but for its words and slots.
+fn fresh_kind(fresh: Fresh) -> Kind
+    ensures { result ≡ kind_of (fresh_content void_held fresh) }
+{
+    match fresh {
+        Fresh::Page => Kind::Page,
+        Fresh::Node => Kind::Node,
+        Fresh::Root { annex } => Kind::Root(Root {
+            state: State::Available,
+            words: [0; 4],
+            key: 0,
+            annex,
+            space: Cap::void(),
+        }),
+        Fresh::Annex => Kind::Annex,
+        Fresh::Bank { limit } => Kind::Bank { limit },
+    }
+}
+
+// Makes the words or slots at a place those of a new object.
+fn clear_arrays(pages: &mut Slab<Page>, nodes: &mut Slab<[Cap; SLOTS]>, place: usize, fresh: Fresh)
+    requires pages { place < length pages.old }
+    requires nodes { place < length nodes.old }
+    ensures pages { pages.new ≡ with_words_of (fresh_content void_held fresh) place pages.old }
+    ensures nodes { nodes.new ≡ with_slots_of (fresh_content void_held fresh) place nodes.old }
+{
+    match fresh {
+        Fresh::Page => clear_page(pages, place),
+        Fresh::Node => put_slots(nodes, place, &[Cap::void(); SLOTS]),
+        Fresh::Annex => put_slots(nodes, place, &[Cap::void(); SLOTS]),
+        _ => {}
+    }
+}
+
+impl Bodies {
+    ghost use Rattle.model.specs.declared.object.Content.TheVariants as content;
+
+    /// A place for each of `most` bodies, with nothing in it. Fails only where memory runs out.
+    pub(crate) fn new(alloc: Global, most: usize) -> Result<Bodies, AllocError>
+        ensures { IfOk result (λ bodies. bodies ≡ replicate most content.Free) }
+    {
+        Ok(Bodies {
+            kinds: free_kinds(alloc, most)?,
+            pages: Slab::new(alloc, most)?,
+            nodes: Slab::new(alloc, most)?,
+        })
+    }
+
+    /// What stands at a place.
+    pub(crate) fn get(&self, place: usize) -> ContentRef<'_>
+        requires { place < length self.now }
+        ensures { held_at self.now place ≡ content_behind result }
+    {
+        match &self.kinds[place] {
+            Kind::Free => ContentRef::Free,
+            Kind::Page => ContentRef::Page(self.pages.item(place).as_array()),
+            Kind::Node => ContentRef::Node(self.nodes.item(place)),
+            Kind::Root(root) => ContentRef::Root(root),
+            Kind::Annex => ContentRef::Annex(self.nodes.item(place)),
+            Kind::Bank { limit } => ContentRef::Bank { limit: *limit },
+        }
+    }
+
+    /// Puts a copy of a content to a place.
+    pub(crate) fn put(&mut self, place: usize, content: ContentRef<'_>)
+        requires { place < length self.old }
+        ensures { self.new ≡ slice_set self.old place (content_behind content.entry) }
+    {
+        put_arrays(&mut self.pages, &mut self.nodes, place, content);
+        self.kinds[place] = kind_behind(content);
+    }
+
+    /// Puts a word into the page at a place. What is no page stays.
+    pub(crate) fn set_word(&mut self, place: usize, index: usize, word: u64)
+        requires place { place < length self.old }
+        requires within { index < 512 }
+        ensures { self.new ≡ slice_set self.old place (with_word_in (held_at self.old place) index word) }
+    {
+        if is_page(&self.kinds[place]) {
+            self.pages.item_mut(place).set(index, word);
+        }
+    }
+
+    /// Puts a capability into a slot of the node or annex at a place. What is neither stays.
+    pub(crate) fn set_slot(&mut self, place: usize, slot: usize, held: Cap)
+        requires place { place < length self.old }
+        requires within { slot < 32 }
+        ensures { self.new ≡ slice_set self.old place (with_slot_in (held_at self.old place) slot held) }
+    {
+        if has_slots(&self.kinds[place]) {
+            let slots = self.nodes.item_mut(place);
+            slots[slot] = held;
+        }
+    }
+
+    /// Puts capabilities into the last four slots of the node or annex at a place. What is neither
+    /// stays.
+    pub(crate) fn set_last_slots(&mut self, place: usize, held: [Cap; 4])
+        requires { place < length self.old }
+        ensures { self.new ≡ slice_set self.old place (with_slots_in (held_at self.old place) 28 held) }
+    {
+        if has_slots(&self.kinds[place]) {
+            put_last(self.nodes.item_mut(place), &held);
+        }
+    }
+
+    /// Puts another root in place of the root at a place. What is no root stays.
+    pub(crate) fn set_root(&mut self, place: usize, root: Root<Cap>)
+        requires { place < length self.old }
+        ensures { self.new ≡ slice_set self.old place (with_root_in (λ r. root) (held_at self.old place)) }
+    {
+        if is_root(&self.kinds[place]) {
+            self.kinds[place] = Kind::Root(root);
+        }
+    }
+
+    /// Makes what stands at a place that of a new object.
+    pub(crate) fn claim(&mut self, place: usize, fresh: Fresh)
+        requires { place < length self.old }
+        ensures { self.new ≡ slice_set self.old place (fresh_content void_held fresh) }
+    {
+        clear_arrays(&mut self.pages, &mut self.nodes, place, fresh);
+        self.kinds[place] = fresh_kind(fresh);
+    }
+}

@@ -1,0 +1,236 @@
+-- Frames are headers with contents beside them: what stands at a number.
+use Rattle.capability.proofs.Names.{ℕ, zero, suc, inl, inr, true, false, List, [], map, length, slice_get, slice_index, slice_index_or, slice_set, Some, refl}
+use Rattle.capability.proofs.Names.{sym, ap, subst, arith, ⊎_elim, IsTrue, get_or-map, cases_eq, cases_lt, ext_get_or, get_or_past, get_or-set_same}
+use Rattle.capability.proofs.Names.{get_or-set_other, set_past, length-map, get_or_from_slice_get, slice_get-map, option_map, Cap, Capability, Void, Frame}
+use Rattle.capability.proofs.Names.{ObjectHeader, Content, Object, Root, blank_frame, blank_header, conveyed, frame_at, frames_in, header_at, headers, held_at}
+use Rattle.capability.proofs.Names.{object_of, objects_of, free, is_annex, is_bank, is_free, is_node, is_page, is_root, map_content, root_in, slots_in}
+use Rattle.capability.proofs.Names.{words_in, content_at, is_process, object_at, owner_at, slot_at, word_at, Parts, objects_in}
+use Rattle.std.proofs.Common.{◌≡◌, ◌<◌, ◌≤◌, ◌∷◌, ◌∙◌}
+use Rattle.model.specs.declared.object.Content.TheVariants as content
+use Rattle.std.proofs.lemmas.List.{get_or-map as read_through}
+use Rattle.capability.proofs.Mapped.{mapped}
+
+-- what holds of the new item at its place and of an old item at another holds after a set
+pub at_set : {X : Type 0} (P : ℕ → X → Type 0) (xs : List X) (n m : ℕ) (x d : X) → P n x → P m (slice_index_or xs m d) →
+    P m (slice_index_or (slice_set xs n x) m d)
+at_set P xs n m x d new old = elim (cases_eq m n) [
+  | inr differ ↦ rw (get_or-set_other xs n m x d differ) old
+  | inl e ↦ elim (cases_lt n (length xs)) [
+    | inl lt ↦ rw (e, get_or-set_same xs n x d lt) new
+    | inr past ↦ rw (set_past xs n x past) old
+  ]
+]
+
+-- the headers of frames are those that they were made of
+pub headers_in : (hs : List ObjectHeader) (cs : List (Content Cap)) → headers (frames_in hs cs) ≡ hs
+unfolding frames_in
+headers_in [] cs = refl
+headers_in (h ∷ hs) [] = ap (λ (t : List ObjectHeader). h ∷ t) (headers_in hs [])
+headers_in (h ∷ hs) (c ∷ cs) = ap (λ (t : List ObjectHeader). h ∷ t) (headers_in hs cs)
+
+pub length_in : (hs : List ObjectHeader) (cs : List (Content Cap)) → length (frames_in hs cs) ≡ length hs
+length_in hs cs = sym (length-map (frames_in hs cs) (λ (f : Frame). f.header)) ∙ ap length (headers_in hs cs)
+
+-- a frame from its two lists
+abbrev pub pair_at : List ObjectHeader → List (Content Cap) → ℕ → Frame
+pair_at hs cs n = record { header = header_at hs n; content = held_at cs n }
+
+pub frame_in : (hs : List ObjectHeader) (cs : List (Content Cap)) (n : ℕ) → n < length hs → frame_at (frames_in hs cs) n ≡ pair_at hs cs n
+unfolding frames_in
+frame_in [] cs n inside = absurd (omega arith)
+frame_in (h ∷ hs) [] zero inside = refl
+frame_in (h ∷ hs) [] (suc n) inside = frame_in hs [] n (omega arith)
+frame_in (h ∷ hs) (c ∷ cs) zero inside = refl
+frame_in (h ∷ hs) (c ∷ cs) (suc n) inside = frame_in hs cs n (omega arith)
+
+-- past the last header there is no frame
+pub frame_past : (hs : List ObjectHeader) (cs : List (Content Cap)) (n : ℕ) → length hs ≤ n → frame_at (frames_in hs cs) n ≡ blank_frame
+frame_past hs cs n past = get_or_past (frames_in hs cs) n blank_frame (rw length_in past)
+
+-- both changed at a number are the frames changed there
+pub set_in : (hs : List ObjectHeader) (cs : List (Content Cap)) (n : ℕ) (h : ObjectHeader) (c : Content Cap) → n < length cs →
+    frames_in (slice_set hs n h) (slice_set cs n c) ≡ slice_set (frames_in hs cs) n (record { header = h; content = c })
+unfolding frames_in
+set_in [] cs n h c inside = refl
+set_in (g ∷ hs) [] n h c inside = absurd (omega arith)
+set_in (g ∷ hs) (d ∷ cs) zero h c inside = refl
+set_in (g ∷ hs) (d ∷ cs) (suc n) h c inside = ap (λ (t : List Frame). record { header = g; content = d } ∷ t) (set_in hs cs n h c (omega arith))
+
+-- the object that stands at a number
+abbrev pub shown_at : List ObjectHeader → List (Content Cap) → ℕ → Object
+shown_at hs cs n = record { owner = (header_at hs n).owner; content = map_content (conveyed hs) (held_at cs n) }
+
+object_at_frame : (fs : List Frame) (n : ℕ) → object_at (objects_of fs) n ≡ object_of (headers fs) (frame_at fs n)
+unfolding objects_of
+object_at_frame fs n = get_or-map (object_of (headers fs)) fs n blank_frame
+
+pub object_in : (hs : List ObjectHeader) (cs : List (Content Cap)) (n : ℕ) → n < length hs → object_at (objects_of (frames_in hs cs)) n ≡ shown_at hs cs n
+object_in hs cs n inside =
+    object_at_frame (frames_in hs cs) n
+    ∙ ap (object_of (headers (frames_in hs cs))) (frame_in hs cs n inside)
+    ∙ ap (λ (ks : List ObjectHeader). object_of ks (pair_at hs cs n)) (headers_in hs cs)
+
+pub length_objects : (hs : List ObjectHeader) (cs : List (Content Cap)) → length (objects_of (frames_in hs cs)) ≡ length hs
+unfolding objects_of
+length_objects hs cs = length-map (frames_in hs cs) (object_of (headers (frames_in hs cs))) ∙ length_in hs cs
+
+-- each object is what stands at its number
+pub objects_by : (hs : List ObjectHeader) (cs : List (Content Cap)) (os : List Object) → length os ≡ length hs →
+    ((n : ℕ) → n < length hs → shown_at hs cs n ≡ object_at os n) → objects_of (frames_in hs cs) ≡ os
+objects_by hs cs os count each =
+    ext_get_or free (objects_of (frames_in hs cs)) os (length_objects hs cs ∙ sym count)
+    (λ i inside. let known : i < length hs = subst (λ k. i < k) (length_objects hs cs) inside in object_in hs cs i known ∙ each i known)
+
+-- past the last header stands what is free
+pub object_past : (hs : List ObjectHeader) (cs : List (Content Cap)) (n : ℕ) → length hs ≤ n → object_at (objects_of (frames_in hs cs)) n ≡ free
+object_past hs cs n past = get_or_past (objects_of (frames_in hs cs)) n free (rw length_objects past)
+
+-- and so is each number from there on
+pub free_past : (p : Parts) (n : ℕ) → length p.headers ≤ n → is_free (content_at (objects_in p) n) ≡ true
+free_past p n past = ap (λ (o : Object). is_free o.content) (object_past p.headers p.contents n past)
+
+-- the owner of what stands at a number is its header's
+pub owner_in : (hs : List ObjectHeader) (cs : List (Content Cap)) (n : ℕ) → owner_at (objects_of (frames_in hs cs)) n ≡ (header_at hs n).owner
+owner_in hs cs n = elim (cases_lt n (length hs)) [
+  | inl inside ↦ ap (λ (o : Object). o.owner) (object_in hs cs n inside)
+  | inr past ↦ ap (λ (o : Object). o.owner) (object_past hs cs n past) ∙ sym (ap (λ (h : ObjectHeader). h.owner) (get_or_past hs n blank_header past))
+]
+
+-- what the table of headers says of an owner
+pub owner_read : (p : Parts) (hs : List ObjectHeader) (h : ObjectHeader) (n : ℕ) → hs ≡ p.headers → h ≡ header_at hs n → h.owner ≡ owner_at (objects_in p) n
+owner_read p hs h n table is =
+    ap (λ (k : ObjectHeader). k.owner) (is ∙ ap (λ (ks : List ObjectHeader). header_at ks n) table) ∙ sym (owner_in p.headers p.contents n)
+
+-- what isn't free has a header
+pub known_used : (p : Parts) (n : ℕ) → is_free (content_at (objects_in p) n) ≡ false → n < length p.headers
+known_used p n used = ⊎_elim (λ (within : n < length p.headers). within) (λ past. let none = free_past p n past in cc) (cases_lt n (length p.headers))
+
+-- a content of a kind isn't free
+pub root_used : {C : Type 0} (c : Content C) → is_root c ≡ true → is_free c ≡ false
+root_used content.Free is = sym is
+root_used (content.Page words) is = refl
+root_used (content.Node slots) is = refl
+root_used (content.Root r) is = refl
+root_used (content.Annex registers) is = refl
+root_used (content.Bank limit) is = refl
+
+pub annex_used : {C : Type 0} (c : Content C) → is_annex c ≡ true → is_free c ≡ false
+annex_used content.Free is = sym is
+annex_used (content.Page words) is = refl
+annex_used (content.Node slots) is = refl
+annex_used (content.Root r) is = refl
+annex_used (content.Annex registers) is = refl
+annex_used (content.Bank limit) is = refl
+
+pub page_used : {C : Type 0} (c : Content C) → is_page c ≡ true → is_free c ≡ false
+page_used content.Free is = sym is
+page_used (content.Page words) is = refl
+page_used (content.Node slots) is = refl
+page_used (content.Root r) is = refl
+page_used (content.Annex registers) is = refl
+page_used (content.Bank limit) is = refl
+
+pub node_used : {C : Type 0} (c : Content C) → is_node c ≡ true → is_free c ≡ false
+node_used content.Free is = sym is
+node_used (content.Page words) is = refl
+node_used (content.Node slots) is = refl
+node_used (content.Root r) is = refl
+node_used (content.Annex registers) is = refl
+node_used (content.Bank limit) is = refl
+
+pub bank_used : {C : Type 0} (c : Content C) → is_bank c ≡ true → is_free c ≡ false
+bank_used content.Free is = sym is
+bank_used (content.Page words) is = refl
+bank_used (content.Node slots) is = refl
+bank_used (content.Root r) is = refl
+bank_used (content.Annex registers) is = refl
+bank_used (content.Bank limit) is = refl
+
+-- a process has a header
+pub process_known : (p : Parts) (n : ℕ) → IsTrue (is_process (objects_in p) n) → n < length p.headers
+process_known p n is = known_used p n (root_used (content_at (objects_in p) n) is)
+
+-- a content that is no page has no words
+no_words : {C : Type 0} (c : Content C) → ((x : List ℕ) → c ≡ content.Page x → ⊥) → words_in c ≡ []
+no_words content.Free page = refl
+no_words (content.Page words) page = absurd (page words refl)
+no_words (content.Node slots) page = refl
+no_words (content.Root r) page = refl
+no_words (content.Annex registers) page = refl
+no_words (content.Bank limit) page = refl
+
+no_root : {C : Type 0} (c : Content C) → ((x : Root C) → c ≡ content.Root x → ⊥) → is_root c ≡ false
+no_root content.Free root = refl
+no_root (content.Page words) root = refl
+no_root (content.Node slots) root = refl
+no_root (content.Root r) root = absurd (root r refl)
+no_root (content.Annex registers) root = refl
+no_root (content.Bank limit) root = refl
+
+no_annex : {C : Type 0} (c : Content C) → ((x : List C) → c ≡ content.Annex x → ⊥) → is_annex c ≡ false
+no_annex content.Free annex = refl
+no_annex (content.Page words) annex = refl
+no_annex (content.Node slots) annex = refl
+no_annex (content.Root r) annex = refl
+no_annex (content.Annex registers) annex = absurd (annex registers refl)
+no_annex (content.Bank limit) annex = refl
+
+blank_annex : (f : Cap → Capability) (c : Content Cap) → ((x : Root Cap) → c ≡ content.Root x → ⊥) → (root_in (map_content f c)).annex ≡ 0
+blank_annex f content.Free root = refl
+blank_annex f (content.Page words) root = refl
+blank_annex f (content.Node slots) root = refl
+blank_annex f (content.Root r) root = absurd (root r refl)
+blank_annex f (content.Annex registers) root = refl
+blank_annex f (content.Bank limit) root = refl
+
+-- what stands at a number with that content
+module _ (p : Parts) (n : ℕ) (known : n < length p.headers) (c : Content Cap) (is : held_at p.contents n ≡ c) where
+  pub content_there : content_at (objects_in p) n ≡ map_content (conveyed p.headers) c
+  content_there =
+      ap (λ (o : Object). o.content) (object_in p.headers p.contents n known)
+      ∙ ap (map_content (conveyed p.headers)) is
+
+  pub slot_there : (slots : List Cap) → slots ≡ slots_in c → (hs : List ObjectHeader) → hs ≡ p.headers → (i : ℕ) (default : Cap) (r : Capability) →
+      r ≡ conveyed hs (slice_index_or slots i default) → i < length slots → r ≡ slot_at (objects_in p) n i
+  slot_there slots are hs same i default r reads within =
+      reads
+      ∙ ap (λ (ks : List ObjectHeader). conveyed ks (slice_index_or slots i default)) same
+      ∙ sym (read_through (conveyed p.headers) slots i default Void within)
+      ∙ ap (λ (cs : List Cap). slice_index_or (map (conveyed p.headers) cs) i Void) are
+      ∙ sym (ap (λ (cs : List Capability). slice_index_or cs i Void) ((mapped (conveyed p.headers) c).slots))
+      ∙ sym (ap (λ (d : Content Capability). slice_index_or (slots_in d) i Void) content_there)
+
+  pub no_slot_there : (i : ℕ) → slots_in c ≡ [] → slot_at (objects_in p) n i ≡ Void
+  no_slot_there i none =
+      ap (λ (d : Content Capability). slice_index_or (slots_in d) i Void) content_there
+      ∙ ap (λ (cs : List Capability). slice_index_or cs i Void) ((mapped (conveyed p.headers) c).slots)
+      ∙ ap (λ (cs : List Cap). slice_index_or (map (conveyed p.headers) cs) i Void) none
+
+  pub word_there : (i : ℕ) → word_at (objects_in p) n i ≡ slice_index (words_in c) i
+  word_there i =
+      ap (λ (d : Content Capability). slice_index (words_in d) i) content_there
+      ∙ ap (λ (ws : List ℕ). slice_index ws i) ((mapped (conveyed p.headers) c).words)
+
+  pub no_word_there : (i : ℕ) → ((x : List ℕ) → c ≡ content.Page x → ⊥) → word_at (objects_in p) n i ≡ 0
+  no_word_there i page = word_there i ∙ ap (λ (ws : List ℕ). slice_index ws i) (no_words c page)
+
+  pub no_root_there : ((x : Root Cap) → c ≡ content.Root x → ⊥) → is_process (objects_in p) n ≡ false
+  no_root_there root = ap is_root content_there ∙ (mapped (conveyed p.headers) c).root ∙ no_root c root
+
+  pub no_process_annex : ((x : Root Cap) → c ≡ content.Root x → ⊥) → (root_in (content_at (objects_in p) n)).annex ≡ 0
+  no_process_annex root = ap (λ (d : Content Capability). (root_in d).annex) content_there ∙ blank_annex (conveyed p.headers) c root
+
+  pub no_annex_there : ((x : List Cap) → c ≡ content.Annex x → ⊥) → is_annex (content_at (objects_in p) n) ≡ false
+  no_annex_there annex = ap is_annex content_there ∙ (mapped (conveyed p.headers) c).annex ∙ no_annex c annex
+
+-- the object that its header and what it holds make
+pub object_there : (p : Parts) (n : ℕ) → n < length p.headers → (hs ks : List ObjectHeader) (h : ObjectHeader) (now : Content Cap) (shown : Content Capability)
+    →
+    hs ≡ p.headers → ks ≡ p.headers → h ≡ header_at hs n → now ≡ held_at p.contents n → shown ≡ map_content (conveyed ks) now →
+    record { owner = h.owner; content = shown } ≡ object_at (objects_in p) n
+object_there p n known hs ks h now shown first second is held made =
+    ap (λ (owner : ℕ). let o : Object = record { owner = owner; content = shown } in o)
+    (ap (λ (k : ObjectHeader). k.owner) (is ∙ ap (λ (t : List ObjectHeader). header_at t n) first))
+    ∙ ap (λ (d : Content Capability). let o : Object = record { owner = (header_at p.headers n).owner; content = d } in o)
+    (made ∙ ap (λ (t : List ObjectHeader). map_content (conveyed t) now) second ∙ ap (map_content (conveyed p.headers)) held)
+    ∙ sym (object_in p.headers p.contents n known)

@@ -1,0 +1,11 @@
+-- Marks of no number.
+use Rattle.capability.proofs.Names.{ℕ, false, replicate, touched_count, untouched, zero, suc, refl, arith, cond, sum_by-cons, Geometry}
+use Rattle.std.proofs.Common.{◌≡◌, ◌+◌}
+
+none_touched : (n : ℕ) → touched_count (replicate n false) ≡ 0
+none_touched zero = refl
+none_touched (suc n) = let total = sum_by-cons (λ b. cond b 1 0) false (replicate n false) in let rest = none_touched n in omega (arith, total, rest)
+
+pub untouched_count : (g : Geometry) → touched_count (untouched g) ≡ 0
+unfolding untouched
+untouched_count g = none_touched (g.nodes + g.pages)

@@ -1,9 +1,0 @@
-use Rattle.capability.proofs.Names.{length, take, touching}
-use Rattle.std.proofs.Common.{◌≡◌}
-use Rattle.capability.proofs.plain.touched.mark.Given as goal
-
-abbrev pub invariant-loop-number : goal.invariant-loop-number
-invariant-loop-number l = record {
-  marked : l.touched ≡ touching l.initial.touched (take l.number-index l.written);
-  each : length l.touched ≡ length l.initial.touched;
-}

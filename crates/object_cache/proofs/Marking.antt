@@ -1,0 +1,89 @@
+-- What marking a list of numbers does to the marks and to their count.
+use Rattle.object_cache.proofs.Names.{ℕ, Bool, true, false, cond, List, [], length, set, take, refl, ap, sym, arith, set-get_or, touching, touched_count, eqb}
+use Rattle.object_cache.proofs.Names.{get_or, eqb-true, eqb-false, take_more, sum_by-set, list_any, length-set}
+use Rattle.std.proofs.Common.{◌≡◌, ◌+◌, ◌<◌, ◌||◌, ◌∷◌, ◌++◌, ◌∙◌, get_or-set_same, get_or-set_other}
+
+pub length-touching : (t : List Bool) (ns : List ℕ) → length (touching t ns) ≡ length t
+length-touching t [] = refl
+length-touching t (n ∷ ns) = length-touching (set t n true) ns ∙ length-set t n true
+
+touching-append : (t : List Bool) (ms ns : List ℕ) → touching t (ms ++ ns) ≡ touching (touching t ms) ns
+touching-append t [] ns = refl
+touching-append t (m ∷ ms) ns = touching-append (set t m true) ms ns
+
+-- a mark that is set for the first time is one more
+touched_count-set : (t : List Bool) (n : ℕ) → n < length t → get_or t n false ≡ false → touched_count (set t n true) ≡ touched_count t + 1
+touched_count-set t n inside unmarked =
+    let h = sum_by-set (λ b. cond b 1 0) t n true false inside in
+    let k = rw unmarked at h in
+    omega (arith, k)
+
+-- a mark that is there stays
+pub set-marked : (t : List Bool) (n : ℕ) → get_or t n false ≡ true → set t n true ≡ t
+set-marked t n marked = ap (λ b. set t n b) (sym marked) ∙ set-get_or t n false
+
+-- what is marked stays marked
+marked_after_set : (t : List Bool) (m n : ℕ) (b : Bool) → eqb m n ≡ b → n < length t → get_or t n false ≡ true → get_or (set t m true) n false ≡ true
+marked_after_set t m n true same inside marked = rw (eqb-true m n same) (get_or-set_same t n true false inside)
+marked_after_set t m n false other inside marked =
+    get_or-set_other t m n true false (λ e. eqb-false m n other (sym e)) ∙ marked
+
+pub marked_stays : (t : List Bool) (ns : List ℕ) (n : ℕ) → n < length t → get_or t n false ≡ true → get_or (touching t ns) n false ≡ true
+marked_stays t [] n inside marked = marked
+marked_stays t (m ∷ ns) n inside marked =
+    let inside' : n < length (set t m true) = rw length-set inside in
+    marked_stays (set t m true) ns n inside' (marked_after_set t m n (eqb m n) refl inside marked)
+
+-- what is listed is marked
+first_listed : (t : List Bool) (m : ℕ) (ns : List ℕ) (n : ℕ) (b : Bool) → eqb m n ≡ b → n < length t →
+    (list_any (λ y. eqb y n) ns ≡ true → get_or (touching (set t m true) ns) n false ≡ true) →
+    (b || list_any (λ y. eqb y n) ns) ≡ true → get_or (touching (set t m true) ns) n false ≡ true
+first_listed t m ns n true same inside later listed =
+    marked_stays (set t m true) ns n (rw length-set inside) (rw (eqb-true m n same) (get_or-set_same t n true false inside))
+first_listed t m ns n false other inside later listed = later listed
+
+listed_marked : (t : List Bool) (ns : List ℕ) (n : ℕ) → n < length t → list_any (λ y. eqb y n) ns ≡ true → get_or (touching t ns) n false ≡ true
+listed_marked t [] n inside listed = cc
+listed_marked t (m ∷ ns) n inside listed =
+    first_listed t m ns n (eqb m n) refl inside (listed_marked (set t m true) ns n (rw length-set inside)) listed
+
+-- what is neither marked nor listed isn't marked
+first_unlisted : (t : List Bool) (m : ℕ) (ns : List ℕ) (n : ℕ) (b : Bool) → eqb m n ≡ b → get_or t n false ≡ false →
+    (get_or (set t m true) n false ≡ false → list_any (λ y. eqb y n) ns ≡ false → get_or (touching (set t m true) ns) n false ≡ false) →
+    (b || list_any (λ y. eqb y n) ns) ≡ false → get_or (touching (set t m true) ns) n false ≡ false
+first_unlisted t m ns n true same unmarked later unlisted = cc
+first_unlisted t m ns n false other unmarked later unlisted =
+    later (get_or-set_other t m n true false (λ e. eqb-false m n other (sym e)) ∙ unmarked) unlisted
+
+unlisted_unmarked : (t : List Bool) (ns : List ℕ) (n : ℕ) → get_or t n false ≡ false → list_any (λ y. eqb y n) ns ≡ false →
+    get_or (touching t ns) n false ≡ false
+unlisted_unmarked t [] n unmarked unlisted = unmarked
+unlisted_unmarked t (m ∷ ns) n unmarked unlisted =
+    first_unlisted t m ns n (eqb m n) refl unmarked (unlisted_unmarked (set t m true) ns n) unlisted
+
+-- the next number of a list: new, listed before, or marked at first
+pub touched_count_new : (t : List Bool) (ns : List ℕ) (i : ℕ) → i < length ns → get_or ns i 0 < length t →
+    get_or t (get_or ns i 0) false ≡ false → list_any (λ y. eqb y (get_or ns i 0)) (take i ns) ≡ false →
+    touched_count (touching t (take (i + 1) ns)) ≡ touched_count (touching t (take i ns)) + 1
+touched_count_new t ns i inside known unmarked unlisted =
+    rw (take_more ns i 0 inside, touching-append t (take i ns) (get_or ns i 0 ∷ []))
+    (touched_count-set (touching t (take i ns)) (get_or ns i 0) (rw length-touching known)
+    (unlisted_unmarked t (take i ns) (get_or ns i 0) unmarked unlisted))
+
+pub touched_count_listed : (t : List Bool) (ns : List ℕ) (i : ℕ) → i < length ns → get_or ns i 0 < length t →
+    list_any (λ y. eqb y (get_or ns i 0)) (take i ns) ≡ true →
+    touched_count (touching t (take (i + 1) ns)) ≡ touched_count (touching t (take i ns))
+touched_count_listed t ns i inside known listed =
+    rw (take_more ns i 0 inside, touching-append t (take i ns) (get_or ns i 0 ∷ []))
+    (ap touched_count (set-marked (touching t (take i ns)) (get_or ns i 0) (listed_marked t (take i ns) (get_or ns i 0) known listed)))
+
+pub touched_count_marked : (t : List Bool) (ns : List ℕ) (i : ℕ) → i < length ns → get_or ns i 0 < length t →
+    get_or t (get_or ns i 0) false ≡ true →
+    touched_count (touching t (take (i + 1) ns)) ≡ touched_count (touching t (take i ns))
+touched_count_marked t ns i inside known marked =
+    rw (take_more ns i 0 inside, touching-append t (take i ns) (get_or ns i 0 ∷ []))
+    (ap touched_count (set-marked (touching t (take i ns)) (get_or ns i 0) (marked_stays t (take i ns) (get_or ns i 0) known marked)))
+
+-- one number more is marked after the others
+pub touching_more : (t : List Bool) (ns : List ℕ) (i : ℕ) → i < length ns → touching t (take (i + 1) ns) ≡ set (touching t (take i ns)) (get_or ns i 0) true
+touching_more t ns i inside = rw (take_more ns i 0 inside, touching-append t (take i ns) (get_or ns i 0 ∷ [])) refl

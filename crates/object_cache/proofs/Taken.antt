@@ -1,0 +1,125 @@
+-- What is taken of the saved objects when a device is opened, frame by frame.
+use Rattle.object_cache.proofs.Names.{inl, inr, ℕ, List, [], length, Option, Some, None, option_map, refl, sym, ap, subst, arith, cases_lt, length-set}
+use Rattle.object_cache.proofs.Names.{length-append, get_or-set_same, get_or-set_other, get_or_append_left, get_or_at, get_or_past, length-map, none-some}
+use Rattle.object_cache.proofs.Names.{same_Some, Frame, ObjectHeader, Content, Cap, blank_frame, frame_at, headers, EntriesState, entry_at, new_entry, with_new}
+use Rattle.object_cache.proofs.Names.{AreTaken, HaveRoom, HoldBodies, TakenState, HaveSpace}
+use Rattle.std.proofs.Common.{IsSome, is_some, replicate}
+use Rattle.std.proofs.lemmas.List.{get_or-replicate, length-replicate}
+use Rattle.object_cache.proofs.Names.{Entry, all_of}
+use Rattle.object_cache.specs.StoreState.{AreAll}
+use Rattle.std.proofs.Common.{◌≡◌, ◌<◌, ◌≤◌, ◌+◌, ◌∷◌, ◌++◌, ◌∙◌}
+
+pub none_entered : (k n : ℕ) → entry_at (replicate k None) n ≡ None
+none_entered k n = elim (cases_lt n k) [
+  | inl lt ↦ get_or-replicate k n None None lt
+  | inr past ↦ get_or_past (replicate k None) n None (let size = length-replicate {A = Option Entry} k None in omega (arith, size, past))
+]
+
+-- no entries
+pub blank_room : (count : ℕ) (e : EntriesState) → e ≡ record { at = replicate count None; order = []; most = all_of count } → 8 ≤ all_of count →
+    count ≤ all_of count → HaveRoom e 0 count
+blank_room count e is least whole = subst (λ (x : EntriesState). HaveRoom x 0 count) (sym is) (record {
+  each = length-replicate {A = Option Entry} count None;
+  used = refl;
+  most = refl;
+  least = least;
+  whole = whole;
+  later = λ n past. none_entered count n;
+})
+
+pub blank_hold : (fs : List Frame) (most : ℕ) → 8 ≤ most → HoldBodies (record { at = replicate (length fs) None; order = []; most = most }) fs
+blank_hold fs most least = record {
+  each = length-replicate {A = Option Entry} (length fs) None;
+  bodies = λ n x some. absurd (none-some x (sym (none_entered (length fs) n) ∙ some));
+  least = least;
+}
+
+-- one more
+module _ (e : EntriesState) (taken count : ℕ) (room : HaveRoom e taken count) (below : taken < count) (c : Content Cap) where
+  pub one_room : HaveRoom (with_new taken c e) (taken + 1) count
+  one_room = record {
+    each = length-set e.at taken (Some (new_entry c)) ∙ room.each;
+    used = omega (arith, room.used);
+    most = room.most;
+    least = room.least;
+    whole = room.whole;
+    later = λ n past. get_or-set_other e.at taken n (Some (new_entry c)) None (λ same. omega (arith, past, same)) ∙ room.later n (omega (arith, past));
+  }
+
+  pub one_body : (fs : List Frame) (f : Frame) → length fs ≡ taken → f.content ≡ c →
+      ((n : ℕ) → n < length fs → entry_at e.at n ≡ Some (new_entry (frame_at fs n).content)) →
+      (n : ℕ) → n < length (fs ++ f ∷ []) → entry_at (with_new taken c e).at n ≡ Some (new_entry (frame_at (fs ++ f ∷ []) n).content)
+  one_body fs f many is before n within = elim (cases_lt n (length fs)) [
+    | inl earlier ↦
+        get_or-set_other e.at taken n (Some (new_entry c)) None (λ same. omega (arith, earlier, many, same)) ∙ before n earlier
+        ∙ ap (λ (g : Frame). Some (new_entry g.content)) (sym (get_or_append_left fs (f ∷ []) blank_frame n earlier))
+    | inr last ↦
+        let same : taken ≡ n = omega (arith, last, within, many, length-append fs (f ∷ [])) in
+        subst (λ (i : ℕ). entry_at (with_new taken c e).at i ≡ Some (new_entry (frame_at (fs ++ f ∷ []) i).content)) same
+        (get_or-set_same e.at taken (Some (new_entry c)) None (omega (arith, below, room.each))
+        ∙ ap (λ (x : Content Cap). Some (new_entry x)) (sym is)
+        ∙ ap (λ (g : Frame). Some (new_entry g.content)) (sym (get_or_at fs f [] blank_frame taken many)))
+  ]
+
+module _ (o : Option EntriesState) (taken count : ℕ) (below : taken < count) (rooms : (e : EntriesState) → o ≡ Some e → HaveRoom e taken count) where
+  pub space_in : (e : EntriesState) → o ≡ Some e → HaveSpace e taken
+  space_in e at = let room = rooms e at in record {
+    known = omega (arith, below, room.each);
+    absent = room.later taken (omega arith);
+    room = omega (arith, below, room.used, room.whole);
+  }
+
+  pub kept_room : (c : Content Cap) (e : EntriesState) → option_map (with_new taken c) o ≡ Some e → HaveRoom e (taken + 1) count
+  kept_room c e is = go o refl is
+    where
+      go : (p : Option EntriesState) → o ≡ p → option_map (with_new taken c) p ≡ Some e → HaveRoom e (taken + 1) count
+      go None at gone = absurd (none-some e gone)
+      go (Some x) at some = subst (λ (y : EntriesState). HaveRoom y (taken + 1) count) (same_Some (with_new taken c x) e some)
+          (one_room x taken count (rooms x at) below c)
+
+headers_more : (fs : List Frame) (f : Frame) → headers (fs ++ f ∷ []) ≡ headers fs ++ f.header ∷ []
+headers_more [] f = refl
+headers_more (g ∷ gs) f = ap (λ (hs : List ObjectHeader). g.header ∷ hs) (headers_more gs f)
+
+pub taken_more : (s : TakenState) (fs : List Frame) (f : Frame) → length s.headers < s.count →
+    ((e : EntriesState) → s.entries ≡ Some e → HaveRoom e (length s.headers) s.count) → AreTaken s fs →
+    AreTaken (record { headers = s.headers ++ f.header ∷ []; entries = option_map (with_new (length s.headers) f.content) s.entries; count = s.count })
+    (fs ++ f ∷ [])
+taken_more s fs f below rooms took = record {
+  headers_are = ap (λ (hs : List ObjectHeader). hs ++ f.header ∷ []) took.headers_are ∙ sym (headers_more fs f);
+  bodies = λ e is. go s.entries refl e is;
+} where
+  many : length fs ≡ length s.headers
+  many = omega (arith, ap length took.headers_are, length-map fs (λ (f : Frame). f.header))
+
+  go : (p : Option EntriesState) → s.entries ≡ p → (e : EntriesState) → option_map (with_new (length s.headers) f.content) p ≡ Some e →
+      (n : ℕ) → n < length (fs ++ f ∷ []) → entry_at e.at n ≡ Some (new_entry (frame_at (fs ++ f ∷ []) n).content)
+  go None at e gone = absurd (none-some e gone)
+  go (Some x) at e some =
+      subst (λ (y : EntriesState). (n : ℕ) → n < length (fs ++ f ∷ []) → entry_at y.at n ≡ Some (new_entry (frame_at (fs ++ f ∷ []) n).content))
+      (same_Some (with_new (length s.headers) f.content x) e some)
+      (one_body x (length s.headers) s.count (rooms x at) below f.content fs f many refl (took.bodies x at))
+
+-- all of them
+module _ (s : TakenState) (fs : List Frame) (took : AreTaken s fs) (e : EntriesState) (at : s.entries ≡ Some e) (room : HaveRoom e (length s.headers) s.count)
+    (all : length s.headers ≡ s.count) where
+  frames_count : length fs ≡ length e.at
+  frames_count = omega (arith, ap length took.headers_are, length-map fs (λ (f : Frame). f.header), room.each, all)
+
+  pub taken_hold : HoldBodies e fs
+  taken_hold = record {
+    each = sym frames_count;
+    bodies = λ n x some. elim (cases_lt n (length fs)) [
+      | inl within ↦ sym (same_Some (new_entry (frame_at fs n).content) x (sym (took.bodies e at n within) ∙ some))
+      | inr past ↦ absurd (none-some x (sym (get_or_past e.at n None (omega (arith, past, frames_count))) ∙ some))
+    ];
+    least = room.least;
+  }
+
+  pub taken_all : AreAll e
+  taken_all n within = ap is_some (took.bodies e at n (omega (arith, within, frames_count)))
+
+-- there is memory for one more of the frames
+pub taken_below : (s : TakenState) (fs : List Frame) → AreTaken s fs → length fs < s.count → length s.headers < s.count
+taken_below s fs took few = let size = ap (λ (hs : List ObjectHeader). length hs) took.headers_are ∙
+    length-map fs (λ (f : Frame). f.header) in omega (arith, size, few)
