@@ -4,6 +4,8 @@ pub use Rattle.capability.proofs.Keeping.{keepable_roles}
 pub use Rattle.capability.proofs.Mapped.{kind_map, mapped}
 pub use Rattle.capability.proofs.References.{not_annex, not_node, not_root}
 pub use Rattle.capability.specs.Parts.{HaveTheirRoles, OnlyFetches, Parts, frames_of, objects_in}
+pub use Rattle.layout.specs.declared.bad_image.BadImage.{BadImage}
+pub use Rattle.layout.specs.declared.bad_image.BadImage.TheVariants.{BadBank, BadCapability, BadProcess}
 unfoldable pub use Rattle.model.specs.Bank.{chain, usage}
 pub use Rattle.model.specs.Capability.{IsWellFormed}
 pub use Rattle.model.specs.Frame.{blank_frame, content_behind, conveyed, current_count, frame_at, header_at, headers, held_at, object_of, void_held}
@@ -43,6 +45,4 @@ pub use Rattle.consistency.specs.Consistency.{IsUnbanked, NamesItsRole, Tells, a
 pub use Rattle.consistency.specs.Laws.{ConsistentIsSound, InconsistentIsUnsound}
 pub use Rattle.consistency.specs.Noted.{AreNoted, AreTaken, IsTaking, is_taken, note_at, noted_in}
 pub use Rattle.consistency.specs.declared.processes.Noted.{Noted}
-pub use Rattle.consistency.specs.declared.reason.Inconsistency.{Inconsistency}
-pub use Rattle.consistency.specs.declared.reason.Inconsistency.TheVariants.{BadBank, BadCapability, BadProcess}
 pub use Rattle.consistency.specs.declared.reason.Unbanked.{Unbanked}

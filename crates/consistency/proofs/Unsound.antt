@@ -88,3 +88,4 @@ pub inconsistent_is_unsound : InconsistentIsUnsound
 inconsistent_is_unsound g age fs BadCapability why h = why (sound_named g age fs h)
 inconsistent_is_unsound g age fs BadProcess why h = why.1 (sound_whole g age fs h)
 inconsistent_is_unsound g age fs BadBank why h = why.2 (sound_banked g age fs h)
+inconsistent_is_unsound g age fs _ why h = absurd why

@@ -14,8 +14,8 @@ use Rattle.model.specs.Bank.{chain, usage}
 use Rattle.model.specs.Frame.{current_count, frame_at, headers, objects_of}
 use Rattle.model.specs.Keepable.{caps_in}
 use Rattle.model.specs.Object.{is_waiting, limit_in}
-use Rattle.consistency.specs.declared.reason.Inconsistency.{Inconsistency}
-use Rattle.consistency.specs.declared.reason.Inconsistency.TheVariants.{BadCapability, BadProcess, BadBank}
+use Rattle.layout.specs.declared.bad_image.BadImage.{BadImage}
+use Rattle.layout.specs.declared.bad_image.BadImage.TheVariants.{BadCapability, BadProcess, BadBank}
 use Rattle.consistency.specs.declared.reason.Unbanked.{Unbanked}
 use Rattle.consistency.specs.declared.reason.Unbanked.TheVariants as bank
 
@@ -102,13 +102,21 @@ IsAboveLimit fs usages limits (bank.Limit b used limit) = (role_at fs b ≡ role
     (limit ≡ slice_index limits b) × (limit < used)
 IsAboveLimit fs usages limits _ = ⊥
 
--- the least reason why frames stand for no sound world
-abbrev pub IsInconsistent : List Frame → Inconsistency → Type 0
+-- The least of the reasons 8 to 10 why frames stand for no sound world:
+-- - `BadCapability`: a capability has a greater count than its object, or is live and its object isn't what it is for,
+--   or resumes a process that doesn't wait.
+-- - `BadProcess`: a root and an annex don't belong together. The root's annex is none, has another owner, or is that of
+--   another root too, or an annex has no root.
+-- - `BadBank`: number 0 isn't a bank that owns itself, an object's owner isn't a bank, a bank's chain of at most 16
+--   banks doesn't reach number 0, or a bank accounts for more than its limit.
+-- No frames are inconsistent for another reason.
+abbrev pub IsInconsistent : List Frame → BadImage → Type 0
 IsInconsistent fs BadCapability = AreNamed fs → ⊥
 IsInconsistent fs BadProcess = AreNamed fs × (AreWholeProcesses fs → ⊥)
 IsInconsistent fs BadBank = AreNamed fs × AreWholeProcesses fs × (AreBanked fs → ⊥)
+IsInconsistent fs _ = ⊥
 
 -- what the search for a reason finds: none where the frames are consistent, else the least
-abbrev pub Tells : List Frame → Option Inconsistency → Type 0
+abbrev pub Tells : List Frame → Option BadImage → Type 0
 Tells fs None = AreNamed fs × AreWholeProcesses fs × AreBanked fs
 Tells fs (Some why) = IsInconsistent fs why

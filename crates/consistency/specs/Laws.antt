@@ -3,7 +3,7 @@ use Rattle.std.specs.Prelude.{ℕ, ◌^◌, ◌≤◌, List}
 use Rattle.model.specs.declared.frame.Frame.{Frame}
 use Rattle.model.specs.declared.geometry.Geometry.{Geometry}
 use Rattle.model.specs.Keepable.{AreKeepable, IsSoundFrames}
-use Rattle.consistency.specs.declared.reason.Inconsistency.{Inconsistency}
+use Rattle.layout.specs.declared.bad_image.BadImage.{BadImage}
 use Rattle.consistency.specs.Consistency.{AreBanked, AreNamed, AreWholeProcesses, IsInconsistent}
 
 -- frames that can be kept, and for which no reason holds, are sound
@@ -13,5 +13,5 @@ ConsistentIsSound = (g : Geometry) (age : ℕ) (fs : List Frame) → AreKeepable
 
 -- frames for which a reason holds aren't
 abbrev pub InconsistentIsUnsound : Type 0
-InconsistentIsUnsound = (g : Geometry) (age : ℕ) (fs : List Frame) (why : Inconsistency) → IsInconsistent fs why →
+InconsistentIsUnsound = (g : Geometry) (age : ℕ) (fs : List Frame) (why : BadImage) → IsInconsistent fs why →
     IsSoundFrames g age fs → ⊥

@@ -1,5 +1,5 @@
 // The check of all frames.
-ghost use Rattle.std.specs.Prelude.{◌↔◌, ◌<◌, ◌≤◌, ◌^◌, IfOk, OnOk, IsErrOf};
+ghost use Rattle.std.specs.Prelude.{◌≡◌, ◌↔◌, ◌<◌, ◌≤◌, ◌^◌, IfOk, OnOk, IsErrOf};
 ghost use Rattle.model.specs.Keepable.{AreKeepable, IsSoundFrames};
 ghost use Rattle.capability.specs.Parts.{OnlyReads, OnlyFetches, frames_of};
 ghost use Rattle.consistency.specs.Consistency.{IsInconsistent, Tells};
@@ -7,26 +7,38 @@ ghost use Rattle.consistency.specs.Consistency.{IsInconsistent, Tells};
 use crate::banks::find_unbanked;
 use crate::capabilities::are_named;
 use crate::processes::{are_whole, read_notes};
-use crate::reason::{CheckFault, Inconsistency};
 use capability::{Frames, ReadFault};
+use checkpoint::OpenFault;
+use layout::BadImage;
 use std::alloc::Global;
 
 // The least reason why frames that can be kept are inconsistent, if there is one.
-fn reason<F: Frames>(alloc: Global, store: &mut F) -> Result<Option<Inconsistency>, ReadFault>
+fn reason<F: Frames>(alloc: Global, store: &mut F) -> Result<Option<BadImage>, ReadFault>
     requires { AreKeepable (F.parts store.old).geometry u64.MAX (frames_of (F.parts store.old)) }
     ensures tells { IfOk result (λ why. Tells (frames_of (F.parts store.old)) why) }
     ensures only_reads { OnlyReads F.parts F.ContinuesTo store.old store.new result }
 {
     let notes = read_notes(alloc, store)?;
     if !are_named(store, &notes)? {
-        return Ok(Some(Inconsistency::BadCapability));
+        return Ok(Some(BadImage::BadCapability));
     }
     if !are_whole(alloc, store, &notes)? {
-        return Ok(Some(Inconsistency::BadProcess));
+        return Ok(Some(BadImage::BadProcess));
     }
     match find_unbanked(alloc, store)? {
         None => Ok(None),
-        Some(_) => Ok(Some(Inconsistency::BadBank)),
+        Some(_) => Ok(Some(BadImage::BadBank)),
+    }
+}
+
+/// The fault of opening a device whose objects can't be read.
+pub fn opening_fault(fault: ReadFault) -> OpenFault
+    ensures failed { (result ≡ OpenFault.Failed) ↔ (fault ≡ ReadFault.Failed) }
+    ensures no_reason { (why : BadImage) → result ≡ OpenFault.Bad why → ⊥ }
+{
+    match fault {
+        ReadFault::NoMemory => OpenFault::NoMemory,
+        ReadFault::Failed => OpenFault::Failed,
     }
 }
 
@@ -36,26 +48,25 @@ fn reason<F: Frames>(alloc: Global, store: &mut F) -> Result<Option<Inconsistenc
 /// Every object is read, one at a time, and no object changes. Takes memory in proportion to the
 /// number of objects, and gives it back.
 ///
-/// `Inconsistent` with the least reason if they stand for none: the capabilities are checked first,
-/// then the processes, then the banks. `NoMemory` if memory ran out, and `Failed` exactly if the
-/// device failed.
-pub fn check<F: Frames>(alloc: Global, store: &mut F, age: u64) -> Result<(), CheckFault>
+/// `Bad` with the least of the reasons 8 to 10 if they stand for none: the capabilities are checked
+/// first, then the processes, then the banks. `NoMemory` if memory ran out, and `Failed` exactly if
+/// the device failed.
+pub fn check<F: Frames>(alloc: Global, store: &mut F, age: u64) -> Result<(), OpenFault>
     requires keepable { AreKeepable (F.parts store.old).geometry age
         (frames_of (F.parts store.old)) }
     requires most { age ≤ 2 ^ 62 }
     ensures sound { OnOk result (IsSoundFrames (F.parts store.old).geometry age
         (frames_of (F.parts store.old))) }
-    ensures inconsistent { (why : Inconsistency) → IsErrOf result (CheckFault.Inconsistent why)
+    ensures inconsistent { (why : BadImage) → IsErrOf result (OpenFault.Bad why)
         → IsInconsistent (frames_of (F.parts store.old)) why }
     ensures snapshots { OnlyFetches F.parts F.ContinuesTo store.old store.new }
     ensures later { (F.parts store.old).failures ≤ (F.parts store.new).failures }
-    ensures cause { IsErrOf result CheckFault.Failed
+    ensures cause { IsErrOf result OpenFault.Failed
         ↔ ((F.parts store.old).failures < (F.parts store.new).failures) }
 {
     match reason(alloc, store) {
         Ok(None) => Ok(()),
-        Ok(Some(why)) => Err(CheckFault::Inconsistent(why)),
-        Err(ReadFault::NoMemory) => Err(CheckFault::NoMemory),
-        Err(ReadFault::Failed) => Err(CheckFault::Failed),
+        Ok(Some(why)) => Err(OpenFault::Bad(why)),
+        Err(fault) => Err(opening_fault(fault)),
     }
 }

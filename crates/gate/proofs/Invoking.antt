@@ -2,7 +2,7 @@
 use Rattle.gate.proofs.Names.{ℕ, Bool, false, List, Option, None, Some, Result, Ok, Err, refl, sym, ap, subst, ⊎_elim, arith, cases_lt, IfOk, IsErrOf, IsTrue}
 use Rattle.gate.proofs.Names.{OnErr, Invocation, Geometry, Object, ResultCode, Effect, invoke, AreCurrent, AreKeepable, touching, touched_count, Fits}
 use Rattle.gate.proofs.Names.{is_running_process, PrepareFault, IsUnchanged, Parts, Prepares, Renews, frames_of, objects_in, InvokeFault, Invoked}
-use Rattle.gate.proofs.Names.{FetchesOrFails, Failed, IsErr, Invokes, Overfills, fault_of, result_code}
+use Rattle.gate.proofs.Names.{FetchesOrFails, Failed, IsErr, Invokes, IsOfGate, Overfills, fault_of, result_code}
 use Rattle.std.proofs.Common.{◌≡◌, ◌+◌, ◌^◌, ◌<◌, ◌≤◌, ◌∙◌}
 use Rattle.model.specs.declared.command.Command.TheVariants as command
 use Rattle.capability.specs.declared.present.PrepareFault.TheVariants as prepare
@@ -21,6 +21,10 @@ never_stalled prepare.Failed is = cc
 never_stopped : (e : PrepareFault) → IsErrOf {T = Option ResultCode} (Err (fault_of e)) fault.NotRunning → ⊥
 never_stopped prepare.LogFull is = cc
 never_stopped prepare.Failed is = cc
+
+gate_fault : (e : PrepareFault) → IsOfGate (fault_of e)
+gate_fault prepare.LogFull = tt
+gate_fault prepare.Failed = tt
 
 failed_fault : {T U : Type 0} (e : PrepareFault) → IsErrOf {T = U} (Err (fault_of e)) fault.Failed → IsErrOf {T = T} (Err e) prepare.Failed
 failed_fault prepare.Failed is = refl
@@ -63,13 +67,15 @@ module _ {S : Type 0} (parts : S → Parts) (Continues : S → S → Type 0) (i 
         (subst (λ (ts : List Bool). P (parts t).geometry (objects_in (parts t)) ts) only_reads.snapshots.touched p))
 
     -- a refusal that only a read reported
-    found : (k : InvokeFault) → (IsErrOf {T = Option ResultCode} (Err k) fault.LogFull → ⊥) → (IsErrOf {T = Option ResultCode} (Err k) fault.Failed → ⊥) →
+    found : (k : InvokeFault) → IsOfGate k → (IsErrOf {T = Option ResultCode} (Err k) fault.LogFull → ⊥) →
+        (IsErrOf {T = Option ResultCode} (Err k) fault.Failed → ⊥) →
         (IsErrOf {T = Option ResultCode} (Err k) fault.NotRunning → is_running_process (objects_in (parts s)) i.process ≡ false) →
         (IsErrOf {T = Option ResultCode} (Err k) fault.Stalled → invoke (parts s).geometry (objects_in (parts s)) i ≡ None) →
         Invoked parts Continues s t i (Err k)
-    found k not_full not_failed stopped stalled = record {
+    found k of_gate not_full not_failed stopped stalled = record {
       done = tt;
       code = tt;
+      faults = of_gate;
       runs = stopped;
       stalled = stalled;
       full = λ is. absurd (not_full is);
@@ -83,12 +89,13 @@ module _ {S : Type 0} (parts : S → Parts) (Continues : S → S → Type 0) (i 
     }
 
     pub found_stalled : invoke (parts s).geometry (objects_in (parts s)) i ≡ None → Invoked parts Continues s t i (Err fault.Stalled)
-    found_stalled none = found fault.Stalled (λ is. cc) (λ is. cc) (λ is. cc) (λ is. none)
+    found_stalled none = found fault.Stalled tt (λ is. cc) (λ is. cc) (λ is. cc) (λ is. none)
 
     pub invoked_looked : (r : Result (Option ResultCode) InvokeFault) → Invoked parts Continues t u i r → Invoked parts Continues s u i r
     invoked_looked r is = record {
       done = on_ok r (before (λ g os ts. Invokes g i os ts (objects_in (parts u)) (parts u).touched)) is.done;
       code = if_ok r (λ code replying. before (λ g os ts. code ≡ result_code g os i) replying) is.code;
+      faults = is.faults;
       runs = λ e. before (λ g os ts. is_running_process os i.process ≡ false) (is.runs e);
       stalled = λ e. before (λ g os ts. invoke g os i ≡ None) (is.stalled e);
       full = λ e. before (λ g os ts. Overfills g i os ts) (is.full e);
@@ -115,6 +122,7 @@ module _ {S : Type 0} (parts : S → Parts) (Continues : S → S → Type 0) (i 
       unannounced f replying = record {
         done = tt;
         code = tt;
+        faults = gate_fault f;
         runs = λ is. absurd (never_stopped f is);
         stalled = λ is. absurd (never_stalled f is);
         full = λ is. overfills_by (parts s).geometry i (objects_in (parts s)) (parts s).touched e invoked
@@ -157,6 +165,7 @@ module _ {S : Type 0} (parts : S → Parts) (Continues : S → S → Type 0) (i 
                 (subst (λ (ts : List Bool). touched_count ts ≤ (parts s).geometry.log) (sym touched)
                 (subst (λ (g : Geometry). touched_count (parts m).touched ≤ g.log) there.geometry replying.within));
             code = is;
+            faults = tt;
             runs = λ is. cc;
             stalled = λ is. cc;
             full = λ is. cc;

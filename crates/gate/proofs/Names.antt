@@ -6,7 +6,7 @@ pub use Rattle.capability.proofs.KindNumbers.{bank_number, node_number, page_num
 pub use Rattle.capability.proofs.SnapshotLaws.{keeps_twice}
 pub use Rattle.capability.specs.Changes.{changed, message_of, outcome_by, target_of, written_of}
 pub use Rattle.capability.specs.Objects.{with_message}
-pub use Rattle.capability.specs.Parts.{AreSound, IsUnchanged, OnlyFetches, Parts, Prepares, Renews, frames_of, objects_in}
+pub use Rattle.capability.specs.Parts.{AreSound, FetchesOrFails, IsUnchanged, OnlyFetches, Parts, Prepares, Renews, frames_of, objects_in}
 pub use Rattle.capability.specs.declared.order.BankChange.{BankChange}
 pub use Rattle.capability.specs.declared.order.Caller.{Caller}
 pub use Rattle.capability.specs.declared.order.Change.{Change}
@@ -74,9 +74,8 @@ pub use Rattle.std.proofs.lemmas.Result.{err_from_is_err_and}
 pub use Rattle.std.specs.List.{All, Contains}
 pub use Rattle.std.specs.Option.{option_to_list}
 pub use Rattle.std.specs.Prelude.{IfOk, IsErr, IsErrOf, IsTrue, OnErr, OnOk, slice_index, slice_index_or, slice_set}
-pub use Rattle.capability.specs.Parts.{FetchesOrFails}
-pub use Rattle.gate.specs.Invoke.{Invoked, Invokes, IsKernelObject, IsRequested, KeepsSoundFrames, Overfills, entered, fault_of}
-pub use Rattle.gate.specs.Invoke.{gate_capability, received, result_code, written_through}
+pub use Rattle.gate.specs.Invoke.{Invoked, Invokes, IsKernelObject, IsOfGate, IsRequested, KeepsSoundFrames, Overfills, entered, fault_of, gate_capability}
+pub use Rattle.gate.specs.Invoke.{received, result_code, written_through}
 pub use Rattle.gate.specs.Ordering.{IsPlanned, Plans, answered, arguments_of, finished, ordered_by, state_before}
 pub use Rattle.gate.specs.Plan.{ChangesAs, FitsCap, HaveAnnexesOf, IsFor, IsOfProcess, IsWithinObject, MayChange, MayEdit, MayHold, fetched_of, node_named}
 pub use Rattle.gate.specs.Plan.{outcome_of, process_named}

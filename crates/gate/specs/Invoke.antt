@@ -3,7 +3,7 @@ use Rattle.gate.specs.Names.{ℕ, Bool, true, false, List, [], Option, None, Som
 use Rattle.gate.specs.Names.{OnErr, IsErrOf, Capability, Start, Resume, Invocation, Operation, Call, Send, Geometry}
 use Rattle.gate.specs.Names.{Object, ResultCode, Effect, invoke, after_gate, deliver, ordered, IsSoundFrames, touching}
 use Rattle.gate.specs.Names.{touched_count, consume, annex_at, is_running_process, register_at, Caller, PrepareFault}
-use Rattle.gate.specs.Names.{IsUnchanged, Parts, Renews, frames_of, objects_in, Failed, IsErr, OnlyFetches}
+use Rattle.gate.specs.Names.{IsUnchanged, Parts, Renews, frames_of, objects_in, Failed, IsErr, OnlyFetches, IfErr}
 use Rattle.std.specs.Prelude.{◌≡◌, ◌↔◌, ◌+◌, ◌^◌, ◌<◌, ◌≤◌, ◌∷◌, if◌then◌else◌}
 use Rattle.capability.specs.declared.present.PrepareFault.TheVariants as prepare
 use Rattle.gate.specs.declared.fault.InvokeFault.{InvokeFault}
@@ -54,6 +54,12 @@ abbrev pub KeepsSoundFrames : Parts → Parts → Type 0
 KeepsSoundFrames old new = (age : ℕ) → age < 2 ^ 62 → IsSoundFrames old.geometry age (frames_of old) →
     IsSoundFrames old.geometry (age + 1) (frames_of new)
 
+-- a fault that the gate may find; the others come before it
+abbrev pub IsOfGate : InvokeFault → Type 0
+IsOfGate fault.NoProcess = ⊥
+IsOfGate fault.Worn = ⊥
+IsOfGate _ = Unit {0}
+
 -- whether the process runs, where a result says so
 abbrev pub TellsState : List Object → Invocation → Result (Option ResultCode) InvokeFault → Type 0
 TellsState os i (Ok code) = is_running_process os i.process ≡ true
@@ -61,6 +67,8 @@ TellsState os i (Err fault.NotRunning) = is_running_process os i.process ≡ fal
 TellsState os i (Err fault.Stalled) = is_running_process os i.process ≡ true
 TellsState os i (Err fault.LogFull) = is_running_process os i.process ≡ true
 TellsState os i (Err fault.Failed) = Unit {0}
+TellsState os i (Err fault.NoProcess) = ⊥
+TellsState os i (Err fault.Worn) = ⊥
 
 -- The outcome of an invocation. After an error nothing has changed. The parameters are ghost members of a store of
 -- present frames.
@@ -70,6 +78,7 @@ pub record Invoked {S : Type 0} (parts : S → Parts) (Continues : S → S → T
       (Invokes (parts old).geometry i (objects_in (parts old)) (parts old).touched (objects_in (parts new))
       (parts new).touched)
   pub code : IfOk result (λ code. code ≡ result_code (parts old).geometry (objects_in (parts old)) i)
+  pub faults : IfErr result IsOfGate
   pub runs : IsErrOf result fault.NotRunning → is_running_process (objects_in (parts old)) i.process ≡ false
   pub stalled : IsErrOf result fault.Stalled → invoke (parts old).geometry (objects_in (parts old)) i ≡ None
   pub full : IsErrOf result fault.LogFull → Overfills (parts old).geometry i (objects_in (parts old))

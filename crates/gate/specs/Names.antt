@@ -37,5 +37,6 @@ pub use Rattle.space_bank.specs.Allocating.{numbers_of}
 pub use Rattle.space_bank.specs.Carrying.{MayMake}
 pub use Rattle.space_bank.specs.Planning.{writer_count, writers}
 pub use Rattle.std.specs.List.{All}
-pub use Rattle.std.specs.Prelude.{Bool, Err, IfOk, IsErr, IsErrOf, IsTrue, List, None, Ok, OnErr, OnOk, Option, Result}
-pub use Rattle.std.specs.Prelude.{Some, [], drop, false, length, slice_index, slice_index_or, slice_set, true, ℕ}
+pub use Rattle.std.specs.Prelude.{Bool, Err, IfErr, IfOk, IsErr, IsErrOf, IsTrue, List, None, Ok, OnErr, OnOk, Option}
+pub use Rattle.std.specs.Prelude.{Result, Some, [], drop, false, length, slice_index, slice_index_or, slice_set, true}
+pub use Rattle.std.specs.Prelude.{ℕ}

@@ -3,12 +3,19 @@ use capability::PrepareFault;
 use device::Failed;
 use thiserror::Error;
 
-/// Why an invocation wasn't carried out. Nothing was changed.
+/// Why an invocation wasn't carried out. Nothing was changed. `kernel` finds `NoProcess` and `Worn`
+/// before it calls `invoke`, which never gives them.
 #[derive(Clone, Copy, PartialEq, Eq, Debug, Error)]
 pub enum InvokeFault {
+    /// No process has the number.
+    #[error("no process")]
+    NoProcess,
     /// The process that invokes doesn't run.
     #[error("not running")]
     NotRunning,
+    /// The machine is at its greatest age.
+    #[error("worn")]
+    Worn,
     /// The process that is started isn't available.
     #[error("stalled")]
     Stalled,

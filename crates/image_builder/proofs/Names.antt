@@ -5,8 +5,6 @@ pub use Rattle.checkpoint.specs.Saved.{Holds, SavedFrames, kept_of}
 pub use Rattle.checkpoint.specs.declared.open_fault.OpenFault.{OpenFault}
 pub use Rattle.consistency.proofs.Unsound.{sound_banked, sound_named}
 pub use Rattle.consistency.specs.Consistency.{AreBanked, AreNamed, AreWholeProcesses, IsInconsistent}
-pub use Rattle.consistency.specs.declared.reason.Inconsistency.{Inconsistency}
-pub use Rattle.consistency.specs.declared.reason.Inconsistency.TheVariants.{BadBank, BadCapability, BadProcess}
 pub use Rattle.described_world.proofs.DescribedOnce.{described_once}
 pub use Rattle.described_world.specs.Described.{HasFields, HasNumbers, IsDescribed, IsWorldFault}
 pub use Rattle.described_world.specs.declared.fault.WorldFault.{WorldFault}
@@ -25,6 +23,8 @@ pub use Rattle.layout.specs.Directory.{IsDirectory, entry_at}
 pub use Rattle.layout.specs.Header.{IsHeader}
 pub use Rattle.layout.specs.Image.{Encodes, SavedState}
 pub use Rattle.layout.specs.Superblock.{Plan}
+pub use Rattle.layout.specs.declared.bad_image.BadImage.{BadImage}
+pub use Rattle.layout.specs.declared.bad_image.BadImage.TheVariants.{BadBank, BadCapability, BadProcess}
 pub use Rattle.layout.specs.declared.directory.Entry.{Entry}
 pub use Rattle.layout.specs.declared.version.Version.TheVariants.{Two}
 pub use Rattle.migrator.specs.Durable.{DurableState, saved_state, seen_of}

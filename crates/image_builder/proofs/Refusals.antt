@@ -1,10 +1,9 @@
 -- What is refused whatever the device, and with which fault.
 use Rattle.image_builder.proofs.Names.{ℕ, List, ap, refl, subst, sym, arith, IfErr, OnOk, Result, Ok, Err, Members, Disk, Cap, Frame, ObjectHeader, Geometry}
-use Rattle.image_builder.proofs.Names.{Content, frames_in, IsSoundFrames, sound_banked, sound_named, Inconsistency, BadCapability, BadProcess, BadBank}
-use Rattle.image_builder.proofs.Names.{AreBanked, AreNamed, AreWholeProcesses, IsInconsistent, Description, IsDescription, HasFields, HasNumbers, IsDescribed}
-use Rattle.image_builder.proofs.Names.{BuildFault, Shape, Limits, Number, Field, Target, Owner, Small, Failed, NoMemory, Builds, BuildsFrom, IsAccepted}
-use Rattle.image_builder.proofs.Names.{IsRefused, IsWithinLimits, Refuses, Rule, TellsNoSize, fault_number, AreLaid, IsRefusedEarly, IsSoundDescription}
-use Rattle.image_builder.proofs.Names.{described_once}
+use Rattle.image_builder.proofs.Names.{Content, frames_in, IsSoundFrames, sound_banked, sound_named, BadImage, BadCapability, BadProcess, BadBank, AreBanked}
+use Rattle.image_builder.proofs.Names.{AreNamed, AreWholeProcesses, IsInconsistent, Description, IsDescription, HasFields, HasNumbers, IsDescribed, BuildFault}
+use Rattle.image_builder.proofs.Names.{Shape, Limits, Number, Field, Target, Owner, Small, Failed, NoMemory, Builds, BuildsFrom, IsAccepted, IsRefused}
+use Rattle.image_builder.proofs.Names.{IsWithinLimits, Refuses, Rule, TellsNoSize, fault_number, AreLaid, IsRefusedEarly, IsSoundDescription, described_once}
 use Rattle.std.proofs.Common.{◌≡◌, ◌≢◌, ◌<◌}
 use Rattle.image_builder.proofs.Rules.{all_kept, field_broken, number_broken, owner_broken, small_broken, target_broken}
 
@@ -47,11 +46,12 @@ module _ (d : Description) (limits : IsWithinLimits d) where
     }
 
     -- the fault for a reason, which a process never is
-    pub reason_refused : AreWholeProcesses (frames_in hs cs) → (why : Inconsistency) (fault : BuildFault) → IsInconsistent (frames_in hs cs) why →
+    pub reason_refused : AreWholeProcesses (frames_in hs cs) → (why : BadImage) (fault : BuildFault) → IsInconsistent (frames_in hs cs) why →
         (why ≡ BadCapability → fault ≡ Target) → (why ≡ BadBank → fault ≡ Owner) → IsRefusedEarly d fault
     reason_refused whole BadCapability fault is target owner = subst (λ (f : BuildFault). IsRefusedEarly d f) (sym (target refl)) (capability_refused is)
     reason_refused whole BadProcess fault is target owner = absurd (is.1 whole)
     reason_refused whole BadBank fault is target owner = subst (λ (f : BuildFault). IsRefusedEarly d f) (sym (owner refl)) (bank_refused is.0 is.2)
+    reason_refused whole _ fault is target owner = absurd is
 
   module _ (s : IsSoundDescription d) (sectors : ℕ) where
     target_kept : Rule d sectors Target

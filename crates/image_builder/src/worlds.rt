@@ -5,9 +5,11 @@ ghost use Rattle.image_builder.specs.Checked.{AreLaid, IsRefusedEarly, IsSoundDe
 
 use crate::fault::BuildFault;
 use capability::Plain;
-use consistency::{CheckFault, Inconsistency, check};
+use checkpoint::OpenFault;
+use consistency::check;
 use described_world::{World, WorldFault, described_is_whole, lay_world};
 use description::Description;
+use layout::BadImage;
 use std::alloc::Global;
 
 // Lays the frames of a description.
@@ -25,14 +27,14 @@ fn lay(alloc: Global, description: &Description) -> Result<World, BuildFault>
     }
 }
 
-// The fault for a reason why frames are inconsistent. Processes are never one.
-fn fault_for(why: Inconsistency) -> BuildFault
-    ensures target { why ≡ Inconsistency.BadCapability → result ≡ BuildFault.Target }
-    ensures owner { why ≡ Inconsistency.BadBank → result ≡ BuildFault.Owner }
+// The fault for a reason why frames are inconsistent. Processes are never one, nor are reasons 1 to 7.
+fn fault_for(why: BadImage) -> BuildFault
+    ensures target { why ≡ BadImage.BadCapability → result ≡ BuildFault.Target }
+    ensures owner { why ≡ BadImage.BadBank → result ≡ BuildFault.Owner }
 {
     match why {
-        Inconsistency::BadCapability | Inconsistency::BadProcess => BuildFault::Target,
-        Inconsistency::BadBank => BuildFault::Owner,
+        BadImage::BadBank => BuildFault::Owner,
+        _ => BuildFault::Target,
     }
 }
 
@@ -53,9 +55,9 @@ fn check_frames(
     described_is_whole();
     match check(alloc, frames, description.age) {
         Ok(()) => Ok(()),
-        Err(CheckFault::Inconsistent(why)) => Err(fault_for(why)),
-        Err(CheckFault::NoMemory) => Err(BuildFault::NoMemory),
-        Err(CheckFault::Failed) => unreachable!(),
+        Err(OpenFault::Bad(why)) => Err(fault_for(why)),
+        Err(OpenFault::NoMemory) => Err(BuildFault::NoMemory),
+        Err(OpenFault::Failed) => unreachable!(),
     }
 }
 

@@ -13,8 +13,6 @@ pub use Rattle.consistency.proofs.Tables.{annex_known, content_read, header_read
 pub use Rattle.consistency.specs.Consistency.{AreNamed, AreWholeProcesses, IsInconsistent, IsNamed}
 pub use Rattle.consistency.specs.Noted.{AreNoted}
 pub use Rattle.consistency.specs.declared.processes.Noted.{Noted}
-pub use Rattle.consistency.specs.declared.reason.Inconsistency.{Inconsistency}
-pub use Rattle.consistency.specs.declared.reason.Inconsistency.TheVariants.{BadBank, BadCapability, BadProcess}
 pub use Rattle.device.proofs.Images.{agrees_is}
 pub use Rattle.device.proofs.Moments.{CountsNow, peeks_on}
 pub use Rattle.device.specs.Calls.{Agrees, AreSectors}
@@ -24,6 +22,7 @@ pub use Rattle.kernel.specs.Opening.{IsNoReason}
 pub use Rattle.layout.proofs.Denoted.{frames_not_bad}
 pub use Rattle.layout.specs.Image.{IsBadBy}
 pub use Rattle.layout.specs.declared.bad_image.BadImage.{BadImage}
+pub use Rattle.layout.specs.declared.bad_image.BadImage.TheVariants.{BadBank, BadCapability, BadProcess}
 pub use Rattle.migrator.specs.Durable.{DurableState}
 pub use Rattle.model.specs.Frame.{content_behind, current_count, frame_at, header_at, void_held}
 pub use Rattle.model.specs.Keepable.{AreKeepable, caps_in}
@@ -36,7 +35,6 @@ pub use Rattle.object_cache.specs.StoreState.{StoreState, parts_of, view_of}
 pub use Rattle.object_store.specs.Store.{OpensStore}
 pub use Rattle.recovery.proofs.Denoted.{holds_one}
 pub use Rattle.recovery.specs.Denotes.{saved_of}
-pub use Rattle.recovery.specs.Recovered.{IsUnfit}
 pub use Rattle.sector_faults.proofs.OneReason.{whole_not_bad}
 pub use Rattle.sector_faults.specs.Breaking.{IsFault}
 pub use Rattle.sector_faults.specs.Finding.{IsWhole}

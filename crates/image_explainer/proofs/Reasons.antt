@@ -1,13 +1,11 @@
 -- Faults as reasons to refuse an image.
 use Rattle.image_explainer.proofs.Names.{ℕ, List, Option, None, Some, Ok, inl, inr, ⊎_elim, refl, sym, ap, subst, Frame, Cap, void_held, AreKeepable, Disk}
-use Rattle.image_explainer.proofs.Names.{Image, BadImage, OpenFault, OnlyReads, Holds, SavedFrames, Inconsistency, BadBank, BadCapability, BadProcess, AreNamed}
+use Rattle.image_explainer.proofs.Names.{Image, BadImage, OpenFault, OnlyReads, Holds, SavedFrames, BadBank, BadCapability, BadProcess, AreNamed}
 use Rattle.image_explainer.proofs.Names.{AreWholeProcesses, IsInconsistent, IsNamed, frames_of, unbanked_refuted, consistent_is_sound, OpensStore, StoreState}
-use Rattle.image_explainer.proofs.Names.{parts_of, view_of, saved_of, IsUnfit, holds_one, frames_not_bad, SectorFault, IsFault, ImageFault, Misnamed, Unmatched}
+use Rattle.image_explainer.proofs.Names.{parts_of, view_of, saved_of, holds_one, frames_not_bad, SectorFault, IsFault, ImageFault, Misnamed, Unmatched}
 use Rattle.image_explainer.proofs.Names.{BreaksFrames, IsMisnamed, IsUnmatched, reason_of, AreBadForOneReason, Explains, IsExplainedBy, IsConsistentOr}
 use Rattle.std.proofs.Common.{◌≡◌, ◌≤◌, ◌^◌, ◌∙◌}
 use Rattle.std.specs.Prelude.{Result}
-use Rattle.checkpoint.specs.declared.open_fault.OpenFault.TheVariants as open_fault
-use Rattle.recovery.specs.Recovered.{reason_of as inconsistent_reason}
 use Rattle.sector_faults.proofs.OneReason.{one_reason as one_sector_reason}
 use Rattle.image_explainer.specs.declared.fault.ImageFault.TheVariants as fault
 use Rattle.image_explainer.specs.declared.fault.Unmatched.TheVariants as unmatched
@@ -21,18 +19,18 @@ unwhole fs (unmatched.Shared first second annex) is whole = is.2 (whole.one_root
 unwhole fs (unmatched.Rootless annex) is whole = let root = whole.some_root annex is.0 in is.1 root.0 root.1
 
 -- frames with a fault are inconsistent for its reason
-unfit : (fs : List Frame) (f : ImageFault) → BreaksFrames fs f → IsUnfit fs (open_fault.Bad (reason_of f))
-unfit fs (fault.Sectors f) is = absurd is
-unfit fs (fault.Capability m) is = (BadCapability, refl, unnamed fs m is)
-unfit fs (fault.Process u) is = (BadProcess, refl, (is.0, unwhole fs u is.1))
-unfit fs (fault.Bank u) is = (BadBank, refl, (is.0, is.1, unbanked_refuted fs u is.2))
+inconsistent : (fs : List Frame) (f : ImageFault) → BreaksFrames fs f → IsInconsistent fs (reason_of f)
+inconsistent fs (fault.Sectors f) is = absurd is
+inconsistent fs (fault.Capability m) is = unnamed fs m is
+inconsistent fs (fault.Process u) is = (is.0, unwhole fs u is.1)
+inconsistent fs (fault.Bank u) is = (is.0, is.1, unbanked_refuted fs u is.2)
 
 explained_frames : (size : ℕ) (c : Image) (saved : SavedFrames) (f : ImageFault) → Holds size c saved → BreaksFrames saved.frames f →
     IsExplainedBy size c (Some f)
 explained_frames size c saved (fault.Sectors f) holds is = absurd is
-explained_frames size c saved (fault.Capability m) holds is = (inr (saved, holds, unfit saved.frames (fault.Capability m) is), (saved, holds, is))
-explained_frames size c saved (fault.Process u) holds is = (inr (saved, holds, unfit saved.frames (fault.Process u) is), (saved, holds, is))
-explained_frames size c saved (fault.Bank u) holds is = (inr (saved, holds, unfit saved.frames (fault.Bank u) is), (saved, holds, is))
+explained_frames size c saved (fault.Capability m) holds is = (inr (saved, holds, inconsistent saved.frames (fault.Capability m) is), (saved, holds, is))
+explained_frames size c saved (fault.Process u) holds is = (inr (saved, holds, inconsistent saved.frames (fault.Process u) is), (saved, holds, is))
+explained_frames size c saved (fault.Bank u) holds is = (inr (saved, holds, inconsistent saved.frames (fault.Bank u) is), (saved, holds, is))
 
 -- a fault of sectors
 pub explained_sectors : (size : ℕ) (c : Image) (f : SectorFault) → IsFault size c f → IsExplainedBy size c (Some (fault.Sectors f))
@@ -84,7 +82,7 @@ module _ {D : Type 0} (disk : D → Disk) (device back : D) (s : StoreState D) (
       )
 
 -- frames are inconsistent for one reason
-one_inconsistency : (fs : List Frame) (a b : Inconsistency) → IsInconsistent fs a → IsInconsistent fs b → a ≡ b
+one_inconsistency : (fs : List Frame) (a b : BadImage) → IsInconsistent fs a → IsInconsistent fs b → a ≡ b
 one_inconsistency fs BadCapability BadCapability x y = refl
 one_inconsistency fs BadCapability BadProcess x y = absurd (x y.0)
 one_inconsistency fs BadCapability BadBank x y = absurd (x y.0)
@@ -94,9 +92,10 @@ one_inconsistency fs BadProcess BadBank x y = absurd (x.1 y.1)
 one_inconsistency fs BadBank BadCapability x y = absurd (y x.0)
 one_inconsistency fs BadBank BadProcess x y = absurd (y.1 x.1)
 one_inconsistency fs BadBank BadBank x y = refl
-
-one_unfit : (fs : List Frame) (a b : BadImage) → IsUnfit fs (open_fault.Bad a) → IsUnfit fs (open_fault.Bad b) → a ≡ b
-one_unfit fs a b x y = x.1 ∙ ap inconsistent_reason (one_inconsistency fs x.0 y.0 x.2 y.2) ∙ sym y.1
+one_inconsistency fs BadCapability _ x y = absurd y
+one_inconsistency fs BadProcess _ x y = absurd y
+one_inconsistency fs BadBank _ x y = absurd y
+one_inconsistency fs _ b x y = absurd x
 
 -- an image is bad for one reason
 pub one_reason : AreBadForOneReason
@@ -107,7 +106,7 @@ one_reason size c a b x y = ⊎_elim
     y)
     (λ first. ⊎_elim
     (λ second. absurd (frames_not_bad c size first.1.0 first.1.1 b second))
-    (λ second. one_unfit second.0.frames a b
-    (subst (λ (s : SavedFrames). IsUnfit s.frames (open_fault.Bad a)) (holds_one size c first.0 second.0 first.1 second.1) first.2) second.2)
+    (λ second. one_inconsistency second.0.frames a b
+    (subst (λ (s : SavedFrames). IsInconsistent s.frames a) (holds_one size c first.0 second.0 first.1 second.1) first.2) second.2)
     y)
     x

@@ -12,25 +12,14 @@ ghost use Rattle.image_explainer.specs.Explained.{Explains};
 
 use crate::fault::ImageFault;
 use crate::objects::find_in_objects;
-use capability::ReadFault;
 use checkpoint::OpenFault;
+use consistency::opening_fault;
 use device::{Device, SECTOR_SIZE};
 use layout::{Entry, MAX_LOG, Scratch};
 use object_cache::PlainStore;
 use object_store::ObjectStore;
 use sector_faults::{SectorFault, find_in_sectors};
 use std::alloc::{AllocError, Global};
-
-// Why a search among objects ends without an answer.
-fn fault_of(fault: ReadFault) -> OpenFault
-    ensures failed { (result ≡ OpenFault.Failed) ↔ (fault ≡ ReadFault.Failed) }
-    ensures other { IsNoReason result }
-{
-    match fault {
-        ReadFault::NoMemory => OpenFault::NoMemory,
-        ReadFault::Failed => OpenFault::Failed,
-    }
-}
 
 // What is wrong with the objects of a store that was made of a device, and the device beneath.
 fn explain_objects<D: Device>(
@@ -47,7 +36,7 @@ fn explain_objects<D: Device>(
     let device = store.into_device();
     match found {
         Ok(found) => (Ok(found), device),
-        Err(fault) => (Err(fault_of(fault)), device),
+        Err(fault) => (Err(opening_fault(fault)), device),
     }
 }
 

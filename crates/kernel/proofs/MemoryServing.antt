@@ -3,7 +3,7 @@ use Rattle.kernel.proofs.Names.{ℕ, Bool, true, List, [], Option, None, Some, R
 use Rattle.kernel.proofs.Names.{Frame, ObjectHeader, Geometry, Object, header_at, objects_of, IsSoundFrames, Frozen, Saved, Machine, touching, touched_count}
 use Rattle.kernel.proofs.Names.{Step, is_process, is_running_process, with_word, none_in_frame, renewing_none, word_frame, SameFrame, frame_refl, tests_at}
 use Rattle.kernel.proofs.Names.{PrepareFault, IsUnchanged, OnlyFetches, Parts, frames_of, objects_in, IsLoaded, IsStored, KeepsSound, OverfillsStore}
-use Rattle.kernel.proofs.Names.{renews_none, IsEarly, Performs, machine_at, renewed_by, FetchesOrFails, IsErr, Failed}
+use Rattle.kernel.proofs.Names.{renews_none, InvokeFault, IsEarly, Performs, refusal_by, machine_at, renewed_by, FetchesOrFails, IsErr, Failed}
 use Rattle.std.proofs.Common.{◌≡◌, ◌↔◌, ◌%◌, ◌<◌, ◌≤◌, ◌∷◌, ◌∙◌}
 use Rattle.model.specs.declared.answer.Answer.TheVariants as answer
 use Rattle.model.specs.declared.answer.Refusal.TheVariants as refusal
@@ -57,21 +57,23 @@ machine_is age new renewed now frozen saved to_move os ts objects touched same =
     ∙ ap (λ (rs : List Bool). standing age rs frozen saved to_move (objects_in new) new.touched) same
 
 -- a process that can't act
-module _ {S : Type 0} (parts : S → Parts) (Continues : S → S → Type 0) (age : ℕ) (old new : S) (p address : ℕ) (why : Refusal)
+module _ {S : Type 0} (parts : S → Parts) (Continues : S → S → Type 0) (age : ℕ) (old new : S) (p address : ℕ) (why : InvokeFault)
     (sound : IsSoundFrames (parts old).geometry age (frames_of (parts old))) (early : IsEarly (objects_in (parts old)) p (Some why))
     (snapshots : OnlyFetches parts Continues old new) (later : (parts old).failures ≤ (parts new).failures)
     (stayed : (parts old).failures < (parts new).failures → ⊥) where
-  why_cause : (why ≡ refusal.Fault) ↔ ((parts old).failures < (parts new).failures)
-  why_cause = reported_cause why (early_fine (objects_in (parts old)) p why early) stayed
+  why_cause : (refusal_by why ≡ refusal.Fault) ↔ ((parts old).failures < (parts new).failures)
+  why_cause = reported_cause (refusal_by why) (early_fine (objects_in (parts old)) p why early) stayed
 
-  pub early_load : Performs age (parts old) (command.Load p address) (answer.Refused why) age (parts new)
+  pub early_load : Performs age (parts old) (command.Load p address) (answer.Refused (refusal_by why)) age (parts new)
   early_load =
-      refused_serves age (parts old) (parts new) (command.Load p address) why (looked_same parts Continues old new snapshots) sound later why_cause
+      refused_serves age (parts old) (parts new) (command.Load p address) (refusal_by why) (looked_same parts Continues old new snapshots) sound later
+      why_cause
       (λ renewed frozen saved to_move other. load_early (parts old).geometry _ p address why early)
 
-  pub early_store : (word : ℕ) → Performs age (parts old) (command.Store p address word) (answer.Refused why) age (parts new)
+  pub early_store : (word : ℕ) → Performs age (parts old) (command.Store p address word) (answer.Refused (refusal_by why)) age (parts new)
   early_store word =
-      refused_serves age (parts old) (parts new) (command.Store p address word) why (looked_same parts Continues old new snapshots) sound later why_cause
+      refused_serves age (parts old) (parts new) (command.Store p address word) (refusal_by why) (looked_same parts Continues old new snapshots) sound later
+      why_cause
       (λ renewed frozen saved to_move other. store_early (parts old).geometry _ p address word why early)
 
 -- the answer to a process that runs, after it was read, by the outcome of its load or store

@@ -1,9 +1,8 @@
 -- The names that the proofs here cite: of other crates, and of the definitions of this one.
-pub use Rattle.capability.specs.Parts.{FetchesOrFails}
 pub use Rattle.address_space.specs.References.{IsLoaded, IsStored, KeepsSound, OverfillsStore}
 pub use Rattle.capability.proofs.FrameLists.{at_set, frame_in, headers_in, process_known}
 pub use Rattle.capability.proofs.Keeping.{keepable_count, keepable_later}
-pub use Rattle.capability.specs.Parts.{IsUnchanged, OnlyFetches, Parts, Renews, frames_of, objects_in}
+pub use Rattle.capability.specs.Parts.{FetchesOrFails, IsUnchanged, OnlyFetches, Parts, Renews, frames_of, objects_in}
 pub use Rattle.capability.specs.declared.present.PrepareFault.{PrepareFault}
 pub use Rattle.capability.specs.declared.present.ReadFault.{ReadFault}
 pub use Rattle.checkpoint.proofs.Lists.{maps_same}
@@ -78,11 +77,11 @@ pub use Rattle.std.proofs.lemmas.Bool.Decides.{nat_tests}
 pub use Rattle.std.proofs.lemmas.List.{ext_get_or, get_or_past, map-set}
 pub use Rattle.std.proofs.lemmas.List.Elements.{All-nil}
 pub use Rattle.std.proofs.lemmas.List.FromFn.{get_or-map-range_with_len, length-map-range_with_len}
+pub use Rattle.std.proofs.lemmas.Result.{err_from_is_err_and}
 pub use Rattle.std.specs.List.{All, Contains, range_with_len}
 pub use Rattle.std.specs.Prelude.{IfOk, IsErr, IsErrAnd, IsErrOf, nat_lt, option_map, slice_index_or}
-pub use Rattle.kernel.specs.Machine.{IsEarly, IsOfEarly, IsUnlooked, Performs, answer_of, answer_with, code_with, machine_at, renewed_by}
+pub use Rattle.kernel.specs.Machine.{IsEarly, IsUnlooked, Performs, answer_of, answer_with, code_with, machine_at, renewed_by}
 pub use Rattle.kernel.specs.Opening.{IsNoReason, IsSomeDown, Opens, Reopened, ReopensAs, refused_by}
 pub use Rattle.kernel.specs.Power.{Power, power_of}
 pub use Rattle.kernel.specs.Prepared.{refusal_by}
 pub use Rattle.kernel.specs.Standing.{HasCode, IsCaused, IsDeviceOf, IsSomeMachine, Serves, ServesFrom, ServesUp, Stands, disk_of, done_with, reported_code}
-pub use Rattle.kernel.specs.declared.processes.unserved.Unserved.{Unserved}

@@ -145,7 +145,7 @@ no_process_serves p age i sound none =
     refused_serves age p p (command.Invoke i) refusal.NoProcess (record { headers = refl; contents = refl; touched = refl; geometry = refl }) sound
     (omega arith)
     (reported_cause refusal.NoProcess (λ e. cc) (λ rose. absurd (omega (arith, rose))))
-    (λ renewed frozen saved to_move other. early_step p.geometry _ i refusal.NoProcess none)
+    (λ renewed frozen saved to_move other. early_step p.geometry _ i fault.NoProcess none)
 
 -- what is answered to an invocation that wasn't carried out
 module _ {S : Type 0} (parts : S → Parts) (Continues : S → S → Type 0) (age : ℕ) (old new : S) (i : Invocation)
@@ -170,7 +170,7 @@ module _ {S : Type 0} (parts : S → Parts) (Continues : S → S → Type 0) (ag
       Performs age (parts old) (command.Invoke i) (answer.Refused (refusal_by f)) age (parts new)
   fault_serves fault.NotRunning tells said =
       refused fault.NotRunning said refusal.NotRunning (λ e. cc, λ e. cc)
-      (λ renewed frozen saved to_move other. early_step (parts old).geometry _ i refusal.NotRunning (process, tells))
+      (λ renewed frozen saved to_move other. early_step (parts old).geometry _ i fault.NotRunning (process, tells))
   fault_serves fault.Stalled tells said =
       refused fault.Stalled said refusal.Stalled (λ e. cc, λ e. cc)
       (λ renewed frozen saved to_move other. stalled_step (parts old).geometry _ i process tells young (said.stalled refl))
@@ -180,6 +180,8 @@ module _ {S : Type 0} (parts : S → Parts) (Continues : S → S → Type 0) (ag
       (λ renewed frozen saved to_move other. full_step (parts old).geometry _ i process tells young over.0 over.1 over.2)
   fault_serves fault.Failed tells said =
       refused fault.Failed said refusal.Fault (λ e. refl, λ e. refl) (λ renewed frozen saved to_move other. absurd (other refl))
+  fault_serves fault.NoProcess tells said = absurd tells
+  fault_serves fault.Worn tells said = absurd tells
 
   -- and to one that was
   pub invoked_serves : (code : Option ResultCode) → TellsState (objects_in (parts old)) i (Ok code) → Invoked parts Continues old new i (Ok code) →
@@ -228,7 +230,7 @@ pub unread_unfailed : (f : ReadFault) → f ≡ read.NoMemory → (let r : Resul
 unread_unfailed f is e = let d : f ≡ read.Failed = cc in cc
 
 -- where a call succeeds no count rises
-pub ok_stayed : {X : Type 0} (early : Option Refusal) → (let r : Result (Option Refusal) Failed = Ok early in IsErr r ↔ X) → X → ⊥
+pub ok_stayed : {X : Type 0} (early : Option InvokeFault) → (let r : Result (Option InvokeFault) Failed = Ok early in IsErr r ↔ X) → X → ⊥
 ok_stayed early cause x = let never : false ≡ true = cause.1 x in cc
 
 -- what was shown isn't a failure

@@ -2,11 +2,12 @@
 use Rattle.kernel.proofs.Names.{ℕ, Bool, true, false, not, List, Option, None, Some, refl, sym, ap, subst, inl, inr, arith, nat_lt, nat_tests, Answer, Refusal}
 use Rattle.kernel.proofs.Names.{Command, Invocation, Geometry, Object, Effect, invoke, Running, Machine, Up, renewing, touching, touched_count, object_count}
 use Rattle.kernel.proofs.Names.{Step, Outcome, refusal_of, carried_out, unless, overfills, writing, gives_way, shown, is_process, is_running_process, IsEarly}
-use Rattle.kernel.proofs.Names.{IsOfEarly}
+use Rattle.kernel.proofs.Names.{InvokeFault, refusal_by}
 use Rattle.std.proofs.Common.{◌≡◌, ◌+◌, ◌^◌, ◌<◌, ◌≤◌, ◌∙◌}
 use Rattle.model.specs.declared.answer.Answer.TheVariants as answer
 use Rattle.model.specs.declared.answer.Refusal.TheVariants as refusal
 use Rattle.model.specs.declared.command.Command.TheVariants as command
+use Rattle.gate.specs.declared.fault.InvokeFault.TheVariants as fault
 
 -- the answer by the refusal that applies
 abbrev AnswersBy : Geometry → Running → Command → Answer → Machine → Option Refusal → Type 0
@@ -46,11 +47,12 @@ module _ (g : Geometry) (s : Running) (i : Invocation) where
       ∙ ap (in_order a b c) as_o
 
   -- a process that can't act
-  pub early_step : (why : Refusal) → IsEarly s.now.objects i.process (Some why) → Step g (Up s) (command.Invoke i) (answer.Refused why) (Up s)
-  early_step refusal.NoProcess early =
+  pub early_step : (why : InvokeFault) → IsEarly s.now.objects i.process (Some why) →
+      Step g (Up s) (command.Invoke i) (answer.Refused (refusal_by why)) (Up s)
+  early_step fault.NoProcess early =
       refused_step g s (command.Invoke i) refusal.NoProcess
       (by false (is_running_process s.now.objects i.process) (nat_lt s.now.age (2 ^ 62)) (invoke g s.now.objects i) early refl refl refl)
-  early_step refusal.NotRunning early =
+  early_step fault.NotRunning early =
       refused_step g s (command.Invoke i) refusal.NotRunning (by true false (nat_lt s.now.age (2 ^ 62)) (invoke g s.now.objects i) early.0 early.1 refl refl)
   early_step _ early = absurd early
 
@@ -117,16 +119,12 @@ module _ (g : Geometry) (s : Running) (n : ℕ) where
       inr (inl (ap (λ (b : Bool). gives_way (unless b refusal.BadNumber None)) known, refl, refl))
 
 -- none of them is a failure
-pub early_fine : (os : List Object) (p : ℕ) (why : Refusal) → IsEarly os p (Some why) → why ≡ refusal.Fault → ⊥
-early_fine os p why early is = subst (λ (w : Refusal). IsEarly os p (Some w)) is early
-
--- and each is one of two
-pub early_is : (os : List Object) (p : ℕ) (why : Refusal) → IsEarly os p (Some why) → IsOfEarly why
-early_is os p refusal.NoProcess early = tt
-early_is os p refusal.NotRunning early = tt
-early_is os p _ early = absurd early
+pub early_fine : (os : List Object) (p : ℕ) (why : InvokeFault) → IsEarly os p (Some why) → refusal_by why ≡ refusal.Fault → ⊥
+early_fine os p fault.NoProcess early is = cc
+early_fine os p fault.NotRunning early is = cc
+early_fine os p _ early is = absurd early
 
 -- one that isn't refused runs
-pub early_none : (os : List Object) (p : ℕ) (o : Option Refusal) → ((why : Refusal) → o ≡ Some why → ⊥) → IsEarly os p o → IsEarly os p None
+pub early_none : (os : List Object) (p : ℕ) (o : Option InvokeFault) → ((why : InvokeFault) → o ≡ Some why → ⊥) → IsEarly os p o → IsEarly os p None
 early_none os p None other early = early
 early_none os p (Some why) other early = absurd (other why refl)

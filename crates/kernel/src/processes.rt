@@ -3,13 +3,13 @@ mod age;
 mod early;
 mod invocation;
 mod memory;
+mod refusal;
 mod served;
 mod showing;
-mod unserved;
 
 pub use age::is_worn;
 pub use invocation::invoke;
 pub use memory::{load, store};
+pub use refusal::refusal_by;
 pub use served::Served;
 pub use showing::show;
-pub use unserved::Unserved;

@@ -9,9 +9,9 @@ ghost use Rattle.kernel.specs.Machine.{IsReportedOnce, IsUnlooked, answer_of, an
 ghost use Rattle.recovery.specs.Live.{IsSomeUp, disk_at};
 ghost use Rattle.kernel.specs.Standing.{HasCode, HasNoneToMove, IsCaused, ServesUp, done_with};
 
-use crate::processes::{self, Unserved};
-use crate::{checkpoints, journaling};
+use crate::{checkpoints, journaling, processes};
 use device::{Device, Failed};
+use gate::InvokeFault;
 use model::{Answer, Command, Invocation, Refusal, ResultCode};
 use object_store::ObjectStore;
 use recovery::Live;
@@ -83,7 +83,7 @@ pub fn serve<D: Device, S: ObjectStore<D>>(
 pub fn invoke<D: Device, S: ObjectStore<D>>(
     live: &mut Live<S>,
     invocation: &Invocation,
-) -> Result<Option<ResultCode>, Unserved>
+) -> Result<Option<ResultCode>, InvokeFault>
     requires { IsSomeUp D.disk S.view S.parts live.old }
     ensures serves { ServesUp D.disk S.view S.parts live.old (command.Invoke invocation.now)
         (answer_with result) live.new }

@@ -69,7 +69,7 @@ denoted_not_bad g size c s reason denoted why = ⊎_elim
     (λ first. frames_not_bad c size denoted.holds.0 denoted.holds.1 reason first)
     (λ last.
     let is = denotes_held g size c s last.0 denoted last.1 in
-    inconsistent_is_unsound g last.0.age last.0.frames last.2.0 last.2.2 is.1.sound)
+    inconsistent_is_unsound g last.0.age last.0.frames reason last.2 is.1.sound)
     why
 
 pub one_not_bad : (g : Geometry) (size : ℕ) (c : Image) (ss : List Saved) (reason : BadImage) → DenotesOne g size ss c → IsBad size c reason → ⊥

@@ -14,6 +14,7 @@ use Rattle.device.specs.Calls.{Only}
 use Rattle.device.specs.Disk.{Image, Disk}
 use Rattle.device.specs.Moments.{Peeks}
 use Rattle.device.proofs.Moments.{CountsNow, ends, leaves_on, leaves_weaker}
+use Rattle.layout.specs.declared.bad_image.BadImage.{BadImage}
 use Rattle.checkpoint.specs.declared.open_fault.OpenFault.{OpenFault}
 use Rattle.checkpoint.specs.declared.open_fault.OpenFault.TheVariants as fault
 use Rattle.checkpoint.specs.Opened.{OnlyReads}
@@ -23,9 +24,10 @@ use Rattle.capability.proofs.Untouched.{untouched_count}
 use Rattle.checkpoint.specs.Snapshots.{Snapshots}
 use Rattle.object_store.specs.Store.{FrozenFrames, Continues, OpensStore, View}
 use Rattle.space_bank.specs.Banks.{AreCounted, BanksState}
+use Rattle.consistency.specs.Consistency.{IsInconsistent}
 use Rattle.recovery.specs.declared.live.Live.{Live}
 use Rattle.recovery.specs.Denotes.{saved_of, IsSoundSaved}
-use Rattle.recovery.specs.Recovered.{IsUnfit, IsWhy, Recovers, RefusesToOpen}
+use Rattle.recovery.specs.Recovered.{IsWhy, Recovers, RefusesToOpen}
 use Rattle.recovery.specs.Live.{AreSoundTogether, base_of, frozen_of, renewed_since, running}
 use Rattle.recovery.proofs.Denoted.{leaves_saved}
 use Rattle.recovery.proofs.Renewed.{allocations_at, base_saved, none_renewed}
@@ -82,7 +84,8 @@ module _ {D S : Type 0} (disk : D → Disk) (view : S → View D) (parts : S →
   -- it was refused
   pub refuses : (why : OpenFault) → (disk (view s).beneath).failures ≤ (disk (view t).beneath).failures →
       ((why ≡ fault.Failed) ↔ ((disk (view s).beneath).failures < (disk (view t).beneath).failures)) →
-      IsUnfit (frames_of (parts s)) why → (back : D) → back ≡ (view t).beneath → RefusesToOpen disk device back why
+      ((reason : BadImage) → why ≡ fault.Bad reason → IsInconsistent (frames_of (parts s)) reason) → (back : D) → back ≡ (view t).beneath →
+      RefusesToOpen disk device back why
   refuses why later cause unfit back is = subst (λ (d : D). RefusesToOpen disk device d why) (sym is)
       (record { is_why = reported why later cause unfit; only_reads = looked })
     where
@@ -94,12 +97,12 @@ module _ {D S : Type 0} (disk : D → Disk) (view : S → View D) (parts : S →
 
       reported : (why : OpenFault) → (disk (view s).beneath).failures ≤ (disk (view t).beneath).failures →
           ((why ≡ fault.Failed) ↔ ((disk (view s).beneath).failures < (disk (view t).beneath).failures)) →
-          IsUnfit (frames_of (parts s)) why → IsWhy (disk device) (disk (view t).beneath) why
+          ((reason : BadImage) → why ≡ fault.Bad reason → IsInconsistent (frames_of (parts s)) reason) → IsWhy (disk device) (disk (view t).beneath) why
       reported fault.Failed later cause unfit = subst (λ (n : ℕ). n < (disk (view t).beneath).failures) opens.failures (cause.0 refl)
       reported fault.NoMemory later cause unfit = stayed fault.NoMemory (λ e. cc) later cause
       reported (fault.Bad reason) later cause unfit = (
         stayed (fault.Bad reason) (λ e. cc) later cause,
-        inr ((view s).snapshots.saved, opens.holds, subst (λ (fs : List Frame). IsUnfit fs (fault.Bad reason)) opens.frames unfit),
+        inr ((view s).snapshots.saved, opens.holds, subst (λ (fs : List Frame). IsInconsistent fs reason) opens.frames (unfit reason refl)),
       )
 
   -- it was opened
@@ -200,3 +203,8 @@ module _ (p q : Parts) (old new : Disk) (before : p.failures ≡ old.failures) (
         (arith, rose, before, after),
     λ rose. let reported = cause.1 (omega (arith, rose, before, after)) in cc,
   )
+
+-- the reason of a refusal, as that of an answer
+pub refused_for : {T : Type 0} (why : OpenFault) {P : BadImage → Type 0} → ((reason : BadImage) →
+    (let r : Result T OpenFault = Err why in IsErrOf r (fault.Bad reason)) → P reason) → (reason : BadImage) → why ≡ fault.Bad reason → P reason
+refused_for {T} why bad reason is = bad reason (ap (λ (e : OpenFault). let r : Result T OpenFault = Err e in r) is)

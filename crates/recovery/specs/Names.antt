@@ -5,9 +5,6 @@ pub use Rattle.checkpoint.specs.Saved.{Holds, SavedFrames}
 pub use Rattle.checkpoint.specs.Snapshots.{Snapshots}
 pub use Rattle.checkpoint.specs.declared.open_fault.OpenFault.{OpenFault}
 pub use Rattle.consistency.specs.Consistency.{IsInconsistent}
-pub use Rattle.consistency.specs.declared.reason.CheckFault.{CheckFault}
-pub use Rattle.consistency.specs.declared.reason.Inconsistency.{Inconsistency}
-pub use Rattle.consistency.specs.declared.reason.Inconsistency.TheVariants.{BadBank, BadCapability, BadProcess}
 pub use Rattle.device.specs.Calls.{Only}
 pub use Rattle.device.specs.Disk.{Disk, Image}
 pub use Rattle.device.specs.Moments.{LeavesOnly}

@@ -1,38 +1,17 @@
 -- The outcomes of opening a device.
-use Rattle.recovery.specs.Names.{ℕ, List, Frame, opened, Only, Image, Disk, BadImage, IsBadBy, OpenFault, OnlyReads}
-use Rattle.recovery.specs.Names.{SavedFrames, Holds, Parts, frames_of, View, CheckFault, Inconsistency, BadCapability}
-use Rattle.recovery.specs.Names.{BadProcess, BadBank, IsInconsistent}
+use Rattle.recovery.specs.Names.{ℕ, opened, Only, Image, Disk, BadImage, IsBadBy, OpenFault, OnlyReads, SavedFrames}
+use Rattle.recovery.specs.Names.{Holds, Parts, frames_of, View, IsInconsistent}
 use Rattle.std.specs.Prelude.{◌≡◌, ◌⊎◌, ◌<◌}
-use Rattle.layout.specs.declared.bad_image.BadImage.TheVariants as bad
 use Rattle.checkpoint.specs.declared.open_fault.OpenFault.TheVariants as fault
-use Rattle.consistency.specs.declared.reason.CheckFault.TheVariants as check
 use Rattle.recovery.specs.declared.live.Live.{Live}
 use Rattle.recovery.specs.Denotes.{saved_of}
 use Rattle.recovery.specs.Live.{IsUp, disk_at, running}
-
--- the reason of an image for which its frames are inconsistent
-abbrev pub reason_of : Inconsistency → BadImage
-reason_of BadCapability = bad.BadCapability
-reason_of BadProcess = bad.BadProcess
-reason_of BadBank = bad.BadBank
-
--- why a device isn't opened where its frames didn't pass the check
-abbrev pub fault_of : CheckFault → OpenFault
-fault_of (check.Inconsistent why) = fault.Bad (reason_of why)
-fault_of check.NoMemory = fault.NoMemory
-fault_of check.Failed = fault.Failed
-
--- frames are refused for want of memory, a failure, or the least reason for which they are inconsistent
-abbrev pub IsUnfit : List Frame → OpenFault → Type 0
-IsUnfit fs fault.Failed = Unit {0}
-IsUnfit fs fault.NoMemory = Unit {0}
-IsUnfit fs (fault.Bad reason) = (why : Inconsistency) × (reason ≡ reason_of why) × IsInconsistent fs why
 
 -- the least of the ten reasons to refuse an image
 abbrev pub IsBad : ℕ → Image → BadImage → Type 0
 IsBad size c reason =
     IsBadBy c size reason
-    ⊎ ((saved : SavedFrames) × Holds size c saved × IsUnfit saved.frames (fault.Bad reason))
+    ⊎ ((saved : SavedFrames) × Holds size c saved × IsInconsistent saved.frames reason)
 
 -- why a device wasn't opened
 abbrev pub IsWhy : Disk → Disk → OpenFault → Type 0

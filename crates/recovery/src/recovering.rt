@@ -1,36 +1,20 @@
 // Opening a device.
-ghost use Rattle.std.specs.Prelude.{◌≡◌, ◌↔◌, ◌<◌, ◌≤◌, ◌^◌, IfOk, IfErr, OnOk, IsErrOf};
+ghost use Rattle.std.specs.Prelude.{◌↔◌, ◌<◌, ◌≤◌, ◌^◌, IfOk, IfErr, OnOk, IsErrOf};
 ghost use Rattle.model.specs.Keepable.{AreKeepable, IsSoundFrames};
 ghost use Rattle.capability.specs.Parts.{OnlyFetches, frames_of, objects_in};
 ghost use Rattle.space_bank.specs.Banks.{AreCounted};
-ghost use Rattle.recovery.specs.Recovered.{IsUnfit, Recovers, RefusesToOpen, fault_of};
+ghost use Rattle.consistency.specs.Consistency.{IsInconsistent};
+ghost use Rattle.recovery.specs.Recovered.{Recovers, RefusesToOpen};
 
 use crate::live::Live;
-use capability::{Frames, ReadFault};
+use capability::Frames;
 use checkpoint::{OpenFault, OpenRefused};
-use consistency::{CheckFault, Inconsistency, check};
+use consistency::{check, opening_fault};
 use device::Device;
 use layout::BadImage;
 use object_store::ObjectStore;
 use space_bank::Banks;
 use std::alloc::Global;
-
-// The fault of opening if the check refuses the frames.
-fn unchecked(fault: CheckFault) -> OpenFault
-    ensures { result ≡ fault_of fault }
-{
-    match fault {
-        CheckFault::NoMemory => OpenFault::NoMemory,
-        CheckFault::Failed => OpenFault::Failed,
-        CheckFault::Inconsistent(Inconsistency::BadCapability) => {
-            OpenFault::Bad(BadImage::BadCapability)
-        }
-        CheckFault::Inconsistent(Inconsistency::BadProcess) => {
-            OpenFault::Bad(BadImage::BadProcess)
-        }
-        CheckFault::Inconsistent(Inconsistency::BadBank) => OpenFault::Bad(BadImage::BadBank),
-    }
-}
 
 // Checks that the frames of a store stand for a sound world at an age, and counts its banks.
 fn examine<F: Frames>(alloc: Global, store: &mut F, age: u64) -> Result<Banks, OpenFault>
@@ -41,19 +25,17 @@ fn examine<F: Frames>(alloc: Global, store: &mut F, age: u64) -> Result<Banks, O
         (frames_of (F.parts store.old))) }
     ensures counted { IfOk result (AreCounted (F.parts store.old).geometry
         (objects_in (F.parts store.old))) }
-    ensures bad { IfErr result (IsUnfit (frames_of (F.parts store.old))) }
+    ensures bad { (why : BadImage) → IsErrOf result (OpenFault.Bad why)
+        → IsInconsistent (frames_of (F.parts store.old)) why }
     ensures snapshots { OnlyFetches F.parts F.ContinuesTo store.old store.new }
     ensures later { (F.parts store.old).failures ≤ (F.parts store.new).failures }
     ensures cause { IsErrOf result OpenFault.Failed
         ↔ ((F.parts store.old).failures < (F.parts store.new).failures) }
 {
-    match check(alloc, store, age) {
-        Ok(()) => match Banks::count(alloc, store) {
-            Ok(banks) => Ok(banks),
-            Err(ReadFault::NoMemory) => Err(OpenFault::NoMemory),
-            Err(ReadFault::Failed) => Err(OpenFault::Failed),
-        },
-        Err(fault) => Err(unchecked(fault)),
+    check(alloc, store, age)?;
+    match Banks::count(alloc, store) {
+        Ok(banks) => Ok(banks),
+        Err(fault) => Err(opening_fault(fault)),
     }
 }
 

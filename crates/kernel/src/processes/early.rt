@@ -3,29 +3,34 @@ ghost use Rattle.std.specs.Prelude.{◌≡◌, ◌↔◌, ◌<◌, ◌≤◌, If
 ghost use Rattle.model.specs.Keepable.{IsSoundFrames};
 ghost use Rattle.capability.specs.Parts.{OnlyFetches, frames_of, objects_in};
 ghost use Rattle.kernel.specs.Machine.{IsEarly, NeedsNoLook};
+ghost use Rattle.kernel.specs.Prepared.{refusal_by};
 
 use capability::{Frames, roots};
 use device::Failed;
-use model::Refusal;
+use gate::InvokeFault;
 
-/// The refusal of a command because its process doesn't run, or `None`. `NoProcess` leaves the store
-/// untouched. Fails exactly if the device fails.
-pub fn early<F: Frames>(store: &mut F, age: u64, process: u64) -> Result<Option<Refusal>, Failed>
+/// Why a process can't act: `NoProcess` or `NotRunning`, or `None` if it runs. `NoProcess` leaves the
+/// store untouched. Fails exactly if the device fails.
+pub fn early<F: Frames>(
+    store: &mut F,
+    age: u64,
+    process: u64,
+) -> Result<Option<InvokeFault>, Failed>
     requires sound { IsSoundFrames (F.parts store.old).geometry age
         (frames_of (F.parts store.old)) }
     ensures why { IfOk result (λ why. IsEarly (objects_in (F.parts store.old)) process why) }
-    ensures untouched { IfOk result (λ why. IfSome why (λ reported. NeedsNoLook reported
+    ensures untouched { IfOk result (λ why. IfSome why (λ reported. NeedsNoLook (refusal_by reported)
         → store.new ≡ store.old)) }
     ensures snapshots { OnlyFetches F.parts F.ContinuesTo store.old store.new }
     ensures later { (F.parts store.old).failures ≤ (F.parts store.new).failures }
     ensures cause { IsErr result ↔ ((F.parts store.old).failures < (F.parts store.new).failures) }
 {
     if !roots::is_process(store, process) {
-        return Ok(Some(Refusal::NoProcess));
+        return Ok(Some(InvokeFault::NoProcess));
     }
     store.fetch(&[process])?;
     if roots::is_running(store, process) {
         return Ok(None);
     }
-    Ok(Some(Refusal::NotRunning))
+    Ok(Some(InvokeFault::NotRunning))
 }

@@ -5,47 +5,34 @@ ghost use Rattle.model.specs.declared.answer.Answer.TheVariants.{Done, Refused};
 ghost use Rattle.model.specs.Keepable.{IsSoundFrames};
 ghost use Rattle.capability.specs.Parts.{OnlyFetches, frames_of, objects_in};
 ghost use Rattle.space_bank.specs.Banks.{AreCounted};
-ghost use Rattle.kernel.specs.Prepared.{refusal_of};
-ghost use Rattle.kernel.specs.Machine.{IsOfEarly, IsUnlooked, NeedsNoLook, Performs, answer_with, code_with};
+ghost use Rattle.kernel.specs.Prepared.{refusal_by};
+ghost use Rattle.kernel.specs.Machine.{IsUnlooked, NeedsNoLook, Performs, answer_with, code_with};
 
 use crate::processes::age::is_worn;
 use crate::processes::early::early;
-use crate::processes::unserved::Unserved;
 use capability::{Frames, PresentFrames, roots};
 use device::Failed;
 use gate::InvokeFault;
-use model::{Invocation, Refusal, ResultCode};
+use model::{Invocation, ResultCode};
 use space_bank::Banks;
-
-// A refusal of `early`, as that of an invocation.
-fn early_refusal(refusal: Refusal) -> Unserved
-    requires { IsOfEarly refusal }
-    ensures { refusal_of result ≡ refusal }
-{
-    match refusal {
-        Refusal::NoProcess => Unserved::NoProcess,
-        Refusal::NotRunning => Unserved::Fault(InvokeFault::NotRunning),
-        _ => unreachable!(),
-    }
-}
 
 // Refuses an invocation at the greatest age: by `Worn`, if the process runs.
 #[inline(never)]
-fn refuse_worn<F: Frames>(store: &mut F, age: u64, invocation: &Invocation) -> Unserved
+fn refuse_worn<F: Frames>(store: &mut F, age: u64, invocation: &Invocation) -> InvokeFault
     requires sound { IsSoundFrames (F.parts store.old).geometry age
         (frames_of (F.parts store.old)) }
     requires worn { 2 ^ 62 ≤ age }
     ensures serves { Performs age (F.parts store.old) (command.Invoke invocation.now)
-        (Refused (refusal_of result)) age (F.parts store.new) }
-    ensures untouched { NeedsNoLook (refusal_of result) → store.new ≡ store.old }
+        (Refused (refusal_by result)) age (F.parts store.new) }
+    ensures untouched { NeedsNoLook (refusal_by result) → store.new ≡ store.old }
     ensures snapshots { OnlyFetches F.parts F.ContinuesTo store.old store.new }
 {
     match early(store, age, invocation.process) {
         Ok(why) => match why {
-            Some(refusal) => early_refusal(refusal),
-            None => Unserved::Worn,
+            Some(fault) => fault,
+            None => InvokeFault::Worn,
         },
-        Err(Failed) => Unserved::Fault(InvokeFault::Failed),
+        Err(Failed) => InvokeFault::Failed,
     }
 }
 
@@ -62,7 +49,7 @@ pub fn invoke<F: PresentFrames>(
     banks: &mut Banks,
     age: &mut u64,
     invocation: &Invocation,
-) -> Result<Option<ResultCode>, Unserved>
+) -> Result<Option<ResultCode>, InvokeFault>
     requires sound { IsSoundFrames (F.parts store.old).geometry age.old
         (frames_of (F.parts store.old)) }
     requires counted { AreCounted (F.parts store.old).geometry
@@ -81,13 +68,9 @@ pub fn invoke<F: PresentFrames>(
         return Err(refuse_worn(store, *age, invocation));
     }
     if !roots::is_process(store, invocation.process) {
-        return Err(Unserved::NoProcess);
+        return Err(InvokeFault::NoProcess);
     }
-    match gate::invoke(store, banks, invocation) {
-        Ok(code) => {
-            *age += 1;
-            Ok(code)
-        }
-        Err(fault) => Err(Unserved::Fault(fault)),
-    }
+    let code = gate::invoke(store, banks, invocation)?;
+    *age += 1;
+    Ok(code)
 }

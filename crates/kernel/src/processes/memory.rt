@@ -7,6 +7,7 @@ ghost use Rattle.space_bank.specs.Banks.{AreCounted, BanksState};
 ghost use Rattle.kernel.specs.Machine.{IsReportedOnce, IsUnlooked, Performs, answer_of};
 
 use crate::processes::early::early;
+use crate::processes::refusal::refusal_by;
 use capability::{Frames, PrepareFault, PresentFrames};
 use device::Failed;
 use model::{Answer, Refusal};
@@ -29,8 +30,8 @@ pub fn load<F: Frames>(
     ensures reported_once { IsReportedOnce result }
     ensures snapshots { OnlyFetches F.parts F.ContinuesTo store.old store.new }
 {
-    if let Some(refusal) = early(store, age, process)? {
-        return Ok(Answer::Refused(refusal));
+    if let Some(why) = early(store, age, process)? {
+        return Ok(Answer::Refused(refusal_by(why)));
     }
     match address_space::load(store, process, address)? {
         Ok(word) => Ok(Answer::Value(word)),
@@ -62,8 +63,8 @@ pub fn store<F: PresentFrames>(
         (objects_in (F.parts store.new)) banks }
     ensures continues { F.ContinuesTo store.old store.new }
 {
-    if let Some(refusal) = early(store, age, process)? {
-        return Ok(Answer::Refused(refusal));
+    if let Some(why) = early(store, age, process)? {
+        return Ok(Answer::Refused(refusal_by(why)));
     }
     match address_space::store(store, process, address, word) {
         Ok(Ok(())) => Ok(Answer::Done),

@@ -1,4 +1,4 @@
-use Rattle.recovery.proofs.Recovered.{found_still, recovers, refused_cause, refuses, risen_later}
+use Rattle.recovery.proofs.Recovered.{found_still, recovers, refused_cause, refused_for, refuses, risen_later}
 use Rattle.recovery.proofs.recovering.recover.Goals as goal
 
 pub returns-in-Ok-examine-clause-opened : goal.returns-in-Ok-examine-clause-opened
@@ -32,4 +32,4 @@ returns-in-Err-examine-clause-refused g c =
     c.in-Err-examine.fault
     (risen_later (parts s) (parts t) (disk (view s).beneath) (disk (view t).beneath) (laws.failures_are s) (laws.failures_are t) said.later)
     (refused_cause (parts s) (parts t) (disk (view s).beneath) (disk (view t).beneath) (laws.failures_are s) (laws.failures_are t) c.in-Err-examine.fault
-    said.cause) said.bad c.into_device.result c.into_device.ensures
+    said.cause) (refused_for c.in-Err-examine.fault said.bad) c.into_device.result c.into_device.ensures

@@ -1,15 +1,10 @@
-use Rattle.kernel.proofs.Names.{refl, subst, objects_in, IsEarly}
+use Rattle.kernel.proofs.Names.{refl, subst, objects_in, refusal_by, IsEarly}
 use Rattle.model.specs.declared.answer.Refusal.TheVariants as refusal
 use Rattle.model.specs.declared.command.Command.TheVariants as command
 use Rattle.kernel.proofs.MemoryServing.{looked_same}
 use Rattle.kernel.proofs.Performing.{ok_stayed, refused_serves, reported_cause}
-use Rattle.kernel.proofs.ProcessSteps.{early_fine, early_is, early_step, worn_step}
+use Rattle.kernel.proofs.ProcessSteps.{early_fine, early_step, worn_step}
 use Rattle.kernel.proofs.processes.invocation.refuse_worn.Goals as goal
-
-pub early_refusal-requires : goal.early_refusal-requires
-early_refusal-requires g c =
-    let os = objects_in (g.F.Frames.parts c.args.store.now) in
-    early_is os c.args.invocation.now.process c.in-Some.refusal (subst (IsEarly os c.args.invocation.now.process) c.in-Some.is c.in-Ok.ensures.why)
 
 pub returns-in-Some-clause-serves : goal.returns-in-Some-clause-serves
 returns-in-Some-clause-serves g c =
@@ -17,11 +12,10 @@ returns-in-Some-clause-serves g c =
     let old = F.parts c.args.store.now in
     let i = c.args.invocation.now in
     let early = subst (IsEarly (objects_in old) i.process) c.in-Some.is c.in-Ok.ensures.why in
-    rw c.early_refusal.ensures
-    (refused_serves c.args.age old (F.parts c.early.new.store) (command.Invoke i) c.in-Some.refusal
+    refused_serves c.args.age old (F.parts c.early.new.store) (command.Invoke i) (refusal_by c.in-Some.fault)
     (looked_same F.parts F.ContinuesTo c.args.store.now c.early.new.store c.early.ensures.snapshots) c.requires.sound c.early.ensures.later
-    (reported_cause c.in-Some.refusal (early_fine (objects_in old) i.process c.in-Some.refusal early) (ok_stayed c.in-Ok.why c.in-Ok.ensures.cause))
-    (λ renewed frozen saved to_move other. early_step old.geometry _ i c.in-Some.refusal early))
+    (reported_cause (refusal_by c.in-Some.fault) (early_fine (objects_in old) i.process c.in-Some.fault early) (ok_stayed c.in-Ok.why c.in-Ok.ensures.cause))
+    (λ renewed frozen saved to_move other. early_step old.geometry _ i c.in-Some.fault early)
 
 pub returns-in-None-clause-serves : goal.returns-in-None-clause-serves
 returns-in-None-clause-serves g c =

@@ -7,18 +7,19 @@ use Rattle.kernel.proofs.processes.memory.store.Goals as goal
 
 pub returns-in-Some-clause-serves : goal.returns-in-Some-clause-serves
 returns-in-Some-clause-serves g c =
-    early_store g.F.Frames.parts g.F.Frames.ContinuesTo c.args.age c.args.store.now c.early.new.store c.args.process c.args.address c.in-Some.refusal
+    rw c.refusal_by.ensures
+    (early_store g.F.Frames.parts g.F.Frames.ContinuesTo c.args.age c.args.store.now c.early.new.store c.args.process c.args.address c.in-Some.why
     c.requires
-    (subst (IsEarly (objects_in (g.F.Frames.parts c.args.store.now)) c.args.process) c.in-Some.is c.in_ok-refusal.ensures.why)
-    c.early.ensures.snapshots c.early.ensures.later (ok_stayed c.in_ok-refusal.field-0 c.in_ok-refusal.ensures.cause) c.args.word
+    (subst (IsEarly (objects_in (g.F.Frames.parts c.args.store.now)) c.args.process) c.in-Some.is c.in_ok-why.ensures.why)
+    c.early.ensures.snapshots c.early.ensures.later (ok_stayed c.in_ok-why.field-0 c.in_ok-why.ensures.cause) c.args.word)
 
 pub returns-in-Ok-Ok-clause-serves : goal.returns-in-Ok-Ok-clause-serves
 returns-in-Ok-Ok-clause-serves g c =
     let said = c.in-Ok-Ok.ensures in
     store_answers g.F.Frames.parts g.F.Frames.ContinuesTo c.args.age c.args.store.now c.early.new.store c.store.new.frames c.args.process c.args.address
     c.requires
-    (early_none (objects_in (g.F.Frames.parts c.args.store.now)) c.args.process c.in_ok-refusal.field-0 c.in_default.not-Some c.in_ok-refusal.ensures.why)
-    c.early.ensures.snapshots c.early.ensures.later (ok_stayed c.in_ok-refusal.field-0 c.in_ok-refusal.ensures.cause) c.args.word said.writes.geometry
+    (early_none (objects_in (g.F.Frames.parts c.args.store.now)) c.args.process c.in_ok-why.field-0 c.in_default.not-Some c.in_ok-why.ensures.why)
+    c.early.ensures.snapshots c.early.ensures.later (ok_stayed c.in_ok-why.field-0 c.in_ok-why.ensures.cause) c.args.word said.writes.geometry
     said.writes.headers said.writes.later
     c.in-Ok-Ok.field-0 (Ok tt) c.in-Ok-Ok.field-0-is said.stored said.writes.sound said.writes.cause
 
@@ -27,8 +28,8 @@ returns-in-Ok-Err-clause-serves g c =
     let said = c.in-Ok-Err.ensures in
     store_answers g.F.Frames.parts g.F.Frames.ContinuesTo c.args.age c.args.store.now c.early.new.store c.store.new.frames c.args.process c.args.address
     c.requires
-    (early_none (objects_in (g.F.Frames.parts c.args.store.now)) c.args.process c.in_ok-refusal.field-0 c.in_default.not-Some c.in_ok-refusal.ensures.why)
-    c.early.ensures.snapshots c.early.ensures.later (ok_stayed c.in_ok-refusal.field-0 c.in_ok-refusal.ensures.cause) c.args.word said.writes.geometry
+    (early_none (objects_in (g.F.Frames.parts c.args.store.now)) c.args.process c.in_ok-why.field-0 c.in_default.not-Some c.in_ok-why.ensures.why)
+    c.early.ensures.snapshots c.early.ensures.later (ok_stayed c.in_ok-why.field-0 c.in_ok-why.ensures.cause) c.args.word said.writes.geometry
     said.writes.headers said.writes.later
     c.in-Ok-Err.field-0 (Err c.in-Ok-Err.fault) c.in-Ok-Err.field-0-is said.stored said.writes.sound said.writes.cause
 
@@ -37,8 +38,8 @@ returns-in-Err-LogFull-clause-serves g c =
     let said = c.in-Err-LogFull.ensures in
     store_full g.F.Frames.parts g.F.Frames.ContinuesTo c.args.age c.args.store.now c.early.new.store c.store.new.frames c.args.process c.args.address
     c.requires
-    (early_none (objects_in (g.F.Frames.parts c.args.store.now)) c.args.process c.in_ok-refusal.field-0 c.in_default.not-Some c.in_ok-refusal.ensures.why)
-    c.early.ensures.snapshots c.early.ensures.later (ok_stayed c.in_ok-refusal.field-0 c.in_ok-refusal.ensures.cause) c.args.word said.writes.geometry
+    (early_none (objects_in (g.F.Frames.parts c.args.store.now)) c.args.process c.in_ok-why.field-0 c.in_default.not-Some c.in_ok-why.ensures.why)
+    c.early.ensures.snapshots c.early.ensures.later (ok_stayed c.in_ok-why.field-0 c.in_ok-why.ensures.cause) c.args.word said.writes.geometry
     said.writes.headers said.writes.later
     c.in-Err-LogFull.field-0 c.in-Err-LogFull.field-0-is said.writes.unchanged said.writes.cause said.full
 
