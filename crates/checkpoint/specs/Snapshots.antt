@@ -1,6 +1,5 @@
--- What a store keeps beside its present objects, and what each stage of a checkpoint does to that, whatever it keeps of
--- a
--- frozen state.
+-- What a store keeps beside its present objects, and what each stage of a checkpoint does to that, whatever a frozen
+-- state is to it.
 use Rattle.checkpoint.specs.Names.{ℕ, Option, Some, None, option_map, List, Frame, frame_at, AreKeepable}
 use Rattle.std.specs.Prelude.{◌≡◌, ◌==◌, if◌then◌else◌, ◌+◌, ◌-◌, ◌<◌, ◌≤◌, ◌^◌}
 use Rattle.checkpoint.specs.Saved.{SavedFrames, home_saved, replaced_saved, with_words}

@@ -51,11 +51,11 @@ pub enum Refusal {
     CheckpointRunning,
     /// The last checkpoint isn't home.
     MigrationPending,
-    /// So many frozen objects aren't in the log.
+    /// This many frozen objects are not stable yet.
     NotStable(u64),
     /// There is no frozen state.
     NoCheckpoint,
-    /// Memory ran out.
+    /// Memory ran out at a `show`, `restart` or `cut`.
     NoMemory,
     /// The device failed. The machine is down.
     Fault,
