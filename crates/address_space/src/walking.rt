@@ -195,7 +195,7 @@ fn bits(levels: u8) -> u32
 }
 
 // How many pages a tree of that height may have.
-#[tactic(auto, using(crate::proofs::Paths::bits_power, crate::proofs::Paths::power_fits, crate::proofs::Paths::power_some))]
+#[tactic(auto, using(crate::proofs::Paths::bits_power, crate::proofs::Paths::fits_64, crate::proofs::Paths::positive))]
 fn page_count(height: u8) -> u64
     requires { height ≤ 4 }
     ensures count { result ≡ 32 ^ height }

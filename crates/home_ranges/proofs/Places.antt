@@ -8,6 +8,7 @@ use Rattle.home_ranges.proofs.Names.{range_extent, half_extent, half_start, itse
 use Rattle.home_ranges.proofs.Names.{HoldsHome, home_extent, PlacesAreWithin, PlacesAreApart, NumbersAreApart, PlacesSpareLog}
 use Rattle.std.proofs.Common.{◌≡◌, ◌⊎◌, ◌+◌, ◌-◌, ◌*◌, ◌/◌, ◌%◌, ◌<◌, ◌≤◌, ◌∷◌, ◌∙◌, ◌&&◌}
 use Rattle.std.specs.Prelude.{if◌then◌else◌}
+use Rattle.home_ranges.proofs.Tests.{if_false, if_true, in_false, in_true}
 
 abbrev pub range_at : List HomeRange → ℕ → HomeRange
 range_at rs i = get_or rs i (record { first = 0; count = 0; sector = 0 })
@@ -29,18 +30,6 @@ lt_true a b lt = grind (arith, nat_tests)
 
 pub lt_false : (a b : ℕ) → b ≤ a → nat_lt a b ≡ false
 lt_false a b le = grind (arith, nat_tests)
-
-in_true : (a n b : ℕ) → a ≤ n → n < b → (nat_le a n && nat_lt n b) ≡ true
-in_true a n b low high = grind (arith, nat_tests)
-
-in_false : (a n b : ℕ) → b ≤ n → (nat_le a n && nat_lt n b) ≡ false
-in_false a n b le = grind (arith, nat_tests)
-
-if_true : (test : Bool) (x y : Option HomeRange) → test ≡ true → (if test then x else y) ≡ x
-if_true test x y e = rw e
-
-if_false : (test : Bool) (x y : Option HomeRange) → test ≡ false → (if test then x else y) ≡ y
-if_false test x y e = rw e
 
 find_in : (g : Geometry) (n number : ℕ) (rs : List HomeRange) → Cover g n rs → n ≤ number → number < g.nodes + g.pages → (i : ℕ) × IsFound g rs number i
 find_in g n number [] c low high = absurd (omega (arith, c))
