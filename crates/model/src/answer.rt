@@ -116,7 +116,7 @@ pub enum Answer {
     MemoryFault(MemoryFault),
     /// A checkpoint began; the number counts the objects written since the last one.
     Frozen(u64),
-    /// How many frozen objects aren't in the log yet, or how many saved ones aren't home.
+    /// How many frozen objects `stabilize` has yet to reach, or how many saved ones aren't home.
     Left(u64),
     /// The frozen state is the saved one, and this its generation.
     Committed(u64),
