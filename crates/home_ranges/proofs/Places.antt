@@ -1,6 +1,6 @@
 -- Places of numbers in ranges that cover them.
 use Rattle.home_ranges.proofs.Names.{ℕ, zero, suc, refl, Option, Some, None, List, [], length, get_or, map, sym, ap, subst, inl, inr, arith, Result, Ok, Err}
-use Rattle.home_ranges.proofs.Names.{Bool, true, false, nat_lt, nat_le, min, OnOk, ⊤, cases_lt, length-map, get_or_append_left, get_or-map, nat_tests, Geometry}
+use Rattle.home_ranges.proofs.Names.{true, false, nat_lt, nat_le, min, OnOk, ⊤, cases_lt, length-map, get_or_append_left, get_or-map, nat_tests, Geometry}
 use Rattle.home_ranges.proofs.Names.{Image, Extent, HomeRange, Half, First, Second, Shape, Node, Packed, Page, Version, One, Two, half_of, range_with}
 use Rattle.home_ranges.proofs.Names.{node_offset, place_in, place_by, home_place, rank_in, shape_of, place_length, sectors_from, node_shape, shape_bytes}
 use Rattle.home_ranges.proofs.Names.{shape_length, Plan, IsPlan, Cover, IsOfOneKind, IsWithin, IsApart, IsInside, extent_at, extents, nodes_length}

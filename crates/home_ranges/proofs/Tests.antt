@@ -1,6 +1,6 @@
 -- Whether a range has a number, as a test.
 use Rattle.home_ranges.proofs.Names.{ℕ, Bool, Option, arith, false, nat_le, nat_lt, nat_tests, true, HomeRange}
-use Rattle.std.proofs.Common.{◌≡◌, ◌+◌, ◌<◌, ◌≤◌, ◌&&◌}
+use Rattle.std.proofs.Common.{◌≡◌, ◌<◌, ◌≤◌, ◌&&◌}
 use Rattle.std.specs.Prelude.{if◌then◌else◌}
 
 pub in_true : (a n b : ℕ) → a ≤ n → n < b → (nat_le a n && nat_lt n b) ≡ true
