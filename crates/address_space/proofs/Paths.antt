@@ -4,17 +4,17 @@ use Rattle.address_space.proofs.Names.{Malformed, Capability, Void, Number, Page
 use Rattle.address_space.proofs.Names.{path, restricted, walk_along, slot_at}
 use Rattle.std.proofs.Common.{◌≡◌, ◌≢◌, ◌+◌, ◌-◌, ◌*◌, ◌/◌, ◌%◌, ◌^◌, ◌<◌, ◌≤◌, ◌==◌, ◌∙◌}
 
-pub power_some : (h : ℕ) → 0 < 32 ^ h
-power_some zero = omega arith
-power_some (suc h) = let less = power_some h in omega (arith, less)
+pub positive : (h : ℕ) → 0 < 32 ^ h
+positive zero = omega arith
+positive (suc h) = let less = positive h in omega (arith, less)
 
-pub power_fits : (h : ℕ) → h ≤ 4 → 32 ^ h < 2 ^ 64
-power_fits zero le = omega arith
-power_fits (suc zero) le = omega arith
-power_fits (suc (suc zero)) le = omega arith
-power_fits (suc (suc (suc zero))) le = omega arith
-power_fits (suc (suc (suc (suc zero)))) le = omega arith
-power_fits (suc (suc (suc (suc (suc h))))) le = absurd (omega (arith, le))
+pub fits_64 : (h : ℕ) → h ≤ 4 → 32 ^ h < 2 ^ 64
+fits_64 zero le = omega arith
+fits_64 (suc zero) le = omega arith
+fits_64 (suc (suc zero)) le = omega arith
+fits_64 (suc (suc (suc zero))) le = omega arith
+fits_64 (suc (suc (suc (suc zero)))) le = omega arith
+fits_64 (suc (suc (suc (suc (suc h))))) le = absurd (omega (arith, le))
 
 pub bits_power : (h : ℕ) → h ≤ 4 → 2 ^ (5 * h) ≡ 32 ^ h
 bits_power zero le = refl

@@ -24,6 +24,13 @@ pub struct Reached {
 }
 
 impl Reached {
+    // A page that a capability with this access names.
+    fn at(page: u64, access: Access) -> Reached
+        ensures { result ≡ record { page = page; access = access } }
+    {
+        Reached { page, access }
+    }
+
     // The same page, reached through a tree with this access.
     fn through(self, access: Access) -> Reached
         ensures { result ≡ record { page = self.page; access = union access self.access.0 } }
@@ -41,6 +48,18 @@ struct Tree {
     node: u64,
     height: u8,
     access: Access,
+}
+
+impl Tree {
+    fn at(node: u64, height: u8, access: Access) -> Tree
+        ensures { result ≡ record { node = node; height = height; access = access } }
+    {
+        Tree {
+            node,
+            height,
+            access,
+        }
+    }
 }
 
 /// Walks through the address space that a capability is, to the page of an address, for a load or
@@ -97,10 +116,7 @@ fn find<F: Frames>(
             if index != 0 {
                 return Ok(Err(MemoryFault::Beyond));
             }
-            Ok(Ok(Reached {
-                page: object,
-                access,
-            }))
+            Ok(Ok(Reached::at(object, access)))
         }
         Capability::Space {
             object,
@@ -110,12 +126,7 @@ fn find<F: Frames>(
             if index >= page_count(height) {
                 return Ok(Err(MemoryFault::Beyond));
             }
-            let tree = Tree {
-                node: object,
-                height,
-                access,
-            };
-            descend(frames, tree, index)
+            descend(frames, Tree::at(object, height, access), index)
         }
         _ => Ok(Err(MemoryFault::Malformed)),
     }
@@ -129,10 +140,8 @@ fn descend<F: Frames>(
     index: u64,
 ) -> Result<Result<Reached, MemoryFault>, Failed>
     requires sound { AreSound (F.parts frames.old) }
-    requires held { MayBeHeld (objects_in (F.parts frames.old))
-        (Capability.Space tree.node tree.height tree.access) }
-    ensures reached { IfOk result (λ reached. reported reached
-        ≡ walk_along (objects_in (F.parts frames.old))
+    requires held { MayBeHeld (objects_in (F.parts frames.old)) (Capability.Space tree.node tree.height tree.access) }
+    ensures reached { IfOk result (λ reached. reported reached ≡ walk_along (objects_in (F.parts frames.old))
         (Capability.Space tree.node tree.height tree.access) (path tree.height index)) }
     ensures page { IfOk result (ReachesPage (objects_in (F.parts frames.old))) }
     ensures fetches { FetchesOrFails F.parts F.ContinuesTo frames.old frames.new result }
@@ -143,11 +152,7 @@ fn descend<F: Frames>(
             if tree.height != 1 {
                 return Ok(Err(MemoryFault::Malformed));
             }
-            let found = Reached {
-                page: object,
-                access,
-            };
-            Ok(Ok(found.through(tree.access)))
+            Ok(Ok(Reached::at(object, access).through(tree.access)))
         }
         Capability::Space {
             object,
@@ -157,12 +162,7 @@ fn descend<F: Frames>(
             if tree.height - 1 != height {
                 return Ok(Err(MemoryFault::Malformed));
             }
-            let below = Tree {
-                node: object,
-                height,
-                access,
-            };
-            match descend(frames, below, index)? {
+            match descend(frames, Tree::at(object, height, access), index)? {
                 Ok(found) => Ok(Ok(found.through(tree.access))),
                 Err(fault) => Ok(Err(fault)),
             }
@@ -195,7 +195,7 @@ fn bits(levels: u8) -> u32
 }
 
 // How many pages a tree of that height may have.
-#[tactic(auto, using(crate::proofs::Paths::bits_power, crate::proofs::Paths::power_fits, crate::proofs::Paths::power_some))]
+#[tactic(auto, using(crate::proofs::Paths::bits_power, crate::proofs::Paths::fits_64, crate::proofs::Paths::positive))]
 fn page_count(height: u8) -> u64
     requires { height ≤ 4 }
     ensures count { result ≡ 32 ^ height }

@@ -1,4 +1,4 @@
--- The entries of a bounded cache: by number, and in the order of their last use.
+-- The entries of a store's cache: by number, and in the order of their last use.
 use Rattle.std.specs.Prelude.{ℕ, Option, None, List, option_map, slice_index_or, slice_set}
 use Rattle.model.specs.declared.capability.Cap.{Cap}
 use Rattle.model.specs.declared.object.Content.{Content}

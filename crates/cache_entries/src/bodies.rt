@@ -1,4 +1,4 @@
-// The bodies of objects by place, in memory that was reserved for them.
+// The bodies of objects by place, in reserved memory.
 ghost use Rattle.std.specs.Prelude.{◌≡◌, ◌<◌, ◌≤◌, Some, None, length, replicate, slice_set, IfOk};
 ghost use Rattle.capability.specs.Objects.{with_root_in, with_slots_in};
 ghost use Rattle.capability.specs.Parts.{fresh_content};
@@ -15,7 +15,7 @@ use model::{Cap, ContentRef, Root, State};
 use std::alloc::{AllocError, Global};
 use std::marker::Model;
 
-/// What a body is, but for the words of a page and the slots of a node or an annex.
+/// A body without the words of a page or the slots of a node or an annex.
 #[derive(Drop)]
 pub(crate) enum Kind {
     Free,
@@ -26,7 +26,7 @@ pub(crate) enum Kind {
     Bank { limit: u64 },
 }
 
-/// The body of an object at each place, in memory that was reserved for any.
+/// A body at each place, in memory reserved for any kind.
 #[derive(Drop)]
 pub(crate) struct Bodies {
     kinds: Vec<Kind>,
@@ -48,7 +48,7 @@ impl Model for Bodies {
     ghost invariant = { λ b. AreBodies b.kinds.items b.pages b.nodes };
 }
 
-// The kinds of places that hold nothing. Fails only where memory runs out.
+// `most` free kinds. Fails only if memory runs out.
 fn free_kinds(alloc: Global, most: usize) -> Result<Vec<Kind>, AllocError>
     ensures { IfOk result (λ kinds. kinds.items ≡ replicate most Kind.Free) }
 {
@@ -59,7 +59,7 @@ fn free_kinds(alloc: Global, most: usize) -> Result<Vec<Kind>, AllocError>
     Ok(kinds)
 }
 
-// Puts words into the page at a place.
+// Sets the words of the page at a place.
 fn put_page(pages: &mut Slab<Page>, place: usize, words: &[u64; 512])
     requires { place < length pages.old }
     ensures { pages.new ≡ slice_set pages.old place (Some words.now) }
@@ -71,7 +71,7 @@ fn put_page(pages: &mut Slab<Page>, place: usize, words: &[u64; 512])
     }
 }
 
-// Makes all words of the page at a place 0.
+// Sets all words of the page at a place to 0.
 fn clear_page(pages: &mut Slab<Page>, place: usize)
     requires { place < length pages.old }
     ensures { pages.new ≡ slice_set pages.old place (Some (replicate 512 0)) }
@@ -83,7 +83,7 @@ fn clear_page(pages: &mut Slab<Page>, place: usize)
     }
 }
 
-// Puts capabilities into all slots at a place.
+// Sets all slots at a place.
 fn put_slots(nodes: &mut Slab<[Cap; SLOTS]>, place: usize, slots: &[Cap; SLOTS])
     requires { place < length nodes.old }
     ensures { nodes.new ≡ slice_set nodes.old place (Some slots.now) }
@@ -95,7 +95,7 @@ fn put_slots(nodes: &mut Slab<[Cap; SLOTS]>, place: usize, slots: &[Cap; SLOTS])
     }
 }
 
-// What a content is, but for its words and slots.
+// The kind of a content.
 fn kind_behind(content: ContentRef<'_>) -> Kind
     ensures { result ≡ kind_of (content_behind content.entry) }
 {
@@ -115,7 +115,7 @@ fn kind_behind(content: ContentRef<'_>) -> Kind
     }
 }
 
-// Whether a body is that of a page.
+// Whether a body is a page.
 fn is_page(kind: &Kind) -> bool
     ensures { result ≡ words_are_of kind.now }
 {
@@ -125,7 +125,7 @@ fn is_page(kind: &Kind) -> bool
     }
 }
 
-// Whether a body is that of the root of a process.
+// Whether a body is the root of a process.
 fn is_root(kind: &Kind) -> bool
     ensures { result ≡ is_root_kind kind.now }
 {
@@ -146,7 +146,7 @@ fn has_slots(kind: &Kind) -> bool
     }
 }
 
-// Puts the words or slots of a content to a place.
+// Copies the words or slots of a content to a place.
 fn put_arrays(
     pages: &mut Slab<Page>,
     nodes: &mut Slab<[Cap; SLOTS]>,
@@ -166,7 +166,7 @@ fn put_arrays(
     }
 }
 
-// Puts capabilities into the last slots.
+// Sets the slots from 28 on, at most four.
 fn put_last(slots: &mut [Cap; SLOTS], held: &[Cap])
     requires { length held.now ≤ 4 }
     ensures { slots.new ≡ slots_from slots.old 28 held.now }
@@ -176,7 +176,7 @@ fn put_last(slots: &mut [Cap; SLOTS], held: &[Cap])
     }
 }
 
-// What a new object is, but for its words and slots.
+// The kind of a new object.
 fn fresh_kind(fresh: Fresh) -> Kind
     ensures { result ≡ kind_of (fresh_content void_held fresh) }
 {
@@ -195,7 +195,7 @@ fn fresh_kind(fresh: Fresh) -> Kind
     }
 }
 
-// Makes the words or slots at a place those of a new object.
+// Sets the words or slots at a place to those of a new object.
 fn clear_arrays(pages: &mut Slab<Page>, nodes: &mut Slab<[Cap; SLOTS]>, place: usize, fresh: Fresh)
     requires pages { place < length pages.old }
     requires nodes { place < length nodes.old }
@@ -213,7 +213,7 @@ fn clear_arrays(pages: &mut Slab<Page>, nodes: &mut Slab<[Cap; SLOTS]>, place: u
 impl Bodies {
     ghost use Rattle.model.specs.declared.object.Content.TheVariants as content;
 
-    /// A place for each of `most` bodies, with nothing in it. Fails only where memory runs out.
+    /// `most` free places, with memory for a body at each. Fails only if memory runs out.
     pub(crate) fn new(alloc: Global, most: usize) -> Result<Bodies, AllocError>
         ensures { IfOk result (λ bodies. bodies ≡ replicate most content.Free) }
     {
@@ -224,7 +224,7 @@ impl Bodies {
         })
     }
 
-    /// What stands at a place.
+    /// The body at a place.
     pub(crate) fn get(&self, place: usize) -> ContentRef<'_>
         requires { place < length self.now }
         ensures { held_at self.now place ≡ content_behind result }
@@ -239,7 +239,7 @@ impl Bodies {
         }
     }
 
-    /// Puts a copy of a content to a place.
+    /// Copies a content to a place.
     pub(crate) fn put(&mut self, place: usize, content: ContentRef<'_>)
         requires { place < length self.old }
         ensures { self.new ≡ slice_set self.old place (content_behind content.entry) }
@@ -248,7 +248,7 @@ impl Bodies {
         self.kinds[place] = kind_behind(content);
     }
 
-    /// Puts a word into the page at a place. What is no page stays.
+    /// Sets a word of the page at a place. Any other body stays.
     pub(crate) fn set_word(&mut self, place: usize, index: usize, word: u64)
         requires place { place < length self.old }
         requires within { index < 512 }
@@ -259,7 +259,7 @@ impl Bodies {
         }
     }
 
-    /// Puts a capability into a slot of the node or annex at a place. What is neither stays.
+    /// Sets a slot of the node or annex at a place. Any other body stays.
     pub(crate) fn set_slot(&mut self, place: usize, slot: usize, held: Cap)
         requires place { place < length self.old }
         requires within { slot < 32 }
@@ -271,8 +271,7 @@ impl Bodies {
         }
     }
 
-    /// Puts capabilities into the last four slots of the node or annex at a place. What is neither
-    /// stays.
+    /// Sets the last four slots of the node or annex at a place. Any other body stays.
     pub(crate) fn set_last_slots(&mut self, place: usize, held: [Cap; 4])
         requires { place < length self.old }
         ensures { self.new ≡ slice_set self.old place (with_slots_in (held_at self.old place) 28 held) }
@@ -282,7 +281,7 @@ impl Bodies {
         }
     }
 
-    /// Puts another root in place of the root at a place. What is no root stays.
+    /// Replaces the root at a place. Any other body stays.
     pub(crate) fn set_root(&mut self, place: usize, root: Root<Cap>)
         requires { place < length self.old }
         ensures { self.new ≡ slice_set self.old place (with_root_in (λ r. root) (held_at self.old place)) }
@@ -292,7 +291,7 @@ impl Bodies {
         }
     }
 
-    /// Makes what stands at a place that of a new object.
+    /// Replaces the body at a place by a new object's.
     pub(crate) fn claim(&mut self, place: usize, fresh: Fresh)
         requires { place < length self.old }
         ensures { self.new ≡ slice_set self.old place (fresh_content void_held fresh) }

@@ -1,15 +1,15 @@
-// How much a bounded cache holds.
+// The capacity of a store.
 ghost use Rattle.std.specs.Prelude.{◌≡◌, ◌≤◌, ◌↔◌, IfSome, IsSome};
 
 use std::marker::Model;
 
-/// The least capacity: as many objects as are ever wanted at a time.
+/// The least capacity: one call fetches up to 8 objects.
 pub const LEAST_CAPACITY: u64 = 8;
 
-/// The greatest capacity: as many objects as an image has at most.
+/// The greatest capacity: the most objects that an image has.
 pub const GREATEST_CAPACITY: u64 = 8192;
 
-/// How many objects a bounded cache holds at most, 8 to 8192.
+/// The most objects that a store keeps in memory, 8 to 8192.
 #[derive(Clone, Copy, PartialEq, Eq, Debug)]
 pub struct Capacity(u64);
 
@@ -26,7 +26,7 @@ impl Model for Capacity {
 }
 
 impl Capacity {
-    /// The capacity of `count` objects, or `None` where `count` isn't from 8 to 8192.
+    /// The capacity of `count` objects, or `None` if `count` isn't from 8 to 8192.
     pub fn new(count: u64) -> Option<Capacity>
         ensures capacity { IfSome result (λ c. c ≡ count) }
         ensures some { IsSome result ↔ ((8 ≤ count) × (count ≤ 8192)) }
@@ -37,7 +37,7 @@ impl Capacity {
         Some(Capacity(count))
     }
 
-    /// How many objects that is.
+    /// The number of objects.
     pub fn count(self) -> u64
         ensures value { result ≡ self }
         ensures least { 8 ≤ result }

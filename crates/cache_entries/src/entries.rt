@@ -20,14 +20,14 @@ use std::alloc::{AllocError, Global};
 use std::marker::Model;
 use std::num::NonZeroUsize;
 
-/// Entries by number, no more than a capacity, in the order of their last use. All their memory is
-/// taken by `new`.
+/// Entries by number, no more than a capacity, in the order of their last use. Only `new` takes
+/// memory.
 #[derive(Drop)]
 pub struct Entries {
     order: UseOrder,
     presents: Bodies,
     kepts: Bodies,
-    /// By place, whether what stands in `kepts` is kept.
+    /// By place: whether it has a frozen copy, in `kepts`.
     marks: Vec<bool>,
 }
 
@@ -42,8 +42,8 @@ impl Model for Entries {
 }
 
 impl Entries {
-    /// No entries yet, at most `capacity` of them later, for `count` numbers. Fails only where
-    /// memory runs out.
+    /// An empty cache for numbers below `count`, with memory for `capacity` entries. No later call
+    /// takes memory. Fails only if memory runs out.
     pub fn new(alloc: Global, capacity: Capacity, count: usize) -> Result<Entries, AllocError>
         ensures none { IfOk result (λ entries. entries
             ≡ record { at = replicate count None; order = []; most = capacity }) }
@@ -76,7 +76,7 @@ impl Entries {
         self.order.len()
     }
 
-    /// Whether there are as many as there may be.
+    /// Whether there are as many entries as the capacity.
     pub fn is_full(&self) -> bool
         ensures full { result ≡ nat_le self.now.most (length self.now.order) }
         ensures ordered { AreOrdered self.now }
@@ -92,7 +92,7 @@ impl Entries {
         self.order.has(number)
     }
 
-    /// What an object that has an entry holds now.
+    /// The present body of an entry.
     pub fn present(&self, number: u64) -> ContentRef<'_>
         requires { IsSome (entry_at self.now.at number) }
         ensures { option_map present_of (entry_at self.now.at number) ≡ Some (content_behind result) }
@@ -100,7 +100,7 @@ impl Entries {
         self.presents.get(self.order.place(number))
     }
 
-    /// What is kept apart of what an object that has an entry was frozen as.
+    /// The frozen copy of an entry, or `None` if it has none.
     pub fn kept(&self, number: u64) -> Option<ContentRef<'_>>
         requires { IsSome (entry_at self.now.at number) }
         ensures { option_map kept_of (entry_at self.now.at number) ≡ Some (option_map content_behind result) }
@@ -113,7 +113,7 @@ impl Entries {
         }
     }
 
-    /// Puts a word into a page that has an entry. What is no page stays.
+    /// Sets a word of a page that has an entry. Any other body stays.
     pub fn set_word(&mut self, number: u64, index: usize, word: u64)
         requires entry { IsSome (entry_at self.old.at number) }
         requires within { index < 512 }
@@ -123,8 +123,7 @@ impl Entries {
         self.presents.set_word(place, index, word);
     }
 
-    /// Puts a capability into a slot of a node or a register of an annex that has an entry. What is
-    /// neither stays.
+    /// Sets a slot of a node or a register of an annex that has an entry. Any other body stays.
     pub fn set_slot(&mut self, number: u64, slot: usize, held: Cap)
         requires entry { IsSome (entry_at self.old.at number) }
         requires within { slot < 32 }
@@ -134,8 +133,8 @@ impl Entries {
         self.presents.set_slot(place, slot, held);
     }
 
-    /// Puts capabilities into the last four slots of a node or registers of an annex that has an
-    /// entry. What is neither stays.
+    /// Sets the last four slots of a node or registers of an annex that has an entry. Any other body
+    /// stays.
     pub fn set_last_slots(&mut self, number: u64, held: [Cap; 4])
         requires { IsSome (entry_at self.old.at number) }
         ensures { self.new ≡ with_entry_of (changing (λ c. with_slots_in c 28 held)) number self.old }
@@ -144,7 +143,7 @@ impl Entries {
         self.presents.set_last_slots(place, held);
     }
 
-    /// Puts another root in place of a root that has an entry. What is no root stays.
+    /// Replaces a root that has an entry. Any other body stays.
     pub fn set_root(&mut self, number: u64, root: Root<Cap>)
         requires { IsSome (entry_at self.old.at number) }
         ensures { self.new ≡ with_entry_of (changing (with_root_in (λ r. root))) number self.old }
@@ -153,7 +152,7 @@ impl Entries {
         self.presents.set_root(place, root);
     }
 
-    /// Makes what an object that has an entry holds that of a new object.
+    /// Replaces the present body of an entry by a new object's.
     pub fn claim(&mut self, number: u64, fresh: Fresh)
         requires { IsSome (entry_at self.old.at number) }
         ensures { self.new ≡ with_entry_of (changing (λ c. fresh_content void_held fresh)) number self.old }
@@ -162,7 +161,7 @@ impl Entries {
         self.presents.claim(place, fresh);
     }
 
-    /// Leaves nothing in an object, where it has an entry.
+    /// Makes the present body `Free` if the number has an entry; else changes nothing.
     pub fn free(&mut self, number: u64)
         requires { number < length self.old.at }
         ensures { self.new ≡ with_entry_of (changing (λ c. content.Free)) number self.old }
@@ -173,7 +172,7 @@ impl Entries {
         }
     }
 
-    /// Keeps a copy of what an object that has an entry holds now, apart from it.
+    /// Copies the present body of an entry to its frozen copy.
     pub fn keep_apart(&mut self, number: u64)
         requires { IsSome (entry_at self.old.at number) }
         ensures { self.new ≡ with_entry_of (λ e. record e { kept = Some e.present }) number self.old }
@@ -183,7 +182,7 @@ impl Entries {
         self.marks[place] = true;
     }
 
-    /// Drops what is kept apart of an object that has an entry.
+    /// Drops the frozen copy of an entry, if it has one.
     pub fn drop_kept(&mut self, number: u64)
         requires { IsSome (entry_at self.old.at number) }
         ensures { self.new ≡ with_entry_of (λ e. record e { kept = None }) number self.old }
@@ -192,8 +191,8 @@ impl Entries {
         self.marks[place] = false;
     }
 
-    /// Makes a copy of what an object holds an entry of its number, which has none, and which was so
-    /// used last. There are fewer entries than there may be.
+    /// Adds an entry with a copy of `content` and no frozen copy. Its number is then the one used
+    /// last. The number must have no entry, and the cache must not be full.
     pub fn insert(&mut self, number: u64, content: ContentRef<'_>)
         requires known { number < length self.old.at }
         requires absent { entry_at self.old.at number ≡ None }
@@ -205,7 +204,7 @@ impl Entries {
         self.marks[place] = false;
     }
 
-    /// Takes the entry of a number out.
+    /// Removes the entry of a number.
     pub fn remove(&mut self, number: u64)
         requires { IsSome (entry_at self.old.at number) }
         ensures { self.new ≡ without_entry number self.old }
@@ -225,7 +224,7 @@ impl Entries {
         self.order.use_again(numbers)
     }
 
-    /// Marks a number as used last, where it has an entry, and returns whether it has one.
+    /// Marks a number as used last if it has an entry. Returns whether it has one.
     pub fn promote(&mut self, number: u64) -> bool
         requires { number < length self.old.at }
         ensures held { result ≡ is_some (entry_at self.old.at number) }
@@ -240,7 +239,7 @@ impl Entries {
         true
     }
 
-    /// The number whose entry was used longest ago, where there are as many entries as there may be.
+    /// The number whose entry was used longest ago. The cache must be full.
     pub fn least(&mut self) -> Option<u64>
         requires { self.old.most ≤ length self.old.order }
         ensures least { result ≡ used_longest_ago self.old.order }

@@ -1,4 +1,4 @@
-// The hasher of objects' numbers.
+// The hasher of places.
 ghost use Rattle.std.specs.Prelude.{◌≡◌};
 ghost use Rattle.cache_entries.specs.NumberHasher.{number_in};
 
@@ -7,9 +7,8 @@ use std::hash::Hasher;
 // 2^64 over the golden ratio, and odd.
 const MULTIPLIER: u64 = 0x9e37_79b9_7f4a_7c15;
 
-/// Hashes a number of 64 bits by one multiplication (Fibonacci hashing). Numbers of objects are few
-/// and close together, so it spreads them well; of bytes that are no such number it hashes how many
-/// there are.
+/// Hashes 8 bytes, as one number, by one multiplication (Fibonacci hashing). Places are few and close
+/// together, so it spreads them well. If there aren't 8 bytes, it hashes their count.
 #[derive(Clone, Copy)]
 pub struct NumberHasher {
     hash: u64,

@@ -17,14 +17,14 @@ type Order = LruCache<usize, (), BuildHasherDefault<NumberHasher>>;
 
 /// Numbers in the order of their last use, and a place for each.
 ///
-/// The order has all places from the start, so no call but `new` takes memory: those without a
-/// number come last.
+/// The order has all places from the start, so only `new` takes memory. Places without a number come
+/// last.
 #[derive(Drop)]
 pub(crate) struct Places {
     order: Order,
-    /// By place. What stands there of a place without a number is of no meaning.
+    /// By place: its number. For a place without one the value has no meaning.
     numbers: Vec<u64>,
-    /// By number. A number without a place has one past all places.
+    /// By number: its place, or `numbers.len()` if it has none.
     places: Vec<usize>,
     /// How many places have a number.
     count: usize,
@@ -41,7 +41,7 @@ impl Model for Places {
     ghost invariant = { λ p. ArePlaced (keys_of p.order.entries) p.numbers.items p.places.items p.count };
 }
 
-// All places below `most`, in some order. Fails only where memory runs out.
+// All places below `most`, in some order. Fails only if memory runs out.
 fn all_places(alloc: Global, most: NonZeroUsize) -> Result<Order, AllocError>
     ensures all { IfOk result (λ order. length (keys_of order.entries) ≡ non_zero_usize_get most) }
     ensures once { IfOk result (λ order. AllDiffer (keys_of order.entries)) }
@@ -58,7 +58,7 @@ fn all_places(alloc: Global, most: NonZeroUsize) -> Result<Order, AllocError>
     Ok(order)
 }
 
-// The place that was used longest ago.
+// The place used longest ago.
 fn last_place(order: &Order) -> usize
     requires { 0 < length (keys_of order.now.entries) }
     ensures { used_longest_ago (keys_of order.now.entries) ≡ Some result }
@@ -70,7 +70,7 @@ fn last_place(order: &Order) -> usize
 }
 
 impl Places {
-    /// An order of at most `most` of `count` numbers, with none. Fails only where memory runs out.
+    /// An empty order for at most `most` of the numbers below `count`. Fails only if memory runs out.
     pub(crate) fn new(alloc: Global, most: NonZeroUsize, count: usize) -> Result<Places, AllocError>
         ensures { IfOk result (λ places. places
             ≡ record { numbers = []; places = replicate count None; most = non_zero_usize_get most }) }
@@ -130,8 +130,8 @@ impl Places {
         self.order.promote(&place);
     }
 
-    /// Gives the place that was used longest ago to a number that has none, which was so used last.
-    /// Not all places have a number.
+    /// Gives the place used longest ago to a number that has none, and marks it as used last. Not all
+    /// places may have a number.
     pub(crate) fn insert(&mut self, number: u64) -> usize
         requires known { number < length self.old.places }
         requires absent { place_at self.old.places number ≡ None }
@@ -152,7 +152,7 @@ impl Places {
         place
     }
 
-    /// Takes the place of a number that has one.
+    /// Frees the place of a number that has one.
     pub(crate) fn remove(&mut self, number: u64)
         requires { IsSome (place_at self.old.places number) }
         ensures { self.new ≡ record {
@@ -167,7 +167,7 @@ impl Places {
         self.count -= 1;
     }
 
-    /// The number that was used longest ago, where all places have one.
+    /// The number used longest ago. All places must have a number.
     pub(crate) fn least(&self) -> Option<u64>
         requires { self.now.most ≤ length self.now.numbers }
         ensures least { result ≡ used_longest_ago self.now.numbers }

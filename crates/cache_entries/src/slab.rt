@@ -1,4 +1,4 @@
-// Items by place, in memory that was reserved for them.
+// Items by place, in reserved memory.
 ghost use Rattle.std.specs.Prelude.{◌≡◌, ◌<◌, Some, None, false, length, replicate, is_some, slice_set, IfOk, IsSome};
 ghost use Rattle.std.specs.Borrow.{Lends, sem};
 ghost use Rattle.cache_entries.specs.Slab.{item_at};
@@ -6,12 +6,12 @@ ghost use Rattle.cache_entries.specs.Slab.{item_at};
 use std::alloc::{AllocError, Global};
 use std::marker::Model;
 
-/// Items by place, in memory that was reserved for one at each. A place has no item at first, and
-/// keeps the one that it is given.
+/// Items by place, in memory reserved for one at each. A place has no item at first, and keeps the one
+/// that it gets.
 #[derive(Drop)]
 pub(crate) struct Slab<T> {
     items: Vec<T>,
-    /// By place, where in `items` its item is. A place without one has a position past all places.
+    /// By place: the index of its item in `items`. Without an item the index is past the end.
     at: Vec<usize>,
 }
 
@@ -30,7 +30,7 @@ impl<T> Model for Slab<T> {
 impl<T: Drop> Slab<T> {
     ghost use Rattle.cache_entries.specs.contracts.slab.Slab.{the_row};
 
-    /// Room for an item at each of `most` places. Fails only where memory runs out.
+    /// `most` places without items, with memory for one at each. Fails only if memory runs out.
     pub(crate) fn new(alloc: Global, most: usize) -> Result<Slab<T>, AllocError>
         ensures { IfOk result (λ slab. slab ≡ replicate most None) }
     {
@@ -68,7 +68,7 @@ impl<T: Drop> Slab<T> {
         &mut self.items[at]
     }
 
-    /// Gives a place an item that has none.
+    /// Gives an item to a place that has none.
     pub(crate) fn add(&mut self, place: usize, item: T)
         requires within { place < length self.old }
         requires absent { is_some (item_at self.old place) ≡ false }

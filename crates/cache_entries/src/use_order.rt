@@ -12,17 +12,17 @@ use std::alloc::{AllocError, Global};
 use std::marker::Model;
 use std::num::NonZeroUsize;
 
-// How many numbers are at most found without their hash.
+// The most uses in `latest`.
 const MOST_LATEST: usize = 8;
 
 /// Numbers in the order of their last use, and a place for each.
 ///
-/// What is used is mostly what was used a moment ago: the last few uses are kept apart, each number
-/// once, and moved to the order when others take their place, or when the order is read.
+/// Most uses repeat a recent one, so the last few are kept apart, each number once. They move to the
+/// order when others take their place, or when the order is read.
 #[derive(Drop)]
 pub(crate) struct UseOrder {
     order: Places,
-    /// Numbers that were used after all others, the one used last at the end.
+    /// The numbers used after all others, the last used at the end.
     latest: Vec<u64>,
 }
 
@@ -43,7 +43,7 @@ impl Model for UseOrder {
         × (8 ≤ vec_capacity o.latest) };
 }
 
-// Where a number stands, if it does. It searches from the end.
+// The last index of a number, or `None` if it isn't in the list.
 fn place_of(numbers: &[u64], number: u64) -> Option<usize>
     ensures some { IfSome result (λ place. slice_get numbers.now place ≡ Some number) }
     ensures none { result ≡ None → is_member numbers.now number ≡ false }
@@ -72,7 +72,7 @@ fn ends_with(numbers: &[u64], end: &[u64]) -> bool
     true
 }
 
-// Puts a number at the end that stands at a place, and those behind it one place further to the front.
+// Moves the number at index `place` to the end, and those behind it one index forward.
 fn shift_to_end(numbers: &mut [u64], place: usize, number: u64)
     requires there { slice_get numbers.old place ≡ Some number }
     requires once { AllDiffer numbers.old }
@@ -95,7 +95,7 @@ fn move_to_end(numbers: &mut Vec<u64>, place: usize, number: u64)
     shift_to_end(numbers, place, number);
 }
 
-// Puts a number at the end. There is a free place.
+// Puts a number at the end. The capacity has space for it.
 fn put_at_end(numbers: &mut Vec<u64>, number: u64)
     requires { length numbers.old.items < vec_capacity numbers.old }
     ensures more { numbers.new.items ≡ numbers.old.items ++ number ∷ [] }
@@ -127,7 +127,7 @@ fn settle_first(order: &mut Places, latest: &mut Vec<u64>)
     order.promote(first);
 }
 
-// Moves all of them to the end of the order, in turn.
+// Moves all latest numbers to the end of the order, in turn.
 #[inline(never)]
 fn settle(order: &mut Places, latest: &mut Vec<u64>)
     requires { AreLatest latest.old.items order.old.numbers }
@@ -143,7 +143,7 @@ fn settle(order: &mut Places, latest: &mut Vec<u64>)
     }
 }
 
-// Leaves a free place for one more among the latest numbers.
+// Makes space for one more among the latest numbers.
 fn spare_place(order: &mut Places, latest: &mut Vec<u64>)
     requires latest { AreLatest latest.old.items order.old.numbers }
     requires few { length latest.old.items ≤ 8 }
@@ -167,7 +167,7 @@ fn spare_place(order: &mut Places, latest: &mut Vec<u64>)
 impl UseOrder {
     ghost use Rattle.cache_entries.specs.contracts.use_order.UseOrder.{the_row};
 
-    /// An empty order for at most `most` of `count` numbers. Fails only where memory runs out.
+    /// An empty order for at most `most` of the numbers below `count`. Fails only if memory runs out.
     pub(crate) fn new(
         alloc: Global,
         most: NonZeroUsize,
@@ -189,7 +189,7 @@ impl UseOrder {
         self.order.len()
     }
 
-    /// Whether there are as many as there may be.
+    /// Whether all places have a number.
     pub(crate) fn is_full(&self) -> bool
         ensures full { result ≡ nat_le self.now.most (length self.now.numbers) }
         ensures spread { AreSpread self.now }
@@ -221,7 +221,7 @@ impl UseOrder {
         self.order.place(number)
     }
 
-    // Marks a number as used last, where it is among the latest, and returns whether it is.
+    // Marks a number as used last if it is among the latest. Returns whether it is.
     fn use_one_again(&mut self, number: u64) -> bool
         ensures listed { result ≡ true → is_member self.old.numbers number ≡ true }
         ensures used { result ≡ true → self.new ≡ used_last number self.old }
@@ -250,7 +250,7 @@ impl UseOrder {
         true
     }
 
-    /// Says that a number of them was used last.
+    /// Marks a number of the order as used last.
     #[inline(never)]
     pub(crate) fn use_now(&mut self, number: u64)
         requires { is_member self.old.numbers number ≡ true }
@@ -265,8 +265,8 @@ impl UseOrder {
         }
     }
 
-    /// Gives a place to a number that has none, which was so used last. There are fewer numbers
-    /// than there may be.
+    /// Gives a place to a number that has none, and marks it as used last. Not all places may have a
+    /// number.
     pub(crate) fn insert(&mut self, number: u64) -> usize
         requires known { number < length self.old.places }
         requires absent { place_at self.old.places number ≡ None }
@@ -283,7 +283,7 @@ impl UseOrder {
         self.order.insert(number)
     }
 
-    /// Takes the place of a number that has one.
+    /// Frees the place of a number that has one.
     pub(crate) fn remove(&mut self, number: u64)
         requires { IsSome (place_at self.old.places number) }
         ensures { self.new ≡ record {
@@ -296,7 +296,7 @@ impl UseOrder {
         self.order.remove(number);
     }
 
-    /// The number that was used longest ago, where there are as many as there may be.
+    /// The number used longest ago. All places must have a number.
     pub(crate) fn least(&mut self) -> Option<u64>
         requires { self.old.most ≤ length self.old.numbers }
         ensures least { result ≡ used_longest_ago self.old.numbers }

@@ -1,7 +1,7 @@
 -- What the roles in headers say of the objects that frames stand for.
 use Rattle.capability.proofs.Names.{ℕ, Bool, true, false, List, length, ⊎_elim, refl, sym, ap, subst, cases_lt, get_or_past, get_or-map, Cap, Capability, Frame}
 use Rattle.capability.proofs.Names.{ObjectHeader, Content, Object, Role, blank_frame, blank_header, conveyed, frame_at, header_at, headers, held_at, object_of}
-use Rattle.capability.proofs.Names.{objects_of, is_bank, is_free, is_root, map_content, role_of, content_at, is_process, HaveTheirRoles, Parts, frames_of}
+use Rattle.capability.proofs.Names.{objects_of, is_free, is_root, map_content, role_of, content_at, is_process, HaveTheirRoles, Parts, frames_of}
 use Rattle.capability.proofs.Names.{objects_in}
 use Rattle.std.proofs.Common.{◌≡◌, ◌<◌, ◌≤◌, ◌∙◌}
 use Rattle.model.specs.declared.object.Content.TheVariants as content
@@ -88,14 +88,3 @@ module _ (r : Role) (c : Content Capability) (is : r ≡ role_of c) where
       go (content.Root root) e = refl
       go (content.Annex registers) e = refl
       go (content.Bank limit) e = refl
-
-  pub role_bank : r ≡ role.Bank → is_bank c ≡ true
-  role_bank bank = go c (sym is ∙ bank)
-    where
-      go : (d : Content Capability) → role_of d ≡ role.Bank → is_bank d ≡ true
-      go (content.Bank limit) e = refl
-      go content.Free e = cc
-      go (content.Page words) e = cc
-      go (content.Node slots) e = cc
-      go (content.Root root) e = cc
-      go (content.Annex registers) e = cc

@@ -80,9 +80,8 @@ pub record Becomes {S : Type 0} (parts : S → Parts) (Fetched Announced : S →
   pub announced : (n : ℕ) → Announced old n → Announced new n
   pub continues : Continues old new
 
--- A change of present frames that gives no object up: counts of allocations and what lies beside them go on as they
--- were,
--- and what was fetched and announced stays so. The parameters are the ghost members of a store of present frames.
+-- A change of present frames that frees no object: allocation counts and what lies beside the frames stay, and so does
+-- what was fetched and announced. The parameters are the ghost members of a store of present frames.
 pub record KeepsRest {S : Type 0} (parts : S → Parts) (Fetched Announced : S → ℕ → Type 0) (Continues : S → S → Type 0)
     (old new : S) : Type 0 where
   pub count : length (parts new).headers ≡ length (parts old).headers

@@ -16,7 +16,7 @@ use crate::present::{Frames, Fresh, PresentFrames};
 use crate::roots::root;
 use model::{Cap, Capability, ContentRef, Message, Role, Root, State};
 
-/// The word of a page that is fetched, or 0 where it is no page.
+/// The word of a fetched page, or 0 if the object is no page.
 pub fn word<F: Frames>(store: &F, number: u64, index: usize) -> u64
     requires fetched { F.IsFetched store.now number }
     requires within { index < 512 }
@@ -28,7 +28,7 @@ pub fn word<F: Frames>(store: &F, number: u64, index: usize) -> u64
     }
 }
 
-/// The annex of a process whose root is fetched, or 0 where it is no root.
+/// The annex of a process whose root is fetched, or 0 if the object is no root.
 pub fn annex<F: Frames>(store: &F, process: u64) -> u64
     requires fetched { F.IsFetched store.now process }
     ensures { result ≡ annex_at (objects_in (F.parts store.now)) process }
@@ -53,8 +53,8 @@ fn slots_behind(content: ContentRef<'_>) -> Option<&[Cap]>
     }
 }
 
-/// The capability in a slot of a node, or a register of an annex, that is fetched: void where it is
-/// stale, or there is no such slot.
+/// The capability in a slot of a fetched node, or a register of a fetched annex: void if it is stale,
+/// or if the object is neither.
 pub fn slot<F: Frames>(store: &F, number: u64, slot: usize) -> Capability
     requires fetched { F.IsFetched store.now number }
     requires within { slot < 32 }
@@ -66,7 +66,7 @@ pub fn slot<F: Frames>(store: &F, number: u64, slot: usize) -> Capability
     }
 }
 
-/// The capabilities in four slots of a node, or registers of an annex, that is fetched, as `slot` reads each.
+/// The capabilities in four slots of a fetched node, or registers of a fetched annex, as `slot` reads each.
 #[inline(always)]
 pub fn four_slots<F: Frames>(
     store: &F,
@@ -93,7 +93,7 @@ pub fn four_slots<F: Frames>(
     ]
 }
 
-/// Puts a word into a page that is fetched and announced. What is no page stays.
+/// Sets a word of a page that is fetched and announced. Any other object stays.
 pub fn set_word<F: PresentFrames>(store: &mut F, number: u64, index: usize, word: u64)
     requires fetched { F.IsFetched store.old number }
     requires announced { F.IsAnnounced store.old number }
@@ -105,8 +105,8 @@ pub fn set_word<F: PresentFrames>(store: &mut F, number: u64, index: usize, word
     store.set_word(number, index, word);
 }
 
-/// Puts a capability, live, into a slot of a node or a register of an annex that is fetched and
-/// announced. What is neither stays.
+/// Puts a live capability into a slot of a node or a register of an annex that is fetched and
+/// announced. Any other object stays.
 pub fn set_slot<F: PresentFrames>(store: &mut F, number: u64, slot: usize, capability: Capability)
     requires fetched { F.IsFetched store.old number }
     requires announced { F.IsAnnounced store.old number }
@@ -122,7 +122,7 @@ pub fn set_slot<F: PresentFrames>(store: &mut F, number: u64, slot: usize, capab
 }
 
 /// Puts the capabilities of a message, live, into the last four slots of a node or registers of an
-/// annex that is fetched and announced. What is neither stays.
+/// annex that is fetched and announced. Any other object stays.
 #[inline(always)]
 pub fn set_last_slots<F: PresentFrames>(store: &mut F, number: u64, message: &Message)
     requires fetched { F.IsFetched store.old number }
@@ -143,7 +143,7 @@ pub fn set_last_slots<F: PresentFrames>(store: &mut F, number: u64, message: &Me
     store.set_last_slots(number, held);
 }
 
-/// Gives a process, whose root is fetched and announced, words and a key. It is running.
+/// Sets the words and the key of a process, whose root is fetched and announced, and makes it running.
 pub fn set_message<F: PresentFrames>(store: &mut F, process: u64, words: [u64; 4], key: u16)
     requires fetched { F.IsFetched store.old process }
     requires announced { F.IsAnnounced store.old process }
@@ -166,7 +166,7 @@ pub fn set_message<F: PresentFrames>(store: &mut F, process: u64, words: [u64; 4
 }
 
 /// Makes a free number, fetched and announced, a new object of a bank (EROS: a space bank's
-/// allocation). It holds nothing yet, and its number's counts stay.
+/// allocation). Its body is blank, and its number's counts stay.
 pub fn claim<F: PresentFrames>(store: &mut F, number: u64, fresh: Fresh, owner: u64)
     requires fetched { F.IsFetched store.old number }
     requires announced { F.IsAnnounced store.old number }
@@ -202,8 +202,8 @@ pub fn set_owner<F: PresentFrames>(store: &mut F, number: u64, bank: u64)
     store.set_owner(number, bank);
 }
 
-/// Gives the right to resume a process up, whose root is announced: every capability that resumes
-/// it is void (EROS: a resume capability works at most once).
+/// Voids every resume capability to a process, whose root is announced (EROS: a resume capability
+/// works at most once).
 pub fn consume<F: PresentFrames>(store: &mut F, process: u64)
     requires announced { F.IsAnnounced store.old process }
     requires calls { (header_at (F.parts store.old).headers process).calls < u64.MAX }
@@ -219,8 +219,8 @@ pub fn consume<F: PresentFrames>(store: &mut F, process: u64)
     store.consume(process);
 }
 
-/// Gives objects that are announced up, no number twice: they are free, and every capability that
-/// names one is void (EROS: rescind, KeyKOS: sever).
+/// Frees the listed objects, each announced and listed once. Every capability to them becomes void
+/// (EROS: rescind, KeyKOS: sever).
 pub fn rescind<F: PresentFrames>(store: &mut F, numbers: &[u64])
     requires announced { All (F.IsAnnounced store.old) numbers.now }
     requires once { IsOnce numbers.now }

@@ -21,8 +21,7 @@ pub const MAX_FETCHED: usize = 8;
 /// Why objects weren't prepared.
 #[derive(Clone, Copy, PartialEq, Eq, Debug)]
 pub enum PrepareFault {
-    /// With the numbers to be written, more were written since the last checkpoint than half of the
-    /// log holds.
+    /// More objects would be touched than half of the log has slots.
     LogFull,
     /// The device failed.
     Failed,
@@ -88,8 +87,8 @@ pub enum Fresh {
 
 /// The objects as they are now, to be read.
 ///
-/// The table with the headers of all objects is always in memory. `fetch` brings what objects hold
-/// into memory. Nothing here takes memory: a store has it from the opening on.
+/// The table with the headers of all objects is always in memory. `fetch` brings bodies into memory.
+/// No call takes memory: a store takes all of it at opening.
 pub trait Frames: Drop {
     ghost parts: { Self → Parts };
 
@@ -98,7 +97,7 @@ pub trait Frames: Drop {
     /// What lies beside the frames went on with no commit.
     ghost ContinuesTo: { Self → Self → Type 0 };
 
-    /// How many objects there may be. Never more was written than half of the log holds.
+    /// The counts of nodes, pages and log slots. By `within`, no more than `log` numbers are touched.
     fn geometry(&self) -> Geometry
         ensures geometry { result ≡ (parts self.now).geometry }
         ensures within { touched_count (parts self.now).touched ≤ (parts self.now).geometry.log };
@@ -107,8 +106,8 @@ pub trait Frames: Drop {
     fn table(&self) -> &ObjectTable
         ensures { result.now ≡ (parts self.now).headers };
 
-    /// Fetches what objects hold that are to be read, at most 8. No object changes. Fails exactly
-    /// where the device does.
+    /// Brings the bodies of up to 8 objects into memory. No object changes. Fails exactly if the device
+    /// fails.
     fn fetch(&mut self, numbers: &[u64]) -> Result<(), Failed>
         requires few { length numbers.now ≤ MAX_FETCHED }
         requires known { All (λ n. n < length (parts self.old).headers) numbers.now }
@@ -119,7 +118,7 @@ pub trait Frames: Drop {
         ensures later { (parts self.old).failures ≤ (parts self.new).failures }
         ensures snapshots { OnlyFetches parts ContinuesTo self.old self.new };
 
-    /// What an object holds.
+    /// The body of a fetched object.
     fn frame(&self, number: u64) -> ContentRef<'_>
         requires { IsFetched self.now number }
         ensures { content_behind result ≡ held_at (parts self.now).contents number };
@@ -134,16 +133,14 @@ pub trait Frames: Drop {
 
 /// The objects as they are now, and the numbers written since the last checkpoint.
 ///
-/// What an object holds is changed only where it is fetched and its number announced.
+/// A body is changed only if its object is announced and, except by `reset`, fetched.
 pub trait PresentFrames: Frames {
     ghost IsAnnounced: { Self → ℕ → Type 0 };
 
-    /// Fetches what the objects hold that are to be read or changed, at most 8, and announces the
-    /// numbers that are to be written.
+    /// Brings the bodies of up to 8 objects into memory, and announces the objects to be written.
     ///
-    /// An error changes no object and none of the numbers written: `LogFull` only where the numbers
-    /// written would be more than half of the log holds, and `Failed` exactly where the device
-    /// failed.
+    /// An error changes no object and no touched number: `LogFull` only if more numbers would be
+    /// touched than half of the log has slots, and `Failed` exactly if the device failed.
     fn prepare(&mut self, fetched: &[u64], written: &[u64]) -> Result<(), PrepareFault>
         requires few { length fetched.now ≤ MAX_FETCHED }
         requires known { All (λ n. n < length (Self.parts self.old).headers) fetched.now }
@@ -173,7 +170,7 @@ pub trait PresentFrames: Frames {
         ensures later { (Self.parts self.old).failures ≤ (Self.parts self.new).failures }
         ensures continues { Self.ContinuesTo self.old self.new };
 
-    /// Puts a word into a page. What is no page stays.
+    /// Sets a word of a page. Any other body stays.
     fn set_word(&mut self, number: u64, index: usize, word: u64)
         requires fetched { Self.IsFetched self.old number }
         requires announced { IsAnnounced self.old number }
@@ -182,7 +179,7 @@ pub trait PresentFrames: Frames {
             (with_held (Self.parts self.old) number
             (with_word_in (held_at (Self.parts self.old).contents number) index word)) };
 
-    /// Puts a capability into a slot of a node or a register of an annex. What is neither stays.
+    /// Sets a slot of a node or a register of an annex. Any other body stays.
     fn set_slot(&mut self, number: u64, slot: usize, held: Cap)
         requires fetched { Self.IsFetched self.old number }
         requires announced { IsAnnounced self.old number }
@@ -191,8 +188,7 @@ pub trait PresentFrames: Frames {
             (with_held (Self.parts self.old) number
             (with_slot_in (held_at (Self.parts self.old).contents number) slot held)) };
 
-    /// Puts capabilities into the last four slots of a node or registers of an annex. What is neither
-    /// stays.
+    /// Sets the last four slots of a node or registers of an annex. Any other body stays.
     fn set_last_slots(&mut self, number: u64, held: [Cap; 4])
         requires fetched { Self.IsFetched self.old number }
         requires announced { IsAnnounced self.old number }
@@ -200,7 +196,7 @@ pub trait PresentFrames: Frames {
             (with_held (Self.parts self.old) number
             (with_slots_in (held_at (Self.parts self.old).contents number) 28 held)) };
 
-    /// Puts another root in place of the root of a process. What is no root stays.
+    /// Replaces the root of a process. Any other body stays.
     fn set_root(&mut self, process: u64, root: Root<Cap>)
         requires fetched { Self.IsFetched self.old process }
         requires announced { IsAnnounced self.old process }
@@ -219,7 +215,7 @@ pub trait PresentFrames: Frames {
             (claimed (role_of (fresh_content void_held fresh)) owner (header_at (Self.parts self.old).headers number))
             (fresh_content void_held fresh)) };
 
-    /// Gives an object up: it is free, and both of its counts are one more.
+    /// Frees an object and raises both of its counts by one.
     fn reset(&mut self, number: u64)
         requires announced { IsAnnounced self.old number }
         requires allocations { (header_at (Self.parts self.old).headers number).allocations < u64.MAX }
@@ -235,7 +231,7 @@ pub trait PresentFrames: Frames {
             (with_header (Self.parts self.old) number
             (owned_by bank (header_at (Self.parts self.old).headers number))) };
 
-    /// Gives the right to resume a process up: its call count is one more.
+    /// Raises a process's call count by one, so every resume capability to it is stale.
     fn consume(&mut self, root: u64)
         requires announced { IsAnnounced self.old root }
         requires calls { (header_at (Self.parts self.old).headers root).calls < u64.MAX }

@@ -6,7 +6,7 @@ ghost use Rattle.capability.specs.Objects.{live_cap};
 use model::{Cap, Capability, ObjectHeader, Role};
 use std::marker::Model;
 
-/// The headers of all objects, by number. None of its calls takes memory or refuses.
+/// The headers of all objects, by number. No call takes memory or fails.
 #[derive(Drop)]
 pub struct ObjectTable {
     headers: Vec<ObjectHeader>,
@@ -36,14 +36,14 @@ impl ObjectTable {
         self.headers
     }
 
-    /// How many objects there are.
+    /// How many numbers there are, free ones included.
     pub fn count(&self) -> u64
         ensures { result ≡ length self.now }
     {
         self.headers.len() as u64
     }
 
-    /// The header of an object, or a blank one where there is no such object.
+    /// The header of a number, or a blank one if there is no such number.
     pub fn header(&self, number: u64) -> ObjectHeader
         ensures { result ≡ header_at self.now number }
     {
@@ -58,7 +58,7 @@ impl ObjectTable {
         }
     }
 
-    /// The count that a capability is given now: it is live until its object's count rises.
+    /// The count that a capability gets now: it is live until its object's count rises.
     pub fn current_count(&self, capability: Capability) -> u64
         ensures { result ≡ current_count self.now capability }
     {
@@ -91,7 +91,7 @@ impl ObjectTable {
         held.count >= self.current_count(held.what)
     }
 
-    /// What a held capability conveys: nothing where it is stale.
+    /// What a held capability conveys: void if it is stale.
     pub fn conveyed(&self, held: Cap) -> Capability
         ensures { result ≡ conveyed self.now held }
     {
@@ -121,7 +121,7 @@ impl ObjectTable {
         self.headers[number as usize].owner = bank;
     }
 
-    /// Gives an object up: it is free, and both of its counts are one more.
+    /// Frees an object and raises both of its counts by one.
     pub fn rescind(&mut self, number: u64)
         requires known { number < length self.old }
         requires allocations { (header_at self.old number).allocations < u64.MAX }
@@ -135,7 +135,7 @@ impl ObjectTable {
         header.owner = 0;
     }
 
-    /// Gives the right to resume a process up: its call count is one more.
+    /// Raises a process's call count by one, so every resume capability to it is stale.
     pub fn consume(&mut self, root: u64)
         requires known { root < length self.old }
         requires calls { (header_at self.old root).calls < u64.MAX }

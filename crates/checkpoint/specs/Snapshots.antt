@@ -1,6 +1,5 @@
--- What a store keeps beside its present objects, and what each stage of a checkpoint does to that, whatever it keeps of
--- a
--- frozen state.
+-- What a store keeps beside its present objects, and what each stage of a checkpoint does to that, whatever a frozen
+-- state is to it.
 use Rattle.checkpoint.specs.Names.{ℕ, Option, Some, None, option_map, List, Frame, frame_at, AreKeepable}
 use Rattle.std.specs.Prelude.{◌≡◌, ◌==◌, if◌then◌else◌, ◌+◌, ◌-◌, ◌<◌, ◌≤◌, ◌^◌}
 use Rattle.checkpoint.specs.Saved.{SavedFrames, home_saved, replaced_saved, with_words}
@@ -12,7 +11,7 @@ pub record Snapshots (F : Type 0) : Type 0 where
   pub to_move : ℕ
 
 -- what a frozen state is: the frames that it saves over those saved before, how many objects it writes, and how many of
--- these aren't in the log
+-- these are left to be stabilized
 pub record FrozenView (F : Type 0) : Type 0 where
   pub frames : F → List Frame → List Frame
   pub size : F → ℕ
@@ -41,7 +40,7 @@ abbrev pub journaled : {F : Type 0} → ℕ → ℕ → List ℕ → Snapshots F
 journaled age n words s = replaced age n (with_words words (frame_at s.saved.frames n)) s
 
 module _ {F : Type 0} (of : FrozenView F) where
-  -- how many frozen frames aren't in the log
+  -- how many frozen objects are left to be stabilized
   abbrev pub left_in : Snapshots F → Option ℕ
   left_in s = option_map of.left s.frozen
 

@@ -49,7 +49,7 @@ pub enum Job<'a> {
     Run {
         image: &'a str,
         script: Script<'a>,
-        /// The most objects that are kept in memory, 8 to 8192; `None` keeps all that were met.
+        /// The most objects kept in memory, 8 to 8192; `None` keeps all.
         cache: Option<u64>,
         /// Whether standard error says what became of each line.
         trace: bool,

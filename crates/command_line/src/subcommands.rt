@@ -74,7 +74,7 @@ fn cache<'a>(alloc: Global) -> Arg<'a>
         .value_name("C")
         .value_parser(ValueParser::unsigned(LEAST_CAPACITY, GREATEST_CAPACITY))
         .help(
-            "Keeps at most C objects in memory, 8 to 8192, as --cache 100; else all that were met",
+            "Keeps at most C objects in memory, 8 to 8192, as --cache 100; without it, all objects",
         )
 }
 

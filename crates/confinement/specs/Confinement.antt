@@ -66,10 +66,9 @@ IsLineBy inside (line.Command c) = IsBy inside c
 abbrev pub AreBy : (ℕ → Bool) → List Turn → Type 0
 AreBy inside turns = All (λ t. (l : Line) → Says t.line l → IsLineBy inside l) turns
 
--- the authority bound: over any run of invocations and memory references by processes of a closed set, and of those
--- that
--- they make of what was free, each object outside the set that wasn't free is as it was, its owner too, but that
--- capabilities in it that name a member may be void (EROS: confinement)
+-- the authority bound: over any run of invocations and memory references by processes of a closed set, and by those
+-- that they make of free numbers, each object outside the set that wasn't free keeps its content and owner, but
+-- capabilities in it that name a member may become void (EROS: confinement)
 abbrev pub RunIsConfined : Type 0
 RunIsConfined = (g : Geometry) (inside : ℕ → Bool) (s t : Running) (turns : List Turn) →
     IsSound g s.now → IsClosed s.now.objects inside → IsRun g (Up s) turns (Up t) →

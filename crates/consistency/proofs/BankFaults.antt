@@ -1,6 +1,6 @@
 -- Why banks aren't a tree that owns all objects within their limits.
-use Rattle.consistency.proofs.Names.{ℕ, Bool, false, true, List, sym, subst, arith, IsTrue, Frame, Unbanked, AreBanked, IsUnbanked, owner_of, role_at}
-use Rattle.std.proofs.Common.{◌≡◌, ◌≢◌, ◌∙◌}
+use Rattle.consistency.proofs.Names.{Bool, false, true, List, sym, subst, arith, IsTrue, Frame, Unbanked, AreBanked, IsUnbanked, role_at}
+use Rattle.std.proofs.Common.{◌≡◌, ◌∙◌}
 use Rattle.std.specs.Prelude.{◌↔◌}
 use Rattle.model.specs.declared.object.Role.TheVariants as role
 use Rattle.consistency.specs.declared.reason.Unbanked.TheVariants as bank
@@ -8,14 +8,6 @@ use Rattle.consistency.specs.declared.reason.Unbanked.TheVariants as bank
 -- what isn't so where a test fails
 pub refuted : (b : Bool) (P : Type 0) → (IsTrue b ↔ P) → b ≡ false → P → ⊥
 refuted b P tells is p = let so : b ≡ true = tells.1 p in let no_so : true ≡ false = sym so ∙ is in cc
-
-pub unowned : (fs : List Frame) (n owner : ℕ) → (((role_at fs n ≢ role.Free) → role_at fs (owner_of fs n) ≡ role.Bank) → ⊥) → owner ≡ owner_of fs n
-    → IsUnbanked fs (bank.Owner n owner)
-unowned fs n owner broken is = (
-  λ free. broken (λ used. absurd (used free)),
-  sym is,
-  λ held. broken (λ used. subst (λ o. role_at fs o ≡ role.Bank) is held),
-)
 
 -- what is wrong with banks isn't so where they are as they must be
 pub unbanked_refuted : (fs : List Frame) (why : Unbanked) → IsUnbanked fs why → AreBanked fs → ⊥

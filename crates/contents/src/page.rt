@@ -1,4 +1,4 @@
-// The 512 words of a page, where they stand.
+// The 512 words of a page, stored in place.
 ghost use Rattle.std.specs.Prelude.{◌≡◌, ◌<◌, length, replicate, slice_set};
 ghost use Rattle.contents.specs.Words.{IsZeroFrom};
 ghost use Rattle.std.specs.Borrow.{Lends, sem, Array, u64 as word};
@@ -8,7 +8,7 @@ use std::marker::Model;
 /// How many words of 64 bits a page has.
 pub const WORDS: usize = 512;
 
-/// The 512 words of a page, where they stand.
+/// The 512 words of a page, stored in place. `Words` holds a `Page` in a box.
 #[derive(Drop)]
 pub struct Page {
     words: [u64; 512],
@@ -27,7 +27,7 @@ impl Model for Page {
     ghost invariant = { λ p. IsZeroFrom p.end p.words };
 }
 
-// Makes the words before an index 0. The others are.
+// Sets the words before `end` to 0. Those from `end` on are 0 already.
 fn clear_before(words: &mut [u64], end: usize)
     requires count { length words.old ≡ 512 }
     requires zero { IsZeroFrom end words.old }
@@ -79,7 +79,7 @@ impl Page {
         words.as_mut_slice()
     }
 
-    /// Puts this word at an index.
+    /// Sets the word at an index.
     pub fn set(&mut self, index: usize, word: u64)
         requires { index < 512 }
         ensures { self.new ≡ slice_set self.old index word }
@@ -90,7 +90,7 @@ impl Page {
         }
     }
 
-    /// Puts these words in place of all.
+    /// Sets all words.
     pub fn put(&mut self, words: &[u64; 512])
         ensures { self.new ≡ words.now }
     {
@@ -98,7 +98,7 @@ impl Page {
         self.end = WORDS;
     }
 
-    /// Makes all words 0.
+    /// Sets all words to 0.
     pub fn clear(&mut self)
         ensures { self.new ≡ replicate 512 0 }
     {

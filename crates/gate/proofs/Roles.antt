@@ -1,9 +1,9 @@
 -- What stays of processes while one of them changes.
-use Rattle.gate.proofs.Names.{ℕ, true, List, [], refl, sym, ap, IsTrue, slice_index_or, get_or-map, map-set_same, Capability, Invocation, Operation, Call}
-use Rattle.gate.proofs.Names.{Return, Send, Content, Object, Root, State, Available, Waiting, after_gate, free, is_node, is_root, map_content, root_in}
-use Rattle.gate.proofs.Names.{with_slot_in, with_word_in, with_root_word, with_space, consume, resumes, void_where, without, annex_at, content_at, is_process}
-use Rattle.gate.proofs.Names.{root_at, with_content, with_root, with_slot, with_state, with_word, root_frame, set_frame, slot_frame, word_frame, SameFrame}
-use Rattle.gate.proofs.Names.{frame_refl, Change, changed, IsOfProcess, IsWithinObject}
+use Rattle.gate.proofs.Names.{ℕ, List, [], refl, sym, ap, IsTrue, slice_index_or, get_or-map, map-set_same, Capability, Invocation, Operation, Call, Return}
+use Rattle.gate.proofs.Names.{Send, Content, Object, Root, State, Available, Waiting, after_gate, free, is_root, map_content, root_in, with_slot_in}
+use Rattle.gate.proofs.Names.{with_word_in, with_root_word, with_space, consume, resumes, void_where, without, annex_at, content_at, is_process, root_at}
+use Rattle.gate.proofs.Names.{with_content, with_root, with_slot, with_state, with_word, root_frame, set_frame, slot_frame, word_frame, SameFrame, frame_refl}
+use Rattle.gate.proofs.Names.{Change, changed, IsOfProcess, IsWithinObject}
 use Rattle.std.proofs.Common.{◌≡◌, ◌∙◌}
 use Rattle.model.specs.declared.object.Content.TheVariants as content
 use Rattle.capability.specs.declared.order.Change.TheVariants as change
@@ -24,18 +24,6 @@ module _ {X : Type 0} (field : Content Capability → X) where
 -- the annex that a content names
 abbrev annex_in : Content Capability → ℕ
 annex_in c = (root_in c).annex
-
--- a root in place of a root has its annex, and is one
-root_role : (c : Content Capability) (r : Root Capability) → is_root c ≡ true → is_root (content.Root r) ≡ is_root c
-root_role c r is = sym is
-
-root_kind : (c : Content Capability) (r : Root Capability) → is_root c ≡ true → is_node (content.Root r) ≡ is_node c
-root_kind content.Free r is = cc
-root_kind (content.Page words) r is = cc
-root_kind (content.Node slots) r is = cc
-root_kind (content.Root s) r is = refl
-root_kind (content.Annex slots) r is = cc
-root_kind (content.Bank limit) r is = cc
 
 -- a process in another state
 module _ (os : List Object) (p : ℕ) (s : State) (is : IsTrue (is_process os p)) where

@@ -53,9 +53,8 @@ pub record IsPlanned (g : Geometry) (os : List Object) (i : Invocation) (caller 
       (drop (writer_count caller.operation) list) plan
   pub listed : list ≡ writers caller.operation caller.process caller.annex ++ drop (writer_count caller.operation) list
 
--- The geometry, the touched numbers and the failures stay, and a count of allocations rises where its object is given
--- up.
--- The parameters are ghost members of a store of present frames.
+-- The geometry, the touched numbers and the failures stay, and the allocation count of each freed object rises. The
+-- parameters are ghost members of a store of present frames.
 pub record GoesOnBeside {S : Type 0} (parts : S → Parts) (Continues : S → S → Type 0) (old new : S) : Type 0 where
   pub renews : Renews (parts old) (parts new)
   pub touched : (parts new).touched ≡ (parts old).touched

@@ -114,12 +114,10 @@ pub fn plan<F: Frames>(
     requires known { IsNoBankOrder capability word }
     requires annex { (p : ℕ) → process_named capability ≡ Some p
         → F.IsFetched store.now (annex_at (objects_in (F.parts store.now)) p) }
-    ensures only { IsFor (objects_of
-        (frames_of (F.parts store.now))) capability arguments result.change }
+    ensures only { IsFor (objects_of (frames_of (F.parts store.now))) capability arguments result.change }
     ensures outcome { (g : Geometry) → outcome_of (objects_in (F.parts store.now)) result
         ≡ order g (objects_in (F.parts store.now)) capability word arguments }
-    ensures change { (g : Geometry) (os : List Object)
-        → HaveAnnexesOf (objects_in (F.parts store.now)) os
+    ensures change { (g : Geometry) (os : List Object) → HaveAnnexesOf (objects_in (F.parts store.now)) os
         → ChangesAs os result (order g os capability word arguments) }
 {
     match capability {

@@ -1,4 +1,5 @@
 mod Names
+mod Tests
 pub mod Places
 pub mod Shared
 mod Runs

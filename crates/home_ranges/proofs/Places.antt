@@ -1,6 +1,6 @@
 -- Places of numbers in ranges that cover them.
 use Rattle.home_ranges.proofs.Names.{ℕ, zero, suc, refl, Option, Some, None, List, [], length, get_or, map, sym, ap, subst, inl, inr, arith, Result, Ok, Err}
-use Rattle.home_ranges.proofs.Names.{Bool, true, false, nat_lt, nat_le, min, OnOk, ⊤, cases_lt, length-map, get_or_append_left, get_or-map, nat_tests, Geometry}
+use Rattle.home_ranges.proofs.Names.{true, false, nat_lt, nat_le, min, OnOk, ⊤, cases_lt, length-map, get_or_append_left, get_or-map, nat_tests, Geometry}
 use Rattle.home_ranges.proofs.Names.{Image, Extent, HomeRange, Half, First, Second, Shape, Node, Packed, Page, Version, One, Two, half_of, range_with}
 use Rattle.home_ranges.proofs.Names.{node_offset, place_in, place_by, home_place, rank_in, shape_of, place_length, sectors_from, node_shape, shape_bytes}
 use Rattle.home_ranges.proofs.Names.{shape_length, Plan, IsPlan, Cover, IsOfOneKind, IsWithin, IsApart, IsInside, extent_at, extents, nodes_length}
@@ -8,6 +8,7 @@ use Rattle.home_ranges.proofs.Names.{range_extent, half_extent, half_start, itse
 use Rattle.home_ranges.proofs.Names.{HoldsHome, home_extent, PlacesAreWithin, PlacesAreApart, NumbersAreApart, PlacesSpareLog}
 use Rattle.std.proofs.Common.{◌≡◌, ◌⊎◌, ◌+◌, ◌-◌, ◌*◌, ◌/◌, ◌%◌, ◌<◌, ◌≤◌, ◌∷◌, ◌∙◌, ◌&&◌}
 use Rattle.std.specs.Prelude.{if◌then◌else◌}
+use Rattle.home_ranges.proofs.Tests.{if_false, if_true, in_false, in_true}
 
 abbrev pub range_at : List HomeRange → ℕ → HomeRange
 range_at rs i = get_or rs i (record { first = 0; count = 0; sector = 0 })
@@ -29,18 +30,6 @@ lt_true a b lt = grind (arith, nat_tests)
 
 pub lt_false : (a b : ℕ) → b ≤ a → nat_lt a b ≡ false
 lt_false a b le = grind (arith, nat_tests)
-
-in_true : (a n b : ℕ) → a ≤ n → n < b → (nat_le a n && nat_lt n b) ≡ true
-in_true a n b low high = grind (arith, nat_tests)
-
-in_false : (a n b : ℕ) → b ≤ n → (nat_le a n && nat_lt n b) ≡ false
-in_false a n b le = grind (arith, nat_tests)
-
-if_true : (test : Bool) (x y : Option HomeRange) → test ≡ true → (if test then x else y) ≡ x
-if_true test x y e = rw e
-
-if_false : (test : Bool) (x y : Option HomeRange) → test ≡ false → (if test then x else y) ≡ y
-if_false test x y e = rw e
 
 find_in : (g : Geometry) (n number : ℕ) (rs : List HomeRange) → Cover g n rs → n ≤ number → number < g.nodes + g.pages → (i : ℕ) × IsFound g rs number i
 find_in g n number [] c low high = absurd (omega (arith, c))

@@ -129,11 +129,9 @@ fn write_store<D: Device, E: Device>(
     new: &mut E,
 ) -> (Result<u64, UpgradeFault>, D)
     requires encoded { (image : Image) × (size : ℕ) × Encodes image size (saved_by D.disk store) }
-    requires sound { IsSoundSaved (saved_by D.disk store).plan.geometry
-        (kept_of (saved_by D.disk store)) }
+    requires sound { IsSoundSaved (saved_by D.disk store).plan.geometry (kept_of (saved_by D.disk store)) }
     requires frames { frames_of (parts_of D.disk store) ≡ (saved_by D.disk store).frames }
-    ensures total { IfOk result.0 (λ total.
-        total ≡ (laid_again Two (saved_by D.disk store).plan).total) }
+    ensures total { IfOk result.0 (λ total. total ≡ (laid_again Two (saved_by D.disk store).plan).total) }
     ensures encodes { OnOk result.0 (Encodes (E.disk new.new).seen (E.disk new.new).sectors
         (upgraded (saved_by D.disk store))) }
     ensures crash { OnOk result.0 ((c : Image) → (E.disk new.new).may_leave c
@@ -148,8 +146,7 @@ fn write_store<D: Device, E: Device>(
         (E.disk new.old) (kept_of (saved_by D.disk store)) c) }
     ensures size { (E.disk new.new).sectors ≡ (E.disk new.old).sectors }
     ensures later { (E.disk new.old).failures ≤ (E.disk new.new).failures }
-    ensures cause { IsErrOf result.0 UpgradeFault.Failed
-        ↔ ((E.disk new.old).failures < (E.disk new.new).failures) }
+    ensures cause { IsErrOf result.0 UpgradeFault.Failed ↔ ((E.disk new.old).failures < (E.disk new.new).failures) }
     ensures device { result.1 ≡ store.durable.beneath }
 {
     let (saved, objects) = store.into_parts(alloc);

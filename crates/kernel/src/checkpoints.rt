@@ -68,9 +68,9 @@ pub fn stabilize<D: Device, S: ObjectStore<D>>(
     }
 }
 
-/// Makes the frozen objects the saved ones. It is refused by `NoCheckpoint` where none is on its
-/// way, and by `NotStable` while some of it isn't in the log. Where it fails, as the device does,
-/// what is saved is either of the two.
+/// Makes the frozen state the saved one. It is refused by `NoCheckpoint` if none is frozen, and by
+/// `NotStable` while `stabilize` has yet to reach some of it. If the device fails, it fails, and the
+/// saved state is either of the two.
 #[inline(never)]
 pub fn commit<D: Device, S: ObjectStore<D>>(live: &mut Live<S>) -> Result<Answer, Failed>
     requires { IsSomeUp D.disk S.view S.parts live.old }

@@ -3,7 +3,7 @@ pub use Rattle.byteorder.specs.Endian.{IsRead, little_number}
 pub use Rattle.byteorder.specs.Numbers.{little_from-lt, little_from-take, little_number-reads_back}
 pub use Rattle.device.specs.Disk.{Image}
 pub use Rattle.model.specs.Capability.{IsAccess, access_bits, tag_of}
-pub use Rattle.model.specs.Frame.{blank_frame, frame_at, void_held}
+pub use Rattle.model.specs.Frame.{blank_frame, content_behind, frame_at, void_held}
 pub use Rattle.model.specs.Keepable.{AreKeptSlots, AreKeptWords, Follows, IsCount, IsKeepable, IsKept, IsKeptCap, MayBeKept}
 pub use Rattle.model.specs.Object.{is_free, role_number, role_of, state_number}
 unfoldable pub use Rattle.model.specs.Object.{zero_words}
@@ -16,12 +16,13 @@ pub use Rattle.model.specs.declared.frame.Frame.{Frame}
 pub use Rattle.model.specs.declared.frame.ObjectHeader.{ObjectHeader}
 pub use Rattle.model.specs.declared.geometry.Geometry.{Geometry}
 pub use Rattle.model.specs.declared.object.Content.{Content}
+pub use Rattle.model.specs.declared.object.ContentRef.{ContentRef}
 pub use Rattle.model.specs.declared.object.Role.{Role}
 pub use Rattle.model.specs.declared.object.Root.{Root}
 pub use Rattle.model.specs.declared.object.State.{State}
 pub use Rattle.model.specs.declared.object.State.TheVariants.{Available, Running, Waiting}
-pub use Rattle.std.proofs.Common.{Bool, List, None, Option, Some, [], ap, append_assoc, arith, below_more, cond, drop, false, get_or, inl, inr, length, nat_le}
-pub use Rattle.std.proofs.Common.{nat_lt, refl, rules, set, subst, suc, sym, take, true, zero, ℕ, ⊎_elim}
+pub use Rattle.std.proofs.Common.{Bool, Bor, List, None, Option, Some, [], ap, append_assoc, arith, below_more, cond, drop, false, get_or, inl, inr, length}
+pub use Rattle.std.proofs.Common.{nat_le, nat_lt, refl, rules, set, subst, suc, sym, take, true, zero, ℕ, ⊎_elim}
 pub use Rattle.std.proofs.Math.Seq.{take-add}
 pub use Rattle.std.proofs.lemmas.Bool.{cases_eq, cases_lt, eq-eqb, false≢true, le-ltb, lt-ltb, ne_eqb}
 pub use Rattle.std.proofs.lemmas.Bool.Decides.{nat_tests}

@@ -4,16 +4,13 @@ use Rattle.layout.proofs.Names.{length-replicate, drop-drop, take_at, drop_at, t
 use Rattle.layout.proofs.Names.{drop_all, take-add, flat_map-append, All-replicate, Cap, Frame, ObjectHeader, Content, IsCount, AreKeptWords, role_of}
 use Rattle.layout.proofs.Names.{role_number, is_free, zero_words, number, zeros, Body, front_numbers, front_bytes, page_words, words_bytes, page_frame_bytes}
 use Rattle.layout.proofs.Names.{role_in, page_body_in, content_of, HoldsPage, IsPageFrame, IsPageBody, zero, get_or, get_or-drop, get_or_default, take_more}
-use Rattle.layout.proofs.Names.{little_number, IsRead, little_from-lt}
+use Rattle.layout.proofs.Names.{little_number, IsRead, little_from-lt, Bor, content_behind, ContentRef}
 use Rattle.std.proofs.Common.{◌≡◌, ◌+◌, ◌-◌, ◌*◌, ◌^◌, ◌<◌, ◌≤◌, ◌∷◌, ◌++◌, ◌∙◌}
 use Rattle.std.specs.Prelude.{◌⊎◌}
 use borrow.Rule.Slice.PartMut.{put_mid}
 use Rattle.model.specs.declared.object.Content.TheVariants as content
 use Rattle.layout.proofs.Numbers.{length-number, stream, AllFit, stream_splits, IsBytes, number_read}
 use Rattle.layout.proofs.Frames.{length-front, front_list, front_reported, front_bytes_are, role_again, role_fits, drop_zeros}
-use Rattle.std.proofs.Common.{Bor}
-use Rattle.model.specs.Frame.{content_behind}
-use Rattle.model.specs.declared.object.ContentRef.{ContentRef}
 use Rattle.model.specs.declared.object.ContentRef.TheVariants as content_ref
 
 pub words_bytes-nil : words_bytes [] ≡ []

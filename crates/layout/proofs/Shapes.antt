@@ -1,6 +1,6 @@
 -- How many sectors frames take, and their bytes in these.
-use Rattle.layout.proofs.Names.{ℕ, Bool, true, false, nat_lt, refl, ap, arith, nat_tests, Image, Shape, Node, Packed, Page, Version, One, frame_length}
-use Rattle.layout.proofs.Names.{range_with, rank_in, shape_of, place_length, sectors_from, shaped_at, bytes_at, node_shape, shape_length, shape_bytes, Plan}
+use Rattle.layout.proofs.Names.{ℕ, Bool, false, nat_lt, ap, arith, nat_tests, Image, Shape, Node, Packed, Page, Version, One, frame_length, range_with, rank_in}
+use Rattle.layout.proofs.Names.{shape_of, place_length, sectors_from, shaped_at, bytes_at, node_shape, shape_length, shape_bytes, Plan}
 use Rattle.std.proofs.Common.{◌≡◌, ◌+◌, ◌<◌, ◌≤◌, ◌∙◌}
 use Rattle.std.specs.Prelude.{if◌then◌else◌}
 use Rattle.layout.proofs.Sectors.{same_sectors}
@@ -15,15 +15,6 @@ few_sectors Page = omega arith
 pub same_shaped : (at : ℕ) (s : Shape) (old new : Image) → ((i : ℕ) → i < shape_length s → new (at + i) ≡ old (at + i)) →
     shaped_at new at s ≡ shaped_at old at s
 same_shaped at s old new same = ap (shape_bytes s) (same_sectors at (shape_length s) old new same)
-
--- ---- in version 1
-
-abbrev own_shape : Bool → Shape
-own_shape is_node = if is_node then Node else Page
-
-own_bytes : (image : Image) (at : ℕ) (is_node : Bool) → shaped_at image at (own_shape is_node) ≡ sectors_from image at (if is_node then 2 else 9)
-own_bytes image at true = refl
-own_bytes image at false = refl
 
 -- ---- pages
 

@@ -108,12 +108,6 @@ range_read bytes into i a b c lt before fa fb fc ea eb ec =
       each = All-same RangeFits (take (i + 1) (set into i r)) (take i into ++ r ∷ []) more (All-push RangeFits (take i into) r before.each (fa, fb, fc));
     }
 
-pub all_ranges : (bytes : List ℕ) (into : List HomeRange) (i : ℕ) → length into ≤ i → length bytes ≡ 24 * length into → RangesRead bytes into i →
-    (bytes ≡ ranges_bytes into) × All RangeFits into
-all_ranges bytes into i done len was =
-    let whole : take i into ≡ into = take_all i into done in
-    (sym (take_all (24 * i) bytes (omega arith)) ∙ was.bytes_are ∙ ap ranges_bytes whole, All-same RangeFits into (take i into) (sym whole) was.each)
-
 right_deep : (a b c d : List ℕ) → ((a ++ b) ++ c) ++ d ≡ a ++ (b ++ c ++ d)
 right_deep a b c d = simp append_assoc
 

@@ -82,7 +82,7 @@ content_of (body.Bank limit) slots words = content.Bank limit
 
 -- the frame of a header and a body that were read
 abbrev pub frame_of : ObjectHeader × Body → Scratch → Frame
-frame_of read room = record { header = read.0; content = content_of read.1 room.slots room.words }
+frame_of read scratch = record { header = read.0; content = content_of read.1 scratch.slots scratch.words }
 
 -- the front of a frame with any first eight bytes, as numbers
 unfoldable pub front_numbers : ℕ → ObjectHeader → List ℕ

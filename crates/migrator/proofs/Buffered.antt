@@ -17,9 +17,6 @@ use Rattle.migrator.proofs.Tables.{set_here, set_there, slot_entries, slot_kept}
 
 -- ---- where nothing is unwritten
 
-same_some : {X : Type 0} (x y : X) → Some x ≡ Some y → x ≡ y
-same_some x y e = cc
-
 -- no checkpoint is on its way
 pub none_idle : (b : Books) (o : Option Unwritten) → MayHaveUnwritten b o → b.size ≡ None → o ≡ None
 none_idle b None has idle = refl

@@ -62,7 +62,7 @@ pub use Rattle.layout.specs.declared.half.Half.TheVariants.{First, Second}
 pub use Rattle.layout.specs.declared.header.CheckpointHeader.{CheckpointHeader}
 pub use Rattle.layout.specs.declared.shape.Shape.{Shape}
 pub use Rattle.layout.specs.declared.shape.Shape.TheVariants.{Node, Packed, Page}
-pub use Rattle.model.specs.Frame.{blank_frame, frame_at}
+pub use Rattle.model.specs.Frame.{blank_frame, content_behind, frame_at}
 pub use Rattle.model.specs.Keepable.{AreKeepable, AreKeptSlots, AreKeptWords, Follows, IsCount, IsKeepable, IsKeptCap, MayBeKept}
 pub use Rattle.model.specs.Object.{role_of}
 pub use Rattle.model.specs.Sound.{IsOfKind}
@@ -79,8 +79,8 @@ pub use Rattle.std.proofs.Common.{length-append, nat_eq, nat_le, nat_lt, not, re
 pub use Rattle.std.proofs.Math.ListN.{get_or-map}
 pub use Rattle.std.proofs.lemmas.Bool.{and_from, and_left, and_right, cases_eq, cases_lt, eq-eqb, le-ltb, ne_eqb}
 pub use Rattle.std.proofs.lemmas.Bool.Decides.{nat_tests}
-pub use Rattle.std.proofs.lemmas.List.{append_assoc, drop_all, drop_at, get_or-replicate, get_or-set_other, get_or-set_same, get_or_default, get_or_past}
-pub use Rattle.std.proofs.lemmas.List.{length-map, length-replicate, length-set, map-set, nil_from_length, same_lists, take_all}
+pub use Rattle.std.proofs.lemmas.List.{drop_all, drop_at, get_or-replicate, get_or-set_other, get_or-set_same, get_or_default, get_or_past, length-map}
+pub use Rattle.std.proofs.lemmas.List.{length-replicate, length-set, map-set, nil_from_length, same_lists, take_all}
 pub use Rattle.std.proofs.lemmas.List.Elements.{All-weaker}
 pub use Rattle.std.proofs.lemmas.List.FromFn.{get_or-map-range_with_len, length-map-range_with_len, map-range_with_len_more}
 pub use Rattle.std.proofs.lemmas.Option.{same_Some}

@@ -2,9 +2,8 @@
 use Rattle.migrator.proofs.Names.{ℕ, Result, Ok, Err, List, [], refl, sym, subst, inl, inr, ⊎_elim, arith, map, IfOk, IfErr, range_with_len, cases_lt}
 use Rattle.migrator.proofs.Names.{map-range_with_len_more, Frame, Image, Disk, Only, Elapses, agrees_is, leaves_weaker, leaves_on, peeks_started, Entry}
 use Rattle.migrator.proofs.Names.{CheckpointHeader, HasPlan, HasHeader, HasDirectory, Encodes, IsBadBy, count_of, IsSpelt, AreSpelt, frame_read, frames_read}
-use Rattle.migrator.proofs.Names.{state_in, Plan, denotes, ReadsOnly, OpenFault, IsBadAt, IsBadFor, LeavesState}
-use Rattle.std.proofs.Common.{◌≡◌, ◌+◌, ◌<◌, ◌∷◌, ◌++◌, ◌∙◌, length}
-use Rattle.std.proofs.lemmas.List.FromFn.{length-map-range_with_len}
+use Rattle.migrator.proofs.Names.{state_in, Plan, denotes, ReadsOnly, OpenFault, IsBadAt, IsBadFor, LeavesState, length, length-map-range_with_len}
+use Rattle.std.proofs.Common.{◌≡◌, ◌+◌, ◌<◌, ◌∷◌, ◌++◌, ◌∙◌}
 use Rattle.checkpoint.specs.declared.open_fault.OpenFault.TheVariants as refusal
 
 time_on : (a b c : Disk) → ReadsOnly a b → ReadsOnly b c → Elapses a c

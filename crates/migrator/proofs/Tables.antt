@@ -2,10 +2,9 @@
 use native.Mathlib.Numerals.{unary_clauses}
 use Rattle.migrator.proofs.Names.{ℕ, zero, suc, Bool, true, false, Option, Some, None, List, [], length, set, take, drop, refl, sym, ap, subst, inl, inr, arith}
 use Rattle.migrator.proofs.Names.{length-append, replicate, cases_eq, get_or-map, get_or-set_same, get_or-set_other, get_or_default, take_all, drop_all}
-use Rattle.migrator.proofs.Names.{append_assoc, nil_from_length, length-map, map-set, is_marked, IsNextMarked, HasNoneMarked, Geometry, Entry, entry_at}
-use Rattle.migrator.proofs.Names.{AreRising, IsEntry, IsDirectory, slot_in, slot_here, slot_behind, own_slot, two_objects, Place, Nowhere, Torn, Whole}
-use Rattle.migrator.proofs.Names.{place_at, slot_of, is_held, has_slot, has_frame, tally, taken_count, whole_count, slot_or, slot_for, IsTable, entry_before}
-use Rattle.migrator.proofs.Names.{entries_from, entries_of}
+use Rattle.migrator.proofs.Names.{nil_from_length, length-map, map-set, is_marked, IsNextMarked, HasNoneMarked, Geometry, Entry, entry_at, AreRising, IsEntry}
+use Rattle.migrator.proofs.Names.{IsDirectory, slot_in, slot_here, slot_behind, own_slot, two_objects, Place, Nowhere, Torn, Whole, place_at, slot_of, is_held}
+use Rattle.migrator.proofs.Names.{has_slot, has_frame, tally, taken_count, whole_count, slot_or, slot_for, IsTable, entry_before, entries_from, entries_of}
 use Rattle.std.proofs.Common.{◌≡◌, ◌+◌, ◌-◌, ◌<◌, ◌≤◌, ◌∷◌, ◌++◌, ◌∙◌, map}
 use Rattle.std.proofs.lemmas.List.{append-nil}
 
@@ -209,13 +208,6 @@ pub none_held : (ps : List Place) (from : ℕ) → HasNoneMarked (map is_held ps
 none_held ps from none =
     entries_unheld ps from (length ps) (λ m past within. none m past)
     ∙ ap (entries_from (from + length ps)) (drop_all (from + length ps) ps (omega arith))
-
--- one more entry is listed
-pub entries_more : (ps : List Place) (xs : List Entry) (e : Entry) (from : ℕ) → entries_of ps ≡ xs ++ entries_from from (drop from ps) →
-    entries_from from (drop from ps) ≡ e ∷ entries_from (e.object + 1) (drop (e.object + 1) ps)
-    → entries_of ps ≡ (xs ++ e ∷ []) ++ entries_from (e.object + 1) (drop (e.object + 1) ps)
-entries_more ps xs e from are next = are ∙ ap (λ (es : List Entry). xs ++ es) next ∙
-    sym (append_assoc xs (e ∷ []) (entries_from (e.object + 1) (drop (e.object + 1) ps)))
 
 -- as many entries are left as were not yet listed
 pub entries_left : (ps : List Place) (xs rest : List Entry) → entries_of ps ≡ xs ++ rest → length xs + length rest ≡ taken_count ps

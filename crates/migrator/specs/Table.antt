@@ -18,11 +18,6 @@ is_held Nowhere = false
 is_held (Torn s) = true
 is_held (Whole s) = true
 
-abbrev pub is_whole : Place → Bool
-is_whole Nowhere = false
-is_whole (Torn s) = false
-is_whole (Whole s) = true
-
 -- how many objects have a slot, and how many have their frame in it
 abbrev pub has_slot : Place → ℕ
 has_slot Nowhere = 0

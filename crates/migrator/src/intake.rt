@@ -52,7 +52,7 @@ impl Intake for Vec<ObjectHeader> {
         &mut self,
         _alloc: Global,
         read: (ObjectHeader, Body),
-        _room: &Scratch,
+        _scratch: &Scratch,
     ) -> Result<(), AllocError> {
         self.push(read.0)?;
         Ok(())

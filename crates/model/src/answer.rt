@@ -51,11 +51,11 @@ pub enum Refusal {
     CheckpointRunning,
     /// The last checkpoint isn't home.
     MigrationPending,
-    /// So many frozen objects aren't in the log.
+    /// This many frozen objects are not stable yet.
     NotStable(u64),
     /// There is no frozen state.
     NoCheckpoint,
-    /// Memory ran out.
+    /// Memory ran out at a `show`, `restart` or `cut`.
     NoMemory,
     /// The device failed. The machine is down.
     Fault,
@@ -116,7 +116,7 @@ pub enum Answer {
     MemoryFault(MemoryFault),
     /// A checkpoint began; the number counts the objects written since the last one.
     Frozen(u64),
-    /// How many frozen objects aren't in the log yet, or how many saved ones aren't home.
+    /// How many frozen objects `stabilize` has yet to reach, or how many saved ones aren't home.
     Left(u64),
     /// The frozen state is the saved one, and this its generation.
     Committed(u64),

@@ -2,9 +2,9 @@
 use Rattle.model_laws.proofs.Names.{inl, inr, ℕ, Bool, true, false, not, add-zero, zero-add, List, [], length, map, refl, sym, ap, subst, arith, IsTrue, nat_le}
 use Rattle.model_laws.proofs.Names.{nat_lt, filter, list_any, list_all, range_with_len, cases_eq, eq-eqb, ne_eqb, and_right, false_from_ne_true, Capability}
 use Rattle.model_laws.proofs.Names.{Void, Page, Node, Process, Bank, Geometry, Content, Object, Arguments, BankOrder, ResultCode, full, free, is_bank, is_free}
-use Rattle.model_laws.proofs.Names.{object_at, content_at, owner_at, chain, is_under, usage, OrderOutcome, refused, made, are_free, free_nodes, free_pages}
-use Rattle.model_laws.proofs.Names.{has_quota, with_new, new_page, new_node, allocated, process_allocated, bank_allocated, freed_by, freed, under, owned_by}
-use Rattle.model_laws.proofs.Names.{left_of, least, remaining, on_bank, is_member, rescind}
+use Rattle.model_laws.proofs.Names.{object_at, content_at, owner_at, chain, is_under, usage, refused, made, are_free, free_nodes, free_pages, has_quota}
+use Rattle.model_laws.proofs.Names.{with_new, new_page, new_node, allocated, process_allocated, bank_allocated, freed_by, freed, under, owned_by, left_of}
+use Rattle.model_laws.proofs.Names.{least, remaining, on_bank, is_member, rescind}
 use Rattle.std.proofs.Common.{◌≡◌, ◌≢◌, ◌+◌, ◌==◌, ◌<◌, ◌&&◌, ◌||◌, ◌∷◌, ◌∙◌}
 use Rattle.std.specs.Prelude.{if◌then◌else◌, nat_eq}
 use Rattle.model.specs.declared.object.Content.TheVariants as content
@@ -72,13 +72,6 @@ module _ (os : List Object) (n b : ℕ) (c : Content Capability) (t : IsTree os)
       ])
 
 -- Where the frame is the same, an order of a bank is the same.
-
--- two outcomes reply the same, and write the same numbers
-pub record SameOutcome (x y : OrderOutcome) : Type 0 where
-  pub code : y.code ≡ x.code
-  pub words : y.words ≡ x.words
-  pub capability : y.capability ≡ x.capability
-  pub written : y.written ≡ x.written
 
 module _ (os us : List Object) (s : SameFrame os us) where
   free_alike : (ns : List ℕ) → are_free us ns ≡ are_free os ns

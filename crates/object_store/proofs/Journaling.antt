@@ -1,6 +1,6 @@
 -- When a page is journaled, and what is saved then.
-use Rattle.std.proofs.Common.{◌≡◌, ◌⊎◌, inl, inr, ℕ, ◌<◌, Bool, true, false, List, length, refl, sym, ap, ◌∙◌, Option, Some, None, Result, Ok, Err, OnOk}
-use Rattle.std.specs.Prelude.{◌==◌, if◌then◌else◌, option_map}
+use Rattle.std.proofs.Common.{◌≡◌, ◌⊎◌, inl, inr, ℕ, ◌<◌, Bool, true, List, length, refl, sym, ap, ◌∙◌, Option, Some, None, Result, Ok, Err, OnOk}
+use Rattle.std.specs.Prelude.{option_map}
 use Rattle.std.proofs.lemmas.Bool.{cases_lt}
 use Rattle.std.proofs.lemmas.List.{get_or_past}
 use Rattle.model.specs.declared.capability.Cap.{Cap}
@@ -13,7 +13,7 @@ use Rattle.model.specs.Frame.{blank_header, header_at}
 use Rattle.model.specs.Object.{is_page, role_of, words_in}
 use Rattle.device.specs.Disk.{Image, Disk}
 use Rattle.device.proofs.Moments.{leaves_weaker}
-use Rattle.checkpoint.specs.Saved.{SavedFrames, Holds, LeavesSaved, LeavesOneOf, journaled_saved}
+use Rattle.checkpoint.specs.Saved.{SavedFrames, Holds, LeavesSaved, LeavesOneOf}
 use Rattle.model.specs.declared.answer.Refusal.{Refusal}
 use Rattle.checkpoint.specs.Refused.{IsJournalAnswer}
 use Rattle.object_store.specs.Journal as journal
@@ -48,15 +48,6 @@ pub next_same : (age n : ℕ) {F H : Type 0} (f : F → H) (ws : List ℕ) (o : 
     journal.next_journaled age n ws (option_map f o) saved is_page is_saved ≡ journal.next_journaled age n ws o saved is_page is_saved
 next_same age n f ws None saved is_page is_saved = refl
 next_same age n f ws (Some x) saved is_page is_saved = refl
-
--- where nothing refuses it, the page is what is saved next
-pub next_is : {F : Type 0} (left_of : F → ℕ) (age n : ℕ) (ws : List ℕ) (o : Option F) (saved : SavedFrames) (is_page is_saved : Bool) →
-    option_map left_of o ≡ None → saved.entries ≡ 0 → is_page ≡ true → is_saved ≡ true →
-    journal.next_journaled age n ws o saved is_page is_saved ≡ Some (journaled_saved age n ws saved)
-next_is left_of age n ws None saved true true none home page there = ap (λ (k : ℕ). if k == 0 then Some (journaled_saved age n ws saved) else None) home
-next_is left_of age n ws None saved true false none home page there = absurd cc
-next_is left_of age n ws None saved false is_saved none home page there = absurd cc
-next_is left_of age n ws (Some f) saved is_page is_saved none home page there = absurd cc
 
 -- it is done where no checkpoint is on its way, and the object is a page
 pub journal_there : (old new : Disk) (left : Option ℕ) (saved : SavedFrames) (is_known is_page is_saved : Bool) (r : Result ℕ Refusal) →

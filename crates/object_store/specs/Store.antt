@@ -27,7 +27,7 @@ whole = record {
   left = λ (f : FrozenFrames). f.left;
 }
 
--- all objects as they are, none of them in the log yet
+-- all objects as they are; none is stable yet
 abbrev pub all_frozen : List Frame → ℕ → FrozenFrames
 all_frozen fs size = record { frames = fs; size = size; left = size }
 

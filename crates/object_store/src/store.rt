@@ -57,11 +57,12 @@ pub trait ObjectStore<D: Device>: PresentFrames + Sized {
         ensures age { result.age ≡ (view self.now).snapshots.saved.age }
         ensures entries { result.entries ≡ (view self.now).snapshots.saved.entries };
 
-    /// How many objects of a checkpoint on its way aren't in the log, where there is one.
+    /// How many objects of the frozen checkpoint `stabilize` has yet to reach, or `None` if none is
+    /// frozen.
     fn left(&self) -> Option<u64>
         ensures { result ≡ left_in whole (view self.now).snapshots };
 
-    /// Puts an object out of memory, where the store may. Fails exactly where the device does.
+    /// Removes an object from memory, if the store's policy lets it. Fails exactly if the device fails.
     fn evict(&mut self, number: u64) -> Result<(), Failed>
         requires known { number < length (Self.parts self.old).headers }
         requires keepable { AreKeepable (Self.parts self.old).geometry u64.MAX
@@ -96,11 +97,10 @@ pub trait ObjectStore<D: Device>: PresentFrames + Sized {
         ensures beneath { (view self.new).beneath ≡ (view self.old).beneath }
         ensures sound { (view self.old).is_sound → (view self.new).is_sound };
 
-    /// Writes `count` of the frozen objects to the log, and answers how many are left.
+    /// Writes the next `count` frozen objects to the log, and answers how many are left.
     ///
-    /// It is refused by `NoCheckpoint` exactly where none is on its way, and changes nothing then.
-    /// It returns `Fault` exactly where the device failed; then at most `count` objects were
-    /// written.
+    /// It is refused by `NoCheckpoint` exactly if none is on its way, and changes nothing then. It
+    /// returns `Fault` exactly if the device failed; then `left` fell by at most `count`.
     fn stabilize(&mut self, count: u64) -> Result<u64, Refusal>
         ensures answer { IsStabilizeAnswer (D.disk (view self.old).beneath) (D.disk (view self.new).beneath)
             (left_in whole (view self.old).snapshots) count result }
@@ -122,10 +122,10 @@ pub trait ObjectStore<D: Device>: PresentFrames + Sized {
 
     /// Commits the checkpoint on its way: its frames are saved, at an age. Answers its generation.
     ///
-    /// It is refused by `NoCheckpoint` exactly where none is on its way, and else by
-    /// `NotStable(left)` exactly where `left` of its objects aren't in the log, and changes nothing
-    /// then. It returns `Fault` exactly where the device failed; then a crash leaves what was
-    /// saved or what is frozen.
+    /// It is refused by `NoCheckpoint` exactly if none is on its way, and else by `NotStable(left)`
+    /// exactly if `stabilize` has yet to reach `left` of its objects. A refusal changes nothing. It
+    /// returns `Fault` exactly if the device failed; then a crash leaves what was saved or what is
+    /// frozen.
     fn commit(&mut self, age: u64) -> Result<u64, Refusal>
         requires sound { (view self.old).is_sound }
         requires ready { (f : FrozenFrames) → (view self.old).snapshots.frozen ≡ Some f

@@ -237,8 +237,8 @@ fn run_turns<D: Device, S: ObjectStore<D>, R: Script, W: Output, O: Observer>(
 /// `RunFault::Write` where the writer fails or takes nothing: then the lines taken are the first of
 /// those read whole, or all of an input at its end, and only the answer to the last may be cut
 /// short; where it fails to pass on what it took, all of those lines were answered. The kernel then
-/// stands where the lines taken left it. A read that was interrupted is tried again. The lines and
-/// answers take no memory.
+/// stands where the lines taken left it. A read that was interrupted is tried again. Reading lines
+/// and printing answers takes no memory.
 pub fn run<D: Device, S: ObjectStore<D>, R: Script, W: Output>(
     alloc: Global,
     kernel: &mut Kernel<D, S>,

@@ -49,9 +49,8 @@ MaySave m (t ∷ ts) s = Contains (candidates m) s ⊎
 
 -- The parameters are ghost members of a device and of an object store.
 module _ {D S : Type 0} (disk : D → Disk) (view : S → View D) (parts : S → Parts) where
-  -- the authority bound: over a run of invocations and memory references by processes of a closed set, and of those
-  -- that
-  -- they make of what was free, each object outside the set that wasn't free is kept
+  -- the authority bound: over a run of invocations and memory references by processes of a closed set, and by those
+  -- that they make of free numbers, each object outside the set that wasn't free is kept
   abbrev pub RunsAreConfined : Type 0
   RunsAreConfined = (g : Geometry) (s t : Running) (old new : Power D S) (turns : List Turn) (inside : ℕ → Bool) →
       Stands disk view parts g old (Up s) → Stands disk view parts g new (Up t) →

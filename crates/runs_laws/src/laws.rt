@@ -6,8 +6,8 @@ use device::Device;
 use object_store::ObjectStore;
 
 /// If the machine is up and the device doesn't fail, the machine at the start and the script settle
-/// what is written: every store, and every device, writes the same. Memory must not run out for a
-/// `show`, a `restart` or a `cut`, and can't run out for another command.
+/// what is written: every store, and every device, writes the same. Memory must not run out at a
+/// `show`, `restart` or `cut`; no other command can be answered `NoMemory`.
 pub fn steady_runs_agree()
     ensures { SteadyRunsAgree }
 {}

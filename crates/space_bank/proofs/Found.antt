@@ -1,7 +1,7 @@
 -- The least free numbers, found by their marks.
-use Rattle.space_bank.proofs.Names.{ℕ, zero, suc, Option, None, Some, Bool, cond, List, [], length, ⊎_elim, refl, sym, ap, subst, zero-add, arith, cases_lt}
-use Rattle.space_bank.proofs.Names.{range_with_len, IfSome, Geometry, Object, are_free, free_nodes, free_pages, is_free, content_at, BankChange, MakeProcess}
-use Rattle.space_bank.proofs.Names.{numbers_of, process_at, AreCounted, BanksState, AreMarked, HasNoneMarked, IsNextMarked, is_marked}
+use Rattle.space_bank.proofs.Names.{ℕ, zero, suc, None, Some, Bool, cond, List, [], length, ⊎_elim, refl, sym, ap, subst, zero-add, arith, cases_lt}
+use Rattle.space_bank.proofs.Names.{range_with_len, Geometry, Object, are_free, free_nodes, free_pages, is_free, content_at, MakeProcess, process_at}
+use Rattle.space_bank.proofs.Names.{AreCounted, BanksState, AreMarked, HasNoneMarked, IsNextMarked, is_marked}
 use Rattle.std.proofs.Common.{◌≡◌, ◌+◌, ◌-◌, ◌<◌, ◌≤◌, ◌∙◌, ◌∷◌}
 
 -- marks of the numbers from a base on
@@ -111,8 +111,3 @@ module _ (g : Geometry) (os : List Object) (s : BanksState) (h : AreCounted g os
   pages_are are first is =
       let all : g.pages ≡ length marks = omega (arith, h.pages, ap (λ (m : List Bool). length m) are) in
       ap (λ (k : ℕ). are_free os (range_with_len g.nodes k)) all ∙ ap (λ (n : ℕ). are_free os (range_with_len n (length marks))) (sym is)
-
--- what takes at most some count of numbers takes at most any greater count
-pub fewer : (r : Option BankChange) (m n : ℕ) → m ≤ n → IfSome r (λ c. length (numbers_of c) ≤ m) → IfSome r (λ c. length (numbers_of c) ≤ n)
-fewer None m n more few = tt
-fewer (Some c) m n more few = omega (arith, few, more)

@@ -1,11 +1,10 @@
 -- What orders give up may be given up.
-use Rattle.space_bank.proofs.Names.{inl, inr, ℕ, true, false, not, List, [], drop, length, refl, sym, ap, arith, IsTrue, slice_index, list_any, and_parts}
-use Rattle.space_bank.proofs.Names.{cases_eq, eq-eqb, eqb-true, false_from_ne_true, false≢true, or_cases, or_left, length-drop, Capability, Geometry, Object}
-use Rattle.space_bank.proofs.Names.{chain, is_under, freed_by, under, is_bank, is_free, is_member, NamesItsKind, content_at, object_at, owner_at}
-use Rattle.space_bank.proofs.Names.{destroyed_fits, freed_fits, freed_set, under_found, under_given_up, under_once, under_stands, usage_destroyed, usage_freed}
-use Rattle.space_bank.proofs.Names.{used_within, used_where, IsTree, chain_banks, chain_longer, chain_nonempty, chain_once, chain_shorter, chain_zero}
-use Rattle.space_bank.proofs.Names.{owner_bank, tree_of, IsNow, Parts, objects_in, BanksState, IsFreedOf, MayGiveUp, MayServe}
-use Rattle.std.proofs.Common.{◌≡◌, ◌≢◌, ◌<◌, ◌≤◌, ◌==◌, ◌∷◌, ◌∙◌}
+use Rattle.space_bank.proofs.Names.{inl, inr, ℕ, true, false, not, List, [], length, refl, sym, ap, arith, IsTrue, slice_index, list_any, and_parts, cases_eq}
+use Rattle.space_bank.proofs.Names.{eqb-true, false_from_ne_true, false≢true, or_cases, Capability, Geometry, Object, chain, is_under, freed_by, under, is_bank}
+use Rattle.space_bank.proofs.Names.{is_free, is_member, NamesItsKind, content_at, object_at, owner_at, destroyed_fits, freed_fits, freed_set, under_found}
+use Rattle.space_bank.proofs.Names.{under_given_up, under_once, usage_destroyed, usage_freed, IsTree, chain_banks, chain_longer, chain_nonempty, chain_once}
+use Rattle.space_bank.proofs.Names.{chain_shorter, chain_zero, owner_bank, tree_of, IsNow, Parts, objects_in, BanksState, MayGiveUp, MayServe}
+use Rattle.std.proofs.Common.{◌≡◌, ◌≢◌, ◌<◌, ◌==◌, ◌∷◌, ◌∙◌}
 use Rattle.std.specs.Prelude.{nat_eq}
 use Rattle.space_bank.proofs.Ending.{once_of_differ}
 use Rattle.space_bank.proofs.Standing.{serve_tree}
@@ -25,10 +24,6 @@ freed_list g os b c (n ∷ ns) h is names frees some own =
           (λ member. false≢true (sym (set.no_bank x member) ∙ chain_banks os (tree_of g os h.frame) b x is above));
       lowered = λ x bank stays. omega (arith, usage_freed g os c b n ns h own frees names x bank, freed_fits g os c b n ns h own frees names x bank);
     }
-
-pub freed_gives : (g : Geometry) (os : List Object) (b : ℕ) (list : List ℕ) → IsNow g os → IsTrue (is_bank (content_at os b)) → IsFreedOf os b list →
-    MayGiveUp os b list
-freed_gives g os b list h is freed = freed_list g os b freed.sent list h is freed.held.1 freed.frees freed.some freed.owner
 
 -- no bank above another is under it
 module _ (os : List Object) (t : IsTree os) (b : ℕ) (is : IsTrue (is_bank (content_at os b))) (on : b ≢ 0) where
@@ -65,19 +60,6 @@ destroyed_gives g os b h is on = record {
   apart = above_apart os (tree_of g os h.frame) b is on;
   lowered = λ x bank stays. omega (arith, usage_destroyed g os b h is on x stays, destroyed_fits g os b h is on x stays);
 }
-
-member_some : (xs : List ℕ) (x : ℕ) → is_member xs x ≡ true → 0 < length xs
-member_some [] x member = absurd (false≢true member)
-member_some (y ∷ ys) x member = omega arith
-
--- a bank is under itself, so the list begins within what it stands in
-pub under_within : (p : Parts) (s : BanksState) (b : ℕ) (list : List ℕ) (skip : ℕ) → MayServe p s b → drop skip list ≡ under (objects_in p) b →
-    skip ≤ length list
-under_within p s b list skip asks is =
-    let os = objects_in p in
-    let inside = used_within os b (used_where is_bank refl (content_at os b) asks.bank) in
-    let some = member_some (under os b) b (under_stands os b b inside (or_left (b == b) (is_under os b (object_at os b)) (eq-eqb b b refl))) in
-    omega (arith, some, length-drop skip list, ap (λ (xs : List ℕ). length xs) is)
 
 -- the bank that owns a bank may be served too
 pub serve_parent : (p : Parts) (s : BanksState) (b parent : ℕ) → MayServe p s b → parent ≡ owner_at (objects_in p) b → MayServe p s parent

@@ -14,14 +14,6 @@ module _ (os : List Object) (nodes pages : List Bool) (free : AreFree os nodes p
   page_is : (n : ℕ) → length nodes ≤ n → n < length os → is_free (content_at os n) ≡ is_marked pages (n - length nodes)
   page_is n past inside = sym (free.free n inside) ∙ get_or-append_right nodes pages (length nodes) n false refl past
 
-  pub node_used : (from n : ℕ) → IsNextUnmarked nodes from n → IsNextUsed os from n
-  node_used from n next = record {
-    past = next.past;
-    inside = omega (arith, next.inside, free.each);
-    used = node_is n next.inside ∙ next.unmarked;
-    least = λ m past before. node_is m (omega (arith, before, next.inside)) ∙ next.least m past before;
-  }
-
   module _ (from first from_page : ℕ) (is_first : first ≡ length nodes) (is_from : from_page ≡ from - first) (all : HasAllMarked nodes from) where
     nodes_free : (m : ℕ) → from ≤ m → m < length nodes → is_free (content_at os m) ≡ true
     nodes_free m past inside = node_is m inside ∙ all m past inside

@@ -24,7 +24,7 @@ pub use Rattle.model.specs.Object.{free, is_bank, is_free, is_root, limit_in, ma
 pub use Rattle.model.specs.OrderOutcome.{OrderOutcome, made, refused, replying_three}
 pub use Rattle.model.specs.Revoke.{is_given_up, is_member, names_member, void_where, without}
 unfoldable pub use Rattle.model.specs.Revoke.{rescind}
-pub use Rattle.model.specs.Sound.{HasShape, IsOfKind, MayBeHeld, NamesItsKind, object_count}
+pub use Rattle.model.specs.Sound.{HasShape, MayBeHeld, NamesItsKind, object_count}
 pub use Rattle.model.specs.World.{content_at, object_at, owner_at}
 pub use Rattle.model.specs.contracts.object.Role.{the_type}
 pub use Rattle.model.specs.declared.capability.Cap.{Cap}
@@ -40,8 +40,8 @@ pub use Rattle.model.specs.declared.object.Role.{Role}
 pub use Rattle.model.specs.declared.order.Arguments.{Arguments}
 pub use Rattle.model.specs.declared.order.BankOrder.{BankOrder}
 pub use Rattle.model.specs.declared.order.ResultCode.{ResultCode}
-pub use Rattle.model_laws.proofs.BankFreed.{destroyed_fits, freed_fits, freed_set, owned_found, under_found, under_given_up, under_once, under_stands}
-pub use Rattle.model_laws.proofs.BankFreed.{usage_destroyed, usage_freed, used_within}
+pub use Rattle.model_laws.proofs.BankFreed.{destroyed_fits, freed_fits, freed_set, owned_found, under_found, under_given_up, under_once, usage_destroyed}
+pub use Rattle.model_laws.proofs.BankFreed.{usage_freed}
 pub use Rattle.model_laws.proofs.BankRescind.{used_where}
 pub use Rattle.model_laws.proofs.BankReturn.{returned_fits, usage_returned}
 pub use Rattle.model_laws.proofs.BankTree.{IsTree, at_new, at_other, chain_banks, chain_itself, chain_length, chain_longer, chain_new, chain_nonempty}
@@ -58,10 +58,10 @@ pub use Rattle.model_laws.proofs.SoundOrders.{IsNow}
 pub use Rattle.model_laws.proofs.SoundParts.{IsFramed, nearly_from}
 pub use Rattle.model_laws.proofs.Usage.{SameFrame, chain_same, frame_refl, tests_at, usage_same}
 pub use Rattle.number_set.specs.Marks.{HasAllMarked, HasNoneMarked, IsNextMarked, IsNextUnmarked, is_marked}
-pub use Rattle.std.proofs.Common.{Bool, Global, List, None, Option, Some, Vec, [], add-one, ap, append_assoc, arith, cond, drop, false, get_or, inl, inr}
-pub use Rattle.std.proofs.Common.{length, map, min, nat_eq, not, refl, rules, subst, suc, sym, take, true, vec_len, zero, zero-add, ℕ, ⊎_elim}
+pub use Rattle.std.proofs.Common.{Bool, Global, List, None, Some, Vec, [], add-one, ap, append_assoc, arith, cond, drop, false, get_or, inl, inr, length, map}
+pub use Rattle.std.proofs.Common.{min, nat_eq, not, refl, rules, subst, suc, sym, take, true, vec_len, zero, zero-add, ℕ, ⊎_elim}
 pub use Rattle.std.proofs.lemmas.Bool.{and_parts, cases_Bool, cases_eq, cases_lt, eq-eqb, eqb-true, false_from_ne_true, false≢true, le-leb, leb-true, lt-leb}
-pub use Rattle.std.proofs.lemmas.Bool.{ltb-true, ne_eqb, or_cases, or_left}
+pub use Rattle.std.proofs.lemmas.Bool.{ltb-true, ne_eqb, or_cases}
 pub use Rattle.std.proofs.lemmas.List.{append-nil, ext_get_or, get_or-append_right, get_or-set_other, get_or-set_same, get_or_append_left, get_or_past}
 pub use Rattle.std.proofs.lemmas.List.{length-append, length-drop, length-map, length-set, length-take, set-append_left, set-append_right, take_all, take_rest}
 pub use Rattle.std.proofs.lemmas.List.{with_items_is}
@@ -71,12 +71,12 @@ pub use Rattle.std.proofs.lemmas.List.FromFn.{map-range_with_len_more}
 pub use Rattle.std.proofs.lemmas.List.Sums.{count_by-le-length, count_by_more_no, count_by_more_yes}
 pub use Rattle.std.specs.List.{All, count_by, enumerate_from, filter, list_all, list_any, range_with_len}
 pub use Rattle.std.specs.Option.{SomeIff}
-pub use Rattle.std.specs.Prelude.{IfSome, IsTrue, nat_le, nat_lt, slice_index, slice_index_or, slice_set}
+pub use Rattle.std.specs.Prelude.{IsTrue, nat_le, nat_lt, slice_index, slice_index_or, slice_set}
 pub use Rattle.std.specs.Vec.{vec_capacity}
 pub use Rattle.space_bank.specs.Allocating.{allocated_by, allocating, count_of, given_by, given_for, is_deep, made_for, new_at, new_of, numbers_of, process_at}
 pub use Rattle.space_bank.specs.Banks.{AreCounted, BanksState, KeepsObjects, MayAsk}
-pub use Rattle.space_bank.specs.Carrying.{AreTransferred, CarriesOut, GivesUp, IsAlone, IsFreedOf, IsMadeUnder, IsPlanned, MayGiveUp, MayMake, MayServe}
-pub use Rattle.space_bank.specs.Carrying.{PlansAs, Transfers, marks_of}
+pub use Rattle.space_bank.specs.Carrying.{AreTransferred, CarriesOut, GivesUp, IsAlone, IsMadeUnder, IsPlanned, MayGiveUp, MayMake, MayServe, PlansAs}
+pub use Rattle.space_bank.specs.Carrying.{Transfers, marks_of}
 pub use Rattle.space_bank.specs.Chains.{IsRaised}
 pub use Rattle.space_bank.specs.Counting.{AreKept, AreMarked, kept_number}
 pub use Rattle.space_bank.specs.Planning.{AreFree, HasNoneUsed, IsBankOf, IsNextUsed, annex_among, annex_of}

@@ -1,9 +1,9 @@
 -- What sound frames that are counted say of their objects.
 use Rattle.space_bank.proofs.Names.{ℕ, true, false, List, length, refl, sym, ap, arith, IsTrue, nat_le, slice_index, leb-true, Cap, Capability, Frame, Geometry}
 use Rattle.space_bank.proofs.Names.{Content, Object, chain, usage, has_quota, conveyed, header_at, held_at, objects_of, AreKeepable, IsSoundFrames, world_at}
-use Rattle.space_bank.proofs.Names.{is_bank, is_free, limit_in, map_content, role_of, is_member, HasShape, IsOfKind, object_count, content_at, IsTree}
-use Rattle.space_bank.proofs.Names.{chain_banks, tree_of, member_passes, IsNow, IsFramed, nearly_from, Parts, frames_of, objects_in, content_there, keepable_at}
-use Rattle.space_bank.proofs.Names.{keepable_count, BanksState, MayServe}
+use Rattle.space_bank.proofs.Names.{is_free, limit_in, map_content, role_of, is_member, HasShape, object_count, content_at, IsTree, chain_banks, tree_of}
+use Rattle.space_bank.proofs.Names.{member_passes, IsNow, IsFramed, nearly_from, Parts, frames_of, objects_in, content_there, keepable_at, keepable_count}
+use Rattle.space_bank.proofs.Names.{BanksState, MayServe}
 use Rattle.std.proofs.Common.{◌≡◌, ◌≢◌, ◌+◌, ◌^◌, ◌<◌, ◌≤◌, ◌∙◌}
 use Rattle.model.specs.declared.object.Content.TheVariants as content
 use Rattle.model.specs.declared.object.Role.TheVariants as role
@@ -48,10 +48,6 @@ module _ (g : Geometry) (age : ℕ) (p : Parts) (k : AreKeepable g age (frames_o
 
   pub few_calls : (header_at p.headers n).calls ≤ age
   few_calls = (keepable_at g age p n known k).kept.calls.0
-
-bank_kind : (g : Geometry) (n : ℕ) (c : Content Capability) → IsOfKind g n c → IsTrue (is_bank c) → n < g.nodes
-bank_kind g n (content.Bank limit) kind is = kind
-bank_kind g n c kind is = cc
 
 limit_shape : (c : Content Capability) → HasShape c → limit_in c < 2 ^ 64
 limit_shape content.Free shape = omega arith

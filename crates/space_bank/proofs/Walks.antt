@@ -5,13 +5,6 @@ use Rattle.space_bank.proofs.Names.{left_of, remaining, is_bank, limit_in, conte
 use Rattle.space_bank.proofs.Names.{BanksState, IsBankOf}
 use Rattle.std.proofs.Common.{◌≡◌, ◌+◌, ◌-◌, ◌<◌, ◌≤◌, ◌∙◌, ◌∷◌}
 
--- a number past which the table has none, and before which it has all
-pub count_read : (p : Parts) (hs : List ObjectHeader) (count n : ℕ) → hs ≡ p.headers → count ≡ length hs → n ≤ count → count ≤ n →
-    n ≡ length (objects_in p)
-count_read p hs count n table is below above =
-    let same : n ≡ count = omega arith in
-    same ∙ is ∙ ap (λ (ks : List ObjectHeader). length ks) table ∙ sym (length_objects p.headers p.contents)
-
 pub inside_read : (p : Parts) (hs : List ObjectHeader) (count n : ℕ) → hs ≡ p.headers → count ≡ length hs → n < count → n < length (objects_in p)
 inside_read p hs count n table is inside =
     omega (arith, ap (λ (ks : List ObjectHeader). length ks) table, length_objects p.headers p.contents)

@@ -1,9 +1,9 @@
 -- What the orders of a bank require, and what they leave.
-use Rattle.space_bank.specs.Names.{[], ℕ, Bool, true, false, List, length, slice_index, IsTrue, Capability, Geometry}
-use Rattle.space_bank.specs.Names.{Object, Arguments, BankOrder, chain, usage, freed_by, has_quota, on_bank, owned_by}
-use Rattle.space_bank.specs.Names.{AreCurrent, AreKeepable, is_bank, is_free, is_member, rescind, MayBeHeld, content_at}
-use Rattle.space_bank.specs.Names.{object_at, owner_at, IsNow, SameFrame, BankChange, Change, OrderPlan, Fresh}
-use Rattle.space_bank.specs.Names.{outcome_by, AreSound, IsFreshAt, IsOnce, Parts, frames_of, objects_in}
+use Rattle.space_bank.specs.Names.{[], ℕ, Bool, true, false, List, length, IsTrue, Geometry, Object, Arguments}
+use Rattle.space_bank.specs.Names.{BankOrder, chain, usage, has_quota, on_bank, owned_by, AreCurrent, AreKeepable}
+use Rattle.space_bank.specs.Names.{is_bank, is_free, is_member, rescind, content_at, object_at, IsNow, SameFrame}
+use Rattle.space_bank.specs.Names.{BankChange, Change, OrderPlan, Fresh, outcome_by, AreSound, IsFreshAt, IsOnce, Parts}
+use Rattle.space_bank.specs.Names.{frames_of, objects_in}
 use Rattle.std.specs.Prelude.{◌≡◌, ◌≢◌, ◌∷◌, ◌+◌, ◌^◌, ◌<◌, ◌++◌, if◌then◌else◌}
 use Rattle.capability.specs.declared.order.BankChange.TheVariants as bank
 use Rattle.capability.specs.declared.order.Change.TheVariants as change
@@ -32,14 +32,6 @@ abbrev pub IsAlone : Fresh → Type 0
 IsAlone fresh.Page = Unit {0}
 IsAlone fresh.Node = Unit {0}
 IsAlone _ = ⊥
-
--- what a capability frees, where the bank owns it
-pub record IsFreedOf (os : List Object) (b : ℕ) (list : List ℕ) : Type 0 where
-  pub sent : Capability
-  pub held : MayBeHeld os sent
-  pub frees : freed_by os sent ≡ list
-  pub some : 0 < length list
-  pub owner : owner_at os (slice_index list 0) ≡ b
 
 -- A list can be given up: it has no number twice, each number has an object, and no bank of the chain of above is in
 -- it. A bank outside the list accounted for the whole list if it is in that chain, and for nothing of it if it isn't.

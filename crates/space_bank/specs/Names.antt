@@ -6,7 +6,6 @@ pub use Rattle.capability.specs.declared.order.Change.{Change}
 pub use Rattle.capability.specs.declared.order.OrderPlan.{OrderPlan}
 pub use Rattle.capability.specs.declared.present.Fresh.{Fresh}
 unfoldable pub use Rattle.model.specs.Bank.{chain, usage}
-pub use Rattle.model.specs.Banking.{freed_by}
 unfoldable pub use Rattle.model.specs.Banking.{free_nodes, free_pages, has_quota, on_bank, owned_by}
 pub use Rattle.model.specs.Capability.{full}
 pub use Rattle.model.specs.Keepable.{AreCurrent, AreKeepable}
@@ -15,7 +14,7 @@ pub use Rattle.model.specs.OrderOutcome.{OrderOutcome, made, refused}
 pub use Rattle.model.specs.Revoke.{is_member}
 unfoldable pub use Rattle.model.specs.Revoke.{rescind}
 pub use Rattle.model.specs.Sound.{MayBeHeld, object_count}
-pub use Rattle.model.specs.World.{annex_at, content_at, is_process, object_at, owner_at}
+pub use Rattle.model.specs.World.{annex_at, content_at, is_process, object_at}
 pub use Rattle.model.specs.declared.capability.Capability.{Capability}
 pub use Rattle.model.specs.declared.capability.Capability.TheVariants.{Bank, Node, Page, Process, Void}
 pub use Rattle.model.specs.declared.command.Operation.{Operation}

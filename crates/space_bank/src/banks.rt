@@ -4,11 +4,10 @@ ghost use Rattle.std.specs.Prelude.{◌≡◌, slice_index};
 use number_set::NumberSet;
 use std::marker::Model;
 
-/// Which numbers are free; for each bank its limit and how many objects it accounts for; and for each
-/// process its annex.
+/// Which numbers are free; for each bank its limit and usage; and for each process its annex.
 ///
-/// Counted once from the objects, and kept from then on by every order that a bank carries out. No
-/// call but the counting takes memory.
+/// Counted once from the objects, then kept up to date by every order of a bank. Only the counting
+/// takes memory.
 #[derive(Drop)]
 pub struct Banks {
     pub(crate) nodes: NumberSet,
@@ -37,7 +36,7 @@ impl Model for Banks {
 }
 
 impl Banks {
-    /// How many objects a bank accounts for: those, other than itself, with it in their chain.
+    /// The usage of a bank: how many other objects have it in their owner's chain.
     pub fn usage(&self, bank: u64) -> u64
         ensures { result ≡ slice_index self.now.usages bank }
     {
@@ -47,7 +46,7 @@ impl Banks {
         }
     }
 
-    /// The annex of a process.
+    /// The annex of a process, 0 for any other number.
     pub fn annex(&self, process: u64) -> u64
         ensures { result ≡ slice_index self.now.annexes process }
     {
@@ -57,7 +56,7 @@ impl Banks {
         }
     }
 
-    /// The numbers that were listed for the order that was planned last.
+    /// The numbers listed for the order that was planned last.
     pub fn listed(&self) -> &[u64]
         ensures { result.now ≡ self.now.listed }
     {

@@ -1,11 +1,11 @@
 // The end of a bank's objects.
 ghost use Rattle.std.specs.Prelude.{◌≡◌, ◌≢◌, ◌≤◌, ◌∷◌, [], drop, length};
 ghost use Rattle.std.specs.List.{All};
-ghost use Rattle.model.specs.Banking.{inherited, owned_by, under};
+ghost use Rattle.model.specs.Banking.{inherited, owned_by};
 ghost use Rattle.model.specs.Revoke.{rescind as rescinded};
 ghost use Rattle.capability.specs.Parts.{objects_in};
 ghost use Rattle.space_bank.specs.Banks.{KeepsObjects};
-ghost use Rattle.space_bank.specs.Carrying.{CarriesOut, IsFreedOf, MayGiveUp, MayServe};
+ghost use Rattle.space_bank.specs.Carrying.{CarriesOut, MayGiveUp, MayServe};
 
 use crate::banks::Banks;
 use crate::marking::{mark, mark_free};
@@ -14,42 +14,6 @@ use capability::PresentFrames;
 use capability::objects::rescind;
 
 impl Banks {
-    /// Gives up what a capability frees, announced and listed from `skip` on, where a bank owns it:
-    /// a page, a node, or the root and the annex of a process.
-    pub fn free<F: PresentFrames>(&mut self, store: &mut F, skip: usize, bank: u64)
-        requires asks { MayServe (F.parts store.old) self.old bank }
-        requires listed { IsFreedOf (objects_in (F.parts store.old)) bank
-            (drop skip self.old.listed) }
-        requires announced { All (F.IsAnnounced store.old) (drop skip self.old.listed) }
-        ensures objects { objects_in (F.parts store.new)
-            ≡ rescinded (drop skip self.old.listed) (objects_in (F.parts store.old)) }
-        ensures carried { CarriesOut (F.parts store.old) (F.parts store.new) self.new }
-        ensures snapshots { KeepsObjects F.parts F.IsFetched F.IsAnnounced F.ContinuesTo store.old
-            store.new }
-    {
-        self.give_up(store, skip, bank);
-    }
-
-    /// Gives up a bank other than the prime bank with all that is under it, announced and listed
-    /// from `skip` on.
-    ///
-    /// Goes over the list, and not over all numbers.
-    pub fn destroy<F: PresentFrames>(&mut self, store: &mut F, skip: usize, bank: u64)
-        requires asks { MayServe (F.parts store.old) self.old bank }
-        requires other { bank ≢ 0 }
-        requires listed { drop skip self.old.listed
-            ≡ under (objects_in (F.parts store.old)) bank }
-        requires announced { All (F.IsAnnounced store.old) (drop skip self.old.listed) }
-        ensures objects { let objects = objects_in (F.parts store.old) in
-            objects_in (F.parts store.new) ≡ rescinded (under objects bank) objects }
-        ensures carried { CarriesOut (F.parts store.old) (F.parts store.new) self.new }
-        ensures snapshots { KeepsObjects F.parts F.IsFetched F.IsAnnounced F.ContinuesTo store.old
-            store.new }
-    {
-        let parent = store.table().header(bank).owner;
-        self.give_up(store, skip, parent);
-    }
-
     /// Gives up a bank other than the prime bank, and transfers what it owns to its own bank. The
     /// bank and what it owns are announced, and listed from `skip` on.
     pub fn return_to_parent<F: PresentFrames>(&mut self, store: &mut F, skip: usize, bank: u64)
@@ -72,7 +36,7 @@ impl Banks {
         mark(&mut self.nodes, &mut self.pages, first_page, bank, true);
     }
 
-    // Gives up what is listed from `skip` on, which the chain of a bank accounted for.
+    // Frees `listed[skip..]`, and subtracts its count from the usages of `above` and its ancestors.
     pub(crate) fn give_up<F: PresentFrames>(&mut self, store: &mut F, skip: usize, above: u64)
         requires asks { MayServe (F.parts store.old) self.old above }
         requires gives { MayGiveUp (objects_in (F.parts store.old)) above

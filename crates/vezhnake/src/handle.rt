@@ -63,15 +63,12 @@ impl Handle {
         mem::replace(self, Handle::closed(alloc)).into_session()
     }
 
-    /// Opens a session on storage that holds these bytes, as `HostKernel::open` does.
-    /// `AlreadyOpen` if the handle is open. An error changes nothing.
-    #[tactic(auto, using(crate::proofs::Handles::without, crate::proofs::Handles::opens_again, crate::proofs::Handles::opens_new, crate::proofs::Handles::opens_none))]
-    pub fn open(&mut self, alloc: Global, image: &[u8], cache: u64) -> Status
+    // Opens a session in a handle that holds none. An error changes nothing.
+    #[tactic(auto, using(crate::proofs::Handles::opens_new, crate::proofs::Handles::opens_none))]
+    fn open_closed(&mut self, alloc: Global, image: &[u8], cache: u64) -> Status
+        requires { self.old.pointer.session ≡ None }
         ensures { OpensHandle self.old.pointer.session self.new.pointer.session image.now cache result }
     {
-        if self.is_open {
-            return Status::AlreadyOpen;
-        }
         let session = match Session::open(alloc, image, cache) {
             Ok(session) => session,
             Err(status) => return status,
@@ -83,6 +80,18 @@ impl Handle {
             }
             None => Status::NoMemory,
         }
+    }
+
+    /// Opens a session on storage that holds these bytes, as `HostKernel::open` does.
+    /// `AlreadyOpen` if the handle is open. An error changes nothing.
+    #[tactic(auto, using(crate::proofs::Handles::without, crate::proofs::Handles::opens_again))]
+    pub fn open(&mut self, alloc: Global, image: &[u8], cache: u64) -> Status
+        ensures { OpensHandle self.old.pointer.session self.new.pointer.session image.now cache result }
+    {
+        if self.is_open {
+            return Status::AlreadyOpen;
+        }
+        self.open_closed(alloc, image, cache)
     }
 
     /// Runs a text as a script, as `Session::step` does. `NotOpen` if the handle is not open.

@@ -41,10 +41,10 @@ pub fn load<F: Frames>(
 
 /// Writes a word at an address in the address space of a process, at an age, which stays.
 ///
-/// The answer is `Done`, or `MemoryFault` where the walk stops or the page is read-only, also where
-/// the log is full. It is refused, and changes nothing, by the first that applies of `NoProcess`,
-/// `NotRunning` and `LogFull`. It fails exactly if the device fails. At `NoProcess` the store isn't
-/// touched. What is counted of banks stays what there is.
+/// The answer is `Done`, or `MemoryFault` if the walk stops or the page is read-only; a memory fault
+/// precedes `LogFull`. A refusal changes nothing: the first that applies of `NoProcess` (the store is
+/// untouched), `NotRunning` and `LogFull`. Fails exactly if the device fails. The counts of `Banks`
+/// stay right.
 pub fn store<F: PresentFrames>(
     store: &mut F,
     age: u64,

@@ -1,8 +1,6 @@
-use Rattle.layout.proofs.Names.{[], List, length, refl, sym, ap, arith, replicate, append-nil, Cap, void_held, slots_of}
-use Rattle.std.proofs.Common.{rules, ◌++◌, ◌∷◌, ◌∙◌}
+use Rattle.layout.proofs.Names.{[], List, length, refl, sym, ap, arith, replicate, append-nil, Cap, void_held, slots_of, rules, content_behind, ContentRef}
+use Rattle.std.proofs.Common.{◌++◌, ◌∷◌, ◌∙◌}
 use Rattle.layout.proofs.Frames.{node_written, root_count}
-use Rattle.model.specs.Frame.{content_behind}
-use Rattle.model.specs.declared.object.ContentRef.{ContentRef}
 use Rattle.layout.proofs.node_frame.encode_node_frame.Goals as goal
 
 abbrev slots_behind : ContentRef → List Cap

@@ -1,7 +1,6 @@
-use Rattle.layout.proofs.Names.{ℕ, length, take, ap, arith, zeros}
+use Rattle.layout.proofs.Names.{ℕ, length, take, ap, arith, zeros, content_behind}
 use Rattle.std.proofs.Common.{◌≡◌, ◌++◌, ◌-◌, ◌∙◌}
 use Rattle.layout.proofs.Pages.{default_written, not_page}
-use Rattle.model.specs.Frame.{content_behind}
 use Rattle.layout.proofs.page_frame.encode_page_frame.Goals as goal
 
 pub returns-in_default : goal.returns-in_default

@@ -1,6 +1,5 @@
-use Rattle.migrator.proofs.Names.{ℕ, IsSpelt, ReadsOnly}
+use Rattle.migrator.proofs.Names.{ℕ, IsSpelt, ReadsOnly, count_of}
 use Rattle.std.proofs.Common.{◌≡◌, ◌<◌, ◌≤◌}
-use Rattle.layout.specs.Spelt.{count_of}
 use Rattle.migrator.proofs.Reading.{frames_until}
 use Rattle.migrator.proofs.image.take_frames.Given as goal
 

@@ -1,10 +1,10 @@
 use Rattle.migrator.proofs.Names.{ap, sym, subst, counted_ok, counts_on, Broken, Kept, Stored, stored_on, with_frozen, Frame, Plan, IsObject, IsKeepable, most}
+use Rattle.migrator.proofs.Names.{content_behind}
 use Rattle.std.proofs.Common.{◌∙◌}
 use Rattle.migrator.proofs.FrozenFrames.{put_twice}
 use Rattle.migrator.proofs.Moving.{goes_trans}
 use Rattle.migrator.proofs.Saving.{err_then, ok_then, on_err}
 use Rattle.migrator.proofs.Tearing.{torn_room}
-use Rattle.model.specs.Frame.{content_behind}
 use Rattle.migrator.proofs.books.Books.put_running.Goals as goal
 
 pub returns-clause-put : goal.returns-clause-put

@@ -1,6 +1,5 @@
-use Rattle.model.specs.declared.frame.Frame.{Frame}
+use Rattle.migrator.proofs.Names.{Frame, content_behind}
 use Rattle.migrator.proofs.PutFrames.{frozen_goes_on, frozen_put, frozen_room}
-use Rattle.model.specs.Frame.{content_behind}
 use Rattle.migrator.proofs.books.Books.put_written.Goals as goal
 
 pub put_frame-requires-clause-room : goal.put_frame-requires-clause-room

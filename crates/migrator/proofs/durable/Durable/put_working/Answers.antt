@@ -1,6 +1,6 @@
 use Rattle.migrator.proofs.Names.{sym, subst, OnErr, OnOk, IsKeepable, Frame, IsObject, most, GoesOn, stored_of, with_working, Broken, HasFreeSlot, Kept}
+use Rattle.migrator.proofs.Names.{content_behind}
 use Rattle.std.proofs.Common.{◌≡◌}
-use Rattle.model.specs.Frame.{content_behind}
 use Rattle.migrator.proofs.durable.Durable.put_working.Goals as goal
 
 pub put_working-requires-clause-stands : goal.put_working-requires-clause-stands
