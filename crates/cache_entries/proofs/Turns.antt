@@ -1,7 +1,7 @@
 -- Numbers that are used in turn, and those whose use the order doesn't have yet.
-use Rattle.cache_entries.proofs.Names.{inl, inr, ℕ, zero, suc, nat_eq, Bool, true, false, cond, true≢false, List, [], length, set, take, drop, get_or, Some}
+use Rattle.cache_entries.proofs.Names.{inl, inr, ℕ, zero, suc, nat_eq, Bool, true, false, cond, true≢false, List, [], length, set, take, drop, get_or, Option, Some}
 use Rattle.cache_entries.proofs.Names.{refl, sym, ap, subst, arith, Contains, slice_get, take_more, eqb-true, eq-eqb, ne_eqb, cases_eq, none-some, same_Some}
-use Rattle.cache_entries.proofs.Names.{is_member, AllDiffer, AreLatest, AreSpread, OrderState, used_in_turn, used_last, without}
+use Rattle.cache_entries.proofs.Names.{is_member, AllDiffer, AreLatest, AreSpread, OrderState, Uses, used_in_turn, used_last, without}
 use Rattle.std.proofs.Common.{◌≡◌, ◌≢◌, ◌⊎◌, ◌+◌, ◌||◌, ◌∷◌, ◌++◌, ◌<◌, ◌≤◌, ◌∙◌}
 use Rattle.cache_entries.proofs.Orders.{differ_without, gone, length_without, member_head, member_tail, still}
 use Rattle.cache_entries.proofs.Recent.{listed_member}
@@ -43,6 +43,24 @@ not_at_end (k ∷ ns) n m none other =
     let apart = not_here k ns m none in
     member_tail m k (ns ++ n ∷ []) (λ same. apart.0 (sym same)) ∙ not_at_end ns n m apart.1 other
 
+pub in_front : (k : ℕ) (ns : List ℕ) (n : ℕ) → is_member (take k ns) n ≡ true → is_member ns n ≡ true
+in_front zero ns n is = absurd (true≢false (sym is))
+in_front (suc k) [] n is = is
+in_front (suc k) (m ∷ ms) n is = elim (either (nat_eq n m) (is_member (take k ms) n) is) [
+  | inl same ↦ ap (λ (t : Bool). t || is_member ms n) same
+  | inr later ↦ in_tail m ms n (in_front k ms n later)
+]
+
+pub in_either : (xs ys : List ℕ) (n : ℕ) → is_member (xs ++ ys) n ≡ true → (is_member xs n ≡ true) ⊎ (is_member ys n ≡ true)
+in_either [] ys n is = inr is
+in_either (x ∷ xs) ys n is = elim (either (nat_eq n x) (is_member (xs ++ ys) n) is) [
+  | inl same ↦ inl (ap (λ (t : Bool). t || is_member xs n) same)
+  | inr later ↦ elim (in_either xs ys n later) [
+    | inl first ↦ inl (in_tail x xs n first)
+    | inr second ↦ inr second
+  ]
+]
+
 -- a number that is listed keeps its place among the members when it is used
 pub member_used : (n : ℕ) (ns : List ℕ) (m : ℕ) → is_member ns n ≡ true → is_member (n ∷ without n ns) m ≡ is_member ns m
 member_used n ns m is = elim (cases_eq m n) [
@@ -72,6 +90,12 @@ without_here n m ms same = ap (λ (t : Bool). cond t ms (m ∷ without n ms)) (e
 
 pub without_tail : (n m : ℕ) (ms : List ℕ) → n ≢ m → without n (m ∷ ms) ≡ m ∷ without n ms
 without_tail n m ms other = ap (λ (t : Bool). cond t ms (m ∷ without n ms)) (ne_eqb n m other)
+
+pub without_absent : (n : ℕ) (ns : List ℕ) → is_member ns n ≡ false → without n ns ≡ ns
+without_absent n [] none = refl
+without_absent n (m ∷ ms) none =
+    let apart = not_here m ms n none in
+    without_tail n m ms apart.0 ∙ ap (λ (rest : List ℕ). m ∷ rest) (without_absent n ms apart.1)
 
 -- two numbers are taken out in any turn
 without_both : (n m : ℕ) (ns : List ℕ) → n ≢ m → without n (without m ns) ≡ without m (without n ns)
@@ -147,6 +171,25 @@ used_behind (n ∷ ns) front order once apart =
     member_tail k n front (λ same. true≢false (sym is ∙ ap (is_member ns) (sym same) ∙ once.0)) ∙ apart k (in_tail n ns k is))
     ∙ ap (λ (rest : List ℕ). used_in_turn ns (n ∷ rest)) (sym (without_behind n front order here))
 
+-- what is used later in turn needn't have been used before
+used_later : (n : ℕ) (ns xs ys : List ℕ) → is_member ns n ≡ true → without n xs ≡ without n ys → used_in_turn ns xs ≡ used_in_turn ns ys
+used_later n [] xs ys is same = absurd (true≢false (sym is))
+used_later n (m ∷ ms) xs ys is same = elim (cases_eq n m) [
+  | inl here ↦ ap (λ (rest : List ℕ). used_in_turn ms (m ∷ rest)) (subst (λ (k : ℕ). without k xs ≡ without k ys) here same)
+  | inr other ↦ used_later n ms (m ∷ without m xs) (m ∷ without m ys) (sym (member_tail n m ms (λ there. other (sym there))) ∙ is)
+      (without_tail n m (without m xs) other
+      ∙ ap (λ (rest : List ℕ). m ∷ rest) (without_both n m xs other ∙ ap (without m) same ∙ sym (without_both n m ys other))
+      ∙ sym (without_tail n m (without m ys) other))
+]
+
+-- numbers that are all used again in turn needn't have been used before
+pub used_anew : (ns ps order : List ℕ) → ((k : ℕ) → is_member ps k ≡ true → is_member ns k ≡ true) →
+    used_in_turn ns (used_in_turn ps order) ≡ used_in_turn ns order
+used_anew ns [] order listed = refl
+used_anew ns (p ∷ ps) order listed =
+    used_anew ns ps (p ∷ without p order) (λ k is. listed k (in_tail p ps k is))
+    ∙ used_later p ns (p ∷ without p order) order (listed p (member_head p p ps refl)) (without_here p p (without p order) refl)
+
 differ_behind : (front ns : List ℕ) → AllDiffer (front ++ ns) → AllDiffer ns
 differ_behind [] ns once = once
 differ_behind (m ∷ ms) ns once = differ_behind ms ns once.1
@@ -155,7 +198,7 @@ pub in_behind : (front ns : List ℕ) (k : ℕ) → is_member ns k ≡ true → 
 in_behind [] ns k is = is
 in_behind (m ∷ ms) ns k is = in_tail m (ms ++ ns) k (in_behind ms ns k is)
 
-used_front : (front ns order : List ℕ) → used_in_turn (front ++ ns) order ≡ used_in_turn ns (used_in_turn front order)
+pub used_front : (front ns order : List ℕ) → used_in_turn (front ++ ns) order ≡ used_in_turn ns (used_in_turn front order)
 used_front [] ns order = refl
 used_front (m ∷ ms) ns order = used_front ms ns (m ∷ without m order)
 
@@ -334,3 +377,11 @@ spread_in_turn [] s listed are = are
 spread_in_turn (n ∷ ns) s listed are =
     let here = listed n (member_head n n ns refl) in
     spread_in_turn ns (used_last n s) (λ k is. member_used n s.numbers k here ∙ listed k (in_tail n ns k is)) (spread_used s n here are)
+
+pub spread_uses : (s t : OrderState) (ns : List ℕ) (said : Bool) → Uses s t ns said → AreSpread s → AreSpread t
+spread_uses s t ns said uses are =
+    subst (λ (ms : List ℕ). AreSpread (record { numbers = ms; places = t.places; most = t.most })) (sym uses.numbers)
+    (subst (λ (ps : List (Option ℕ)). AreSpread (record { numbers = used_in_turn (take uses.count ns) s.numbers; places = ps; most = t.most }))
+    (sym uses.same_places)
+    (subst (λ (m : ℕ). AreSpread (record { numbers = used_in_turn (take uses.count ns) s.numbers; places = s.places; most = m })) (sym uses.same_most)
+    (spread_in_turn (take uses.count ns) s uses.listed are)))

@@ -1,6 +1,6 @@
 // Entries in the order of their last use.
 ghost use Rattle.std.specs.Prelude.{◌≡◌, ℕ, ◌<◌, ◌≤◌, [], Some, None, true, false, length, replicate, is_some, nat_le};
-ghost use Rattle.std.specs.Prelude.{option_map, IfOk, IsSome};
+ghost use Rattle.std.specs.Prelude.{option_map, take, IfOk, IsSome};
 ghost use Rattle.std.specs.List.{Contains};
 ghost use Rattle.capability.specs.Objects.{with_root_in, with_slots_in};
 ghost use Rattle.capability.specs.Parts.{fresh_content};
@@ -218,7 +218,9 @@ impl Entries {
         ensures held { result ≡ true → (n : ℕ) → Contains numbers.now n
             → IsSome (entry_at self.old.at n) }
         ensures used { result ≡ true → self.new.order ≡ used_in_turn numbers.now self.old.order }
+        ensures prefix { (k : ℕ) × (self.new.order ≡ used_in_turn (take k numbers.now) self.old.order) }
         ensures rest { self.new ≡ record self.old { order = self.new.order } }
+        ensures ordered { AreOrdered self.new }
     {
         self.order.spread();
         self.order.use_again(numbers)
@@ -230,11 +232,12 @@ impl Entries {
         ensures held { result ≡ is_some (entry_at self.old.at number) }
         ensures used { result ≡ true → self.new ≡ used_now number self.old }
         ensures unchanged { result ≡ false → self.new ≡ self.old }
+        ensures ordered { AreOrdered self.old }
     {
+        self.order.spread();
         if !self.order.has(number) {
             return false;
         }
-        self.order.spread();
         self.order.use_now(number);
         true
     }

@@ -3,14 +3,13 @@ use Rattle.object_cache.proofs.Names.{inl, inr, ℕ, zero, suc, nat_eq, Bool, tr
 use Rattle.object_cache.proofs.Names.{Err, refl, sym, ap, subst, arith, OnOk, OnErr, slice_index_or, Contains, cases_eq, cases_lt, eq-eqb, get_or_past}
 use Rattle.object_cache.proofs.Names.{get_or_default, get_or-set_same, get_or-set_other, length-map, Geometry, AreKeepable, is_member, Disk, most, DurableState}
 use Rattle.object_cache.proofs.Names.{stored_of, frames_of, Snapshots, FrozenFrames, Entry, Memory, without, StoreState, IsCache, IsFetchedIn, GoesOnIn}
-use Rattle.object_cache.proofs.Names.{cache_of, parts_of, cached_at, cached_in, with_cached, IsRecentIn, on_device, on_device_with}
-use Rattle.std.proofs.Common.{◌≡◌, ◌+◌, ◌<◌, ◌≤◌, ◌||◌, ◌∷◌, ◌∙◌}
+use Rattle.object_cache.proofs.Names.{cond, ne_eqb, cache_of, parts_of, cached_at, cached_in, with_cached, IsRecentIn, on_device, on_device_with}
+use Rattle.std.proofs.Common.{◌≡◌, ◌≢◌, ◌+◌, ◌<◌, ◌≤◌, ◌||◌, ◌∷◌, ◌∙◌}
 use Rattle.object_cache.proofs.Objects.{contents_count}
-use Rattle.object_cache.proofs.Recent.{front_without}
 
 -- ---- the front of an order
 
-front_front : (k j : ℕ) (xs : List ℕ) → k ≤ j → take k (take j xs) ≡ take k xs
+pub front_front : (k j : ℕ) (xs : List ℕ) → k ≤ j → take k (take j xs) ≡ take k xs
 front_front zero j xs few = refl
 front_front (suc k) zero xs few = absurd (omega (arith, few))
 front_front (suc k) (suc j) [] few = refl
@@ -33,6 +32,25 @@ front_within (suc k) zero n xs few is = absurd (omega (arith, few))
 front_within (suc k) (suc j) n [] few is = is
 front_within (suc k) (suc j) n (x ∷ xs) few is = or_keeps (nat_eq n x) (is_member (take k xs) n) (is_member (take j xs) n)
     (front_within k j n xs (omega (arith, few))) is
+
+-- taking a number out of the order brings none further back
+front_without : (n : ℕ) (ns : List ℕ) (k m : ℕ) → m ≢ n → is_member (take k ns) m ≡ true → is_member (take k (without n ns)) m ≡ true
+front_without n [] k m other is = is
+front_without n (a ∷ rest) zero m other is = absurd (true≢false (sym is))
+front_without n (a ∷ rest) (suc k) m other is = elim (cases_eq n a) [
+  | inl same ↦
+      ap (λ (t : Bool). is_member (take (suc k) (cond t rest (a ∷ without n rest))) m) (eq-eqb n a same)
+      ∙ front_more rest k m (sym (ap (λ (t : Bool). t || is_member (take k rest) m) (ne_eqb m a (λ there. other (there ∙ sym same)))) ∙ is)
+  | inr differs ↦
+      ap (λ (t : Bool). is_member (take (suc k) (cond t rest (a ∷ without n rest))) m) (ne_eqb n a differs)
+      ∙ or_keeps (nat_eq m a) (is_member (take k rest) m) (is_member (take k (without n rest)) m) (front_without n rest k m other) is
+]
+  where
+    front_more : (ns : List ℕ) (k m : ℕ) → is_member (take k ns) m ≡ true → is_member (take (suc k) ns) m ≡ true
+    front_more [] zero m is = absurd (true≢false (sym is))
+    front_more [] (suc k) m is = absurd (true≢false (sym is))
+    front_more (b ∷ bs) zero m is = absurd (true≢false (sym is))
+    front_more (b ∷ bs) (suc k) m is = or_keeps (nat_eq m b) (is_member (take k bs) m) (is_member (take (suc k) bs) m) (front_more bs k m) is
 
 front_first : (n k : ℕ) (ns : List ℕ) → 0 < k → is_member (take k (n ∷ ns)) n ≡ true
 front_first n zero ns some = absurd (omega (arith, some))

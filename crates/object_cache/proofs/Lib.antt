@@ -1,6 +1,5 @@
 mod Names
 mod Outcomes
-mod Recent
 mod Marking
 mod Changing
 mod Objects
@@ -23,6 +22,7 @@ mod Taking
 mod Turns
 mod Fetched
 mod Bringing
+mod Evicting
 mod Readying
 mod Presenting
 mod Journaling

@@ -50,7 +50,7 @@ pub use Rattle.std.proofs.Common.{length-set, map, nat_eq, nat_lt, option_map, r
 pub use Rattle.std.proofs.Math.ListN.{get_or-map}
 pub use Rattle.std.proofs.lemmas.Bool.{cases_eq, cases_lt, eq-eqb, eqb-false, eqb-true, ne_eqb}
 pub use Rattle.std.proofs.lemmas.List.{ext_get_or, get_or-replicate, get_or-set_other, get_or-set_same, get_or_append_left, get_or_at, get_or_default}
-pub use Rattle.std.proofs.lemmas.List.{get_or_past, length-append, length-map, length-replicate, map-set, same_lists, set-get_or, take_more}
+pub use Rattle.std.proofs.lemmas.List.{get_or_past, length-append, length-map, length-replicate, map-set, same_lists, set-get_or, take_all, take_more}
 pub use Rattle.std.proofs.lemmas.List.Elements.{All-contains}
 pub use Rattle.std.proofs.lemmas.List.FromFn.{get_or-map-range_with_len, length-map-range_with_len}
 pub use Rattle.std.proofs.lemmas.List.Sums.{sum_by-cons, sum_by-set}
@@ -62,7 +62,7 @@ pub use Rattle.object_cache.specs.Memory.{Apart, Held, Memory, Nothing, Owed, Sh
 pub use Rattle.object_cache.specs.Memory.{held_behind, in_staging, is_owing, is_shared, let_go, mark_at, masked, memory_of, newest_body, owed_body, owed_by}
 pub use Rattle.object_cache.specs.Memory.{owed_in_memory, owed_of, own_body, own_body_of, own_frame, present_at, present_body, put_body}
 unfoldable pub use Rattle.object_cache.specs.Memory.{contents_in, frozen_in, owed_in}
-pub use Rattle.object_cache.specs.Prepared.{IsRecentIn, on_device_with, readied}
+pub use Rattle.object_cache.specs.Prepared.{IsRecentIn, UsesSome, on_device_with, readied}
 pub use Rattle.object_cache.specs.PresentLaws.{continues_same, goes_on_same, goes_on_twice}
 pub use Rattle.object_cache.specs.StoreState.{AreAll, AreFrozen, AreTaken, ContinuesIn, GoesOnIn, HaveRoom, HaveSpace, HoldBodies, IsAnnouncedIn, IsBounded}
 pub use Rattle.object_cache.specs.StoreState.{IsCache, IsFetchedIn, IsJustOpened, IsOpenOver, IsWhole, PutsBy, StoreState, TakenState, all_of, bodies_of}

@@ -11,6 +11,10 @@ pub ok_then : {T E P Q : Type 0} (r : Result T E) → OnOk r P → (P → Q) →
 ok_then (Ok t) ok next = next ok
 ok_then (Err e) ok next = ok
 
+pub err_then : {T E P Q : Type 0} (r : Result T E) → OnErr r P → (P → Q) → OnErr r Q
+err_then (Ok t) err next = err
+err_then (Err e) err next = next err
+
 pub ok_both : {T E P Q R : Type 0} (r : Result T E) → OnOk r P → OnOk r Q → (P → Q → R) → OnOk r R
 ok_both (Ok t) first second next = next first second
 ok_both (Err e) first second next = first

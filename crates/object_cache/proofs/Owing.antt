@@ -4,9 +4,10 @@ use Rattle.object_cache.proofs.Names.{option_map, refl, sym, ap, arith, length-s
 use Rattle.object_cache.proofs.Names.{length-map-range_with_len, cases_eq, cases_lt, none-some, same_Some, Cap, Content, is_member, Disk, DurableState}
 use Rattle.object_cache.proofs.Names.{stored_of, Entry, entry_at, kept_of, owed_by, Memory, Owed, Nothing, Shared, Apart, mark_at, is_owing, is_shared, owed_of}
 use Rattle.object_cache.proofs.Names.{content_at, contents_in, AreOrdered, used_longest_ago, without, StoreState, IsCache, IsFetchedIn, cache_of, owed_at}
-use Rattle.object_cache.proofs.Names.{cached_at}
+use Rattle.object_cache.proofs.Names.{cached_at, take_all}
 use Rattle.std.proofs.Common.{◌≡◌, ◌≢◌, ◌-◌, ◌<◌, ◌≤◌, ◌∷◌, ◌∙◌}
-use Rattle.object_cache.proofs.Recent.{length_without, listed_member, front_stays, front_apart}
+use Rattle.cache_entries.proofs.Orders.{length_without}
+use Rattle.cache_entries.proofs.Recent.{front_apart, front_stays, listed_member}
 use Rattle.object_cache.proofs.Objects.{cached_entry}
 use Rattle.object_cache.proofs.Caching.{owed_entry}
 
@@ -145,6 +146,15 @@ module _ {D : Type 0} (disk : D → Disk) (d : DurableState D) (m : Memory) (lef
         ap (λ (ns : List ℕ). take 7 (without n ns)) seen
         ∙ front_stays n order (length order - 1) 7 (omega (arith, long)) ordered.once (sym at) (omega (arith, long))
         ∙ ap (take 7) (sym seen)
+
+    -- without it the rest stay, in their order
+    pub least_rest : without n s.order ≡ take (s.most - 1) s.order
+    least_rest =
+        ap (without n) seen
+        ∙ sym (take_all (length order - 1) (without n order) (omega (arith, length_without n order listed)))
+        ∙ front_stays n order (length order - 1) (length order - 1) (omega (arith, long)) ordered.once (sym at) (omega (arith, long))
+        ∙ ap (λ (k : ℕ). take k order) (omega (arith, full, ordered.few, ap (λ (t : StoreState D). t.most) view, ap (λ (ns : List ℕ). length ns) seen))
+        ∙ ap (take (s.most - 1)) (sym seen)
 
     pub least_others : (k : ℕ) → is_member (take 7 s.order) k ≡ true → cached_at (set s.cached n false) k ≡ cached_at s.cached k
     least_others k recent = get_or-set_other s.cached n k false false

@@ -1,5 +1,5 @@
 // The object store that keeps a bounded number of object bodies in memory.
-ghost use Rattle.std.specs.Prelude.{◌∷◌, ◌≡◌, ◌≢◌, ◌<◌, ◌≤◌, None, false, true, ℕ, length, slice_set, take, OnOk};
+ghost use Rattle.std.specs.Prelude.{◌∷◌, ◌≡◌, ◌≢◌, ◌<◌, ◌≤◌, ◌-◌, None, false, true, ℕ, length, slice_set, take, OnOk};
 ghost use Rattle.std.specs.Prelude.{OnErr};
 ghost use Rattle.model.specs.declared.object.Content.TheVariants as content;
 ghost use Rattle.model.specs.Frame.{content_behind, header_at, held_at, given_up, owned_by, called, claimed, void_held};
@@ -231,6 +231,7 @@ impl<D: Device> Cache<D> {
         ensures used { result ≡ true → self.new
             ≡ record self.old { order = number ∷ without number self.old.order } }
         ensures unchanged { result ≡ false → self.new ≡ self.old }
+        ensures bounded { IsBounded self.old }
     {
         self.entries.promote(number)
     }
@@ -383,6 +384,9 @@ impl<D: Device> Cache<D> {
         ensures others { (n : ℕ) → is_member (take 7 self.old.order) n ≡ true
             → cached_at self.new.cached n ≡ cached_at self.old.cached n }
         ensures order { take 7 self.new.order ≡ take 7 self.old.order }
+        ensures least { OnOk result (self.new.order ≡ take (self.old.most - 1) self.old.order) }
+        ensures stays { OnErr result (self.new.order ≡ self.old.order) }
+        ensures unchanged { length self.old.order < self.old.most → self.new ≡ self.old }
         ensures rest { self.new ≡ record (on_device self.old self.new) {
           cached = self.new.cached;
           order = self.new.order;
@@ -408,6 +412,8 @@ impl<D: Device> Cache<D> {
         ensures others { (n : ℕ) → is_member (take 7 self.old.order) n ≡ true
             → cached_at self.new.cached n ≡ cached_at self.old.cached n }
         ensures order { take 7 self.new.order ≡ take 7 self.old.order }
+        ensures least { OnOk result (self.new.order ≡ take (self.old.most - 1) self.old.order) }
+        ensures stays { OnErr result (self.new.order ≡ self.old.order) }
         ensures rest { self.new ≡ record (on_device self.old self.new) {
           cached = self.new.cached;
           order = self.new.order;
@@ -433,6 +439,10 @@ impl<D: Device> Cache<D> {
           cached = self.new.cached;
           order = self.new.order;
         } }
+        ensures away { OnOk result (cached_at self.old.cached number ≡ true
+            → self.new ≡ without_cached number (on_device self.old self.new)) }
+        ensures none { cached_at self.old.cached number ≡ false → self.new ≡ self.old }
+        ensures stays { OnErr result (self.new ≡ on_device self.old self.new) }
         ensures continues { GoesOnIn D.disk self.old self.new }
         ensures cause { Counts (D.disk self.old.durable.beneath) (D.disk self.new.durable.beneath) result }
     {

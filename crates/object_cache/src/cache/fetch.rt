@@ -1,18 +1,18 @@
 // Objects are brought into memory.
-ghost use Rattle.std.specs.Prelude.{◌≡◌, ℕ, ◌<◌, ◌≤◌, None, false, true, length, OnOk, OnErr};
+ghost use Rattle.std.specs.Prelude.{◌≡◌, ℕ, ◌<◌, ◌≤◌, ◌+◌, ◌∷◌, None, false, true, length, take, OnOk, OnErr};
 ghost use Rattle.std.specs.List.{All, Contains};
 ghost use Rattle.device.specs.Calls.{Counts};
 ghost use Rattle.model.specs.Keepable.{AreKeepable};
 ghost use Rattle.model.specs.Machine.{touched_count};
 ghost use Rattle.migrator.specs.Durable.{stored_of};
 ghost use Rattle.cache_entries.specs.Entries.{entry_at};
-ghost use Rattle.cache_entries.specs.Order.{used_in_turn, with_new};
+ghost use Rattle.cache_entries.specs.Order.{used_in_turn, with_new, without};
 ghost use Rattle.layout.specs.Frame.{content_of};
 ghost use Rattle.object_cache.specs.Memory.{masked};
 ghost use Rattle.capability.specs.Parts.{frames_of};
 ghost use Rattle.checkpoint.specs.Saved.{most};
 ghost use Rattle.object_cache.specs.StoreState.{GoesOnIn, IsFetchedIn, parts_of, cached_at, with_cached};
-ghost use Rattle.object_cache.specs.Prepared.{IsRecentIn, on_device_with};
+ghost use Rattle.object_cache.specs.Prepared.{IsRecentIn, UsesSome, on_device_with};
 
 use crate::cache::Cache;
 use crate::frozen::mask;
@@ -71,6 +71,9 @@ impl<D: Device> Cache<D> {
         ensures first { OnOk result ((k : ℕ) → 0 < k → IsRecentIn self.new k number) }
         ensures recent { OnOk result ((j k n : ℕ) → j ≤ 7 → j < k → IsRecentIn self.old j n
             → IsRecentIn self.new k n) }
+        ensures order { OnOk result (self.new.order ≡ take self.old.most (number ∷ self.old.order)) }
+        ensures stopped { OnErr result ((j : ℕ) × (self.old.most ≤ j + 1)
+            × (self.new.order ≡ take j self.old.order)) }
         ensures rest { self.new ≡ on_device_with self.old self.new }
         ensures empty { self.new.staging ≡ None }
         ensures continues { GoesOnIn D.disk self.old self.new }
@@ -89,6 +92,10 @@ impl<D: Device> Cache<D> {
         ensures first { OnOk result ((k : ℕ) → 0 < k → IsRecentIn self.new k number) }
         ensures recent { OnOk result ((j k n : ℕ) → j ≤ 7 → j < k → IsRecentIn self.old j n
             → IsRecentIn self.new k n) }
+        ensures order { OnOk result (self.new.order
+            ≡ take self.old.most (number ∷ without number self.old.order)) }
+        ensures stopped { OnErr result ((j : ℕ) × (self.old.most ≤ j + 1)
+            × (self.new.order ≡ take j self.old.order)) }
         ensures rest { self.new ≡ on_device_with self.old self.new }
         ensures empty { self.new.staging ≡ None }
         ensures continues { GoesOnIn D.disk self.old self.new }
@@ -105,9 +112,13 @@ impl<D: Device> Cache<D> {
         requires few { length fetched.now ≤ MAX_FETCHED }
         requires known { All (λ n. n < length self.old.headers) fetched.now }
         requires empty { self.old.staging ≡ None }
+        requires bounded { length self.old.order ≤ self.old.most }
         requires keepable { AreKeepable (parts_of D.disk self.old).geometry most
             (frames_of (parts_of D.disk self.old)) }
         ensures fetched { OnOk result ((n : ℕ) → Contains fetched.now n → IsFetchedIn self.new n) }
+        ensures order { OnOk result (self.new.order
+            ≡ take self.old.most (used_in_turn fetched.now self.old.order)) }
+        ensures stopped { OnErr result (UsesSome self.old.most fetched.now self.old.order self.new.order) }
         ensures rest { self.new ≡ on_device_with self.old self.new }
         ensures continues { GoesOnIn D.disk self.old self.new }
         ensures cause { Counts (D.disk self.old.durable.beneath) (D.disk self.new.durable.beneath) result }
@@ -124,6 +135,8 @@ impl<D: Device> Cache<D> {
         requires { All (λ n. n < length self.old.headers) numbers.now }
         ensures fetched { result ≡ true → (n : ℕ) → Contains numbers.now n → IsFetchedIn self.new n }
         ensures used { result ≡ true → self.new.order ≡ used_in_turn numbers.now self.old.order }
+        ensures prefix { (k : ℕ) × (self.new.order ≡ used_in_turn (take k numbers.now) self.old.order) }
+        ensures few { length self.new.order ≤ self.new.most }
         ensures rest { self.new ≡ record self.old { order = self.new.order } }
         ensures within { touched_count self.old.touched
             ≤ (stored_of D.disk self.old.durable).saved.geometry.log }
@@ -136,9 +149,13 @@ impl<D: Device> Cache<D> {
     fn bring_all(&mut self, fetched: &[u64]) -> Result<(), Failed>
         requires few { length fetched.now ≤ MAX_FETCHED }
         requires known { All (λ n. n < length self.old.headers) fetched.now }
+        requires bounded { length self.old.order ≤ self.old.most }
         requires keepable { AreKeepable (parts_of D.disk self.old).geometry most
             (frames_of (parts_of D.disk self.old)) }
         ensures fetched { OnOk result ((n : ℕ) → Contains fetched.now n → IsFetchedIn self.new n) }
+        ensures order { OnOk result (self.new.order
+            ≡ take self.old.most (used_in_turn fetched.now self.old.order)) }
+        ensures stopped { OnErr result (UsesSome self.old.most fetched.now self.old.order self.new.order) }
         ensures rest { self.new ≡ on_device_with self.old self.new }
         ensures continues { GoesOnIn D.disk self.old self.new }
         ensures cause { Counts (D.disk self.old.durable.beneath) (D.disk self.new.durable.beneath) result }
@@ -157,6 +174,9 @@ impl<D: Device> Cache<D> {
         ensures fetched { OnOk result ((n : ℕ) → Contains fetched.now n → IsFetchedIn self.new n) }
         ensures within { touched_count self.old.touched
             ≤ (stored_of D.disk self.old.durable).saved.geometry.log }
+        ensures order { OnOk result (self.new.order
+            ≡ take self.old.most (used_in_turn fetched.now self.old.order)) }
+        ensures stopped { OnErr result (UsesSome self.old.most fetched.now self.old.order self.new.order) }
         ensures rest { self.new ≡ on_device_with self.old self.new }
         ensures continues { GoesOnIn D.disk self.old self.new }
         ensures cause { Counts (D.disk self.old.durable.beneath) (D.disk self.new.durable.beneath) result }

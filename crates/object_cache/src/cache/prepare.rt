@@ -1,5 +1,5 @@
 // Numbers are prepared to be read and written.
-ghost use Rattle.std.specs.Prelude.{◌≡◌, ◌≢◌, ◌↔◌, ℕ, ◌<◌, ◌≤◌, false, true, length, OnOk, OnErr, IsErrOf};
+ghost use Rattle.std.specs.Prelude.{◌≡◌, ◌≢◌, ◌↔◌, ℕ, ◌<◌, ◌≤◌, false, true, length, take, OnOk, OnErr, IsErrOf};
 ghost use Rattle.std.specs.List.{All, Contains};
 ghost use Rattle.model.specs.Keepable.{AreKeepable};
 ghost use Rattle.model.specs.Machine.{touching, touched_count};
@@ -8,7 +8,8 @@ ghost use Rattle.checkpoint.specs.Saved.{most};
 ghost use Rattle.migrator.specs.Durable.{stored_of};
 ghost use Rattle.object_cache.specs.Memory.{Shared};
 ghost use Rattle.object_cache.specs.StoreState.{GoesOnIn, IsAnnouncedIn, IsFetchedIn, owed_at, parts_of};
-ghost use Rattle.object_cache.specs.Prepared.{on_device_with, readied};
+ghost use Rattle.object_cache.specs.Prepared.{UsesSome, on_device_with, readied};
+ghost use Rattle.cache_entries.specs.Order.{used_in_turn};
 
 use crate::cache::Cache;
 use crate::owed::is_shared;
@@ -22,6 +23,7 @@ impl<D: Device> Cache<D> {
     fn is_ready(&self, written: &[u64]) -> bool
         requires { All (λ n. n < length self.now.headers) written.now }
         ensures touched { result ≡ true → touching self.now.touched written.now ≡ self.now.touched }
+        ensures dirty { result ≡ true → touching self.now.dirty written.now ≡ self.now.dirty }
         ensures announced { result ≡ true → (n : ℕ) → Contains written.now n → IsAnnouncedIn self.now n }
         ensures within { touched_count self.now.touched
             ≤ (stored_of D.disk self.now.durable).saved.geometry.log }
@@ -109,6 +111,7 @@ impl<D: Device> Cache<D> {
         requires { All (λ n. n < length self.old.headers) written.now }
         ensures announced { OnOk result ((n : ℕ) → Contains written.now n → IsAnnouncedIn self.new n) }
         ensures touched { OnOk result (self.new.touched ≡ touching self.old.touched written.now) }
+        ensures dirty { OnOk result (self.new.dirty ≡ touching self.old.dirty written.now) }
         ensures untouched { OnErr result (self.new.touched ≡ self.old.touched) }
         ensures within { touched_count self.new.touched
             ≤ (stored_of D.disk self.new.durable).saved.geometry.log }
@@ -149,6 +152,9 @@ impl<D: Device> Cache<D> {
             ≤ (stored_of D.disk self.new.durable).saved.geometry.log }
         ensures before { touched_count self.old.touched
             ≤ (stored_of D.disk self.old.durable).saved.geometry.log }
+        ensures order { OnOk result (self.new.order
+            ≡ take self.old.most (used_in_turn fetched.now self.old.order)) }
+        ensures stopped { OnErr result (UsesSome self.old.most fetched.now self.old.order self.new.order) }
         ensures rest { self.new ≡ record (on_device_with self.old self.new) { touched = self.new.touched } }
         ensures full { IsErrOf result PrepareFault.LogFull
             → (stored_of D.disk self.old.durable).saved.geometry.log

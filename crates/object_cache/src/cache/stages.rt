@@ -156,6 +156,7 @@ impl<D: Device> Cache<D> {
         ensures size { IfOk result (λ n. n ≡ touched_count self.old.touched) }
         ensures most { self.new.most ≡ self.old.most }
         ensures cached { self.new.cached ≡ self.old.cached }
+        ensures order { self.new.order ≡ self.old.order }
         ensures headers { self.new.headers ≡ self.old.headers }
         ensures contents { self.new.contents ≡ self.old.contents }
         ensures touched { OnOk result (self.new.touched ≡ untouched (parts_of D.disk self.old).geometry) }

@@ -1,12 +1,12 @@
 // A store of objects over a device.
-ghost use Rattle.std.specs.Prelude.{◌≡◌, ◌<◌, false, length, IfOk, IfErr, OnOk};
+ghost use Rattle.std.specs.Prelude.{◌≡◌, ◌<◌, true, false, length, IfOk, IfErr, OnOk, OnErr};
 ghost use Rattle.capability.specs.Parts.{frames_of};
 ghost use Rattle.checkpoint.specs.Opened.{Refuses};
 ghost use Rattle.checkpoint.specs.Saved.{most};
 ghost use Rattle.device.specs.Calls.{Counts};
 ghost use Rattle.model.specs.Keepable.{AreKeepable};
 ghost use Rattle.object_store.specs.Store.{OpensStore};
-ghost use Rattle.object_cache.specs.StoreState.{ContinuesIn, on_device, parts_of, cached_at, view_of};
+ghost use Rattle.object_cache.specs.StoreState.{ContinuesIn, on_device, parts_of, cached_at, view_of, without_cached};
 
 use crate::policy::Policy;
 use crate::saved_objects::SavedObjects;
@@ -76,6 +76,11 @@ impl<D: Device, P: Policy> ObjectStore<D> for Store<D, P> {
           cached = self.new.cached;
           order = self.new.order;
         } }
+        ensures away { OnOk result (P.KEEPS_ALL ≡ false → cached_at self.old.cached number ≡ true
+            → self.new ≡ without_cached number (on_device self.old self.new)) }
+        ensures none { cached_at self.old.cached number ≡ false → self.new ≡ self.old }
+        ensures stays { OnErr result (self.new ≡ on_device self.old self.new) }
+        ensures all { P.KEEPS_ALL ≡ true → self.new ≡ self.old }
         ensures continues { ContinuesIn P.KEEPS_ALL D.disk self.old self.new }
         ensures cause { Counts (D.disk self.old.durable.beneath) (D.disk self.new.durable.beneath) result }
     {

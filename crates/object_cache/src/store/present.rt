@@ -1,13 +1,20 @@
 // The objects of a store as they are now.
+ghost use Rattle.std.specs.Prelude.{◌≡◌, ◌↔◌, ◌<◌, ◌≤◌, ℕ, true, false, length, take, OnOk, OnErr, IsErr, IsErrOf};
+ghost use Rattle.std.specs.List.{All, Contains};
+ghost use Rattle.cache_entries.specs.Order.{used_in_turn};
+ghost use Rattle.capability.specs.Parts.{OnlyFetches, frames_of};
+ghost use Rattle.model.specs.Keepable.{AreKeepable};
+ghost use Rattle.model.specs.Machine.{touched_count, touching};
+ghost use Rattle.object_cache.specs.Prepared.{UsesSome};
+ghost use Rattle.object_cache.specs.StoreState.{ContinuesIn, IsAnnouncedIn, IsFetchedIn, parts_of};
+
 use crate::policy::Policy;
 use crate::store::Store;
-use capability::{Frames, Fresh, ObjectTable, PrepareFault, PresentFrames};
+use capability::{Frames, Fresh, MAX_FETCHED, ObjectTable, PrepareFault, PresentFrames};
 use device::{Device, Failed};
 use model::{Cap, ContentRef, Geometry, Root};
 
 impl<D: Device, P: Policy> Frames for Store<D, P> {
-    ghost use Rattle.object_cache.specs.StoreState.{parts_of, IsFetchedIn, ContinuesIn};
-
     ghost parts = { parts_of D.disk };
 
     ghost IsFetched = { IsFetchedIn };
@@ -22,7 +29,23 @@ impl<D: Device, P: Policy> Frames for Store<D, P> {
         self.cache.table()
     }
 
-    fn fetch(&mut self, numbers: &[u64]) -> Result<(), Failed> {
+    /// Brings the bodies of up to 8 objects into memory, and evicts those used longest ago for which there is no room.
+    /// Fails exactly if the device fails.
+    fn fetch(&mut self, numbers: &[u64]) -> Result<(), Failed>
+        requires few { length numbers.now ≤ MAX_FETCHED }
+        requires known { All (λ n. n < length (parts_of D.disk self.old).headers) numbers.now }
+        requires keepable { AreKeepable (parts_of D.disk self.old).geometry u64.MAX
+            (frames_of (parts_of D.disk self.old)) }
+        ensures fetched { OnOk result ((n : ℕ) → Contains numbers.now n → IsFetchedIn self.new n) }
+        ensures order { P.KEEPS_ALL ≡ false → OnOk result (self.new.order
+            ≡ take self.old.most (used_in_turn numbers.now self.old.order)) }
+        ensures stopped { OnErr result (UsesSome self.old.most numbers.now self.old.order self.new.order) }
+        ensures all { P.KEEPS_ALL ≡ true → self.new ≡ self.old }
+        ensures cause { IsErr result
+            ↔ ((parts_of D.disk self.old).failures < (parts_of D.disk self.new).failures) }
+        ensures later { (parts_of D.disk self.old).failures ≤ (parts_of D.disk self.new).failures }
+        ensures snapshots { OnlyFetches (parts_of D.disk) (ContinuesIn P.KEEPS_ALL D.disk) self.old self.new }
+    {
         // A use of a field makes the invariant known here.
         let _ = &self.cache;
         if P::KEEPS_ALL {
@@ -46,11 +69,36 @@ impl<D: Device, P: Policy> Frames for Store<D, P> {
 }
 
 impl<D: Device, P: Policy> PresentFrames for Store<D, P> {
-    ghost use Rattle.object_cache.specs.StoreState.{IsAnnouncedIn};
-
     ghost IsAnnounced = { IsAnnouncedIn };
 
-    fn prepare(&mut self, fetched: &[u64], written: &[u64]) -> Result<(), PrepareFault> {
+    /// Fetches the bodies of up to 8 objects, as `fetch` does, and announces the numbers to be written. Errors: see
+    /// `PresentFrames::prepare`.
+    fn prepare(&mut self, fetched: &[u64], written: &[u64]) -> Result<(), PrepareFault>
+        requires few { length fetched.now ≤ MAX_FETCHED }
+        requires known { All (λ n. n < length (parts_of D.disk self.old).headers) fetched.now }
+        requires announced { All (λ n. n < length (parts_of D.disk self.old).headers) written.now }
+        requires keepable { AreKeepable (parts_of D.disk self.old).geometry u64.MAX
+            (frames_of (parts_of D.disk self.old)) }
+        ensures fetched { OnOk result ((n : ℕ) → Contains fetched.now n → IsFetchedIn self.new n) }
+        ensures announced { OnOk result ((n : ℕ) → Contains written.now n → IsAnnouncedIn self.new n) }
+        ensures order { P.KEEPS_ALL ≡ false → OnOk result (self.new.order
+            ≡ take self.old.most (used_in_turn fetched.now self.old.order)) }
+        ensures stopped { OnErr result (UsesSome self.old.most fetched.now self.old.order self.new.order) }
+        ensures all { P.KEEPS_ALL ≡ true → self.new.order ≡ self.old.order }
+        ensures touched { OnOk result (self.new.touched ≡ touching self.old.touched written.now) }
+        ensures within { touched_count self.new.touched ≤ (parts_of D.disk self.new).geometry.log }
+        ensures before { touched_count self.old.touched ≤ (parts_of D.disk self.old).geometry.log }
+        ensures headers { self.new.headers ≡ self.old.headers }
+        ensures contents { self.new.contents ≡ self.old.contents }
+        ensures geometry { (parts_of D.disk self.new).geometry ≡ (parts_of D.disk self.old).geometry }
+        ensures untouched { OnErr result (self.new.touched ≡ self.old.touched) }
+        ensures full { IsErrOf result PrepareFault.LogFull → (parts_of D.disk self.old).geometry.log
+            < touched_count (touching self.old.touched written.now) }
+        ensures cause { IsErrOf result PrepareFault.Failed
+            ↔ ((parts_of D.disk self.old).failures < (parts_of D.disk self.new).failures) }
+        ensures later { (parts_of D.disk self.old).failures ≤ (parts_of D.disk self.new).failures }
+        ensures continues { ContinuesIn P.KEEPS_ALL D.disk self.old self.new }
+    {
         if P::KEEPS_ALL {
             return self.cache.make_writable(written);
         }

@@ -3,6 +3,7 @@ use Rattle.std.proofs.Common.{◌∙◌}
 use Rattle.object_cache.proofs.Outcomes.{ok_then}
 use Rattle.object_cache.proofs.Owing.{fetched_by, uncached_by, cached_gone}
 use Rattle.object_cache.proofs.Paying.{away_rest, ok_counts}
+use Rattle.object_cache.proofs.Names.{true≢false}
 use Rattle.object_cache.proofs.cache.Cache.evict.Goals as goal
 
 pub put_away-requires-clause-fetched : goal.put_away-requires-clause-fetched
@@ -45,3 +46,23 @@ returns-clause-continues g c = goes_on_same g.D.Device.disk g.met.D.Device.only_
 
 pub returns-clause-cause : goal.returns-clause-cause
 returns-clause-cause g c = ok_counts refl
+
+pub returns-then-holds-clause-away : goal.returns-then-holds-clause-away
+returns-then-holds-clause-away g c = ok_then c.put_away.result c.put_away.ensures.away (λ away some. away)
+
+pub returns-clause-away : goal.returns-clause-away
+returns-clause-away g c =
+    λ some. absurd (true≢false (sym some
+    ∙ uncached_by g.D.Device.disk _ _ _ _ _ _ _ c.self.view_is c.self.invariant.0 c.args.number (sym c.holds.ensures ∙ c.if-holds.false)))
+
+pub returns-then-holds-clause-none : goal.returns-then-holds-clause-none
+returns-then-holds-clause-none g c =
+    let there = fetched_by g.D.Device.disk _ _ _ _ _ _ _ c.self.view_is c.self.invariant.0 c.args.number c.requires.known
+    (sym c.holds.ensures ∙ c.if-holds.true) in
+    λ none. absurd (true≢false (sym there.cached ∙ none))
+
+pub returns-then-holds-clause-stays : goal.returns-then-holds-clause-stays
+returns-then-holds-clause-stays g c = c.put_away.ensures.stays
+
+pub returns-clause-none : goal.returns-clause-none
+returns-clause-none g c = λ none. refl

@@ -1,4 +1,4 @@
-use Rattle.object_cache.proofs.Names.{ℕ, None, GoesOnIn, IsRecentIn, on_device_with}
+use Rattle.object_cache.proofs.Names.{ℕ, None, take, used_in_turn, GoesOnIn, IsRecentIn, on_device_with}
 use Rattle.std.proofs.Common.{◌≡◌, ◌<◌, slice_index_or}
 use Rattle.object_cache.proofs.cache.Cache.fetch_all.Given as goal
 
@@ -9,3 +9,4 @@ invariant-loop-number g l =
     × (l.self.staging ≡ None)
     × GoesOnIn g.D.Device.disk l.fn.self l.self
     × ((g.D.Device.disk l.self.durable.beneath).failures ≡ (g.D.Device.disk l.fn.self.durable.beneath).failures)
+    × (l.self.order ≡ take l.fn.self.most (used_in_turn (take l.number-index l.fetched) l.fn.self.order))

@@ -3,6 +3,9 @@ use Rattle.std.proofs.Common.{◌∷◌, ◌∙◌}
 use Rattle.object_cache.proofs.Bringing.{use_first, use_recent}
 use Rattle.object_cache.proofs.Leading.{continues_cached}
 use Rattle.object_cache.proofs.Outcomes.{ok_then}
+use Rattle.object_cache.proofs.Names.{arith, take}
+use Rattle.object_cache.proofs.Evicting.{brought_order, used_order}
+use Rattle.object_cache.proofs.Outcomes.{err_then}
 use Rattle.object_cache.proofs.cache.Cache.fetch_one.Goals as goal
 
 pub bring-requires-clause-uncached : goal.bring-requires-clause-uncached
@@ -31,3 +34,25 @@ pub returns-clause-recent : goal.returns-clause-recent
 returns-clause-recent g c =
     ok_then c.bring.result c.bring.ensures.recent (λ brought j k n few below recent.
     brought j k n few below (subst (λ (t : StoreState g.row.D.Denot). IsRecentIn t j n) (sym (c.use_now.ensures.unchanged c.if-use_now.false)) recent))
+
+pub returns-then-use_now-clause-order : goal.returns-then-use_now-clause-order
+returns-then-use_now-clause-order g c =
+    ap (λ (t : StoreState g.row.D.Denot). t.order) (c.use_now.ensures.used c.if-use_now.true)
+    ∙ used_order c.args.self.now c.args.number c.use_now.ensures.bounded (c.use_now.ensures.fetched c.if-use_now.true)
+
+pub returns-clause-order : goal.returns-clause-order
+returns-clause-order g c =
+    let s = c.args.self.now in
+    let same = c.use_now.ensures.unchanged c.if-use_now.false in
+    ok_then c.bring.result c.bring.ensures.order (λ is.
+    brought_order s c.args.number c.bring.new.self.order c.use_now.ensures.bounded (c.use_now.ensures.uncached c.if-use_now.false)
+    (is ∙ ap (λ (t : StoreState g.row.D.Denot). take t.most (c.args.number ∷ t.order)) same))
+
+pub returns-clause-stopped : goal.returns-clause-stopped
+returns-clause-stopped g c =
+    let same = c.use_now.ensures.unchanged c.if-use_now.false in
+    err_then c.bring.result c.bring.ensures.stopped (λ stop. (
+      stop.0,
+      omega (arith, stop.1, ap (λ (t : StoreState g.row.D.Denot). t.most) same),
+      stop.2 ∙ ap (λ (t : StoreState g.row.D.Denot). take stop.0 t.order) same,
+    ))

@@ -1,5 +1,8 @@
 use Rattle.object_cache.proofs.Names.{refl, sym, touching, goes_on_same, goes_on_twice}
 use Rattle.object_cache.proofs.Preparing.{continues_ready, fetched_ready, rest_marked}
+use Rattle.object_cache.proofs.Names.{StoreState, ap}
+use Rattle.object_cache.proofs.Outcomes.{ok_then}
+use Rattle.std.proofs.Common.{◌∙◌}
 use Rattle.object_cache.proofs.cache.Cache.make_writable.Goals as goal
 
 pub returns-then-is_ready-clause-announced : goal.returns-then-is_ready-clause-announced
@@ -42,3 +45,12 @@ returns-clause-continues g c =
     goes_on_twice g.D.Device.disk g.met.D.Device.counts_now c.args.self.now c.keep_all_apart.new.self c.announce.new.self
     (continues_ready g.D.Device.disk g.met.D.Device.only_now c.args.self.now c.keep_all_apart.new.self c.keep_all_apart.ensures.rest)
     c.announce.ensures.continues
+
+pub returns-then-is_ready-clause-dirty : goal.returns-then-is_ready-clause-dirty
+returns-then-is_ready-clause-dirty g c = sym (c.is_ready.ensures.dirty c.if-is_ready.true)
+
+pub returns-clause-dirty : goal.returns-clause-dirty
+returns-clause-dirty g c =
+    ok_then c.announce.result c.announce.ensures.marked (λ is.
+    ap (λ (t : StoreState g.row.D.Denot). t.dirty) is
+    ∙ ap (λ (t : StoreState g.row.D.Denot). touching t.dirty c.args.written.now) c.keep_all_apart.ensures.rest)

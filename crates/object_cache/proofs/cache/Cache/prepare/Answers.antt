@@ -2,6 +2,10 @@ use Rattle.object_cache.proofs.Names.{sym, subst, length, All, StoreState, goes_
 use Rattle.std.proofs.Common.{◌<◌}
 use Rattle.object_cache.proofs.Preparing.{rest_alone, rest_on_ready, within_on}
 use Rattle.object_cache.proofs.Outcomes.{on_ok}
+use Rattle.object_cache.proofs.Names.{ap}
+use Rattle.object_cache.proofs.Evicting.{uses_all}
+use Rattle.object_cache.proofs.Outcomes.{on_err}
+use Rattle.std.proofs.Common.{◌∙◌}
 use Rattle.object_cache.proofs.cache.Cache.prepare.Goals as goal
 
 pub returns-in_err-fetch-clause-within : goal.returns-in_err-fetch-clause-within
@@ -40,3 +44,16 @@ pub returns-clause-continues : goal.returns-clause-continues
 returns-clause-continues g c =
     goes_on_twice g.D.Device.disk g.met.D.Device.counts_now c.args.self.now c.fetch.new.self c.make_writable.new.self c.fetch.ensures.continues
     c.make_writable.ensures.continues
+
+pub returns-in_err-fetch-clause-stopped : goal.returns-in_err-fetch-clause-stopped
+returns-in_err-fetch-clause-stopped g c = on_err c.from_residual.result c.in_err-fetch.ensures.stopped
+
+pub returns-clause-order : goal.returns-clause-order
+returns-clause-order g c = on_ok c.make_writable.result
+    (ap (λ (t : StoreState g.row.D.Denot). t.order) c.make_writable.ensures.rest ∙ c.in_ok-fetch.ensures.order)
+
+pub returns-clause-stopped : goal.returns-clause-stopped
+returns-clause-stopped g c =
+    let s = c.args.self.now in
+    on_err c.make_writable.result (uses_all s.most c.args.fetched.now s.order c.make_writable.new.self.order
+    (ap (λ (t : StoreState g.row.D.Denot). t.order) c.make_writable.ensures.rest ∙ c.in_ok-fetch.ensures.order))

@@ -3,8 +3,8 @@ use Rattle.object_cache.proofs.Names.{keepable_at, EntriesState, Counts, StoreSt
 use Rattle.object_cache.proofs.Names.{without_cached, memory_of}
 use Rattle.std.proofs.Common.{◌∙◌, ◌<◌, ◌≡◌}
 use Rattle.object_cache.proofs.Paying.{away_rest}
-use Rattle.object_cache.proofs.Outcomes.{ok_then, either_way}
-use Rattle.object_cache.proofs.Owing.{some_least, least_known, least_fetched, least_room, least_order, least_others, still_uncached}
+use Rattle.object_cache.proofs.Outcomes.{either_way, err_then, ok_then}
+use Rattle.object_cache.proofs.Owing.{some_least, least_known, least_fetched, least_room, least_order, least_others, least_rest, still_uncached}
 use Rattle.object_cache.proofs.cache.Cache.put_least.Goals as goal
 
 pub unreachable-requires : goal.unreachable-requires
@@ -121,3 +121,25 @@ returns-clause-cause g c =
     let u = c.put_away.new.self in
     subst (λ (t : StoreState g.row.D.Denot). Counts (g.D.Device.disk t.durable.beneath) (g.D.Device.disk u.durable.beneath) c.put_away.result) seen
     c.put_away.ensures.cause
+
+pub returns-clause-least : goal.returns-clause-least
+returns-clause-least g c =
+    let i = c.self.inside in
+    let seen = ap (λ (e : EntriesState). cache_of g.D.Device.disk i.durable (memory_of i.table i.frozen_headers i.touched i.dirty i.pending e.at i.staging)
+    i.left e.order e.most) c.least.ensures.same ∙ c.self.view_is in
+    let r = c.put_away.result in
+    let u = c.put_away.new.self in
+    let away = subst (λ (t : StoreState g.row.D.Denot). OnOk r (u ≡ without_cached c.in-Some.number (on_device t u))) seen c.put_away.ensures.away in
+    ok_then r away (λ gone. ap (λ (t : StoreState g.row.D.Denot). t.order) gone
+    ∙ least_rest g.D.Device.disk _ _ _ _ _ _ _ c.self.view_is c.self.invariant.0 c.self.invariant.1 c.least.ensures.ordered c.requires.full c.in-Some.number
+    (sym c.in-Some.is ∙ c.least.ensures.least))
+
+pub returns-clause-stays : goal.returns-clause-stays
+returns-clause-stays g c =
+    let i = c.self.inside in
+    let seen = ap (λ (e : EntriesState). cache_of g.D.Device.disk i.durable (memory_of i.table i.frozen_headers i.touched i.dirty i.pending e.at i.staging)
+    i.left e.order e.most) c.least.ensures.same ∙ c.self.view_is in
+    let r = c.put_away.result in
+    let u = c.put_away.new.self in
+    let stays = subst (λ (t : StoreState g.row.D.Denot). OnErr r (u ≡ on_device t u)) seen c.put_away.ensures.stays in
+    err_then r stays (ap (λ (t : StoreState g.row.D.Denot). t.order))

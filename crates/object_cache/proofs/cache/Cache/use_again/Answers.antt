@@ -3,6 +3,7 @@ use Rattle.object_cache.proofs.Names.{GoesOnIn, IsCache, IsFetchedIn, cache_of, 
 use Rattle.std.proofs.Common.{◌≤◌, ◌<◌, ◌∙◌}
 use Rattle.object_cache.proofs.Leading.{continues_cached}
 use Rattle.object_cache.proofs.Owing.{fetched_by}
+use Rattle.object_cache.proofs.Names.{take}
 use Rattle.object_cache.proofs.cache.Cache.use_again.Goals as goal
 
 pub invariant_of-self : goal.invariant_of-self
@@ -57,3 +58,11 @@ returns-clause-within g c =
     let i = c.self.inside in
     subst (λ (t : StoreState g.row.D.Denot). touched_count t.touched ≤ (stored_of g.D.Device.disk t.durable).saved.geometry.log) c.self.view_is
     (omega (arith, c.self.invariant.0.within, c.self.invariant.0.counted))
+
+pub returns-clause-prefix : goal.returns-clause-prefix
+returns-clause-prefix g c =
+    let first = c.use_again.ensures.prefix in
+    (first.0, first.1 ∙ ap (λ (t : StoreState g.row.D.Denot). used_in_turn (take first.0 c.args.numbers.now) t.order) c.self.view_is)
+
+pub returns-clause-few : goal.returns-clause-few
+returns-clause-few g c = c.use_again.ensures.ordered.few

@@ -2,6 +2,7 @@ use Rattle.object_cache.proofs.Names.{sym, ap, stored_of, memory_of, EntriesStat
 use Rattle.std.proofs.Common.{◌∷◌, ◌≤◌, ◌∙◌}
 use Rattle.object_cache.proofs.Outcomes.{whichever}
 use Rattle.object_cache.proofs.Owing.{fetched_by, uncached_by}
+use Rattle.object_cache.proofs.Objects.{bounded_seen}
 use Rattle.object_cache.proofs.cache.Cache.use_now.Goals as goal
 
 pub invariant_of-self : goal.invariant_of-self
@@ -27,3 +28,9 @@ returns-clause-used g c =
 
 pub returns-clause-unchanged : goal.returns-clause-unchanged
 returns-clause-unchanged g c = λ none. rw (c.promote.ensures.unchanged none) c.self.view_is
+
+pub returns-clause-bounded : goal.returns-clause-bounded
+returns-clause-bounded g c =
+    let i = c.self.inside in
+    let m = memory_of i.table i.frozen_headers i.touched i.dirty i.pending i.entries.at i.staging in
+    bounded_seen g.D.Device.disk i.durable m i.left i.entries.order i.entries.most c.args.self.now c.self.view_is c.promote.ensures.ordered

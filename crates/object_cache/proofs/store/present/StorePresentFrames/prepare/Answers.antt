@@ -1,6 +1,8 @@
 use Rattle.object_cache.proofs.Names.{length, sym, subst, All-contains, StoreState}
 use Rattle.std.proofs.Common.{◌∙◌, ◌<◌}
-use Rattle.object_cache.proofs.Outcomes.{on_ok}
+use Rattle.object_cache.proofs.Outcomes.{on_err, on_ok}
+use Rattle.object_cache.proofs.Names.{ap}
+use Rattle.object_cache.proofs.Evicting.{uses_none}
 use Rattle.object_cache.proofs.store.present.StorePresentFrames.prepare.Goals as goal
 
 pub returns-then-KEEPS_ALL-clause-fetched : goal.returns-then-KEEPS_ALL-clause-fetched
@@ -9,3 +11,15 @@ returns-then-KEEPS_ALL-clause-fetched g c =
     (c.self.invariant (sym c.KEEPS_ALL.ensures ∙ c.if-KEEPS_ALL.true) n
     (subst (λ (t : StoreState g.row.D.Denot). n < length t.headers) (sym c.self.view_is)
     (All-contains (λ k. k < length c.args.self.now.headers) c.args.fetched.now n c.requires.known has))))
+
+pub returns-then-KEEPS_ALL-clause-all : goal.returns-then-KEEPS_ALL-clause-all
+returns-then-KEEPS_ALL-clause-all g c =
+    λ is. ap (λ (t : StoreState g.row.D.Denot). t.order) c.make_writable.ensures.rest ∙
+    ap (λ (t : StoreState g.row.D.Denot). t.order) c.self.view_is
+
+pub returns-then-KEEPS_ALL-clause-stopped : goal.returns-then-KEEPS_ALL-clause-stopped
+returns-then-KEEPS_ALL-clause-stopped g c =
+    let s = c.args.self.now in
+    on_err c.make_writable.result (uses_none s.most c.args.fetched.now s.order c.make_writable.new.self.order
+    (ap (λ (t : StoreState g.row.D.Denot). t.order) c.make_writable.ensures.rest ∙
+    ap (λ (t : StoreState g.row.D.Denot). t.order) c.self.view_is))
