@@ -8,7 +8,7 @@ use Rattle.cache_entries.proofs.Names.{take, take_more, length-take-le, with_roo
 use Rattle.std.proofs.Common.{◌≡◌, ◌≢◌, ◌+◌, ◌<◌, ◌≤◌, ◌∷◌, ◌++◌, ◌∙◌}
 use Rattle.model.specs.declared.object.Content.TheVariants as content
 use Rattle.cache_entries.specs.declared.bodies.Kind.TheVariants as kind
-use Rattle.cache_entries.proofs.Lists.{changed_once}
+use Rattle.sparse_vec.proofs.Lists.{changed_once}
 
 length_contents : (ks : List Kind) (ps : List (Option (List ℕ))) (ns : List (Option (List Cap))) → length (contents_in ks ps ns) ≡ length ks
 unfolding contents_in

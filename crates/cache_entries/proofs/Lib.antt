@@ -1,6 +1,5 @@
 mod Names
 pub mod Lists
-pub mod Slabs
 pub mod Contents
 pub mod Orders
 pub mod Recent

@@ -10,6 +10,7 @@ pub use Rattle.model.specs.Revoke.{is_member}
 pub use Rattle.model.specs.declared.capability.Cap.{Cap}
 pub use Rattle.model.specs.declared.object.Content.{Content}
 pub use Rattle.model.specs.declared.object.Root.{Root}
+pub use Rattle.sparse_vec.specs.SparseVec.{item_at}
 pub use Rattle.std.proofs.Common.{Bool, IsSome, List, None, Option, Some, [], ap, arith, cond, drop, false, get_or, inl, inr, is_some, length, length-append}
 pub use Rattle.std.proofs.Common.{length-set, map, nat_eq, option_map, refl, replicate, rules, set, slice_set, subst, suc, sym, take, true, true≢false}
 pub use Rattle.std.proofs.Common.{unwrap_or, vec_capacity, vec_len, zero, ℕ}
@@ -32,6 +33,4 @@ pub use Rattle.cache_entries.specs.Entries.{Entry, changing, entry_at}
 pub use Rattle.cache_entries.specs.Order.{AllDiffer, AreLatest, AreOrdered, ArePlaced, AreSpread, AreStored, EntriesState, OrderState, entries_of, entry_in}
 pub use Rattle.cache_entries.specs.Order.{Uses, order_of, place_at, place_below, used_in_turn, used_last, used_longest_ago, with_entry_of, with_new, without}
 pub use Rattle.cache_entries.specs.Order.{without_entry}
-pub use Rattle.cache_entries.specs.Slab.{IsSlab, item_at, position}
-unfoldable pub use Rattle.cache_entries.specs.Slab.{items_in}
 pub use Rattle.cache_entries.specs.declared.bodies.Kind.{Kind}

@@ -6,7 +6,7 @@ use Rattle.cache_entries.proofs.Names.{AreOrdered, AreSpread, AreStored, Entries
 use Rattle.cache_entries.proofs.Names.{without, without_entry, AllDiffer, is_member}
 use Rattle.std.proofs.Common.{◌≡◌, ◌≢◌, ◌<◌, ◌≤◌, ◌∷◌, ◌∙◌}
 use Rattle.model.specs.declared.object.Content.TheVariants as content
-use Rattle.cache_entries.proofs.Lists.{changed_once, get_map}
+use Rattle.sparse_vec.proofs.Lists.{changed_once, get_map}
 
 some_map : {X Y : Type 0} (f : X → Y) (o : Option X) → is_some (option_map f o) ≡ is_some o
 some_map f None = refl

@@ -2,4 +2,3 @@ pub mod Bodies
 pub mod Entries
 pub mod NumberHasher
 pub mod Order
-pub mod Slab

@@ -8,10 +8,10 @@ ghost use Rattle.model.specs.declared.object.Content.{Content};
 ghost use Rattle.cache_entries.specs.Bodies.{kind_of, slots_are_of, with_slots_of, with_words_of};
 ghost use Rattle.cache_entries.specs.Bodies.{is_root_kind, slots_from, words_are_of};
 
-use crate::slab::Slab;
 use capability::Fresh;
 use contents::{Page, SLOTS};
 use model::{Cap, ContentRef, Root, State};
+use sparse_vec::SparseVec;
 use std::alloc::{AllocError, Global};
 use std::marker::Model;
 
@@ -30,9 +30,9 @@ pub(crate) enum Kind {
 #[derive(Drop)]
 pub(crate) struct Bodies {
     kinds: Vec<Kind>,
-    pages: Slab<Page>,
+    pages: SparseVec<Page>,
     /// The slots of nodes and the registers of annexes.
-    nodes: Slab<[Cap; SLOTS]>,
+    nodes: SparseVec<[Cap; SLOTS]>,
 }
 
 impl Model for Bodies {
@@ -60,7 +60,7 @@ fn free_kinds(alloc: Global, most: usize) -> Result<Vec<Kind>, AllocError>
 }
 
 // Sets the words of the page at a place.
-fn put_page(pages: &mut Slab<Page>, place: usize, words: &[u64; 512])
+fn put_page(pages: &mut SparseVec<Page>, place: usize, words: &[u64; 512])
     requires { place < length pages.old }
     ensures { pages.new ≡ slice_set pages.old place (Some words.now) }
 {
@@ -72,7 +72,7 @@ fn put_page(pages: &mut Slab<Page>, place: usize, words: &[u64; 512])
 }
 
 // Sets all words of the page at a place to 0.
-fn clear_page(pages: &mut Slab<Page>, place: usize)
+fn clear_page(pages: &mut SparseVec<Page>, place: usize)
     requires { place < length pages.old }
     ensures { pages.new ≡ slice_set pages.old place (Some (replicate 512 0)) }
 {
@@ -84,7 +84,7 @@ fn clear_page(pages: &mut Slab<Page>, place: usize)
 }
 
 // Sets all slots at a place.
-fn put_slots(nodes: &mut Slab<[Cap; SLOTS]>, place: usize, slots: &[Cap; SLOTS])
+fn put_slots(nodes: &mut SparseVec<[Cap; SLOTS]>, place: usize, slots: &[Cap; SLOTS])
     requires { place < length nodes.old }
     ensures { nodes.new ≡ slice_set nodes.old place (Some slots.now) }
 {
@@ -148,8 +148,8 @@ fn has_slots(kind: &Kind) -> bool
 
 // Copies the words or slots of a content to a place.
 fn put_arrays(
-    pages: &mut Slab<Page>,
-    nodes: &mut Slab<[Cap; SLOTS]>,
+    pages: &mut SparseVec<Page>,
+    nodes: &mut SparseVec<[Cap; SLOTS]>,
     place: usize,
     content: ContentRef<'_>,
 )
@@ -196,7 +196,12 @@ fn fresh_kind(fresh: Fresh) -> Kind
 }
 
 // Sets the words or slots at a place to those of a new object.
-fn clear_arrays(pages: &mut Slab<Page>, nodes: &mut Slab<[Cap; SLOTS]>, place: usize, fresh: Fresh)
+fn clear_arrays(
+    pages: &mut SparseVec<Page>,
+    nodes: &mut SparseVec<[Cap; SLOTS]>,
+    place: usize,
+    fresh: Fresh,
+)
     requires pages { place < length pages.old }
     requires nodes { place < length nodes.old }
     ensures pages { pages.new ≡ with_words_of (fresh_content void_held fresh) place pages.old }
@@ -219,8 +224,8 @@ impl Bodies {
     {
         Ok(Bodies {
             kinds: free_kinds(alloc, most)?,
-            pages: Slab::new(alloc, most)?,
-            nodes: Slab::new(alloc, most)?,
+            pages: SparseVec::new(alloc, most)?,
+            nodes: SparseVec::new(alloc, most)?,
         })
     }
 

@@ -6,7 +6,6 @@ mod capacity;
 mod entries;
 mod number_hasher;
 mod places;
-mod slab;
 mod use_order;
 
 pub use capacity::Capacity;

@@ -4,3 +4,6 @@ mod Deeds
 mod Mirrored
 mod Openings
 mod Walks
+mod Stored
+mod Zeros
+mod Histories

@@ -9,18 +9,25 @@ pub use Rattle.memory_device.specs.PastLaws.{image_whole}
 pub use Rattle.memory_device.specs.declared.record.Outcome.TheVariants.{Keep}
 pub use Rattle.std.proofs.Common.{All, Err, IfSome, List, None, Ok, OnErr, OnOk, Option, Result, Some, [], ap, append-nil, append_assoc, arith, drop, inl}
 pub use Rattle.std.proofs.Common.{is_ok, length, length-append, length-take, length-take-le, option_map, refl, replicate, rules, subst, sym, take, true, ℕ}
-pub use Rattle.std.proofs.Common.{⊎_elim}
+pub use Rattle.std.proofs.Common.{⊎_elim, inr, map, suc, zero, length-drop}
+pub use Rattle.sparse_vec.specs.SparseVec.{item_at}
 pub use Rattle.std.proofs.Math.Logic.{∥∥₁_map}
 pub use Rattle.std.proofs.Math.Seq.{take-add}
-pub use Rattle.std.proofs.lemmas.Bool.{cases_lt}
+pub use Rattle.std.proofs.lemmas.Bool.{cases_eq, cases_lt}
 pub use Rattle.std.proofs.lemmas.List.{drop-drop, length-replicate, take-append-le, take-replicate, take_rest}
 pub use Rattle.std.proofs.lemmas.List.Concat.{flat_map-append}
 pub use Rattle.std.proofs.lemmas.List.Folds.{concat-append}
 pub use Rattle.std.specs.List.{concat}
+pub use Rattle.std.proofs.Common.{below_more, get_or}
+pub use Rattle.std.proofs.lemmas.List.{get_or-replicate, get_or_default, same_lists}
+pub use Rattle.std.proofs.lemmas.Nat.{le_or_l, le_or_r}
+pub use Rattle.std.specs.Prelude.{IsTrue, bit_or, nat_eq}
 pub use Rattle.file_device.specs.FileDevice.{file_disk}
-pub use Rattle.file_device.specs.OpeningCalls.{Answers, Gets, IsMade, IsOpened, KeepsLength, LoadsLocked, MakesZeros, Mirrors, OpeningCall, got, listed, locked}
+pub use Rattle.file_device.specs.OpeningCalls.{Answers, Gets, GetsFrom, IsMade, IsOpened, KeepsLength, LoadsLocked, MakesZeros, Mirrors, OpeningCall, got, listed, locked}
 pub use Rattle.file_device.specs.OpeningCalls.{measured, opened, reads, resized, resizes, synced}
 pub use Rattle.file_device.specs.RawCalls.{Adds, Call, Deed, Takes, Tells, calls_of, events_by, taken, took, writes}
+pub use Rattle.file_device.specs.SectorCopy.{AreWhole, IsSector, bytes_of}
+unfoldable pub use Rattle.file_device.specs.SectorCopy.{bytes_in}
 pub use Rattle.file_device.specs.Sound.{IsCopy, now_of}
 pub use Rattle.file_device.specs.SoundLaws.{present_whole, unwritten_same}
 pub use Rattle.file_device.specs.Steps.{fresh, stepped}

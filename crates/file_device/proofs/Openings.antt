@@ -5,6 +5,13 @@ use Rattle.file_device.proofs.Names.{Access, Create, Lock, Exclusive, OpeningCal
 use Rattle.file_device.proofs.Names.{reads, Gets, LoadsLocked, MakesZeros, IsOpened, IsMade, Adds}
 use Rattle.std.proofs.Common.{◌≡◌, ◌+◌, ◌*◌, ◌≤◌, ◌∷◌, ◌++◌, ◌∙◌}
 use Rattle.file_device.proofs.Deeds.{adds_none, adds_more}
+use Rattle.file_device.proofs.Stored.{front_part}
+use Rattle.file_device.proofs.Names.{GetsFrom, AreSectors, Elsewhere, inl, inr, cases_lt}
+use Rattle.std.proofs.Common.{◌%◌, min}
+use Rattle.std.proofs.Math.Seq.{take-append-add}
+use Rattle.std.proofs.lemmas.List.{take_all}
+use Rattle.std.proofs.lemmas.Slice.{take-put_mid_below}
+use borrow.Rule.Slice.PartMut.{put_mid}
 
 abbrev Calls : Type 0
 Calls = Option (List OpeningCall)
@@ -28,43 +35,68 @@ keeps_length (Some calls) (Some now) more adds none = ap Some (ap resizes adds �
 pub keeps_synced : (a b : Calls) → Adds a b (synced ∷ []) → option_map resizes b ≡ option_map resizes a
 keeps_synced a b adds = keeps_length a b (synced ∷ []) adds refl
 
--- one more piece
-reads_more : (byte : ℕ) (ps : List (List ℕ)) (y : List ℕ) → reads byte (ps ++ y ∷ []) ≡ reads byte ps ++ got (byte + length (concat ps)) y ∷ []
-reads_more byte [] y = ap (λ (n : ℕ). got n y ∷ []) (omega arith)
-reads_more byte (p ∷ ps) y =
-    ap (λ (l : List OpeningCall). got byte p ∷ l) (reads_more (byte + length p) ps y
-    ∙ ap (λ (n : ℕ). reads (byte + length p) ps ++ got n y ∷ []) (omega (arith, length-append p (concat ps))))
+-- pieces, and then more
+reads_append : (byte : ℕ) (ps qs : List (List ℕ)) → reads byte (ps ++ qs) ≡ reads byte ps ++ reads (byte + length (concat ps)) qs
+reads_append byte [] qs = ap (λ (n : ℕ). reads n qs) (omega arith)
+reads_append byte (p ∷ ps) qs =
+    ap (λ (l : List OpeningCall). got byte p ∷ l) (reads_append (byte + length p) ps qs
+    ∙ ap (λ (n : ℕ). reads (byte + length p) ps ++ reads n qs) (omega (arith, length-append p (concat ps))))
 
-reads_one : (ps : List (List ℕ)) (y : List ℕ) → reads 0 (ps ++ y ∷ []) ≡ reads 0 ps ++ got (length (concat ps)) y ∷ []
-reads_one ps y = reads_more 0 ps y ∙ ap (λ (n : ℕ). reads 0 ps ++ got n y ∷ []) (omega arith)
-
-gets_more : (a b c : Calls) (xs ys : List ℕ) → Gets a b xs → Adds b c (got (length xs) ys ∷ []) → Gets a c (xs ++ ys)
-gets_more a b c xs ys gets adds =
-    let behind : Adds b c (got (length (concat gets.0)) ys ∷ []) = subst (λ (l : List ℕ). Adds b c (got (length l) ys ∷ [])) (sym gets.1) adds in (
-      gets.0 ++ ys ∷ [],
-      concat-append gets.0 (ys ∷ []) ∙ ap (λ (l : List ℕ). concat gets.0 ++ l) (append-nil ys) ∙ ap (λ (l : List ℕ). l ++ ys) gets.1,
-      subst (Adds a c) (sym (reads_one gets.0 ys)) (adds_more a b c (reads 0 gets.0) (got (length (concat gets.0)) ys ∷ []) gets.2 behind),
+gets_join : (byte next : ℕ) (a b c : Calls) (xs ys : List ℕ) → next ≡ byte + length xs → GetsFrom byte a b xs → GetsFrom next b c ys → GetsFrom byte a c (xs ++ ys)
+gets_join byte next a b c xs ys next_is first second =
+    let place : next ≡ byte + length (concat first.0) = next_is ∙ ap (λ (l : List ℕ). byte + length l) (sym first.1) in (
+      first.0 ++ second.0,
+      concat-append first.0 second.0 ∙ ap (λ (l : List ℕ). concat first.0 ++ l) second.1 ∙ ap (λ (l : List ℕ). l ++ ys) first.1,
+      subst (Adds a c) (ap (λ (n : ℕ). reads byte first.0 ++ reads n second.0) place ∙ sym (reads_append byte first.0 second.0))
+          (adds_more a b c (reads byte first.0) (reads next second.0) first.2 second.2),
     )
 
--- one more part is appended
-pub part_more : (old before after bytes : List ℕ) (at size : ℕ) → before ≡ old ++ take at bytes → after ≡ before ++ take size (drop at bytes)
-    → after ≡ old ++ take (at + size) bytes
-part_more old before after bytes at size was is =
-    is ∙ ap (λ (l : List ℕ). l ++ take size (drop at bytes)) was ∙ append_assoc old (take at bytes) (take size (drop at bytes))
-    ∙ ap (λ (l : List ℕ). old ++ l) (sym (take-add at size bytes))
+-- no bytes
+pub gets_none : (byte : ℕ) (a : Calls) → GetsFrom byte a a []
+gets_none byte a = ([], refl, adds_none a)
 
--- a call got n bytes into the front of a buffer, which were appended
-pub gets_on : (a b c : Calls) (copy after part rest : List ℕ) (done n : ℕ) → done ≡ length copy → n ≤ length part → after ≡ copy ++ take n (part ++ rest)
-    → Gets a b copy → Adds b c (got done (take n part) ∷ []) → Gets a c after
-gets_on a b c copy after part rest done n is fits appended gets adds =
-    let whole : after ≡ copy ++ take n part = appended ∙ ap (λ (l : List ℕ). copy ++ l) (take-append-le n part rest fits) in
-    subst (Gets a c) (sym whole) (gets_more a b c copy (take n part) gets (subst (λ (m : ℕ). Adds b c (got m (take n part) ∷ [])) is adds))
+module _ (byte : ℕ) (a b : Calls) (old part : List ℕ) (done k : ℕ) (within : done ≤ length old) (gets : GetsFrom byte a b (take done old)) where
+  size : length (take done old) ≡ done
+  size = length-take-le done old within
 
--- and they are no more than were asked for
-pub stays_within : (copy after part rest : List ℕ) (n bytes : ℕ) → n ≤ length part → after ≡ copy ++ take n (part ++ rest)
-    → length copy + length part ≤ bytes → length after ≤ bytes
-stays_within copy after part rest n bytes fits appended room =
-    omega (arith, ap length appended, length-append copy (take n (part ++ rest)), length-take-le n (part ++ rest) (omega (arith, length-append part rest)))
+  pub fits_within : (n : ℕ) → n ≤ length part → done + n ≤ length (put_mid done k old part)
+  fits_within n fits =
+      let tail : List ℕ = drop k (drop done old) in
+      omega (arith, size, fits, length-append (take done old) (part ++ tail), length-append part tail)
+
+  -- a call got n bytes behind the first ones of a buffer
+  pub gets_on : (c : Calls) (n : ℕ) → n ≤ length part → Adds b c (got (byte + done) (take n part) ∷ []) → GetsFrom byte a c (take (done + n) (put_mid done k old part))
+  gets_on c n fits adds =
+      let tail : List ℕ = drop k (drop done old) in
+      let more : take (done + n) (put_mid done k old part) ≡ take done old ++ take n part =
+      ap (λ (m : ℕ). take (m + n) (take done old ++ (part ++ tail))) (sym size) ∙ take-append-add (take done old) (part ++ tail) n
+      ∙ ap (λ (l : List ℕ). take done old ++ l) (take-append-le n part tail fits) in
+      subst (GetsFrom byte a c) (sym more)
+      (gets_join byte (byte + done) a b c (take done old) (take n part) (ap (λ (m : ℕ). byte + m) (sym size)) gets
+      (take n part ∷ [], append-nil (take n part), adds))
+
+  -- an interrupted call leaves them
+  pub still_within : done ≤ length (put_mid done k old part)
+  still_within = omega (arith, fits_within 0 (omega arith))
+
+  pub gets_still : GetsFrom byte a b (take done (put_mid done k old part))
+  gets_still = subst (GetsFrom byte a b) (sym (take-put_mid_below done k old part done (omega arith) within)) gets
+
+-- sectors were got behind the first ones of a copy, up to a byte or all that it has
+pub sectors_on : (a b c : Calls) (old new part : List ℕ) (at byte next : ℕ) → byte ≡ 512 * at → length new ≡ length old → length part % 512 ≡ 0
+    → 512 * at ≤ length old → byte + length part ≡ min next (length old)
+    → AreSectors (image_of new) at part → Elsewhere at (sectors_of part) (image_of old) (image_of new)
+    → Gets a b (take byte old) → GetsFrom byte b c part → Gets a c (take next new)
+sectors_on a b c old new part at byte next byte_is same whole inside end written others gets more =
+    let size : length (take byte old) ≡ byte = length-take-le byte old (omega (arith, byte_is, inside)) in
+    let all : take byte old ++ part ≡ take (byte + length part) new =
+    ap (λ (n : ℕ). take n old ++ part) byte_is ∙ sym (front_part old new part at whole written others)
+    ∙ ap (λ (n : ℕ). take (n + length part) new) (sym byte_is) in
+    let reaches : take (byte + length part) new ≡ take next new = elim (cases_lt next (length new)) [
+      | inl below ↦ ap (λ (n : ℕ). take n new) (omega (arith, end, same, below))
+      | inr past ↦ take_all (byte + length part) new (omega (arith, end, same, past)) ∙ sym (take_all next new past)
+    ] in
+    subst (Gets a c) (all ∙ reaches) (gets_join 0 byte a b c (take byte old) part (omega (arith, size)) gets more)
 
 -- a file that was just opened, and then loaded
 pub opens : (path : List ℕ) (access : Access) (lock : Lock) (a b : Calls) (copy : List ℕ) (disk : Disk)

@@ -3,6 +3,7 @@ pub mod Codes
 pub mod FileDevice
 pub mod OpeningCalls
 pub mod RawCalls
+pub mod SectorCopy
 pub mod Sound
 pub mod SoundLaws
 pub mod Steps

@@ -9,5 +9,5 @@ pub use Rattle.std.proofs.Common.{ap, refl, subst}
 pub use Rattle.std.proofs.Math.Path.{fun_ext}
 pub use Rattle.std.specs.Coded.{Coded, code_by, coded_list, coded_ℕ, coded×}
 pub use Rattle.std.specs.List.{concat, flat_map}
-pub use Rattle.std.specs.Prelude.{All, Bool, List, None, Option, Some, [], drop, false, length, option_map, replicate}
+pub use Rattle.std.specs.Prelude.{All, Bool, List, None, Option, Some, [], drop, false, length, map, option_map, replicate}
 pub use Rattle.std.specs.Prelude.{suc, take, true, zero, ℕ, ⊤}

@@ -40,9 +40,13 @@ abbrev pub reads : ℕ → List (List ℕ) → List OpeningCall
 reads byte [] = []
 reads byte (piece ∷ pieces) = got byte piece ∷ reads (byte + length piece) pieces
 
+-- reads from a byte on gave these bytes
+abbrev pub GetsFrom : ℕ → Option (List OpeningCall) → Option (List OpeningCall) → List ℕ → Type 0
+GetsFrom byte old new bytes = (pieces : List (List ℕ)) × (concat pieces ≡ bytes) × Adds old new (reads byte pieces)
+
 -- reads from byte 0 on gave these bytes
 abbrev pub Gets : Option (List OpeningCall) → Option (List OpeningCall) → List ℕ → Type 0
-Gets old new bytes = (pieces : List (List ℕ)) × (concat pieces ≡ bytes) × Adds old new (reads 0 pieces)
+Gets old new bytes = GetsFrom 0 old new bytes
 
 -- the file was measured, and reads gave all of its whole sectors
 abbrev pub Loads : Option (List OpeningCall) → Option (List OpeningCall) → List ℕ → Type 0

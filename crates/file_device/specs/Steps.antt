@@ -3,17 +3,27 @@ use Rattle.file_device.specs.Names.{ℕ, List, [], Keep, sectors_of, Event, sync
 use Rattle.std.specs.Prelude.{◌+◌, ◌∷◌, ◌++◌}
 use Rattle.file_device.specs.declared.history.History.{History}
 use Rattle.file_device.specs.declared.history.Step.{Step}
-use Rattle.file_device.specs.declared.history.Step.TheVariants.{Wrote, Synced, Cut, Failed}
+use Rattle.file_device.specs.declared.history.Step.TheVariants.{Held, Wrote, Synced, Cut, Failed}
 
 -- the events of a step
 abbrev pub events_of : Step → List Event
+events_of (Held bytes) = []
 events_of (Wrote at bytes) = writes_of at (sectors_of bytes.now) bytes.now
 events_of Synced = synced ∷ []
 events_of Cut = cut Keep ∷ []
 events_of Failed = []
 
+-- what the file held at first, of which a step may find more
+abbrev pub first_after : List ℕ → Step → List ℕ
+first_after first (Held bytes) = first ++ bytes.now
+first_after first (Wrote at bytes) = first
+first_after first Synced = first
+first_after first Cut = first
+first_after first Failed = first
+
 -- how many calls fail in it
 abbrev pub failures_of : Step → ℕ
+failures_of (Held bytes) = 0
 failures_of (Wrote at bytes) = 0
 failures_of Synced = 0
 failures_of Cut = 0
@@ -26,7 +36,7 @@ fresh bytes = record { first = bytes; events = []; failures = 0 }
 -- the history after one more step
 abbrev pub stepped : History → Step → History
 stepped h step = record {
-  first = h.first;
+  first = first_after h.first step;
   events = h.events ++ events_of step;
   failures = h.failures + failures_of step;
 }

@@ -6,9 +6,9 @@ ghost use Rattle.file_device.specs.Sound.{IsCopy};
 
 use crate::host_file::HostFile;
 use crate::raw_file::RawFile;
+use crate::sector_copy::SectorCopy;
 use crate::sector_file::SectorFile;
-use device::{Device, Failed, SECTOR_SIZE};
-use memory_device::sectors::put;
+use device::{Device, Failed};
 use std::fs::File;
 
 /// A device in a file, and a copy of its sectors.
@@ -20,9 +20,9 @@ use std::fs::File;
 pub struct CopiedFile<F: SectorFile> {
     sectors: u64,
     // What a read gives.
-    copy: Vec<u8>,
+    copy: SectorCopy,
     file: F,
-    ghost sound: { IsCopy sectors copy.items (F.first file) (F.events file) },
+    ghost sound: { IsCopy sectors copy (F.first file) (F.events file) },
 }
 
 /// A device in a file of the operating system.
@@ -32,19 +32,18 @@ impl<F: SectorFile> CopiedFile<F> {
     ghost use Rattle.file_device.specs.FileDevice.{file_disk};
 
     /// A device in this file, which holds the bytes of `copy`. Nothing has been done to the file.
-    pub fn new(copy: Vec<u8>, file: F) -> CopiedFile<F>
-        requires whole { length copy.items % 512 ≡ 0 }
-        requires few { sectors_of copy.items ≤ 131072 }
-        requires first { F.first file ≡ copy.items }
+    pub fn new(copy: SectorCopy, file: F) -> CopiedFile<F>
+        requires few { sectors_of copy ≤ 131072 }
+        requires first { F.first file ≡ copy }
         requires fresh { F.events file ≡ [] }
-        ensures size { (file_disk result).sectors ≡ sectors_of copy.items }
-        ensures seen { Agrees (file_disk result).seen (image_of copy.items) }
+        ensures size { (file_disk result).sectors ≡ sectors_of copy }
+        ensures seen { Agrees (file_disk result).seen (image_of copy) }
         ensures durable { Only (file_disk result).seen (file_disk result) }
         ensures failures { (file_disk result).failures ≡ F.failures file }
         ensures file { result.file ≡ file }
     {
         CopiedFile {
-            sectors: (copy.len() / SECTOR_SIZE) as u64,
+            sectors: copy.sectors() as u64,
             copy,
             file,
         }
@@ -63,13 +62,12 @@ impl<F: RawFile> CopiedFile<HostFile<F>> {
 
     /// A device in this file, whose bytes are `copy` and durable. No device call has been made on
     /// the file.
-    pub fn over(file: F, copy: Vec<u8>) -> CopiedFile<HostFile<F>>
-        requires whole { length copy.items % 512 ≡ 0 }
-        requires few { sectors_of copy.items ≤ 131072 }
+    pub fn over(file: F, copy: SectorCopy) -> CopiedFile<HostFile<F>>
+        requires few { sectors_of copy ≤ 131072 }
         requires fresh { IfSome (F.calls file) (λ calls. calls ≡ []) }
         ensures file { raw_file result ≡ file }
-        ensures size { (file_disk result).sectors ≡ sectors_of copy.items }
-        ensures seen { Agrees (file_disk result).seen (image_of copy.items) }
+        ensures size { (file_disk result).sectors ≡ sectors_of copy }
+        ensures seen { Agrees (file_disk result).seen (image_of copy) }
         ensures durable { Only (file_disk result).seen (file_disk result) }
         ensures failures { (file_disk result).failures ≡ 0 }
     {
@@ -103,14 +101,13 @@ impl<F: SectorFile> Device for CopiedFile<F> {
         ensures time { Elapses (file_disk self.old) (file_disk self.new) }
         ensures cause { Counts (file_disk self.old) (file_disk self.new) result }
     {
-        let start = at as usize * SECTOR_SIZE;
-        into.copy_from_slice(&self.copy[start..start + into.len()]);
+        self.copy.get(at as usize, into);
         Ok(())
     }
 
     fn write(&mut self, at: u64, from: &[u8]) -> Result<(), Failed> {
         let answer = self.file.write(at, from);
-        put(&mut self.copy, at as usize, from);
+        self.copy.put(at as usize, from);
         answer
     }
 

@@ -23,6 +23,8 @@ impl Model for History {
 /// What happens to a file.
 #[derive(Clone, Copy, Drop)]
 pub(crate) enum Step<'a> {
+    /// The file was found to hold these bytes behind those known.
+    Held { bytes: &'a [u8] },
     /// These sectors are written from `at` on.
     Wrote { at: u64, bytes: &'a [u8] },
     /// All of it is made durable.

@@ -1,9 +1,11 @@
 // A file of the operating system, as a file of sectors.
 ghost use Rattle.std.specs.Prelude.{◌≡◌, ◌*◌, ◌≤◌, [], false, nat_lt, IfSome, OnOk};
 ghost use Rattle.file_device.specs.RawCalls.{Adds, Takes, Tells, calls_of, syncs};
+ghost use Rattle.file_device.specs.Steps.{fresh};
 
 use crate::history::{History, Step};
 use crate::raw_file::RawFile;
+use crate::sector_copy::SectorCopy;
 use crate::sector_file::SectorFile;
 use device::{Failed, SECTOR_SIZE};
 use std::io::ErrorKind;
@@ -59,11 +61,23 @@ fn sync_all<F: RawFile>(file: &mut F) -> Result<(), Failed>
     file.keep().map_err(|_| Failed)
 }
 
+// The history of a file that holds these sectors, and to which nothing has been done.
+fn history_of(copy: &SectorCopy) -> History
+    ensures { result ≡ fresh copy.now }
+{
+    let mut history = History::new(&[]);
+    for at in 0..copy.sectors() {
+        let bytes = copy.sector(at);
+        history = history.then(&Step::Held { bytes });
+    }
+    history
+}
+
 impl<F: RawFile> HostFile<F> {
-    /// A file that holds these bytes, on which nothing has been done.
-    pub fn new(file: F, bytes: &[u8]) -> HostFile<F>
+    /// A file that holds these sectors, on which nothing has been done.
+    pub fn new(file: F, copy: &SectorCopy) -> HostFile<F>
         requires { IfSome (F.calls file) (λ calls. calls ≡ []) }
-        ensures first { result.history.first ≡ bytes.now }
+        ensures first { result.history.first ≡ copy.now }
         ensures events { result.history.events ≡ [] }
         ensures failures { result.history.failures ≡ 0 }
         ensures file { result.file ≡ file }
@@ -71,7 +85,7 @@ impl<F: RawFile> HostFile<F> {
         HostFile {
             file,
             is_broken: false,
-            history: History::new(bytes),
+            history: history_of(copy),
         }
     }
 

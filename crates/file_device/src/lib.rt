@@ -10,6 +10,7 @@ mod host_file;
 mod open;
 mod openable;
 mod raw_file;
+mod sector_copy;
 mod sector_file;
 
 pub use fault::FileFault;
@@ -17,4 +18,5 @@ pub use file_device::{CopiedFile, FileDevice};
 pub use host_file::HostFile;
 pub use openable::{Access, Lock, LockAnswer, Openable};
 pub use raw_file::RawFile;
+pub use sector_copy::SectorCopy;
 pub use sector_file::SectorFile;

@@ -1,19 +1,20 @@
 // Opening and making a device in a file.
-ghost use Rattle.std.specs.Prelude.{◌≡◌, ◌≢◌, ◌⊎◌, ◌<◌, ◌≤◌, ◌*◌, ◌/◌, ◌%◌, ℕ, [], ◌∷◌, ◌++◌, length, replicate};
+ghost use Rattle.std.specs.Prelude.{◌≡◌, ◌≢◌, ◌⊎◌, ◌<◌, ◌≤◌, ◌*◌, ◌/◌, ℕ, [], ◌∷◌, length, replicate};
 ghost use Rattle.std.specs.Prelude.{nat_lt};
 ghost use Rattle.std.specs.Prelude.{if◌then◌else◌, IfErr, IfOk, IfSome, IsErrOf, OnOk, OnErr, Ok, Err};
 ghost use Rattle.device.specs.Calls.{Agrees, Only, sectors_of, image_of};
 ghost use Rattle.file_device.specs.FileDevice.{file_disk, raw_file};
-ghost use Rattle.file_device.specs.OpeningCalls.{locked, measured, synced, Gets, Loads, LoadsLocked, TakesLock};
-ghost use Rattle.file_device.specs.OpeningCalls.{MakesZeros, KeepsLength, IsOpened, IsMade, Mirrors};
+ghost use Rattle.file_device.specs.OpeningCalls.{locked, measured, synced, Gets, GetsFrom, Loads, LoadsLocked};
+ghost use Rattle.file_device.specs.OpeningCalls.{TakesLock, MakesZeros, KeepsLength, IsOpened, IsMade, Mirrors};
 ghost use Rattle.file_device.specs.RawCalls.{Adds};
 
 use crate::fault::FileFault;
 use crate::file_device::CopiedFile;
 use crate::host_file::HostFile;
 use crate::openable::{Access, Lock, LockAnswer, Openable};
+use crate::sector_copy::SectorCopy;
 use device::{MAX_SECTORS, SECTOR_SIZE};
-use std::alloc::{AllocError, Global};
+use std::alloc::Global;
 use std::io::ErrorKind;
 
 // The number of whole sectors in this number of bytes, or `Long`.
@@ -26,49 +27,26 @@ fn whole_sectors(bytes: u64) -> Result<u64, FileFault>
     Ok(bytes / SECTOR_SIZE as u64)
 }
 
-// How many bytes a call reads at most.
-const READ_BYTES: usize = 65536;
+// How many sectors are read at once.
+const READ_SECTORS: usize = 128;
 
-// How many bytes are copied at once. Copies of 8192 and more are slower: the C library uses `rep movsb`.
-const COPY_BYTES: usize = 4096;
-
-// Appends bytes. Fails only if memory runs out.
-fn append(copy: &mut Vec<u8>, bytes: &[u8]) -> Result<(), AllocError>
-    ensures { OnOk result (copy.new.items ≡ copy.old.items ++ bytes.now) }
-{
-    let parts = bytes.len() / COPY_BYTES;
-    for i in 0..parts {
-        let at = COPY_BYTES * i;
-        copy.extend_from_slice(&bytes[at..at + COPY_BYTES])?;
-    }
-    copy.extend_from_slice(&bytes[COPY_BYTES * parts..])
-}
-
-// Appends the first bytes of the file to an empty vector. They are read through `buffer`, so that the vector's memory
-// isn't cleared first. An interrupted call is made again.
-fn get_fully<F: Openable>(
-    file: &mut F,
-    bytes: usize,
-    buffer: &mut [u8],
-    copy: &mut Vec<u8>,
-) -> Result<(), FileFault>
-    requires { copy.old.items ≡ [] }
-    ensures bytes { OnOk result (Gets (F.opening file.old) (F.opening file.new) copy.new.items) }
-    ensures size { OnOk result (length copy.new.items ≡ bytes) }
+// Fills `into` with the bytes of the file from `at` on. An interrupted call is made again.
+fn get_fully<F: Openable>(file: &mut F, at: usize, into: &mut [u8]) -> Result<(), FileFault>
+    requires { at ≤ 512 * 131072 }
+    ensures bytes { OnOk result (GetsFrom at (F.opening file.old) (F.opening file.new) into.new) }
     ensures held { IfErr result (λ fault. fault ≢ FileFault.Held) }
     ensures long { IfErr result (λ fault. fault ≢ FileFault.Long) }
     ensures length { KeepsLength (F.opening file.old) (F.opening file.new) }
     ensures calls { F.calls file.new ≡ F.calls file.old }
 {
+    let mut done = 0;
     for _ in 0..u64::MAX {
-        let done = copy.len();
-        if done == bytes {
+        if done == into.len() {
             return Ok(());
         }
-        let most = (bytes - done).min(buffer.len());
-        match file.get(done as u64, &mut buffer[..most]) {
+        match file.get((at + done) as u64, &mut into[done..]) {
             Ok(0) => return Err(FileFault::Io),
-            Ok(count) => append(copy, &buffer[..count])?,
+            Ok(count) => done += count,
             Err(error) => {
                 if error.kind() != ErrorKind::Interrupted {
                     return Err(FileFault::Io);
@@ -79,25 +57,56 @@ fn get_fully<F: Openable>(
     Err(FileFault::Io)
 }
 
-// Returns the first bytes of the file.
-fn get_all<F: Openable>(alloc: Global, file: &mut F, bytes: usize) -> Result<Vec<u8>, FileFault>
-    ensures bytes { IfOk result (λ copy. Gets (F.opening file.old) (F.opening file.new) copy.items) }
-    ensures size { IfOk result (λ copy. length copy.items ≡ bytes) }
+// Reads the first bytes of the file into all sectors of `copy`, through `buffer`.
+fn get_sectors<F: Openable>(
+    file: &mut F,
+    buffer: &mut [u8],
+    copy: &mut SectorCopy,
+) -> Result<(), FileFault>
+    requires buffer { length buffer.old ≡ 65536 }
+    requires few { sectors_of copy.old ≤ 131072 }
+    ensures bytes { OnOk result (Gets (F.opening file.old) (F.opening file.new) copy.new) }
+    ensures size { length copy.new ≡ length copy.old }
     ensures held { IfErr result (λ fault. fault ≢ FileFault.Held) }
     ensures long { IfErr result (λ fault. fault ≢ FileFault.Long) }
     ensures length { KeepsLength (F.opening file.old) (F.opening file.new) }
     ensures calls { F.calls file.new ≡ F.calls file.old }
 {
-    let mut copy = Vec::with_capacity(alloc, bytes)?;
-    let mut buffer = vec![in alloc; 0; READ_BYTES]?;
-    get_fully(file, bytes, &mut buffer, &mut copy)?;
+    let sectors = copy.sectors();
+    for i in 0..sectors.div_ceil(READ_SECTORS) {
+        let at = READ_SECTORS * i;
+        let count = (sectors - at).min(READ_SECTORS);
+        let part = &mut buffer[..count * SECTOR_SIZE];
+        get_fully(file, at * SECTOR_SIZE, part)?;
+        copy.put(at, part);
+    }
+    Ok(())
+}
+
+// Returns the first sectors of the file.
+fn get_all<F: Openable>(
+    alloc: Global,
+    file: &mut F,
+    sectors: usize,
+) -> Result<SectorCopy, FileFault>
+    requires { sectors ≤ 131072 }
+    ensures bytes { IfOk result (λ copy. Gets (F.opening file.old) (F.opening file.new) copy) }
+    ensures size { IfOk result (λ copy. length copy ≡ 512 * sectors) }
+    ensures held { IfErr result (λ fault. fault ≢ FileFault.Held) }
+    ensures long { IfErr result (λ fault. fault ≢ FileFault.Long) }
+    ensures length { KeepsLength (F.opening file.old) (F.opening file.new) }
+    ensures calls { F.calls file.new ≡ F.calls file.old }
+{
+    let mut copy = SectorCopy::zeros(alloc, sectors)?;
+    let mut buffer = vec![in alloc; 0; READ_SECTORS * SECTOR_SIZE]?;
+    get_sectors(file, &mut buffer, &mut copy)?;
     Ok(copy)
 }
 
 // Reads all whole sectors of the file.
-fn load<F: Openable>(alloc: Global, file: &mut F) -> Result<Vec<u8>, FileFault>
-    ensures read { IfOk result (λ copy. Loads (F.opening file.old) (F.opening file.new) copy.items) }
-    ensures few { IfOk result (λ copy. sectors_of copy.items ≤ 131072) }
+fn load<F: Openable>(alloc: Global, file: &mut F) -> Result<SectorCopy, FileFault>
+    ensures read { IfOk result (λ copy. Loads (F.opening file.old) (F.opening file.new) copy) }
+    ensures few { IfOk result (λ copy. sectors_of copy ≤ 131072) }
     ensures long { IsErrOf result FileFault.Long
         → (n : ℕ) × (67108864 < n) × Adds (F.opening file.old) (F.opening file.new) (measured n ∷ []) }
     ensures fault { IfErr result (λ fault. fault ≢ FileFault.Held) }
@@ -105,7 +114,7 @@ fn load<F: Openable>(alloc: Global, file: &mut F) -> Result<Vec<u8>, FileFault>
     ensures calls { F.calls file.new ≡ F.calls file.old }
 {
     let sectors = whole_sectors(file.length()?)?;
-    let copy = get_all(alloc, file, sectors as usize * SECTOR_SIZE)?;
+    let copy = get_all(alloc, file, sectors as usize)?;
     Ok(copy)
 }
 
@@ -125,9 +134,13 @@ fn take_lock<F: Openable>(file: &mut F, lock: Lock) -> Result<(), FileFault>
 }
 
 // Locks the file, makes it durable and reads it. At `Held` the only call was for the lock.
-fn load_locked<F: Openable>(alloc: Global, file: &mut F, lock: Lock) -> Result<Vec<u8>, FileFault>
-    ensures read { IfOk result (λ copy. LoadsLocked lock (F.opening file.old) (F.opening file.new) copy.items) }
-    ensures few { IfOk result (λ copy. sectors_of copy.items ≤ 131072) }
+fn load_locked<F: Openable>(
+    alloc: Global,
+    file: &mut F,
+    lock: Lock,
+) -> Result<SectorCopy, FileFault>
+    ensures read { IfOk result (λ copy. LoadsLocked lock (F.opening file.old) (F.opening file.new) copy) }
+    ensures few { IfOk result (λ copy. sectors_of copy ≤ 131072) }
     ensures held { IsErrOf result FileFault.Held
         → Adds (F.opening file.old) (F.opening file.new) (locked lock LockAnswer.Held ∷ []) }
     ensures long { IsErrOf result FileFault.Long → (answer : LockAnswer) × (n : ℕ) × (67108864 < n)
@@ -233,9 +246,9 @@ impl<F: Openable> CopiedFile<HostFile<F>> {
         ensures durable { IfOk result (λ d. Only (file_disk d).seen (file_disk d)) }
         ensures failures { IfOk result (λ d. (file_disk d).failures ≡ 0) }
     {
-        let zeros = vec![in rt.alloc(); 0; sectors as usize * SECTOR_SIZE]?;
+        let zeros = SectorCopy::zeros(rt.alloc(), sectors as usize)?;
         let mut file = F::at(rt, path, Access::Create)?;
-        make_zeros(rt, &mut file, path, zeros.len() as u64)?;
+        make_zeros(rt, &mut file, path, sectors * SECTOR_SIZE as u64)?;
         Ok(CopiedFile::over(file, zeros))
     }
 }

@@ -40,10 +40,10 @@ module _ (bytes : List ℕ) (cache : ℕ) (d : HostDevice) where
       (d, fresh, opens.0, (subst (λ (n : ℕ). 8 ≤ n) same least, subst (λ (n : ℕ). n ≤ 8192) same most))
   opened_bounded capacity (Err s) same least most fresh opens = refusal_from bytes cache d false s fresh opens
 
-pub fresh_of : (image items : List ℕ) (d : HostDevice) → items ≡ image → length image % 512 ≡ 0 → d.file.history ≡ fresh items
-    → (host_disk d).sectors ≡ sectors_of items → Agrees (host_disk d).seen (image_of items) → IsFresh image d
-fresh_of image items d same whole history size seen = record {
-  history = subst (λ (xs : List ℕ). d.file.history ≡ fresh xs) same history;
+pub fresh_of : (image copy : List ℕ) (d : HostDevice) → copy ≡ image → length image % 512 ≡ 0 → d.file.history ≡ fresh image
+    → (host_disk d).sectors ≡ sectors_of copy → Agrees (host_disk d).seen (image_of copy) → IsFresh image d
+fresh_of image copy d same whole history size seen = record {
+  history = history;
   size =
       let sectors : (host_disk d).sectors ≡ length image / 512 = subst (λ (xs : List ℕ). (host_disk d).sectors ≡ sectors_of xs) same size in
       omega arith;

@@ -11,7 +11,7 @@ use crate::recorder::Recorder;
 use crate::status::Status;
 use checkpoint::OpenFault;
 use device::{MAX_SECTORS, SECTOR_SIZE};
-use file_device::CopiedFile;
+use file_device::{CopiedFile, SectorCopy};
 use kernel::Kernel;
 use object_cache::{BoundedCache, Capacity, PlainStore};
 use object_store::ObjectStore;
@@ -39,8 +39,8 @@ fn device_over(alloc: Global, image: &[u8]) -> Result<HostDevice, AllocError>
     requires few { length image.now ≤ 67108864 }
     ensures { IfOk result (λ device. IsFresh image.now device) }
 {
-    let copy = image.to_vec(alloc)?;
-    let recorder = Recorder::new(alloc, &copy);
+    let copy = SectorCopy::of(alloc, image)?;
+    let recorder = Recorder::new(alloc, image);
     Ok(CopiedFile::new(copy, recorder))
 }
 

@@ -8,7 +8,7 @@ returns-clause-opening g c =
     let before = g.F.Openable.opening c.in_ok-file.file in
     let after = g.F.Openable.opening c.load_locked.new.file in
     rw c.over.ensures.file
-    (opens c.args.path.now c.args.access c.args.lock before after c.in_ok-copy.copy.items (file_disk c.over.result)
+    (opens c.args.path.now c.args.access c.args.lock before after c.in_ok-copy.copy (file_disk c.over.result)
     c.in_ok-file.ensures.opened c.in_ok-copy.ensures.read c.over.ensures.size c.over.ensures.seen)
 
 pub returns-clause-mirror : goal.returns-clause-mirror

@@ -1,25 +1,20 @@
-use Rattle.file_device.proofs.Names.{ap, length, rewritten}
-use Rattle.std.proofs.Common.{◌∙◌}
 use Rattle.file_device.proofs.Copies.{copy_written, copy_tears, write_elapses}
 use Rattle.file_device.proofs.file_device.CopiedFileDevice.write.Goals as goal
 
 pub invariant_of-self : goal.invariant_of-self
 invariant_of-self g c =
     let s = c.args.self.now.sound in
-    let same = c.put.auto.sectors ∙ ap length c.deref_mut.ensures.value in
     record {
-      sound = rw (rewritten c.args.self.now.copy.len c.put.new.sectors c.args.self.now.copy.items c.args.self.now.copy.ok.0 same)
-          (copy_written c.args.self.now.sectors c.args.self.now.copy.items _ _ s _ c.write-answer.ensures.first _ c.put.new.sectors c.args.from.now c.args.at
-          c.write-answer.ensures.events
-          same c.put.ensures.fits c.put.ensures.written (rw c.deref_mut.ensures.value at c.put.ensures.elsewhere));
+      sound = copy_written c.args.self.now.sectors c.args.self.now.copy _ _ s _ c.write-answer.ensures.first _ c.put.new.self c.args.from.now c.args.at
+          c.write-answer.ensures.events c.put.ensures.length c.put.ensures.fits c.put.ensures.written c.put.ensures.elsewhere;
     }
 
 pub returns-clause-crash : goal.returns-clause-crash
 returns-clause-crash g c =
-    copy_tears c.args.self.now.sectors c.args.self.now.copy.items _ _ c.args.self.now.sound _ c.write-answer.ensures.first _ c.put.new.sectors c.args.from.now
+    copy_tears c.args.self.now.sectors c.args.self.now.copy _ _ c.args.self.now.sound _ c.write-answer.ensures.first _ c.put.new.self c.args.from.now
     c.args.at c.write-answer.ensures.events 0 0
 
 pub returns-clause-time : goal.returns-clause-time
 returns-clause-time g c =
-    write_elapses c.args.self.now.sectors c.args.self.now.copy.items _ _ c.args.self.now.sound _ c.write-answer.ensures.first _ c.put.new.sectors
+    write_elapses c.args.self.now.sectors c.args.self.now.copy _ _ c.args.self.now.sound _ c.write-answer.ensures.first _ c.put.new.self
     c.args.from.now c.args.at c.write-answer.ensures.events _ _

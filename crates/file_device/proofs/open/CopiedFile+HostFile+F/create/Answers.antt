@@ -1,4 +1,4 @@
-use Rattle.file_device.proofs.Names.{arith, zeros_are, file_disk}
+use Rattle.file_device.proofs.Names.{ℕ, ap, arith, refl, length, length-replicate, zeros_are, file_disk}
 use Rattle.std.proofs.Common.{◌≡◌, ◌*◌, ◌∙◌}
 use Rattle.file_device.proofs.Mirrored.{made_mirrors}
 use Rattle.file_device.proofs.Openings.{makes}
@@ -9,15 +9,15 @@ returns-clause-opening g c =
     let before = g.F.Openable.opening c.in_ok-file.file in
     let after = g.F.Openable.opening c.make_zeros.new.file in
     rw c.over.ensures.file
-    (makes c.args.path.now c.args.sectors _ before after c.in_ok-file.ensures.opened
-    (omega (arith, c.len.ensures, c.in_ok-zeros.ensures.len)) c.in_ok-make_zeros.ensures.made)
+    (makes c.args.path.now c.args.sectors _ before after c.in_ok-file.ensures.opened (omega arith) c.in_ok-make_zeros.ensures.made)
 
 pub returns-clause-zeros : goal.returns-clause-zeros
 returns-clause-zeros g c i lt =
-    let zeros = c.in_ok-zeros.ensures.items_if_clones_equal (λ y e. e) in
-    c.over.ensures.seen i ∙ zeros_are c.in_ok-zeros.zeros.items (c.args.sectors * 512) c.args.sectors i zeros (omega arith) lt
+    c.over.ensures.seen i ∙ zeros_are c.in_ok-zeros.zeros (512 * c.args.sectors) c.args.sectors i c.in_ok-zeros.ensures refl lt
 
 pub returns-clause-mirror : goal.returns-clause-mirror
 returns-clause-mirror g c =
-    let size : (file_disk c.over.result).sectors ≡ c.args.sectors = omega (arith, c.over.ensures.size, c.in_ok-zeros.ensures.len) in
+    let count : length c.in_ok-zeros.zeros ≡ 512 * c.args.sectors =
+    ap length c.in_ok-zeros.ensures ∙ length-replicate {A = ℕ} (512 * c.args.sectors) 0 in
+    let size : (file_disk c.over.result).sectors ≡ c.args.sectors = omega (arith, c.over.ensures.size, count) in
     made_mirrors (file_disk c.over.result) c.args.path.now c.args.sectors _ size (returns-clause-zeros g c) (returns-clause-opening g c)
