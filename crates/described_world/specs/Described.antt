@@ -2,11 +2,10 @@
 use Rattle.described_world.specs.Names.{ℕ, List, [], map, length, Option, None, Some, slice_get, unwrap_or, All}
 use Rattle.described_world.specs.Names.{Contains, Cap, Capability, Void, Frame, Content, State, IsWellFormed, frame_at}
 use Rattle.described_world.specs.Names.{blank_frame, role_of, IsSpace, object_count, fresh_cap, Description, NodeEntry}
-use Rattle.described_world.specs.Names.{PageEntry, ProcessEntry, SlotEntry, WordEntry, AreNamed}
+use Rattle.described_world.specs.Names.{PageEntry, ProcessEntry, SlotEntry, WordEntry, AreNamed, BuildFault}
 use Rattle.std.specs.Prelude.{◌≡◌, ◌≢◌, ◌^◌, ◌<◌, ◌≤◌, ◌==◌, if◌then◌else◌, ◌∷◌, ◌++◌}
 use Rattle.model.specs.declared.object.Content.TheVariants as content
-use Rattle.described_world.specs.declared.fault.WorldFault.{WorldFault}
-use Rattle.described_world.specs.declared.fault.WorldFault.TheVariants as fault
+use Rattle.image_writer.specs.declared.fault.BuildFault.TheVariants as fault
 
 -- The numbers that are named.
 
@@ -125,9 +124,10 @@ pub record IsDescribed (d : Description) (frames : List Frame) : Type 0 where
 -- The faults.
 
 -- the least fault of a description: of a number, else of a field, else a capability that can't name an object of its
--- kind
-abbrev pub IsWorldFault : Description → WorldFault → Type 0
+-- kind; no other fault comes, but want of memory
+abbrev pub IsWorldFault : Description → BuildFault → Type 0
 IsWorldFault d fault.Number = HasNumbers d → ⊥
 IsWorldFault d fault.Field = HasNumbers d × (HasFields d → ⊥)
 IsWorldFault d fault.Target = HasNumbers d × HasFields d × ((fs : List Frame) → IsDescribed d fs → AreNamed fs → ⊥)
 IsWorldFault d fault.NoMemory = Unit {0}
+IsWorldFault d _ = ⊥

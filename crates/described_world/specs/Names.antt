@@ -8,6 +8,7 @@ pub use Rattle.description.specs.declared.entry.PageEntry.{PageEntry}
 pub use Rattle.description.specs.declared.entry.ProcessEntry.{ProcessEntry}
 pub use Rattle.description.specs.declared.entry.SlotEntry.{SlotEntry}
 pub use Rattle.description.specs.declared.entry.WordEntry.{WordEntry}
+pub use Rattle.image_writer.specs.declared.fault.BuildFault.{BuildFault}
 pub use Rattle.model.specs.Capability.{IsWellFormed}
 pub use Rattle.model.specs.Frame.{blank_frame, frame_at, void_held}
 unfoldable pub use Rattle.model.specs.Frame.{frames_in}

@@ -8,33 +8,32 @@ ghost use Rattle.model.specs.Sound.{object_count};
 ghost use Rattle.described_world.specs.Described.{HasFields, HasNumbers, IsDescribed, IsWorldFault};
 ghost use Rattle.described_world.specs.Laid.{Fits, HasCount, HasTargets, entries, frames_of, laid};
 
-use crate::fault::WorldFault;
 use crate::fields::has_fields;
 use crate::numbers::has_numbers;
 use crate::objects::{lay_annexes, lay_banks, lay_nodes, lay_pages, lay_roots};
 use crate::targets::has_targets;
 use crate::world::World;
 use description::Description;
+use image_writer::BuildFault;
 use std::alloc::{AllocError, Global};
 
 // Why a description names no world, if it names none.
-fn check(alloc: Global, description: &Description) -> Result<(), WorldFault>
+fn check(alloc: Global, description: &Description) -> Result<(), BuildFault>
     requires { IsGeometry description.now.geometry }
     ensures numbers { OnOk result (HasNumbers description.now) }
     ensures fields { OnOk result (HasFields description.now) }
     ensures targets { OnOk result (HasTargets description.now.geometry description.now) }
     ensures fault { IfErr result (IsWorldFault description.now) }
 {
-    match has_numbers(alloc, description) {
-        Err(_) => return Err(WorldFault::NoMemory),
-        Ok(false) => return Err(WorldFault::Number),
-        Ok(true) => {}
+    let numbered = has_numbers(alloc, description)?;
+    if !numbered {
+        return Err(BuildFault::Number);
     }
     if !has_fields(description) {
-        return Err(WorldFault::Field);
+        return Err(BuildFault::Field);
     }
     if !has_targets(description.geometry, description) {
-        return Err(WorldFault::Target);
+        return Err(BuildFault::Target);
     }
     Ok(())
 }
@@ -74,10 +73,8 @@ pub fn lay_described(alloc: Global, description: &Description) -> Result<World, 
     ensures contents { IfOk result (λ w.
         vec_len w.contents ≡ object_count description.now.geometry) }
 {
-    match lay(alloc, description) {
-        Ok(world) => Ok(world),
-        Err(_) => Err(AllocError),
-    }
+    let world = lay(alloc, description)?;
+    Ok(world)
 }
 
 /// Lays out the world of a description: the objects that it names, at their numbers, and all
@@ -87,7 +84,7 @@ pub fn lay_described(alloc: Global, description: &Description) -> Result<World, 
 /// where an object has a field that isn't of its form, or a slot, register or word is named twice;
 /// else with `Target` where a capability names a number that no object of its kind can have. Fails
 /// with `NoMemory` where memory runs out, whatever else applies.
-pub fn lay_world(alloc: Global, description: &Description) -> Result<World, WorldFault>
+pub fn lay_world(alloc: Global, description: &Description) -> Result<World, BuildFault>
     requires { IsGeometry description.now.geometry }
     ensures described { IfOk result (λ w.
         IsDescribed description.now (frames_in w.headers.items w.contents.items)) }
@@ -101,8 +98,6 @@ pub fn lay_world(alloc: Global, description: &Description) -> Result<World, Worl
     ensures fault { IfErr result (IsWorldFault description.now) }
 {
     check(alloc, description)?;
-    match lay_described(alloc, description) {
-        Ok(world) => Ok(world),
-        Err(_) => Err(WorldFault::NoMemory),
-    }
+    let world = lay_described(alloc, description)?;
+    Ok(world)
 }

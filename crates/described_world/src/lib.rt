@@ -1,7 +1,6 @@
 //! The world that a description of an image names: the frame of each number.
 #![tactic(auto)]
 
-mod fault;
 mod fields;
 mod laws;
 mod laying;
@@ -10,7 +9,6 @@ mod objects;
 mod targets;
 mod world;
 
-pub use fault::WorldFault;
 pub use fields::{KEYS, is_capability, is_space};
 pub use laws::described_is_whole;
 pub use laying::{lay_described, lay_world};

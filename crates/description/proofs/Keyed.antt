@@ -1,6 +1,6 @@
 -- What is at a key, and what isn't.
 use Rattle.description.proofs.Names.{ℕ, List, Option, Some, None, IsSomeAnd, MatchOption, Result, Vec, Global, refl, sym, none-some, same_Some, Data, Members}
-use Rattle.description.proofs.Names.{get_member, AtOr, ReadsList, DescriptionFault}
+use Rattle.description.proofs.Names.{get_member, AtOr, ReadsList, BuildFault}
 use Rattle.std.proofs.Common.{◌≡◌}
 
 pub missing : {A : Type 0} (P : Data → A → Type 0) (o : Option Data) → None ≡ o → (x : A) → IsSomeAnd o (λ d. P d x) → ⊥
@@ -12,7 +12,7 @@ defaulted P None is x = refl
 defaulted P (Some d) is x = absurd (none-some d is)
 
 -- a list at a key
-pub list_held : {A : Type 0} (P : Data → List A → Type 0) (default : List A) (o : Option Data) (d : Data) (r : Result (Vec A Global) DescriptionFault) →
+pub list_held : {A : Type 0} (P : Data → List A → Type 0) (default : List A) (o : Option Data) (d : Data) (r : Result (Vec A Global) BuildFault) →
     Some d ≡ o → ReadsList (P d) r → ReadsList (λ xs. MatchOption o (xs ≡ default) (λ d. P d xs)) r
 list_held P default None d r is reads = absurd (none-some d (sym is))
 list_held P default (Some e) d r is reads = rw (same_Some d e is) at reads

@@ -1,4 +1,5 @@
 -- The names that the proofs here cite: of other crates, and of the definitions of this one.
+pub use Rattle.image_writer.specs.declared.fault.BuildFault.{BuildFault}
 pub use Rattle.image_writer.specs.declared.number_range.NumberRange.{NumberRange}
 pub use Rattle.model.specs.Capability.{IsWellFormed, named}
 pub use Rattle.model.specs.Text.{state_text}
@@ -35,5 +36,3 @@ pub use Rattle.description.specs.Reading.{AreFour, AreItems, At, AtOr, IsBank, I
 pub use Rattle.description.specs.Reading.{IsPair, IsProcess, IsRange, IsSlot, IsState, IsTable, IsWord, has_key, has_only, whole_ranges}
 unfoldable pub use Rattle.description.specs.Reading.{IsWideNumber}
 pub use Rattle.description.specs.declared.entry.Description.{Description}
-pub use Rattle.description.specs.declared.fault.DescriptionFault.{DescriptionFault}
-pub use Rattle.description.specs.declared.fault.DescriptionFault.TheVariants.{NoMemory, Shape}

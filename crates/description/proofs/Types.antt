@@ -2,9 +2,10 @@
 use Rattle.description.proofs.Names.{inl, inr, ℕ, ℤ, pos, negsuc, true, false, Option, Some, None, is_some, List, Result, Ok, Err, IfSome, IfNone, sym, ap}
 use Rattle.description.proofs.Names.{arith, none-some, same_Some, unsigned_abs, is_negative, false≢true, IsWellFormed, named, capability_text, state_text}
 use Rattle.description.proofs.Names.{Capability, Number, State, Data, string, integer, float, boolean, datetime, array, table, as_integer, as_str, IsCapability}
-use Rattle.description.proofs.Names.{IsNumber, IsState, IsWideNumber, Fails, Reads, DescriptionFault, NoMemory, Shape}
+use Rattle.description.proofs.Names.{IsNumber, IsState, IsWideNumber, Fails, Reads, BuildFault}
 use Rattle.std.proofs.Common.{◌≡◌, ◌≢◌, ◌^◌, ◌<◌, ◌≤◌, ◌∙◌}
 use Rattle.description.proofs.Once.{capability_once}
+use Rattle.description.proofs.Parts.{passed_on}
 
 pub integer_is : (d : Data) (z : ℤ) → Some z ≡ as_integer d → d ≡ integer z
 integer_is (string s) z e = absurd (none-some z (sym e))
@@ -70,11 +71,10 @@ unfolding IsWideNumber
 is_text d n some (inl number) = number
 is_text d n some (inr text) = absurd (false≢true (ap (λ (e : Data). is_some (as_integer e)) (sym text.1.2) ∙ some))
 
-fails_wide : (d : Data) (fault : DescriptionFault) → is_some (as_integer d) ≡ true → Fails (IsNumber d) fault → Fails (IsWideNumber d) fault
-fails_wide d Shape some fails = λ n number. fails n (is_text d n some number)
-fails_wide d NoMemory some fails = tt
+fails_wide : (d : Data) (fault : BuildFault) → is_some (as_integer d) ≡ true → Fails (IsNumber d) fault → Fails (IsWideNumber d) fault
+fails_wide d fault some fails = passed_on (IsNumber d) (IsWideNumber d) fault fails (λ n number. (n, is_text d n some number))
 
-pub wide_read : (d : Data) (r : Result ℕ DescriptionFault) → is_some (as_integer d) ≡ true → Reads (IsNumber d) r → Reads (IsWideNumber d) r
+pub wide_read : (d : Data) (r : Result ℕ BuildFault) → is_some (as_integer d) ≡ true → Reads (IsNumber d) r → Reads (IsWideNumber d) r
 unfolding IsWideNumber
 wide_read d (Ok n) some reads = inl reads
 wide_read d (Err fault) some reads = fails_wide d fault some reads
@@ -100,7 +100,6 @@ pub no_state : (d : Data) → None ≡ as_str d → (r : Option State) → IsSta
 no_state d none None reported = none-some reported.0 (none ∙ ap as_str reported.1)
 no_state d none (Some s) reported = none-some (state_text s) (none ∙ ap as_str reported)
 
--- and one that isn't read
-pub no_number : (d : Data) (fault : DescriptionFault) → as_integer d ≡ None → Fails (IsCapability d) fault → Fails (IsWideNumber d) fault
-no_number d Shape none fails = λ n number. fails (Some (Number n)) (no_integer d none n number).1
-no_number d NoMemory none fails = tt
+-- what says a number and is no integer says a capability
+pub text_said : (d : Data) → as_integer d ≡ None → (n : ℕ) → IsWideNumber d n → (r : Option Capability) × IsCapability d r
+text_said d none n number = (Some (Number n), (no_integer d none n number).1)

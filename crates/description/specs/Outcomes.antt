@@ -1,20 +1,21 @@
 -- What a function that reads answers.
 use Rattle.std.specs.Prelude.{Result, Ok, Err, List, Vec}
 use Rattle.std.specs.declared.alloc.Global.{Global}
-use Rattle.description.specs.declared.fault.DescriptionFault.{DescriptionFault}
-use Rattle.description.specs.declared.fault.DescriptionFault.TheVariants.{Shape, NoMemory}
+use Rattle.image_writer.specs.declared.fault.BuildFault.{BuildFault}
+use Rattle.image_writer.specs.declared.fault.BuildFault.TheVariants.{Shape, NoMemory}
 
--- nothing is said, or memory ran out
-abbrev pub Fails : {A : Type 0} → (A → Type 0) → DescriptionFault → Type 0
+-- nothing is said, or memory ran out; no other fault comes
+abbrev pub Fails : {A : Type 0} → (A → Type 0) → BuildFault → Type 0
 Fails {A = A} P Shape = (x : A) → P x → ⊥
 Fails P NoMemory = Unit {0}
+Fails P _ = ⊥
 
 -- it answers what is said, or fails
-abbrev pub Reads : {A : Type 0} → (A → Type 0) → Result A DescriptionFault → Type 0
+abbrev pub Reads : {A : Type 0} → (A → Type 0) → Result A BuildFault → Type 0
 Reads P (Ok x) = P x
 Reads P (Err e) = Fails P e
 
 -- the same of a list
-abbrev pub ReadsList : {A : Type 0} → (List A → Type 0) → Result (Vec A Global) DescriptionFault → Type 0
+abbrev pub ReadsList : {A : Type 0} → (List A → Type 0) → Result (Vec A Global) BuildFault → Type 0
 ReadsList P (Ok v) = P v.items
 ReadsList P (Err e) = Fails P e

@@ -2,7 +2,6 @@
 #![tactic(auto)]
 
 mod entry;
-mod fault;
 pub mod laws;
 mod list;
 pub mod member;
@@ -11,6 +10,5 @@ mod read;
 mod value;
 
 pub use entry::{BankEntry, Description, NodeEntry, PageEntry, ProcessEntry, SlotEntry, WordEntry};
-pub use fault::DescriptionFault;
 pub use list::{FromValue, four_or_zeros, list_or_empty};
 pub use value::{array_of, table_of};

@@ -7,8 +7,8 @@ ghost use Rattle.toml.specs.View.{table_view, view};
 ghost use Rattle.description.specs.Outcomes.{Reads};
 ghost use Rattle.description.specs.Reading.{At, AtOr, IsCapability, IsNumber, IsState, IsWideNumber, has_key, has_only};
 
-use crate::fault::DescriptionFault;
 use crate::value::{capability_at, number_of, state_at, wide_number_of};
+use image_writer::BuildFault;
 use model::{Capability, State};
 use toml::{Table, Value};
 
@@ -36,13 +36,13 @@ pub fn unknown_key<'a>(table: &'a Table, known: &[&str]) -> Option<&'a str>
 }
 
 // A table has no other keys than these.
-pub(crate) fn check_keys(table: &Table, known: &[&str]) -> Result<(), DescriptionFault>
+pub(crate) fn check_keys(table: &Table, known: &[&str]) -> Result<(), BuildFault>
     ensures { Reads (λ _. IsTrue (has_only (map (λ k. k.now) known.now) (table_view table.now)))
         result }
 {
     match unknown_key(table, known) {
         None => Ok(()),
-        Some(_) => Err(DescriptionFault::Shape),
+        Some(_) => Err(BuildFault::Shape),
     }
 }
 
@@ -54,27 +54,27 @@ pub fn member<'a>(table: &'a Table, key: &str) -> Option<&'a Value>
 }
 
 /// The number at a key. `Shape` if there is none.
-pub fn number(table: &Table, key: &str) -> Result<u64, DescriptionFault>
+pub fn number(table: &Table, key: &str) -> Result<u64, BuildFault>
     ensures { Reads (At key.now IsNumber (table_view table.now)) result }
 {
     match member(table, key) {
         Some(value) => number_of(value),
-        None => Err(DescriptionFault::Shape),
+        None => Err(BuildFault::Shape),
     }
 }
 
 /// The number of 64 bits at a key. `Shape` if there is none.
-pub fn wide_number(table: &Table, key: &str) -> Result<u64, DescriptionFault>
+pub fn wide_number(table: &Table, key: &str) -> Result<u64, BuildFault>
     ensures { Reads (At key.now IsWideNumber (table_view table.now)) result }
 {
     match member(table, key) {
         Some(value) => wide_number_of(value),
-        None => Err(DescriptionFault::Shape),
+        None => Err(BuildFault::Shape),
     }
 }
 
 /// The number at a key, or the default if the key is missing. `Shape` if another value is there.
-pub fn number_or(table: &Table, key: &str, default: u64) -> Result<u64, DescriptionFault>
+pub fn number_or(table: &Table, key: &str, default: u64) -> Result<u64, BuildFault>
     ensures { Reads (AtOr default key.now IsNumber (table_view table.now)) result }
 {
     match member(table, key) {
@@ -84,18 +84,18 @@ pub fn number_or(table: &Table, key: &str, default: u64) -> Result<u64, Descript
 }
 
 /// The state at a key, or nothing for a text that is that of no state. `Shape` if there is no text.
-pub fn state(table: &Table, key: &str) -> Result<Option<State>, DescriptionFault>
+pub fn state(table: &Table, key: &str) -> Result<Option<State>, BuildFault>
     ensures { Reads (At key.now IsState (table_view table.now)) result }
 {
     match member(table, key) {
         Some(value) => state_at(value),
-        None => Err(DescriptionFault::Shape),
+        None => Err(BuildFault::Shape),
     }
 }
 
 /// The capability at a key, void if the key is missing, or nothing for a text that is that of no capability. `Shape` if
 /// another value is there.
-pub fn capability_or_void(table: &Table, key: &str) -> Result<Option<Capability>, DescriptionFault>
+pub fn capability_or_void(table: &Table, key: &str) -> Result<Option<Capability>, BuildFault>
     ensures { Reads (AtOr (Some Void) key.now IsCapability (table_view table.now)) result }
 {
     match member(table, key) {

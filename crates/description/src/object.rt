@@ -4,14 +4,14 @@ ghost use Rattle.description.specs.Outcomes.{Reads};
 ghost use Rattle.description.specs.Reading.{IsBank, IsNode, IsPage, IsProcess, IsTable};
 
 use crate::entry::{BankEntry, NodeEntry, PageEntry, ProcessEntry};
-use crate::fault::DescriptionFault;
 use crate::list::{FromValue, four_or_zeros, list_or_empty};
 use crate::member::{capability_or_void, check_keys, number, number_or, state, wide_number};
 use crate::value::table_of;
+use image_writer::BuildFault;
 use std::alloc::Global;
 use toml::{Table, Value};
 
-fn read_bank(table: &Table) -> Result<BankEntry, DescriptionFault>
+fn read_bank(table: &Table) -> Result<BankEntry, BuildFault>
     ensures { Reads (IsBank (table_view table.now)) result }
 {
     check_keys(table, &["number", "owner", "limit"])?;
@@ -22,7 +22,7 @@ fn read_bank(table: &Table) -> Result<BankEntry, DescriptionFault>
     })
 }
 
-fn read_process(alloc: Global, table: &Table) -> Result<ProcessEntry, DescriptionFault>
+fn read_process(alloc: Global, table: &Table) -> Result<ProcessEntry, BuildFault>
     ensures { Reads (IsProcess (table_view table.now)) result }
 {
     check_keys(
@@ -58,7 +58,7 @@ fn read_process(alloc: Global, table: &Table) -> Result<ProcessEntry, Descriptio
     })
 }
 
-fn read_node(alloc: Global, table: &Table) -> Result<NodeEntry, DescriptionFault>
+fn read_node(alloc: Global, table: &Table) -> Result<NodeEntry, BuildFault>
     ensures { Reads (IsNode (table_view table.now)) result }
 {
     check_keys(table, &["number", "owner", "slots"])?;
@@ -72,7 +72,7 @@ fn read_node(alloc: Global, table: &Table) -> Result<NodeEntry, DescriptionFault
     })
 }
 
-fn read_page(alloc: Global, table: &Table) -> Result<PageEntry, DescriptionFault>
+fn read_page(alloc: Global, table: &Table) -> Result<PageEntry, BuildFault>
     ensures { Reads (IsPage (table_view table.now)) result }
 {
     check_keys(table, &["number", "owner", "words"])?;
@@ -89,7 +89,7 @@ fn read_page(alloc: Global, table: &Table) -> Result<PageEntry, DescriptionFault
 impl FromValue for BankEntry {
     ghost IsSaid = { IsTable IsBank };
 
-    fn from_value(_alloc: Global, value: &Value) -> Result<BankEntry, DescriptionFault> {
+    fn from_value(_alloc: Global, value: &Value) -> Result<BankEntry, BuildFault> {
         let table = table_of(value)?;
         read_bank(table)
     }
@@ -98,7 +98,7 @@ impl FromValue for BankEntry {
 impl FromValue for ProcessEntry {
     ghost IsSaid = { IsTable IsProcess };
 
-    fn from_value(alloc: Global, value: &Value) -> Result<ProcessEntry, DescriptionFault> {
+    fn from_value(alloc: Global, value: &Value) -> Result<ProcessEntry, BuildFault> {
         let table = table_of(value)?;
         read_process(alloc, table)
     }
@@ -107,7 +107,7 @@ impl FromValue for ProcessEntry {
 impl FromValue for NodeEntry {
     ghost IsSaid = { IsTable IsNode };
 
-    fn from_value(alloc: Global, value: &Value) -> Result<NodeEntry, DescriptionFault> {
+    fn from_value(alloc: Global, value: &Value) -> Result<NodeEntry, BuildFault> {
         let table = table_of(value)?;
         read_node(alloc, table)
     }
@@ -116,7 +116,7 @@ impl FromValue for NodeEntry {
 impl FromValue for PageEntry {
     ghost IsSaid = { IsTable IsPage };
 
-    fn from_value(alloc: Global, value: &Value) -> Result<PageEntry, DescriptionFault> {
+    fn from_value(alloc: Global, value: &Value) -> Result<PageEntry, BuildFault> {
         let table = table_of(value)?;
         read_page(alloc, table)
     }

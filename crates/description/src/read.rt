@@ -1,22 +1,21 @@
 // A whole description.
 ghost use Rattle.std.specs.Prelude.{◌≡◌, IfErr, IfOk, IsErrOf, codes};
 ghost use Rattle.toml.specs.View.{table_view};
-ghost use Rattle.description.specs.Outcomes.{Reads, ReadsList};
+ghost use Rattle.description.specs.Outcomes.{Fails, Reads, ReadsList};
 ghost use Rattle.description.specs.Reading.{AtOr, IsDescription, IsGeometry, IsList, IsRange, whole_ranges};
 ghost use Rattle.description.specs.declared.entry.Description.{Description};
-ghost use Rattle.description.specs.declared.fault.DescriptionFault.TheVariants.{NoMemory, Shape};
+ghost use Rattle.image_writer.specs.declared.fault.BuildFault.TheVariants.{NoMemory, Shape};
 
 use crate::entry::Description;
-use crate::fault::DescriptionFault;
 use crate::list::{list_of, list_or_empty};
 use crate::member::{check_keys, member, number, number_or};
-use image_writer::NumberRange;
+use image_writer::{BuildFault, NumberRange};
 use model::Geometry;
 use std::alloc::Global;
 use toml::Table;
 
 // How much the image holds.
-fn read_geometry(table: &Table) -> Result<Geometry, DescriptionFault>
+fn read_geometry(table: &Table) -> Result<Geometry, BuildFault>
     ensures { Reads (IsGeometry (table_view table.now)) result }
 {
     let nodes = number(table, "nodes")?;
@@ -26,7 +25,7 @@ fn read_geometry(table: &Table) -> Result<Geometry, DescriptionFault>
 }
 
 // All nodes, and then all pages.
-fn whole_ranges(alloc: Global, geometry: Geometry) -> Result<Vec<NumberRange>, DescriptionFault>
+fn whole_ranges(alloc: Global, geometry: Geometry) -> Result<Vec<NumberRange>, BuildFault>
     ensures whole { IfOk result (λ v. v.items ≡ whole_ranges geometry) }
     ensures fault { IfErr result (λ e. e ≡ NoMemory) }
 {
@@ -38,10 +37,8 @@ fn whole_ranges(alloc: Global, geometry: Geometry) -> Result<Vec<NumberRange>, D
         first: geometry.nodes,
         count: geometry.pages,
     };
-    match Vec::from_array(alloc, [nodes, pages]) {
-        Ok(ranges) => Ok(ranges),
-        Err(_) => Err(DescriptionFault::NoMemory),
-    }
+    let ranges = Vec::from_array(alloc, [nodes, pages])?;
+    Ok(ranges)
 }
 
 // The ranges that are named, or else those of all numbers.
@@ -49,7 +46,7 @@ fn read_ranges(
     alloc: Global,
     table: &Table,
     geometry: Geometry,
-) -> Result<Vec<NumberRange>, DescriptionFault>
+) -> Result<Vec<NumberRange>, BuildFault>
     ensures { ReadsList
         (AtOr (whole_ranges geometry) (codes "ranges") (IsList IsRange) (table_view table.now))
         result }
@@ -60,7 +57,7 @@ fn read_ranges(
     }
 }
 
-fn read_description(alloc: Global, table: &Table) -> Result<Description, DescriptionFault>
+fn read_description(alloc: Global, table: &Table) -> Result<Description, BuildFault>
     ensures { Reads (IsDescription (table_view table.now)) result }
 {
     check_keys(
@@ -93,11 +90,12 @@ impl Description {
     /// The description that a table is of.
     ///
     /// It is `Shape` exactly where the table is of none: a key that is needed is missing, or a key
-    /// unknown, or a value isn't of its type; it is `NoMemory` where memory ran out.
-    pub fn read(alloc: Global, table: &Table) -> Result<Description, DescriptionFault>
+    /// unknown, or a value isn't of its type; it is `NoMemory` where memory ran out, and no other fault.
+    pub fn read(alloc: Global, table: &Table) -> Result<Description, BuildFault>
         ensures read { IfOk result (λ d. IsDescription (table_view table.now) d) }
         ensures shape { IsErrOf result Shape
             → (d : Description) → IsDescription (table_view table.now) d → ⊥ }
+        ensures refused { IfErr result (λ fault. Fails (IsDescription (table_view table.now)) fault) }
     {
         read_description(alloc, table)
     }

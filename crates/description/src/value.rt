@@ -4,9 +4,9 @@ ghost use Rattle.toml.specs.Data.{Data, Items, Members, array, as_integer, table
 ghost use Rattle.toml.specs.View.{array_view, table_view, view};
 ghost use Rattle.description.specs.Outcomes.{Reads};
 ghost use Rattle.description.specs.Reading.{IsCapability, IsNumber, IsState, IsWideNumber};
-ghost use Rattle.description.specs.declared.fault.DescriptionFault.TheVariants.{Shape};
+ghost use Rattle.image_writer.specs.declared.fault.BuildFault.TheVariants.{Shape};
 
-use crate::fault::DescriptionFault;
+use image_writer::BuildFault;
 use model::{Capability, State};
 use script::{capability_of, state_of};
 use toml::value::Array;
@@ -25,36 +25,34 @@ fn large_number(capability: Option<Capability>) -> Option<u64>
 }
 
 // The number that a text says, as that of a capability.
-fn number_in_text(value: &Value) -> Result<u64, DescriptionFault>
+fn number_in_text(value: &Value) -> Result<u64, BuildFault>
     requires { as_integer (view value.now) ≡ None }
     ensures { Reads (IsWideNumber (view value.now)) result }
 {
-    match capability_at(value) {
-        Ok(capability) => match large_number(capability) {
-            Some(number) => Ok(number),
-            None => Err(DescriptionFault::Shape),
-        },
-        Err(fault) => Err(fault),
+    let capability = capability_at(value)?;
+    match large_number(capability) {
+        Some(number) => Ok(number),
+        None => Err(BuildFault::Shape),
     }
 }
 
 // A number that isn't negative.
-pub(crate) fn number_of(value: &Value) -> Result<u64, DescriptionFault>
+pub(crate) fn number_of(value: &Value) -> Result<u64, BuildFault>
     ensures { Reads (IsNumber (view value.now)) result }
 {
     match value.as_integer() {
         Some(number) => {
             if number.is_negative() {
-                return Err(DescriptionFault::Shape);
+                return Err(BuildFault::Shape);
             }
             Ok(number.unsigned_abs())
         }
-        None => Err(DescriptionFault::Shape),
+        None => Err(BuildFault::Shape),
     }
 }
 
 // A number of 64 bits: a text says it from 2^63 on.
-pub(crate) fn wide_number_of(value: &Value) -> Result<u64, DescriptionFault>
+pub(crate) fn wide_number_of(value: &Value) -> Result<u64, BuildFault>
     ensures { Reads (IsWideNumber (view value.now)) result }
 {
     if value.is_integer() {
@@ -65,51 +63,51 @@ pub(crate) fn wide_number_of(value: &Value) -> Result<u64, DescriptionFault>
 }
 
 // The capability that a text is of.
-pub(crate) fn capability_at(value: &Value) -> Result<Option<Capability>, DescriptionFault>
+pub(crate) fn capability_at(value: &Value) -> Result<Option<Capability>, BuildFault>
     ensures { Reads (IsCapability (view value.now)) result }
 {
     match value.as_str() {
         Some(text) => Ok(capability_of(text.as_bytes())),
-        None => Err(DescriptionFault::Shape),
+        None => Err(BuildFault::Shape),
     }
 }
 
 // The state that a text is of.
-pub(crate) fn state_at(value: &Value) -> Result<Option<State>, DescriptionFault>
+pub(crate) fn state_at(value: &Value) -> Result<Option<State>, BuildFault>
     ensures { Reads (IsState (view value.now)) result }
 {
     match value.as_str() {
         Some(text) => Ok(state_of(text.as_bytes())),
-        None => Err(DescriptionFault::Shape),
+        None => Err(BuildFault::Shape),
     }
 }
 
 /// The values of a list. `Shape` if the value is none.
-pub fn array_of(value: &Value) -> Result<&Array, DescriptionFault>
+pub fn array_of(value: &Value) -> Result<&Array, BuildFault>
     ensures { MatchResult result
         (λ items. view value.now ≡ array (array_view items.now))
         (λ e. (e ≡ Shape) × ((ds : Items) → view value.now ≡ array ds → ⊥)) }
 {
     match value.as_array() {
         Some(items) => Ok(items),
-        None => Err(DescriptionFault::Shape),
+        None => Err(BuildFault::Shape),
     }
 }
 
 /// The members of a table. `Shape` if the value is none.
-pub fn table_of(value: &Value) -> Result<&Table, DescriptionFault>
+pub fn table_of(value: &Value) -> Result<&Table, BuildFault>
     ensures { MatchResult result
         (λ members. view value.now ≡ table (table_view members.now))
         (λ e. (e ≡ Shape) × ((ms : Members) → view value.now ≡ table ms → ⊥)) }
 {
     match value.as_table() {
         Some(members) => Ok(members),
-        None => Err(DescriptionFault::Shape),
+        None => Err(BuildFault::Shape),
     }
 }
 
 // The two values of a list of two.
-pub(crate) fn pair_of(value: &Value) -> Result<(&Value, &Value), DescriptionFault>
+pub(crate) fn pair_of(value: &Value) -> Result<(&Value, &Value), BuildFault>
     ensures { MatchResult result
         (λ p. view value.now ≡ array (item (view p.0.now) (item (view p.1.now) no_items)))
         (λ e. (e ≡ Shape)
@@ -118,6 +116,6 @@ pub(crate) fn pair_of(value: &Value) -> Result<(&Value, &Value), DescriptionFaul
     let items = array_of(value)?;
     match items.as_slice() {
         [first, second] => Ok((first, second)),
-        _ => Err(DescriptionFault::Shape),
+        _ => Err(BuildFault::Shape),
     }
 }

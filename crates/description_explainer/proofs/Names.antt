@@ -1,5 +1,4 @@
 -- The names that the proofs here cite: of other crates, and of the definitions of this one.
-pub use Rattle.capability.proofs.Keeping.{keepable_later}
 pub use Rattle.consistency.proofs.BankFaults.{unbanked_refuted}
 pub use Rattle.consistency.specs.Consistency.{AreBanked, AreNamed, IsUnbanked, NamesItsRole}
 pub use Rattle.consistency.specs.declared.reason.Unbanked.{Unbanked}
@@ -17,18 +16,17 @@ pub use Rattle.description_faults.specs.declared.place.Limit.{Limit}
 pub use Rattle.description_faults.specs.declared.place.Misnumbered.{Misnumbered}
 pub use Rattle.description_faults.specs.declared.place.Part.{Part}
 pub use Rattle.image_builder.proofs.Rules.{all_kept, field_broken, limits_broken, number_broken, owner_broken, target_broken}
-pub use Rattle.image_builder.specs.Built.{IsFirstBroken, IsWithinLimits, Refuses, fault_number}
-pub use Rattle.image_builder.specs.declared.fault.BuildFault.{BuildFault}
+pub use Rattle.image_builder.specs.Built.{IsFirstBroken, IsWithinLimits, Refuses}
+pub use Rattle.image_writer.specs.Faults.{fault_number}
 pub use Rattle.image_writer.specs.Laid.{MayBeLaid}
+pub use Rattle.image_writer.specs.declared.fault.BuildFault.{BuildFault}
 pub use Rattle.image_writer.specs.declared.number_range.NumberRange.{NumberRange}
 pub use Rattle.layout.specs.Superblock.{version_number}
 pub use Rattle.layout.specs.declared.version.Version.{Version}
-unfoldable pub use Rattle.model.specs.Frame.{frames_in}
-pub use Rattle.model.specs.Sound.{object_count}
 pub use Rattle.model.specs.declared.frame.Frame.{Frame}
 pub use Rattle.std.proofs.Common.{Global, List, None, Option, Some, String, ap, arith, codes, decimal, string_bytes, subst, sym, ℕ}
 pub use Rattle.std.proofs.lemmas.Result.{IfOk-weaker}
-pub use Rattle.std.specs.Prelude.{IfNone, IfSome, MatchOption, vec_len}
+pub use Rattle.std.specs.Prelude.{IfNone, IfSome, MatchOption}
 pub use Rattle.toml.specs.Data.{Members}
 pub use Rattle.description_explainer.specs.Explained.{ExplainsDescription}
 pub use Rattle.description_explainer.specs.Places.{rule_fault}

@@ -3,8 +3,8 @@ use Rattle.std.specs.Prelude.{ℕ, ◌≤◌, Option, None, Some}
 use Rattle.toml.specs.Data.{Members}
 use Rattle.description.specs.declared.entry.Description.{Description}
 use Rattle.description.specs.Reading.{IsDescription}
-use Rattle.image_builder.specs.declared.fault.BuildFault.{BuildFault}
-use Rattle.image_builder.specs.declared.fault.BuildFault.TheVariants as fault
+use Rattle.image_writer.specs.declared.fault.BuildFault.{BuildFault}
+use Rattle.image_writer.specs.declared.fault.BuildFault.TheVariants as fault
 use Rattle.image_builder.specs.Built.{IsAccepted, Refuses, plan_for}
 use Rattle.description_explainer.specs.declared.place.Place.{Place}
 use Rattle.description_explainer.specs.declared.place.Place.TheVariants as place

@@ -6,7 +6,7 @@ use Rattle.std.specs.List.{list_any}
 use Rattle.consistency.specs.declared.reason.Unbanked.{Unbanked}
 use Rattle.consistency.specs.declared.reason.Unbanked.TheVariants as unbanked
 use Rattle.description.specs.declared.entry.Description.{Description}
-use Rattle.image_builder.specs.Built.{fault_number}
+use Rattle.image_writer.specs.Faults.{fault_number}
 use Rattle.description_faults.specs.Broken.{number_at}
 use Rattle.description_faults.specs.Shapes.{key_name}
 use Rattle.description_faults.specs.declared.place.Flaw.{Flaw}

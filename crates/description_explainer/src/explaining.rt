@@ -19,8 +19,9 @@ use crate::place::{Place, Rule};
 use capability::Plain;
 use consistency::{Noted, find_unbanked, read_notes};
 use described_world::{World, lay_described};
-use description::{Description, DescriptionFault};
+use description::Description;
 use description_faults::{Held, OfItsKind, OfItsRole, failing, misfilled, misnumbered, misshapen};
+use image_builder::BuildFault;
 use std::alloc::{AllocError, Global};
 use toml::Table;
 
@@ -83,10 +84,8 @@ fn lay_whole(alloc: Global, description: &Description) -> Result<World, AllocErr
     requires targets { HasTargets description.now.geometry description.now }
     ensures { IfOk result (λ w. AreLaid description.now w.headers.items w.contents.items) }
 {
-    match lay_described(alloc, description) {
-        Ok(world) => Ok(world),
-        Err(_) => Err(AllocError),
-    }
+    let world = lay_described(alloc, description)?;
+    Ok(world)
 }
 
 // The rule that a description breaks beyond those of its numbers, fields and the kinds of capabilities, if it
@@ -181,7 +180,16 @@ pub fn explain<'a>(alloc: Global, table: &'a Table) -> Result<Option<Place<'a>>,
 {
     match Description::read(alloc, table) {
         Ok(description) => explain_description(alloc, description),
-        Err(DescriptionFault::Shape) => explain_shape(alloc, table),
-        Err(DescriptionFault::NoMemory) => Err(AllocError),
+        Err(BuildFault::Shape) => explain_shape(alloc, table),
+        Err(BuildFault::NoMemory) => Err(AllocError),
+        Err(
+            BuildFault::Limits
+            | BuildFault::Number
+            | BuildFault::Field
+            | BuildFault::Target
+            | BuildFault::Owner
+            | BuildFault::Small
+            | BuildFault::Failed,
+        ) => unreachable!(),
     }
 }

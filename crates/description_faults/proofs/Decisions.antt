@@ -1,24 +1,30 @@
 -- What was read, and what wasn't.
-use Rattle.description_faults.proofs.Names.{ℕ, zero, suc, Bool, true, false, List, [], length, get_or, take, Option, None, Some, Result, Ok, Err, Vec, Global}
+use Rattle.description_faults.proofs.Names.{ℕ, zero, suc, Bool, List, [], length, get_or, Option, None, Some, Result, Ok, Err, Vec, Global}
 use Rattle.description_faults.proofs.Names.{refl, sym, ap, subst, arith, AllocError, IfOk, IsTrue, MatchOption, false≢true, none-some, same_Some, Data, Items}
-use Rattle.description_faults.proofs.Names.{Members, no_items, item, array, as_array, get_item, get_member, view, items_view, Value, Reads, ReadsList, AreItems}
-use Rattle.description_faults.proofs.Names.{AtOr, IsList, DescriptionFault, Shape, NoMemory, HasBadItem, IsBadAt, decided, HasList}
-use Rattle.std.proofs.Common.{◌≡◌, ◌+◌, ◌<◌, ◌^◌, ◌∷◌, ◌++◌, ◌∙◌}
+use Rattle.description_faults.proofs.Names.{Members, array, get_item, get_member, view, items_view, Value, Reads, ReadsList}
+use Rattle.description_faults.proofs.Names.{IsList, BuildFault, as_vec, HasBadItem, IsBadAt, decided, HasList}
+use Rattle.std.proofs.Common.{◌≡◌, ◌<◌, ◌^◌, ◌∷◌, ◌∙◌}
 use Rattle.std.specs.Prelude.{◌↔◌}
 use denote.RawPtr.{null_ptr}
+use Rattle.image_writer.specs.declared.fault.BuildFault.TheVariants as fault
 
-pub reads_decided : {A : Type 0} (P : A → Type 0) (r : Result A DescriptionFault) (out : Result Bool AllocError) → out ≡ decided r → Reads P r →
+pub reads_decided : {A : Type 0} (P : A → Type 0) (r : Result A BuildFault) (out : Result Bool AllocError) → out ≡ decided r → Reads P r →
     IfOk out (λ fits. IsTrue fits ↔ ((x : A) × P x))
 reads_decided P (Ok x) out is reads = rw is (λ _. (x, reads), λ _. refl)
-reads_decided P (Err Shape) out is reads = rw is (λ so. absurd (false≢true so), λ p. absurd (reads p.0 p.1))
-reads_decided P (Err NoMemory) out is reads = rw is tt
+reads_decided P (Err fault.Shape) out is reads = rw is (λ so. absurd (false≢true so), λ p. absurd (reads p.0 p.1))
+reads_decided P (Err fault.NoMemory) out is reads = rw is tt
+reads_decided P (Err fault.Limits) out is reads = absurd reads
+reads_decided P (Err fault.Number) out is reads = absurd reads
+reads_decided P (Err fault.Field) out is reads = absurd reads
+reads_decided P (Err fault.Target) out is reads = absurd reads
+reads_decided P (Err fault.Owner) out is reads = absurd reads
+reads_decided P (Err fault.Small) out is reads = absurd reads
+reads_decided P (Err fault.Failed) out is reads = absurd reads
 
-pub list_decided : {A : Type 0} (P : List A → Type 0) (r : Result (Vec A Global) DescriptionFault) (out : Result Bool AllocError) → out ≡ decided r →
+pub list_decided : {A : Type 0} (P : List A → Type 0) (r : Result (Vec A Global) BuildFault) (out : Result Bool AllocError) → out ≡ decided r →
     ReadsList P r →
     IfOk out (λ fits. IsTrue fits ↔ ((v : Vec A Global) × P v.items))
-list_decided P (Ok v) out is reads = rw is (λ _. (v, reads), λ _. refl)
-list_decided P (Err Shape) out is reads = rw is (λ so. absurd (false≢true so), λ p. absurd (reads p.0.items p.1))
-list_decided P (Err NoMemory) out is reads = rw is tt
+list_decided {A = A} P r out is reads = reads_decided (λ (v : Vec A Global). P v.items) r out is (as_vec P r reads)
 
 -- a list of as many entries as memory may hold is that of a Vec
 pub vec_of : {A : Type 0} (alloc : Global) (xs : List A) → length xs < 2 ^ 63 → (v : Vec A Global) × (v.items ≡ xs)

@@ -9,6 +9,7 @@ pub use Rattle.described_world.specs.Described.{AreDistinct, AreSlots, AreWords,
 pub use Rattle.described_world.specs.Described.{IsSomeCapability, named_at, node_numbers, page_numbers}
 pub use Rattle.described_world.specs.Laid.{AreTargets, Entry, HasProcessTargets, HasTargets, IsTarget, OfAnnex, OfBank, OfNode, OfPage, OfRoot, number_of}
 pub use Rattle.description.proofs.Elements.{one_more}
+pub use Rattle.description.proofs.Parts.{as_vec}
 pub use Rattle.description.specs.Outcomes.{Reads, ReadsList}
 pub use Rattle.description.specs.Reading.{AreFour, AreItems, At, AtOr, IsBank, IsCapability, IsDescription, IsList, IsNode, IsNumber, IsPage, IsProcess}
 pub use Rattle.description.specs.Reading.{IsRange, IsSlot, IsState, IsTable, IsWord, has_only, whole_ranges}
@@ -19,9 +20,8 @@ pub use Rattle.description.specs.declared.entry.PageEntry.{PageEntry}
 pub use Rattle.description.specs.declared.entry.ProcessEntry.{ProcessEntry}
 pub use Rattle.description.specs.declared.entry.SlotEntry.{SlotEntry}
 pub use Rattle.description.specs.declared.entry.WordEntry.{WordEntry}
-pub use Rattle.description.specs.declared.fault.DescriptionFault.{DescriptionFault}
-pub use Rattle.description.specs.declared.fault.DescriptionFault.TheVariants.{NoMemory, Shape}
 pub use Rattle.image_writer.specs.Laid.{placed}
+pub use Rattle.image_writer.specs.declared.fault.BuildFault.{BuildFault}
 pub use Rattle.image_writer.specs.declared.number_range.NumberRange.{NumberRange}
 pub use Rattle.layout.specs.Superblock.{Cover, IsNext}
 pub use Rattle.model.specs.Frame.{frame_at}

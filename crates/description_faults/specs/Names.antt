@@ -13,9 +13,9 @@ pub use Rattle.description.specs.declared.entry.PageEntry.{PageEntry}
 pub use Rattle.description.specs.declared.entry.ProcessEntry.{ProcessEntry}
 pub use Rattle.description.specs.declared.entry.SlotEntry.{SlotEntry}
 pub use Rattle.description.specs.declared.entry.WordEntry.{WordEntry}
-pub use Rattle.description.specs.declared.fault.DescriptionFault.{DescriptionFault}
-pub use Rattle.description.specs.declared.fault.DescriptionFault.TheVariants.{NoMemory, Shape}
 pub use Rattle.image_writer.specs.Laid.{placed}
+pub use Rattle.image_writer.specs.declared.fault.BuildFault.{BuildFault}
+pub use Rattle.image_writer.specs.declared.fault.BuildFault.TheVariants.{Shape}
 pub use Rattle.image_writer.specs.declared.number_range.NumberRange.{NumberRange}
 pub use Rattle.layout.specs.Superblock.{IsNext, version_number}
 pub use Rattle.layout.specs.declared.version.Version.{Version}

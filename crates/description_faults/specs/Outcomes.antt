@@ -3,8 +3,8 @@ use Rattle.description_faults.specs.Names.{ℕ, Bool, true, false, List, length,
 use Rattle.description_faults.specs.Names.{Result, Ok, Err, IsSomeAnd, alloc_error, AllocError, All, Capability}
 use Rattle.description_faults.specs.Names.{IsSpaceEntry, node_numbers, Data, Items, Members, array, get_item}
 use Rattle.description_faults.specs.Names.{get_member, BankEntry, Description, NodeEntry, PageEntry, ProcessEntry}
-use Rattle.description_faults.specs.Names.{SlotEntry, DescriptionFault, Shape, NoMemory, IsBank, IsDescription, IsNode}
-use Rattle.description_faults.specs.Names.{IsPage, IsProcess, IsTable}
+use Rattle.description_faults.specs.Names.{SlotEntry, BuildFault, Shape, IsBank, IsDescription, IsNode, IsPage}
+use Rattle.description_faults.specs.Names.{IsProcess, IsTable}
 use Rattle.std.specs.Prelude.{◌≡◌, ◌+◌, ◌^◌, ◌≤◌}
 use Rattle.description_faults.specs.declared.key.Key.{Key}
 use Rattle.description_faults.specs.declared.key.Key.TheVariants.{Banks, Processes, NodeList, PageList}
@@ -22,10 +22,10 @@ use Rattle.description_faults.specs.declared.place.Flaw.TheVariants.{Unknown, Mi
 use Rattle.description_faults.specs.Shapes.{Fits, HasItem, IsItem, IsUnlisted, key_name}
 
 -- whether something was read
-abbrev pub decided : {A : Type 0} → Result A DescriptionFault → Result Bool AllocError
+abbrev pub decided : {A : Type 0} → Result A BuildFault → Result Bool AllocError
 decided (Ok x) = Ok true
 decided (Err Shape) = Ok false
-decided (Err NoMemory) = Err alloc_error
+decided (Err _) = Err alloc_error
 
 -- a table says what one of its name has to
 abbrev pub IsTableOf : TableName → Members → Type 0

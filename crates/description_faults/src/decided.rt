@@ -1,24 +1,42 @@
 // Whether a value was read.
 ghost use Rattle.std.specs.Prelude.{◌≡◌, ◌↔◌, ℕ, IfOk, IsTrue};
-ghost use Rattle.toml.specs.View.{table_view};
+ghost use Rattle.toml.specs.View.{table_view, view};
 ghost use Rattle.description.specs.Reading.{At, AtOr, IsNumber};
 ghost use Rattle.description_faults.specs.Outcomes.{decided};
 ghost use Rattle.description_faults.specs.Shapes.{HasList};
 
 use description::member::{number, number_or};
-use description::{DescriptionFault, FromValue, list_or_empty};
+use description::{FromValue, list_or_empty};
+use image_writer::BuildFault;
 use std::alloc::{AllocError, Global};
-use toml::Table;
+use toml::{Table, Value};
 
-/// Whether a value was read. Fails only where memory ran out.
-pub(crate) fn decided<T: Drop>(read: Result<T, DescriptionFault>) -> Result<bool, AllocError>
+/// Whether a value was read: not if the fault is `Shape`. From a reader of `description` any other fault is want of
+/// memory.
+pub(crate) fn decided<T: Drop>(read: Result<T, BuildFault>) -> Result<bool, AllocError>
     ensures { result ≡ decided read }
 {
     match read {
         Ok(_) => Ok(true),
-        Err(DescriptionFault::Shape) => Ok(false),
-        Err(DescriptionFault::NoMemory) => Err(AllocError),
+        Err(BuildFault::Shape) => Ok(false),
+        Err(
+            BuildFault::Limits
+            | BuildFault::Number
+            | BuildFault::Field
+            | BuildFault::Target
+            | BuildFault::Owner
+            | BuildFault::Small
+            | BuildFault::Failed
+            | BuildFault::NoMemory,
+        ) => Err(AllocError),
     }
+}
+
+/// Whether a value says one of this type. Fails only where memory ran out.
+pub(crate) fn says<T: FromValue>(alloc: Global, value: &Value) -> Result<bool, AllocError>
+    ensures { IfOk result (λ fits. IsTrue fits ↔ ((x : T) × T.IsSaid (view value.now) x)) }
+{
+    decided(T::from_value(alloc, value))
 }
 
 /// Whether a number is at a key.

@@ -11,13 +11,13 @@ ghost use Rattle.description_faults.specs.Outcomes.{HasBadItem, HasItemAs, IsBad
 ghost use Rattle.description_faults.specs.Shapes.{BreaksShape, Fits, HasItem, HasList, IsFlaw, IsUnlisted, key_name};
 ghost use Rattle.description_faults.specs.Shapes.{keys_of, object_at};
 
-use crate::decided::{decided, has_number, may_have_list, may_have_number};
+use crate::decided::{decided, has_number, may_have_list, may_have_number, says};
 use crate::key::Key;
 use crate::place::{Flaw, ShapePlace, TableName};
 use description::member::{capability_or_void, member, state, unknown_key, wide_number};
 use description::{
-    BankEntry, DescriptionFault, FromValue, NodeEntry, PageEntry, ProcessEntry, SlotEntry,
-    WordEntry, array_of, four_or_zeros, table_of,
+    BankEntry, FromValue, NodeEntry, PageEntry, ProcessEntry, SlotEntry, WordEntry, array_of,
+    four_or_zeros, table_of,
 };
 use image_writer::NumberRange;
 use std::alloc::{AllocError, Global};
@@ -165,10 +165,9 @@ fn first_bad<'a, T: FromValue>(
     };
     for i in 0..items.len() {
         let item = &items[i];
-        match T::from_value(alloc, item) {
-            Ok(_) => {}
-            Err(DescriptionFault::Shape) => return Ok(Some((i, item))),
-            Err(DescriptionFault::NoMemory) => return Err(AllocError),
+        let is_said = says::<T>(alloc, item)?;
+        if !is_said {
+            return Ok(Some((i, item)));
         }
     }
     unreachable!()

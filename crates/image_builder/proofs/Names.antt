@@ -7,7 +7,8 @@ pub use Rattle.consistency.proofs.Unsound.{sound_banked, sound_named}
 pub use Rattle.consistency.specs.Consistency.{AreBanked, AreNamed, AreWholeProcesses, IsInconsistent}
 pub use Rattle.described_world.proofs.DescribedOnce.{described_once}
 pub use Rattle.described_world.specs.Described.{HasFields, HasNumbers, IsDescribed, IsWorldFault}
-pub use Rattle.described_world.specs.declared.fault.WorldFault.{WorldFault}
+pub use Rattle.described_world.specs.declared.world.World.{World}
+pub use Rattle.description.specs.Outcomes.{Fails}
 pub use Rattle.description.specs.Reading.{IsDescription}
 pub use Rattle.description.specs.declared.entry.Description.{Description}
 pub use Rattle.device.proofs.Images.{agrees_is}
@@ -16,8 +17,11 @@ pub use Rattle.device.specs.Calls.{Agrees, Elsewhere}
 pub use Rattle.device.specs.Disk.{Disk, Image}
 pub use Rattle.device.specs.Moments.{LeavesOnly}
 pub use Rattle.image_writer.proofs.OldImages.{kept_holds_the_same, none_is_held}
+pub use Rattle.image_writer.specs.Faults.{fault_number}
 pub use Rattle.image_writer.specs.Laid.{laid_again}
 pub use Rattle.image_writer.specs.Written.{IsLeftWriting, first_saved, first_state, state_of}
+pub use Rattle.image_writer.specs.declared.fault.BuildFault.{BuildFault}
+pub use Rattle.image_writer.specs.declared.fault.BuildFault.TheVariants.{Failed, Field, Limits, NoMemory, Number, Owner, Shape, Small, Target}
 pub use Rattle.layout.proofs.Images.{one_state}
 pub use Rattle.layout.specs.Directory.{IsDirectory, entry_at}
 pub use Rattle.layout.specs.Header.{IsHeader}
@@ -47,11 +51,9 @@ pub use Rattle.std.specs.Prelude.{Err, IfErr, IsErrOf, Ok, OnOk, Result, slice_i
 pub use Rattle.toml.specs.Data.{Members}
 pub use Rattle.toml.specs.View.{table_view}
 pub use Rattle.image_builder.specs.Built.{Builds, BuildsFrom, IsAccepted, IsFirstBroken, IsLeftOf, IsRefused, IsWithinLimits, Refuses, Rule, TellsNoSize}
-pub use Rattle.image_builder.specs.Built.{fault_number, plan_for}
+pub use Rattle.image_builder.specs.Built.{plan_for}
 pub use Rattle.image_builder.specs.Checked.{AreLaid, IsLeftBuilding, IsRefusedEarly, IsSoundDescription}
 pub use Rattle.image_builder.specs.Laws.{NoFault, OneFault}
 pub use Rattle.image_builder.specs.Upgraded.{IsLeftUpgrading, IsNotUpgraded, IsOnlyRead, IsOpenedFrom, Upgrades, upgraded}
 unfoldable pub use Rattle.image_builder.specs.Upgraded.{numbered}
-pub use Rattle.image_builder.specs.declared.fault.BuildFault.{BuildFault}
-pub use Rattle.image_builder.specs.declared.fault.BuildFault.TheVariants.{Failed, Field, Limits, NoMemory, Number, Owner, Shape, Small, Target}
 pub use Rattle.image_builder.specs.declared.upgrade_fault.UpgradeFault.{UpgradeFault}

@@ -1,9 +1,10 @@
 -- What is refused whatever the device, and with which fault.
 use Rattle.image_builder.proofs.Names.{ℕ, List, ap, refl, subst, sym, arith, IfErr, OnOk, Result, Ok, Err, Members, Disk, Cap, Frame, ObjectHeader, Geometry}
-use Rattle.image_builder.proofs.Names.{Content, frames_in, IsSoundFrames, sound_banked, sound_named, BadImage, BadCapability, BadProcess, BadBank, AreBanked}
-use Rattle.image_builder.proofs.Names.{AreNamed, AreWholeProcesses, IsInconsistent, Description, IsDescription, HasFields, HasNumbers, IsDescribed, BuildFault}
-use Rattle.image_builder.proofs.Names.{Shape, Limits, Number, Field, Target, Owner, Small, Failed, NoMemory, Builds, BuildsFrom, IsAccepted, IsRefused}
-use Rattle.image_builder.proofs.Names.{IsWithinLimits, Refuses, Rule, TellsNoSize, fault_number, AreLaid, IsRefusedEarly, IsSoundDescription, described_once}
+use Rattle.image_builder.proofs.Names.{Content, frames_in, IsSoundFrames, sound_banked, sound_named, BadImage, BadCapability, BadProcess, BadBank}
+use Rattle.image_builder.proofs.Names.{AreBanked, AreNamed, AreWholeProcesses, IsInconsistent, Description, IsDescription, HasFields, HasNumbers, IsDescribed}
+use Rattle.image_builder.proofs.Names.{BuildFault, Shape, Limits, Number, Field, Target, Owner, Small, Failed, NoMemory, Builds, BuildsFrom, IsAccepted}
+use Rattle.image_builder.proofs.Names.{IsRefused, IsWithinLimits, Refuses, Rule, TellsNoSize, fault_number, AreLaid, IsRefusedEarly, IsSoundDescription}
+use Rattle.image_builder.proofs.Names.{described_once, IsWorldFault, Fails}
 use Rattle.std.proofs.Common.{◌≡◌, ◌≢◌, ◌<◌}
 use Rattle.image_builder.proofs.Rules.{all_kept, field_broken, number_broken, owner_broken, small_broken, target_broken}
 
@@ -29,6 +30,18 @@ module _ (d : Description) (limits : IsWithinLimits d) where
     early = unfailed Target (omega arith);
     refused = λ sectors. target_broken d sectors limits reported.0 reported.1 (λ rule. reported.2 rule.0 rule.1 rule.2);
   }
+
+  -- the fault for which no world is laid
+  pub world_refused : (fault : BuildFault) → IsWorldFault d fault → IsRefusedEarly d fault
+  world_refused Number reported = number_refused reported
+  world_refused Field reported = field_refused reported
+  world_refused Target reported = target_refused reported
+  world_refused NoMemory reported = record { early = λ is. omega (arith, ap fault_number is); refused = λ sectors. tt }
+  world_refused Shape reported = absurd reported
+  world_refused Limits reported = absurd reported
+  world_refused Owner reported = absurd reported
+  world_refused Small reported = absurd reported
+  world_refused Failed reported = absurd reported
 
   module _ (hs : List ObjectHeader) (cs : List (Content Cap)) (laid : AreLaid d hs cs) where
     -- other frames that are described are these
@@ -93,6 +106,18 @@ pub built_from : {T : Type 0} (ms : Members) (d : Description) (old new : Disk) 
     OnOk r (Builds d old new) → OnOk r (BuildsFrom ms old new)
 built_from ms d old new (Ok x) is built = (d, is, built)
 built_from ms d old new (Err fault) is built = built
+
+-- a table that isn't read has no size
+pub unread_refused : (ms : Members) (fault : BuildFault) → Fails (IsDescription ms) fault → TellsNoSize ms fault
+unread_refused ms Shape reported = reported
+unread_refused ms NoMemory reported = tt
+unread_refused ms Limits reported = absurd reported
+unread_refused ms Number reported = reported
+unread_refused ms Field reported = reported
+unread_refused ms Target reported = reported
+unread_refused ms Owner reported = reported
+unread_refused ms Small reported = reported
+unread_refused ms Failed reported = reported
 
 -- a description outside the limits has no size
 pub size_refused : (ms : Members) (d : Description) (fault : BuildFault) → IsDescription ms d → fault ≡ Limits → (IsWithinLimits d → ⊥) → TellsNoSize ms fault

@@ -2,23 +2,9 @@
 use Rattle.image_builder.specs.Names.{ℕ, List, Members, Frame, IsSoundFrames, Disk, Image, Elsewhere, Encodes, Plan}
 use Rattle.image_builder.specs.Names.{version_number, Version, One, Two, Holds, SavedFrames, MayBeLaid, plan_from}
 use Rattle.image_builder.specs.Names.{first_saved, first_state, AreBanked, AreNamed, Description, IsDescription}
-use Rattle.image_builder.specs.Names.{HasFields, HasNumbers, IsDescribed}
+use Rattle.image_builder.specs.Names.{HasFields, HasNumbers, IsDescribed, BuildFault, Shape, Limits, Number, Field}
+use Rattle.image_builder.specs.Names.{Target, Owner, Small, Failed, NoMemory, fault_number}
 use Rattle.std.specs.Prelude.{◌≡◌, ◌⊎◌, ◌^◌, ◌<◌, ◌≤◌, ◌==◌, if◌then◌else◌}
-use Rattle.image_builder.specs.declared.fault.BuildFault.{BuildFault}
-use Rattle.image_builder.specs.declared.fault.BuildFault.TheVariants.{Shape, Limits, Number, Field, Target, Owner}
-use Rattle.image_builder.specs.declared.fault.BuildFault.TheVariants.{Small, Failed, NoMemory}
-
--- the number of a fault: the least of those that hold is answered
-abbrev pub fault_number : BuildFault → ℕ
-fault_number Shape = 1
-fault_number Limits = 2
-fault_number Number = 3
-fault_number Field = 4
-fault_number Target = 5
-fault_number Owner = 6
-fault_number Small = 7
-fault_number Failed = 8
-fault_number NoMemory = 9
 
 -- the version of the layout that has a number, where there is one
 abbrev pub version_of : ℕ → Version

@@ -1,10 +1,8 @@
 -- What is known of a description on the way to its image.
 use Rattle.image_builder.specs.Names.{ℕ, List, length, Cap, Frame, ObjectHeader, Content, frames_in, AreKeepable}
 use Rattle.image_builder.specs.Names.{IsSoundFrames, object_count, Disk, Image, Holds, SavedFrames, Description}
-use Rattle.image_builder.specs.Names.{HasFields, HasNumbers, IsDescribed}
+use Rattle.image_builder.specs.Names.{HasFields, HasNumbers, IsDescribed, BuildFault, Failed}
 use Rattle.std.specs.Prelude.{◌≡◌, ◌≢◌, ◌⊎◌}
-use Rattle.image_builder.specs.declared.fault.BuildFault.{BuildFault}
-use Rattle.image_builder.specs.declared.fault.BuildFault.TheVariants.{Failed}
 use Rattle.image_builder.specs.Built.{IsRefused, IsSavedOf}
 
 -- headers and contents are those of the described frames

@@ -1,7 +1,6 @@
 -- A description is refused with at most one fault.
-use Rattle.image_builder.specs.Names.{ℕ, Description}
+use Rattle.image_builder.specs.Names.{ℕ, Description, BuildFault}
 use Rattle.std.specs.Prelude.{◌≡◌}
-use Rattle.image_builder.specs.declared.fault.BuildFault.{BuildFault}
 use Rattle.image_builder.specs.Built.{IsAccepted, IsFirstBroken}
 
 -- no two rules are the first that is broken

@@ -9,8 +9,12 @@ pub use Rattle.description.specs.Reading.{IsDescription}
 pub use Rattle.description.specs.declared.entry.Description.{Description}
 pub use Rattle.device.specs.Calls.{Elsewhere}
 pub use Rattle.device.specs.Disk.{Disk, Image}
+pub use Rattle.image_writer.specs.Faults.{fault_number}
 pub use Rattle.image_writer.specs.Laid.{MayBeLaid, laid_again, plan_from}
 pub use Rattle.image_writer.specs.Written.{first_saved, first_state}
+pub use Rattle.image_writer.specs.declared.fault.BuildFault.{BuildFault}
+pub use Rattle.image_writer.specs.declared.fault.BuildFault.TheVariants.{Failed, Field, Limits, NoMemory, Number, Owner}
+pub use Rattle.image_writer.specs.declared.fault.BuildFault.TheVariants.{Shape, Small, Target}
 pub use Rattle.layout.specs.Image.{Encodes, SavedState}
 pub use Rattle.layout.specs.Superblock.{Plan, version_number}
 pub use Rattle.layout.specs.declared.directory.Entry.{Entry}

@@ -6,11 +6,11 @@ ghost use Rattle.device.specs.Moments.{LeavesOnly};
 ghost use Rattle.description.specs.Reading.{IsDescription};
 ghost use Rattle.image_builder.specs.Built.{BuildsFrom, IsLeftOf, IsWithinLimits, Refuses, TellsNoSize, plan_for};
 
-use crate::fault::BuildFault;
-use crate::reading::{plan, read};
+use crate::planning::plan;
 use crate::writing::build_described;
 use description::Description;
 use device::Device;
+use image_writer::BuildFault;
 use layout::Superblock;
 use std::alloc::Global;
 use std::marker::Model;
@@ -42,7 +42,7 @@ impl Blueprint {
         ensures read { IfOk result (λ blueprint. IsDescription (table_view table.now) blueprint) }
         ensures refused { IfErr result (λ fault. TellsNoSize (table_view table.now) fault) }
     {
-        let description = read(alloc, table)?;
+        let description = Description::read(alloc, table)?;
         let superblock = plan(&description)?;
         Ok(Blueprint {
             description,

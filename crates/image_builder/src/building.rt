@@ -7,8 +7,8 @@ ghost use Rattle.description.specs.Reading.{IsDescription};
 ghost use Rattle.image_builder.specs.Built.{BuildsFrom, IsLeftOf, IsWithinLimits, Refuses, TellsNoSize, plan_for};
 
 use crate::blueprint::Blueprint;
-use crate::fault::BuildFault;
 use device::Device;
+use image_writer::BuildFault;
 use std::alloc::Global;
 use toml::Table;
 

@@ -6,9 +6,8 @@
 mod blueprint;
 mod building;
 mod closable;
-mod fault;
 pub mod laws;
-mod reading;
+mod planning;
 mod upgrade_fault;
 mod upgrading;
 mod worlds;
@@ -17,6 +16,6 @@ mod writing;
 pub use blueprint::Blueprint;
 pub use building::{build, sectors_needed};
 pub use closable::ClosableDevice;
-pub use fault::BuildFault;
+pub use image_writer::BuildFault;
 pub use upgrade_fault::UpgradeFault;
 pub use upgrading::{OldImage, upgrade, upgrade_and_count, upgraded_sectors};

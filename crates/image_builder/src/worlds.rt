@@ -3,29 +3,14 @@ ghost use Rattle.std.specs.Prelude.{◌≡◌, ◌≢◌, IfOk, IfErr, OnOk};
 ghost use Rattle.image_builder.specs.Built.{IsWithinLimits};
 ghost use Rattle.image_builder.specs.Checked.{AreLaid, IsRefusedEarly, IsSoundDescription};
 
-use crate::fault::BuildFault;
 use capability::Plain;
 use checkpoint::OpenFault;
 use consistency::check;
-use described_world::{World, WorldFault, described_is_whole, lay_world};
+use described_world::{World, described_is_whole, lay_world};
 use description::Description;
+use image_writer::BuildFault;
 use layout::BadImage;
 use std::alloc::Global;
-
-// Lays the frames of a description.
-fn lay(alloc: Global, description: &Description) -> Result<World, BuildFault>
-    requires { IsWithinLimits description.now }
-    ensures laid { IfOk result (λ w. AreLaid description.now w.headers.items w.contents.items) }
-    ensures refused { IfErr result (λ fault. IsRefusedEarly description.now fault) }
-{
-    match lay_world(alloc, description) {
-        Ok(world) => Ok(world),
-        Err(WorldFault::Number) => Err(BuildFault::Number),
-        Err(WorldFault::Field) => Err(BuildFault::Field),
-        Err(WorldFault::Target) => Err(BuildFault::Target),
-        Err(WorldFault::NoMemory) => Err(BuildFault::NoMemory),
-    }
-}
 
 // The fault for a reason why frames are inconsistent. Processes are never one, nor are reasons 1 to 7.
 fn fault_for(why: BadImage) -> BuildFault
@@ -68,7 +53,7 @@ pub(crate) fn lay_sound(alloc: Global, description: &Description) -> Result<Worl
     ensures sound { OnOk result (IsSoundDescription description.now) }
     ensures refused { IfErr result (λ fault. IsRefusedEarly description.now fault) }
 {
-    let World { headers, contents } = lay(alloc, description)?;
+    let World { headers, contents } = lay_world(alloc, description)?;
     let mut frames = Plain::new(description.geometry, headers, contents);
     check_frames(alloc, description, &mut frames)?;
     let (headers, contents) = frames.into_parts();

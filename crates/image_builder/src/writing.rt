@@ -4,12 +4,11 @@ ghost use Rattle.device.specs.Moments.{LeavesOnly};
 ghost use Rattle.image_builder.specs.Built.{Builds, IsRefused, IsWithinLimits, plan_for};
 ghost use Rattle.image_builder.specs.Checked.{AreLaid, IsLeftBuilding, IsSoundDescription};
 
-use crate::fault::BuildFault;
 use crate::worlds::lay_sound;
 use described_world::World;
 use description::Description;
 use device::Device;
-use image_writer::write_image;
+use image_writer::{BuildFault, write_image};
 use layout::Superblock;
 use std::alloc::Global;
 
@@ -34,16 +33,14 @@ fn write<D: Device>(
     ensures cause { IsErrOf result BuildFault.Failed
         ↔ ((D.disk device.old).failures < (D.disk device.new).failures) }
 {
-    match write_image(
+    write_image(
         device,
         superblock,
         description.age,
         &world.headers,
         &world.contents,
-    ) {
-        Ok(()) => Ok(()),
-        Err(_) => Err(BuildFault::Failed),
-    }
+    )?;
+    Ok(())
 }
 
 /// Builds the image of a description.

@@ -7,7 +7,7 @@ use Rattle.image_describer.proofs.Names.{IsKeptCap, IsSoundFrames, MayBeKept, ca
 use Rattle.image_describer.proofs.Names.{fresh_cap, kind_map, mapped, sound_named, described_once, plain_frame, plain_frames, DescribedIsLaid, DescribedIsSame}
 use Rattle.std.proofs.Common.{◌≡◌, if◌then◌else◌, ◌∷◌, ◌∙◌}
 use Rattle.model.specs.declared.object.Content.TheVariants as content
-use Rattle.described_world.specs.declared.fault.WorldFault.TheVariants as fault
+use Rattle.image_writer.specs.declared.fault.BuildFault.TheVariants as fault
 
 pub plain_at : (os : List Object) (n : ℕ) → frame_at (plain_frames os) n ≡ plain_frame (object_at os n)
 unfolding plain_frames
@@ -189,3 +189,8 @@ described_is_laid g age fs d fault.Field sound describes wrong = absurd (wrong.1
 described_is_laid g age fs d fault.Target sound describes wrong =
     absurd (wrong.2 (plain_frames (objects_of fs)) describes.frames (sound_named g age (plain_frames (objects_of fs)) (sound_plain g age fs sound)))
 described_is_laid g age fs d fault.NoMemory sound describes wrong = refl
+described_is_laid g age fs d fault.Shape sound describes wrong = absurd wrong
+described_is_laid g age fs d fault.Limits sound describes wrong = absurd wrong
+described_is_laid g age fs d fault.Owner sound describes wrong = absurd wrong
+described_is_laid g age fs d fault.Small sound describes wrong = absurd wrong
+described_is_laid g age fs d fault.Failed sound describes wrong = absurd wrong

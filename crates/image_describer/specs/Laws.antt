@@ -1,7 +1,7 @@
 -- What a description of a world is laid as, and that it has a text.
 use Rattle.image_describer.specs.Names.{ℕ, List, map, Some, Frame, Geometry, IsSoundFrames, world_at, IsSound, World}
 use Rattle.image_describer.specs.Names.{Members, parse_document, IsPlan, Plan, version_number, numbers_of}
-use Rattle.image_describer.specs.Names.{IsDescription, Description, HasFields, IsDescribed, IsWorldFault, WorldFault}
+use Rattle.image_describer.specs.Names.{IsDescription, Description, HasFields, IsDescribed, IsWorldFault, BuildFault}
 use Rattle.image_describer.specs.Names.{NoMemory}
 use Rattle.std.specs.Prelude.{◌≡◌}
 use Rattle.image_describer.specs.Describes.{Describes}
@@ -17,7 +17,7 @@ DescribedIsSame = (g : Geometry) (age : ℕ) (fs gs : List Frame) (d : Descripti
 
 -- and laying the description can only fail for want of memory
 abbrev pub DescribedIsLaid : Type 0
-DescribedIsLaid = (g : Geometry) (age : ℕ) (fs : List Frame) (d : Description) (fault : WorldFault) →
+DescribedIsLaid = (g : Geometry) (age : ℕ) (fs : List Frame) (d : Description) (fault : BuildFault) →
     IsSoundFrames g age fs → Describes g (world_at age fs) d → IsWorldFault d fault → fault ≡ NoMemory
 
 -- With the home ranges and the version of a plan it has a text.

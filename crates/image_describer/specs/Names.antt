@@ -2,8 +2,6 @@
 pub use Rattle.capability.specs.Plain.{fresh_cap}
 pub use Rattle.described_world.specs.Described.{HasFields, HasNumbers, IsDescribed, IsWorldFault, first_frame}
 pub use Rattle.described_world.specs.Described.{first_named}
-pub use Rattle.described_world.specs.declared.fault.WorldFault.{WorldFault}
-pub use Rattle.described_world.specs.declared.fault.WorldFault.TheVariants.{NoMemory}
 pub use Rattle.description.specs.Reading.{IsDescription, whole_ranges}
 pub use Rattle.description.specs.declared.entry.BankEntry.{BankEntry}
 pub use Rattle.description.specs.declared.entry.Description.{Description}
@@ -13,6 +11,8 @@ pub use Rattle.description.specs.declared.entry.ProcessEntry.{ProcessEntry}
 pub use Rattle.description.specs.declared.entry.SlotEntry.{SlotEntry}
 pub use Rattle.description.specs.declared.entry.WordEntry.{WordEntry}
 pub use Rattle.image_writer.specs.Laid.{numbers_of}
+pub use Rattle.image_writer.specs.declared.fault.BuildFault.{BuildFault}
+pub use Rattle.image_writer.specs.declared.fault.BuildFault.TheVariants.{NoMemory}
 pub use Rattle.image_writer.specs.declared.number_range.NumberRange.{NumberRange}
 pub use Rattle.layout.specs.Superblock.{IsGeometry, IsPlan, Plan, version_number}
 pub use Rattle.model.specs.Capability.{named}

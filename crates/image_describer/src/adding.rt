@@ -9,9 +9,9 @@ pub(crate) fn add<E: Drop>(entries: &mut Vec<E>, entry: Option<E>) -> Result<(),
 {
     match entry {
         None => Ok(()),
-        Some(entry) => match entries.push(entry) {
-            Ok(()) => Ok(()),
-            Err(_) => Err(AllocError),
-        },
+        Some(entry) => {
+            entries.push(entry)?;
+            Ok(())
+        }
     }
 }

@@ -1,4 +1,5 @@
 pub mod Names
+pub mod Faults
 pub mod Homes
 pub mod Laid
 pub mod Laws

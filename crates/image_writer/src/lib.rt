@@ -2,6 +2,7 @@
 #![tactic(auto)]
 
 mod clusters;
+mod fault;
 mod homes;
 mod image;
 pub mod laws;
@@ -10,6 +11,7 @@ mod opening_sectors;
 mod plan;
 mod slots;
 
+pub use fault::BuildFault;
 pub use image::{write_image, write_saved};
 pub use number_range::NumberRange;
-pub use plan::{LayOutFault, lay_out, lay_out_again};
+pub use plan::{lay_out, lay_out_again};

@@ -4,15 +4,10 @@ ghost use Rattle.std.specs.List.{All};
 ghost use Rattle.layout.specs.Superblock.{IsPlan};
 ghost use Rattle.image_writer.specs.Laid.{MayBeLaid, behind, laid, laid_again, numbers_of, plan_from};
 
+use crate::fault::BuildFault;
 use crate::number_range::NumberRange;
 use layout::{HomeRange, MAX_LOG, MAX_RANGES, Superblock, Version, half_extent, range_extent};
 use model::Geometry;
-use thiserror::Error;
-
-/// No image is laid out in this way: the format has other limits.
-#[derive(Clone, Copy, Debug, PartialEq, Eq, Error)]
-#[error("no image has so many objects or slots, or ranges like these")]
-pub struct LayOutFault;
 
 // The most numbers of objects.
 const MAX_OBJECTS: u64 = 8192;
@@ -64,7 +59,7 @@ fn are_few(ranges: &[NumberRange]) -> bool
 /// Lays out an image of this version and geometry: from sector 5 on the home ranges in their
 /// order, behind them the two halves of the log. The total is the sector behind the second.
 ///
-/// It is refused exactly where the format wants other numbers: 16 to 4096 nodes, 1 to 4096 pages,
+/// It is refused, with `Limits`, exactly where the format wants other numbers: 16 to 4096 nodes, 1 to 4096 pages,
 /// 16 to 4096 slots in a half of the log; and 1 to 8 ranges that have each number once, in their
 /// order, each with nodes alone or pages alone, and none without a number. No such image takes more
 /// sectors than a device may have, in either version.
@@ -72,14 +67,15 @@ pub fn lay_out(
     version: Version,
     geometry: Geometry,
     ranges: &[NumberRange],
-) -> Result<Superblock, LayOutFault>
+) -> Result<Superblock, BuildFault>
     ensures laid { IfOk result (λ s. s ≡ plan_from version geometry ranges.now) }
     ensures fits { IfOk result (λ s. IsPlan s) }
     ensures allowed { IfOk result (λ _. MayBeLaid geometry ranges.now) }
     ensures refused { IfErr result (λ _. MayBeLaid geometry ranges.now → ⊥) }
+    ensures limits { IfErr result (λ fault. fault ≡ BuildFault.Limits) }
 {
     if geometry.log > MAX_LOG as u64 || ranges.len() > MAX_RANGES || !are_few(ranges) {
-        return Err(LayOutFault);
+        return Err(BuildFault::Limits);
     }
     let mut homes = [UNUSED; MAX_RANGES];
     let used = &mut homes[..ranges.len()];
@@ -89,7 +85,7 @@ pub fn lay_out(
     let total = second + half.length;
     match Superblock::new(version, geometry, used, first, second, total) {
         Some(superblock) => Ok(superblock),
-        None => Err(LayOutFault),
+        None => Err(BuildFault::Limits),
     }
 }
 

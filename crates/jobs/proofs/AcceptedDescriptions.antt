@@ -1,7 +1,7 @@
 -- The description of a world is built.
 use Rattle.jobs.proofs.Names.{ℕ, sym, subst, objects_of, sound_banked, sound_named, sound_plain, plain_frames, DescribedIsAccepted}
 use Rattle.std.proofs.Common.{◌^◌, ◌≤◌}
-use Rattle.image_builder.specs.declared.fault.BuildFault.TheVariants as build
+use Rattle.image_writer.specs.declared.fault.BuildFault.TheVariants as build
 
 pub described_is_accepted : DescribedIsAccepted
 described_is_accepted g age fs d v sectors sound describes layout laid room build.Limits =

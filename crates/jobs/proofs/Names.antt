@@ -16,8 +16,6 @@ pub use Rattle.device.proofs.Images.{agrees_is}
 pub use Rattle.device.specs.Disk.{Disk, Image}
 pub use Rattle.image_builder.specs.Built.{BuildsFrom, IsWithinLimits, plan_for}
 pub use Rattle.image_builder.specs.Upgraded.{IsRefusedAsOld, ReadsAndCloses, Upgrades}
-pub use Rattle.image_builder.specs.declared.fault.BuildFault.{BuildFault}
-pub use Rattle.image_builder.specs.declared.fault.BuildFault.TheVariants.{Failed}
 pub use Rattle.image_builder.specs.declared.upgrade_fault.UpgradeFault.{UpgradeFault}
 pub use Rattle.image_describer.proofs.GrownDescription.{brief_grown, fields_grown}
 pub use Rattle.image_describer.proofs.GrownFits.{not_suited}
@@ -36,6 +34,8 @@ pub use Rattle.image_drawer.proofs.Texts.{place_fails}
 pub use Rattle.image_writer.proofs.LaidAgain.{may_be_laid}
 pub use Rattle.image_writer.specs.Laid.{MayBeLaid, laid_again, numbers_of}
 pub use Rattle.image_writer.specs.Written.{first_saved}
+pub use Rattle.image_writer.specs.declared.fault.BuildFault.{BuildFault}
+pub use Rattle.image_writer.specs.declared.fault.BuildFault.TheVariants.{Failed}
 pub use Rattle.image_writer.specs.declared.number_range.NumberRange.{NumberRange}
 pub use Rattle.kernel.specs.Opening.{Opens}
 pub use Rattle.kernel.specs.Power.{Power}

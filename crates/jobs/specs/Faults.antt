@@ -4,7 +4,7 @@ use Rattle.jobs.specs.Names.{spaced, BuildFault, UpgradeFault, fault_number, Gro
 use Rattle.jobs.specs.Names.{Writes, reason_number}
 use Rattle.std.specs.Prelude.{◌≡◌, ◌∷◌, ◌++◌}
 use Rattle.checkpoint.specs.declared.open_fault.OpenFault.TheVariants as opening
-use Rattle.image_builder.specs.declared.fault.BuildFault.TheVariants as build
+use Rattle.image_writer.specs.declared.fault.BuildFault.TheVariants as build
 use Rattle.image_builder.specs.declared.upgrade_fault.UpgradeFault.TheVariants as upgrade
 use Rattle.image_describer.specs.declared.sizes.GrowthFault.TheVariants as growth
 use Rattle.script.specs.declared.fault.RunFault.TheVariants as run

@@ -8,7 +8,7 @@ use Rattle.jobs.specs.Names.{IsBrief, IsGrown, IsUnsuited, grown_geometry, grown
 use Rattle.jobs.specs.Names.{IsNotUpgraded, Upgrades, Stop, RunsOver, RunsSeen, RunFault, AppendsFront}
 use Rattle.std.specs.Prelude.{◌≡◌, ◌≢◌, ◌↔◌, ◌<◌, ◌∷◌}
 use Rattle.checkpoint.specs.declared.open_fault.OpenFault.TheVariants as opening
-use Rattle.image_builder.specs.declared.fault.BuildFault.TheVariants as build
+use Rattle.image_writer.specs.declared.fault.BuildFault.TheVariants as build
 use Rattle.image_builder.specs.declared.upgrade_fault.UpgradeFault.TheVariants as upgrade
 use Rattle.script.specs.declared.fault.RunFault.TheVariants as run
 use Rattle.jobs.specs.declared.fault.Fault.{Fault}

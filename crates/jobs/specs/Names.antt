@@ -10,9 +10,8 @@ pub use Rattle.description_explainer.specs.Places.{Explains}
 pub use Rattle.description_explainer.specs.Text.{IsExplanation}
 pub use Rattle.description_explainer.specs.declared.place.Place.{Place}
 pub use Rattle.device.specs.Disk.{Disk, Image}
-pub use Rattle.image_builder.specs.Built.{BuildsFrom, IsAccepted, IsSavedOf, Refuses, fault_number, plan_for}
+pub use Rattle.image_builder.specs.Built.{BuildsFrom, IsAccepted, IsSavedOf, Refuses, plan_for}
 pub use Rattle.image_builder.specs.Upgraded.{IsNotUpgraded, Upgrades}
-pub use Rattle.image_builder.specs.declared.fault.BuildFault.{BuildFault}
 pub use Rattle.image_builder.specs.declared.upgrade_fault.UpgradeFault.{UpgradeFault}
 pub use Rattle.image_describer.specs.Describes.{Describes, IsBrief}
 pub use Rattle.image_describer.specs.Grown.{IsGrown, IsNotRenumbered, IsRenumbered, IsUnsuited, NamesNodes, NamesPages}
@@ -26,8 +25,10 @@ pub use Rattle.image_drawer.specs.Part.{IsPart, holders, is_listed}
 pub use Rattle.image_explainer.specs.Text.{reason_number}
 unfoldable pub use Rattle.image_explainer.specs.Text.{fault_text}
 pub use Rattle.image_explainer.specs.declared.fault.ImageFault.{ImageFault}
+pub use Rattle.image_writer.specs.Faults.{fault_number}
 pub use Rattle.image_writer.specs.Laid.{MayBeLaid, laid_again, numbers_of}
 pub use Rattle.image_writer.specs.Written.{first_saved}
+pub use Rattle.image_writer.specs.declared.fault.BuildFault.{BuildFault}
 pub use Rattle.kernel.specs.Opening.{Opens}
 pub use Rattle.kernel.specs.Power.{Power}
 pub use Rattle.kernel.specs.Standing.{IsDeviceOf}

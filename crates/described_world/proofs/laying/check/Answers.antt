@@ -4,7 +4,7 @@ use Rattle.described_world.proofs.laying.check.Goals as goal
 
 pub returns-then-not-has_targets-clause-fault : goal.returns-then-not-has_targets-clause-fault
 returns-then-not-has_targets-clause-fault c =
-    let numbers : HasNumbers c.args.description.now = c.in-Ok-true.ensures.0 c.in-Ok-true.field-0-test in
+    let numbers : HasNumbers c.args.description.now = c.in_ok-numbered.ensures.0 c.if-not-numbered.false in
     let fields : HasFields c.args.description.now = c.has_fields.ensures.0 c.if-not-has_fields.false in (
       numbers,
       fields,

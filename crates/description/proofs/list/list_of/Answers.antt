@@ -1,4 +1,4 @@
-use Rattle.description.proofs.Names.{true, length, get_or, arith, is_ok, common_steps, view, IsList}
+use Rattle.description.proofs.Names.{length, get_or, arith, common_steps, view, IsList}
 use Rattle.std.proofs.Common.{◌≡◌, ◌<◌}
 use Rattle.description.proofs.Elements.{each_read, one_more}
 use Rattle.description.proofs.Parts.{failed_list}
@@ -21,6 +21,5 @@ loop-i-preserved g c =
     let v = c.index.result.now in
     let within : c.loop-i.i < length vs = grind (arith, common_steps) in
     let at : get_or vs c.loop-i.i v ≡ v = grind (arith, common_steps) in
-    let ok : is_ok c.push.result ≡ true = grind (arith, common_steps) in
-    rw (c.push.ensures.items, ok)
+    rw c.in_ok-push.ensures.items
     (one_more g.T.FromValue.IsSaid vs c.loop-i.i c.loop-i.list.items v c.in_ok-entry.entry within at c.loop-i.invariant c.in_ok-entry.ensures)

@@ -1,16 +1,16 @@
 use Rattle.description_faults.proofs.Names.{[], length, get_or, sym, subst, arith, common_steps, length-append, take_all, items_view, view, AreItems, IsList}
-use Rattle.description_faults.proofs.Names.{one_more}
-use Rattle.std.proofs.Common.{◌≡◌, ◌<◌, ◌≤◌, ◌^◌, ◌++◌, ◌∷◌}
+use Rattle.description_faults.proofs.Names.{false≢true, one_more}
+use Rattle.std.proofs.Common.{◌≡◌, ◌<◌, ◌≤◌, ◌^◌, ◌++◌, ◌∷◌, ◌∙◌}
 use Rattle.description_faults.proofs.Decisions.{item_viewed, vec_of}
 use Rattle.description_faults.proofs.shape.first_bad.Goals as goal
 
-pub returns-in-Err-Shape : goal.returns-in-Err-Shape
-returns-in-Err-Shape g c =
+pub returns-then-not-is_said : goal.returns-then-not-is_said
+returns-then-not-is_said g c =
     let vs = c.in-Ok.items.now.items in
     let v = c.index-item.result.now in
     let within : c.loop-i.i < length vs = grind (arith, common_steps) in
     let at : get_or vs c.loop-i.i v ≡ v = grind (arith, common_steps) in
-    (items_view vs, c.in-Ok.ensures, item_viewed vs c.loop-i.i v within at, rw c.in-Err-Shape.field-0-is at c.in-Err-Shape.ensures)
+    (items_view vs, c.in-Ok.ensures, item_viewed vs c.loop-i.i v within at, λ x is. false≢true (sym c.if-not-is_said.true ∙ c.in_ok-is_said.ensures.1 (x, is)))
 
 pub loop-i-preserved : goal.loop-i-preserved
 loop-i-preserved g c =
@@ -19,11 +19,11 @@ loop-i-preserved g c =
     let within : c.loop-i.i < length vs = grind (arith, common_steps) in
     let at : get_or vs c.loop-i.i v ≡ v = grind (arith, common_steps) in
     let before = c.loop-i.invariant in
-    let x = c.in-Ok-from_value.field-0 in (
+    let said = c.in_ok-is_said.ensures.0 c.if-not-is_said.false in
+    let x = said.0 in (
       before.0 ++ x ∷ [],
       omega (arith, before.1, length-append before.0 (x ∷ [])),
-      one_more g.T.FromValue.IsSaid vs c.loop-i.i before.0 v x within at before.2
-          c.in-Ok-from_value.ensures,
+      one_more g.T.FromValue.IsSaid vs c.loop-i.i before.0 v x within at before.2 said.1,
     )
 
 pub unreachable-requires : goal.unreachable-requires

@@ -1,6 +1,11 @@
 use Rattle.image_builder.proofs.Names.{err_from_is_err_and, table_view}
-use Rattle.image_builder.proofs.Refusals.{size_refused}
+use Rattle.image_builder.proofs.Refusals.{size_refused, unread_refused}
 use Rattle.image_builder.proofs.blueprint.Blueprint.read.Goals as goal
+
+pub returns-in_err-description-clause-refused : goal.returns-in_err-description-clause-refused
+returns-in_err-description-clause-refused c =
+    let p = err_from_is_err_and c.from_residual.result c.from_residual.ensures.1 in
+    rw (p.1, p.2) (unread_refused (table_view c.args.table.now) _ c.in_err-description.ensures.refused)
 
 pub returns-in_err-superblock-clause-refused : goal.returns-in_err-superblock-clause-refused
 returns-in_err-superblock-clause-refused c =
