@@ -1,7 +1,7 @@
 -- Numbers that are used in turn, and those whose use the order doesn't have yet.
-use Rattle.cache_entries.proofs.Names.{inl, inr, ℕ, zero, suc, nat_eq, Bool, true, false, cond, true≢false, List, [], length, set, take, drop, get_or, Option, Some}
-use Rattle.cache_entries.proofs.Names.{refl, sym, ap, subst, arith, Contains, slice_get, take_more, eqb-true, eq-eqb, ne_eqb, cases_eq, none-some, same_Some}
-use Rattle.cache_entries.proofs.Names.{is_member, AllDiffer, AreLatest, AreSpread, OrderState, Uses, used_in_turn, used_last, without}
+use Rattle.cache_entries.proofs.Names.{inl, inr, ℕ, zero, suc, nat_eq, Bool, true, false, cond, true≢false, List, [], length, set, take, drop, get_or, Option}
+use Rattle.cache_entries.proofs.Names.{Some, refl, sym, ap, subst, arith, Contains, slice_get, take_more, eqb-true, eq-eqb, ne_eqb, cases_eq, none-some}
+use Rattle.cache_entries.proofs.Names.{same_Some, is_member, AllDiffer, AreLatest, AreSpread, OrderState, Uses, used_in_turn, used_last, without}
 use Rattle.std.proofs.Common.{◌≡◌, ◌≢◌, ◌⊎◌, ◌+◌, ◌||◌, ◌∷◌, ◌++◌, ◌<◌, ◌≤◌, ◌∙◌}
 use Rattle.cache_entries.proofs.Orders.{differ_without, gone, length_without, member_head, member_tail, still}
 use Rattle.cache_entries.proofs.Recent.{listed_member}

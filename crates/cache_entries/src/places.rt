@@ -13,7 +13,7 @@ use std::hash::BuildHasherDefault;
 use std::marker::Model;
 use std::num::NonZeroUsize;
 
-type Order = LruCache<usize, (), BuildHasherDefault<NumberHasher>>;
+type UseList = LruCache<usize, (), BuildHasherDefault<NumberHasher>>;
 
 /// Numbers in the order of their last use, and a place for each.
 ///
@@ -21,7 +21,7 @@ type Order = LruCache<usize, (), BuildHasherDefault<NumberHasher>>;
 /// last.
 #[derive(Drop)]
 pub(crate) struct Places {
-    order: Order,
+    order: UseList,
     /// By place: its number. For a place without one the value has no meaning.
     numbers: Vec<u64>,
     /// By number: its place, or `numbers.len()` if it has none.
@@ -42,7 +42,7 @@ impl Model for Places {
 }
 
 // All places below `most`, in some order. Fails only if memory runs out.
-fn all_places(alloc: Global, most: NonZeroUsize) -> Result<Order, AllocError>
+fn all_places(alloc: Global, most: NonZeroUsize) -> Result<UseList, AllocError>
     ensures all { IfOk result (λ order. length (keys_of order.entries) ≡ non_zero_usize_get most) }
     ensures once { IfOk result (λ order. AllDiffer (keys_of order.entries)) }
     ensures known { IfOk result (λ order. (p : ℕ) → is_member (keys_of order.entries) p ≡ true
@@ -59,7 +59,7 @@ fn all_places(alloc: Global, most: NonZeroUsize) -> Result<Order, AllocError>
 }
 
 // The place used longest ago.
-fn last_place(order: &Order) -> usize
+fn last_place(order: &UseList) -> usize
     requires { 0 < length (keys_of order.now.entries) }
     ensures { used_longest_ago (keys_of order.now.entries) ≡ Some result }
 {

@@ -2,19 +2,20 @@
 use Rattle.object_cache.proofs.Names.{inr, ℕ, Bool, true, false, is_some, List, length, set, Option, Some, None, option_map, refl, sym, ap, arith, length-set}
 use Rattle.object_cache.proofs.Names.{get_or-set_same, get_or-set_other, none-some, Cap, Content, header_at, Disk, DurableState, Stored, below_at, stored_of}
 use Rattle.object_cache.proofs.Names.{Entry, entry_at, with_entry, Memory, Shared, Apart, mark_at, present_body, newest_body, below_body, apart_body}
-use Rattle.object_cache.proofs.Names.{frozen_body, frozen_frame, owed_of, owed_body, owed_in_memory, owed_in, StoreState, IsCache, IsFetchedIn, cache_of}
-use Rattle.object_cache.proofs.Names.{owed_at}
+use Rattle.object_cache.proofs.Names.{frozen_body, frozen_frame, frozen_state_of, frozen_state_body, frozen_state_in_memory, frozen_states_in, StoreState}
+use Rattle.object_cache.proofs.Names.{IsCache, IsFetchedIn, cache_of, frozen_state_at}
 use Rattle.std.proofs.Common.{◌≡◌, ◌<◌, ◌∙◌}
 use Rattle.object_cache.proofs.Changing.{with_objects}
 use Rattle.object_cache.proofs.Objects.{has_entry, fetched_known, some_of, cached_stay}
-use Rattle.object_cache.proofs.Caching.{Recaches, cached_cache, owed_changed, seen_cached, owed_entry}
+use Rattle.object_cache.proofs.Caching.{Recaches, cached_cache, frozen_state_changed, seen_cached, frozen_state_entry}
 
 -- a body that is both is of an object that is pending and wasn't written since it was frozen
-shared_owed : (e : Entry) (pending touched : Bool) → owed_of (Some e) pending touched ≡ Shared → (pending ≡ true) × (touched ≡ false) × (e.kept ≡ None)
-shared_owed e false touched is = cc
-shared_owed e true touched is = let p = go e.kept touched is in (refl, p.0, p.1)
+shared_frozen_state : (e : Entry) (pending touched : Bool) → frozen_state_of (Some e) pending touched ≡ Shared →
+    (pending ≡ true) × (touched ≡ false) × (e.kept ≡ None)
+shared_frozen_state e false touched is = cc
+shared_frozen_state e true touched is = let p = go e.kept touched is in (refl, p.0, p.1)
   where
-    go : (o : Option (Content Cap)) (t : Bool) → owed_body (is_some o) t ≡ Shared → (t ≡ false) × (o ≡ None)
+    go : (o : Option (Content Cap)) (t : Bool) → frozen_state_body (is_some o) t ≡ Shared → (t ≡ false) × (o ≡ None)
     go (Some c) t same = cc
     go None true same = cc
     go None false same = (refl, refl)
@@ -23,13 +24,13 @@ abbrev pub keeping : Entry → Entry
 keeping e = record e { kept = Some e.present }
 
 module _ (s : Stored) (m : Memory) (n : ℕ) (within : n < length m.entries) (e : Entry) (at : entry_at m.entries n ≡ Some e)
-    (shared : owed_in_memory m n ≡ Shared) where
+    (shared : frozen_state_in_memory m n ≡ Shared) where
   abbrev apart : List (Option Entry)
   apart = with_entry (keeping) n m.entries
 
   facts : (mark_at m.pending n ≡ true) × (mark_at m.touched n ≡ false) × (e.kept ≡ None)
-  facts = shared_owed e (mark_at m.pending n) (mark_at m.touched n)
-      (ap (λ (o : Option Entry). owed_of o (mark_at m.pending n) (mark_at m.touched n)) (sym at) ∙ shared)
+  facts = shared_frozen_state e (mark_at m.pending n) (mark_at m.touched n)
+      (ap (λ (o : Option Entry). frozen_state_of o (mark_at m.pending n) (mark_at m.touched n)) (sym at) ∙ shared)
 
   now : entry_at apart n ≡ Some (keeping e)
   now = get_or-set_same m.entries n (option_map (keeping) (entry_at m.entries n)) None within ∙ ap (option_map (keeping)) at
@@ -54,15 +55,15 @@ module _ (s : Stored) (m : Memory) (n : ℕ) (within : n < length m.entries) (e 
     freed = λ none pending free. absurd (none-some (keeping e) (sym none ∙ now));
   }
 
-  pub owed_apart : owed_in_memory (with_objects m m.headers apart) n ≡ Apart
-  owed_apart =
-      ap (λ (o : Option Entry). owed_of o (mark_at m.pending n) (mark_at m.touched n)) now
-      ∙ ap (λ (p : Bool). owed_of (Some (keeping e)) p (mark_at m.touched n)) facts.0
+  pub frozen_state_apart : frozen_state_in_memory (with_objects m m.headers apart) n ≡ Apart
+  frozen_state_apart =
+      ap (λ (o : Option Entry). frozen_state_of o (mark_at m.pending n) (mark_at m.touched n)) now
+      ∙ ap (λ (p : Bool). frozen_state_of (Some (keeping e)) p (mark_at m.touched n)) facts.0
 
 -- the same by what is seen
 module _ {D : Type 0} (disk : D → Disk) (d : DurableState D) (m : Memory) (left count : ℕ) (order : List ℕ) (most_entries : ℕ) (s : StoreState D)
     (view : cache_of disk d m left order most_entries ≡ s) (is : IsCache (stored_of disk d) m left count) (n : ℕ) (fetched : IsFetchedIn s n)
-    (shared : owed_at s.owed n ≡ Shared) where
+    (shared : frozen_state_at s.frozen_state n ≡ Shared) where
   known_here : n < length m.headers
   known_here = fetched_known disk d m left order most_entries s view n fetched
 
@@ -72,8 +73,8 @@ module _ {D : Type 0} (disk : D → Disk) (d : DurableState D) (m : Memory) (lef
   entry_here : (e : Entry) × (entry_at m.entries n ≡ Some e)
   entry_here = some_of (entry_at m.entries n) (has_entry disk d m left order most_entries s view n fetched)
 
-  shared_here : owed_in_memory m n ≡ Shared
-  shared_here = sym (owed_entry m n known_here) ∙ ap (λ (t : StoreState D). owed_at t.owed n) view ∙ shared
+  shared_here : frozen_state_in_memory m n ≡ Shared
+  shared_here = sym (frozen_state_entry m n known_here) ∙ ap (λ (t : StoreState D). frozen_state_at t.frozen_state n) view ∙ shared
 
   recaches : Recaches (stored_of disk d) m (with_entry keeping n m.entries) n
   recaches = keeps_apart (stored_of disk d) m n entry_within entry_here.0 entry_here.1 shared_here
@@ -81,11 +82,12 @@ module _ {D : Type 0} (disk : D → Disk) (d : DurableState D) (m : Memory) (lef
   pub apart_stands : IsCache (stored_of disk d) (with_objects m m.headers (with_entry keeping n m.entries)) left count
   apart_stands = cached_cache (stored_of disk d) m (with_entry keeping n m.entries) n recaches left count is
 
-  pub apart_seen : cache_of disk d (with_objects m m.headers (with_entry keeping n m.entries)) left order most_entries ≡ record s { owed = set s.owed n Apart }
+  pub apart_seen : cache_of disk d (with_objects m m.headers (with_entry keeping n m.entries)) left order most_entries ≡ record s
+      { frozen_state = set s.frozen_state n Apart }
   apart_seen =
-      seen_cached disk d m left order most_entries (with_entry keeping n m.entries) n recaches (set (owed_in m) n Apart)
-      (owed_changed (stored_of disk d) m (with_entry keeping n m.entries) n recaches Apart known_here
-      (owed_apart (stored_of disk d) m n entry_within entry_here.0 entry_here.1 shared_here))
-      ∙ ap (λ (rs : List Bool). record (cache_of disk d m left order most_entries) { cached = rs; owed = set (owed_in m) n Apart })
+      seen_cached disk d m left order most_entries (with_entry keeping n m.entries) n recaches (set (frozen_states_in m) n Apart)
+      (frozen_state_changed (stored_of disk d) m (with_entry keeping n m.entries) n recaches Apart known_here
+      (frozen_state_apart (stored_of disk d) m n entry_within entry_here.0 entry_here.1 shared_here))
+      ∙ ap (λ (rs : List Bool). record (cache_of disk d m left order most_entries) { cached = rs; frozen_state = set (frozen_states_in m) n Apart })
       (cached_stay keeping n m.entries)
-      ∙ ap (λ (t : StoreState D). record t { owed = set t.owed n Apart }) view
+      ∙ ap (λ (t : StoreState D). record t { frozen_state = set t.frozen_state n Apart }) view

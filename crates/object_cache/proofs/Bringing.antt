@@ -2,8 +2,8 @@
 use Rattle.object_cache.proofs.Names.{inl, inr, ℕ, zero, suc, nat_eq, Bool, true, false, true≢false, List, [], length, set, take, Option, is_some, Result, Ok}
 use Rattle.object_cache.proofs.Names.{Err, refl, sym, ap, subst, arith, OnOk, OnErr, slice_index_or, Contains, cases_eq, cases_lt, eq-eqb, get_or_past}
 use Rattle.object_cache.proofs.Names.{get_or_default, get_or-set_same, get_or-set_other, length-map, Geometry, AreKeepable, is_member, Disk, most, DurableState}
-use Rattle.object_cache.proofs.Names.{stored_of, frames_of, Snapshots, FrozenFrames, Entry, Memory, without, StoreState, IsCache, IsFetchedIn, GoesOnIn}
-use Rattle.object_cache.proofs.Names.{cond, ne_eqb, cache_of, parts_of, cached_at, cached_in, with_cached, IsRecentIn, on_device, on_device_with}
+use Rattle.object_cache.proofs.Names.{stored_of, frames_of, Snapshots, FrozenFrames, Entry, Memory, without, StoreState, IsCache, IsFetchedIn, GoesOnIn, cond}
+use Rattle.object_cache.proofs.Names.{ne_eqb, cache_of, parts_of, cached_at, cached_in, with_cached, IsRecentIn, on_device, on_device_with}
 use Rattle.std.proofs.Common.{◌≡◌, ◌≢◌, ◌+◌, ◌<◌, ◌≤◌, ◌||◌, ◌∷◌, ◌∙◌}
 use Rattle.object_cache.proofs.Objects.{contents_count}
 

@@ -2,10 +2,11 @@
 use Rattle.object_cache.proofs.Names.{inl, inr, ℕ, Bool, true, false, true≢false, cond, List, length, set, Option, Some, None, option_map, refl, sym, ap, subst}
 use Rattle.object_cache.proofs.Names.{arith, length-set, cases_eq, ne_eqb, get_or-set_same, get_or-set_other, map-set, get_or-map-range_with_len, none-some}
 use Rattle.object_cache.proofs.Names.{same_Some, Cap, Frame, Content, Role, header_at, held_at, AreKeepable, Disk, Put, Kept, put_at, most, DurableState}
-use Rattle.object_cache.proofs.Names.{FrozenPuts, Stored, below_at, stored_of, maps_same, map_set, Entry, Held, entry_at, new_entry, is_some, Memory, Owed}
-use Rattle.object_cache.proofs.Names.{Nothing, mark_at, masked, in_staging, put_body, present_body, content_at, present_at, newest_body, below_body, apart_body}
-use Rattle.object_cache.proofs.Names.{frozen_body, frozen_frame, frozen_at, owed_of, owed_body, owed_in_memory, contents_in, frozen_in, owed_in, StoreState}
-use Rattle.object_cache.proofs.Names.{IsCache, IsFetchedIn, cache_of, is_kept, owed_by, owed_at, cached_at, cached_in, with_cached, without}
+use Rattle.object_cache.proofs.Names.{FrozenPuts, Stored, below_at, stored_of, maps_same, map_set, Entry, Held, entry_at, new_entry, is_some, Memory}
+use Rattle.object_cache.proofs.Names.{FrozenState, Nothing, mark_at, masked, in_staging, put_body, present_body, content_at, present_at, newest_body}
+use Rattle.object_cache.proofs.Names.{below_body, apart_body, frozen_body, frozen_frame, frozen_at, frozen_state_of, frozen_state_body, frozen_state_in_memory}
+use Rattle.object_cache.proofs.Names.{contents_in, frozen_in, frozen_states_in, StoreState, IsCache, IsFetchedIn, cache_of, is_kept, frozen_state_by}
+use Rattle.object_cache.proofs.Names.{frozen_state_at, cached_at, cached_in, with_cached, without}
 use Rattle.std.proofs.Common.{◌≡◌, ◌≢◌, ◌⊎◌, ◌<◌, ◌∷◌, ◌∙◌}
 use Rattle.model.specs.declared.object.Role.TheVariants as role
 use Rattle.object_cache.proofs.Changing.{with_objects}
@@ -50,17 +51,18 @@ module _ (s : Stored) (m : Memory) (es : List (Option Entry)) (n : ℕ) (change 
   unfolding frozen_in
   frozen_stay = maps_same (frozen_at s cached) (frozen_at s m) (length m.headers) (λ k below. frozen_stays k)
 
-  pub owed_changed : (x : Owed) → n < length m.headers → owed_in_memory cached n ≡ x → owed_in cached ≡ set (owed_in m) n x
-  unfolding owed_in
-  owed_changed x within here =
-      map_set (owed_in_memory m) (owed_in_memory cached) (length m.headers) n x within here
-      (λ k below other. ap (λ (o : Option Entry). owed_of o (mark_at m.pending k) (mark_at m.touched k)) (change.entries k other))
+  pub frozen_state_changed : (x : FrozenState) → n < length m.headers → frozen_state_in_memory cached n ≡ x →
+      frozen_states_in cached ≡ set (frozen_states_in m) n x
+  unfolding frozen_states_in
+  frozen_state_changed x within here =
+      map_set (frozen_state_in_memory m) (frozen_state_in_memory cached) (length m.headers) n x within here
+      (λ k below other. ap (λ (o : Option Entry). frozen_state_of o (mark_at m.pending k) (mark_at m.touched k)) (change.entries k other))
 
-  pub owed_stay : owed_in_memory cached n ≡ owed_in_memory m n → owed_in cached ≡ owed_in m
-  unfolding owed_in
-  owed_stay here = maps_same (owed_in_memory cached) (owed_in_memory m) (length m.headers) (λ k below. elim (cases_eq k n) [
-    | inl same ↦ ap (owed_in_memory cached) same ∙ here ∙ ap (owed_in_memory m) (sym same)
-    | inr other ↦ ap (λ (o : Option Entry). owed_of o (mark_at m.pending k) (mark_at m.touched k)) (change.entries k other)
+  pub frozen_state_stay : frozen_state_in_memory cached n ≡ frozen_state_in_memory m n → frozen_states_in cached ≡ frozen_states_in m
+  unfolding frozen_states_in
+  frozen_state_stay here = maps_same (frozen_state_in_memory cached) (frozen_state_in_memory m) (length m.headers) (λ k below. elim (cases_eq k n) [
+    | inl same ↦ ap (frozen_state_in_memory cached) same ∙ here ∙ ap (frozen_state_in_memory m) (sym same)
+    | inr other ↦ ap (λ (o : Option Entry). frozen_state_of o (mark_at m.pending k) (mark_at m.touched k)) (change.entries k other)
   ])
 
   pub cached_cache : (left count : ℕ) → IsCache s m left count → IsCache s cached left count
@@ -102,13 +104,13 @@ module _ (s : Stored) (m : Memory) (es : List (Option Entry)) (n : ℕ) (change 
 
 -- ---- an entry that isn't wanted is dropped
 
--- an entry that owes nothing
-pub nothing_owed : (e : Entry) (pending touched : Bool) → owed_of (Some e) pending touched ≡ Nothing →
+-- an entry without an unwritten frozen body
+pub nothing_frozen_state : (e : Entry) (pending touched : Bool) → frozen_state_of (Some e) pending touched ≡ Nothing →
     (pending ≡ false) ⊎ ((pending ≡ true) × (touched ≡ true) × (e.kept ≡ None))
-nothing_owed e false touched is = inl refl
-nothing_owed e true touched is = let p = go e.kept touched is in inr (refl, p.0, p.1)
+nothing_frozen_state e false touched is = inl refl
+nothing_frozen_state e true touched is = let p = go e.kept touched is in inr (refl, p.0, p.1)
   where
-    go : (o : Option (Content Cap)) (t : Bool) → owed_body (is_some o) t ≡ Nothing → (t ≡ true) × (o ≡ None)
+    go : (o : Option (Content Cap)) (t : Bool) → frozen_state_body (is_some o) t ≡ Nothing → (t ≡ true) × (o ≡ None)
     go (Some c) t same = cc
     go None true same = (refl, refl)
     go None false same = cc
@@ -122,7 +124,7 @@ no_staging (Some h) pending held n c not_pending =
 
 module _ (s : Stored) (m : Memory) (left count : ℕ) (is : IsCache s m left count) (n : ℕ) (within : n < length m.headers) (e : Entry)
     (at : entry_at m.entries n ≡ Some e)
-    (clean : mark_at m.dirty n ≡ false) (owed : owed_in_memory m n ≡ Nothing)
+    (clean : mark_at m.dirty n ≡ false) (frozen_state : frozen_state_in_memory m n ≡ Nothing)
     (masks : masked (header_at m.headers n).role (content_at s m n) ≡ content_at s m n) where
   abbrev dropped : List (Option Entry)
   dropped = set m.entries n None
@@ -133,14 +135,14 @@ module _ (s : Stored) (m : Memory) (left count : ℕ) (is : IsCache s m left cou
   none_now : entry_at dropped n ≡ None
   none_now = get_or-set_same m.entries n None None entry_within
 
-  owed_here : owed_of (Some e) (mark_at m.pending n) (mark_at m.touched n) ≡ Nothing
-  owed_here = ap (λ (o : Option Entry). owed_of o (mark_at m.pending n) (mark_at m.touched n)) (sym at) ∙ owed
+  frozen_state_here : frozen_state_of (Some e) (mark_at m.pending n) (mark_at m.touched n) ≡ Nothing
+  frozen_state_here = ap (λ (o : Option Entry). frozen_state_of o (mark_at m.pending n) (mark_at m.touched n)) (sym at) ∙ frozen_state
 
   -- the newest body without the entry is the one in it
   newest_is : (t : Bool) → mark_at m.touched n ≡ t → newest_body s m n ≡ content_at s m n
   newest_is true touched = ap (λ (p : Put). put_body p (below_body s m n)) (is.clean n clean touched)
   newest_is false untouched =
-      let not_pending : mark_at m.pending n ≡ false = (elim (nothing_owed e (mark_at m.pending n) (mark_at m.touched n) owed_here) [
+      let not_pending : mark_at m.pending n ≡ false = (elim (nothing_frozen_state e (mark_at m.pending n) (mark_at m.touched n) frozen_state_here) [
         | inl none ↦ none
         | inr wanted ↦ absurd (true≢false (sym wanted.1 ∙ untouched))
       ]) in
@@ -154,7 +156,7 @@ module _ (s : Stored) (m : Memory) (left count : ℕ) (is : IsCache s m left cou
   frozen_is =
       ap (λ (o : Option Entry). frozen_frame (mark_at m.pending n) (header_at m.frozen_headers n) (frozen_body o (mark_at m.touched n) (below_body s m n))
       (below_at s n)) none_now
-      ∙ (elim (nothing_owed e (mark_at m.pending n) (mark_at m.touched n) owed_here) [
+      ∙ (elim (nothing_frozen_state e (mark_at m.pending n) (mark_at m.touched n) frozen_state_here) [
         | inl not_pending ↦
             ap (λ (p : Bool). frozen_frame p (header_at m.frozen_headers n) (below_body s m n) (below_at s n)) not_pending
             ∙ sym (ap (λ (p : Bool). frozen_frame p (header_at m.frozen_headers n) (frozen_body (entry_at m.entries n) (mark_at m.touched n) (below_body s m n))
@@ -175,78 +177,79 @@ module _ (s : Stored) (m : Memory) (left count : ℕ) (is : IsCache s m left cou
         ∙ ap (masked (header_at m.headers n).role) (newest_is (mark_at m.touched n) refl) ∙ masks;
     frozen = frozen_is;
     apart = λ f here. absurd (none-some f (sym none_now ∙ here));
-    freed = λ none pending free. elim (nothing_owed e (mark_at m.pending n) (mark_at m.touched n) owed_here) [
+    freed = λ none pending free. elim (nothing_frozen_state e (mark_at m.pending n) (mark_at m.touched n) frozen_state_here) [
       | inl not_pending ↦ absurd (true≢false (sym pending ∙ not_pending))
       | inr wanted ↦ inl (ap is_kept (is.clean n clean wanted.1))
     ];
   }
 
-  pub owed_dropped : owed_in_memory (with_objects m m.headers dropped) n ≡ owed_in_memory m n
-  owed_dropped = ap (λ (o : Option Entry). owed_of o (mark_at m.pending n) (mark_at m.touched n)) none_now ∙ sym owed
+  pub frozen_state_dropped : frozen_state_in_memory (with_objects m m.headers dropped) n ≡ frozen_state_in_memory m n
+  frozen_state_dropped = ap (λ (o : Option Entry). frozen_state_of o (mark_at m.pending n) (mark_at m.touched n)) none_now ∙ sym frozen_state
 
 module _ {D : Type 0} (disk : D → Disk) (d : DurableState D) (m : Memory) (left : ℕ) (order : List ℕ) (most_entries : ℕ) (es : List (Option Entry)) (n : ℕ)
     (change : Recaches (stored_of disk d) m es n) where
   -- all that is seen but for which numbers have entries and what entries have of the frozen frames
-  pub seen_cached : (x : List Owed) → owed_in (with_objects m m.headers es) ≡ x →
+  pub seen_cached : (x : List FrozenState) → frozen_states_in (with_objects m m.headers es) ≡ x →
       cache_of disk d (with_objects m m.headers es) left order most_entries ≡ record
-      (cache_of disk d m left order most_entries) { cached = cached_in es; owed = x }
-  seen_cached x owed =
+      (cache_of disk d m left order most_entries) { cached = cached_in es; frozen_state = x }
+  seen_cached x frozen_state =
       let s = stored_of disk d in
       let t = with_objects m m.headers es in
       let old = cache_of disk d m left order most_entries in
       ap (λ (fs : List Frame). record old {
         contents = contents_in s t;
         cached = cached_in es;
-        owed = owed_in t;
+        frozen_state = frozen_states_in t;
         frozen = option_map (λ (f : FrozenPuts). record { frames = fs; size = f.size; left = left }) s.frozen;
       }) (frozen_stay s m es n change)
-      ∙ ap (λ (cs : List (Content Cap)). record old { contents = cs; cached = cached_in es; owed = owed_in t }) (contents_stay s m es n change)
-      ∙ ap (λ (os : List Owed). record old { cached = cached_in es; owed = os }) owed
+      ∙ ap (λ (cs : List (Content Cap)). record old { contents = cs; cached = cached_in es; frozen_state = frozen_states_in t }) (contents_stay s m es n change)
+      ∙ ap (λ (os : List FrozenState). record old { cached = cached_in es; frozen_state = os }) frozen_state
 
 pub cached_set : (es : List (Option Entry)) (n : ℕ) (o : Option Entry) → cached_in (set es n o) ≡ set (cached_in es) n (is_some o)
 unfolding cached_in
 cached_set es n o = map-set is_some es n o
 
-pub owed_entry : (m : Memory) (n : ℕ) → n < length m.headers → owed_at (owed_in m) n ≡ owed_in_memory m n
-unfolding owed_in
-owed_entry m n within = get_or-map-range_with_len (owed_in_memory m) 0 (length m.headers) n n Nothing within (omega arith)
+pub frozen_state_entry : (m : Memory) (n : ℕ) → n < length m.headers → frozen_state_at (frozen_states_in m) n ≡ frozen_state_in_memory m n
+unfolding frozen_states_in
+frozen_state_entry m n within = get_or-map-range_with_len (frozen_state_in_memory m) 0 (length m.headers) n n Nothing within (omega arith)
 
 -- the same by what is seen
 module _ {D : Type 0} (disk : D → Disk) (d : DurableState D) (m : Memory) (left count : ℕ) (order : List ℕ) (most_entries : ℕ) (s : StoreState D)
     (view : cache_of disk d m left order most_entries ≡ s) (is : IsCache (stored_of disk d) m left count) (n : ℕ) (fetched : IsFetchedIn s n)
     (clean : mark_at s.dirty n ≡ false)
-    (owed : owed_at s.owed n ≡ Nothing) (masks : masked (header_at s.headers n).role (held_at s.contents n) ≡ held_at s.contents n) where
-  in_table : n < length m.headers
-  in_table = omega (arith, fetched.header, ap (λ (t : StoreState D). length t.headers) view)
+    (frozen_state : frozen_state_at s.frozen_state n ≡ Nothing) (masks : masked (header_at s.headers n).role (held_at s.contents n) ≡ held_at s.contents n)
+  where
+    in_table : n < length m.headers
+    in_table = omega (arith, fetched.header, ap (λ (t : StoreState D). length t.headers) view)
 
-  holds : content_at (stored_of disk d) m n ≡ held_at s.contents n
-  holds = sym (content_in (stored_of disk d) m n in_table) ∙ ap (λ (t : StoreState D). held_at t.contents n) view
+    holds : content_at (stored_of disk d) m n ≡ held_at s.contents n
+    holds = sym (content_in (stored_of disk d) m n in_table) ∙ ap (λ (t : StoreState D). held_at t.contents n) view
 
-  masks_here : masked (header_at m.headers n).role (content_at (stored_of disk d) m n) ≡ content_at (stored_of disk d) m n
-  masks_here =
-      ap (masked (header_at m.headers n).role) holds
-      ∙ ap (λ (t : StoreState D). masked (header_at t.headers n).role (held_at s.contents n)) view
-      ∙ masks ∙ sym holds
+    masks_here : masked (header_at m.headers n).role (content_at (stored_of disk d) m n) ≡ content_at (stored_of disk d) m n
+    masks_here =
+        ap (masked (header_at m.headers n).role) holds
+        ∙ ap (λ (t : StoreState D). masked (header_at t.headers n).role (held_at s.contents n)) view
+        ∙ masks ∙ sym holds
 
-  entry_here : (e : Entry) × (entry_at m.entries n ≡ Some e)
-  entry_here = some_of (entry_at m.entries n) (has_entry disk d m left order most_entries s view n fetched)
+    entry_here : (e : Entry) × (entry_at m.entries n ≡ Some e)
+    entry_here = some_of (entry_at m.entries n) (has_entry disk d m left order most_entries s view n fetched)
 
-  drops_here : Recaches (stored_of disk d) m (set m.entries n None) n
-  drops_here = drops (stored_of disk d) m left count is n in_table entry_here.0 entry_here.1 (ap (λ (t : StoreState D). mark_at t.dirty n) view ∙ clean)
-      (sym (owed_entry m n in_table) ∙ ap (λ (t : StoreState D). owed_at t.owed n) view ∙ owed) masks_here
+    drops_here : Recaches (stored_of disk d) m (set m.entries n None) n
+    drops_here = drops (stored_of disk d) m left count is n in_table entry_here.0 entry_here.1 (ap (λ (t : StoreState D). mark_at t.dirty n) view ∙ clean)
+        (sym (frozen_state_entry m n in_table) ∙ ap (λ (t : StoreState D). frozen_state_at t.frozen_state n) view ∙ frozen_state) masks_here
 
-  pub dropped_stands : IsCache (stored_of disk d) (with_objects m m.headers (set m.entries n None)) left count
-  dropped_stands = cached_cache (stored_of disk d) m (set m.entries n None) n drops_here left count is
+    pub dropped_stands : IsCache (stored_of disk d) (with_objects m m.headers (set m.entries n None)) left count
+    dropped_stands = cached_cache (stored_of disk d) m (set m.entries n None) n drops_here left count is
 
-  pub dropped_seen : cache_of disk d (with_objects m m.headers (set m.entries n None)) left (without n order) most_entries ≡ record
-      s { cached = set s.cached n false; order = without n s.order }
-  dropped_seen =
-      seen_cached disk d m left (without n order) most_entries (set m.entries n None) n drops_here (owed_in m)
-      (owed_stay (stored_of disk d) m (set m.entries n None) n drops_here
-      (owed_dropped (stored_of disk d) m left count is n in_table entry_here.0 entry_here.1 (ap (λ (t : StoreState D). mark_at t.dirty n) view ∙ clean)
-      (sym (owed_entry m n in_table) ∙ ap (λ (t : StoreState D). owed_at t.owed n) view ∙ owed) masks_here))
-      ∙ ap (λ (rs : List Bool). record (cache_of disk d m left (without n order) most_entries) { cached = rs }) (cached_set m.entries n None)
-      ∙ ap (λ (t : StoreState D). record t { cached = set t.cached n false; order = without n t.order }) view
+    pub dropped_seen : cache_of disk d (with_objects m m.headers (set m.entries n None)) left (without n order) most_entries ≡ record
+        s { cached = set s.cached n false; order = without n s.order }
+    dropped_seen =
+        seen_cached disk d m left (without n order) most_entries (set m.entries n None) n drops_here (frozen_states_in m)
+        (frozen_state_stay (stored_of disk d) m (set m.entries n None) n drops_here
+        (frozen_state_dropped (stored_of disk d) m left count is n in_table entry_here.0 entry_here.1 (ap (λ (t : StoreState D). mark_at t.dirty n) view ∙ clean)
+        (sym (frozen_state_entry m n in_table) ∙ ap (λ (t : StoreState D). frozen_state_at t.frozen_state n) view ∙ frozen_state) masks_here))
+        ∙ ap (λ (rs : List Bool). record (cache_of disk d m left (without n order) most_entries) { cached = rs }) (cached_set m.entries n None)
+        ∙ ap (λ (t : StoreState D). record t { cached = set t.cached n false; order = without n t.order }) view
 
 -- ---- a number gets an entry
 
@@ -308,8 +311,9 @@ module _ (s : Stored) (m : Memory) (left count : ℕ) (is : IsCache s m left cou
     freed = λ gone pending free. absurd (none-some e (sym gone ∙ some_now));
   }
 
-  pub owed_new : owed_in_memory (with_objects m m.headers more) number ≡ owed_by (mark_at m.pending number) false (mark_at m.touched number)
-  owed_new = ap (λ (o : Option Entry). owed_of o (mark_at m.pending number) (mark_at m.touched number)) some_now
+  pub frozen_state_new : frozen_state_in_memory (with_objects m m.headers more) number ≡ frozen_state_by (mark_at m.pending number) false
+      (mark_at m.touched number)
+  frozen_state_new = ap (λ (o : Option Entry). frozen_state_of o (mark_at m.pending number) (mark_at m.touched number)) some_now
 
 no_entry_by : (o : Option Entry) → is_some o ≡ false → o ≡ None
 no_entry_by None is = refl
@@ -338,9 +342,10 @@ module _ {D : Type 0} (disk : D → Disk) (d : DurableState D) (m : Memory) (lef
     pub cached_seen : cache_of disk d (with_objects m m.headers (set m.entries n (Some (new_entry c)))) left (n ∷ order) most_entries ≡ with_cached n s
     cached_seen =
         let es = set m.entries n (Some (new_entry c)) in
-        let x = owed_by (mark_at m.pending n) false (mark_at m.touched n) in
-        seen_cached disk d m left (n ∷ order) most_entries es n new_here (set (owed_in m) n x)
-        (owed_changed (stored_of disk d) m es n new_here x there (owed_new (stored_of disk d) m left count is n c there (no_entry n uncached) present_there))
-        ∙ ap (λ (rs : List Bool). record (cache_of disk d m left (n ∷ order) most_entries) { cached = rs; owed = set (owed_in m) n x })
+        let x = frozen_state_by (mark_at m.pending n) false (mark_at m.touched n) in
+        seen_cached disk d m left (n ∷ order) most_entries es n new_here (set (frozen_states_in m) n x)
+        (frozen_state_changed (stored_of disk d) m es n new_here x there (frozen_state_new (stored_of disk d) m left count is n c there (no_entry n uncached)
+        present_there))
+        ∙ ap (λ (rs : List Bool). record (cache_of disk d m left (n ∷ order) most_entries) { cached = rs; frozen_state = set (frozen_states_in m) n x })
         (cached_set m.entries n (Some (new_entry c)))
         ∙ ap (with_cached n) view

@@ -2,8 +2,8 @@
 use Rattle.object_cache.proofs.Names.{inl, inr, ℕ, Bool, true, false, true≢false, List, length, map, set, Option, Some, None, is_some, option_map, refl, sym}
 use Rattle.object_cache.proofs.Names.{ap, subst, arith, range_with_len, cases_eq, none-some, same_Some, Cap, ObjectHeader, Content, header_at, AreKeepable}
 use Rattle.object_cache.proofs.Names.{Kept, most, Stored, below_at, maps_same, map_set, Entry, entry_at, kept_of, Memory, mark_at, present_body, content_at}
-use Rattle.object_cache.proofs.Names.{present_at, newest_body, below_body, apart_body, frozen_body, frozen_frame, frozen_at, owed_of, owed_body, owed_in_memory}
-use Rattle.object_cache.proofs.Names.{contents_in, frozen_in, owed_in, IsCache}
+use Rattle.object_cache.proofs.Names.{present_at, newest_body, below_body, apart_body, frozen_body, frozen_frame, frozen_at, frozen_state_of, frozen_state_body}
+use Rattle.object_cache.proofs.Names.{frozen_state_in_memory, contents_in, frozen_in, frozen_states_in, IsCache}
 use Rattle.std.proofs.Common.{◌≡◌, ◌≢◌, ◌⊎◌, ◌<◌, ◌∙◌}
 use Rattle.model.specs.declared.object.Role.TheVariants as role
 
@@ -34,12 +34,13 @@ by_kept (Some e) (Some f) below same = kept_alone e.kept f.kept (same_Some e.kep
         touched_body None = refl
         touched_body (Some c) = refl
 
-owed_by_kept : (o p : Option Entry) (pending : Bool) → option_map kept_of o ≡ option_map kept_of p → owed_of o pending true ≡ owed_of p pending true
-owed_by_kept None None pending same = refl
-owed_by_kept None (Some f) pending same = absurd (none-some f.kept same)
-owed_by_kept (Some e) None pending same = absurd (none-some e.kept (sym same))
-owed_by_kept (Some e) (Some f) false same = refl
-owed_by_kept (Some e) (Some f) true same = ap (λ (o : Option (Content Cap)). owed_body (is_some o) true) (same_Some e.kept f.kept same)
+frozen_state_by_kept : (o p : Option Entry) (pending : Bool) → option_map kept_of o ≡ option_map kept_of p →
+    frozen_state_of o pending true ≡ frozen_state_of p pending true
+frozen_state_by_kept None None pending same = refl
+frozen_state_by_kept None (Some f) pending same = absurd (none-some f.kept same)
+frozen_state_by_kept (Some e) None pending same = absurd (none-some e.kept (sym same))
+frozen_state_by_kept (Some e) (Some f) false same = refl
+frozen_state_by_kept (Some e) (Some f) true same = ap (λ (o : Option (Content Cap)). frozen_state_body (is_some o) true) (same_Some e.kept f.kept same)
 
 module _ (s : Stored) (m : Memory) (hs : List ObjectHeader) (es : List (Option Entry)) (n : ℕ) (change : Changes m hs es n) where
   abbrev changed : Memory
@@ -93,22 +94,22 @@ module _ (s : Stored) (m : Memory) (hs : List ObjectHeader) (es : List (Option E
         ap (λ (k : ℕ). map (frozen_at s changed) (range_with_len 0 k)) change.header_count
         ∙ maps_same (frozen_at s changed) (frozen_at s m) (length m.headers) (λ k below. frozen_stays k)
 
-    owed_stays : (k : ℕ) → owed_in_memory changed k ≡ owed_in_memory m k
-    owed_stays k = elim (cases_eq k n) [
+    frozen_state_stays : (k : ℕ) → frozen_state_in_memory changed k ≡ frozen_state_in_memory m k
+    frozen_state_stays k = elim (cases_eq k n) [
       | inl same ↦
-          ap (owed_in_memory changed) same
-          ∙ ap (owed_of (entry_at es n) (mark_at m.pending n)) touched
-          ∙ owed_by_kept (entry_at es n) (entry_at m.entries n) (mark_at m.pending n) change.kept
-          ∙ ap (owed_of (entry_at m.entries n) (mark_at m.pending n)) (sym touched)
-          ∙ ap (owed_in_memory m) (sym same)
-      | inr other ↦ ap (λ (o : Option Entry). owed_of o (mark_at m.pending k) (mark_at m.touched k)) (change.entries k other)
+          ap (frozen_state_in_memory changed) same
+          ∙ ap (frozen_state_of (entry_at es n) (mark_at m.pending n)) touched
+          ∙ frozen_state_by_kept (entry_at es n) (entry_at m.entries n) (mark_at m.pending n) change.kept
+          ∙ ap (frozen_state_of (entry_at m.entries n) (mark_at m.pending n)) (sym touched)
+          ∙ ap (frozen_state_in_memory m) (sym same)
+      | inr other ↦ ap (λ (o : Option Entry). frozen_state_of o (mark_at m.pending k) (mark_at m.touched k)) (change.entries k other)
     ]
 
-    pub owed_same : owed_in changed ≡ owed_in m
-    unfolding owed_in
-    owed_same =
-        ap (λ (k : ℕ). map (owed_in_memory changed) (range_with_len 0 k)) change.header_count
-        ∙ maps_same (owed_in_memory changed) (owed_in_memory m) (length m.headers) (λ k below. owed_stays k)
+    pub frozen_state_same : frozen_states_in changed ≡ frozen_states_in m
+    unfolding frozen_states_in
+    frozen_state_same =
+        ap (λ (k : ℕ). map (frozen_state_in_memory changed) (range_with_len 0 k)) change.header_count
+        ∙ maps_same (frozen_state_in_memory changed) (frozen_state_in_memory m) (length m.headers) (λ k below. frozen_state_stays k)
 
   module _ (left count : ℕ) (is : IsCache s m left count) (dirty : mark_at m.dirty n ≡ true) where
     touched_here : mark_at m.touched n ≡ true

@@ -1,10 +1,9 @@
 -- Which entries go: a cache keeps the numbers used last, as many as its capacity.
 use Rattle.object_cache.proofs.Names.{inl, inr, ℕ, zero, suc, List, [], Bool, length, take, true, refl, sym, ap, subst, arith, cases_eq, cases_lt}
-use Rattle.object_cache.proofs.Names.{slice_index_or, is_member, used_in_turn, without, StoreState, IsBounded, IsFetchedIn, UsesSome, cached_at, false, true≢false}
-use Rattle.object_cache.proofs.Names.{take_all}
+use Rattle.object_cache.proofs.Names.{slice_index_or, is_member, used_in_turn, without, StoreState, IsBounded, IsFetchedIn, UsesSome, cached_at, false}
+use Rattle.object_cache.proofs.Names.{true≢false, take_all, length_without, in_either, in_front, one_more, used_anew, used_front, without_absent, without_here}
+use Rattle.object_cache.proofs.Names.{without_tail}
 use Rattle.std.proofs.Common.{◌≡◌, ◌≢◌, ◌+◌, ◌-◌, ◌<◌, ◌≤◌, ◌∷◌, ◌++◌, ◌∙◌}
-use Rattle.cache_entries.proofs.Orders.{length_without}
-use Rattle.cache_entries.proofs.Turns.{in_either, in_front, one_more, used_anew, used_front, without_absent, without_here, without_tail}
 use Rattle.object_cache.proofs.Bringing.{front_front}
 
 -- ---- the front of an order
@@ -47,15 +46,15 @@ same_front j xs ys same few = same ∙ sym (take_all j xs few)
 
 -- one that has an entry
 pub used_order : {D : Type 0} (s : StoreState D) (n : ℕ) → IsBounded s → IsFetchedIn s n →
-    n ∷ without n s.order ≡ take s.most (n ∷ without n s.order)
-used_order s n bounded there = same_front s.most (n ∷ without n s.order) (n ∷ without n s.order) refl
+    n ∷ without n s.order ≡ take s.capacity (n ∷ without n s.order)
+used_order s n bounded there = same_front s.capacity (n ∷ without n s.order) (n ∷ without n s.order) refl
     (omega (arith, length_without n s.order (bounded.listed n ∙ there.cached), bounded.few))
 
 -- one that has none
-pub brought_order : {D : Type 0} (s : StoreState D) (n : ℕ) (os : List ℕ) → IsBounded s → cached_at s.cached n ≡ false → os ≡ take s.most (n ∷ s.order) →
-    os ≡ take s.most (n ∷ without n s.order)
+pub brought_order : {D : Type 0} (s : StoreState D) (n : ℕ) (os : List ℕ) → IsBounded s → cached_at s.cached n ≡ false → os ≡ take s.capacity (n ∷ s.order) →
+    os ≡ take s.capacity (n ∷ without n s.order)
 brought_order s n os bounded none is =
-    is ∙ ap (λ (ns : List ℕ). take s.most (n ∷ ns)) (sym (without_absent n s.order (bounded.listed n ∙ none)))
+    is ∙ ap (λ (ns : List ℕ). take s.capacity (n ∷ ns)) (sym (without_absent n s.order (bounded.listed n ∙ none)))
 
 -- ---- numbers are used in turn
 

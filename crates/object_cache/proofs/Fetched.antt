@@ -50,7 +50,7 @@ module _ {D : Type 0} (disk : D → Disk) (d : DurableState D) (m : Memory) (lef
       snapshots = ap (λ (t : Stored). record { frozen = frozen_seen t m left; saved = t.saved; to_move = t.to_move }) reads.stored;
       later = later;
       grows = omega arith;
-      most = refl;
+      capacity = refl;
       only_reads = λ none idle. reads.any_moment;
     })
 
@@ -78,5 +78,5 @@ module _ {D : Type 0} (disk : D → Disk) (d : DurableState D) (m : Memory) (lef
     kept_continues later =
         let t = with_cached n (record s { durable = new }) in
         subst (GoesOnIn disk s) (sym kept_seen)
-        (continues_cached disk s (record s { durable = new }) t.cached t.owed t.order
+        (continues_cached disk s (record s { durable = new }) t.cached t.frozen_state t.order
         (subst (GoesOnIn disk s) (read_seen new reads) (read_continues new reads later)))

@@ -3,9 +3,9 @@ use Rattle.object_cache.proofs.Names.{inl, inr, ℕ, zero, suc, Bool, true, fals
 use Rattle.object_cache.proofs.Names.{refl, sym, ap, subst, arith, length-set, count_by, range_with_len, cases_eq, get_or-set_same, get_or-set_other}
 use Rattle.object_cache.proofs.Names.{sum_by-cons, none-some, same_Some, Cap, Frame, Content, frame_at, header_at, AreKeepable, Put, Absent, Broken, Kept}
 use Rattle.object_cache.proofs.Names.{put_at, put_or, most, FrozenPuts, Stored, below_at, frozen_put, with_frozen, with_put, maps_same, map_set, Entry, Held}
-use Rattle.object_cache.proofs.Names.{entry_at, Memory, Nothing, owed_of, owed_in_memory, owed_in, mark_at, in_staging, put_body, present_body, content_at}
-use Rattle.object_cache.proofs.Names.{present_at, newest_body, below_body, frozen_body, frozen_frame, frozen_at, contents_in, frozen_in, IsCache, AreFrozen}
-use Rattle.object_cache.proofs.Names.{is_kept, frozen_seen}
+use Rattle.object_cache.proofs.Names.{entry_at, Memory, Nothing, frozen_state_of, frozen_state_in_memory, frozen_states_in, mark_at, in_staging, put_body}
+use Rattle.object_cache.proofs.Names.{present_body, content_at, present_at, newest_body, below_body, frozen_body, frozen_frame, frozen_at, contents_in}
+use Rattle.object_cache.proofs.Names.{frozen_in, IsCache, AreFrozen, is_kept, frozen_seen}
 use Rattle.std.proofs.Common.{◌≡◌, ◌≢◌, ◌<◌, ◌≤◌, ◌||◌, ◌∷◌, ◌∙◌}
 
 -- one mark less
@@ -30,9 +30,9 @@ one_fewer (t ∷ ts) (suc n) marked =
     let rest = one_fewer ts n marked in
     omega (arith, a, b, rest)
 
-none_owed : (o : Option Entry) (touched : Bool) → owed_of o false touched ≡ Nothing
-none_owed None touched = refl
-none_owed (Some e) touched = refl
+none_frozen_state : (o : Option Entry) (touched : Bool) → frozen_state_of o false touched ≡ Nothing
+none_frozen_state None touched = refl
+none_frozen_state (Some e) touched = refl
 
 -- it is put: what is left of it in memory is what is given
 abbrev pub with_frame : ℕ → Stored → Memory → Stored
@@ -47,7 +47,7 @@ pub record Releases (s : Stored) (m : Memory) (n : ℕ) (es : List (Option Entry
   pub entries : (k : ℕ) → k ≢ n → entry_at es k ≡ entry_at m.entries k
   pub kept : (e : Entry) → entry_at es n ≡ Some e → e.kept ≡ None
   pub others : (k : ℕ) (c : Content Cap) → k ≢ n → in_staging staging k c ≡ in_staging m.staging k c
-  pub let_go : (h : Held) → staging ≡ Some h → (h.number ≢ n) × (mark_at m.pending h.number ≡ true)
+  pub released : (h : Held) → staging ≡ Some h → (h.number ≢ n) × (mark_at m.pending h.number ≡ true)
   pub content : content_at (with_frame n s m) (without_pending n es staging m) n ≡ content_at s m n
 
 module _ (s : Stored) (m : Memory) (left count : ℕ) (is : IsCache s m left count) (n : ℕ) (within : n < length m.headers)
@@ -136,14 +136,14 @@ module _ (s : Stored) (m : Memory) (left count : ℕ) (is : IsCache s m left cou
       ∙ ap (λ (fs : List Frame). Some (record { frames = fs; size = f.size; left = left })) frozen_same
       ∙ sym (ap (option_map (λ (g : FrozenPuts). record { frames = frozen_in s m; size = g.size; left = left })) f_is)
 
-  -- nothing is owed of it any more
-  pub owed_now : owed_in memory ≡ set (owed_in m) n Nothing
-  unfolding owed_in
-  owed_now = map_set (owed_in_memory m) (owed_in_memory memory) (length m.headers) n Nothing within
-      (ap (λ (p : Bool). owed_of (entry_at es n) p (mark_at m.touched n)) pending_now ∙ none_owed (entry_at es n) (mark_at m.touched n))
+  -- nothing is frozen_state of it any more
+  pub frozen_state_now : frozen_states_in memory ≡ set (frozen_states_in m) n Nothing
+  unfolding frozen_states_in
+  frozen_state_now = map_set (frozen_state_in_memory m) (frozen_state_in_memory memory) (length m.headers) n Nothing within
+      (ap (λ (p : Bool). frozen_state_of (entry_at es n) p (mark_at m.touched n)) pending_now ∙ none_frozen_state (entry_at es n) (mark_at m.touched n))
       (λ k below other.
-      ap (λ (p : Bool). owed_of (entry_at es k) p (mark_at m.touched k)) (pending_elsewhere k other)
-      ∙ ap (λ (o : Option Entry). owed_of o (mark_at m.pending k) (mark_at m.touched k)) (rest.entries k other))
+      ap (λ (p : Bool). frozen_state_of (entry_at es k) p (mark_at m.touched k)) (pending_elsewhere k other)
+      ∙ ap (λ (o : Option Entry). frozen_state_of o (mark_at m.pending k) (mark_at m.touched k)) (rest.entries k other))
 
   -- each number that the checkpoint writes is pending or was put, as before
   written_stays : (k : ℕ) → (mark_at memory.pending k || is_kept (put_at (set f.put n (Kept frame)) k)) ≡ (mark_at m.pending k || is_kept (put_at f.put k))
@@ -201,7 +201,7 @@ module _ (s : Stored) (m : Memory) (left count : ℕ) (is : IsCache s m left cou
     running = λ g g_is. subst (λ (h : FrozenPuts). AreFrozen h memory.pending left) (same_Some (with_put n (Kept frame) f) g (sym frozen_now ∙ g_is))
         still_frozen;
     keepable = λ g g_is. subst (AreKeepable s.saved.geometry most) (sym frozen_same) (is.keepable f f_is);
-    held = λ h h_is. pending_elsewhere h.number (rest.let_go h h_is).0 ∙ (rest.let_go h h_is).1;
+    held = λ h h_is. pending_elsewhere h.number (rest.released h h_is).0 ∙ (rest.released h h_is).1;
     apart = λ k g g_is. elim (cases_eq k n) [
       | inl same ↦ inl (rest.kept g (ap (entry_at es) (sym same) ∙ g_is))
       | inr other ↦ elim (is.apart k g (sym (rest.entries k other) ∙ g_is)) [

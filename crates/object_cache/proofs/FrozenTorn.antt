@@ -15,9 +15,6 @@ module _ (s : Stored) (m : Memory) (left count : ℕ) (is : IsCache s m left cou
   frozen_now : after.frozen ≡ Some (with_put n Broken f)
   frozen_now = ap (option_map (with_put n Broken)) f_is
 
-  in_puts : n < length f.put
-  in_puts = omega (arith, within, is.headers, is.pending_marks, (is.running f f_is).each)
-
   below_elsewhere : (k : ℕ) → k ≢ n → below_at after k ≡ below_at s k
   below_elsewhere k other = ap (λ (p : Put). put_or p (frame_at s.saved.frames k))
       (ap (λ (o : Option FrozenPuts). frozen_put o k) frozen_now ∙ get_or-set_other f.put n k Broken Absent other ∙

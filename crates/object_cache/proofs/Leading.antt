@@ -1,27 +1,29 @@
 -- Why one value of a cache continues as another.
-use Rattle.object_cache.proofs.Names.{Snapshots, FrozenFrames, ℕ, Bool, List, Option, sym, ap, Disk, stored_of, Held, Owed, StoreState, GoesOnIn, on_device}
+use Rattle.object_cache.proofs.Names.{Snapshots, FrozenFrames, ℕ, Bool, List, Option, sym, ap, Disk, stored_of, Held, FrozenState, StoreState, GoesOnIn}
+use Rattle.object_cache.proofs.Names.{on_device}
 use Rattle.std.proofs.Common.{◌≡◌, ◌∙◌}
 
 module _ {D : Type 0} where
   -- what was put is on the device
-  pub same_put : (s t : StoreState D) (ds ps : List Bool) (os : List Owed) (staging : Option Held) →
-      t ≡ record s { durable = t.durable; dirty = ds; pending = ps; owed = os; staging = staging } → t ≡ on_device s t
+  pub same_put : (s t : StoreState D) (ds ps : List Bool) (os : List FrozenState) (staging : Option Held) →
+      t ≡ record s { durable = t.durable; dirty = ds; pending = ps; frozen_state = os; staging = staging } → t ≡ on_device s t
   same_put s t ds ps os staging is = is ∙
-      ap (λ (x : StoreState D). record s { durable = t.durable; dirty = x.dirty; pending = x.pending; owed = x.owed; staging = x.staging }) (sym is)
+      ap (λ (x : StoreState D). record s { durable = t.durable; dirty = x.dirty; pending = x.pending; frozen_state = x.frozen_state; staging = x.staging })
+      (sym is)
 
   pub put_on : (s t u : StoreState D) → t ≡ on_device s t → u ≡ on_device t u → u ≡ on_device s u
   put_on s t u first second = second ∙ ap (λ (x : StoreState D). on_device x u) first
 
 module _ {D : Type 0} (disk : D → Disk) where
   -- what is in memory doesn't matter
-  pub continues_cached : (s t : StoreState D) (cached : List Bool) (owed : List Owed) (order : List ℕ) → GoesOnIn disk s t →
-      GoesOnIn disk s (record t { cached = cached; owed = owed; order = order })
-  continues_cached s t cached owed order first = record {
+  pub continues_cached : (s t : StoreState D) (cached : List Bool) (frozen_state : List FrozenState) (order : List ℕ) → GoesOnIn disk s t →
+      GoesOnIn disk s (record t { cached = cached; frozen_state = frozen_state; order = order })
+  continues_cached s t cached frozen_state order first = record {
     goes_on = first.goes_on;
     snapshots = first.snapshots;
     later = first.later;
     grows = first.grows;
-    most = first.most;
+    capacity = first.capacity;
     only_reads = first.only_reads;
   }
 
@@ -31,7 +33,7 @@ module _ {D : Type 0} (disk : D → Disk) where
     snapshots = first.snapshots;
     later = first.later;
     grows = first.grows;
-    most = first.most;
+    capacity = first.capacity;
     only_reads = first.only_reads;
   }
 

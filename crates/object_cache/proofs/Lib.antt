@@ -13,8 +13,8 @@ mod Leading
 mod Homes
 mod Marks
 mod Freezing
-mod Owing
-mod Paying
+mod FrozenStates
+mod WritingBack
 mod Preparing
 mod Copying
 mod Settling

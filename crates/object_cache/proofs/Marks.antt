@@ -2,12 +2,12 @@
 use Rattle.object_cache.proofs.Names.{inl, inr, ℕ, zero, suc, Bool, true, false, true≢false, List, [], length, set, Option, Some, None, option_map, refl, sym}
 use Rattle.object_cache.proofs.Names.{ap, subst, arith, length-set, slice_index_or, Contains, cases_eq, get_or-set_other, get_or_past, Cap, Frame, ObjectHeader}
 use Rattle.object_cache.proofs.Names.{Content, header_at, AreKeepable, touched_count, touching, Disk, most, DurableState, FrozenPuts, Stored, below_at}
-use Rattle.object_cache.proofs.Names.{stored_of, maps_same, Entry, entry_at, Memory, Owed, Shared, mark_at, apart_body, below_body, frozen_body, frozen_frame}
-use Rattle.object_cache.proofs.Names.{frozen_at, owed_of, owed_body, owed_in_memory, contents_in, frozen_in, owed_in, StoreState, IsCache, cache_of, owed_at}
-use Rattle.object_cache.proofs.Names.{is_some}
+use Rattle.object_cache.proofs.Names.{stored_of, maps_same, Entry, entry_at, Memory, FrozenState, Shared, mark_at, apart_body, below_body, frozen_body}
+use Rattle.object_cache.proofs.Names.{frozen_frame, frozen_at, frozen_state_of, frozen_state_body, frozen_state_in_memory, contents_in, frozen_in}
+use Rattle.object_cache.proofs.Names.{frozen_states_in, StoreState, IsCache, cache_of, frozen_state_at, is_some}
 use Rattle.std.proofs.Common.{◌≡◌, ◌≢◌, ◌⊎◌, ◌<◌, ◌≤◌, ◌∷◌, ◌∙◌}
 use Rattle.object_cache.proofs.Marking.{length-touching, set-marked}
-use Rattle.object_cache.proofs.Caching.{owed_entry}
+use Rattle.object_cache.proofs.Caching.{frozen_state_entry}
 
 -- a mark is as it was, or is of a number that was listed
 marked_or : (ts : List Bool) (ns : List ℕ) (k : ℕ) → (mark_at (touching ts ns) k ≡ mark_at ts k) ⊎ Contains ns k
@@ -59,33 +59,36 @@ all_marked ts (n ∷ ns) marked =
     ∙ all_marked ts ns (λ k has. marked k (suc has.0, omega (arith, has.1), has.2))
 
 -- the frozen frame of an object doesn't change with its mark, unless its frozen body is the present one as well
-frozen_marked : (o : Option Entry) (pending touched : Bool) (h : ObjectHeader) (below : Content Cap) (under : Frame) → owed_of o pending touched ≢ Shared →
+frozen_marked : (o : Option Entry) (pending touched : Bool) (h : ObjectHeader) (below : Content Cap) (under : Frame) →
+    frozen_state_of o pending touched ≢ Shared →
     frozen_frame pending h (frozen_body o true below) under ≡ frozen_frame pending h (frozen_body o touched below) under
-frozen_marked None pending touched h below under owed = refl
-frozen_marked (Some e) false touched h below under owed = refl
-frozen_marked (Some e) true true h below under owed = refl
-frozen_marked (Some e) true false h below under owed = go e.kept owed
+frozen_marked None pending touched h below under frozen_state = refl
+frozen_marked (Some e) false touched h below under frozen_state = refl
+frozen_marked (Some e) true true h below under frozen_state = refl
+frozen_marked (Some e) true false h below under frozen_state = go e.kept frozen_state
   where
-    go : (o : Option (Content Cap)) → owed_body (is_some o) false ≢ Shared → frozen_frame true h (apart_body o true e.present below) under ≡ frozen_frame true h
+    go : (o : Option (Content Cap)) → frozen_state_body (is_some o) false ≢ Shared →
+        frozen_frame true h (apart_body o true e.present below) under ≡ frozen_frame true h
         (apart_body o false e.present below) under
-    go (Some c) owed = refl
-    go None owed = absurd (owed refl)
+    go (Some c) frozen_state = refl
+    go None frozen_state = absurd (frozen_state refl)
 
-owed_marked : (o : Option Entry) (pending touched : Bool) → owed_of o pending touched ≢ Shared → owed_of o pending true ≡ owed_of o pending touched
-owed_marked None pending touched owed = refl
-owed_marked (Some e) false touched owed = refl
-owed_marked (Some e) true true owed = refl
-owed_marked (Some e) true false owed = go e.kept owed
+frozen_state_marked : (o : Option Entry) (pending touched : Bool) → frozen_state_of o pending touched ≢ Shared →
+    frozen_state_of o pending true ≡ frozen_state_of o pending touched
+frozen_state_marked None pending touched frozen_state = refl
+frozen_state_marked (Some e) false touched frozen_state = refl
+frozen_state_marked (Some e) true true frozen_state = refl
+frozen_state_marked (Some e) true false frozen_state = go e.kept frozen_state
   where
-    go : (o : Option (Content Cap)) → owed_body (is_some o) false ≢ Shared → owed_body (is_some o) true ≡ owed_body (is_some o) false
-    go (Some c) owed = refl
-    go None owed = absurd (owed refl)
+    go : (o : Option (Content Cap)) → frozen_state_body (is_some o) false ≢ Shared → frozen_state_body (is_some o) true ≡ frozen_state_body (is_some o) false
+    go (Some c) frozen_state = refl
+    go None frozen_state = absurd (frozen_state refl)
 
 abbrev pub marking : List ℕ → Memory → Memory
 marking ns m = record m { touched = touching m.touched ns; dirty = touching m.dirty ns }
 
 module _ (s : Stored) (m : Memory) (left count : ℕ) (is : IsCache s m left count) (ns : List ℕ) (known : (n : ℕ) → Contains ns n → n < length m.headers)
-    (apart : (n : ℕ) → Contains ns n → owed_in_memory m n ≢ Shared) where
+    (apart : (n : ℕ) → Contains ns n → frozen_state_in_memory m n ≢ Shared) where
   touched_here : (k : ℕ) → Contains ns k → mark_at (touching m.touched ns) k ≡ true
   touched_here k has = listed_is_marked m.touched ns k has (let there = known k has in omega (arith, there, is.headers, is.marks))
 
@@ -107,13 +110,14 @@ module _ (s : Stored) (m : Memory) (left count : ℕ) (is : IsCache s m left cou
   unfolding frozen_in
   marked_frozen = maps_same (frozen_at s (marking ns m)) (frozen_at s m) (length m.headers) (λ k below. frozen_stays k)
 
-  pub marked_owed : owed_in (marking ns m) ≡ owed_in m
-  unfolding owed_in
-  marked_owed = maps_same (owed_in_memory (marking ns m)) (owed_in_memory m) (length m.headers) (λ k below. elim (marked_or m.touched ns k) [
-    | inl as_it_was ↦ ap (owed_of (entry_at m.entries k) (mark_at m.pending k)) as_it_was
-    | inr has ↦ ap (owed_of (entry_at m.entries k) (mark_at m.pending k)) (touched_here k has) ∙
-        owed_marked (entry_at m.entries k) (mark_at m.pending k) (mark_at m.touched k) (apart k has)
-  ])
+  pub marked_frozen_state : frozen_states_in (marking ns m) ≡ frozen_states_in m
+  unfolding frozen_states_in
+  marked_frozen_state = maps_same (frozen_state_in_memory (marking ns m)) (frozen_state_in_memory m) (length m.headers)
+      (λ k below. elim (marked_or m.touched ns k) [
+        | inl as_it_was ↦ ap (frozen_state_of (entry_at m.entries k) (mark_at m.pending k)) as_it_was
+        | inr has ↦ ap (frozen_state_of (entry_at m.entries k) (mark_at m.pending k)) (touched_here k has) ∙
+            frozen_state_marked (entry_at m.entries k) (mark_at m.pending k) (mark_at m.touched k) (apart k has)
+      ])
 
   -- what isn't marked wasn't
   unmarked : (ts : List Bool) (k : ℕ) → mark_at (touching ts ns) k ≡ false → mark_at ts k ≡ false
@@ -157,12 +161,13 @@ module _ (s : Stored) (m : Memory) (left count : ℕ) (is : IsCache s m left cou
 module _ {D : Type 0} (disk : D → Disk) (d : DurableState D) (m : Memory) (left count : ℕ) (order : List ℕ) (most_entries : ℕ) (s : StoreState D)
     (view : cache_of disk d m left order most_entries ≡ s) (is : IsCache (stored_of disk d) m left count) (ns : List ℕ)
     (known : (n : ℕ) → Contains ns n → n < length s.headers)
-    (apart : (n : ℕ) → Contains ns n → owed_at s.owed n ≢ Shared) where
+    (apart : (n : ℕ) → Contains ns n → frozen_state_at s.frozen_state n ≢ Shared) where
   known_here : (n : ℕ) → Contains ns n → n < length m.headers
   known_here n has = let there = known n has in omega (arith, there, ap (λ (t : StoreState D). length t.headers) view)
 
-  apart_here : (n : ℕ) → Contains ns n → owed_in_memory m n ≢ Shared
-  apart_here n has shared = apart n has (ap (λ (t : StoreState D). owed_at t.owed n) (sym view) ∙ owed_entry m n (known_here n has) ∙ shared)
+  apart_here : (n : ℕ) → Contains ns n → frozen_state_in_memory m n ≢ Shared
+  apart_here n has shared = apart n has (ap (λ (t : StoreState D). frozen_state_at t.frozen_state n) (sym view) ∙ frozen_state_entry m n (known_here n has)
+      ∙ shared)
 
   pub mark_stands : (total : ℕ) → total ≡ touched_count (touching m.touched ns) → total ≤ (stored_of disk d).saved.geometry.log →
       IsCache (stored_of disk d) (marking ns m) left total
@@ -175,9 +180,9 @@ module _ {D : Type 0} (disk : D → Disk) (d : DurableState D) (m : Memory) (lef
       ap (λ (fs : List Frame). record old {
         touched = touching m.touched ns;
         dirty = touching m.dirty ns;
-        owed = owed_in (marking ns m);
+        frozen_state = frozen_states_in (marking ns m);
         frozen = option_map (λ (f : FrozenPuts). record { frames = fs; size = f.size; left = left }) (stored_of disk d).frozen;
       }) (marked_frozen (stored_of disk d) m left count is ns known_here apart_here)
-      ∙ ap (λ (os : List Owed). record old { touched = touching m.touched ns; dirty = touching m.dirty ns; owed = os })
-      (marked_owed (stored_of disk d) m left count is ns known_here apart_here)
+      ∙ ap (λ (os : List FrozenState). record old { touched = touching m.touched ns; dirty = touching m.dirty ns; frozen_state = os })
+      (marked_frozen_state (stored_of disk d) m left count is ns known_here apart_here)
       ∙ ap (λ (t : StoreState D). record t { touched = touching t.touched ns; dirty = touching t.dirty ns }) view

@@ -1,6 +1,9 @@
 -- The names that the proofs here cite: of other crates, and of the definitions of this one.
+pub use Rattle.cache_entries.proofs.Orders.{length_without}
+pub use Rattle.cache_entries.proofs.Recent.{front_apart, front_stays, listed_member}
+pub use Rattle.cache_entries.proofs.Turns.{in_either, in_front, one_more, used_anew, used_front, without_absent, without_here, without_tail}
 pub use Rattle.cache_entries.specs.Entries.{Entry, changing, entry_at, kept_of, new_entry, present_of, with_entry}
-pub use Rattle.cache_entries.specs.Order.{AllDiffer, AreOrdered, EntriesState, used_in_turn, used_longest_ago, used_now, with_new, without}
+pub use Rattle.cache_entries.specs.Order.{AreOrdered, EntriesState, used_in_turn, used_longest_ago, used_now, with_new, without}
 pub use Rattle.capability.proofs.FrameLists.{frame_in, length_in}
 pub use Rattle.capability.proofs.Keeping.{keepable_at}
 pub use Rattle.capability.specs.Objects.{with_root_in, with_slots_in}
@@ -19,6 +22,7 @@ pub use Rattle.layout.specs.declared.body.Body.{Body}
 pub use Rattle.layout.specs.declared.body.Scratch.{Scratch}
 pub use Rattle.migrator.proofs.Kept.{map_set}
 pub use Rattle.migrator.proofs.Moving.{goes_none, goes_trans}
+pub use Rattle.migrator.proofs.Saving.{on_err, on_ok}
 pub use Rattle.migrator.specs.Durable.{DurableState, FrozenPuts, GoesOn, ReadsStore, Stored, below_at, freezing_puts, frozen_put, is_sound, left_of, newest}
 pub use Rattle.migrator.specs.Durable.{on_snapshots, puts, stored_of, with_frozen, with_put, with_working}
 pub use Rattle.migrator.specs.Opened.{OpensDurable}
@@ -58,14 +62,15 @@ pub use Rattle.std.proofs.lemmas.Option.{none-some, same_Some}
 pub use Rattle.std.specs.List.{All, Contains, list_any, range_with_len, slice_get}
 pub use Rattle.std.specs.Prelude.{OnErr, OnOk, count_by, slice_index_or}
 pub use Rattle.object_cache.specs.Journaled.{entry_body, held_now}
-pub use Rattle.object_cache.specs.Memory.{Apart, Held, Memory, Nothing, Owed, Shared, apart_body, below_body, content_at, frozen_at, frozen_body, frozen_frame}
-pub use Rattle.object_cache.specs.Memory.{held_behind, in_staging, is_owing, is_shared, let_go, mark_at, masked, memory_of, newest_body, owed_body, owed_by}
-pub use Rattle.object_cache.specs.Memory.{owed_in_memory, owed_of, own_body, own_body_of, own_frame, present_at, present_body, put_body}
-unfoldable pub use Rattle.object_cache.specs.Memory.{contents_in, frozen_in, owed_in}
+pub use Rattle.object_cache.specs.Memory.{Apart, FrozenState, Held, Memory, Nothing, Shared, apart_body, below_body, content_at, frozen_at, frozen_body}
+pub use Rattle.object_cache.specs.Memory.{frozen_frame, frozen_state_body, frozen_state_by, frozen_state_in_memory, frozen_state_of, has_frozen, held_behind}
+pub use Rattle.object_cache.specs.Memory.{in_staging, is_shared, mark_at, masked, memory_of, newest_body, own_body, own_body_of, own_frame, present_at}
+pub use Rattle.object_cache.specs.Memory.{present_body, put_body, released}
+unfoldable pub use Rattle.object_cache.specs.Memory.{contents_in, frozen_in, frozen_states_in}
 pub use Rattle.object_cache.specs.Prepared.{IsRecentIn, UsesSome, on_device_with, readied}
 pub use Rattle.object_cache.specs.PresentLaws.{continues_same, goes_on_same, goes_on_twice}
 pub use Rattle.object_cache.specs.StoreState.{AreAll, AreFrozen, AreTaken, ContinuesIn, GoesOnIn, HaveRoom, HaveSpace, HoldBodies, IsAnnouncedIn, IsBounded}
 pub use Rattle.object_cache.specs.StoreState.{IsCache, IsFetchedIn, IsJustOpened, IsOpenOver, IsWhole, PutsBy, StoreState, TakenState, all_of, bodies_of}
-pub use Rattle.object_cache.specs.StoreState.{cache_of, cached_at, frozen_seen, is_kept, on_device, on_device_frozen, owed_at, parts_of, pending_count}
+pub use Rattle.object_cache.specs.StoreState.{cache_of, cached_at, frozen_seen, frozen_state_at, is_kept, on_device, on_device_frozen, parts_of, pending_count}
 pub use Rattle.object_cache.specs.StoreState.{snapshots_of, view_of, with_cached, with_content_in, without_cached}
 unfoldable pub use Rattle.object_cache.specs.StoreState.{cached_in}

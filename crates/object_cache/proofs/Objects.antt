@@ -3,12 +3,12 @@ use Rattle.object_cache.proofs.Names.{inl, inr, ℕ, Bool, true, false, List, le
 use Rattle.object_cache.proofs.Names.{sym, ap, subst, arith, length-set, none-some, same_Some, get_or-map-range_with_len, length-map-range_with_len, get_or-map}
 use Rattle.object_cache.proofs.Names.{get_or-set_same, get_or-set_other, map-set, set-get_or, Cap, Frame, ObjectHeader, Content, Role, blank_header, header_at}
 use Rattle.object_cache.proofs.Names.{held_at, Disk, DurableState, FrozenPuts, Stored, stored_of, Entry, entry_at, with_entry, changing, kept_of, present_of}
-use Rattle.object_cache.proofs.Names.{masked, AreOrdered, Memory, Owed, mark_at, present_body, content_at, newest_body, contents_in, owed_in, StoreState}
-use Rattle.object_cache.proofs.Names.{IsBounded, IsCache, IsAnnouncedIn, IsFetchedIn, cache_of, cached_in, cached_at, with_content_in}
+use Rattle.object_cache.proofs.Names.{masked, AreOrdered, Memory, FrozenState, mark_at, present_body, content_at, newest_body, contents_in, frozen_states_in}
+use Rattle.object_cache.proofs.Names.{StoreState, IsBounded, IsCache, IsAnnouncedIn, IsFetchedIn, cache_of, cached_in, cached_at, with_content_in}
 use Rattle.std.proofs.Common.{◌≡◌, ◌<◌, ◌∙◌}
 use Rattle.model.specs.declared.object.Content.TheVariants as content
 use Rattle.model.specs.declared.object.Role.TheVariants as role
-use Rattle.object_cache.proofs.Changing.{Changes, with_objects, still_cache, contents_changed, contents_same, frozen_same, owed_same}
+use Rattle.object_cache.proofs.Changing.{Changes, with_objects, still_cache, contents_changed, contents_same, frozen_same, frozen_state_same}
 
 -- another header in its place, of the same role
 pub header_changes : (m : Memory) (n : ℕ) (h : ObjectHeader) → n < length m.headers → h.role ≡ (header_at m.headers n).role →
@@ -116,11 +116,11 @@ module _ {D : Type 0} (disk : D → Disk) (d : DurableState D) (m : Memory) (lef
         headers = hs;
         contents = contents_in s t;
         cached = cached_in es;
-        owed = owed_in t;
+        frozen_state = frozen_states_in t;
         frozen = option_map (λ (f : FrozenPuts). record { frames = fs; size = f.size; left = left }) s.frozen;
       }) (frozen_same s m hs es n change touched)
-      ∙ ap (λ (os : List Owed). record old { headers = hs; contents = contents_in s t; cached = cached_in es; owed = os })
-      (owed_same s m hs es n change touched)
+      ∙ ap (λ (os : List FrozenState). record old { headers = hs; contents = contents_in s t; cached = cached_in es; frozen_state = os })
+      (frozen_state_same s m hs es n change touched)
 
   -- an object with another header
   pub seen_header : (n : ℕ) (h : ObjectHeader) → n < length m.headers → h.role ≡ (header_at m.headers n).role → mark_at m.touched n ≡ true →

@@ -19,14 +19,6 @@ pub ok_both : {T E P Q R : Type 0} (r : Result T E) → OnOk r P → OnOk r Q �
 ok_both (Ok t) first second next = next first second
 ok_both (Err e) first second next = first
 
-pub on_ok : {T E P : Type 0} (r : Result T E) → P → OnOk r P
-on_ok (Ok t) holds = holds
-on_ok (Err e) holds = tt
-
-pub on_err : {T E P : Type 0} (r : Result T E) → P → OnErr r P
-on_err (Ok t) holds = tt
-on_err (Err e) holds = holds
-
 -- the same by an answer
 pub whichever : {X : Type 0} (b : Bool) (P : X → Type 0) (x y z : X) → (b ≡ true → x ≡ y) → (b ≡ false → x ≡ z) → P y → P z → P x
 whichever true P x y z if_true if_false on_true on_false = subst P (sym (if_true refl)) on_true

@@ -18,15 +18,15 @@ module _ {D : Type 0} where
   rest_alone s t is = is ∙ ap (λ (x : StoreState D). record (on_device_with s t) { touched = x.touched }) (sym is)
 
   -- what is to be marked was made ready
-  pub rest_ready : (s t : StoreState D) → t ≡ record s { owed = t.owed } → t ≡ readied s t
+  pub rest_ready : (s t : StoreState D) → t ≡ record s { frozen_state = t.frozen_state } → t ≡ readied s t
   rest_ready s t is = is ∙ ap (λ (x : StoreState D). record (readied s t) { touched = x.touched; dirty = x.dirty }) (sym is)
 
-  pub fetched_ready : (s t : StoreState D) → t ≡ record s { owed = t.owed } → (n : ℕ) → IsFetchedIn s n → IsFetchedIn t n
+  pub fetched_ready : (s t : StoreState D) → t ≡ record s { frozen_state = t.frozen_state } → (n : ℕ) → IsFetchedIn s n → IsFetchedIn t n
   fetched_ready s t is n there = subst (λ (x : StoreState D). IsFetchedIn x n) (sym is)
       (record { header = there.header; content = there.content; cached = there.cached })
 
   -- and was marked, or not
-  pub rest_marked : {T E : Type 0} (r : Result T E) (s t u : StoreState D) (ts ds : List Bool) → t ≡ record s { owed = t.owed }
+  pub rest_marked : {T E : Type 0} (r : Result T E) (s t u : StoreState D) (ts ds : List Bool) → t ≡ record s { frozen_state = t.frozen_state }
       → OnOk r (u ≡ record t { touched = ts; dirty = ds }) → OnErr r (u ≡ t) → u ≡ readied s u
   rest_marked (Ok x) s t u ts ds first is none =
       is ∙ ap (λ (x : StoreState D). record x { touched = ts; dirty = ds }) first
@@ -39,8 +39,9 @@ module _ {D : Type 0} where
       is ∙ ap (λ (x : StoreState D). readied x u) first
       ∙ ap (λ (x : StoreState D). record (on_device_with s x) { touched = u.touched }) (sym is)
 
-  pub owed_on : (s t u : StoreState D) → t ≡ record s { owed = t.owed } → u ≡ record t { owed = u.owed } → u ≡ record s { owed = u.owed }
-  owed_on s t u first is = is ∙ ap (λ (x : StoreState D). record x { owed = u.owed }) first
+  pub frozen_state_on : (s t u : StoreState D) → t ≡ record s { frozen_state = t.frozen_state } → u ≡ record t { frozen_state = u.frozen_state } →
+      u ≡ record s { frozen_state = u.frozen_state }
+  frozen_state_on s t u first is = is ∙ ap (λ (x : StoreState D). record x { frozen_state = u.frozen_state }) first
 
   -- what was used again is only in another order
   pub rest_used : (s t : StoreState D) → t ≡ record s { order = t.order } → t ≡ on_device_with s t
@@ -54,5 +55,5 @@ module _ {D : Type 0} (disk : D → Disk) where
       (subst (λ g. touched_count s.touched ≤ g.log) (sym (geometry_stays disk s t continues)) within)
 
   pub continues_ready : ((d : D) (c : Image) → (disk d).left_since (disk d).moment c → (disk d).may_leave c) → (s t : StoreState D) →
-      t ≡ record s { owed = t.owed } → GoesOnIn disk s t
-  continues_ready only_now s t is = subst (GoesOnIn disk s) (sym is) (continues_cached disk s s s.cached t.owed s.order (goes_on_same disk only_now s))
+      t ≡ record s { frozen_state = t.frozen_state } → GoesOnIn disk s t
+  continues_ready only_now s t is = subst (GoesOnIn disk s) (sym is) (continues_cached disk s s s.cached t.frozen_state s.order (goes_on_same disk only_now s))

@@ -33,7 +33,7 @@ module _ {D : Type 0} (hs : StoreState D → List ObjectHeader) (cs : StoreState
         snapshots = same.goes_on.snapshots;
         later = same.goes_on.later;
         grows = same.goes_on.grows;
-        most = same.goes_on.most;
+        capacity = same.goes_on.capacity;
         only_reads = same.goes_on.only_reads;
       };
       still = same.still;

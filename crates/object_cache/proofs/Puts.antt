@@ -4,7 +4,7 @@ use Rattle.object_cache.proofs.Names.{ap, subst, arith, length-set, cases_eq, ge
 use Rattle.object_cache.proofs.Names.{Frame, ObjectHeader, Content, header_at, held_at, IsKeepable, touched_count, Disk, Put, Absent, Broken, Kept, put_at}
 use Rattle.object_cache.proofs.Names.{held_slot, sum_of, HasFreeSlot, most, DurableState, Stored, GoesOn, stored_of, with_working, maps_same, Entry, entry_at}
 use Rattle.object_cache.proofs.Names.{present_of, Memory, mark_at, put_body, present_body, content_at, present_at, newest_body, below_body, contents_in}
-use Rattle.object_cache.proofs.Names.{frozen_in, owed_in, StoreState, IsCache, IsFetchedIn, GoesOnIn, cache_of, is_kept, frozen_seen}
+use Rattle.object_cache.proofs.Names.{frozen_in, frozen_states_in, StoreState, IsCache, IsFetchedIn, GoesOnIn, cache_of, is_kept, frozen_seen}
 use Rattle.std.proofs.Common.{◌≡◌, ◌≢◌, ◌⊎◌, ◌<◌, ◌≤◌, ◌∷◌, ◌∙◌}
 use Rattle.object_cache.proofs.Objects.{some_of, has_entry, fetched_known, content_in, present_is}
 
@@ -164,7 +164,7 @@ module _ (s : Stored) (m : Memory) (left count : ℕ) (is : IsCache s m left cou
       (put : stored_of disk new ≡ after) where
     pub seen_put : cache_of disk new (with_dirty m ds) left order most_entries ≡ record
         (cache_of disk old m left order most_entries) { durable = new; dirty = ds }
-    unfolding frozen_in owed_in
+    unfolding frozen_in frozen_states_in
     seen_put =
         ap (λ (t : Stored). record
         (cache_of disk old m left order most_entries) {
@@ -247,7 +247,7 @@ module _ {D : Type 0} (disk : D → Disk) (d : DurableState D) (m : Memory) (lef
                   view;
               later = subst (λ (t : StoreState D). (disk t.durable.beneath).failures ≤ (disk new.beneath).failures) view later;
               grows = omega arith;
-              most = refl;
+              capacity = refl;
               only_reads = λ none idle. absurd
                   (omega (arith, none, some_touched s.touched n (ap (λ (t : StoreState D). mark_at t.touched n) (sym view) ∙ touched_here)));
             })

@@ -22,7 +22,7 @@ module _ {D : Type 0} (disk : D → Disk) where
       snapshots = refl;
       later = omega arith;
       grows = grows;
-      most = refl;
+      capacity = refl;
       only_reads = λ none idle. peeks_started (disk s.durable.beneath) (only_now s.durable.beneath);
     }
 

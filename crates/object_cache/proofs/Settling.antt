@@ -3,17 +3,18 @@ use Rattle.object_cache.proofs.Names.{inl, inr, ℕ, Bool, true, false, true≢f
 use Rattle.object_cache.proofs.Names.{arith, count_by, cases_lt, eq-eqb, ne_eqb, get_or-set_same, get_or_past, none-some, same_Some, Cap, Frame, ObjectHeader}
 use Rattle.object_cache.proofs.Names.{Content, Role, frame_at, header_at, IsKeepable, Disk, Put, Absent, Broken, Kept, put_at, put_or, HasFreeSlot, most}
 use Rattle.object_cache.proofs.Names.{DurableState, FrozenPuts, Stored, GoesOn, below_at, frozen_put, stored_of, with_frozen, with_put, FrozenFrames, Entry}
-use Rattle.object_cache.proofs.Names.{Held, entry_at, Memory, Owed, Nothing, mark_at, masked, in_staging, put_body, present_body, content_at, newest_body}
-use Rattle.object_cache.proofs.Names.{below_body, apart_body, frozen_body, frozen_frame, frozen_at, owed_of, owed_in_memory, contents_in, owed_in, StoreState}
-use Rattle.object_cache.proofs.Names.{IsCache, GoesOnIn, cache_of, frozen_seen, is_kept, on_device, owed_at}
+use Rattle.object_cache.proofs.Names.{Held, entry_at, Memory, FrozenState, Nothing, mark_at, masked, in_staging, put_body, present_body, content_at}
+use Rattle.object_cache.proofs.Names.{newest_body, below_body, apart_body, frozen_body, frozen_frame, frozen_at, frozen_state_of, frozen_state_in_memory}
+use Rattle.object_cache.proofs.Names.{contents_in, frozen_states_in, StoreState, IsCache, GoesOnIn, cache_of, frozen_seen, is_kept, on_device, frozen_state_at}
 use Rattle.std.proofs.Common.{◌≡◌, ◌⊎◌, ◌<◌, ◌≤◌, ◌∙◌}
 use Rattle.model.specs.declared.object.Content.TheVariants as content
 use Rattle.model.specs.declared.object.Role.TheVariants as role
-use Rattle.object_cache.proofs.FrozenPuts.{Releases, one_fewer, with_frame, without_pending, frozen_put_cache, contents_same, frozen_seen_same, owed_now}
+use Rattle.object_cache.proofs.FrozenPuts.{Releases, one_fewer, with_frame, without_pending, frozen_put_cache, contents_same, frozen_seen_same}
+use Rattle.object_cache.proofs.FrozenPuts.{frozen_state_now}
 use Rattle.object_cache.proofs.FrozenTorn.{torn_cache, torn_contents_same, torn_seen_same}
 use Rattle.object_cache.proofs.Leading.{same_put}
 use Rattle.object_cache.proofs.PutsOut.{running_here, frozen_room, frozen_keepable, put_continues}
-use Rattle.object_cache.proofs.Caching.{nothing_owed, owed_entry}
+use Rattle.object_cache.proofs.Caching.{nothing_frozen_state, frozen_state_entry}
 
 -- a body that was frozen as free doesn't matter, or the object is free
 mask_under : (fr r : Role) (c : Content Cap) → (fr ≡ role.Free → r ≡ role.Free) → masked r (masked fr c) ≡ masked r c
@@ -37,7 +38,7 @@ marked_within ts n marked = elim (cases_lt n (length ts)) [
 ]
 
 module _ (s : Stored) (m : Memory) (left count : ℕ) (is : IsCache s m left count) (h : Held) (staging : m.staging ≡ Some h)
-    (owed : owed_in_memory m h.number ≡ Nothing) where
+    (frozen_state : frozen_state_in_memory m h.number ≡ Nothing) where
   pub held_pending : mark_at m.pending h.number ≡ true
   held_pending = is.held h staging
 
@@ -51,8 +52,8 @@ module _ (s : Stored) (m : Memory) (left count : ℕ) (is : IsCache s m left cou
 
   -- an entry has nothing of it
   bare : (e : Entry) → entry_at m.entries h.number ≡ Some e → (mark_at m.touched h.number ≡ true) × (e.kept ≡ None)
-  bare e at = elim (nothing_owed e (mark_at m.pending h.number) (mark_at m.touched h.number)
-      (ap (λ (o : Option Entry). owed_of o (mark_at m.pending h.number) (mark_at m.touched h.number)) (sym at) ∙ owed)) [
+  bare e at = elim (nothing_frozen_state e (mark_at m.pending h.number) (mark_at m.touched h.number)
+      (ap (λ (o : Option Entry). frozen_state_of o (mark_at m.pending h.number) (mark_at m.touched h.number)) (sym at) ∙ frozen_state)) [
         | inl done ↦ absurd (true≢false (sym held_pending ∙ done))
         | inr wanted ↦ (wanted.1, wanted.2)
       ]
@@ -98,7 +99,7 @@ module _ (s : Stored) (m : Memory) (left count : ℕ) (is : IsCache s m left cou
       others = λ k c other.
           sym (ap (λ (o : Option Held). in_staging o k c) staging
           ∙ ap (λ (b : Bool). cond b h.content c) (ne_eqb h.number k (λ same. other (sym same))));
-      let_go = λ g gone. absurd (none-some g gone);
+      released = λ g gone. absurd (none-some g gone);
       content = content_put (entry_at m.entries h.number) refl;
     }
 
@@ -114,14 +115,15 @@ module _ {D : Type 0} (disk : D → Disk) (d : DurableState D) (m : Memory) (lef
   pub settled_fewer : count_by (λ b. b) (set m.pending h.number false) < count_by (λ b. b) s.pending
   settled_fewer = omega (arith, one_fewer m.pending h.number (is.held h staging), ap (λ (t : StoreState D). count_by (λ b. b) t.pending) view)
 
-  pub held_owed : ((g : Held) × (s.staging ≡ Some g) × (owed_at s.owed g.number ≡ Nothing)) → owed_at s.owed h.number ≡ Nothing
-  held_owed seen = subst (λ (x : Held). owed_at s.owed x.number ≡ Nothing)
+  pub held_frozen_state : ((g : Held) × (s.staging ≡ Some g) × (frozen_state_at s.frozen_state g.number ≡ Nothing)) →
+      frozen_state_at s.frozen_state h.number ≡ Nothing
+  held_frozen_state seen = subst (λ (x : Held). frozen_state_at s.frozen_state x.number ≡ Nothing)
       (same_Some seen.0 h (sym seen.1 ∙ ap (λ (t : StoreState D). t.staging) (sym view) ∙ staging)) seen.2
 
 -- the same by what is seen
 module _ {D : Type 0} (disk : D → Disk) (d : DurableState D) (m : Memory) (left count : ℕ) (order : List ℕ) (most_entries : ℕ) (s : StoreState D)
     (view : cache_of disk d m left order most_entries ≡ s) (is : IsCache (stored_of disk d) m left count) (h : Held) (staging : m.staging ≡ Some h)
-    (owed : owed_at s.owed h.number ≡ Nothing)
+    (frozen_state : frozen_state_at s.frozen_state h.number ≡ Nothing)
     (header : ObjectHeader) (header_is : header ≡ header_at m.frozen_headers h.number) where
   pending_there : mark_at m.pending h.number ≡ true
   pending_there = is.held h staging
@@ -129,13 +131,13 @@ module _ {D : Type 0} (disk : D → Disk) (d : DurableState D) (m : Memory) (lef
   known_there : h.number < length m.headers
   known_there = omega (arith, marked_within m.pending h.number pending_there, is.headers, is.pending_marks)
 
-  owed_there : owed_in_memory m h.number ≡ Nothing
-  owed_there = sym (owed_entry m h.number known_there) ∙ ap (λ (t : StoreState D). owed_at t.owed h.number) view ∙ owed
+  frozen_state_there : frozen_state_in_memory m h.number ≡ Nothing
+  frozen_state_there = sym (frozen_state_entry m h.number known_there) ∙ ap (λ (t : StoreState D). frozen_state_at t.frozen_state h.number) view ∙ frozen_state
 
   frame_is : record { header = header; content = masked header.role h.content } ≡ frozen_at (stored_of disk d) m h.number
   frame_is =
       ap (λ (i : ObjectHeader). record { header = i; content = masked i.role h.content }) header_is
-      ∙ sym (frozen_is_held (stored_of disk d) m left count is h staging owed_there (stored_of disk d))
+      ∙ sym (frozen_is_held (stored_of disk d) m left count is h staging frozen_state_there (stored_of disk d))
 
   pub held_known : h.number < length m.headers
   held_known = known_there
@@ -157,7 +159,7 @@ module _ {D : Type 0} (disk : D → Disk) (d : DurableState D) (m : Memory) (lef
         then = without_pending h.number m.entries None m
 
         rest : Releases (stored_of disk d) m h.number m.entries None
-        rest = releases_held (stored_of disk d) m left count is h staging owed_there held_running.0 held_running.1
+        rest = releases_held (stored_of disk d) m left count is h staging frozen_state_there held_running.0 held_running.1
 
         after_is : stored_of disk new ≡ with_frame h.number (stored_of disk d) m
         after_is = put ∙ ap (λ (g : Frame). with_frozen h.number (Kept g) (stored_of disk d)) frame_is
@@ -167,53 +169,67 @@ module _ {D : Type 0} (disk : D → Disk) (d : DurableState D) (m : Memory) (lef
             (frozen_put_cache (stored_of disk d) m left count is h.number known_there held_running.0 held_running.1 pending_there m.entries None rest)
 
         pub settled_seen : cache_of disk new (without_pending h.number m.entries None m) left order most_entries
-            ≡ record s { durable = new; pending = set s.pending h.number false; owed = set s.owed h.number Nothing; staging = None }
+            ≡ record s { durable = new; pending = set s.pending h.number false; frozen_state = set s.frozen_state h.number Nothing; staging = None }
         settled_seen =
             let old = cache_of disk d m left order most_entries in
             let ps = set m.pending h.number false in
             ap (λ (t : Stored). record
-            old { durable = new; contents = contents_in t then; pending = ps; owed = owed_in then; frozen = frozen_seen t then left; staging = None })
+            old {
+              durable = new;
+              contents = contents_in t then;
+              pending = ps;
+              frozen_state = frozen_states_in then;
+              frozen = frozen_seen t then left;
+              staging =
+                  None;
+            })
             after_is
             ∙ ap (λ (cs : List (Content Cap)). record
             old {
               durable = new;
               contents = cs;
               pending = ps;
-              owed = owed_in then;
+              frozen_state = frozen_states_in then;
               frozen = frozen_seen (with_frame h.number (stored_of disk d) m) then left;
               staging = None;
             })
             (contents_same (stored_of disk d) m left count is h.number known_there held_running.0 held_running.1 pending_there m.entries None rest)
-            ∙ ap (λ (fs : Option FrozenFrames). record old { durable = new; pending = ps; owed = owed_in then; frozen = fs; staging = None })
+            ∙ ap (λ (fs : Option FrozenFrames). record old { durable = new; pending = ps; frozen_state = frozen_states_in then; frozen = fs; staging = None })
             (frozen_seen_same (stored_of disk d) m left count is h.number known_there held_running.0 held_running.1 pending_there m.entries None rest)
-            ∙ ap (λ (os : List Owed). record old { durable = new; pending = ps; owed = os; staging = None })
-            (owed_now (stored_of disk d) m left count is h.number known_there held_running.0 held_running.1 pending_there m.entries None rest)
-            ∙ ap (λ (t : StoreState D). record t { durable = new; pending = set t.pending h.number false; owed = set t.owed h.number Nothing; staging = None })
+            ∙ ap (λ (os : List FrozenState). record old { durable = new; pending = ps; frozen_state = os; staging = None })
+            (frozen_state_now (stored_of disk d) m left count is h.number known_there held_running.0 held_running.1 pending_there m.entries None rest)
+            ∙ ap (λ (t : StoreState D). record t {
+              durable = new;
+              pending = set t.pending h.number false;
+              frozen_state =
+                  set t.frozen_state h.number Nothing;
+              staging = None;
+            })
             view
 
         pub settled_put : cache_of disk new (without_pending h.number m.entries None m) left order most_entries ≡ on_device s
             (cache_of disk new (without_pending h.number m.entries None m) left order most_entries)
         settled_put = same_put s (cache_of disk new (without_pending h.number m.entries None m) left order most_entries) s.dirty (set s.pending h.number false)
-            (set s.owed h.number Nothing) None settled_seen
+            (set s.frozen_state h.number Nothing) None settled_seen
 
         pub settled_continues : GoesOn disk d new → (disk d.beneath).failures ≤ (disk new.beneath).failures →
             GoesOnIn disk s (cache_of disk new (without_pending h.number m.entries None m) left order most_entries)
         settled_continues goes later = subst (GoesOnIn disk s) (sym settled_seen)
             (put_continues disk d m left count order most_entries s view is h.number known_there pending_there new
             (Kept (record { header = header; content = masked header.role h.content })) put goes later
-            (set s.pending h.number false) (set s.owed h.number Nothing) None)
+            (set s.pending h.number false) (set s.frozen_state h.number Nothing) None)
 
     module _ (put : stored_of disk new ≡ with_frozen h.number Broken (stored_of disk d)) where
       content_torn : content_at (with_frozen h.number Broken (stored_of disk d)) m h.number ≡ content_at (stored_of disk d) m h.number
       content_torn = ap (λ (c : Content Cap). present_body (entry_at m.entries h.number) (header_at m.headers h.number).role
           (put_body (put_at (stored_of disk d).working h.number) c))
-          (below_is (stored_of disk d) m left count is h staging owed_there (with_frozen h.number Broken (stored_of disk d)) ∙
-          sym (below_is (stored_of disk d) m left count is h staging owed_there (stored_of disk d)))
+          (below_is (stored_of disk d) m left count is h staging frozen_state_there (with_frozen h.number Broken (stored_of disk d)) ∙
+          sym (below_is (stored_of disk d) m left count is h staging frozen_state_there (stored_of disk d)))
 
       frozen_torn : frozen_at (with_frozen h.number Broken (stored_of disk d)) m h.number ≡ frozen_at (stored_of disk d) m h.number
       frozen_torn =
-          frozen_is_held (stored_of disk d) m left count is h staging owed_there (with_frozen h.number Broken (stored_of disk d))
-          ∙ sym (frozen_is_held (stored_of disk d) m left count is h staging owed_there (stored_of disk d))
+          frozen_is_held (stored_of disk d) m left count is h staging frozen_state_there (with_frozen h.number Broken (stored_of disk d))
+          ∙ sym (frozen_is_held (stored_of disk d) m left count is h staging frozen_state_there (stored_of disk d))
 
       pub unsettled_stands : IsCache (stored_of disk new) m left count
       unsettled_stands = subst (λ (t : Stored). IsCache t m left count) (sym put)
@@ -231,10 +247,10 @@ module _ {D : Type 0} (disk : D → Disk) (d : DurableState D) (m : Memory) (lef
           ∙ ap (λ (t : StoreState D). record t { durable = new }) view
 
       pub unsettled_put : cache_of disk new m left order most_entries ≡ on_device s (cache_of disk new m left order most_entries)
-      unsettled_put = same_put s (cache_of disk new m left order most_entries) s.dirty s.pending s.owed s.staging unsettled_seen
+      unsettled_put = same_put s (cache_of disk new m left order most_entries) s.dirty s.pending s.frozen_state s.staging unsettled_seen
 
       pub unsettled_continues : GoesOn disk d new → (disk d.beneath).failures ≤ (disk new.beneath).failures →
           GoesOnIn disk s (cache_of disk new m left order most_entries)
       unsettled_continues goes later = subst (GoesOnIn disk s) (sym unsettled_seen)
-          (put_continues disk d m left count order most_entries s view is h.number known_there pending_there new Broken put goes later s.pending s.owed
+          (put_continues disk d m left count order most_entries s view is h.number known_there pending_there new Broken put goes later s.pending s.frozen_state
           s.staging)

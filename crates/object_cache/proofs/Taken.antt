@@ -2,11 +2,8 @@
 use Rattle.object_cache.proofs.Names.{inl, inr, ℕ, List, [], length, Option, Some, None, option_map, refl, sym, ap, subst, arith, cases_lt, length-set}
 use Rattle.object_cache.proofs.Names.{length-append, get_or-set_same, get_or-set_other, get_or_append_left, get_or_at, get_or_past, length-map, none-some}
 use Rattle.object_cache.proofs.Names.{same_Some, Frame, ObjectHeader, Content, Cap, blank_frame, frame_at, headers, EntriesState, entry_at, new_entry, with_new}
-use Rattle.object_cache.proofs.Names.{AreTaken, HaveRoom, HoldBodies, TakenState, HaveSpace}
-use Rattle.std.proofs.Common.{IsSome, is_some, replicate}
-use Rattle.std.proofs.lemmas.List.{get_or-replicate, length-replicate}
-use Rattle.object_cache.proofs.Names.{Entry, all_of}
-use Rattle.object_cache.specs.StoreState.{AreAll}
+use Rattle.object_cache.proofs.Names.{AreTaken, HaveRoom, HoldBodies, TakenState, HaveSpace, IsSome, is_some, replicate, get_or-replicate, length-replicate}
+use Rattle.object_cache.proofs.Names.{Entry, all_of, AreAll}
 use Rattle.std.proofs.Common.{◌≡◌, ◌<◌, ◌≤◌, ◌+◌, ◌∷◌, ◌++◌, ◌∙◌}
 
 pub none_entered : (k n : ℕ) → entry_at (replicate k None) n ≡ None

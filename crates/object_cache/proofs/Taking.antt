@@ -1,9 +1,9 @@
 -- The frozen body of an object is taken up from below the entries: nothing that is seen changes but the staging buffer.
 use Rattle.object_cache.proofs.Names.{inl, inr, ℕ, Bool, true, cond, List, length, Option, Some, None, option_map, refl, sym, ap, subst, arith, cases_eq}
 use Rattle.object_cache.proofs.Names.{eq-eqb, ne_eqb, same_Some, Cap, Frame, Content, header_at, AreKeepable, object_count, Disk, Kept, put_at, most}
-use Rattle.object_cache.proofs.Names.{DurableState, FrozenPuts, Stored, ReadsStore, below_at, stored_of, maps_same, Held, entry_at, Memory, Owed, mark_at}
-use Rattle.object_cache.proofs.Names.{in_staging, put_body, below_body, present_body, content_at, present_at, frozen_body, frozen_frame, frozen_at, contents_in}
-use Rattle.object_cache.proofs.Names.{frozen_in, owed_in, StoreState, IsCache, GoesOnIn, cache_of, frozen_seen}
+use Rattle.object_cache.proofs.Names.{DurableState, FrozenPuts, Stored, ReadsStore, below_at, stored_of, maps_same, Held, entry_at, Memory, FrozenState}
+use Rattle.object_cache.proofs.Names.{mark_at, in_staging, put_body, below_body, present_body, content_at, present_at, frozen_body, frozen_frame, frozen_at}
+use Rattle.object_cache.proofs.Names.{contents_in, frozen_in, frozen_states_in, StoreState, IsCache, GoesOnIn, cache_of, frozen_seen}
 use Rattle.std.proofs.Common.{◌≡◌, ◌<◌, ◌≤◌, ◌∙◌}
 use Rattle.object_cache.proofs.Fetched.{read_seen, read_continues}
 use Rattle.object_cache.proofs.Leading.{continues_staging}
@@ -46,9 +46,9 @@ module _ (s : Stored) (m : Memory) (left count : ℕ) (is : IsCache s m left cou
   unfolding contents_in
   taken_contents = maps_same (content_at s then) (content_at s m) (length m.headers) (λ k below. content_same k)
 
-  pub taken_owed : owed_in then ≡ owed_in m
-  unfolding owed_in
-  taken_owed = refl
+  pub taken_frozen_state : frozen_states_in then ≡ frozen_states_in m
+  unfolding frozen_states_in
+  taken_frozen_state = refl
 
   pub taken_cache : IsCache s then left count
   taken_cache = record {
@@ -101,21 +101,22 @@ module _ {D : Type 0} (disk : D → Disk) (d : DurableState D) (m : Memory) (lef
         let old = cache_of disk d m left order most_entries in
         let then = holding_up n c m in
         ap (λ (t : Stored). record
-        old { durable = new; contents = contents_in t then; owed = owed_in then; frozen = frozen_seen t then left; staging = then.staging }) reads.stored
+        old { durable = new; contents = contents_in t then; frozen_state = frozen_states_in then; frozen = frozen_seen t then left; staging = then.staging })
+        reads.stored
         ∙ ap (λ (cs : List (Content Cap)). record
-        old { durable = new; contents = cs; owed = owed_in then; frozen = frozen_seen (stored_of disk d) then left; staging = then.staging })
+        old { durable = new; contents = cs; frozen_state = frozen_states_in then; frozen = frozen_seen (stored_of disk d) then left; staging = then.staging })
         (taken_contents (stored_of disk d) m left count is n pending_here empty_here c read)
         ∙ ap (λ (fs : List Frame). record
         old {
           durable = new;
-          owed = owed_in then;
+          frozen_state = frozen_states_in then;
           frozen = option_map (λ (f : FrozenPuts). record { frames = fs; size = f.size; left = left })
               (stored_of disk d).frozen;
           staging = then.staging;
         })
         (taken_frozen (stored_of disk d) m left count is n pending_here empty_here c read)
-        ∙ ap (λ (os : List Owed). record old { durable = new; owed = os; staging = then.staging })
-        (taken_owed (stored_of disk d) m left count is n pending_here empty_here c read)
+        ∙ ap (λ (os : List FrozenState). record old { durable = new; frozen_state = os; staging = then.staging })
+        (taken_frozen_state (stored_of disk d) m left count is n pending_here empty_here c read)
         ∙ ap (λ (t : StoreState D). record t { durable = new; staging = Some (record { number = n; content = c }) }) view
 
     pub taken_continues : (disk d.beneath).failures ≤ (disk new.beneath).failures →

@@ -83,9 +83,6 @@ module _ {D : Type 0} (disk : D → Disk) where
     same : (k : ℕ) → k ≡ k - 0
     same k = omega arith
 
-  pub puts_none : ((d : D) (c : Image) → (disk d).left_since (disk d).moment c → (disk d).may_leave c) → (s : StoreState D) → PutsBy disk s s 0
-  puts_none only_now s = unturned_puts s s refl (goes_on_same disk only_now s)
-
   pub puts_more : (a b c : StoreState D) (f : FrozenFrames) (i k : ℕ) → a.frozen ≡ Some f → PutsBy disk a b i → PutsBy disk b c k → PutsBy disk a c (i + k)
   puts_more a b c f i k is_some first second = record {
     snapshots = λ g is_g.

@@ -19,10 +19,9 @@ held_in scratch held = record { number = held.0; content = content_of held.1 scr
 abbrev pub held_behind : ℕ × ContentRef → Held
 held_behind held = record { number = held.0; content = content_behind held.1 }
 
--- What a bounded cache has in memory beside the durable store: headers, and those that were frozen; which numbers were
--- written since the last checkpoint began, which of them weren't put since they were, and which have a frozen frame
--- that
--- isn't in its slot; the entries, and a body that was read so that its frozen frame can be written again.
+-- What a store has in memory beside the durable store: the present and the frozen headers; the touched numbers; the
+-- dirty ones, whose present frame isn't in the log; the pending ones, whose frozen frame isn't in the log; the entries;
+-- and a frozen body that was read so that its frame can be written again.
 pub record Memory : Type 0 where
   pub headers : List ObjectHeader
   pub frozen_headers : List ObjectHeader
@@ -58,9 +57,9 @@ in_staging None n c = c
 in_staging (Some h) n c = if h.number == n then h.content else c
 
 -- the staging buffer once it has released a number's body
-abbrev pub let_go : ℕ → Option Held → Option Held
-let_go n None = None
-let_go n (Some h) = if h.number == n then None else Some h
+abbrev pub released : ℕ → Option Held → Option Held
+released n None = None
+released n (Some h) = if h.number == n then None else Some h
 
 -- the body that was put, or else another
 abbrev pub put_body : Put → Content Cap → Content Cap
@@ -87,8 +86,8 @@ content_at s m n = present_body (entry_at m.entries n) (header_at m.headers n).r
 abbrev pub present_at : Stored → Memory → ℕ → Frame
 present_at s m n = record { header = header_at m.headers n; content = content_at s m n }
 
--- the frozen body of an object with an entry: kept apart; or what lies below, if it was written since; or the present
--- one
+-- the frozen body of an object with an entry: its frozen copy; or the body below, if it was written since; or the
+-- present body
 abbrev pub apart_body : Option (Content Cap) → Bool → Content Cap → Content Cap → Content Cap
 apart_body (Some c) touched present below = c
 apart_body None true present below = below
@@ -98,7 +97,7 @@ abbrev pub frozen_body : Option Entry → Bool → Content Cap → Content Cap
 frozen_body None touched below = below
 frozen_body (Some e) touched below = apart_body e.kept touched e.present below
 
--- the frozen body that an entry has, if it has one: kept apart, or else the present one
+-- the frozen body that an entry has, if it has one: its frozen copy, or else the present body
 abbrev pub own_body : Option (Content Cap) → Content Cap → Content Cap
 own_body (Some c) present = c
 own_body None present = present
@@ -126,39 +125,38 @@ contents_in s m = map (content_at s m) (range_with_len 0 (length m.headers))
 unfoldable pub frozen_in : Stored → Memory → List Frame
 frozen_in s m = map (frozen_at s m) (range_with_len 0 (length m.headers))
 
--- what an entry has of the frozen frame that is still to be written: nothing, the present body, or one that is kept
--- apart
-pub data Owed : Type 0 where
-  Nothing : Owed
-  Shared : Owed
-  Apart : Owed
+-- what an entry has of an unwritten frozen frame: nothing, the present body, or a frozen copy
+pub data FrozenState : Type 0 where
+  Nothing : FrozenState
+  Shared : FrozenState
+  Apart : FrozenState
 
-abbrev pub is_owing : Owed → Bool
-is_owing Nothing = false
-is_owing Shared = true
-is_owing Apart = true
+abbrev pub has_frozen : FrozenState → Bool
+has_frozen Nothing = false
+has_frozen Shared = true
+has_frozen Apart = true
 
-abbrev pub is_shared : Owed → Bool
+abbrev pub is_shared : FrozenState → Bool
 is_shared Nothing = false
 is_shared Shared = true
 is_shared Apart = false
 
--- by whether the frozen frame is pending, whether a body is kept apart, and whether the object was written since
-abbrev pub owed_body : Bool → Bool → Owed
-owed_body true touched = Apart
-owed_body false true = Nothing
-owed_body false false = Shared
+-- by whether the frozen frame is pending, whether there is a frozen copy, and whether the object was written since
+abbrev pub frozen_state_body : Bool → Bool → FrozenState
+frozen_state_body true touched = Apart
+frozen_state_body false true = Nothing
+frozen_state_body false false = Shared
 
-abbrev pub owed_by : Bool → Bool → Bool → Owed
-owed_by false kept touched = Nothing
-owed_by true kept touched = owed_body kept touched
+abbrev pub frozen_state_by : Bool → Bool → Bool → FrozenState
+frozen_state_by false kept touched = Nothing
+frozen_state_by true kept touched = frozen_state_body kept touched
 
-abbrev pub owed_of : Option Entry → Bool → Bool → Owed
-owed_of None pending touched = Nothing
-owed_of (Some e) pending touched = owed_by pending (is_some e.kept) touched
+abbrev pub frozen_state_of : Option Entry → Bool → Bool → FrozenState
+frozen_state_of None pending touched = Nothing
+frozen_state_of (Some e) pending touched = frozen_state_by pending (is_some e.kept) touched
 
-abbrev pub owed_in_memory : Memory → ℕ → Owed
-owed_in_memory m n = owed_of (entry_at m.entries n) (mark_at m.pending n) (mark_at m.touched n)
+abbrev pub frozen_state_in_memory : Memory → ℕ → FrozenState
+frozen_state_in_memory m n = frozen_state_of (entry_at m.entries n) (mark_at m.pending n) (mark_at m.touched n)
 
-unfoldable pub owed_in : Memory → List Owed
-owed_in m = map (owed_in_memory m) (range_with_len 0 (length m.headers))
+unfoldable pub frozen_states_in : Memory → List FrozenState
+frozen_states_in m = map (frozen_state_in_memory m) (range_with_len 0 (length m.headers))

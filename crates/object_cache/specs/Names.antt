@@ -27,6 +27,7 @@ pub use Rattle.model.specs.declared.frame.ObjectHeader.{ObjectHeader}
 pub use Rattle.model.specs.declared.object.Content.{Content}
 pub use Rattle.model.specs.declared.object.ContentRef.{ContentRef}
 pub use Rattle.model.specs.declared.object.Role.{Role}
+pub use Rattle.object_store.specs.Journal.{is_same_page}
 pub use Rattle.object_store.specs.Store.{Continues, FrozenFrames, View, stabilized}
 pub use Rattle.std.proofs.Common.{ap, arith, refl}
 pub use Rattle.std.specs.List.{range_with_len}

@@ -1,4 +1,4 @@
--- What numbers have once they are prepared.
+-- What fetching and announcing do to entries and marks.
 use Rattle.object_cache.specs.Names.{ℕ, true, List, take, is_member, used_in_turn}
 use Rattle.std.specs.Prelude.{◌≡◌, ◌+◌, ◌≤◌}
 use Rattle.object_cache.specs.StoreState.{StoreState, IsFetchedIn, on_device}
@@ -20,6 +20,6 @@ pub record UsesSome (most : ℕ) (ns old new : List ℕ) : Type 0 where
   pub enough : most ≤ count + 1
   pub order : new ≡ take count (used_in_turn used old)
 
--- numbers were made ready to be written, and marked: all else stays
+-- numbers were announced: all else stays
 abbrev pub readied : {D : Type 0} → StoreState D → StoreState D → StoreState D
-readied s t = record s { touched = t.touched; dirty = t.dirty; owed = t.owed }
+readied s t = record s { touched = t.touched; dirty = t.dirty; frozen_state = t.frozen_state }

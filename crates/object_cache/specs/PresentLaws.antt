@@ -1,4 +1,4 @@
--- What is seen of a store goes on while its objects change.
+-- The laws of `ContinuesIn`.
 use Rattle.object_cache.specs.Names.{refl, ap, arith, Image, Disk, ends, leaves_on, leaves_weaker, peeks_started}
 use Rattle.object_cache.specs.Names.{Snapshots, FrozenFrames, goes_trans, goes_none}
 use Rattle.std.proofs.Common.{◌≤◌, ◌∙◌, ℕ, Bool}
@@ -12,7 +12,7 @@ module _ {D : Type 0} (disk : D → Disk) where
     snapshots = refl;
     later = omega arith;
     grows = omega arith;
-    most = refl;
+    capacity = refl;
     only_reads = λ none idle. peeks_started (disk s.durable.beneath) (only_now s.durable.beneath);
   }
 
@@ -25,7 +25,7 @@ module _ {D : Type 0} (disk : D → Disk) where
     snapshots = second.snapshots ∙ first.snapshots;
     later = omega (arith, first.later, second.later);
     grows = omega (arith, first.grows, second.grows);
-    most = second.most ∙ first.most;
+    capacity = second.capacity ∙ first.capacity;
     only_reads = λ none idle.
         let one = first.only_reads (omega (arith, none, second.grows)) idle in
         let two = second.only_reads none (ap (λ (a : Snapshots FrozenFrames). a.frozen) first.snapshots ∙ idle) in

@@ -1,4 +1,4 @@
--- What a store promises of its device while its present objects change.
+-- The saved frames while present objects change.
 use Rattle.object_cache.specs.Names.{refl, Image, Disk, saved_state, seen_of, stored_of, is_sound, Holds, Continues}
 use Rattle.object_cache.specs.StoreState.{StoreState, GoesOnIn, view_of}
 

@@ -1,4 +1,4 @@
--- The store of objects: what is seen of it, and what always holds.
+-- The store of objects: its state, and what always holds.
 use Rattle.object_cache.specs.Names.{ℕ, Bool, true, false, Option, Some, None, IsSome, is_some, option_map, count_by}
 use Rattle.object_cache.specs.Names.{List, length, map, replicate, slice_index_or, slice_set, range_with_len, Cap}
 use Rattle.object_cache.specs.Names.{ObjectHeader, Content, Frame, frame_at, header_at, headers, AreKeepable}
@@ -10,10 +10,11 @@ use Rattle.object_cache.specs.Names.{AllDiffer, without, nat_le}
 use Rattle.std.specs.Prelude.{◌≡◌, ◌⊎◌, ◌<◌, ◌∷◌, ◌||◌, ◌≤◌, if◌then◌else◌}
 use Rattle.model.specs.declared.object.Role.TheVariants as role
 use Rattle.object_cache.specs.declared.all_objects.AllObjects.{AllObjects}
-use Rattle.object_cache.specs.Memory.{Held, Memory, Owed, Nothing, owed_by, mark_at, present_at, frozen_at, contents_in}
-use Rattle.object_cache.specs.Memory.{frozen_in, owed_in}
+use Rattle.object_cache.specs.Memory.{Held, Memory, FrozenState, Nothing, frozen_state_by, mark_at, present_at}
+use Rattle.object_cache.specs.Memory.{frozen_at, contents_in}
+use Rattle.object_cache.specs.Memory.{frozen_in, frozen_states_in}
 
--- ---- what is seen of it
+-- ---- its state
 
 -- which numbers have an entry
 unfoldable pub cached_in : List (Option Entry) → List Bool
@@ -27,20 +28,20 @@ pub record StoreState (D : Type 0) : Type 0 where
   pub dirty : List Bool
   pub pending : List Bool
   pub cached : List Bool
-  pub owed : List Owed
+  pub frozen_state : List FrozenState
   pub frozen : Option FrozenFrames
   pub staging : Option Held
   pub order : List ℕ
-  pub most : ℕ
+  pub capacity : ℕ
 
--- the frozen frames of a checkpoint on its way; `left` counts those that `stabilize` has yet to reach
+-- the frozen frames; `left` counts those that `stabilize` has yet to reach
 abbrev pub frozen_seen : Stored → Memory → ℕ → Option FrozenFrames
 frozen_seen s m left = option_map (λ (f : FrozenPuts). record { frames = frozen_in s m; size = f.size; left = left })
     s.frozen
 
 module _ {D : Type 0} (disk : D → Disk) where
   abbrev pub cache_of : DurableState D → Memory → ℕ → List ℕ → ℕ → StoreState D
-  cache_of d m left order most = record {
+  cache_of d m left order capacity = record {
     durable = d;
     headers = m.headers;
     contents = contents_in (stored_of disk d) m;
@@ -48,11 +49,11 @@ module _ {D : Type 0} (disk : D → Disk) where
     dirty = m.dirty;
     pending = m.pending;
     cached = cached_in m.entries;
-    owed = owed_in m;
+    frozen_state = frozen_states_in m;
     frozen = frozen_seen (stored_of disk d) m left;
     staging = m.staging;
     order = order;
-    most = most;
+    capacity = capacity;
   }
 
   -- the present objects, and how often the device failed
@@ -79,30 +80,30 @@ module _ {D : Type 0} (disk : D → Disk) where
   abbrev pub view_of : StoreState D → View D
   view_of s = record { beneath = s.durable.beneath; snapshots = snapshots_of s; is_sound = is_sound disk s.durable }
 
-  -- the present objects went on, and nothing else that is seen of the store: the device went on from what is saved, and
-  -- was only read where nothing was written since and no checkpoint is on its way
+  -- only present objects change: the saved and frozen frames stay, and the device was only read if nothing is touched
+  -- and nothing frozen
   pub record GoesOnIn (s t : StoreState D) : Type 0 where
     pub goes_on : GoesOn disk s.durable t.durable
     pub snapshots : snapshots_of t ≡ snapshots_of s
     pub later : (disk s.durable.beneath).failures ≤ (disk t.durable.beneath).failures
     pub grows : touched_count s.touched ≤ touched_count t.touched
-    pub most : t.most ≡ s.most
+    pub capacity : t.capacity ≡ s.capacity
     pub only_reads : touched_count t.touched ≡ 0 → s.frozen ≡ None →
         Peeks (disk s.durable.beneath) (disk t.durable.beneath)
 
 abbrev pub cached_at : List Bool → ℕ → Bool
 cached_at cached n = slice_index_or cached n false
 
--- the number of entries is at most the capacity: each number with an entry stands once in the order of use
+-- the number of entries is at most the capacity, and each number with an entry stands once in the order of use
 pub record IsBounded {D : Type 0} (s : StoreState D) : Type 0 where
   pub listed : (n : ℕ) → is_member s.order n ≡ cached_at s.cached n
   pub once : AllDiffer s.order
-  pub few : length s.order ≤ s.most
+  pub few : length s.order ≤ s.capacity
 
-abbrev pub owed_at : List Owed → ℕ → Owed
-owed_at owed n = slice_index_or owed n Nothing
+abbrev pub frozen_state_at : List FrozenState → ℕ → FrozenState
+frozen_state_at frozen_state n = slice_index_or frozen_state n Nothing
 
--- how many frozen frames aren't in their slots
+-- how many frozen frames aren't in the log
 abbrev pub pending_count : {D : Type 0} → StoreState D → ℕ
 pending_count s = count_by (λ b. b) s.pending
 
@@ -110,20 +111,20 @@ pending_count s = count_by (λ b. b) s.pending
 abbrev pub with_cached : {D : Type 0} → ℕ → StoreState D → StoreState D
 with_cached n s = record s {
   cached = slice_set s.cached n true;
-  owed = slice_set s.owed n (owed_by (mark_at s.pending n) false (mark_at s.touched n));
+  frozen_state = slice_set s.frozen_state n (frozen_state_by (mark_at s.pending n) false (mark_at s.touched n));
   order = n ∷ s.order;
 }
 
--- what is on the device of the one, and all else of the other
+-- `s` with the device and the staging buffer of `t`, and its marks of what is written
 abbrev pub on_device : {D : Type 0} → StoreState D → StoreState D → StoreState D
 on_device s t = record
-    s { durable = t.durable; dirty = t.dirty; pending = t.pending; owed = t.owed; staging = t.staging }
+    s { durable = t.durable; dirty = t.dirty; pending = t.pending; frozen_state = t.frozen_state; staging = t.staging }
 
 -- the same, where more frozen frames may be in the log
 abbrev pub on_device_frozen : {D : Type 0} → StoreState D → StoreState D → StoreState D
 on_device_frozen s t = record (on_device s t) { frozen = t.frozen }
 
--- `k` more of the frozen frames are in the log, and nothing else that is seen changes
+-- `left` is lower by `k`, and more frozen frames may be in the log
 pub record PutsBy {D : Type 0} (disk : D → Disk) (s t : StoreState D) (k : ℕ) : Type 0 where
   pub snapshots : (f : FrozenFrames) → s.frozen ≡ Some f → snapshots_of disk t ≡ stabilized k f (snapshots_of disk s)
   pub rest : t ≡ on_device_frozen s t
@@ -133,13 +134,13 @@ pub record PutsBy {D : Type 0} (disk : D → Disk) (s t : StoreState D) (k : ℕ
 abbrev pub without_cached : {D : Type 0} → ℕ → StoreState D → StoreState D
 without_cached n s = record s { cached = slice_set s.cached n false; order = without n s.order }
 
--- a number is fetched where it has an entry
+-- a number is fetched if it has an entry
 pub record IsFetchedIn {D : Type 0} (s : StoreState D) (n : ℕ) : Type 0 where
   pub header : n < length s.headers
   pub content : n < length s.contents
   pub cached : cached_at s.cached n ≡ true
 
--- a number may be written where it is dirty
+-- a number may be written if it is dirty
 pub record IsAnnouncedIn {D : Type 0} (s : StoreState D) (n : ℕ) : Type 0 where
   pub header : n < length s.headers
   pub content : n < length s.contents
@@ -149,7 +150,7 @@ pub record IsAnnouncedIn {D : Type 0} (s : StoreState D) (n : ℕ) : Type 0 wher
 abbrev pub IsWhole : {D : Type 0} → StoreState D → Type 0
 IsWhole s = (n : ℕ) → n < length s.headers → IsFetchedIn s n
 
--- the present objects went on; a store that keeps all of them made no call of the device
+-- only present objects change; a store that keeps all of them made no call of the device
 pub record ContinuesIn {D : Type 0} (all : Bool) (disk : D → Disk) (s t : StoreState D) : Type 0 where
   pub goes_on : GoesOnIn disk s t
   pub still : all ≡ true → t.durable ≡ s.durable
@@ -221,7 +222,7 @@ pub record IsOpenOver {D : Type 0} (all : Type 0) (disk : D → Disk) (d : Durab
   pub touched : s.touched ≡ untouched (stored_of disk d).saved.geometry
   pub idle : s.frozen ≡ None
   pub whole : all → IsWhole s
-  pub same_most : s.most ≡ most
+  pub same_most : s.capacity ≡ most
 
 -- all present objects of a store, as many bodies as headers
 pub record AreObjectsOf {D : Type 0} (s : StoreState D) (os : AllObjects) : Type 0 where
@@ -236,8 +237,8 @@ is_kept Absent = false
 is_kept Broken = false
 is_kept (Kept f) = true
 
--- the frames of a checkpoint on its way: each of those that it writes is pending or was put, a torn slot is that of a
--- pending one, and at most `left` are pending
+-- the frozen frames: each of those to write is pending or was put, a torn slot is that of a pending one, and at most
+-- `left` are pending
 pub record AreFrozen (f : FrozenPuts) (pending : List Bool) (left : ℕ) : Type 0 where
   pub each : length f.put ≡ length pending
   pub size : count_by (λ b. b)
@@ -257,11 +258,11 @@ pub record IsCache (s : Stored) (m : Memory) (left count : ℕ) : Type 0 where
   pub puts : length s.working ≡ object_count s.saved.geometry
   pub counted : count ≡ touched_count m.touched
   pub within : count ≤ s.saved.geometry.log
-  -- what is to be put was written since, and all else that was is put
+  -- dirty numbers are touched, and the other touched ones have their working frame in the log
   pub marked : (n : ℕ) → mark_at m.dirty n ≡ true → mark_at m.touched n ≡ true
   pub clean : (n : ℕ) → mark_at m.dirty n ≡ false → mark_at m.touched n ≡ true →
       put_at s.working n ≡ Kept (present_at s m n)
-  -- an object that wasn't written since wasn't put, and has its frozen or saved frame
+  -- an untouched object has no working frame, and its present frame is its frozen or saved one
   pub unput : (n : ℕ) → mark_at m.touched n ≡ false → put_at s.working n ≡ Absent
   pub unwritten : (n : ℕ) → n < length m.headers → mark_at m.touched n ≡ false → present_at s m n ≡ frozen_at s m n
   -- frozen frames
@@ -270,7 +271,7 @@ pub record IsCache (s : Stored) (m : Memory) (left count : ℕ) : Type 0 where
   pub keepable : (f : FrozenPuts) → s.frozen ≡ Some f → AreKeepable s.saved.geometry most (frozen_in s m)
   pub held : (h : Held) → m.staging ≡ Some h → mark_at m.pending h.number ≡ true
   pub apart : (n : ℕ) (e : Entry) → entry_at m.entries n ≡ Some e → (e.kept ≡ None) ⊎ (mark_at m.pending n ≡ true)
-  -- a body on the device that is frozen as free isn't wanted
+  -- nobody reads the body below of an object that is frozen as free
   pub freed : (n : ℕ) → entry_at m.entries n ≡ None → mark_at m.pending n ≡ true →
       (header_at m.frozen_headers n).role ≡ role.Free →
       (is_kept (put_at s.working n) ≡ true) ⊎ ((header_at m.headers n).role ≡ role.Free)

@@ -1,4 +1,4 @@
-// All objects of a store, taken out of it.
+// All objects of a store.
 ghost use Rattle.std.specs.Prelude.{◌≡◌, ℕ, ◌<◌, Some, length, option_map, IfOk, IsSome};
 ghost use Rattle.cache_entries.specs.Entries.{entry_at, present_of};
 ghost use Rattle.model.specs.Frame.{held_at};
@@ -7,14 +7,14 @@ use cache_entries::Entries;
 use model::{Cap, Content, ObjectHeader};
 use std::alloc::{AllocError, Global};
 
-/// The headers of all objects, and what they hold, by number.
+/// The headers and bodies of all objects, by number.
 #[derive(Drop)]
 pub struct AllObjects {
     pub headers: Vec<ObjectHeader>,
     pub contents: Vec<Content<Cap>>,
 }
 
-// Copies of what objects hold, by number, if each has an entry.
+// Copies of all bodies, by number. Each object must have an entry.
 pub(crate) fn copy_bodies(
     alloc: Global,
     entries: &Entries,

@@ -1,4 +1,4 @@
-// The object store that keeps a bounded number of object bodies in memory.
+// The cache of objects over a device.
 ghost use Rattle.std.specs.Prelude.{◌∷◌, ◌≡◌, ◌≢◌, ◌<◌, ◌≤◌, ◌-◌, None, false, true, ℕ, length, slice_set, take, OnOk};
 ghost use Rattle.std.specs.Prelude.{OnErr};
 ghost use Rattle.model.specs.declared.object.Content.TheVariants as content;
@@ -14,8 +14,8 @@ ghost use Rattle.model.specs.Machine.{touched_count};
 ghost use Rattle.migrator.specs.Durable.{stored_of};
 
 use crate::frozen::{own_body, put_body};
+use crate::frozen_state::has_frozen;
 use crate::headers::Headers;
-use crate::owed::is_owing;
 use crate::staging::Staging;
 use cache_entries::Entries;
 use capability::{Fresh, ObjectTable};
@@ -34,27 +34,27 @@ mod stabilize;
 mod stages;
 mod staging;
 
-/// An object store that keeps a bounded number of objects in memory. The others lie on the device.
+/// Objects over a device. The bodies of those with an entry are in memory; the others lie on the device.
 ///
 /// The headers of all objects are always in memory.
 #[derive(Drop)]
 pub struct Cache<D: Device> {
     durable: Durable<D>,
     table: ObjectTable,
-    /// The numbers written since the last checkpoint began.
+    /// The numbers written since the last freeze.
     touched: NumberSet,
-    /// How many they are.
+    /// The count of `touched`.
     count: u64,
-    /// Those of them that weren't put since they were written.
+    /// The touched numbers whose present frame isn't in the log.
     dirty: NumberSet,
     entries: Entries,
-    /// The numbers whose frozen frame isn't in its slot.
+    /// The numbers whose frozen frame isn't in the log.
     pending: NumberSet,
-    /// The headers of all objects as they were frozen.
+    /// The headers of pending numbers as they were frozen.
     frozen_headers: Headers,
-    /// How many objects of a checkpoint on its way are said to be left.
+    /// How many objects of the frozen checkpoint `stabilize` has yet to reach.
     left: u64,
-    /// A body that is in no entry, and perhaps no longer in its slot.
+    /// A frozen body that is in no entry, and perhaps no longer in its slot.
     staging: Staging,
     scratch: Scratch,
 }
@@ -90,14 +90,15 @@ impl<D: Device> Model for Cache<D> {
 }
 
 impl<D: Device> Cache<D> {
-    ghost use Rattle.object_cache.specs.Memory.{Nothing, Shared, Apart, let_go, mark_at, masked};
+    ghost use Rattle.object_cache.specs.Memory.{Nothing, Shared, Apart, released, mark_at, masked};
     ghost use Rattle.object_cache.specs.StoreState.{GoesOnIn, IsBounded, IsFetchedIn, IsAnnouncedIn, on_device};
-    ghost use Rattle.object_cache.specs.StoreState.{owed_at, parts_of, pending_count, cached_at, with_content_in};
+    ghost use Rattle.object_cache.specs.StoreState.{frozen_state_at, parts_of, pending_count, cached_at};
+    ghost use Rattle.object_cache.specs.StoreState.{with_content_in};
     ghost use Rattle.object_cache.specs.StoreState.{with_cached, without_cached};
     ghost use Rattle.cache_entries.specs.Order.{without};
     ghost use Rattle.object_cache.specs.contracts.cache.Cache.{the_row};
 
-    /// How many objects and slots there may be.
+    /// The counts of nodes, pages and log slots. By `within`, no more than `log` numbers are touched.
     pub fn geometry(&self) -> Geometry
         ensures geometry { result ≡ (stored_of D.disk self.now.durable).saved.geometry }
         ensures within { touched_count self.now.touched ≤ (stored_of D.disk self.now.durable).saved.geometry.log }
@@ -120,7 +121,7 @@ impl<D: Device> Cache<D> {
         self.entries.len()
     }
 
-    /// What an object holds that is in memory.
+    /// The body of a fetched object.
     pub fn frame(&self, number: u64) -> ContentRef<'_>
         requires { IsFetchedIn self.now number }
         ensures { content_behind result ≡ held_at self.now.contents number }
@@ -128,7 +129,7 @@ impl<D: Device> Cache<D> {
         self.entries.present(number)
     }
 
-    /// Puts a word into a page. What is no page stays.
+    /// Sets a word of a page. Changes nothing if the object isn't a page.
     pub fn set_word(&mut self, number: u64, index: usize, word: u64)
         requires fetched { IsFetchedIn self.old number }
         requires announced { IsAnnouncedIn self.old number }
@@ -139,7 +140,7 @@ impl<D: Device> Cache<D> {
         self.entries.set_word(number, index, word);
     }
 
-    /// Puts a capability into a slot of a node or a register of an annex. What is neither stays.
+    /// Sets a slot of a node or a register of an annex. Changes nothing if the object is neither.
     pub fn set_slot(&mut self, number: u64, slot: usize, held: Cap)
         requires fetched { IsFetchedIn self.old number }
         requires announced { IsAnnouncedIn self.old number }
@@ -150,8 +151,7 @@ impl<D: Device> Cache<D> {
         self.entries.set_slot(number, slot, held);
     }
 
-    /// Puts capabilities into the last four slots of a node or registers of an annex. What is neither
-    /// stays.
+    /// Sets the last four slots of a node or registers of an annex. Changes nothing if the object is neither.
     pub fn set_last_slots(&mut self, number: u64, held: [Cap; 4])
         requires fetched { IsFetchedIn self.old number }
         requires announced { IsAnnouncedIn self.old number }
@@ -161,7 +161,7 @@ impl<D: Device> Cache<D> {
         self.entries.set_last_slots(number, held);
     }
 
-    /// Puts another root in place of the root of a process. What is no root stays.
+    /// Replaces the root of a process. Changes nothing if the object isn't a root.
     pub fn set_root(&mut self, number: u64, root: Root<Cap>)
         requires fetched { IsFetchedIn self.old number }
         requires announced { IsAnnouncedIn self.old number }
@@ -171,7 +171,7 @@ impl<D: Device> Cache<D> {
         self.entries.set_root(number, root);
     }
 
-    /// Gives an object another owner.
+    /// Sets the owner of an object.
     pub fn set_owner(&mut self, number: u64, bank: u64)
         requires { IsAnnouncedIn self.old number }
         ensures { self.new ≡ record self.old {
@@ -182,7 +182,7 @@ impl<D: Device> Cache<D> {
         self.table.set_owner(number, bank);
     }
 
-    /// Gives the right to resume a process up: its call count is one more.
+    /// Raises a process's call count by one, so every resume capability to it is stale.
     pub fn consume(&mut self, root: u64)
         requires announced { IsAnnouncedIn self.old root }
         requires calls { (header_at self.old.headers root).calls < u64.MAX }
@@ -194,7 +194,7 @@ impl<D: Device> Cache<D> {
         self.table.consume(root);
     }
 
-    /// Makes a free number an object. Its counts stay.
+    /// Makes a free number an object, and keeps its counts.
     pub fn claim(&mut self, number: u64, fresh: Fresh, owner: u64)
         requires fetched { IsFetchedIn self.old number }
         requires announced { IsAnnouncedIn self.old number }
@@ -209,7 +209,7 @@ impl<D: Device> Cache<D> {
         self.table.claim(number, role_of(fresh), owner);
     }
 
-    /// Gives an object up: it is free, and both of its counts are one more.
+    /// Frees an object and raises both of its counts by one.
     pub fn reset(&mut self, number: u64)
         requires announced { IsAnnouncedIn self.old number }
         requires allocations { (header_at self.old.headers number).allocations < u64.MAX }
@@ -223,7 +223,7 @@ impl<D: Device> Cache<D> {
         self.table.rescind(number);
     }
 
-    // Marks an object as used last, where it has an entry, and returns whether it has one.
+    // Marks an object as used last, if it has an entry. Returns whether it has one.
     pub(crate) fn use_now(&mut self, number: u64) -> bool
         requires { number < length self.old.headers }
         ensures fetched { result ≡ true → IsFetchedIn self.old number }
@@ -236,21 +236,20 @@ impl<D: Device> Cache<D> {
         self.entries.promote(number)
     }
 
-    // Keeps a copy of what an object holds that is also what it was frozen as, so that it can be changed.
+    // Makes the frozen copy of an object whose present body is also its unwritten frozen body.
     pub(crate) fn keep_apart(&mut self, number: u64)
         requires fetched { IsFetchedIn self.old number }
-        requires shared { owed_at self.old.owed number ≡ Shared }
-        ensures { self.new ≡ record self.old { owed = slice_set self.old.owed number Apart } }
+        requires shared { frozen_state_at self.old.frozen_state number ≡ Shared }
+        ensures { self.new ≡ record self.old { frozen_state = slice_set self.old.frozen_state number Apart } }
     {
         self.entries.keep_apart(number);
     }
 
-    // Evicts the entry of a clean object: what the entry holds is on the device. The entry owes the
-    // log no frozen body.
+    // Removes the entry of a clean object. The log has all that the entry holds.
     pub(crate) fn drop_entry(&mut self, number: u64)
         requires fetched { IsFetchedIn self.old number }
         requires clean { mark_at self.old.dirty number ≡ false }
-        requires owed { owed_at self.old.owed number ≡ Nothing }
+        requires frozen_state { frozen_state_at self.old.frozen_state number ≡ Nothing }
         requires masked { masked (header_at self.old.headers number).role (held_at self.old.contents number)
             ≡ held_at self.old.contents number }
         ensures { self.new ≡ record self.old {
@@ -261,7 +260,7 @@ impl<D: Device> Cache<D> {
         self.entries.remove(number);
     }
 
-    // Puts what an object in an entry holds that is to be put. At `Failed` it still is.
+    // Writes the present frame of a dirty object and clears its mark. After `Failed` it is still dirty.
     pub(crate) fn put_present(&mut self, number: u64) -> Result<(), Failed>
         requires fetched { IsFetchedIn self.old number }
         requires dirty { mark_at self.old.dirty number ≡ true }
@@ -282,16 +281,15 @@ impl<D: Device> Cache<D> {
         Ok(())
     }
 
-    // Puts the frozen frame of an object whose frozen body is in its entry. At `Failed` it still is
-    // to be put.
+    // Writes an object's frozen frame from its entry. After `Failed` it is still pending.
     pub(crate) fn put_own_frozen(&mut self, number: u64) -> Result<(), Failed>
         requires fetched { IsFetchedIn self.old number }
-        requires owed { owed_at self.old.owed number ≢ Nothing }
+        requires frozen_state { frozen_state_at self.old.frozen_state number ≢ Nothing }
         ensures put { OnOk result (self.new ≡ record self.old {
           durable = self.new.durable;
           pending = slice_set self.old.pending number false;
-          owed = slice_set self.old.owed number Nothing;
-          staging = let_go number self.old.staging;
+          frozen_state = slice_set self.old.frozen_state number Nothing;
+          staging = released number self.old.staging;
         }) }
         ensures fewer { OnOk result (pending_count self.new < pending_count self.old) }
         ensures unput { OnErr result (self.new ≡ record self.old { durable = self.new.durable }) }
@@ -307,44 +305,43 @@ impl<D: Device> Cache<D> {
         Ok(())
     }
 
-    // Whether the entry of an object has a frozen body that is still to be put.
-    pub(crate) fn owes(&self, number: u64) -> bool
+    // Whether an entry holds a frozen body that isn't in the log. False if the object has no entry.
+    pub(crate) fn has_frozen_body(&self, number: u64) -> bool
         requires { number < length self.now.headers }
         ensures fetched { result ≡ true → IsFetchedIn self.now number }
-        ensures yes { result ≡ true → owed_at self.now.owed number ≢ Nothing }
-        ensures none { result ≡ false → owed_at self.now.owed number ≡ Nothing }
+        ensures yes { result ≡ true → frozen_state_at self.now.frozen_state number ≢ Nothing }
+        ensures none { result ≡ false → frozen_state_at self.now.frozen_state number ≡ Nothing }
     {
         let is_pending = self.pending.contains(number as usize);
         let is_touched = self.touched.contains(number as usize);
         if self.entries.holds(number) {
-            return is_owing(is_pending, self.entries.kept(number).is_some(), is_touched);
+            return has_frozen(is_pending, self.entries.kept(number).is_some(), is_touched);
         }
         false
     }
 
-    // Puts the frozen frame of an object, where its entry has the frozen body and it is still to be
-    // put.
-    fn pay(&mut self, number: u64) -> Result<(), Failed>
+    // Writes an object's frozen frame from its entry, if the entry holds a frozen body that isn't in the log.
+    fn write_frozen(&mut self, number: u64) -> Result<(), Failed>
         requires { IsFetchedIn self.old number }
-        ensures paid { OnOk result (owed_at self.new.owed number ≡ Nothing) }
+        ensures frozen_written { OnOk result (frozen_state_at self.new.frozen_state number ≡ Nothing) }
         ensures put { self.new ≡ on_device self.old self.new }
         ensures empty { self.old.staging ≡ None → self.new.staging ≡ None }
         ensures continues { GoesOnIn D.disk self.old self.new }
         ensures cause { Counts (D.disk self.old.durable.beneath) (D.disk self.new.durable.beneath) result }
     {
-        if self.owes(number) {
+        if self.has_frozen_body(number) {
             return self.put_own_frozen(number);
         }
         Ok(())
     }
 
-    // Puts what an object in an entry holds, where it is to be put.
+    // Writes the present frame of an object and clears its mark, if it is dirty.
     fn write_back(&mut self, number: u64) -> Result<(), Failed>
         requires fetched { IsFetchedIn self.old number }
         requires keepable { IsKeepable (stored_of D.disk self.old.durable).saved.geometry most number
             (record { header = header_at self.old.headers number; content = held_at self.old.contents number }) }
         ensures clean { OnOk result (mark_at self.new.dirty number ≡ false) }
-        ensures owed { self.new.owed ≡ self.old.owed }
+        ensures frozen_state { self.new.frozen_state ≡ self.old.frozen_state }
         ensures put { self.new ≡ on_device self.old self.new }
         ensures staging { self.new.staging ≡ self.old.staging }
         ensures continues { GoesOnIn D.disk self.old self.new }
@@ -356,8 +353,8 @@ impl<D: Device> Cache<D> {
         Ok(())
     }
 
-    // Puts what an entry has that isn't on the device, and drops it. At `Failed` it stays.
-    pub(crate) fn put_away(&mut self, number: u64) -> Result<(), Failed>
+    // Writes what the log lacks of an entry, and evicts it. After `Failed` it stays.
+    pub(crate) fn write_and_evict(&mut self, number: u64) -> Result<(), Failed>
         requires fetched { IsFetchedIn self.old number }
         requires keepable { IsKeepable (stored_of D.disk self.old.durable).saved.geometry most number
             (record { header = header_at self.old.headers number; content = held_at self.old.contents number }) }
@@ -367,26 +364,25 @@ impl<D: Device> Cache<D> {
         ensures continues { GoesOnIn D.disk self.old self.new }
         ensures cause { Counts (D.disk self.old.durable.beneath) (D.disk self.new.durable.beneath) result }
     {
-        self.pay(number)?;
+        self.write_frozen(number)?;
         self.write_back(number)?;
         self.drop_entry(number);
         Ok(())
     }
 
-    // Frees a place for an entry, where the cache is full: it evicts the one that was used longest
-    // ago. The seven that were used last stay.
+    // If the cache is full, evicts the entry used longest ago. After `Failed` it stays.
     pub(crate) fn make_room(&mut self) -> Result<(), Failed>
         requires keepable { AreKeepable (parts_of D.disk self.old).geometry most
             (frames_of (parts_of D.disk self.old)) }
-        ensures room { OnOk result (length self.new.order < self.new.most) }
+        ensures room { OnOk result (length self.new.order < self.new.capacity) }
         ensures uncached { (n : ℕ) → cached_at self.old.cached n ≡ false
             → cached_at self.new.cached n ≡ false }
         ensures others { (n : ℕ) → is_member (take 7 self.old.order) n ≡ true
             → cached_at self.new.cached n ≡ cached_at self.old.cached n }
         ensures order { take 7 self.new.order ≡ take 7 self.old.order }
-        ensures least { OnOk result (self.new.order ≡ take (self.old.most - 1) self.old.order) }
+        ensures least { OnOk result (self.new.order ≡ take (self.old.capacity - 1) self.old.order) }
         ensures stays { OnErr result (self.new.order ≡ self.old.order) }
-        ensures unchanged { length self.old.order < self.old.most → self.new ≡ self.old }
+        ensures unchanged { length self.old.order < self.old.capacity → self.new ≡ self.old }
         ensures rest { self.new ≡ record (on_device self.old self.new) {
           cached = self.new.cached;
           order = self.new.order;
@@ -396,23 +392,23 @@ impl<D: Device> Cache<D> {
         ensures cause { Counts (D.disk self.old.durable.beneath) (D.disk self.new.durable.beneath) result }
     {
         if self.entries.is_full() {
-            return self.put_least();
+            return self.evict_oldest();
         }
         Ok(())
     }
 
-    // Puts the entry away that was used longest ago, where there are as many as there may be.
-    fn put_least(&mut self) -> Result<(), Failed>
-        requires full { self.old.most ≤ length self.old.order }
+    // Evicts the entry used longest ago of a full cache. After `Failed` it stays.
+    fn evict_oldest(&mut self) -> Result<(), Failed>
+        requires full { self.old.capacity ≤ length self.old.order }
         requires keepable { AreKeepable (parts_of D.disk self.old).geometry most
             (frames_of (parts_of D.disk self.old)) }
-        ensures room { OnOk result (length self.new.order < self.new.most) }
+        ensures room { OnOk result (length self.new.order < self.new.capacity) }
         ensures uncached { (n : ℕ) → cached_at self.old.cached n ≡ false
             → cached_at self.new.cached n ≡ false }
         ensures others { (n : ℕ) → is_member (take 7 self.old.order) n ≡ true
             → cached_at self.new.cached n ≡ cached_at self.old.cached n }
         ensures order { take 7 self.new.order ≡ take 7 self.old.order }
-        ensures least { OnOk result (self.new.order ≡ take (self.old.most - 1) self.old.order) }
+        ensures least { OnOk result (self.new.order ≡ take (self.old.capacity - 1) self.old.order) }
         ensures stays { OnErr result (self.new.order ≡ self.old.order) }
         ensures rest { self.new ≡ record (on_device self.old self.new) {
           cached = self.new.cached;
@@ -425,11 +421,11 @@ impl<D: Device> Cache<D> {
         let Some(number) = self.entries.least() else {
             unreachable!()
         };
-        self.put_away(number)
+        self.write_and_evict(number)
     }
 
-    /// Puts what an object holds out of memory, where it is there. Fails exactly where the device
-    /// does.
+    /// Removes an object's entry. First writes what the log lacks of it. `Ok` also if it has no entry. Fails exactly if
+    /// the device fails; the entry then stays.
     pub fn evict(&mut self, number: u64) -> Result<(), Failed>
         requires known { number < length self.old.headers }
         requires keepable { AreKeepable (parts_of D.disk self.old).geometry most
@@ -447,7 +443,7 @@ impl<D: Device> Cache<D> {
         ensures cause { Counts (D.disk self.old.durable.beneath) (D.disk self.new.durable.beneath) result }
     {
         if self.entries.holds(number) {
-            return self.put_away(number);
+            return self.write_and_evict(number);
         }
         Ok(())
     }

@@ -1,4 +1,4 @@
-// Frozen frames are put.
+// Writing frozen frames.
 ghost use Rattle.std.specs.Prelude.{◌≡◌, ◌<◌, Some, option_map, IsSome, OnOk, OnErr};
 ghost use Rattle.model.specs.Frame.{content_behind};
 ghost use Rattle.model.specs.Keepable.{IsKeepable};
@@ -15,7 +15,7 @@ use device::{Device, Failed};
 use migrator::Durable;
 use model::{ContentRef, ObjectHeader, Role};
 
-// Nothing of what was read of an object that is free.
+// The body of an object by its role: `Free` if the role is free.
 pub(crate) fn mask(role: Role, content: ContentRef<'_>) -> ContentRef<'_>
     ensures { content_behind result ≡ masked role (content_behind content.entry) }
 {
@@ -25,7 +25,7 @@ pub(crate) fn mask(role: Role, content: ContentRef<'_>) -> ContentRef<'_>
     }
 }
 
-// The frozen body that an entry has: the one that is kept apart, or else the present one.
+// The frozen body that an entry has: the frozen copy, or else the present body.
 pub(crate) fn own_body(entries: &Entries, number: u64) -> ContentRef<'_>
     requires { IsSome (entry_at entries.now.at number) }
     ensures { option_map own_body_of (entry_at entries.now.at number) ≡ Some (content_behind result) }
@@ -36,8 +36,7 @@ pub(crate) fn own_body(entries: &Entries, number: u64) -> ContentRef<'_>
     }
 }
 
-// Puts the frame of a body that was frozen, or of none where the header says that the object was
-// free, for the checkpoint that is on its way.
+// Writes a frozen frame to the log. Its body is `Free` if the header's role is free.
 pub(crate) fn put_body<D: Device>(
     durable: &mut Durable<D>,
     number: u64,

@@ -1,4 +1,4 @@
-// The headers of objects as they were frozen.
+// The headers of frozen objects.
 ghost use Rattle.std.specs.Prelude.{◌≡◌, ℕ, ◌<◌, length, true, IfOk};
 ghost use Rattle.model.specs.Frame.{header_at};
 ghost use Rattle.object_cache.specs.Memory.{mark_at};
@@ -9,8 +9,7 @@ use number_set::NumberSet;
 use std::alloc::{AllocError, Global};
 use std::marker::Model;
 
-/// The headers of all objects, by number. An object of a checkpoint has the header that it had when
-/// the checkpoint began.
+/// Headers by number. A pending object has the header that it had at the freeze.
 #[derive(Drop)]
 pub(crate) struct Headers {
     items: Vec<ObjectHeader>,
@@ -40,7 +39,7 @@ fn copy_marked(frozen: &mut [ObjectHeader], table: &ObjectTable, marks: &NumberS
 }
 
 impl Headers {
-    /// The same headers again. Fails only where memory runs out.
+    /// A copy of the headers. Fails only if memory runs out.
     pub(crate) fn new(alloc: Global, headers: &[ObjectHeader]) -> Result<Headers, AllocError>
         ensures { IfOk result (λ frozen. frozen ≡ headers.now) }
     {
@@ -57,7 +56,7 @@ impl Headers {
         self.items[number as usize]
     }
 
-    /// Freezes the headers of marked numbers.
+    /// Copies the headers of marked numbers.
     pub(crate) fn take_marked(&mut self, table: &ObjectTable, marks: &NumberSet)
         requires each { length marks.now ≡ length self.old }
         ensures count { length self.new ≡ length self.old }

@@ -1,13 +1,12 @@
-//! The store of objects over a device. Its policy says which bodies it keeps in memory: all of them, or those
-//! used last.
+//! The store of objects over a device. Its policy says which bodies it keeps in memory: all of them, or those used
+//! last.
 #![tactic(auto)]
 
 mod all_objects;
 mod cache;
 mod frozen;
+mod frozen_state;
 mod headers;
-mod owed;
-mod page;
 mod policy;
 mod saved_objects;
 mod staging;

@@ -15,10 +15,10 @@ pub trait Policy: Drop {
 
     ghost KEEPS_ALL: { Bool };
 
-    /// How many bodies it keeps at most, by the setting and the number of objects.
+    /// How many objects stay in memory at most, by the setting and the number of objects.
     ghost most_for: { Self.Setting → ℕ → ℕ };
 
-    /// How many bodies a store of `count` objects keeps at most.
+    /// How many objects a store of `count` objects keeps in memory at most.
     fn capacity(setting: Self::Setting, count: usize) -> Capacity
         requires few { count ≤ 8192 }
         ensures most { result ≡ most_for setting count };
@@ -26,7 +26,7 @@ pub trait Policy: Drop {
     ghost keeps: { (setting : Self.Setting) (count : ℕ) → KEEPS_ALL ≡ true → most_for setting count ≡ all_of count };
 }
 
-/// The least capacity for all bodies of `count` objects.
+/// The least capacity for `count` objects.
 pub(crate) fn capacity_for_all(count: usize) -> Capacity
     requires few { count ≤ 8192 }
     ensures all { result ≡ all_of count }
@@ -48,7 +48,7 @@ pub(crate) fn capacity_for_all(count: usize) -> Capacity
 #[derive(Drop)]
 pub struct KeepAll;
 
-/// No more bodies are in memory than the setting says: those used last.
+/// At most as many objects are in memory as the setting says: those used last.
 #[derive(Drop)]
 pub struct KeepRecent;
 

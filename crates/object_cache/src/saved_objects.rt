@@ -1,4 +1,4 @@
-// The saved objects, as they are read when a device is opened.
+// The saved objects, read when a device is opened.
 ghost use Rattle.std.specs.Prelude.{◌≡◌, ◌≤◌, List, Some, is_some, length, option_map, true, IfOk};
 ghost use Rattle.cache_entries.specs.Order.{EntriesState, with_new};
 ghost use Rattle.layout.specs.Frame.{content_of};
@@ -13,7 +13,7 @@ use model::{Geometry, ObjectHeader};
 use std::alloc::{AllocError, Global};
 use std::marker::{Model, PhantomData};
 
-/// The headers of the saved objects, and entries with what they hold if the policy keeps every body.
+/// The headers of the saved objects, and entries with their bodies if the policy keeps every body.
 #[derive(Drop)]
 pub(crate) struct SavedObjects<P: Policy> {
     headers: Vec<ObjectHeader>,
@@ -36,7 +36,7 @@ impl<P: Policy> Model for SavedObjects<P> {
         × ((e : EntriesState) → s.entries ≡ Some e → HaveRoom e (length s.headers.items) s.count) };
 }
 
-// Entries with memory for every body, if the policy keeps every body. Fails only where memory runs out.
+// Entries with memory for every body, if the policy keeps every body. Fails only if memory runs out.
 fn blank_entries<P: Policy>(alloc: Global, count: usize) -> Result<Option<Entries>, AllocError>
     requires few { count ≤ 8192 }
     ensures some { IfOk result (λ entries. is_some entries ≡ P.KEEPS_ALL) }
@@ -49,7 +49,7 @@ fn blank_entries<P: Policy>(alloc: Global, count: usize) -> Result<Option<Entrie
     Ok(Some(entries))
 }
 
-// Makes what was read of an object an entry, where there are entries.
+// Adds an entry with a body that was read, if there are entries.
 fn keep_body(entries: &mut Option<Entries>, number: u64, body: &Body, scratch: &Scratch)
     requires { (e : EntriesState) → entries.old ≡ Some e → HaveSpace e number }
     ensures { entries.new ≡ option_map
@@ -92,7 +92,8 @@ impl<P: Policy> Intake for SavedObjects<P> {
 }
 
 impl<P: Policy> SavedObjects<P> {
-    /// The headers, and the entries: if the policy doesn't keep every body, they are made here, and hold none.
+    /// The headers, and the entries: if the policy doesn't keep every body, they are made here, and hold none. Fails if
+    /// memory runs out, or if fewer frames were taken than there are numbers.
     pub(crate) fn into_parts(
         self,
         alloc: Global,

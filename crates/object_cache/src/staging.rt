@@ -1,7 +1,7 @@
-// The staging buffer: a frozen body on its way from one slot to another, which is in no entry.
+// The staging buffer: a frozen body that is moved from one slot to another, and is in no entry.
 ghost use Rattle.std.specs.Prelude.{◌≡◌, None, Some, IfOk, is_some, option_map};
 ghost use Rattle.layout.specs.Frame.{content_of};
-ghost use Rattle.object_cache.specs.Memory.{let_go, held_behind};
+ghost use Rattle.object_cache.specs.Memory.{released, held_behind};
 
 use layout::{Body, Scratch};
 use model::ContentRef;
@@ -9,7 +9,7 @@ use std::alloc::{AllocError, Global};
 use std::marker::Model;
 use std::mem;
 
-/// A body that is in no entry, or none. What it takes up takes no more memory.
+/// The number and the body of an object, or none. Only `new` takes memory.
 #[derive(Drop)]
 pub(crate) struct Staging {
     held: Option<(u64, Body)>,
@@ -27,7 +27,7 @@ impl Model for Staging {
 }
 
 impl Staging {
-    /// An empty staging buffer. Fails only where memory runs out.
+    /// An empty staging buffer. Fails only if memory runs out.
     pub(crate) fn new(alloc: Global) -> Result<Staging, AllocError>
         ensures { IfOk result (λ staging. staging ≡ None) }
     {
@@ -47,14 +47,14 @@ impl Staging {
         }
     }
 
-    /// Whether there is one.
+    /// Whether it has a body.
     pub(crate) fn is_held(&self) -> bool
         ensures { result ≡ is_some self.now }
     {
         self.held.is_some()
     }
 
-    /// Takes the body of an object that was read into a scratch buffer.
+    /// Takes a body that was read into a scratch buffer, by swapping the buffers.
     pub(crate) fn take_up(&mut self, number: u64, body: Body, scratch: &mut Scratch)
         ensures { self.new ≡ Some (record {
           number = number;
@@ -65,23 +65,23 @@ impl Staging {
         self.held = Some((number, body));
     }
 
-    /// Releases the body, if there is one.
-    pub(crate) fn let_go(&mut self)
+    /// Drops the body, if there is one.
+    pub(crate) fn clear(&mut self)
         ensures { self.new ≡ None }
     {
         self.held = None;
     }
 
-    /// Releases the body, if it is that number's.
+    /// Drops the body, if it is that number's.
     pub(crate) fn release(&mut self, number: u64)
-        ensures { self.new ≡ let_go number self.old }
+        ensures { self.new ≡ released number self.old }
     {
         let is_held = match &self.held {
             Some(held) => held.0 == number,
             None => false,
         };
         if is_held {
-            self.let_go();
+            self.clear();
         }
     }
 }

@@ -26,7 +26,7 @@ pub struct Store<D: Device, P: Policy> {
 /// The store that keeps every body in memory, from opening on.
 pub type PlainStore<D> = Store<D, KeepAll>;
 
-/// The store that keeps no more bodies in memory than its capacity.
+/// The store that keeps at most its capacity of objects in memory.
 pub type BoundedCache<D> = Store<D, KeepRecent>;
 
 impl<D: Device, P: Policy> Model for Store<D, P> {
@@ -40,7 +40,7 @@ impl<D: Device, P: Policy> Model for Store<D, P> {
     ghost invariant = { λ s. P.KEEPS_ALL ≡ true → IsWhole s.cache };
 }
 
-// The cache of a store that was just opened. If memory runs out, it gives the device back.
+// The cache of a store that was just opened. If memory runs out, it returns the device.
 fn cache_over<D: Device, P: Policy>(
     alloc: Global,
     durable: Durable<D>,
@@ -71,8 +71,8 @@ impl<D: Device, P: Policy> Store<D, P> {
         self.cache.superblock()
     }
 
-    /// The durable store below, which has what is saved, and all present objects. It makes no call of
-    /// the device. The objects are lacking only if memory runs out.
+    /// The durable store, which has the saved frames, and all present objects. It makes no call of the device. It fails
+    /// to return the objects only if memory runs out.
     pub fn into_parts(self, alloc: Global) -> (Durable<D>, Result<AllObjects, AllocError>)
         requires { P.KEEPS_ALL ≡ true }
         ensures durable { result.0 ≡ self.durable }

@@ -1,4 +1,4 @@
-// The numbers written since the last checkpoint.
+// Marking numbers as touched.
 ghost use Rattle.std.specs.Prelude.{◌≡◌, ◌+◌, ◌<◌, IsTrue, length, slice_set, true};
 ghost use Rattle.std.specs.List.{All};
 ghost use Rattle.model.specs.Machine.{touching, touched_count};
@@ -18,8 +18,8 @@ pub(crate) fn are_ready(touched: &NumberSet, written: &[u64]) -> bool
     true
 }
 
-/// The count of numbers in a list that aren't marked yet. A number that stands there twice counts
-/// once. Takes as many comparisons as the list has pairs, and no memory.
+/// How many numbers of a list aren't marked yet; one listed twice counts once. Compares each pair of the list, and
+/// takes no memory.
 pub(crate) fn fresh_count(touched: &NumberSet, written: &[u64]) -> u64
     requires { All (λ n. n < length touched.now) written.now }
     ensures { touched_count touched.now + result
@@ -45,7 +45,7 @@ pub(crate) fn mark(touched: &mut NumberSet, written: &[u64])
     }
 }
 
-// Marks a number, where it isn't marked yet.
+// Marks a number, if it isn't marked yet.
 fn mark_one(touched: &mut NumberSet, number: u64)
     requires { number < length touched.old }
     ensures { touched.new ≡ slice_set touched.old number true }

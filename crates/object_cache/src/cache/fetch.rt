@@ -1,4 +1,4 @@
-// Objects are brought into memory.
+// Fetching bodies into memory, and evicting those used longest ago.
 ghost use Rattle.std.specs.Prelude.{◌≡◌, ℕ, ◌<◌, ◌≤◌, ◌+◌, ◌∷◌, None, false, true, length, take, OnOk, OnErr};
 ghost use Rattle.std.specs.List.{All, Contains};
 ghost use Rattle.device.specs.Calls.{Counts};
@@ -22,7 +22,7 @@ use device::{Device, Failed};
 use layout::{Body, Scratch};
 use model::Role;
 
-// Makes what was read of an object an entry, or nothing where the object is free.
+// Adds an entry with a body that was read; `Free` if the object's role is free.
 fn insert_read(entries: &mut Entries, number: u64, role: Role, body: &Body, scratch: &Scratch)
     requires known { number < length entries.old.at }
     requires absent { entry_at entries.old.at number ≡ None }
@@ -34,12 +34,12 @@ fn insert_read(entries: &mut Entries, number: u64, role: Role, body: &Body, scra
 }
 
 impl<D: Device> Cache<D> {
-    // Reads what an object holds that has no entry, where the staging buffer is empty, and makes it one.
+    // Reads the body of an object that has no entry, and adds its entry. The staging buffer must be empty.
     fn read(&mut self, number: u64) -> Result<(), Failed>
         requires known { number < length self.old.headers }
         requires uncached { cached_at self.old.cached number ≡ false }
         requires empty { self.old.staging ≡ None }
-        requires room { length self.old.order < self.old.most }
+        requires room { length self.old.order < self.old.capacity }
         ensures cached { OnOk result (self.new
             ≡ with_cached number (record self.old { durable = self.new.durable })) }
         ensures fetched { OnOk result (IsFetchedIn self.new number) }
@@ -59,10 +59,10 @@ impl<D: Device> Cache<D> {
         Ok(())
     }
 
-    // Brings an object that has no entry into memory, where the staging buffer is empty. The seven
-    // entries used last stay.
+    // Fetches an object that has no entry. If the cache is full, it first evicts the entry used longest ago. The
+    // staging buffer must be empty.
     #[inline(never)]
-    fn bring(&mut self, number: u64) -> Result<(), Failed>
+    fn read_in(&mut self, number: u64) -> Result<(), Failed>
         requires known { number < length self.old.headers }
         requires uncached { cached_at self.old.cached number ≡ false }
         requires empty { self.old.staging ≡ None }
@@ -71,8 +71,8 @@ impl<D: Device> Cache<D> {
         ensures first { OnOk result ((k : ℕ) → 0 < k → IsRecentIn self.new k number) }
         ensures recent { OnOk result ((j k n : ℕ) → j ≤ 7 → j < k → IsRecentIn self.old j n
             → IsRecentIn self.new k n) }
-        ensures order { OnOk result (self.new.order ≡ take self.old.most (number ∷ self.old.order)) }
-        ensures stopped { OnErr result ((j : ℕ) × (self.old.most ≤ j + 1)
+        ensures order { OnOk result (self.new.order ≡ take self.old.capacity (number ∷ self.old.order)) }
+        ensures stopped { OnErr result ((j : ℕ) × (self.old.capacity ≤ j + 1)
             × (self.new.order ≡ take j self.old.order)) }
         ensures rest { self.new ≡ on_device_with self.old self.new }
         ensures empty { self.new.staging ≡ None }
@@ -83,7 +83,7 @@ impl<D: Device> Cache<D> {
         self.read(number)
     }
 
-    // Brings an object into memory, or says that it was used last.
+    // Marks an object as used last, and fetches it if it has no entry. The staging buffer must be empty.
     fn fetch_one(&mut self, number: u64) -> Result<(), Failed>
         requires known { number < length self.old.headers }
         requires empty { self.old.staging ≡ None }
@@ -93,8 +93,8 @@ impl<D: Device> Cache<D> {
         ensures recent { OnOk result ((j k n : ℕ) → j ≤ 7 → j < k → IsRecentIn self.old j n
             → IsRecentIn self.new k n) }
         ensures order { OnOk result (self.new.order
-            ≡ take self.old.most (number ∷ without number self.old.order)) }
-        ensures stopped { OnErr result ((j : ℕ) × (self.old.most ≤ j + 1)
+            ≡ take self.old.capacity (number ∷ without number self.old.order)) }
+        ensures stopped { OnErr result ((j : ℕ) × (self.old.capacity ≤ j + 1)
             × (self.new.order ≡ take j self.old.order)) }
         ensures rest { self.new ≡ on_device_with self.old self.new }
         ensures empty { self.new.staging ≡ None }
@@ -104,21 +104,21 @@ impl<D: Device> Cache<D> {
         if self.use_now(number) {
             return Ok(());
         }
-        self.bring(number)
+        self.read_in(number)
     }
 
-    // Brings the objects of a list into memory, where the staging buffer is empty.
+    // Fetches the objects of a list in turn. The staging buffer must be empty.
     fn fetch_all(&mut self, fetched: &[u64]) -> Result<(), Failed>
         requires few { length fetched.now ≤ MAX_FETCHED }
         requires known { All (λ n. n < length self.old.headers) fetched.now }
         requires empty { self.old.staging ≡ None }
-        requires bounded { length self.old.order ≤ self.old.most }
+        requires bounded { length self.old.order ≤ self.old.capacity }
         requires keepable { AreKeepable (parts_of D.disk self.old).geometry most
             (frames_of (parts_of D.disk self.old)) }
         ensures fetched { OnOk result ((n : ℕ) → Contains fetched.now n → IsFetchedIn self.new n) }
         ensures order { OnOk result (self.new.order
-            ≡ take self.old.most (used_in_turn fetched.now self.old.order)) }
-        ensures stopped { OnErr result (UsesSome self.old.most fetched.now self.old.order self.new.order) }
+            ≡ take self.old.capacity (used_in_turn fetched.now self.old.order)) }
+        ensures stopped { OnErr result (UsesSome self.old.capacity fetched.now self.old.order self.new.order) }
         ensures rest { self.new ≡ on_device_with self.old self.new }
         ensures continues { GoesOnIn D.disk self.old self.new }
         ensures cause { Counts (D.disk self.old.durable.beneath) (D.disk self.new.durable.beneath) result }
@@ -129,14 +129,14 @@ impl<D: Device> Cache<D> {
         Ok(())
     }
 
-    // Marks objects as used, in turn, up to the first that isn't among the last few used. Returns
-    // whether it marked them all; then they are in memory.
+    // Marks objects as used, in turn, up to the first that isn't among the last few used. Returns whether it marked
+    // them all; then they are in memory.
     fn use_again(&mut self, numbers: &[u64]) -> bool
         requires { All (λ n. n < length self.old.headers) numbers.now }
         ensures fetched { result ≡ true → (n : ℕ) → Contains numbers.now n → IsFetchedIn self.new n }
         ensures used { result ≡ true → self.new.order ≡ used_in_turn numbers.now self.old.order }
         ensures prefix { (k : ℕ) × (self.new.order ≡ used_in_turn (take k numbers.now) self.old.order) }
-        ensures few { length self.new.order ≤ self.new.most }
+        ensures few { length self.new.order ≤ self.new.capacity }
         ensures rest { self.new ≡ record self.old { order = self.new.order } }
         ensures within { touched_count self.old.touched
             ≤ (stored_of D.disk self.old.durable).saved.geometry.log }
@@ -145,17 +145,17 @@ impl<D: Device> Cache<D> {
         self.entries.use_again(numbers)
     }
 
-    // Brings the objects of a list into memory, once the staging buffer is emptied.
-    fn bring_all(&mut self, fetched: &[u64]) -> Result<(), Failed>
+    // Empties the staging buffer, then fetches the objects of a list in turn.
+    fn read_all_in(&mut self, fetched: &[u64]) -> Result<(), Failed>
         requires few { length fetched.now ≤ MAX_FETCHED }
         requires known { All (λ n. n < length self.old.headers) fetched.now }
-        requires bounded { length self.old.order ≤ self.old.most }
+        requires bounded { length self.old.order ≤ self.old.capacity }
         requires keepable { AreKeepable (parts_of D.disk self.old).geometry most
             (frames_of (parts_of D.disk self.old)) }
         ensures fetched { OnOk result ((n : ℕ) → Contains fetched.now n → IsFetchedIn self.new n) }
         ensures order { OnOk result (self.new.order
-            ≡ take self.old.most (used_in_turn fetched.now self.old.order)) }
-        ensures stopped { OnErr result (UsesSome self.old.most fetched.now self.old.order self.new.order) }
+            ≡ take self.old.capacity (used_in_turn fetched.now self.old.order)) }
+        ensures stopped { OnErr result (UsesSome self.old.capacity fetched.now self.old.order self.new.order) }
         ensures rest { self.new ≡ on_device_with self.old self.new }
         ensures continues { GoesOnIn D.disk self.old self.new }
         ensures cause { Counts (D.disk self.old.durable.beneath) (D.disk self.new.durable.beneath) result }
@@ -164,8 +164,8 @@ impl<D: Device> Cache<D> {
         self.fetch_all(fetched)
     }
 
-    /// Brings objects into memory, at most 8. If all were used lately, it only says that they were
-    /// used again. Fails exactly where the device does.
+    /// Brings the bodies of up to 8 objects into memory, in turn, and evicts those used longest ago for which there is
+    /// no room. Fails exactly if the device fails; then some of them were fetched.
     pub fn fetch(&mut self, fetched: &[u64]) -> Result<(), Failed>
         requires few { length fetched.now ≤ MAX_FETCHED }
         requires known { All (λ n. n < length self.old.headers) fetched.now }
@@ -175,8 +175,8 @@ impl<D: Device> Cache<D> {
         ensures within { touched_count self.old.touched
             ≤ (stored_of D.disk self.old.durable).saved.geometry.log }
         ensures order { OnOk result (self.new.order
-            ≡ take self.old.most (used_in_turn fetched.now self.old.order)) }
-        ensures stopped { OnErr result (UsesSome self.old.most fetched.now self.old.order self.new.order) }
+            ≡ take self.old.capacity (used_in_turn fetched.now self.old.order)) }
+        ensures stopped { OnErr result (UsesSome self.old.capacity fetched.now self.old.order self.new.order) }
         ensures rest { self.new ≡ on_device_with self.old self.new }
         ensures continues { GoesOnIn D.disk self.old self.new }
         ensures cause { Counts (D.disk self.old.durable.beneath) (D.disk self.new.durable.beneath) result }
@@ -184,6 +184,6 @@ impl<D: Device> Cache<D> {
         if self.use_again(fetched) {
             return Ok(());
         }
-        self.bring_all(fetched)
+        self.read_all_in(fetched)
     }
 }

@@ -1,33 +1,147 @@
-// One page is saved beside the checkpoints.
+// Saving the present words of one page without a checkpoint.
 ghost use Rattle.std.specs.Prelude.{◌≡◌, ◌⊎◌, ◌+◌, ◌<◌, ◌≤◌, ◌^◌, None, length, nat_lt, option_map, true, IfOk, OnOk};
-ghost use Rattle.std.specs.Prelude.{OnErr, IsErrOf};
 ghost use Rattle.model.specs.declared.object.Role.TheVariants as role;
-ghost use Rattle.model.specs.Frame.{frame_at, header_at};
+ghost use Rattle.std.specs.Prelude.{OnErr, IsErrOf, Err, is_some, IfErr, IfSome};
+ghost use Rattle.model.specs.Frame.{frame_at, header_at, content_behind};
 ghost use Rattle.model.specs.Keepable.{AreKeepable};
 ghost use Rattle.model.specs.Object.{is_page, words_in};
 ghost use Rattle.model.specs.Sound.{object_count};
 ghost use Rattle.device.specs.Calls.{Counts};
 ghost use Rattle.capability.specs.Parts.{frames_of};
-ghost use Rattle.checkpoint.specs.Saved.{LeavesEither, LeavesOneOf, journaled_saved};
+ghost use Rattle.checkpoint.specs.Saved.{LeavesEither, LeavesOneOf, journaled_saved, LeavesSaved};
 ghost use Rattle.checkpoint.specs.Snapshots.{journaled, left_in};
 ghost use Rattle.object_store.specs.Store.{whole};
-ghost use Rattle.migrator.specs.Durable.{on_snapshots, stored_of, is_sound, left_of, newest};
-ghost use Rattle.checkpoint.specs.Refused.{IsJournalAnswer, IsTurnedAway};
+ghost use Rattle.migrator.specs.Durable.{on_snapshots, stored_of, is_sound, left_of, newest, ReadsStore};
+ghost use Rattle.checkpoint.specs.Refused.{IsJournalAnswer, IsTurnedAway, IsJournalCheck};
 ghost use Rattle.object_store.specs.Journal.{is_page_now, is_page_role, is_same_page, is_still_saved, next_journaled};
 ghost use Rattle.object_store.specs.Journal.{words_now};
-ghost use Rattle.object_cache.specs.Journaled.{held_now};
+ghost use Rattle.object_cache.specs.Journaled.{held_now, is_saved_page};
 ghost use Rattle.object_cache.specs.StoreState.{parts_of, view_of};
+ghost use Rattle.frame_io.specs.Frames.{IsObject};
 
 use crate::cache::Cache;
-use crate::page::{may_journal, save_content};
 use cache_entries::Entries;
 use capability::ObjectTable;
 use device::{Device, Failed};
 use layout::Scratch;
 use migrator::Durable;
-use model::{ObjectHeader, Refusal};
+use model::{ContentRef, ObjectHeader, Refusal, Role, Unjournaled};
 
-// Saves a page with the words that it has on the device. Fails exactly where the device does.
+// Whether a role is that of a page.
+fn is_of_page(role: Role) -> bool
+    ensures { result ≡ is_page_role role }
+{
+    match role {
+        Role::Page => true,
+        _ => false,
+    }
+}
+
+// The saved header of a number, if a page with this allocation count is saved there.
+fn page_saved<D: Device>(
+    durable: &mut Durable<D>,
+    number: u64,
+    allocations: u64,
+) -> Result<Option<ObjectHeader>, Failed>
+    requires object { IsObject durable.old.books.plan.geometry number }
+    requires home { (stored_of D.disk durable.old).saved.entries ≡ 0 }
+    ensures found { IfOk result (λ page. is_some page ≡ is_same_page allocations
+        (frame_at (stored_of D.disk durable.old).saved.frames number)) }
+    ensures header { IfOk result (λ page. IfSome page (λ header. header
+        ≡ (frame_at (stored_of D.disk durable.old).saved.frames number).header)) }
+    ensures reads { ReadsStore D.disk durable.old durable.new }
+    ensures cause { Counts (D.disk durable.old.beneath) (D.disk durable.new.beneath) result }
+{
+    let header = durable.saved_header(number)?;
+    if is_of_page(header.role) && allocations == header.allocations {
+        return Ok(Some(header));
+    }
+    Ok(None)
+}
+
+// The saved header of a page that may be journaled. `header` is its present header, and `is_known` says whether an
+// object has its number. It takes no memory, and writes nothing.
+//
+// It is refused as `ObjectStore::journal` is; only for `Renewed` it reads the device. `Fault` exactly if the device
+// failed.
+fn may_journal<D: Device>(
+    durable: &mut Durable<D>,
+    header: ObjectHeader,
+    is_known: bool,
+    number: u64,
+) -> Result<ObjectHeader, Refusal>
+    requires object { is_page_role header.role ≡ true → IsObject durable.old.books.plan.geometry number }
+    ensures answer { IsJournalCheck (D.disk durable.old.beneath) (D.disk durable.new.beneath)
+        (option_map left_of (stored_of D.disk durable.old).frozen) (stored_of D.disk durable.old).saved is_known
+        (is_page_role header.role)
+        (is_same_page header.allocations (frame_at (stored_of D.disk durable.old).saved.frames number)) result }
+    ensures header { IfOk result (λ saved. saved
+        ≡ (frame_at (stored_of D.disk durable.new).saved.frames number).header) }
+    ensures turned_away { IfErr result (λ why. IsTurnedAway (Err why) → durable.new ≡ durable.old) }
+    ensures stored { stored_of D.disk durable.new ≡ stored_of D.disk durable.old }
+    ensures plan { durable.new.books.plan ≡ durable.old.books.plan }
+    ensures size { (D.disk durable.new.beneath).sectors ≡ (D.disk durable.old.beneath).sectors }
+    ensures sound { is_sound D.disk durable.old → is_sound D.disk durable.new }
+    ensures any_moment { is_sound D.disk durable.old → LeavesSaved (D.disk durable.old.beneath)
+        (D.disk durable.new.beneath) (stored_of D.disk durable.old).saved }
+{
+    if durable.left().is_some() {
+        return Err(Refusal::CheckpointRunning);
+    }
+    if durable.saved().entries != 0 {
+        return Err(Refusal::MigrationPending);
+    }
+    if !is_known {
+        return Err(Refusal::BadNumber);
+    }
+    if !is_of_page(header.role) {
+        return Err(Refusal::NotJournaled(Unjournaled::NotPage));
+    }
+    match page_saved(durable, number, header.allocations) {
+        Ok(Some(saved)) => Ok(saved),
+        Ok(None) => Err(Refusal::NotJournaled(Unjournaled::Renewed)),
+        Err(_) => Err(Refusal::Fault),
+    }
+}
+
+// Saves a page with the words of a body and its saved header, as `Durable::save_page` does.
+fn save_content<D: Device>(
+    durable: &mut Durable<D>,
+    content: ContentRef<'_>,
+    header: ObjectHeader,
+    number: u64,
+    age: u64,
+) -> Result<u64, Failed>
+    requires page { is_page (content_behind content) ≡ true }
+    requires free { (stored_of D.disk durable.old).frozen ≡ None }
+    requires home { (stored_of D.disk durable.old).saved.entries ≡ 0 }
+    requires saved { (frame_at (stored_of D.disk durable.old).saved.frames number).header.role
+        ≡ role.Page }
+    requires header { header ≡ (frame_at (stored_of D.disk durable.old).saved.frames number).header }
+    requires sound { is_sound D.disk durable.old }
+    requires later { (stored_of D.disk durable.old).saved.age < age }
+    requires most { age ≤ 2 ^ 62 }
+    ensures journaled { OnOk result (stored_of D.disk durable.new
+        ≡ on_snapshots (journaled age number (words_in (content_behind content.entry)))
+        (stored_of D.disk durable.old)) }
+    ensures unchanged { OnErr result (stored_of D.disk durable.new ≡ stored_of D.disk durable.old) }
+    ensures plan { durable.new.books.plan ≡ durable.old.books.plan }
+    ensures generation { IfOk result (λ generation. generation
+        ≡ (stored_of D.disk durable.old).saved.generation + 2) }
+    ensures sound { OnOk result (is_sound D.disk durable.new) }
+    ensures size { (D.disk durable.new.beneath).sectors ≡ (D.disk durable.old.beneath).sectors }
+    ensures any_moment { LeavesEither (D.disk durable.old.beneath) (D.disk durable.new.beneath)
+        (stored_of D.disk durable.old).saved
+        (journaled_saved age number (words_in (content_behind content.entry)) (stored_of D.disk durable.old).saved) }
+    ensures cause { Counts (D.disk durable.old.beneath) (D.disk durable.new.beneath) result }
+{
+    let ContentRef::Page(words) = content else {
+        unreachable!()
+    };
+    durable.save_page(number, header, words, age)
+}
+
+// Saves a page with the words of its newest frame on the device. Fails exactly if the device fails.
 fn save_read<D: Device>(
     durable: &mut Durable<D>,
     scratch: &mut Scratch,
@@ -65,7 +179,7 @@ fn save_read<D: Device>(
     }
 }
 
-// Saves a page with the words that it has now: they are in its entry, or are read.
+// Saves a page with its present words: those in its entry, or else those on the device.
 fn save_present<D: Device>(
     durable: &mut Durable<D>,
     entries: &Entries,
@@ -106,7 +220,7 @@ fn save_present<D: Device>(
     save_read(durable, scratch, header, number, age)
 }
 
-// Saves a page with the words that it has now, where nothing refuses it.
+// Saves a page with its present words, if nothing refuses it.
 fn journal_page<D: Device>(
     durable: &mut Durable<D>,
     table: &ObjectTable,
@@ -115,55 +229,47 @@ fn journal_page<D: Device>(
     number: u64,
     age: u64,
 ) -> Result<u64, Refusal>
-    requires known { is_page_role (header_at table.now number).role ≡ true → number < length entries.now.at }
     requires object { is_page_role (header_at table.now number).role ≡ true
-        → number < object_count durable.old.books.plan.geometry }
+        → (number < length entries.now.at) × (number < object_count durable.old.books.plan.geometry) }
     requires page { (stored_of D.disk durable.old).frozen ≡ None → is_page_role (header_at table.now number).role ≡ true
         → is_page (held_now entries.now.at (stored_of D.disk durable.old) number) ≡ true }
     requires sound { is_sound D.disk durable.old }
     requires later { (stored_of D.disk durable.old).saved.age < age }
     requires most { age ≤ 2 ^ 62 }
-    ensures journaled { OnOk result (stored_of D.disk durable.new ≡ on_snapshots (journaled age number
-        (words_in (held_now entries.now.at (stored_of D.disk durable.old) number)))
-        (stored_of D.disk durable.old)) }
+    ensures journaled { OnOk result (stored_of D.disk durable.new ≡ on_snapshots (journaled age number (words_in
+        (held_now entries.now.at (stored_of D.disk durable.old) number))) (stored_of D.disk durable.old)) }
     ensures unchanged { OnErr result (stored_of D.disk durable.new ≡ stored_of D.disk durable.old) }
     ensures turned_away { IsTurnedAway result → durable.new ≡ durable.old }
     ensures plan { durable.new.books.plan ≡ durable.old.books.plan }
     ensures answer { IsJournalAnswer (D.disk durable.old.beneath) (D.disk durable.new.beneath)
-        (option_map left_of (stored_of D.disk durable.old).frozen)
-        (stored_of D.disk durable.old).saved (nat_lt number (length table.now))
-        (is_page_role (header_at table.now number).role) (is_same_page (header_at table.now number).allocations
-        (frame_at (stored_of D.disk durable.old).saved.frames number)) result }
+        (option_map left_of (stored_of D.disk durable.old).frozen) (stored_of D.disk durable.old).saved
+        (nat_lt number (length table.now)) (is_page_role (header_at table.now number).role)
+        (is_saved_page (stored_of D.disk durable.old) (header_at table.now number) number) result }
     ensures sound { IsErrOf result Refusal.Fault ⊎ is_sound D.disk durable.new }
     ensures size { (D.disk durable.new.beneath).sectors ≡ (D.disk durable.old.beneath).sectors }
     ensures any_moment { LeavesOneOf (D.disk durable.old.beneath) (D.disk durable.new.beneath)
         (stored_of D.disk durable.old).saved (next_journaled age number
-        (words_in (held_now entries.now.at (stored_of D.disk durable.old) number))
-        (stored_of D.disk durable.old).frozen (stored_of D.disk durable.old).saved
-        (is_page_role (header_at table.now number).role) (is_same_page (header_at table.now number).allocations
-        (frame_at (stored_of D.disk durable.old).saved.frames number))) }
+        (words_in (held_now entries.now.at (stored_of D.disk durable.old) number)) (stored_of D.disk durable.old).frozen
+        (stored_of D.disk durable.old).saved (is_page_role (header_at table.now number).role)
+        (is_saved_page (stored_of D.disk durable.old) (header_at table.now number) number)) }
 {
     let header = table.header(number);
-    let is_known = number < table.count();
-    match may_journal(durable, header, is_known, number) {
-        Ok(saved) => match save_present(durable, entries, scratch, saved, number, age) {
-            Ok(generation) => Ok(generation),
-            Err(_) => Err(Refusal::Fault),
-        },
-        Err(why) => Err(why),
+    let saved = may_journal(durable, header, number < table.count(), number)?;
+    match save_present(durable, entries, scratch, saved, number, age) {
+        Ok(generation) => Ok(generation),
+        Err(_) => Err(Refusal::Fault),
     }
 }
 
 impl<D: Device> Cache<D> {
-    /// Saves a page with the words that it has now, at an age; of the page nothing else, and of the
-    /// other objects what was saved. Returns the new generation. It takes no memory: the words of a
-    /// page that isn't in memory are read into the scratch buffer, which `open` allocated.
+    /// Saves the present words of a page, at an age. Its saved header and the other saved frames stay. Returns the new
+    /// generation. It takes no memory: the words of a page that isn't in memory are read into the scratch buffer, which
+    /// `open` allocated.
     ///
-    /// It is refused by `CheckpointRunning` exactly where a checkpoint is on its way, else by
-    /// `MigrationPending` exactly where something saved isn't home, else by `BadNumber` exactly where no
-    /// object has the number, else by `NotJournaled(NotPage)` exactly where it isn't a page, else by
-    /// `NotJournaled(Renewed)` exactly where no page is saved, or the saved one was freed since. It returns
-    /// `Fault` exactly where the device failed.
+    /// It is refused by `CheckpointRunning` exactly if a checkpoint is frozen, else by `MigrationPending` exactly if a
+    /// saved frame isn't home, else by `BadNumber` exactly if no object has the number, else by `NotJournaled(NotPage)`
+    /// exactly if it isn't a page, else by `NotJournaled(Renewed)` exactly if no page is saved there, or the saved one
+    /// was freed since. It returns `Fault` exactly if the device failed.
     pub fn journal(&mut self, number: u64, age: u64) -> Result<u64, Refusal>
         requires keepable { AreKeepable (parts_of D.disk self.old).geometry u64.MAX
             (frames_of (parts_of D.disk self.old)) }

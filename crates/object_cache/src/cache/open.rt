@@ -1,4 +1,4 @@
-// A cache is made over a store that was opened.
+// A cache over a store that was opened.
 ghost use Rattle.std.specs.Prelude.{◌≡◌, None, false, length, replicate, IfOk, IfErr};
 ghost use Rattle.migrator.specs.Durable.{stored_of};
 ghost use Rattle.object_cache.specs.StoreState.{AreAll, HoldBodies, IsJustOpened, IsOpenOver};
@@ -15,7 +15,7 @@ use model::ObjectHeader;
 use number_set::NumberSet;
 use std::alloc::{AllocError, Global};
 
-// Which numbers were written since the last checkpoint began, are to be put, and are pending: none.
+// The touched, dirty and pending numbers: none.
 #[derive(Drop)]
 struct Marks {
     touched: NumberSet,
@@ -37,7 +37,7 @@ impl Marks {
     }
 }
 
-// All the memory that a store takes, but for the headers of all objects and the entries.
+// All the memory of a store, except that for the headers of all objects and for the entries.
 #[derive(Drop)]
 struct Reserve {
     frozen_headers: Headers,
@@ -67,8 +67,8 @@ impl Reserve {
 }
 
 impl<D: Device> Cache<D> {
-    // A cache over a store that was just opened, with entries that hold saved bodies. If memory runs
-    // out, it gives the store back.
+    // A cache over a store that was just opened, with entries that hold saved bodies. If memory runs out, it returns
+    // the store.
     pub(crate) fn new(
         alloc: Global,
         durable: Durable<D>,

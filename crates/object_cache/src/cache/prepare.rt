@@ -1,4 +1,4 @@
-// Numbers are prepared to be read and written.
+// Fetching bodies and announcing numbers, before a step reads or changes them.
 ghost use Rattle.std.specs.Prelude.{◌≡◌, ◌≢◌, ◌↔◌, ℕ, ◌<◌, ◌≤◌, false, true, length, take, OnOk, OnErr, IsErrOf};
 ghost use Rattle.std.specs.List.{All, Contains};
 ghost use Rattle.model.specs.Keepable.{AreKeepable};
@@ -7,19 +7,18 @@ ghost use Rattle.capability.specs.Parts.{frames_of};
 ghost use Rattle.checkpoint.specs.Saved.{most};
 ghost use Rattle.migrator.specs.Durable.{stored_of};
 ghost use Rattle.object_cache.specs.Memory.{Shared};
-ghost use Rattle.object_cache.specs.StoreState.{GoesOnIn, IsAnnouncedIn, IsFetchedIn, owed_at, parts_of};
+ghost use Rattle.object_cache.specs.StoreState.{GoesOnIn, IsAnnouncedIn, IsFetchedIn, frozen_state_at, parts_of};
 ghost use Rattle.object_cache.specs.Prepared.{UsesSome, on_device_with, readied};
 ghost use Rattle.cache_entries.specs.Order.{used_in_turn};
 
 use crate::cache::Cache;
-use crate::owed::is_shared;
+use crate::frozen_state::is_shared;
 use crate::touched::{are_ready, fresh_count, mark};
 use capability::{MAX_FETCHED, PrepareFault};
 use device::Device;
 
 impl<D: Device> Cache<D> {
-    // Whether all numbers of a list are to be put already: they may be written with nothing done for
-    // it.
+    // Whether all listed numbers are dirty already, so they need no announcement.
     fn is_ready(&self, written: &[u64]) -> bool
         requires { All (λ n. n < length self.now.headers) written.now }
         ensures touched { result ≡ true → touching self.now.touched written.now ≡ self.now.touched }
@@ -31,13 +30,12 @@ impl<D: Device> Cache<D> {
         are_ready(&self.dirty, written)
     }
 
-    // Marks numbers that are to be written. None of them still shares its body with an unwritten
-    // frozen frame. `LogFull` exactly where more would be marked than half of the log holds, and
-    // then all is as it was.
+    // Marks numbers as touched and dirty. None of their present bodies may also be an unwritten frozen body. `LogFull`
+    // exactly if more than half of the log holds would be touched; then nothing changes.
     #[inline(never)]
     pub(crate) fn announce(&mut self, written: &[u64]) -> Result<(), PrepareFault>
         requires known { All (λ n. n < length self.old.headers) written.now }
-        requires apart { (n : ℕ) → Contains written.now n → owed_at self.old.owed n ≢ Shared }
+        requires apart { (n : ℕ) → Contains written.now n → frozen_state_at self.old.frozen_state n ≢ Shared }
         ensures marked { OnOk result (self.new ≡ record self.old {
           touched = touching self.old.touched written.now;
           dirty = touching self.old.dirty written.now;
@@ -63,12 +61,12 @@ impl<D: Device> Cache<D> {
         Ok(())
     }
 
-    // Whether what an object holds is also what is still to be put as it was frozen.
+    // Whether the present body is also the unwritten frozen one. False if the object has no entry.
     fn shares(&self, number: u64) -> bool
         requires { number < length self.now.headers }
         ensures fetched { result ≡ true → IsFetchedIn self.now number }
-        ensures shared { result ≡ true → owed_at self.now.owed number ≡ Shared }
-        ensures apart { result ≡ false → owed_at self.now.owed number ≢ Shared }
+        ensures shared { result ≡ true → frozen_state_at self.now.frozen_state number ≡ Shared }
+        ensures apart { result ≡ false → frozen_state_at self.now.frozen_state number ≢ Shared }
     {
         let is_pending = self.pending.contains(number as usize);
         let is_touched = self.touched.contains(number as usize);
@@ -78,35 +76,34 @@ impl<D: Device> Cache<D> {
         false
     }
 
-    // Keeps apart what an object was frozen as, where that is what it holds as well and is still to
-    // be put.
+    // Copies the frozen body if the present body is also it.
     fn keep_one_apart(&mut self, number: u64)
         requires { number < length self.old.headers }
-        ensures apart { owed_at self.new.owed number ≢ Shared }
-        ensures others { (n : ℕ) → owed_at self.old.owed n ≢ Shared
-            → owed_at self.new.owed n ≢ Shared }
-        ensures rest { self.new ≡ record self.old { owed = self.new.owed } }
+        ensures apart { frozen_state_at self.new.frozen_state number ≢ Shared }
+        ensures others { (n : ℕ) → frozen_state_at self.old.frozen_state n ≢ Shared
+            → frozen_state_at self.new.frozen_state n ≢ Shared }
+        ensures rest { self.new ≡ record self.old { frozen_state = self.new.frozen_state } }
     {
         if self.shares(number) {
             self.keep_apart(number);
         }
     }
 
-    // The same for the numbers of a list.
+    // Does this for the numbers of a list.
     pub(crate) fn keep_all_apart(&mut self, written: &[u64])
         requires { All (λ n. n < length self.old.headers) written.now }
-        ensures apart { (n : ℕ) → Contains written.now n → owed_at self.new.owed n ≢ Shared }
-        ensures rest { self.new ≡ record self.old { owed = self.new.owed } }
+        ensures apart { (n : ℕ) → Contains written.now n → frozen_state_at self.new.frozen_state n ≢ Shared }
+        ensures rest { self.new ≡ record self.old { frozen_state = self.new.frozen_state } }
     {
         for number in written {
             self.keep_one_apart(*number);
         }
     }
 
-    /// Announces the numbers that are to be written. It makes no call of the device.
+    /// Announces numbers, without a call of the device.
     ///
-    /// It answers `LogFull` exactly where the numbers written would be more than half of the log
-    /// holds, and no other error. An error changes none of the numbers written.
+    /// `LogFull` exactly if more numbers would be touched than half of the log holds; then none is announced. There is
+    /// no other error.
     pub(crate) fn make_writable(&mut self, written: &[u64]) -> Result<(), PrepareFault>
         requires { All (λ n. n < length self.old.headers) written.now }
         ensures announced { OnOk result ((n : ℕ) → Contains written.now n → IsAnnouncedIn self.new n) }
@@ -132,12 +129,10 @@ impl<D: Device> Cache<D> {
         self.announce(written)
     }
 
-    /// Brings what the objects hold that are to be read or changed into memory, at most 8, and
-    /// announces the numbers that are to be written.
+    /// Fetches up to 8 objects, and announces the numbers to be written.
     ///
-    /// An error changes no object and none of the numbers written: `LogFull` only where the numbers
-    /// written would be more than half of the log holds, and `Failed` exactly where the device
-    /// failed.
+    /// An error changes no object and announces no number: `LogFull` only if more numbers would be touched than half of
+    /// the log holds, and `Failed` exactly if the device failed.
     pub fn prepare(&mut self, fetched: &[u64], written: &[u64]) -> Result<(), PrepareFault>
         requires few { length fetched.now ≤ MAX_FETCHED }
         requires known { All (λ n. n < length self.old.headers) fetched.now }
@@ -153,8 +148,8 @@ impl<D: Device> Cache<D> {
         ensures before { touched_count self.old.touched
             ≤ (stored_of D.disk self.old.durable).saved.geometry.log }
         ensures order { OnOk result (self.new.order
-            ≡ take self.old.most (used_in_turn fetched.now self.old.order)) }
-        ensures stopped { OnErr result (UsesSome self.old.most fetched.now self.old.order self.new.order) }
+            ≡ take self.old.capacity (used_in_turn fetched.now self.old.order)) }
+        ensures stopped { OnErr result (UsesSome self.old.capacity fetched.now self.old.order self.new.order) }
         ensures rest { self.new ≡ record (on_device_with self.old self.new) { touched = self.new.touched } }
         ensures full { IsErrOf result PrepareFault.LogFull
             → (stored_of D.disk self.old.durable).saved.geometry.log

@@ -1,4 +1,4 @@
-// Frozen frames are put in turn.
+// Writing frozen frames to the log, in turn.
 ghost use Rattle.std.specs.Prelude.{◌≡◌, ◌≢◌, ◌⊎◌, ℕ, ◌-◌, ◌<◌, ◌≤◌, None, Some, true, IfErr, OnOk, OnErr};
 ghost use Rattle.device.specs.Calls.{Counts};
 ghost use Rattle.migrator.specs.Durable.{is_sound};
@@ -7,7 +7,8 @@ ghost use Rattle.checkpoint.specs.Saved.{LeavesSaved};
 ghost use Rattle.checkpoint.specs.Snapshots.{left_in};
 ghost use Rattle.object_store.specs.Store.{whole, FrozenFrames, IsStabilizeAnswer, stabilized};
 ghost use Rattle.object_cache.specs.Memory.{Held, Nothing, mark_at};
-ghost use Rattle.object_cache.specs.StoreState.{GoesOnIn, PutsBy, on_device, on_device_frozen, owed_at, parts_of};
+ghost use Rattle.object_cache.specs.StoreState.{GoesOnIn, PutsBy, on_device, on_device_frozen, frozen_state_at};
+ghost use Rattle.object_cache.specs.StoreState.{parts_of};
 ghost use Rattle.object_cache.specs.StoreState.{pending_count, view_of};
 
 use crate::cache::Cache;
@@ -34,7 +35,7 @@ impl<D: Device> Cache<D> {
     fn put_below(&mut self, number: u64) -> Result<(), Failed>
         requires pending { mark_at self.old.pending number ≡ true }
         requires empty { self.old.staging ≡ None }
-        requires owed { owed_at self.old.owed number ≡ Nothing }
+        requires frozen_state { frozen_state_at self.old.frozen_state number ≡ Nothing }
         ensures fewer { OnOk result (pending_count self.new < pending_count self.old) }
         ensures put { self.new ≡ on_device self.old self.new }
         ensures continues { GoesOnIn D.disk self.old self.new }
@@ -44,7 +45,7 @@ impl<D: Device> Cache<D> {
         self.put_held()
     }
 
-    // Puts the frozen frame of an object, where the staging buffer is empty.
+    // Writes the frozen frame of a pending object. The staging buffer must be empty.
     fn put_pending(&mut self, number: u64) -> Result<(), Failed>
         requires pending { mark_at self.old.pending number ≡ true }
         requires empty { self.old.staging ≡ None }
@@ -54,14 +55,13 @@ impl<D: Device> Cache<D> {
         ensures cause { Counts (D.disk self.old.durable.beneath) (D.disk self.new.durable.beneath) result }
     {
         let _ = &self.durable;
-        if self.owes(number) {
+        if self.has_frozen_body(number) {
             return self.put_own_frozen(number);
         }
         self.put_below(number)
     }
 
-    // Puts one more frozen frame that isn't in its slot, if there is one: that of the body in the
-    // staging buffer first.
+    // Writes the frozen frame of a pending object, if there is one: first that of the body in `staging`.
     fn put_next(&mut self) -> Result<(), Failed>
         ensures fewer { OnOk result (pending_count self.new ≤ pending_count self.old - 1) }
         ensures few { (f : FrozenFrames) → self.old.frozen ≡ Some f → pending_count self.old ≤ f.left }
@@ -78,7 +78,7 @@ impl<D: Device> Cache<D> {
         }
     }
 
-    // Puts one more, and says that one fewer is left.
+    // Does this, and lowers `left` by one.
     fn put_one(&mut self) -> Result<(), Refusal>
         requires { (f : FrozenFrames) × (self.old.frozen ≡ Some f) × (0 < f.left) }
         ensures put { OnOk result (PutsBy D.disk self.old self.new 1) }
@@ -109,12 +109,11 @@ impl<D: Device> Cache<D> {
         Ok(())
     }
 
-    /// Writes `count` of the frozen objects to the log, and returns how many are left. An object
-    /// that an eviction wrote before its turn is still counted as left until its turn.
+    /// Writes `count` of the frozen objects to the log, and returns how many it has yet to reach. An object that an
+    /// eviction wrote before its turn is counted until its turn.
     ///
-    /// It is refused by `NoCheckpoint` exactly where none is on its way, and changes nothing then.
-    /// It returns `Fault` exactly where the device failed; then at most `count` objects were
-    /// written. It takes no memory.
+    /// It is refused by `NoCheckpoint` exactly if none is frozen, and then changes nothing. It returns `Fault` exactly
+    /// if the device failed; then `left` fell by at most `count`. It takes no memory.
     pub fn stabilize(&mut self, count: u64) -> Result<u64, Refusal>
         ensures answer { IsStabilizeAnswer (D.disk self.old.durable.beneath) (D.disk self.new.durable.beneath)
             (left_in whole (view_of D.disk self.old).snapshots) count result }

@@ -22,7 +22,7 @@ use std::alloc::{AllocError, Global};
 use std::mem;
 
 impl<D: Device> Cache<D> {
-    // Gives the durable store back, and nothing of what is in memory.
+    // The durable store. All that is in memory is dropped.
     fn into_durable(self) -> Durable<D>
         ensures { result ≡ self.durable }
     {
@@ -55,14 +55,14 @@ impl<D: Device> Cache<D> {
         self.durable.superblock()
     }
 
-    /// The device beneath, on which no call is made.
+    /// The device. Makes no call of it.
     pub fn device(&self) -> &D
         ensures { result.now ≡ self.now.durable.beneath }
     {
         self.durable.device()
     }
 
-    /// Gives the device back, and makes no call of it.
+    /// The device. Makes no call of it.
     pub fn into_device(self) -> D
         ensures { result ≡ self.durable.beneath }
     {
@@ -78,7 +78,7 @@ impl<D: Device> Cache<D> {
         self.durable.saved()
     }
 
-    /// How many objects of a checkpoint on its way are said to be left, where there is one.
+    /// How many objects of the frozen checkpoint `stabilize` has yet to reach, or `None` if none is frozen.
     pub fn left(&self) -> Option<u64>
         ensures { result ≡ left_in whole (view_of D.disk self.now).snapshots }
     {
@@ -88,9 +88,9 @@ impl<D: Device> Cache<D> {
         }
     }
 
-    /// Commits the checkpoint on its way at an age, and answers its generation. It is refused by
-    /// `NoCheckpoint` exactly where none is on its way, and else by `NotStable(left)` exactly where
-    /// `stabilize` has yet to reach `left` of its objects, and changes nothing then.
+    /// Commits the frozen checkpoint at an age, and returns its generation. It is refused by `NoCheckpoint` exactly if
+    /// none is frozen, else by `NotStable(left)` exactly if `stabilize` has yet to reach `left` of its objects. A
+    /// refusal changes nothing.
     pub fn commit(&mut self, age: u64) -> Result<u64, Refusal>
         requires sound { (view_of D.disk self.old).is_sound }
         requires ready { (f : FrozenFrames) → (view_of D.disk self.old).snapshots.frozen ≡ Some f
@@ -120,7 +120,7 @@ impl<D: Device> Cache<D> {
         self.save(age)
     }
 
-    // Commits the frozen frames. All of them are in the log.
+    // Commits the frozen frames, which are all in the log.
     fn save(&mut self, age: u64) -> Result<u64, Refusal>
         requires sound { (view_of D.disk self.old).is_sound }
         requires ready { (f : FrozenFrames) × ((view_of D.disk self.old).snapshots.frozen ≡ Some f)
@@ -143,10 +143,9 @@ impl<D: Device> Cache<D> {
         self.durable.commit(age)
     }
 
-    /// Begins a checkpoint: all objects are frozen as they are. Answers how many were written since
-    /// the last one began. It takes no memory, and makes no call of the device. It is refused by
-    /// `CheckpointRunning` exactly where one is on its way, and else by `MigrationPending` exactly
-    /// where something saved isn't home, and changes nothing then.
+    /// Freezes a checkpoint of all objects. Returns how many were touched. It takes no memory, and makes no call of the
+    /// device. It is refused by `CheckpointRunning` exactly if one is frozen, else by `MigrationPending` exactly if a
+    /// saved frame isn't home. A refusal changes nothing.
     pub fn freeze(&mut self) -> Result<u64, Refusal>
         requires keepable { AreKeepable (parts_of D.disk self.old).geometry most
             (frames_of (parts_of D.disk self.old)) }
@@ -154,7 +153,7 @@ impl<D: Device> Cache<D> {
             (view_of D.disk self.old).snapshots.saved.entries result }
         ensures unchanged { OnErr result (self.new ≡ self.old) }
         ensures size { IfOk result (λ n. n ≡ touched_count self.old.touched) }
-        ensures most { self.new.most ≡ self.old.most }
+        ensures capacity { self.new.capacity ≡ self.old.capacity }
         ensures cached { self.new.cached ≡ self.old.cached }
         ensures order { self.new.order ≡ self.old.order }
         ensures headers { self.new.headers ≡ self.old.headers }
@@ -178,8 +177,8 @@ impl<D: Device> Cache<D> {
         Ok(size)
     }
 
-    /// Copies `count` of the saved objects home, and answers how many are left. Where all of it is
-    /// home already, it makes no call of the device.
+    /// Copies `count` of the saved frames home, and returns how many are left. If all are home already, it makes no
+    /// call of the device.
     pub fn migrate(&mut self, count: u64) -> Result<u64, Failed>
         requires sound { (view_of D.disk self.old).is_sound }
         ensures rest { self.new ≡ record self.old { durable = self.new.durable } }

@@ -4,7 +4,7 @@ ghost use Rattle.model.specs.Machine.{touched_count};
 ghost use Rattle.migrator.specs.Durable.{stored_of};
 ghost use Rattle.device.specs.Calls.{Counts};
 ghost use Rattle.object_cache.specs.Memory.{Held, Nothing};
-ghost use Rattle.object_cache.specs.StoreState.{GoesOnIn, on_device, owed_at, pending_count};
+ghost use Rattle.object_cache.specs.StoreState.{GoesOnIn, on_device, frozen_state_at, pending_count};
 
 use crate::cache::Cache;
 use crate::frozen::put_body;
@@ -14,7 +14,8 @@ impl<D: Device> Cache<D> {
     // Writes the frozen frame of the body in `staging`, which no cache entry has, and empties `staging`.
     // After `Failed` the body is still in `staging`.
     pub(crate) fn put_held(&mut self) -> Result<(), Failed>
-        requires { (h : Held) × (self.old.staging ≡ Some h) × (owed_at self.old.owed h.number ≡ Nothing) }
+        requires { (h : Held) × (self.old.staging ≡ Some h)
+            × (frozen_state_at self.old.frozen_state h.number ≡ Nothing) }
         ensures empty { OnOk result (self.new.staging ≡ None) }
         ensures fewer { OnOk result (pending_count self.new < pending_count self.old) }
         ensures put { self.new ≡ on_device self.old self.new }
@@ -28,11 +29,11 @@ impl<D: Device> Cache<D> {
         let header = self.frozen_headers.header(number);
         put_body(&mut self.durable, number, header, held.1)?;
         self.pending.set(number as usize, false);
-        self.staging.let_go();
+        self.staging.clear();
         Ok(())
     }
 
-    // Empties the staging buffer: puts the frozen frame of the body in it. At `Failed` it stays.
+    // Empties the staging buffer: writes the frozen frame of the body in it. After `Failed` the body stays.
     pub(crate) fn empty_staging(&mut self) -> Result<(), Failed>
         ensures empty { OnOk result (self.new.staging ≡ None) }
         ensures fewer { OnOk result (self.old.staging ≢ None → pending_count self.new < pending_count self.old) }
@@ -46,7 +47,7 @@ impl<D: Device> Cache<D> {
             return Ok(());
         };
         let number = held.0;
-        if self.owes(number) {
+        if self.has_frozen_body(number) {
             return self.put_own_frozen(number);
         }
         self.put_held()

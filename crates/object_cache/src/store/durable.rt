@@ -24,11 +24,11 @@ impl<D: Device, P: Policy> ObjectStore<D> for Store<D, P> {
 
     ghost view = { view_of D.disk };
 
-    /// Memory is wanted for the headers, and for as many bodies as the policy keeps. If it keeps all,
-    /// they are read now.
+    /// Opens a device and takes all memory that the store will ever need. If the policy keeps every body, reads all of
+    /// them now; else no body is in memory. Errors: see `ObjectStore::open`.
     fn open(alloc: Global, device: D, setting: P::Setting) -> Result<Self, OpenRefused<D>>
         ensures opened { IfOk result (λ s. OpensStore D.disk device (parts_of D.disk s) (view_of D.disk s)) }
-        ensures bound { IfOk result (λ s. s.most ≡ P.most_for setting (length s.headers)) }
+        ensures bound { IfOk result (λ s. s.capacity ≡ P.most_for setting (length s.headers)) }
         ensures refused { IfErr result (λ r. Refuses D.disk device r.device r.fault) }
     {
         match Durable::open::<SavedObjects<P>>(alloc, device) {
@@ -65,8 +65,8 @@ impl<D: Device, P: Policy> ObjectStore<D> for Store<D, P> {
         self.cache.left()
     }
 
-    /// Puts what an object holds out of memory, unless the policy keeps every body. Fails exactly
-    /// where the device does.
+    /// Removes an object's entry, unless the policy keeps every body. First writes what the log lacks of it. `Ok` also
+    /// if it has no entry. Fails exactly if the device fails; the entry then stays.
     fn evict(&mut self, number: u64) -> Result<(), Failed>
         requires known { number < length self.old.headers }
         requires keepable { AreKeepable (parts_of D.disk self.old).geometry most

@@ -38,8 +38,8 @@ impl<D: Device, P: Policy> Frames for Store<D, P> {
             (frames_of (parts_of D.disk self.old)) }
         ensures fetched { OnOk result ((n : ℕ) → Contains numbers.now n → IsFetchedIn self.new n) }
         ensures order { P.KEEPS_ALL ≡ false → OnOk result (self.new.order
-            ≡ take self.old.most (used_in_turn numbers.now self.old.order)) }
-        ensures stopped { OnErr result (UsesSome self.old.most numbers.now self.old.order self.new.order) }
+            ≡ take self.old.capacity (used_in_turn numbers.now self.old.order)) }
+        ensures stopped { OnErr result (UsesSome self.old.capacity numbers.now self.old.order self.new.order) }
         ensures all { P.KEEPS_ALL ≡ true → self.new ≡ self.old }
         ensures cause { IsErr result
             ↔ ((parts_of D.disk self.old).failures < (parts_of D.disk self.new).failures) }
@@ -82,8 +82,8 @@ impl<D: Device, P: Policy> PresentFrames for Store<D, P> {
         ensures fetched { OnOk result ((n : ℕ) → Contains fetched.now n → IsFetchedIn self.new n) }
         ensures announced { OnOk result ((n : ℕ) → Contains written.now n → IsAnnouncedIn self.new n) }
         ensures order { P.KEEPS_ALL ≡ false → OnOk result (self.new.order
-            ≡ take self.old.most (used_in_turn fetched.now self.old.order)) }
-        ensures stopped { OnErr result (UsesSome self.old.most fetched.now self.old.order self.new.order) }
+            ≡ take self.old.capacity (used_in_turn fetched.now self.old.order)) }
+        ensures stopped { OnErr result (UsesSome self.old.capacity fetched.now self.old.order self.new.order) }
         ensures all { P.KEEPS_ALL ≡ true → self.new.order ≡ self.old.order }
         ensures touched { OnOk result (self.new.touched ≡ touching self.old.touched written.now) }
         ensures within { touched_count self.new.touched ≤ (parts_of D.disk self.new).geometry.log }

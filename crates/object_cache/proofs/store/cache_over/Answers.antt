@@ -1,5 +1,5 @@
-use Rattle.std.proofs.Common.{◌∙◌}
 use Rattle.object_cache.proofs.Names.{stored_of}
+use Rattle.std.proofs.Common.{◌∙◌}
 use Rattle.object_cache.proofs.store.cache_over.Goals as goal
 
 pub returns-in-Ok-new-clause-made : goal.returns-in-Ok-new-clause-made

@@ -12,7 +12,7 @@ remove-requires g c =
 pub invariant_of-self : goal.invariant_of-self
 invariant_of-self g c =
     rw c.remove.ensures (
-      dropped_stands g.D.Device.disk _ _ _ _ _ _ _ c.self.view_is c.self.invariant.0 c.args.number c.requires.fetched c.requires.clean c.requires.owed
+      dropped_stands g.D.Device.disk _ _ _ _ _ _ _ c.self.view_is c.self.invariant.0 c.args.number c.requires.fetched c.requires.clean c.requires.frozen_state
           c.requires.masked,
       c.self.invariant.1,
     )
@@ -20,5 +20,5 @@ invariant_of-self g c =
 pub returns : goal.returns
 returns g c =
     rw c.remove.ensures
-    (dropped_seen g.D.Device.disk _ _ _ _ _ _ _ c.self.view_is c.self.invariant.0 c.args.number c.requires.fetched c.requires.clean c.requires.owed
+    (dropped_seen g.D.Device.disk _ _ _ _ _ _ _ c.self.view_is c.self.invariant.0 c.args.number c.requires.fetched c.requires.clean c.requires.frozen_state
     c.requires.masked)

@@ -1,10 +1,8 @@
-use Rattle.object_cache.proofs.Names.{refl, arith, counted_ok, IsFetchedIn, goes_on_same, goes_on_twice}
-use Rattle.std.proofs.Common.{◌∙◌}
+use Rattle.object_cache.proofs.Names.{refl, arith, counted_ok, IsFetchedIn, goes_on_same, goes_on_twice, ap, slice_index_or, sym, take, take_all, without, ℕ}
+use Rattle.object_cache.proofs.Names.{on_err}
+use Rattle.std.proofs.Common.{◌∙◌, ◌∷◌}
 use Rattle.object_cache.proofs.Bringing.{keepable_on, rest_on, all_listed, recent_on}
-use Rattle.object_cache.proofs.Names.{ap, slice_index_or, sym, take, take_all, without, ℕ}
 use Rattle.object_cache.proofs.Evicting.{stopped_at, used_all, used_more}
-use Rattle.object_cache.proofs.Outcomes.{on_err}
-use Rattle.std.proofs.Common.{◌∷◌}
 use Rattle.object_cache.proofs.cache.Cache.fetch_all.Goals as goal
 
 pub returns-in_err-fetch_one-clause-continues : goal.returns-in_err-fetch_one-clause-continues
@@ -25,9 +23,9 @@ loop-number-preserved g c =
       c.fetch_one.ensures.empty,
       goes_on_twice disk g.met.D.Device.counts_now s t u before.3 c.fetch_one.ensures.continues,
       counted_ok ok.cause ∙ before.4,
-      used_more s.most c.loop-number.number-index c.args.fetched.now s.order t.order u.order c.loop-number-test.true before.5
+      used_more s.capacity c.loop-number.number-index c.args.fetched.now s.order t.order u.order c.loop-number-test.true before.5
           (ok.order ∙ ap (λ (m : ℕ). take m (slice_index_or c.args.fetched.now c.loop-number.number-index 0 ∷
-          without (slice_index_or c.args.fetched.now c.loop-number.number-index 0) t.order)) before.3.most),
+          without (slice_index_or c.args.fetched.now c.loop-number.number-index 0) t.order)) before.3.capacity),
     )
 
 pub returns-clause-fetched : goal.returns-clause-fetched
@@ -36,15 +34,14 @@ returns-clause-fetched g c =
     (λ k below. (c.loop-number.invariant.0 k below).0)
 
 pub loop-number-init : goal.loop-number-init
-loop-number-init g c =
-    (
-      (λ k below. absurd (omega (arith, below))),
-      refl,
-      c.requires.empty,
-      goes_on_same g.D.Device.disk g.met.D.Device.only_now c.args.self.now,
-      refl,
-      sym (take_all c.args.self.now.most c.args.self.now.order c.requires.bounded),
-    )
+loop-number-init g c = (
+  (λ k below. absurd (omega (arith, below))),
+  refl,
+  c.requires.empty,
+  goes_on_same g.D.Device.disk g.met.D.Device.only_now c.args.self.now,
+  refl,
+  sym (take_all c.args.self.now.capacity c.args.self.now.order c.requires.bounded),
+)
 
 pub fetch_one-requires-clause-empty : goal.fetch_one-requires-clause-empty
 fetch_one-requires-clause-empty g c = c.loop-number.invariant.2
@@ -62,7 +59,7 @@ returns-clause-continues g c = c.loop-number.invariant.3
 pub returns-clause-order : goal.returns-clause-order
 returns-clause-order g c =
     let s = c.args.self.now in
-    used_all s.most c.loop-number.number-index c.args.fetched.now s.order c.loop-number.self.order (omega (arith, c.loop-number-test.false))
+    used_all s.capacity c.loop-number.number-index c.args.fetched.now s.order c.loop-number.self.order (omega (arith, c.loop-number-test.false))
     c.loop-number.invariant.5
 
 pub returns-in_err-fetch_one-clause-stopped : goal.returns-in_err-fetch_one-clause-stopped
@@ -71,5 +68,5 @@ returns-in_err-fetch_one-clause-stopped g c =
     let before = c.loop-number.invariant in
     let stop = c.in_err-fetch_one.ensures.stopped in
     on_err c.from_residual.result
-    (stopped_at s.most c.loop-number.number-index stop.0 c.args.fetched.now s.order c.loop-number.self.order c.fetch_one.new.self.order before.5
-    (omega (arith, stop.1, before.3.most)) stop.2)
+    (stopped_at s.capacity c.loop-number.number-index stop.0 c.args.fetched.now s.order c.loop-number.self.order c.fetch_one.new.self.order before.5
+    (omega (arith, stop.1, before.3.capacity)) stop.2)

@@ -9,4 +9,4 @@ invariant-loop-number g l =
     × (l.self.staging ≡ None)
     × GoesOnIn g.D.Device.disk l.fn.self l.self
     × ((g.D.Device.disk l.self.durable.beneath).failures ≡ (g.D.Device.disk l.fn.self.durable.beneath).failures)
-    × (l.self.order ≡ take l.fn.self.most (used_in_turn (take l.number-index l.fetched) l.fn.self.order))
+    × (l.self.order ≡ take l.fn.self.capacity (used_in_turn (take l.number-index l.fetched) l.fn.self.order))

@@ -1,15 +1,14 @@
-use Rattle.object_cache.proofs.Names.{sym, ap, subst, without, StoreState, GoesOnIn, cached_at, IsRecentIn, goes_on_same}
+use Rattle.object_cache.proofs.Names.{sym, ap, subst, without, StoreState, GoesOnIn, cached_at, IsRecentIn, goes_on_same, arith, take}
 use Rattle.std.proofs.Common.{◌∷◌, ◌∙◌}
 use Rattle.object_cache.proofs.Bringing.{use_first, use_recent}
 use Rattle.object_cache.proofs.Leading.{continues_cached}
 use Rattle.object_cache.proofs.Outcomes.{ok_then}
-use Rattle.object_cache.proofs.Names.{arith, take}
 use Rattle.object_cache.proofs.Evicting.{brought_order, used_order}
 use Rattle.object_cache.proofs.Outcomes.{err_then}
 use Rattle.object_cache.proofs.cache.Cache.fetch_one.Goals as goal
 
-pub bring-requires-clause-uncached : goal.bring-requires-clause-uncached
-bring-requires-clause-uncached g c =
+pub read_in-requires-clause-uncached : goal.read_in-requires-clause-uncached
+read_in-requires-clause-uncached g c =
     ap (λ (t : StoreState g.row.D.Denot). cached_at t.cached c.args.number) (c.use_now.ensures.unchanged c.if-use_now.false)
     ∙ c.use_now.ensures.uncached c.if-use_now.false
 
@@ -27,12 +26,12 @@ pub returns-then-use_now-clause-continues : goal.returns-then-use_now-clause-con
 returns-then-use_now-clause-continues g c =
     let s = c.args.self.now in
     subst (GoesOnIn g.D.Device.disk s) (sym (c.use_now.ensures.used c.if-use_now.true))
-    (continues_cached g.D.Device.disk s s s.cached s.owed (c.args.number ∷ without c.args.number s.order)
+    (continues_cached g.D.Device.disk s s s.cached s.frozen_state (c.args.number ∷ without c.args.number s.order)
     (goes_on_same g.D.Device.disk g.met.D.Device.only_now s))
 
 pub returns-clause-recent : goal.returns-clause-recent
 returns-clause-recent g c =
-    ok_then c.bring.result c.bring.ensures.recent (λ brought j k n few below recent.
+    ok_then c.read_in.result c.read_in.ensures.recent (λ brought j k n few below recent.
     brought j k n few below (subst (λ (t : StoreState g.row.D.Denot). IsRecentIn t j n) (sym (c.use_now.ensures.unchanged c.if-use_now.false)) recent))
 
 pub returns-then-use_now-clause-order : goal.returns-then-use_now-clause-order
@@ -44,15 +43,15 @@ pub returns-clause-order : goal.returns-clause-order
 returns-clause-order g c =
     let s = c.args.self.now in
     let same = c.use_now.ensures.unchanged c.if-use_now.false in
-    ok_then c.bring.result c.bring.ensures.order (λ is.
-    brought_order s c.args.number c.bring.new.self.order c.use_now.ensures.bounded (c.use_now.ensures.uncached c.if-use_now.false)
-    (is ∙ ap (λ (t : StoreState g.row.D.Denot). take t.most (c.args.number ∷ t.order)) same))
+    ok_then c.read_in.result c.read_in.ensures.order (λ is.
+    brought_order s c.args.number c.read_in.new.self.order c.use_now.ensures.bounded (c.use_now.ensures.uncached c.if-use_now.false)
+    (is ∙ ap (λ (t : StoreState g.row.D.Denot). take t.capacity (c.args.number ∷ t.order)) same))
 
 pub returns-clause-stopped : goal.returns-clause-stopped
 returns-clause-stopped g c =
     let same = c.use_now.ensures.unchanged c.if-use_now.false in
-    err_then c.bring.result c.bring.ensures.stopped (λ stop. (
+    err_then c.read_in.result c.read_in.ensures.stopped (λ stop. (
       stop.0,
-      omega (arith, stop.1, ap (λ (t : StoreState g.row.D.Denot). t.most) same),
+      omega (arith, stop.1, ap (λ (t : StoreState g.row.D.Denot). t.capacity) same),
       stop.2 ∙ ap (λ (t : StoreState g.row.D.Denot). take stop.0 t.order) same,
     ))

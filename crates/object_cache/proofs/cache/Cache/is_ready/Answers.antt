@@ -1,8 +1,6 @@
-use Rattle.object_cache.proofs.Names.{length, All-contains}
-use Rattle.std.proofs.Common.{◌<◌}
+use Rattle.object_cache.proofs.Names.{length, All-contains, StoreState, subst, touching}
+use Rattle.std.proofs.Common.{◌<◌, ◌≡◌}
 use Rattle.object_cache.proofs.Readying.{count_within, ready_announced, ready_touched}
-use Rattle.object_cache.proofs.Names.{StoreState, subst, touching}
-use Rattle.std.proofs.Common.{◌≡◌}
 use Rattle.object_cache.proofs.cache.Cache.is_ready.Goals as goal
 
 pub returns-clause-touched : goal.returns-clause-touched

@@ -3,13 +3,11 @@ use Rattle.object_cache.proofs.Journaling.{journal_known, journal_object, journa
 use Rattle.object_cache.proofs.Journaling.{moments_seen}
 use Rattle.object_cache.proofs.cache.Cache.journal.Goals as goal
 
-pub journal_page-requires-clause-known : goal.journal_page-requires-clause-known
-journal_page-requires-clause-known g c =
-    journal_known g.D.Device.disk _ _ _ _ _ _ _ c.self.view_is c.self.invariant.0 c.args.number c.requires.keepable
-
 pub journal_page-requires-clause-object : goal.journal_page-requires-clause-object
-journal_page-requires-clause-object g c =
-    journal_object g.D.Device.disk _ _ _ _ _ _ _ c.self.view_is c.self.invariant.0 c.args.number c.requires.keepable
+journal_page-requires-clause-object g c = λ is. (
+  journal_known g.D.Device.disk _ _ _ _ _ _ _ c.self.view_is c.self.invariant.0 c.args.number c.requires.keepable is,
+  journal_object g.D.Device.disk _ _ _ _ _ _ _ c.self.view_is c.self.invariant.0 c.args.number c.requires.keepable is,
+)
 
 pub journal_page-requires-clause-page : goal.journal_page-requires-clause-page
 journal_page-requires-clause-page g c =

@@ -1,8 +1,7 @@
-use Rattle.object_cache.proofs.Names.{refl, sym, touching, goes_on_same, goes_on_twice}
-use Rattle.object_cache.proofs.Preparing.{continues_ready, fetched_ready, rest_marked}
-use Rattle.object_cache.proofs.Names.{StoreState, ap}
-use Rattle.object_cache.proofs.Outcomes.{ok_then}
+use Rattle.object_cache.proofs.Names.{refl, sym, touching, goes_on_same, goes_on_twice, StoreState, ap}
 use Rattle.std.proofs.Common.{◌∙◌}
+use Rattle.object_cache.proofs.Preparing.{continues_ready, fetched_ready, rest_marked}
+use Rattle.object_cache.proofs.Outcomes.{ok_then}
 use Rattle.object_cache.proofs.cache.Cache.make_writable.Goals as goal
 
 pub returns-then-is_ready-clause-announced : goal.returns-then-is_ready-clause-announced

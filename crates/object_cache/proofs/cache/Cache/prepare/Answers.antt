@@ -1,11 +1,7 @@
-use Rattle.object_cache.proofs.Names.{sym, subst, length, All, StoreState, goes_on_twice}
-use Rattle.std.proofs.Common.{◌<◌}
+use Rattle.object_cache.proofs.Names.{sym, subst, length, All, StoreState, goes_on_twice, on_ok, ap, on_err}
+use Rattle.std.proofs.Common.{◌<◌, ◌∙◌}
 use Rattle.object_cache.proofs.Preparing.{rest_alone, rest_on_ready, within_on}
-use Rattle.object_cache.proofs.Outcomes.{on_ok}
-use Rattle.object_cache.proofs.Names.{ap}
 use Rattle.object_cache.proofs.Evicting.{uses_all}
-use Rattle.object_cache.proofs.Outcomes.{on_err}
-use Rattle.std.proofs.Common.{◌∙◌}
 use Rattle.object_cache.proofs.cache.Cache.prepare.Goals as goal
 
 pub returns-in_err-fetch-clause-within : goal.returns-in_err-fetch-clause-within
@@ -55,5 +51,5 @@ returns-clause-order g c = on_ok c.make_writable.result
 pub returns-clause-stopped : goal.returns-clause-stopped
 returns-clause-stopped g c =
     let s = c.args.self.now in
-    on_err c.make_writable.result (uses_all s.most c.args.fetched.now s.order c.make_writable.new.self.order
+    on_err c.make_writable.result (uses_all s.capacity c.args.fetched.now s.order c.make_writable.new.self.order
     (ap (λ (t : StoreState g.row.D.Denot). t.order) c.make_writable.ensures.rest ∙ c.in_ok-fetch.ensures.order))

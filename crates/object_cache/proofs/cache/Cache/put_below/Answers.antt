@@ -1,4 +1,4 @@
-use Rattle.object_cache.proofs.Names.{ℕ, ap, subst, counted_ok, counts_on, StoreState, owed_at, pending_count, goes_on_twice}
+use Rattle.object_cache.proofs.Names.{ℕ, ap, subst, counted_ok, counts_on, StoreState, frozen_state_at, pending_count, goes_on_twice}
 use Rattle.std.proofs.Common.{◌<◌, ◌∙◌}
 use Rattle.object_cache.proofs.Leading.{put_on, same_put}
 use Rattle.object_cache.proofs.Outcomes.{ok_then}
@@ -11,7 +11,7 @@ returns-clause-continues g c =
 
 pub returns-in_err-take_below-clause-put : goal.returns-in_err-take_below-clause-put
 returns-in_err-take_below-clause-put g c =
-    (same_put c.args.self.now c.take_below.new.self c.args.self.now.dirty c.args.self.now.pending c.args.self.now.owed c.take_below.new.self.staging
+    (same_put c.args.self.now c.take_below.new.self c.args.self.now.dirty c.args.self.now.pending c.args.self.now.frozen_state c.take_below.new.self.staging
     c.take_below.ensures.rest)
 
 pub put_held-requires : goal.put_held-requires
@@ -19,8 +19,8 @@ put_held-requires g c =
     let held = c.in_ok-take_below.ensures.held in (
       held.0,
       held.1,
-      ap (owed_at c.take_below.new.self.owed) held.2 ∙ ap (λ (t : StoreState g.row.D.Denot). owed_at t.owed c.args.number)
-          c.take_below.ensures.rest ∙ c.requires.owed,
+      ap (frozen_state_at c.take_below.new.self.frozen_state) held.2 ∙ ap (λ (t : StoreState g.row.D.Denot). frozen_state_at t.frozen_state c.args.number)
+          c.take_below.ensures.rest ∙ c.requires.frozen_state,
     )
 
 pub returns-clause-fewer : goal.returns-clause-fewer
@@ -30,7 +30,7 @@ returns-clause-fewer g c =
 
 pub returns-clause-put : goal.returns-clause-put
 returns-clause-put g c = put_on c.args.self.now c.take_below.new.self c.put_held.new.self
-    (same_put c.args.self.now c.take_below.new.self c.args.self.now.dirty c.args.self.now.pending c.args.self.now.owed c.take_below.new.self.staging
+    (same_put c.args.self.now c.take_below.new.self c.args.self.now.dirty c.args.self.now.pending c.args.self.now.frozen_state c.take_below.new.self.staging
     c.take_below.ensures.rest) c.put_held.ensures.put
 
 pub returns-clause-cause : goal.returns-clause-cause

@@ -1,8 +1,9 @@
 use Rattle.object_cache.proofs.Names.{sym, ap, arith, none-some, counted_ok, option_map, held_behind, StoreState}
 use Rattle.std.proofs.Common.{◌∙◌}
-use Rattle.object_cache.proofs.Settling.{held_frozen, held_known, held_running, held_owed, held_room, held_keepable, settled_fewer, settled_stands, settled_put}
+use Rattle.object_cache.proofs.Settling.{held_frozen, held_known, held_running, held_frozen_state, held_room, held_keepable, settled_fewer, settled_stands}
+use Rattle.object_cache.proofs.Settling.{settled_put}
 use Rattle.object_cache.proofs.Settling.{settled_continues, unsettled_stands, unsettled_put, unsettled_continues}
-use Rattle.object_cache.proofs.Paying.{ok_counts}
+use Rattle.object_cache.proofs.WritingBack.{ok_counts}
 use Rattle.object_cache.proofs.cache.Cache.put_held.Goals as goal
 
 pub header-header-requires : goal.header-header-requires
@@ -14,21 +15,21 @@ pub put_body-requires-clause-keepable : goal.put_body-requires-clause-keepable
 put_body-requires-clause-keepable g c =
     held_keepable g.D.Device.disk _ _ _ _ _ _ _ c.self.view_is c.self.invariant.0 (held_behind c.in-Some.held)
     (sym c.get.ensures ∙ ap (option_map held_behind) c.in-Some.is)
-    (held_owed g.D.Device.disk _ _ _ _ _ _ _ c.self.view_is c.self.invariant.0 (held_behind c.in-Some.held)
+    (held_frozen_state g.D.Device.disk _ _ _ _ _ _ _ c.self.view_is c.self.invariant.0 (held_behind c.in-Some.held)
     (sym c.get.ensures ∙ ap (option_map held_behind) c.in-Some.is) c.requires) c.header-header.result c.header-header.ensures
 
 pub put_body-requires-clause-room : goal.put_body-requires-clause-room
 put_body-requires-clause-room g c =
     held_room g.D.Device.disk _ _ _ _ _ _ _ c.self.view_is c.self.invariant.0 (held_behind c.in-Some.held)
     (sym c.get.ensures ∙ ap (option_map held_behind) c.in-Some.is)
-    (held_owed g.D.Device.disk _ _ _ _ _ _ _ c.self.view_is c.self.invariant.0 (held_behind c.in-Some.held)
+    (held_frozen_state g.D.Device.disk _ _ _ _ _ _ _ c.self.view_is c.self.invariant.0 (held_behind c.in-Some.held)
     (sym c.get.ensures ∙ ap (option_map held_behind) c.in-Some.is) c.requires) c.header-header.result c.header-header.ensures
 
 pub invariant_of-self : goal.invariant_of-self
 invariant_of-self g c = (
   unsettled_stands g.D.Device.disk _ _ _ _ _ _ _ c.self.view_is c.self.invariant.0 (held_behind c.in-Some.held)
       (sym c.get.ensures ∙ ap (option_map held_behind) c.in-Some.is)
-      (held_owed g.D.Device.disk _ _ _ _ _ _ _ c.self.view_is c.self.invariant.0 (held_behind c.in-Some.held)
+      (held_frozen_state g.D.Device.disk _ _ _ _ _ _ _ c.self.view_is c.self.invariant.0 (held_behind c.in-Some.held)
       (sym c.get.ensures ∙ ap (option_map held_behind) c.in-Some.is) c.requires) c.header-header.result c.header-header.ensures c.put_body.new.durable
       c.in_err-put_body.ensures.broken,
   c.self.invariant.1,
@@ -38,7 +39,7 @@ pub returns-in_err-put_body-clause-put : goal.returns-in_err-put_body-clause-put
 returns-in_err-put_body-clause-put g c =
     unsettled_put g.D.Device.disk _ _ _ _ _ _ _ c.self.view_is c.self.invariant.0 (held_behind c.in-Some.held)
     (sym c.get.ensures ∙ ap (option_map held_behind) c.in-Some.is)
-    (held_owed g.D.Device.disk _ _ _ _ _ _ _ c.self.view_is c.self.invariant.0 (held_behind c.in-Some.held)
+    (held_frozen_state g.D.Device.disk _ _ _ _ _ _ _ c.self.view_is c.self.invariant.0 (held_behind c.in-Some.held)
     (sym c.get.ensures ∙ ap (option_map held_behind) c.in-Some.is) c.requires) c.header-header.result c.header-header.ensures c.put_body.new.durable
     c.in_err-put_body.ensures.broken
 
@@ -46,16 +47,16 @@ pub returns-in_err-put_body-clause-continues : goal.returns-in_err-put_body-clau
 returns-in_err-put_body-clause-continues g c =
     unsettled_continues g.D.Device.disk _ _ _ _ _ _ _ c.self.view_is c.self.invariant.0 (held_behind c.in-Some.held)
     (sym c.get.ensures ∙ ap (option_map held_behind) c.in-Some.is)
-    (held_owed g.D.Device.disk _ _ _ _ _ _ _ c.self.view_is c.self.invariant.0 (held_behind c.in-Some.held)
+    (held_frozen_state g.D.Device.disk _ _ _ _ _ _ _ c.self.view_is c.self.invariant.0 (held_behind c.in-Some.held)
     (sym c.get.ensures ∙ ap (option_map held_behind) c.in-Some.is) c.requires) c.header-header.result c.header-header.ensures c.put_body.new.durable
     c.in_err-put_body.ensures.broken c.put_body.ensures.goes_on c.put_body.ensures.cause.never_falls
 
 pub invariant_of-self-2 : goal.invariant_of-self-2
 invariant_of-self-2 g c =
-    rw (c.set.ensures, c.let_go.ensures) (
+    rw (c.set.ensures, c.clear.ensures) (
       settled_stands g.D.Device.disk _ _ _ _ _ _ _ c.self.view_is c.self.invariant.0 (held_behind c.in-Some.held)
           (sym c.get.ensures ∙ ap (option_map held_behind) c.in-Some.is)
-          (held_owed g.D.Device.disk _ _ _ _ _ _ _ c.self.view_is c.self.invariant.0 (held_behind c.in-Some.held)
+          (held_frozen_state g.D.Device.disk _ _ _ _ _ _ _ c.self.view_is c.self.invariant.0 (held_behind c.in-Some.held)
           (sym c.get.ensures ∙ ap (option_map held_behind) c.in-Some.is) c.requires) c.header-header.result c.header-header.ensures c.put_body.new.durable
           c.in_ok-put_body.ensures.put,
       c.self.invariant.1,
@@ -63,19 +64,19 @@ invariant_of-self-2 g c =
 
 pub returns-clause-put : goal.returns-clause-put
 returns-clause-put g c =
-    rw (c.set.ensures, c.let_go.ensures)
+    rw (c.set.ensures, c.clear.ensures)
     (settled_put g.D.Device.disk _ _ _ _ _ _ _ c.self.view_is c.self.invariant.0 (held_behind c.in-Some.held)
     (sym c.get.ensures ∙ ap (option_map held_behind) c.in-Some.is)
-    (held_owed g.D.Device.disk _ _ _ _ _ _ _ c.self.view_is c.self.invariant.0 (held_behind c.in-Some.held)
+    (held_frozen_state g.D.Device.disk _ _ _ _ _ _ _ c.self.view_is c.self.invariant.0 (held_behind c.in-Some.held)
     (sym c.get.ensures ∙ ap (option_map held_behind) c.in-Some.is) c.requires) c.header-header.result c.header-header.ensures c.put_body.new.durable
     c.in_ok-put_body.ensures.put)
 
 pub returns-clause-continues : goal.returns-clause-continues
 returns-clause-continues g c =
-    rw (c.set.ensures, c.let_go.ensures)
+    rw (c.set.ensures, c.clear.ensures)
     (settled_continues g.D.Device.disk _ _ _ _ _ _ _ c.self.view_is c.self.invariant.0 (held_behind c.in-Some.held)
     (sym c.get.ensures ∙ ap (option_map held_behind) c.in-Some.is)
-    (held_owed g.D.Device.disk _ _ _ _ _ _ _ c.self.view_is c.self.invariant.0 (held_behind c.in-Some.held)
+    (held_frozen_state g.D.Device.disk _ _ _ _ _ _ _ c.self.view_is c.self.invariant.0 (held_behind c.in-Some.held)
     (sym c.get.ensures ∙ ap (option_map held_behind) c.in-Some.is) c.requires) c.header-header.result c.header-header.ensures c.put_body.new.durable
     c.in_ok-put_body.ensures.put c.put_body.ensures.goes_on c.put_body.ensures.cause.never_falls)
 
@@ -93,19 +94,19 @@ pub put_body-requires-clause-running : goal.put_body-requires-clause-running
 put_body-requires-clause-running g c =
     held_running g.D.Device.disk _ _ _ _ _ _ _ c.self.view_is c.self.invariant.0 (held_behind c.in-Some.held)
     (sym c.get.ensures ∙ ap (option_map held_behind) c.in-Some.is)
-    (held_owed g.D.Device.disk _ _ _ _ _ _ _ c.self.view_is c.self.invariant.0 (held_behind c.in-Some.held)
+    (held_frozen_state g.D.Device.disk _ _ _ _ _ _ _ c.self.view_is c.self.invariant.0 (held_behind c.in-Some.held)
     (sym c.get.ensures ∙ ap (option_map held_behind) c.in-Some.is) c.requires) c.header-header.result c.header-header.ensures
 
 pub put_body-requires-clause-object : goal.put_body-requires-clause-object
 put_body-requires-clause-object g c =
     let known = held_known g.D.Device.disk _ _ _ _ _ _ _ c.self.view_is c.self.invariant.0 (held_behind c.in-Some.held)
     (sym c.get.ensures ∙ ap (option_map held_behind) c.in-Some.is)
-    (held_owed g.D.Device.disk _ _ _ _ _ _ _ c.self.view_is c.self.invariant.0 (held_behind c.in-Some.held)
+    (held_frozen_state g.D.Device.disk _ _ _ _ _ _ _ c.self.view_is c.self.invariant.0 (held_behind c.in-Some.held)
     (sym c.get.ensures ∙ ap (option_map held_behind) c.in-Some.is) c.requires) c.header-header.result c.header-header.ensures in
     omega (arith, known, c.self.invariant.0.headers)
 
 pub returns-clause-empty : goal.returns-clause-empty
-returns-clause-empty g c = c.let_go.ensures
+returns-clause-empty g c = c.clear.ensures
 
 pub returns-clause-cause : goal.returns-clause-cause
 returns-clause-cause g c =

@@ -1,6 +1,5 @@
-use Rattle.object_cache.proofs.Names.{content_behind, memory_of}
+use Rattle.object_cache.proofs.Names.{content_behind, memory_of, on_err}
 use Rattle.object_cache.proofs.Objects.{has_entry}
-use Rattle.object_cache.proofs.Outcomes.{on_err}
 use Rattle.object_cache.proofs.Puts.{room_here, keepable_here, ok_stands, ok_seen, ok_continues, err_stands, err_seen, err_continues}
 use Rattle.object_cache.proofs.cache.Cache.put_present.Goals as goal
 

@@ -1,6 +1,5 @@
-use Rattle.object_cache.proofs.Names.{rules, arith, counted_ok}
+use Rattle.object_cache.proofs.Names.{rules, arith, counted_ok, on_err}
 use Rattle.std.proofs.Common.{◌∙◌, ◌<◌, ◌+◌}
-use Rattle.object_cache.proofs.Outcomes.{on_err}
 use Rattle.object_cache.proofs.Turns.{next_requested, puts_more}
 use Rattle.object_cache.proofs.cache.Cache.put_some.Goals as goal
 

@@ -1,6 +1,5 @@
-use Rattle.object_cache.proofs.Names.{ap, ObjectHeader, Frame, newest, stored_of, masked, memory_of}
+use Rattle.object_cache.proofs.Names.{ap, ObjectHeader, Frame, newest, stored_of, masked, memory_of, on_err}
 use Rattle.std.proofs.Common.{◌∙◌}
-use Rattle.object_cache.proofs.Outcomes.{on_err}
 use Rattle.object_cache.proofs.Caching.{no_entry}
 use Rattle.object_cache.proofs.Fetched.{kept_continues, kept_fetched, kept_seen, kept_stands, read_continues, read_seen, read_stands}
 use Rattle.object_cache.proofs.cache.Cache.read.Goals as goal

@@ -1,5 +1,5 @@
-use Rattle.std.proofs.Common.{◌∙◌, ◌≤◌, arith, rules, sym}
-use Rattle.object_cache.proofs.Outcomes.{on_err}
+use Rattle.object_cache.proofs.Names.{arith, rules, sym, on_err}
+use Rattle.std.proofs.Common.{◌∙◌, ◌≤◌}
 use Rattle.object_cache.proofs.Turns.{requested_by}
 use Rattle.object_cache.proofs.cache.Cache.stabilize.Goals as goal
 

@@ -1,9 +1,8 @@
 use Rattle.object_cache.proofs.Names.{arith, length, sym, ap, subst, All-contains, touched_count, stored_of, memory_of, EntriesState, used_in_turn, StoreState}
-use Rattle.object_cache.proofs.Names.{GoesOnIn, IsCache, IsFetchedIn, cache_of, goes_on_same}
+use Rattle.object_cache.proofs.Names.{GoesOnIn, IsCache, IsFetchedIn, cache_of, goes_on_same, take}
 use Rattle.std.proofs.Common.{◌≤◌, ◌<◌, ◌∙◌}
 use Rattle.object_cache.proofs.Leading.{continues_cached}
-use Rattle.object_cache.proofs.Owing.{fetched_by}
-use Rattle.object_cache.proofs.Names.{take}
+use Rattle.object_cache.proofs.FrozenStates.{fetched_by}
 use Rattle.object_cache.proofs.cache.Cache.use_again.Goals as goal
 
 pub invariant_of-self : goal.invariant_of-self
@@ -51,7 +50,7 @@ returns-clause-continues g c =
     i.left f.order f.most) c.use_again.ensures.rest
     ∙ ap (λ (t : StoreState g.row.D.Denot). record t { order = e.order }) c.self.view_is in
     subst (GoesOnIn g.D.Device.disk s) (sym seen)
-    (continues_cached g.D.Device.disk s s s.cached s.owed e.order (goes_on_same g.D.Device.disk g.met.D.Device.only_now s))
+    (continues_cached g.D.Device.disk s s s.cached s.frozen_state e.order (goes_on_same g.D.Device.disk g.met.D.Device.only_now s))
 
 pub returns-clause-within : goal.returns-clause-within
 returns-clause-within g c =

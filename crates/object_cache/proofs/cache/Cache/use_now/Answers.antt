@@ -1,7 +1,7 @@
 use Rattle.object_cache.proofs.Names.{sym, ap, stored_of, memory_of, EntriesState, used_now, without, StoreState, IsCache}
 use Rattle.std.proofs.Common.{◌∷◌, ◌≤◌, ◌∙◌}
 use Rattle.object_cache.proofs.Outcomes.{whichever}
-use Rattle.object_cache.proofs.Owing.{fetched_by, uncached_by}
+use Rattle.object_cache.proofs.FrozenStates.{fetched_by, uncached_by}
 use Rattle.object_cache.proofs.Objects.{bounded_seen}
 use Rattle.object_cache.proofs.cache.Cache.use_now.Goals as goal
 

@@ -1,4 +1,4 @@
-use Rattle.object_cache.proofs.Paying.{written_clean, written_same}
+use Rattle.object_cache.proofs.WritingBack.{written_clean, written_same}
 use Rattle.object_cache.proofs.cache.Cache.write_back.Goals as goal
 
 pub put_present-requires-clause-fetched : goal.put_present-requires-clause-fetched
@@ -11,8 +11,8 @@ pub returns-then-contains-clause-clean : goal.returns-then-contains-clause-clean
 returns-then-contains-clause-clean g c = written_clean c.put_present.result c.args.self.now c.put_present.new.self c.args.number c.put_present.ensures.put
     c.put_present.ensures.unput
 
-pub returns-then-contains-clause-owed : goal.returns-then-contains-clause-owed
-returns-then-contains-clause-owed g c =
+pub returns-then-contains-clause-frozen_state : goal.returns-then-contains-clause-frozen_state
+returns-then-contains-clause-frozen_state g c =
     (written_same c.put_present.result c.args.self.now c.put_present.new.self c.args.number c.put_present.ensures.put c.put_present.ensures.unput).0
 
 pub returns-then-contains-clause-put : goal.returns-then-contains-clause-put

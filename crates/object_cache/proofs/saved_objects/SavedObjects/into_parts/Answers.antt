@@ -25,7 +25,8 @@ returns-else-len-count-clause-whole g c = λ keeps fs took.
     let i = c.self.inside in
     let all : length i.headers.items ≡ i.count = search rules in
     let s : TakenState = record { headers = i.headers.items; entries = i.entries; count = i.count } in
-    taken_all s fs (subst (λ (t : TakenState). AreTaken t fs) (sym c.self.view_is) took) c.in-Some.entries c.in-Some.is (c.self.invariant.1 c.in-Some.entries c.in-Some.is) all
+    taken_all s fs (subst (λ (t : TakenState). AreTaken t fs) (sym c.self.view_is) took) c.in-Some.entries c.in-Some.is
+    (c.self.invariant.1 c.in-Some.entries c.in-Some.is) all
 
 pub returns-in_ok-entries-in-None-clause-bodies : goal.returns-in_ok-entries-in-None-clause-bodies
 returns-in_ok-entries-in-None-clause-bodies g c = λ fs took.

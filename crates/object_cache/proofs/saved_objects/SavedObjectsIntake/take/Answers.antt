@@ -1,6 +1,6 @@
 use Rattle.object_cache.proofs.Names.{[], ℕ, subst, sym, length, length-append, HaveRoom, with_new, content_of, frame_of, AreTaken, TakenState, rules}
 use Rattle.std.proofs.Common.{◌≡◌, ◌<◌, ◌∷◌, ◌∙◌}
-use Rattle.object_cache.proofs.Owing.{same_some}
+use Rattle.object_cache.proofs.FrozenStates.{same_some}
 use Rattle.object_cache.proofs.Taken.{kept_room, space_in, taken_below, taken_more}
 use Rattle.object_cache.proofs.saved_objects.SavedObjectsIntake.take.Goals as goal
 

@@ -1,7 +1,5 @@
-use Rattle.object_cache.proofs.Names.{length, sym, subst, All-contains, StoreState}
+use Rattle.object_cache.proofs.Names.{length, sym, subst, All-contains, StoreState, on_err, on_ok, ap}
 use Rattle.std.proofs.Common.{◌∙◌, ◌<◌}
-use Rattle.object_cache.proofs.Outcomes.{on_err, on_ok}
-use Rattle.object_cache.proofs.Names.{ap}
 use Rattle.object_cache.proofs.Evicting.{uses_none}
 use Rattle.object_cache.proofs.store.present.StorePresentFrames.prepare.Goals as goal
 
@@ -20,6 +18,6 @@ returns-then-KEEPS_ALL-clause-all g c =
 pub returns-then-KEEPS_ALL-clause-stopped : goal.returns-then-KEEPS_ALL-clause-stopped
 returns-then-KEEPS_ALL-clause-stopped g c =
     let s = c.args.self.now in
-    on_err c.make_writable.result (uses_none s.most c.args.fetched.now s.order c.make_writable.new.self.order
+    on_err c.make_writable.result (uses_none s.capacity c.args.fetched.now s.order c.make_writable.new.self.order
     (ap (λ (t : StoreState g.row.D.Denot). t.order) c.make_writable.ensures.rest ∙
     ap (λ (t : StoreState g.row.D.Denot). t.order) c.self.view_is))

@@ -1,14 +1,14 @@
--- What an entry owes is paid, its body is put, and it is dropped: the outcome, call by call.
+-- An entry's frozen and present frames are written, and it is dropped: the outcome, call by call.
 use Rattle.object_cache.proofs.Names.{inl, inr, ℕ, Bool, false, cond, List, Result, Ok, Err, Some, None, length, set, refl, sym, ap, subst, arith, length-set}
 use Rattle.object_cache.proofs.Names.{OnOk, OnErr, cases_lt, eq-eqb, get_or_past, get_or-set_same, header_at, held_at, IsKeepable, Disk, Counts, most}
-use Rattle.object_cache.proofs.Names.{stored_of, without, Held, Owed, Nothing, let_go, mark_at, masked, StoreState, GoesOnIn, IsFetchedIn, on_device, owed_at}
-use Rattle.object_cache.proofs.Names.{without_cached}
+use Rattle.object_cache.proofs.Names.{stored_of, without, Held, FrozenState, Nothing, released, mark_at, masked, StoreState, GoesOnIn, IsFetchedIn, on_device}
+use Rattle.object_cache.proofs.Names.{frozen_state_at, without_cached}
 use Rattle.std.proofs.Common.{◌≡◌, ◌∙◌}
 use Rattle.object_cache.proofs.Freezing.{masked_same}
 use Rattle.object_cache.proofs.Leading.{same_put, geometry_stays}
 
-owed_paid : (os : List Owed) (n : ℕ) → owed_at (set os n Nothing) n ≡ Nothing
-owed_paid os n = elim (cases_lt n (length os)) [
+state_written : (os : List FrozenState) (n : ℕ) → frozen_state_at (set os n Nothing) n ≡ Nothing
+state_written os n = elim (cases_lt n (length os)) [
   | inl within ↦ get_or-set_same os n Nothing Nothing within
   | inr past ↦ get_or_past (set os n Nothing) n Nothing (let size = length-set os n Nothing in omega (arith, size, past))
 ]
@@ -20,8 +20,8 @@ mark_gone ms n = elim (cases_lt n (length ms)) [
 ]
 
 -- a staging buffer releases the body that it has
-pub let_go_own : (h : Held) → let_go h.number (Some h) ≡ None
-let_go_own h = ap (λ (b : Bool). cond b None (Some h)) (eq-eqb h.number h.number refl)
+pub released_own : (h : Held) → released h.number (Some h) ≡ None
+released_own h = ap (λ (b : Bool). cond b None (Some h)) (eq-eqb h.number h.number refl)
 
 -- none is counted where all calls succeeded
 pub ok_counts : {T E : Type 0} {old new : Disk} {value : T} → new.failures ≡ old.failures → Counts {T = T} {E = E} old new (Ok value)
@@ -31,32 +31,56 @@ ok_counts {old = old} {new = new} same = record {
 }
 
 module _ {D : Type 0} where
-  -- the frozen frame that an entry owes
+  -- its frozen frame
   module _ {T E : Type 0} (r : Result T E) (s t : StoreState D) (n : ℕ)
-      (put : OnOk r (t ≡ record s { durable = t.durable; pending = set s.pending n false; owed = set s.owed n Nothing; staging = let_go n s.staging }))
+      (put : OnOk r (t ≡ record s {
+        durable = t.durable;
+        pending = set s.pending n false;
+        frozen_state = set s.frozen_state n Nothing;
+        staging =
+            released n s.staging;
+      }))
       (unput : OnErr r (t ≡ record s { durable = t.durable })) where
-    pub paid : OnOk r (owed_at t.owed n ≡ Nothing)
-    paid = go r put where
+    pub frozen_written : OnOk r (frozen_state_at t.frozen_state n ≡ Nothing)
+    frozen_written = go r put where
       go : (x : Result T E) →
-          OnOk x (t ≡ record s { durable = t.durable; pending = set s.pending n false; owed = set s.owed n Nothing; staging = let_go n s.staging }) →
-          OnOk x (owed_at t.owed n ≡ Nothing)
-      go (Ok x) is = ap (λ (c : StoreState D). owed_at c.owed n) is ∙ owed_paid s.owed n
+          OnOk x (t ≡ record s {
+            durable = t.durable;
+            pending = set s.pending n false;
+            frozen_state = set s.frozen_state n Nothing;
+            staging =
+                released n s.staging;
+          }) →
+          OnOk x (frozen_state_at t.frozen_state n ≡ Nothing)
+      go (Ok x) is = ap (λ (c : StoreState D). frozen_state_at c.frozen_state n) is ∙ state_written s.frozen_state n
       go (Err e) is = tt
 
-    pub paid_put : t ≡ on_device s t
-    paid_put = go r put unput where
+    pub frozen_written_put : t ≡ on_device s t
+    frozen_written_put = go r put unput where
       go : (x : Result T E) →
-          OnOk x (t ≡ record s { durable = t.durable; pending = set s.pending n false; owed = set s.owed n Nothing; staging = let_go n s.staging }) →
+          OnOk x (t ≡ record s {
+            durable = t.durable;
+            pending = set s.pending n false;
+            frozen_state = set s.frozen_state n Nothing;
+            staging =
+                released n s.staging;
+          }) →
           OnErr x (t ≡ record s { durable = t.durable }) → t ≡ on_device s t
-      go (Ok x) is none = same_put s t s.dirty (set s.pending n false) (set s.owed n Nothing) (let_go n s.staging) is
-      go (Err e) none is = same_put s t s.dirty s.pending s.owed s.staging is
+      go (Ok x) is none = same_put s t s.dirty (set s.pending n false) (set s.frozen_state n Nothing) (released n s.staging) is
+      go (Err e) none is = same_put s t s.dirty s.pending s.frozen_state s.staging is
 
-    pub paid_empty : s.staging ≡ None → t.staging ≡ None
-    paid_empty empty = go r put unput where
+    pub frozen_written_empty : s.staging ≡ None → t.staging ≡ None
+    frozen_written_empty empty = go r put unput where
       go : (x : Result T E) →
-          OnOk x (t ≡ record s { durable = t.durable; pending = set s.pending n false; owed = set s.owed n Nothing; staging = let_go n s.staging }) →
+          OnOk x (t ≡ record s {
+            durable = t.durable;
+            pending = set s.pending n false;
+            frozen_state = set s.frozen_state n Nothing;
+            staging =
+                released n s.staging;
+          }) →
           OnErr x (t ≡ record s { durable = t.durable }) → t.staging ≡ None
-      go (Ok x) is none = ap (λ (c : StoreState D). c.staging) is ∙ ap (let_go n) empty
+      go (Ok x) is none = ap (λ (c : StoreState D). c.staging) is ∙ ap (released n) empty
       go (Err e) none is = ap (λ (c : StoreState D). c.staging) is ∙ empty
 
   -- the body that it has
@@ -69,16 +93,21 @@ module _ {D : Type 0} where
       go (Ok x) is = ap (λ (c : StoreState D). mark_at c.dirty n) is ∙ mark_gone s.dirty n
       go (Err e) is = tt
 
-    pub written_same : (t.owed ≡ s.owed) × (t.staging ≡ s.staging) × (t ≡ on_device s t)
+    pub written_same : (t.frozen_state ≡ s.frozen_state) × (t.staging ≡ s.staging) × (t ≡ on_device s t)
     written_same = go r put unput where
       go : (x : Result T E) → OnOk x (t ≡ record s { durable = t.durable; dirty = set s.dirty n false }) → OnErr x (t ≡ record s { durable = t.durable }) →
-          (t.owed ≡ s.owed) × (t.staging ≡ s.staging) × (t ≡ on_device s t)
+          (t.frozen_state ≡ s.frozen_state) × (t.staging ≡ s.staging) × (t ≡ on_device s t)
       go (Ok x) is none = (
-        ap (λ (c : StoreState D). c.owed) is,
+        ap (λ (c : StoreState D). c.frozen_state) is,
         ap (λ (c : StoreState D). c.staging) is,
-        same_put s t (set s.dirty n false) s.pending s.owed s.staging is,
+        same_put s t (set s.dirty n false) s.pending s.frozen_state s.staging is,
       )
-      go (Err e) none is = (ap (λ (c : StoreState D). c.owed) is, ap (λ (c : StoreState D). c.staging) is, same_put s t s.dirty s.pending s.owed s.staging is)
+      go (Err e) none is = (
+        ap (λ (c : StoreState D). c.frozen_state) is,
+        ap (λ (c : StoreState D). c.staging) is,
+        same_put s t s.dirty s.pending s.frozen_state
+            s.staging is,
+      )
 
   -- what it is after the device was written to
   pub fetched_on : (s t : StoreState D) (n : ℕ) → t ≡ on_device s t → IsFetchedIn s n → IsFetchedIn t n

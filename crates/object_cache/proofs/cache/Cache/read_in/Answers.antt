@@ -1,12 +1,10 @@
-use Rattle.object_cache.proofs.Names.{length, sym, subst, StoreState, goes_on_twice, counted_ok, counts_on}
-use Rattle.std.proofs.Common.{◌∙◌, ◌<◌}
+use Rattle.object_cache.proofs.Names.{length, sym, subst, StoreState, goes_on_twice, counted_ok, counts_on, List, ap, arith, ℕ, on_err}
+use Rattle.std.proofs.Common.{◌∙◌, ◌<◌, ◌∷◌, ◌-◌}
 use Rattle.object_cache.proofs.Bringing.{place_recent, rest_on, read_rest, read_staging, read_first, read_recent}
 use Rattle.object_cache.proofs.Outcomes.{ok_then, ok_both}
-use Rattle.object_cache.proofs.Names.{List, ap, arith, ℕ}
 use Rattle.object_cache.proofs.Evicting.{front_pushed, stops_none}
-use Rattle.object_cache.proofs.Outcomes.{err_then, on_err}
-use Rattle.std.proofs.Common.{◌∷◌, ◌-◌}
-use Rattle.object_cache.proofs.cache.Cache.bring.Goals as goal
+use Rattle.object_cache.proofs.Outcomes.{err_then}
+use Rattle.object_cache.proofs.cache.Cache.read_in.Goals as goal
 
 pub returns-in_err-make_room-clause-rest : goal.returns-in_err-make_room-clause-rest
 returns-in_err-make_room-clause-rest g c = c.make_room.ensures.rest
@@ -63,7 +61,7 @@ returns-clause-cause g c = counts_on (counted_ok c.in_ok-make_room.ensures.cause
 
 pub returns-in_err-make_room-clause-stopped : goal.returns-in_err-make_room-clause-stopped
 returns-in_err-make_room-clause-stopped g c =
-    on_err c.from_residual.result (stops_none c.args.self.now.most c.args.self.now.order c.make_room.new.self.order c.in_err-make_room.ensures.stays)
+    on_err c.from_residual.result (stops_none c.args.self.now.capacity c.args.self.now.order c.make_room.new.self.order c.in_err-make_room.ensures.stays)
 
 pub returns-clause-order : goal.returns-clause-order
 returns-clause-order g c =
@@ -72,10 +70,10 @@ returns-clause-order g c =
     ok_then c.read.result c.read.ensures.cached (λ is.
     ap (λ (t : StoreState g.row.D.Denot). t.order) is
     ∙ ap (λ (ns : List ℕ). c.args.number ∷ ns) room.least
-    ∙ front_pushed s.most c.args.number s.order (omega (arith, room.room, c.make_room.ensures.continues.most)))
+    ∙ front_pushed s.capacity c.args.number s.order (omega (arith, room.room, c.make_room.ensures.continues.capacity)))
 
 pub returns-clause-stopped : goal.returns-clause-stopped
 returns-clause-stopped g c =
     let s = c.args.self.now in
     err_then c.read.result c.read.ensures.unread (λ is.
-    (s.most - 1, omega arith, ap (λ (t : StoreState g.row.D.Denot). t.order) is ∙ c.in_ok-make_room.ensures.least))
+    (s.capacity - 1, omega arith, ap (λ (t : StoreState g.row.D.Denot). t.order) is ∙ c.in_ok-make_room.ensures.least))

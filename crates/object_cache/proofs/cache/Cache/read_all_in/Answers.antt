@@ -1,11 +1,9 @@
-use Rattle.object_cache.proofs.Names.{sym, subst, length, All, StoreState, counted_ok, counts_on, goes_on_twice}
-use Rattle.std.proofs.Common.{◌<◌}
+use Rattle.object_cache.proofs.Names.{sym, subst, length, All, StoreState, counted_ok, counts_on, goes_on_twice, UsesSome, ap, take, used_in_turn, on_err}
+use Rattle.std.proofs.Common.{◌<◌, ◌≤◌, ◌∙◌}
 use Rattle.object_cache.proofs.Bringing.{keepable_on, rest_of, rest_on}
-use Rattle.object_cache.proofs.Names.{UsesSome, ap, take, used_in_turn}
 use Rattle.object_cache.proofs.Evicting.{uses_none}
-use Rattle.object_cache.proofs.Outcomes.{err_then, ok_then, on_err}
-use Rattle.std.proofs.Common.{◌≤◌, ◌∙◌}
-use Rattle.object_cache.proofs.cache.Cache.bring_all.Goals as goal
+use Rattle.object_cache.proofs.Outcomes.{err_then, ok_then}
+use Rattle.object_cache.proofs.cache.Cache.read_all_in.Goals as goal
 
 pub returns-clause-continues : goal.returns-clause-continues
 returns-clause-continues g c =
@@ -43,20 +41,21 @@ pub returns-clause-cause : goal.returns-clause-cause
 returns-clause-cause g c = counts_on (counted_ok c.in_ok-empty_staging.ensures.cause) c.fetch_all.ensures.cause
 
 pub fetch_all-requires-clause-bounded : goal.fetch_all-requires-clause-bounded
-fetch_all-requires-clause-bounded g c = subst (λ (t : StoreState g.row.D.Denot). length t.order ≤ t.most) (sym c.empty_staging.ensures.put) c.requires.bounded
+fetch_all-requires-clause-bounded g c = subst (λ (t : StoreState g.row.D.Denot). length t.order ≤ t.capacity) (sym c.empty_staging.ensures.put)
+    c.requires.bounded
 
 pub returns-in_err-empty_staging-clause-stopped : goal.returns-in_err-empty_staging-clause-stopped
 returns-in_err-empty_staging-clause-stopped g c =
     let s = c.args.self.now in
-    on_err c.from_residual.result (uses_none s.most c.args.fetched.now s.order c.empty_staging.new.self.order
+    on_err c.from_residual.result (uses_none s.capacity c.args.fetched.now s.order c.empty_staging.new.self.order
     (ap (λ (t : StoreState g.row.D.Denot). t.order) c.empty_staging.ensures.put))
 
 pub returns-clause-order : goal.returns-clause-order
 returns-clause-order g c =
     ok_then c.fetch_all.result c.fetch_all.ensures.order (λ is.
-    is ∙ ap (λ (t : StoreState g.row.D.Denot). take t.most (used_in_turn c.args.fetched.now t.order)) c.empty_staging.ensures.put)
+    is ∙ ap (λ (t : StoreState g.row.D.Denot). take t.capacity (used_in_turn c.args.fetched.now t.order)) c.empty_staging.ensures.put)
 
 pub returns-clause-stopped : goal.returns-clause-stopped
 returns-clause-stopped g c =
     err_then c.fetch_all.result c.fetch_all.ensures.stopped (λ some.
-    subst (λ (t : StoreState g.row.D.Denot). UsesSome t.most c.args.fetched.now t.order c.fetch_all.new.self.order) c.empty_staging.ensures.put some)
+    subst (λ (t : StoreState g.row.D.Denot). UsesSome t.capacity c.args.fetched.now t.order c.fetch_all.new.self.order) c.empty_staging.ensures.put some)

@@ -1,33 +1,31 @@
--- What entries owe, and which numbers have one, by what is seen.
+-- What entries have of unwritten frozen frames, and which numbers have one, by the state.
 use Rattle.object_cache.proofs.Names.{inl, inr, ℕ, zero, suc, Bool, true, false, true≢false, List, [], length, set, take, Option, Some, None, IsSome, is_some}
 use Rattle.object_cache.proofs.Names.{option_map, refl, sym, ap, arith, length-set, slice_get, get_or_past, get_or-set_same, get_or-set_other}
 use Rattle.object_cache.proofs.Names.{length-map-range_with_len, cases_eq, cases_lt, none-some, same_Some, Cap, Content, is_member, Disk, DurableState}
-use Rattle.object_cache.proofs.Names.{stored_of, Entry, entry_at, kept_of, owed_by, Memory, Owed, Nothing, Shared, Apart, mark_at, is_owing, is_shared, owed_of}
-use Rattle.object_cache.proofs.Names.{content_at, contents_in, AreOrdered, used_longest_ago, without, StoreState, IsCache, IsFetchedIn, cache_of, owed_at}
-use Rattle.object_cache.proofs.Names.{cached_at, take_all}
+use Rattle.object_cache.proofs.Names.{stored_of, Entry, entry_at, kept_of, frozen_state_by, Memory, FrozenState, Nothing, Shared, Apart, mark_at, has_frozen}
+use Rattle.object_cache.proofs.Names.{is_shared, frozen_state_of, content_at, contents_in, AreOrdered, used_longest_ago, without, StoreState, IsCache}
+use Rattle.object_cache.proofs.Names.{IsFetchedIn, cache_of, frozen_state_at, cached_at, take_all, length_without, front_apart, front_stays, listed_member}
 use Rattle.std.proofs.Common.{◌≡◌, ◌≢◌, ◌-◌, ◌<◌, ◌≤◌, ◌∷◌, ◌∙◌}
-use Rattle.cache_entries.proofs.Orders.{length_without}
-use Rattle.cache_entries.proofs.Recent.{front_apart, front_stays, listed_member}
 use Rattle.object_cache.proofs.Objects.{cached_entry}
-use Rattle.object_cache.proofs.Caching.{owed_entry}
+use Rattle.object_cache.proofs.Caching.{frozen_state_entry}
 
-pub owing_yes : (o : Owed) (b : Bool) → b ≡ is_owing o → b ≡ true → o ≢ Nothing
-owing_yes o b is marked none = true≢false (sym marked ∙ is ∙ ap is_owing none)
+pub has_frozen_yes : (o : FrozenState) (b : Bool) → b ≡ has_frozen o → b ≡ true → o ≢ Nothing
+has_frozen_yes o b is marked none = true≢false (sym marked ∙ is ∙ ap has_frozen none)
 
-pub owing_none : (o : Owed) (b : Bool) → b ≡ is_owing o → b ≡ false → o ≡ Nothing
-owing_none Nothing b is none = refl
-owing_none Shared b is none = absurd (true≢false (sym is ∙ none))
-owing_none Apart b is none = absurd (true≢false (sym is ∙ none))
+pub has_frozen_none : (o : FrozenState) (b : Bool) → b ≡ has_frozen o → b ≡ false → o ≡ Nothing
+has_frozen_none Nothing b is none = refl
+has_frozen_none Shared b is none = absurd (true≢false (sym is ∙ none))
+has_frozen_none Apart b is none = absurd (true≢false (sym is ∙ none))
 
-pub shared_yes : (o : Owed) (b : Bool) → b ≡ is_shared o → b ≡ true → o ≡ Shared
+pub shared_yes : (o : FrozenState) (b : Bool) → b ≡ is_shared o → b ≡ true → o ≡ Shared
 shared_yes Nothing b is marked = absurd (true≢false (sym marked ∙ is))
 shared_yes Shared b is marked = refl
 shared_yes Apart b is marked = absurd (true≢false (sym marked ∙ is))
 
-pub shared_none : (o : Owed) (b : Bool) → b ≡ is_shared o → b ≡ false → o ≢ Shared
+pub shared_none : (o : FrozenState) (b : Bool) → b ≡ is_shared o → b ≡ false → o ≢ Shared
 shared_none o b is none same = true≢false (sym (is ∙ ap is_shared same) ∙ none)
 
-pub nothing_apart : (o : Owed) → o ≡ Nothing → o ≢ Shared
+pub nothing_apart : (o : FrozenState) → o ≡ Nothing → o ≢ Shared
 nothing_apart o none same = nothing_shared (sym none ∙ same)
   where
     nothing_shared : Nothing ≡ Shared → ⊥
@@ -55,29 +53,31 @@ module _ {D : Type 0} (disk : D → Disk) (d : DurableState D) (m : Memory) (lef
     pub known_there : n < length m.headers
     known_there = omega (arith, known, ap (λ (t : StoreState D). length t.headers) view)
 
-    owed_is : owed_of (entry_at m.entries n) (mark_at m.pending n) (mark_at m.touched n) ≡ owed_at s.owed n
-    owed_is = sym (owed_entry m n known_there) ∙ ap (λ (t : StoreState D). owed_at t.owed n) view
+    frozen_state_is : frozen_state_of (entry_at m.entries n) (mark_at m.pending n) (mark_at m.touched n) ≡ frozen_state_at s.frozen_state n
+    frozen_state_is = sym (frozen_state_entry m n known_there) ∙ ap (λ (t : StoreState D). frozen_state_at t.frozen_state n) view
 
     -- by whether its entry keeps a body apart
-    pub owed_with : (k : Option (Content Cap)) → option_map kept_of (entry_at m.entries n) ≡ Some k → (p b t : Bool) → p ≡ mark_at m.pending n → b ≡ is_some k →
+    pub frozen_state_with : (k : Option (Content Cap)) → option_map kept_of (entry_at m.entries n) ≡ Some k → (p b t : Bool) → p ≡ mark_at m.pending n →
+        b ≡ is_some k →
         t ≡ mark_at m.touched n →
-        owed_by p b t ≡ owed_at s.owed n
-    owed_with k kept p b t p_is b_is t_is =
-        ap (λ (x : Bool). owed_by x b t) p_is
-        ∙ ap (λ (x : Bool). owed_by (mark_at m.pending n) x t) b_is
-        ∙ ap (λ (x : Bool). owed_by (mark_at m.pending n) (is_some k) x) t_is
+        frozen_state_by p b t ≡ frozen_state_at s.frozen_state n
+    frozen_state_with k kept p b t p_is b_is t_is =
+        ap (λ (x : Bool). frozen_state_by x b t) p_is
+        ∙ ap (λ (x : Bool). frozen_state_by (mark_at m.pending n) x t) b_is
+        ∙ ap (λ (x : Bool). frozen_state_by (mark_at m.pending n) (is_some k) x) t_is
         ∙ go (entry_at m.entries n) kept
-        ∙ owed_is
+        ∙ frozen_state_is
       where
-        go : (o : Option Entry) → option_map kept_of o ≡ Some k → owed_by (mark_at m.pending n) (is_some k) (mark_at m.touched n) ≡ owed_of o
+        go : (o : Option Entry) → option_map kept_of o ≡ Some k → frozen_state_by (mark_at m.pending n) (is_some k) (mark_at m.touched n) ≡ frozen_state_of o
             (mark_at m.pending n) (mark_at m.touched n)
         go None is = absurd (none-some k is)
-        go (Some e) is = ap (λ (x : Option (Content Cap)). owed_by (mark_at m.pending n) (is_some x) (mark_at m.touched n)) (sym (same_Some e.kept k is))
+        go (Some e) is = ap (λ (x : Option (Content Cap)). frozen_state_by (mark_at m.pending n) (is_some x) (mark_at m.touched n))
+            (sym (same_Some e.kept k is))
 
-    pub owed_without : is_some (entry_at m.entries n) ≡ false → owed_at s.owed n ≡ Nothing
-    owed_without none = sym owed_is ∙ go (entry_at m.entries n) none
+    pub frozen_state_without : is_some (entry_at m.entries n) ≡ false → frozen_state_at s.frozen_state n ≡ Nothing
+    frozen_state_without none = sym frozen_state_is ∙ go (entry_at m.entries n) none
       where
-        go : (o : Option Entry) → is_some o ≡ false → owed_of o (mark_at m.pending n) (mark_at m.touched n) ≡ Nothing
+        go : (o : Option Entry) → is_some o ≡ false → frozen_state_of o (mark_at m.pending n) (mark_at m.touched n) ≡ Nothing
         go None is = refl
         go (Some e) is = absurd (true≢false is)
 
@@ -104,9 +104,9 @@ some_within es n is = elim (cases_lt n (length es)) [
 -- the entry that was used longest ago
 module _ {D : Type 0} (disk : D → Disk) (d : DurableState D) (m : Memory) (left count : ℕ) (order : List ℕ) (most_entries : ℕ) (s : StoreState D)
     (view : cache_of disk d m left order most_entries ≡ s) (is : IsCache (stored_of disk d) m left count) (least : 8 ≤ most_entries)
-    (ordered : AreOrdered (record { at = m.entries; order = order; most = most_entries })) (full : s.most ≤ length s.order) where
+    (ordered : AreOrdered (record { at = m.entries; order = order; most = most_entries })) (full : s.capacity ≤ length s.order) where
   long : 8 ≤ length order
-  long = omega (arith, least, full, ap (λ (t : StoreState D). t.most) view, ap (λ (t : StoreState D). length t.order) view)
+  long = omega (arith, least, full, ap (λ (t : StoreState D). t.capacity) view, ap (λ (t : StoreState D). length t.order) view)
 
   no_end : (ns : List ℕ) (i : ℕ) → i < length ns → slice_get ns i ≡ None → ⊥
   no_end [] i within none = omega (arith, within)
@@ -132,13 +132,13 @@ module _ {D : Type 0} (disk : D → Disk) (d : DurableState D) (m : Memory) (lef
     seen : s.order ≡ order
     seen = ap (λ (t : StoreState D). t.order) (sym view)
 
-    pub least_room : length (without n s.order) < s.most
+    pub least_room : length (without n s.order) < s.capacity
     least_room = omega (
       arith,
       ap (λ (ns : List ℕ). length (without n ns)) seen,
       length_without n order listed,
       ordered.few,
-      ap (λ (t : StoreState D). t.most) view,
+      ap (λ (t : StoreState D). t.capacity) view,
     )
 
     pub least_order : take 7 (without n s.order) ≡ take 7 s.order
@@ -148,13 +148,13 @@ module _ {D : Type 0} (disk : D → Disk) (d : DurableState D) (m : Memory) (lef
         ∙ ap (take 7) (sym seen)
 
     -- without it the rest stay, in their order
-    pub least_rest : without n s.order ≡ take (s.most - 1) s.order
+    pub least_rest : without n s.order ≡ take (s.capacity - 1) s.order
     least_rest =
         ap (without n) seen
         ∙ sym (take_all (length order - 1) (without n order) (omega (arith, length_without n order listed)))
         ∙ front_stays n order (length order - 1) (length order - 1) (omega (arith, long)) ordered.once (sym at) (omega (arith, long))
-        ∙ ap (λ (k : ℕ). take k order) (omega (arith, full, ordered.few, ap (λ (t : StoreState D). t.most) view, ap (λ (ns : List ℕ). length ns) seen))
-        ∙ ap (take (s.most - 1)) (sym seen)
+        ∙ ap (λ (k : ℕ). take k order) (omega (arith, full, ordered.few, ap (λ (t : StoreState D). t.capacity) view, ap (λ (ns : List ℕ). length ns) seen))
+        ∙ ap (take (s.capacity - 1)) (sym seen)
 
     pub least_others : (k : ℕ) → is_member (take 7 s.order) k ≡ true → cached_at (set s.cached n false) k ≡ cached_at s.cached k
     least_others k recent = get_or-set_other s.cached n k false false
