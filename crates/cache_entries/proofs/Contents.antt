@@ -4,11 +4,10 @@ use Rattle.cache_entries.proofs.Names.{true≢false, refl, sym, ap, subst, arith
 use Rattle.cache_entries.proofs.Names.{get_or_default, get_or-map-range_with_len, length-map-range_with_len, get_or-replicate, length-replicate, set-get_or}
 use Rattle.cache_entries.proofs.Names.{fill_by_all, item_at, Kind, Content, Cap, held_at, with_word_in, with_slot_in, AreBodies, HasRoom, kind_at, kind_of}
 use Rattle.cache_entries.proofs.Names.{content_in, content_at, contents_in, with_words_of, with_slots_of, words_are_of, slots_are_of, is_root_kind, slots_from}
-use Rattle.cache_entries.proofs.Names.{take, take_more, length-take-le, with_root_in, with_slots_in, Root}
+use Rattle.cache_entries.proofs.Names.{take, take_more, length-take-le, with_root_in, with_slots_in, Root, changed_once}
 use Rattle.std.proofs.Common.{◌≡◌, ◌≢◌, ◌+◌, ◌<◌, ◌≤◌, ◌∷◌, ◌++◌, ◌∙◌}
 use Rattle.model.specs.declared.object.Content.TheVariants as content
 use Rattle.cache_entries.specs.declared.bodies.Kind.TheVariants as kind
-use Rattle.sparse_vec.proofs.Lists.{changed_once}
 
 length_contents : (ks : List Kind) (ps : List (Option (List ℕ))) (ns : List (Option (List Cap))) → length (contents_in ks ps ns) ≡ length ks
 unfolding contents_in

@@ -10,18 +10,18 @@ pub use Rattle.model.specs.Revoke.{is_member}
 pub use Rattle.model.specs.declared.capability.Cap.{Cap}
 pub use Rattle.model.specs.declared.object.Content.{Content}
 pub use Rattle.model.specs.declared.object.Root.{Root}
+pub use Rattle.sparse_vec.proofs.Lists.{changed_once, get_map}
+pub use Rattle.sparse_vec.proofs.Positions.{filled}
 pub use Rattle.sparse_vec.specs.SparseVec.{item_at}
 pub use Rattle.std.proofs.Common.{Bool, IsSome, List, None, Option, Some, [], ap, arith, cond, drop, false, get_or, inl, inr, is_some, length, length-append}
-pub use Rattle.std.proofs.Common.{length-set, map, nat_eq, option_map, refl, replicate, rules, set, slice_set, subst, suc, sym, take, true, true≢false}
-pub use Rattle.std.proofs.Common.{unwrap_or, vec_capacity, vec_len, zero, ℕ}
+pub use Rattle.std.proofs.Common.{length-set, map, nat_eq, option_map, refl, replicate, set, slice_set, subst, suc, sym, take, true, true≢false, unwrap_or}
+pub use Rattle.std.proofs.Common.{vec_capacity, vec_len, zero, ℕ}
 pub use Rattle.std.proofs.lemmas.Bool.{cases_eq, cases_lt, eq-eqb, eqb-true, le-ltb, lt-ltb, ne_eqb}
-pub use Rattle.std.proofs.lemmas.List.{get_or-drop, get_or-map, get_or-replicate, get_or-set_other, get_or-set_same, get_or_default, get_or_past, length-drop}
-pub use Rattle.std.proofs.lemmas.List.{length-map, length-replicate, length-take-le, same_lists, set-get_or, take-append-drop, take_all, take_more}
-pub use Rattle.std.proofs.lemmas.List.Folds.{sum_by-replicate}
+pub use Rattle.std.proofs.lemmas.List.{get_or-drop, get_or-replicate, get_or-set_other, get_or-set_same, get_or_default, get_or_past, length-drop, length-map}
+pub use Rattle.std.proofs.lemmas.List.{length-replicate, length-take-le, same_lists, set-get_or, take-append-drop, take_all, take_more}
 pub use Rattle.std.proofs.lemmas.List.FromFn.{fill_by_all, get_or-map-range_with_len, length-map-range_with_len}
-pub use Rattle.std.proofs.lemmas.List.Sums.{count_by-le-length, sum_by-set}
-pub use Rattle.std.proofs.lemmas.Option.{none-some, same_Some, slice_get_past, slice_get_read, slice_get_within}
-pub use Rattle.std.specs.List.{Contains, count_by, slice_get}
+pub use Rattle.std.proofs.lemmas.Option.{none-some, same_Some, slice_get_within}
+pub use Rattle.std.specs.List.{Contains, slice_get}
 pub use Rattle.std.specs.Map.{keys_of, lookup_entry, remove_entry}
 pub use Rattle.std.specs.NonZero.{non_zero_usize_get}
 pub use Rattle.std.specs.Option.{option_map_or}

@@ -3,9 +3,8 @@ use Rattle.cache_entries.proofs.Names.{inl, inr, ℕ, zero, suc, Bool, true, fal
 use Rattle.cache_entries.proofs.Names.{is_some, refl, sym, ap, subst, arith, nat_eq, eqb-true, nat_lt, cond, cases_eq, cases_lt, lt-ltb, le-ltb, length-map}
 use Rattle.cache_entries.proofs.Names.{length-set, length-take-le, length-append, take_all, get_or_default, get_or-replicate, length-replicate, replicate}
 use Rattle.cache_entries.proofs.Names.{get_or-set_same, get_or-set_other, get_or_past, none-some, same_Some, slice_get, is_member, AllDiffer, ArePlaced}
-use Rattle.cache_entries.proofs.Names.{AreSpread, OrderState, order_of, place_at, place_below, used_last, used_longest_ago, without}
+use Rattle.cache_entries.proofs.Names.{AreSpread, OrderState, order_of, place_at, place_below, used_last, used_longest_ago, without, changed_once, get_map}
 use Rattle.std.proofs.Common.{◌≡◌, ◌≢◌, ◌⊎◌, ◌+◌, ◌-◌, ◌<◌, ◌≤◌, ◌∷◌, ◌++◌, ◌∙◌}
-use Rattle.sparse_vec.proofs.Lists.{changed_once, get_map}
 use Rattle.cache_entries.proofs.Orders.{differ_without, gone, length_without, member_head, member_tail, still}
 use Rattle.cache_entries.proofs.Recent.{front_apart, front_stays, listed_member}
 use Rattle.cache_entries.proofs.Turns.{at_end, differ_end, either, in_tail, member_used, not_here, not_at_end, without_here, without_tail}

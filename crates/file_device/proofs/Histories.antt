@@ -1,10 +1,6 @@
 -- The history of a file as its first bytes are found, sector by sector.
-use Rattle.file_device.proofs.Names.{ℕ, List, take, length, fresh, stepped, image_of, ap, sym, arith, take-add, refl}
-use Rattle.std.proofs.Common.{◌≡◌, ◌+◌, ◌*◌, ◌≤◌, ◌++◌, ◌∙◌, Bor}
-use Rattle.std.proofs.lemmas.List.{take_all}
-use Rattle.file_device.specs.declared.history.History.{History}
-use Rattle.file_device.specs.declared.history.Step.{Step}
-use Rattle.file_device.specs.declared.history.Step.TheVariants.{Held}
+use Rattle.file_device.proofs.Names.{ℕ, List, take, length, fresh, stepped, image_of, ap, sym, arith, take-add, refl, Bor, take_all, History, Step, Held}
+use Rattle.std.proofs.Common.{◌≡◌, ◌+◌, ◌*◌, ◌≤◌, ◌++◌, ◌∙◌}
 
 pub held_more : (old new : History) (copy : List ℕ) (at : ℕ) (bytes : Bor (List ℕ)) → old ≡ fresh (take (512 * at) copy) → bytes.now ≡ image_of copy at
     → new ≡ stepped old (Held bytes) → new ≡ fresh (take (512 * (at + 1)) copy)

@@ -2,15 +2,11 @@
 use Rattle.file_device.proofs.Names.{ℕ, List, [], Option, option_map, None, Some, IfSome, length, take, refl, sym, ap, subst, append-nil, append_assoc, arith}
 use Rattle.file_device.proofs.Names.{drop, length-append, length-take-le, take-add, take-append-le, concat-append, concat, Disk, Agrees, image_of, sectors_of}
 use Rattle.file_device.proofs.Names.{Access, Create, Lock, Exclusive, OpeningCall, opened, locked, synced, measured, got, resized, listed, resizes, KeepsLength}
-use Rattle.file_device.proofs.Names.{reads, Gets, LoadsLocked, MakesZeros, IsOpened, IsMade, Adds}
-use Rattle.std.proofs.Common.{◌≡◌, ◌+◌, ◌*◌, ◌≤◌, ◌∷◌, ◌++◌, ◌∙◌}
+use Rattle.file_device.proofs.Names.{reads, Gets, LoadsLocked, MakesZeros, IsOpened, IsMade, Adds, GetsFrom, AreSectors, Elsewhere, inl, inr, cases_lt, min}
+use Rattle.file_device.proofs.Names.{take-append-add, take_all, take-put_mid_below}
+use Rattle.std.proofs.Common.{◌≡◌, ◌+◌, ◌*◌, ◌≤◌, ◌∷◌, ◌++◌, ◌∙◌, ◌%◌}
 use Rattle.file_device.proofs.Deeds.{adds_none, adds_more}
 use Rattle.file_device.proofs.Stored.{front_part}
-use Rattle.file_device.proofs.Names.{GetsFrom, AreSectors, Elsewhere, inl, inr, cases_lt}
-use Rattle.std.proofs.Common.{◌%◌, min}
-use Rattle.std.proofs.Math.Seq.{take-append-add}
-use Rattle.std.proofs.lemmas.List.{take_all}
-use Rattle.std.proofs.lemmas.Slice.{take-put_mid_below}
 use borrow.Rule.Slice.PartMut.{put_mid}
 
 abbrev Calls : Type 0

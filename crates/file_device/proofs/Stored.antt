@@ -1,15 +1,11 @@
 -- Sectors of which some are stored, and the bytes of all.
 use Rattle.file_device.proofs.Names.{ℕ, List, [], Option, Some, None, All, length, map, take, drop, replicate, refl, sym, ap, arith, concat, inl, inr, cases_eq}
-use Rattle.file_device.proofs.Names.{length-append, take-append-le, take-replicate, length-replicate, take-add, drop-drop, cases_lt, length-take-le, length-drop}
-use Rattle.file_device.proofs.Names.{image_of, sectors_of, AreSectors, Elsewhere, AreWhole, IsSector, bytes_of, item_at, zero, suc, subst}
-unfoldable use Rattle.file_device.proofs.Names.{bytes_in}
+use Rattle.file_device.proofs.Names.{length-append, take-append-le, take-replicate, length-replicate, take-add, drop-drop, cases_lt, length-take-le}
+use Rattle.file_device.proofs.Names.{length-drop, image_of, sectors_of, AreSectors, Elsewhere, AreWhole, IsSector, bytes_of, item_at, zero, suc, subst, false}
+use Rattle.file_device.proofs.Names.{is_some, get_or, Fits, w8, get_or_default, drop-append-add, drop_all, take_all, get_or_past, replicate-append-replicate}
+use Rattle.file_device.proofs.Names.{All-append, All-replicate}
 use Rattle.std.proofs.Common.{◌≡◌, ◌≢◌, ◌<◌, ◌≤◌, ◌+◌, ◌*◌, ◌/◌, ◌%◌, ◌∷◌, ◌++◌, ◌∙◌}
-use Rattle.std.proofs.Common.{false, is_some, get_or, Fits}
-use Rattle.std.specs.Int.{w8}
-use Rattle.file_device.proofs.Names.{get_or_default}
-use Rattle.std.proofs.Math.Seq.{drop-append-add}
-use Rattle.std.proofs.lemmas.List.{drop_all, take_all, get_or_past, replicate-append-replicate}
-use Rattle.std.proofs.lemmas.List.Elements.{All-append, All-replicate}
+unfoldable use Rattle.file_device.proofs.Names.{bytes_in}
 
 abbrev pub Stored : Type 0
 Stored = List (Option (List ℕ))

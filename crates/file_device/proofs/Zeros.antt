@@ -1,7 +1,7 @@
 -- Whether bytes are all 0, by the sum of their bits.
 use Rattle.file_device.proofs.Names.{ℕ, List, length, get_or, replicate, sym, ap, rules, arith, bit_or, below_more, IsTrue, nat_eq, le_or_l, le_or_r}
-use Rattle.file_device.proofs.Names.{same_lists, get_or-replicate, get_or_default, length-replicate}
-use Rattle.std.proofs.Common.{◌≡◌, ◌+◌, ◌<◌, ◌∙◌, refl}
+use Rattle.file_device.proofs.Names.{same_lists, get_or-replicate, get_or_default, length-replicate, refl}
+use Rattle.std.proofs.Common.{◌≡◌, ◌+◌, ◌<◌, ◌∙◌}
 use Rattle.std.specs.Prelude.{◌↔◌}
 
 -- any is 0 exactly where the first i bytes are

@@ -1,7 +1,6 @@
 -- Sectors of which some are stored, as the bytes of all.
-use Rattle.file_device.specs.Names.{ℕ, List, [], Option, None, Some, All, concat, length, map, replicate}
+use Rattle.file_device.specs.Names.{ℕ, List, [], Option, None, Some, All, concat, length, map, replicate, item_at}
 use Rattle.std.specs.Prelude.{◌≡◌, ◌<◌}
-use Rattle.sparse_vec.specs.SparseVec.{item_at}
 
 -- the bytes of a sector: zeros where none are stored
 abbrev pub bytes_of : Option (List ℕ) → List ℕ

@@ -61,7 +61,8 @@ fn sync_all<F: RawFile>(file: &mut F) -> Result<(), Failed>
     file.keep().map_err(|_| Failed)
 }
 
-// The history of a file that holds these sectors, and to which nothing has been done.
+// The history of a file that holds these sectors, and to which nothing has been done. It takes no
+// bytes: the loop is there because no slice has them all.
 fn history_of(copy: &SectorCopy) -> History
     ensures { result ≡ fresh copy.now }
 {

@@ -1,6 +1,6 @@
-//! A device in a file. All of its sectors are copied into memory when it is opened: reads are
-//! answered from the copy, and writes go to the file and to the copy. Ghost data records what has
-//! been done to the file, so the device keeps no record in memory.
+//! A device in a file. All of its sectors but those of zeros are copied into memory when it is
+//! opened: reads are answered from the copy, and writes go to the file and to the copy. Ghost data
+//! records what has been done to the file, so the device keeps no record in memory.
 #![tactic(auto)]
 
 mod fault;

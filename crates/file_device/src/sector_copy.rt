@@ -1,4 +1,4 @@
-// The sectors of a device in memory. Those of zeros take none.
+// A copy of a device's sectors in memory, without those of zeros.
 ghost use Rattle.std.specs.Prelude.{◌≡◌, ◌≢◌, ◌<◌, ◌≤◌, ◌+◌, ◌*◌, ◌%◌, ◌↔◌, ℕ, All, IfOk, IsTrue, length, replicate};
 ghost use Rattle.device.specs.Calls.{AreSectors, Elsewhere, image_of, sectors_of};
 ghost use Rattle.sparse_vec.specs.SparseVec.{item_at};
@@ -10,13 +10,13 @@ use sparse_vec::SparseVec;
 use std::alloc::{AllocError, Global};
 use std::marker::Model;
 
-/// The bytes of some sectors, one sector behind the other.
+/// The bytes of sectors, one sector behind the other.
 ///
-/// All memory is reserved when it is made. The system gives memory for a sector when bytes other
-/// than zeros are first put there.
+/// All memory is reserved when it is made, so no later call lacks memory. The system gives memory
+/// for a sector when bytes other than zeros are first put there.
 #[derive(Drop)]
 pub struct SectorCopy {
-    // A sector without bytes here holds zeros.
+    // By number, the sectors that held other bytes than zeros. The others hold zeros.
     stored: SparseVec<[u8; SECTOR_SIZE]>,
 }
 
@@ -52,7 +52,7 @@ fn array_of(bytes: &[u8]) -> [u8; SECTOR_SIZE]
     array
 }
 
-// Puts a sector in the place of another.
+// Puts a sector in the place of another. Zeros aren't stored where nothing was.
 fn store(stored: &mut SparseVec<[u8; SECTOR_SIZE]>, at: usize, sector: &[u8])
     requires size { length sector.now ≡ 512 }
     requires inside { at < length stored.old }

@@ -8,6 +8,9 @@ use std::marker::Model;
 
 /// Items by place, in memory that was reserved for one at each. A place has no item at first, and
 /// keeps the one that it is given.
+///
+/// The items stand without gaps in the order in which they were added, so a system that gives memory
+/// when it is first written gives none for places without an item.
 #[derive(Drop)]
 pub struct SparseVec<T> {
     items: Vec<T>,

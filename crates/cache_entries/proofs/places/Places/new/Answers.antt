@@ -1,5 +1,4 @@
-use Rattle.cache_entries.proofs.Names.{arith, keys_of, non_zero_usize_get, vec_len}
-use Rattle.sparse_vec.proofs.Positions.{filled}
+use Rattle.cache_entries.proofs.Names.{arith, keys_of, non_zero_usize_get, vec_len, filled}
 use Rattle.cache_entries.proofs.Spreads.{none_placed}
 use Rattle.cache_entries.proofs.places.Places.new.Goals as goal
 

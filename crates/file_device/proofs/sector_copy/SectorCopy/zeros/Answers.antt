@@ -1,7 +1,6 @@
-use Rattle.std.proofs.Common.{sym, subst}
-use Rattle.file_device.proofs.Names.{AreWhole, bytes_in}
+use Rattle.file_device.proofs.Names.{sym, subst, AreWhole, bytes_in, ap}
+use Rattle.std.proofs.Common.{◌∙◌}
 use Rattle.file_device.proofs.Stored.{none_whole, none_zeros, Stored}
-use Rattle.std.proofs.Common.{◌∙◌, ap}
 use Rattle.file_device.proofs.sector_copy.SectorCopy.zeros.Goals as goal
 
 pub invariant_of-result : goal.invariant_of-result
