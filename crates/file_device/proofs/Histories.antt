@@ -1,5 +1,5 @@
 -- The history of a file as its first bytes are found, sector by sector.
-use Rattle.file_device.proofs.Names.{ℕ, List, take, length, fresh, stepped, image_of, ap, sym, arith, take-add, refl, Bor, take_all, History, Step, Held}
+use Rattle.file_device.proofs.Names.{ℕ, List, take, length, fresh, stepped, image_of, ap, sym, arith, take-add, Bor, take_all, History, Held}
 use Rattle.std.proofs.Common.{◌≡◌, ◌+◌, ◌*◌, ◌≤◌, ◌++◌, ◌∙◌}
 
 pub held_more : (old new : History) (copy : List ℕ) (at : ℕ) (bytes : Bor (List ℕ)) → old ≡ fresh (take (512 * at) copy) → bytes.now ≡ image_of copy at

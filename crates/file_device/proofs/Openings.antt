@@ -1,6 +1,6 @@
 -- The calls that open or make a device, one after another.
-use Rattle.file_device.proofs.Names.{ℕ, List, [], Option, option_map, None, Some, IfSome, length, take, refl, sym, ap, subst, append-nil, append_assoc, arith}
-use Rattle.file_device.proofs.Names.{drop, length-append, length-take-le, take-add, take-append-le, concat-append, concat, Disk, Agrees, image_of, sectors_of}
+use Rattle.file_device.proofs.Names.{ℕ, List, [], Option, option_map, None, Some, IfSome, length, take, refl, sym, ap, subst, append-nil, arith}
+use Rattle.file_device.proofs.Names.{drop, length-append, length-take-le, take-append-le, concat-append, concat, Disk, Agrees, image_of, sectors_of}
 use Rattle.file_device.proofs.Names.{Access, Create, Lock, Exclusive, OpeningCall, opened, locked, synced, measured, got, resized, listed, resizes, KeepsLength}
 use Rattle.file_device.proofs.Names.{reads, Gets, LoadsLocked, MakesZeros, IsOpened, IsMade, Adds, GetsFrom, AreSectors, Elsewhere, inl, inr, cases_lt, min}
 use Rattle.file_device.proofs.Names.{take-append-add, take_all, take-put_mid_below}

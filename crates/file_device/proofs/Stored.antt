@@ -1,8 +1,8 @@
 -- Sectors of which some are stored, and the bytes of all.
-use Rattle.file_device.proofs.Names.{ℕ, List, [], Option, Some, None, All, length, map, take, drop, replicate, refl, sym, ap, arith, concat, inl, inr, cases_eq}
-use Rattle.file_device.proofs.Names.{length-append, take-append-le, take-replicate, length-replicate, take-add, drop-drop, cases_lt, length-take-le}
+use Rattle.file_device.proofs.Names.{ℕ, List, [], Option, Some, None, All, length, take, drop, replicate, refl, sym, ap, arith, inl, inr, cases_eq}
+use Rattle.file_device.proofs.Names.{length-append, take-append-le, length-replicate, take-add, drop-drop, cases_lt, length-take-le}
 use Rattle.file_device.proofs.Names.{length-drop, image_of, sectors_of, AreSectors, Elsewhere, AreWhole, IsSector, bytes_of, item_at, zero, suc, subst, false}
-use Rattle.file_device.proofs.Names.{is_some, get_or, Fits, w8, get_or_default, drop-append-add, drop_all, take_all, get_or_past, replicate-append-replicate}
+use Rattle.file_device.proofs.Names.{is_some, get_or, Fits, w8, get_or_default, drop-append-add, drop_all, take_all, replicate-append-replicate}
 use Rattle.file_device.proofs.Names.{All-append, All-replicate}
 use Rattle.std.proofs.Common.{◌≡◌, ◌≢◌, ◌<◌, ◌≤◌, ◌+◌, ◌*◌, ◌/◌, ◌%◌, ◌∷◌, ◌++◌, ◌∙◌}
 unfoldable use Rattle.file_device.proofs.Names.{bytes_in}

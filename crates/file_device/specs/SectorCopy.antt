@@ -1,5 +1,5 @@
 -- Sectors of which some are stored, as the bytes of all.
-use Rattle.file_device.specs.Names.{ℕ, List, [], Option, None, Some, All, concat, length, map, replicate, item_at}
+use Rattle.file_device.specs.Names.{ℕ, List, Option, None, Some, All, concat, length, map, replicate, item_at}
 use Rattle.std.specs.Prelude.{◌≡◌, ◌<◌}
 
 -- the bytes of a sector: zeros where none are stored

@@ -1,5 +1,5 @@
 -- Items by place.
-use Rattle.std.proofs.Common.{inl, inr, ℕ, Bool, true, false, List, [], length, set, get_or, replicate, Option, Some, None, IsSome, is_some, true≢false}
+use Rattle.std.proofs.Common.{inl, inr, ℕ, false, List, [], length, set, get_or, replicate, Option, Some, None, IsSome, is_some, true≢false}
 use Rattle.std.proofs.Common.{refl, sym, ap, arith, length-append, length-set, map, zero, suc, take, nat_lt}
 use Rattle.std.proofs.lemmas.Bool.{cases_eq, cases_lt, le-ltb, lt-ltb}
 use Rattle.std.proofs.lemmas.List.{get_or-set_same, get_or-set_other, get_or_past, get_or_default, length-map, take_all}
@@ -8,7 +8,7 @@ use Rattle.std.proofs.lemmas.Option.{slice_get_past, slice_get_read}
 use Rattle.std.specs.List.{count_by, slice_get}
 use Rattle.sparse_vec.specs.SparseVec.{ArePositions, item_at, position}
 unfoldable use Rattle.sparse_vec.specs.SparseVec.{items_in}
-use Rattle.std.proofs.Common.{◌≡◌, ◌≢◌, ◌⊎◌, ◌+◌, ◌-◌, ◌*◌, ◌<◌, ◌≤◌, ◌∷◌, ◌++◌, ◌∙◌}
+use Rattle.std.proofs.Common.{◌≡◌, ◌≢◌, ◌+◌, ◌-◌, ◌<◌, ◌≤◌, ◌∷◌, ◌++◌, ◌∙◌}
 use Rattle.sparse_vec.proofs.Lists.{changed_once, get_append, get_append_end, get_map, get_set_here, get_set_other, get_some, one_counted, not_all_counted}
 
 module _ {X : Type 0} where

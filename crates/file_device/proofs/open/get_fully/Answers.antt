@@ -1,5 +1,5 @@
-use Rattle.file_device.proofs.Names.{rules, arith, length, length-take, option_map, refl, ap, resizes}
-use Rattle.std.proofs.Common.{◌≡◌, ◌≤◌, ◌-◌, ◌∙◌}
+use Rattle.file_device.proofs.Names.{arith, option_map, refl, ap, resizes}
+use Rattle.std.proofs.Common.{◌∙◌}
 use Rattle.file_device.proofs.Openings.{fits_within, still_within, gets_none, gets_on, gets_still, keeps_length}
 use Rattle.file_device.proofs.open.get_fully.Goals as goal
 use Rattle.file_device.proofs.open.get_fully.Goals.{in-Ok, in-Err+else-ne}

@@ -1,5 +1,5 @@
-use Rattle.file_device.proofs.Names.{ℕ, rules, arith, length, subst, GetsFrom, min}
-use Rattle.std.proofs.Common.{◌≡◌, ◌≤◌, ◌-◌, ◌+◌, ◌*◌, ◌∙◌}
+use Rattle.file_device.proofs.Names.{ℕ, rules, arith, length, subst, GetsFrom}
+use Rattle.std.proofs.Common.{◌≡◌, ◌+◌, ◌*◌, ◌∙◌}
 use Rattle.file_device.proofs.Openings.{sectors_on}
 use Rattle.file_device.proofs.open.get_sectors.Goals as goal
 

@@ -1,5 +1,4 @@
-use Rattle.std.proofs.Common.{sym, ap, ◌∙◌}
-use Rattle.file_device.proofs.Stored.{is_within, sector_is, stored_is, zeros_are_there}
+use Rattle.file_device.proofs.Stored.{is_within, stored_is, zeros_are_there}
 use Rattle.file_device.proofs.sector_copy.SectorCopy.sector.Goals as goal
 
 pub has-requires : goal.has-requires

@@ -1,4 +1,4 @@
-use Rattle.std.proofs.Common.{arith, ap, sym, nat_lt}
+use Rattle.std.proofs.Common.{arith, ap, nat_lt}
 use Rattle.std.proofs.Common.{◌∙◌}
 use Rattle.sparse_vec.proofs.Positions.{placed, has_is}
 use Rattle.sparse_vec.proofs.sparse_vec.SparseVec.has.Goals as goal
