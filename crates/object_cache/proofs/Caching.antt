@@ -246,7 +246,8 @@ module _ {D : Type 0} (disk : D → Disk) (d : DurableState D) (m : Memory) (lef
     dropped_seen =
         seen_cached disk d m left (without n order) most_entries (set m.entries n None) n drops_here (frozen_states_in m)
         (frozen_state_stay (stored_of disk d) m (set m.entries n None) n drops_here
-        (frozen_state_dropped (stored_of disk d) m left count is n in_table entry_here.0 entry_here.1 (ap (λ (t : StoreState D). mark_at t.dirty n) view ∙ clean)
+        (frozen_state_dropped (stored_of disk d) m left count is n in_table entry_here.0 entry_here.1
+        (ap (λ (t : StoreState D). mark_at t.dirty n) view ∙ clean)
         (sym (frozen_state_entry m n in_table) ∙ ap (λ (t : StoreState D). frozen_state_at t.frozen_state n) view ∙ frozen_state) masks_here))
         ∙ ap (λ (rs : List Bool). record (cache_of disk d m left (without n order) most_entries) { cached = rs }) (cached_set m.entries n None)
         ∙ ap (λ (t : StoreState D). record t { cached = set t.cached n false; order = without n t.order }) view

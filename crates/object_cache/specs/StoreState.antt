@@ -182,7 +182,7 @@ pub record HoldBodies (e : EntriesState) (fs : List Frame) : Type 0 where
 abbrev pub AreAll : EntriesState → Type 0
 AreAll e = (n : ℕ) → n < length e.at → IsSome (entry_at e.at n)
 
--- the least capacity for all of so many objects
+-- the least capacity for `count` objects
 abbrev pub all_of : ℕ → ℕ
 all_of count = if nat_le 8 count then count else 8
 

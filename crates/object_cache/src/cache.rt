@@ -245,7 +245,7 @@ impl<D: Device> Cache<D> {
         self.entries.keep_apart(number);
     }
 
-    // Removes the entry of a clean object. The log has all that the entry holds.
+    // Removes the entry of a clean object. The device has all that the entry holds.
     pub(crate) fn drop_entry(&mut self, number: u64)
         requires fetched { IsFetchedIn self.old number }
         requires clean { mark_at self.old.dirty number ≡ false }
