@@ -57,8 +57,8 @@ pub record AreSpread (s : OrderState) : Type 0 where
 abbrev pub place_below : ℕ → ℕ → Option ℕ
 place_below most p = if nat_lt p most then Some p else None
 
--- All places in the order of their last use, of which the first `count` have a number; numbers by place; and places
--- by number.
+-- An order from all places in the order of their last use, the number of each place, and the place of each number.
+-- Only the first `count` places have a number.
 abbrev pub order_of : List ℕ → List ℕ → List ℕ → ℕ → OrderState
 order_of keys numbers places count = record {
   numbers = map (slice_index numbers) (take count keys);
@@ -108,7 +108,7 @@ entries_of o presents kepts marks = record {
   most = o.most;
 }
 
--- each of so many places has a body for what an object holds, one for what is kept, and a mark
+-- each of `most` places has a present body, a frozen copy, and a mark that says whether the copy counts
 pub record AreStored (most : ℕ) (ps ks : List (Content Cap)) (ms : List Bool) : Type 0 where
   pub presents : length ps ≡ most
   pub kepts : length ks ≡ most

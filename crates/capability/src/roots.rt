@@ -20,7 +20,7 @@ pub fn is_process<F: Frames>(store: &F, number: u64) -> bool
     matches!(store.table().header(number).role, Role::Root)
 }
 
-/// The root of a process, as it is held. It is fetched.
+/// A copy of the root of a process. The root must be fetched.
 pub fn root<F: Frames>(store: &F, process: u64) -> Root<Cap>
     requires fetched { F.IsFetched store.now process }
     requires process { IsTrue (is_process (objects_in (F.parts store.now)) process) }

@@ -1,4 +1,4 @@
--- Sectors of which some are stored, as the bytes of all.
+-- The bytes of all sectors, where a sector that isn't stored is zeros.
 use Rattle.file_device.specs.Names.{ℕ, List, Option, None, Some, All, concat, length, map, replicate, item_at}
 use Rattle.std.specs.Prelude.{◌≡◌, ◌<◌}
 

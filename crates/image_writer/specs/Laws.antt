@@ -1,6 +1,6 @@
--- How many sectors an image takes by version 2; and what is left of one whose gates are closed: it is as before until
--- the
--- last one is, and then it holds nothing.
+-- An image of version 2 takes at most 8 sectors a range more than one of version 1.
+-- While its gates are being closed, an image holds what it held before.
+-- Once the last one is closed, it holds nothing.
 use Rattle.image_writer.specs.Names.{ℕ, List, length, Geometry, Image, HasNoHeader, One, Two, KeepsImage, Holds}
 use Rattle.image_writer.specs.Names.{SavedFrames}
 use Rattle.std.specs.Prelude.{◌↔◌, ◌+◌, ◌*◌, ◌≤◌}

@@ -192,7 +192,7 @@ pub record TakenState : Type 0 where
   pub entries : Option EntriesState
   pub count : ℕ
 
--- entries have room for `count` bodies, of which the first `taken` are there
+-- there may be `count` entries, and the numbers below `taken` have one
 pub record HaveRoom (e : EntriesState) (taken count : ℕ) : Type 0 where
   pub each : length e.at ≡ count
   pub used : length e.order ≡ taken
