@@ -27,10 +27,8 @@ module _ (p q : Parts) (headers : q.headers ≡ p.headers) (contents : q.content
   pub page_still_known : (n : ℕ) → IsTrue (is_page (content_at (objects_in p) n)) → n < length q.headers
   page_still_known n is = page_known q n (ap (λ (fs : List Frame). is_page (content_at (objects_of fs) n)) frames_same ∙ is)
 
-  pub sound_onward : q.geometry ≡ p.geometry → (fs : List Frame) →
-      ((age : ℕ) → IsSoundFrames q.geometry age (frames_of q) → IsSoundFrames q.geometry age fs) →
+  pub sound_onward : q.geometry ≡ p.geometry → (fs : List Frame) → ((age : ℕ) → IsSoundFrames q.geometry age (frames_of q) → IsSoundFrames q.geometry age fs) →
       (age : ℕ) → IsSoundFrames p.geometry age (frames_of p) → IsSoundFrames p.geometry age fs
   sound_onward geometry fs keeps age sound =
       subst (λ (g : Geometry). IsSoundFrames g age fs) geometry
-      (keeps age (subst (λ (g : Geometry). IsSoundFrames g age (frames_of q)) (sym geometry)
-      (subst (λ (ks : List Frame). IsSoundFrames p.geometry age ks) (sym frames_same) sound)))
+      (keeps age (subst (λ (X : Type 0). X) (λ i. IsSoundFrames (sym geometry i) age (sym frames_same i)) sound))

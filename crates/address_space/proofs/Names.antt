@@ -14,7 +14,7 @@ pub use Rattle.model.specs.declared.access.Access.{Access}
 pub use Rattle.model.specs.declared.answer.MemoryFault.{MemoryFault}
 pub use Rattle.model.specs.declared.answer.MemoryFault.TheVariants.{Hole, Malformed}
 pub use Rattle.model.specs.declared.capability.Capability.{Capability}
-pub use Rattle.model.specs.declared.capability.Capability.TheVariants.{Bank, Discrim, Node, Number, Page, Process, Resume, Space, Start, Void}
+pub use Rattle.model.specs.declared.capability.Capability.TheVariants.{Page, Space, Void}
 pub use Rattle.model.specs.declared.frame.Frame.{Frame}
 pub use Rattle.model.specs.declared.frame.ObjectHeader.{ObjectHeader}
 pub use Rattle.model.specs.declared.geometry.Geometry.{Geometry}

@@ -8,8 +8,7 @@ world_with_word : (g : Geometry) (w : World) (n i word : ℕ) → word < 2 ^ 64 
 world_with_word g w n i word fits sound =
     let us = with_word w.objects n i word in
     let edited = edited_word g (Waits w.objects) w.objects n i word (nearly_from g w sound) fits in
-    nearly_to g us w.age
-    (nearly_weaken g (Waits w.objects) (Waits us) us (λ p waits. ap is_waiting (edited.states p) ∙ waits) edited.sound)
+    nearly_to g us w.age (nearly_weaken g (Waits w.objects) (Waits us) us (λ p waits. ap is_waiting (edited.states p) ∙ waits) edited.sound)
     sound.age
 
 pub word_stays_sound : (g : Geometry) (age : ℕ) (fs gs : List Frame) (n i word : ℕ) → word < 2 ^ 64 →
@@ -18,6 +17,5 @@ pub word_stays_sound : (g : Geometry) (age : ℕ) (fs gs : List Frame) (n i word
 word_stays_sound g age fs gs n i word fits is current keepable sound = record {
   keepable = keepable sound.keepable;
   current = current sound.current;
-  sound = subst (λ (os : List Object). IsSound g (record { objects = os; age = age })) (sym is)
-      (world_with_word g (world_at age fs) n i word fits sound.sound);
+  sound = subst (λ (os : List Object). IsSound g (record { objects = os; age = age })) (sym is) (world_with_word g (world_at age fs) n i word fits sound.sound);
 }

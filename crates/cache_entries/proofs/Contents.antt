@@ -3,7 +3,7 @@ use Rattle.cache_entries.proofs.Names.{inl, inr, ℕ, Bool, true, false, List, [
 use Rattle.cache_entries.proofs.Names.{true≢false, refl, sym, ap, subst, arith, length-set, cases_eq, cases_lt, get_or-set_same, get_or-set_other, get_or_past}
 use Rattle.cache_entries.proofs.Names.{get_or_default, get_or-map-range_with_len, length-map-range_with_len, get_or-replicate, length-replicate, set-get_or}
 use Rattle.cache_entries.proofs.Names.{fill_by_all, item_at, Kind, Content, Cap, held_at, with_word_in, with_slot_in, AreBodies, HasRoom, kind_at, kind_of}
-use Rattle.cache_entries.proofs.Names.{content_in, content_at, contents_in, with_words_of, with_slots_of, words_are_of, slots_are_of, is_root_kind, slots_from}
+use Rattle.cache_entries.proofs.Names.{content_in, content_at, contents_in, with_words_of, with_slots_of, words_are_of, slots_are_of, kind_with_root, slots_from}
 use Rattle.cache_entries.proofs.Names.{take, take_more, length-take-le, with_root_in, with_slots_in, Root, changed_once}
 use Rattle.std.proofs.Common.{◌≡◌, ◌≢◌, ◌+◌, ◌<◌, ◌≤◌, ◌∷◌, ◌++◌, ◌∙◌}
 use Rattle.model.specs.declared.object.Content.TheVariants as content
@@ -24,61 +24,37 @@ read ks ps ns k = elim (cases_lt k (length ks)) [
 
 -- what a body of a kind has
 word_room : (a : Kind) (w : List ℕ) (s : Option (List Cap)) → words_are_of a ≡ true → HasRoom a (Some w) s
-word_room kind.Free w s is = absurd (true≢false (sym is))
 word_room kind.Page w s is = refl
-word_room kind.Node w s is = absurd (true≢false (sym is))
-word_room (kind.Root root) w s is = absurd (true≢false (sym is))
-word_room kind.Annex w s is = absurd (true≢false (sym is))
-word_room (kind.Bank limit) w s is = absurd (true≢false (sym is))
+word_room other w s is = absurd (true≢false (sym is))
 
 slot_room : (a : Kind) (o : Option (List ℕ)) (t : List Cap) → slots_are_of a ≡ true → HasRoom a o (Some t)
-slot_room kind.Free o t is = absurd (true≢false (sym is))
-slot_room kind.Page o t is = absurd (true≢false (sym is))
 slot_room kind.Node o t is = refl
-slot_room (kind.Root root) o t is = absurd (true≢false (sym is))
 slot_room kind.Annex o t is = refl
-slot_room (kind.Bank limit) o t is = absurd (true≢false (sym is))
+slot_room other o t is = absurd (true≢false (sym is))
 
 some_words : (a : Kind) (o : Option (List ℕ)) (s : Option (List Cap)) → words_are_of a ≡ true → HasRoom a o s → IsSome o
-some_words kind.Free o s is room = absurd (true≢false (sym is))
 some_words kind.Page o s is room = room
-some_words kind.Node o s is room = absurd (true≢false (sym is))
-some_words (kind.Root root) o s is room = absurd (true≢false (sym is))
-some_words kind.Annex o s is room = absurd (true≢false (sym is))
-some_words (kind.Bank limit) o s is room = absurd (true≢false (sym is))
+some_words other o s is room = absurd (true≢false (sym is))
 
 some_slots : (a : Kind) (o : Option (List ℕ)) (s : Option (List Cap)) → slots_are_of a ≡ true → HasRoom a o s → IsSome s
-some_slots kind.Free o s is room = absurd (true≢false (sym is))
-some_slots kind.Page o s is room = absurd (true≢false (sym is))
 some_slots kind.Node o s is room = room
-some_slots (kind.Root root) o s is room = absurd (true≢false (sym is))
 some_slots kind.Annex o s is room = room
-some_slots (kind.Bank limit) o s is room = absurd (true≢false (sym is))
+some_slots other o s is room = absurd (true≢false (sym is))
 
 -- a body is another one
 pub record Puts (ks : List Kind) (ps : List (Option (List ℕ))) (ns : List (Option (List Cap))) (after : List (Content Cap)) : Type 0 where
   pub are : AreBodies ks ps ns
   pub contents : contents_in ks ps ns ≡ after
 
--- a root of a content
-module _ (root : Root Cap) where
-  pub root_in : (a : Kind) (o : Option (List ℕ)) (s : Option (List Cap)) → is_root_kind a ≡ true → with_root_in (λ r. root) (content_in a o s) ≡
-      content.Root root
-  root_in kind.Free o s is = absurd (true≢false (sym is))
-  root_in kind.Page o s is = absurd (true≢false (sym is))
-  root_in kind.Node o s is = absurd (true≢false (sym is))
-  root_in (kind.Root old) o s is = refl
-  root_in kind.Annex o s is = absurd (true≢false (sym is))
-  root_in (kind.Bank limit) o s is = absurd (true≢false (sym is))
+-- a body whose root is changed
+module _ (change : Root Cap → Root Cap) where
+  root_in : (a : Kind) (o : Option (List ℕ)) (s : Option (List Cap)) → content_in (kind_with_root change a) o s ≡ with_root_in change (content_in a o s)
+  root_in kind.Free o s = refl
+  root_in other o s = refl
 
-  pub no_root : (a : Kind) (o : Option (List ℕ)) (s : Option (List Cap)) → is_root_kind a ≡ false → content_in a o s ≡ with_root_in (λ r. root)
-      (content_in a o s)
-  no_root kind.Free o s none = refl
-  no_root kind.Page o s none = refl
-  no_root kind.Node o s none = refl
-  no_root (kind.Root old) o s none = absurd (true≢false none)
-  no_root kind.Annex o s none = refl
-  no_root (kind.Bank limit) o s none = refl
+  root_room : (a : Kind) (o : Option (List ℕ)) (s : Option (List Cap)) → HasRoom a o s → HasRoom (kind_with_root change a) o s
+  root_room (kind.Root root) o s room = tt
+  root_room other o s room = room
 
 module _ (ks : List Kind) (ps : List (Option (List ℕ))) (ns : List (Option (List Cap))) (are : AreBodies ks ps ns) (v : List (Content Cap))
     (view : contents_in ks ps ns ≡ v)
@@ -167,11 +143,7 @@ module _ (ks : List Kind) (ps : List (Option (List ℕ))) (ns : List (Option (Li
       no_words : (a : Kind) (o : Option (List ℕ)) (s : Option (List Cap)) → words_are_of a ≡ false → content_in a o s ≡ with_word_in (content_in a o s)
           index word
       no_words kind.Page o s none = absurd (true≢false none)
-      no_words kind.Free o s none = refl
-      no_words kind.Node o s none = refl
-      no_words (kind.Root root) o s none = refl
-      no_words kind.Annex o s none = refl
-      no_words (kind.Bank limit) o s none = refl
+      no_words other o s none = refl
 
       pub no_page : words_are_of b ≡ false → v ≡ set v k (with_word_in (held_at v k) index word)
       no_page none =
@@ -181,11 +153,7 @@ module _ (ks : List Kind) (ps : List (Option (List ℕ))) (ns : List (Option (Li
       word_in : (a : Kind) (w : List ℕ) (s : Option (List Cap)) → words_are_of a ≡ true → with_word_in (content_in a (Some w) s) index word ≡ content_in a
           (Some (set w index word)) s
       word_in kind.Page w s is = refl
-      word_in kind.Free w s is = absurd (true≢false (sym is))
-      word_in kind.Node w s is = absurd (true≢false (sym is))
-      word_in (kind.Root root) w s is = absurd (true≢false (sym is))
-      word_in kind.Annex w s is = absurd (true≢false (sym is))
-      word_in (kind.Bank limit) w s is = absurd (true≢false (sym is))
+      word_in other w s is = absurd (true≢false (sym is))
 
       pub word_put : words_are_of b ≡ true → (w : List ℕ) → item_at ps k ≡ Some w →
           Puts ks (set ps k (Some (set w index word))) ns (set v k (with_word_in (held_at v k) index word))
@@ -202,15 +170,10 @@ module _ (ks : List Kind) (ps : List (Option (List ℕ))) (ns : List (Option (Li
     pub words_there : words_are_of b ≡ true → IsSome (item_at ps k)
     words_there is = some_words b (item_at ps k) (item_at ns k) is room_of
 
-    pub root_put : (root : Root Cap) → is_root_kind b ≡ true → Puts (set ks k (kind.Root root)) ps ns (set v k (with_root_in (λ r. root) (held_at v k)))
-    root_put root is =
-        bare (kind.Root root) (with_root_in (λ r. root) (held_at v k)) tt
-        (sym (ap (with_root_in (λ r. root)) held ∙ root_in root b (item_at ps k) (item_at ns k) is))
-
-    pub no_root_there : (root : Root Cap) → is_root_kind b ≡ false → v ≡ set v k (with_root_in (λ r. root) (held_at v k))
-    no_root_there root none =
-        unchanged (with_root_in (λ r. root) (content_in b (item_at ps k) (item_at ns k))) (no_root root b (item_at ps k) (item_at ns k) none)
-        ∙ ap (λ (c : Content Cap). set v k (with_root_in (λ r. root) c)) (sym held)
+    pub root_put : (change : Root Cap → Root Cap) → Puts (set ks k (kind_with_root change b)) ps ns (set v k (with_root_in change (held_at v k)))
+    root_put change =
+        bare (kind_with_root change b) (with_root_in change (held_at v k)) (root_room change b (item_at ps k) (item_at ns k) room_of)
+        (root_in change b (item_at ps k) (item_at ns k) ∙ sym (ap (with_root_in change) held))
 
     -- the slots of a body are others
     pub slots_put : slots_are_of b ≡ true → (s t : List Cap) → item_at ns k ≡ Some s → (change : Content Cap → Content Cap) →
@@ -235,18 +198,12 @@ module _ (slot : ℕ) (c : Cap) where
       (Some (set s slot c))
   slot_in o s kind.Node is = refl
   slot_in o s kind.Annex is = refl
-  slot_in o s kind.Page is = absurd (true≢false (sym is))
-  slot_in o s kind.Free is = absurd (true≢false (sym is))
-  slot_in o s (kind.Root root) is = absurd (true≢false (sym is))
-  slot_in o s (kind.Bank limit) is = absurd (true≢false (sym is))
+  slot_in o s other is = absurd (true≢false (sym is))
 
   pub no_slot : (a : Kind) (o : Option (List ℕ)) (s : Option (List Cap)) → slots_are_of a ≡ false → with_slot_in (content_in a o s) slot c ≡ content_in a o s
   no_slot kind.Node o s none = absurd (true≢false none)
   no_slot kind.Annex o s none = absurd (true≢false none)
-  no_slot kind.Page o s none = refl
-  no_slot kind.Free o s none = refl
-  no_slot (kind.Root root) o s none = refl
-  no_slot (kind.Bank limit) o s none = refl
+  no_slot other o s none = refl
 
 all_held : (ks : List Kind) (ps : List (Option (List ℕ))) (ns : List (Option (List Cap))) → ((k : ℕ) → kind_at ks k ≡ kind.Free) → replicate (length ks)
     content.Free ≡ contents_in ks ps ns

@@ -1,5 +1,5 @@
 -- The names that the proofs here cite: of other crates, and of the definitions of this one.
-pub use Rattle.capability.specs.Objects.{with_root_in, with_slots_in}
+pub use Rattle.capability.specs.Objects.{changed_root, with_root_in, with_slots_in}
 pub use Rattle.capability.specs.Parts.{fresh_content}
 pub use Rattle.lru.proofs.CallerLemmas.{Contains-lookup_entry}
 pub use Rattle.lru.specs.LruCache.{LruCache, demoted, promoted, put_entries}
@@ -26,7 +26,7 @@ pub use Rattle.std.specs.Map.{keys_of, lookup_entry, remove_entry}
 pub use Rattle.std.specs.NonZero.{non_zero_usize_get}
 pub use Rattle.std.specs.Option.{option_map_or}
 pub use Rattle.std.specs.Prelude.{nat_le, nat_lt}
-pub use Rattle.cache_entries.specs.Bodies.{AreBodies, HasRoom, content_at, content_in, is_root_kind, kind_at, kind_of, slots_are_of, slots_from, with_slots_of}
+pub use Rattle.cache_entries.specs.Bodies.{AreBodies, HasRoom, content_at, content_in, kind_at, kind_of, kind_with_root, slots_are_of, slots_from, with_slots_of}
 pub use Rattle.cache_entries.specs.Bodies.{with_words_of, words_are_of}
 unfoldable pub use Rattle.cache_entries.specs.Bodies.{contents_in}
 pub use Rattle.cache_entries.specs.Entries.{Entry, changing, entry_at}

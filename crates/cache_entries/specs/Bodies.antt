@@ -5,6 +5,7 @@ use Rattle.std.specs.List.{range_with_len}
 use Rattle.std.specs.Option.{unwrap_or}
 use Rattle.model.specs.declared.capability.Cap.{Cap}
 use Rattle.model.specs.declared.object.Content.{Content}
+use Rattle.model.specs.declared.object.Root.{Root}
 use Rattle.model.specs.declared.object.Content.TheVariants as content
 use Rattle.sparse_vec.specs.SparseVec.{item_at}
 use Rattle.cache_entries.specs.declared.bodies.Kind.{Kind}
@@ -29,9 +30,10 @@ slots_are_of kind.Node = true
 slots_are_of kind.Annex = true
 slots_are_of _ = false
 
-abbrev pub is_root_kind : Kind → Bool
-is_root_kind (kind.Root root) = true
-is_root_kind _ = false
+-- a body whose root is changed, where it is one
+abbrev pub kind_with_root : (Root Cap → Root Cap) → Kind → Kind
+kind_with_root change (kind.Root root) = kind.Root (change root)
+kind_with_root change other = other
 
 -- slots with these from the i-th on
 abbrev pub slots_from : List Cap → ℕ → List Cap → List Cap

@@ -1,14 +1,14 @@
 // The bodies of objects by place, in reserved memory.
 ghost use Rattle.std.specs.Prelude.{◌≡◌, ◌<◌, ◌≤◌, Some, None, length, replicate, slice_set, IfOk};
-ghost use Rattle.capability.specs.Objects.{with_root_in, with_slots_in};
+ghost use Rattle.capability.specs.Objects.{changed_root, with_root_in, with_slots_in};
 ghost use Rattle.capability.specs.Parts.{fresh_content};
 ghost use Rattle.model.specs.Frame.{content_behind, held_at, void_held};
 ghost use Rattle.model.specs.Object.{with_slot_in, with_word_in};
 ghost use Rattle.model.specs.declared.object.Content.{Content};
 ghost use Rattle.cache_entries.specs.Bodies.{kind_of, slots_are_of, with_slots_of, with_words_of};
-ghost use Rattle.cache_entries.specs.Bodies.{is_root_kind, slots_from, words_are_of};
+ghost use Rattle.cache_entries.specs.Bodies.{kind_with_root, slots_from, words_are_of};
 
-use capability::Fresh;
+use capability::{Fresh, RootChange};
 use contents::{Page, SLOTS};
 use model::{Cap, ContentRef, Root, State};
 use sparse_vec::SparseVec;
@@ -125,13 +125,13 @@ fn is_page(kind: &Kind) -> bool
     }
 }
 
-// Whether a body is the root of a process.
-fn is_root(kind: &Kind) -> bool
-    ensures { result ≡ is_root_kind kind.now }
+// Changes the root of a process. Any other body stays.
+#[inline(always)]
+fn change_kind(kind: &mut Kind, change: RootChange)
+    ensures { kind.new ≡ kind_with_root (changed_root change) kind.old }
 {
-    match kind {
-        Kind::Root(_) => true,
-        _ => false,
+    if let Kind::Root(root) = kind {
+        change.make(root);
     }
 }
 
@@ -286,14 +286,13 @@ impl Bodies {
         }
     }
 
-    /// Replaces the root at a place. Any other body stays.
-    pub(crate) fn set_root(&mut self, place: usize, root: Root<Cap>)
+    /// Changes the root at a place. Any other body stays.
+    #[inline(always)]
+    pub(crate) fn change_root(&mut self, place: usize, change: RootChange)
         requires { place < length self.old }
-        ensures { self.new ≡ slice_set self.old place (with_root_in (λ r. root) (held_at self.old place)) }
+        ensures { self.new ≡ slice_set self.old place (with_root_in (changed_root change) (held_at self.old place)) }
     {
-        if is_root(&self.kinds[place]) {
-            self.kinds[place] = Kind::Root(root);
-        }
+        change_kind(&mut self.kinds[place], change);
     }
 
     /// Replaces the body at a place by a new object's.

@@ -2,7 +2,7 @@
 ghost use Rattle.std.specs.Prelude.{◌≡◌, ℕ, ◌<◌, ◌≤◌, [], Some, None, true, false, length, replicate, is_some, nat_le};
 ghost use Rattle.std.specs.Prelude.{option_map, take, IfOk, IsSome};
 ghost use Rattle.std.specs.List.{Contains};
-ghost use Rattle.capability.specs.Objects.{with_root_in, with_slots_in};
+ghost use Rattle.capability.specs.Objects.{changed_root, with_root_in, with_slots_in};
 ghost use Rattle.capability.specs.Parts.{fresh_content};
 ghost use Rattle.model.specs.Frame.{content_behind, void_held};
 ghost use Rattle.model.specs.Object.{with_slot_in, with_word_in};
@@ -14,8 +14,8 @@ ghost use Rattle.cache_entries.specs.Order.{used_in_turn, used_now};
 use crate::bodies::Bodies;
 use crate::capacity::Capacity;
 use crate::use_order::UseOrder;
-use capability::Fresh;
-use model::{Cap, ContentRef, Root};
+use capability::{Fresh, RootChange};
+use model::{Cap, ContentRef};
 use std::alloc::{AllocError, Global};
 use std::marker::Model;
 use std::num::NonZeroUsize;
@@ -143,13 +143,14 @@ impl Entries {
         self.presents.set_last_slots(place, held);
     }
 
-    /// Replaces a root that has an entry. Any other body stays.
-    pub fn set_root(&mut self, number: u64, root: Root<Cap>)
+    /// Changes a root that has an entry. Any other body stays.
+    #[inline(always)]
+    pub fn change_root(&mut self, number: u64, change: RootChange)
         requires { IsSome (entry_at self.old.at number) }
-        ensures { self.new ≡ with_entry_of (changing (with_root_in (λ r. root))) number self.old }
+        ensures { self.new ≡ with_entry_of (changing (with_root_in (changed_root change))) number self.old }
     {
         let place = self.order.place(number);
-        self.presents.set_root(place, root);
+        self.presents.change_root(place, change);
     }
 
     /// Replaces the present body of an entry by a new object's.

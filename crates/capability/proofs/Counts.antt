@@ -51,12 +51,9 @@ module _ (goes : Capability → Bool) (hs ks : List ObjectHeader) (raises : (w :
   twice (x ∷ xs) = ap (λ (t : List Capability). void_where goes (conveyed hs x) ∷ t) (twice xs)
 
   content_twice : (c : Content Cap) → map_content (void_where goes) (map_content (conveyed hs) c) ≡ map_content (λ d. void_where goes (conveyed hs d)) c
-  content_twice content.Free = refl
-  content_twice (content.Page words) = refl
   content_twice (content.Node slots) = ap content.Node (twice slots)
-  content_twice (content.Root r) = refl
   content_twice (content.Annex registers) = ap content.Annex (twice registers)
-  content_twice (content.Bank limit) = refl
+  content_twice other = refl
 
   -- what a content conveys later is what it conveyed, without what goes
   conveyed_without : (c : Content Cap) → All (IsCurrent hs) (caps_in c) →

@@ -45,8 +45,6 @@ module _ (hs : List ObjectHeader) (n : ℕ) (h : ObjectHeader) (same : HasCounts
   calls_same = field_same (λ (k : ObjectHeader). k.calls) hs n h same.1
 
   pub current_same : (w : Capability) → current_count (slice_set hs n h) w ≡ current_count hs w
-  current_same Void = refl
-  current_same (Number m) = refl
   current_same (Page o a) = allocations_same o
   current_same (Node o a) = allocations_same o
   current_same (Space o l a) = allocations_same o
@@ -54,7 +52,7 @@ module _ (hs : List ObjectHeader) (n : ℕ) (h : ObjectHeader) (same : HasCounts
   current_same (Start q key) = allocations_same q
   current_same (Resume q) = calls_same q
   current_same (Bank b) = allocations_same b
-  current_same Discrim = refl
+  current_same other = refl
 
   pub conveyed_same : (c : Cap) → conveyed (slice_set hs n h) c ≡ conveyed hs c
   conveyed_same c = ap (λ (m : ℕ). if nat_lt c.count m then Void else c.what) (current_same c.what)
@@ -130,39 +128,25 @@ module _ (p : Parts) (n : ℕ) (c : Content Cap) (known : n < length p.headers) 
 -- a change of a slot, a word or a message goes through the map
 pub slot_through_map : (f : Cap → Capability) (c : Content Cap) (i : ℕ) (held : Cap) → map_content f (with_slot_in c i held) ≡ with_slot_in (map_content f c) i
     (f held)
-slot_through_map f content.Free i held = refl
-slot_through_map f (content.Page words) i held = refl
 slot_through_map f (content.Node slots) i held = ap content.Node (map-set f slots i held)
-slot_through_map f (content.Root r) i held = refl
 slot_through_map f (content.Annex registers) i held = ap content.Annex (map-set f registers i held)
-slot_through_map f (content.Bank limit) i held = refl
+slot_through_map f other i held = refl
 
 pub word_through_map : (f : Cap → Capability) (c : Content Cap) (i word : ℕ) → map_content f (with_word_in c i word) ≡ with_word_in (map_content f c) i word
 word_through_map f content.Free i word = refl
-word_through_map f (content.Page words) i word = refl
-word_through_map f (content.Node slots) i word = refl
-word_through_map f (content.Root r) i word = refl
-word_through_map f (content.Annex registers) i word = refl
-word_through_map f (content.Bank limit) i word = refl
+word_through_map f other i word = refl
 
 -- what a content holds after it is live or stale where what it held was
 pub slot_current : (hs : List ObjectHeader) (c : Content Cap) (i : ℕ) (held : Cap) → IsCurrent hs held → All (IsCurrent hs) (caps_in c) →
     All (IsCurrent hs) (caps_in (with_slot_in c i held))
-slot_current hs content.Free i held is all = all
-slot_current hs (content.Page words) i held is all = all
 slot_current hs (content.Node slots) i held is all = All-set (IsCurrent hs) slots i held is all
-slot_current hs (content.Root r) i held is all = all
 slot_current hs (content.Annex registers) i held is all = All-set (IsCurrent hs) registers i held is all
-slot_current hs (content.Bank limit) i held is all = all
+slot_current hs other i held is all = all
 
 pub word_current : (hs : List ObjectHeader) (c : Content Cap) (i word : ℕ) → All (IsCurrent hs) (caps_in c) →
     All (IsCurrent hs) (caps_in (with_word_in c i word))
 word_current hs content.Free i word all = all
-word_current hs (content.Page words) i word all = all
-word_current hs (content.Node slots) i word all = all
-word_current hs (content.Root r) i word all = all
-word_current hs (content.Annex registers) i word all = all
-word_current hs (content.Bank limit) i word all = all
+word_current hs other i word all = all
 
 -- a capability that is given its object's count conveys itself
 pub live : (hs : List ObjectHeader) (c : Capability) → conveyed hs (record { what = c; count = current_count hs c }) ≡ c
@@ -190,10 +174,7 @@ module _ (p q : Parts) (n : ℕ) (known : n < length p.headers) (inside : n < le
 fresh_conveyed : (hs : List ObjectHeader) (f : Fresh) → map_content (conveyed hs) (fresh_content void_held f) ≡ fresh_content Void f
 unfolding all_slots
 fresh_conveyed hs fresh.Page = refl
-fresh_conveyed hs fresh.Node = refl
-fresh_conveyed hs (fresh.Root annex) = refl
-fresh_conveyed hs fresh.Annex = refl
-fresh_conveyed hs (fresh.Bank limit) = refl
+fresh_conveyed hs other = refl
 
 slots_current : (hs : List ObjectHeader) → All (IsCurrent hs) (all_slots void_held)
 unfolding all_slots

@@ -108,43 +108,23 @@ known_used p n used = ⊎_elim (λ (within : n < length p.headers). within) (λ 
 -- a content of a kind isn't free
 pub root_used : {C : Type 0} (c : Content C) → is_root c ≡ true → is_free c ≡ false
 root_used content.Free is = sym is
-root_used (content.Page words) is = refl
-root_used (content.Node slots) is = refl
-root_used (content.Root r) is = refl
-root_used (content.Annex registers) is = refl
-root_used (content.Bank limit) is = refl
+root_used other is = refl
 
 pub annex_used : {C : Type 0} (c : Content C) → is_annex c ≡ true → is_free c ≡ false
 annex_used content.Free is = sym is
-annex_used (content.Page words) is = refl
-annex_used (content.Node slots) is = refl
-annex_used (content.Root r) is = refl
-annex_used (content.Annex registers) is = refl
-annex_used (content.Bank limit) is = refl
+annex_used other is = refl
 
 pub page_used : {C : Type 0} (c : Content C) → is_page c ≡ true → is_free c ≡ false
 page_used content.Free is = sym is
-page_used (content.Page words) is = refl
-page_used (content.Node slots) is = refl
-page_used (content.Root r) is = refl
-page_used (content.Annex registers) is = refl
-page_used (content.Bank limit) is = refl
+page_used other is = refl
 
 pub node_used : {C : Type 0} (c : Content C) → is_node c ≡ true → is_free c ≡ false
 node_used content.Free is = sym is
-node_used (content.Page words) is = refl
-node_used (content.Node slots) is = refl
-node_used (content.Root r) is = refl
-node_used (content.Annex registers) is = refl
-node_used (content.Bank limit) is = refl
+node_used other is = refl
 
 pub bank_used : {C : Type 0} (c : Content C) → is_bank c ≡ true → is_free c ≡ false
 bank_used content.Free is = sym is
-bank_used (content.Page words) is = refl
-bank_used (content.Node slots) is = refl
-bank_used (content.Root r) is = refl
-bank_used (content.Annex registers) is = refl
-bank_used (content.Bank limit) is = refl
+bank_used other is = refl
 
 -- a process has a header
 pub process_known : (p : Parts) (n : ℕ) → IsTrue (is_process (objects_in p) n) → n < length p.headers
@@ -152,36 +132,20 @@ process_known p n is = known_used p n (root_used (content_at (objects_in p) n) i
 
 -- a content that is no page has no words
 no_words : {C : Type 0} (c : Content C) → ((x : List ℕ) → c ≡ content.Page x → ⊥) → words_in c ≡ []
-no_words content.Free page = refl
 no_words (content.Page words) page = absurd (page words refl)
-no_words (content.Node slots) page = refl
-no_words (content.Root r) page = refl
-no_words (content.Annex registers) page = refl
-no_words (content.Bank limit) page = refl
+no_words other page = refl
 
 no_root : {C : Type 0} (c : Content C) → ((x : Root C) → c ≡ content.Root x → ⊥) → is_root c ≡ false
-no_root content.Free root = refl
-no_root (content.Page words) root = refl
-no_root (content.Node slots) root = refl
 no_root (content.Root r) root = absurd (root r refl)
-no_root (content.Annex registers) root = refl
-no_root (content.Bank limit) root = refl
+no_root other root = refl
 
 no_annex : {C : Type 0} (c : Content C) → ((x : List C) → c ≡ content.Annex x → ⊥) → is_annex c ≡ false
-no_annex content.Free annex = refl
-no_annex (content.Page words) annex = refl
-no_annex (content.Node slots) annex = refl
-no_annex (content.Root r) annex = refl
 no_annex (content.Annex registers) annex = absurd (annex registers refl)
-no_annex (content.Bank limit) annex = refl
+no_annex other annex = refl
 
 blank_annex : (f : Cap → Capability) (c : Content Cap) → ((x : Root Cap) → c ≡ content.Root x → ⊥) → (root_in (map_content f c)).annex ≡ 0
-blank_annex f content.Free root = refl
-blank_annex f (content.Page words) root = refl
-blank_annex f (content.Node slots) root = refl
 blank_annex f (content.Root r) root = absurd (root r refl)
-blank_annex f (content.Annex registers) root = refl
-blank_annex f (content.Bank limit) root = refl
+blank_annex f other root = refl
 
 -- what stands at a number with that content
 module _ (p : Parts) (n : ℕ) (known : n < length p.headers) (c : Content Cap) (is : held_at p.contents n ≡ c) where

@@ -16,8 +16,6 @@ count_later : (age later n : ℕ) → age ≤ later → IsCount age n → IsCoun
 count_later age later n le c = (omega (arith, c.0), c.1)
 
 follows_later : (g : Geometry) (age later count : ℕ) → age ≤ later → (w : Capability) → Follows g age count w → Follows g later count w
-follows_later g age later count le Void f = f
-follows_later g age later count le (Number n) f = f
 follows_later g age later count le (Page o a) f = (f.0, f.1, count_later age later count le f.2)
 follows_later g age later count le (Node o a) f = (f.0, f.1, count_later age later count le f.2)
 follows_later g age later count le (Space o h a) f = (f.0, f.1, f.2, f.3, count_later age later count le f.4)
@@ -25,7 +23,7 @@ follows_later g age later count le (Process p) f = (f.0, count_later age later c
 follows_later g age later count le (Start p key) f = (f.0, f.1, count_later age later count le f.2)
 follows_later g age later count le (Resume p) f = (f.0, count_later age later count le f.1)
 follows_later g age later count le (Bank b) f = (f.0, count_later age later count le f.1)
-follows_later g age later count le Discrim f = f
+follows_later g age later count le other f = f
 
 slots_later : (g : Geometry) (age later : ℕ) → age ≤ later → (slots : List Cap) → AreKeptSlots g age slots → AreKeptSlots g later slots
 slots_later g age later le slots s = record {
@@ -34,12 +32,10 @@ slots_later g age later le slots s = record {
 }
 
 content_later : (g : Geometry) (age later : ℕ) → age ≤ later → (c : Content Cap) → MayBeKept g age c → MayBeKept g later c
-content_later g age later le content.Free k = k
-content_later g age later le (content.Page words) k = k
 content_later g age later le (content.Node slots) k = slots_later g age later le slots k
 content_later g age later le (content.Root r) k = (k.0, k.1, k.2, follows_later g age later r.space.count le r.space.what k.3, k.4)
 content_later g age later le (content.Annex registers) k = (slots_later g age later le registers k.0, k.1)
-content_later g age later le (content.Bank limit) k = k
+content_later g age later le other k = k
 
 pub frame_later : (g : Geometry) (age later n : ℕ) (f : Frame) → age ≤ later → IsKeepable g age n f → IsKeepable g later n f
 frame_later g age later n f le k = record {
@@ -140,9 +136,7 @@ with_word_keeps g age n h (content.Page words) i word fits k =
     refilled g age n h (content.Page words) (content.Page (slice_set words i word)) refl k.kind
     (record { count_is = length-set words i word ∙ k.kept.content.count_is; each = All-set (λ w. w < 2 ^ 64) words i word fits k.kept.content.each }) k
 with_word_keeps g age n h (content.Node slots) i word fits k = k
-with_word_keeps g age n h (content.Root r) i word fits k = k
-with_word_keeps g age n h (content.Annex registers) i word fits k = k
-with_word_keeps g age n h (content.Bank limit) i word fits k = k
+with_word_keeps g age n h other i word fits k = k
 
 -- one header is another, beside what its object holds
 module _ (g : Geometry) (age later : ℕ) (le : age ≤ later) (p q : Parts) (n : ℕ) (h : ObjectHeader) where
@@ -215,17 +209,11 @@ fresh_kept g age (fresh.Bank limit) fits = fits
 
 fresh_kind : (g : Geometry) (n : ℕ) (f : Fresh) → n < object_count g → IsFreshAt g n f → IsOfKind g n (fresh_content void_held f)
 fresh_kind g n fresh.Page known place = (place, known)
-fresh_kind g n fresh.Node known place = place
-fresh_kind g n (fresh.Root annex) known place = place
-fresh_kind g n fresh.Annex known place = place
-fresh_kind g n (fresh.Bank limit) known place = place
+fresh_kind g n other known place = place
 
 fresh_used : (f : Fresh) → role_of (fresh_content void_held f) ≡ role.Free → ⊥
 fresh_used fresh.Page is = cc
-fresh_used fresh.Node is = cc
-fresh_used (fresh.Root annex) is = cc
-fresh_used fresh.Annex is = cc
-fresh_used (fresh.Bank limit) is = cc
+fresh_used other is = cc
 
 pub claim_stays_keepable : (age : ℕ) (p q : Parts) (n : ℕ) → n < length p.headers → n < length p.contents → (f : Fresh) (owner : ℕ) → owner < 2 ^ 64 →
     FreshFits f → IsFreshAt p.geometry n f →

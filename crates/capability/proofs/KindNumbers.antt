@@ -5,40 +5,20 @@ use Rattle.model.specs.declared.object.Content.TheVariants as content
 
 pub node_number : (g : Geometry) (n : ℕ) (c : Content Capability) → IsOfKind g n c → is_node c ≡ true → n < g.nodes
 node_number g n (content.Node slots) kind is = kind
-node_number g n content.Free kind is = cc
-node_number g n (content.Page words) kind is = cc
-node_number g n (content.Root r) kind is = cc
-node_number g n (content.Annex registers) kind is = cc
-node_number g n (content.Bank limit) kind is = cc
+node_number g n other kind is = cc
 
 pub root_number : (g : Geometry) (n : ℕ) (c : Content Capability) → IsOfKind g n c → is_root c ≡ true → n < g.nodes
 root_number g n (content.Root r) kind is = kind
-root_number g n content.Free kind is = cc
-root_number g n (content.Page words) kind is = cc
-root_number g n (content.Node slots) kind is = cc
-root_number g n (content.Annex registers) kind is = cc
-root_number g n (content.Bank limit) kind is = cc
+root_number g n other kind is = cc
 
 pub annex_number : (g : Geometry) (n : ℕ) (c : Content Capability) → IsOfKind g n c → is_annex c ≡ true → n < g.nodes
 annex_number g n (content.Annex registers) kind is = kind
-annex_number g n content.Free kind is = cc
-annex_number g n (content.Page words) kind is = cc
-annex_number g n (content.Node slots) kind is = cc
-annex_number g n (content.Root r) kind is = cc
-annex_number g n (content.Bank limit) kind is = cc
+annex_number g n other kind is = cc
 
 pub bank_number : (g : Geometry) (n : ℕ) (c : Content Capability) → IsOfKind g n c → is_bank c ≡ true → n < g.nodes
 bank_number g n (content.Bank limit) kind is = kind
-bank_number g n content.Free kind is = cc
-bank_number g n (content.Page words) kind is = cc
-bank_number g n (content.Node slots) kind is = cc
-bank_number g n (content.Root r) kind is = cc
-bank_number g n (content.Annex registers) kind is = cc
+bank_number g n other kind is = cc
 
 pub page_number : (g : Geometry) (n : ℕ) (c : Content Capability) → IsOfKind g n c → is_page c ≡ true → (g.nodes ≤ n) × (n < object_count g)
 page_number g n (content.Page words) kind is = kind
-page_number g n content.Free kind is = cc
-page_number g n (content.Node slots) kind is = cc
-page_number g n (content.Root r) kind is = cc
-page_number g n (content.Annex registers) kind is = cc
-page_number g n (content.Bank limit) kind is = cc
+page_number g n other kind is = cc

@@ -22,8 +22,4 @@ mapped f (content.Bank limit) = record { role = refl; root = refl; annex = refl;
 
 pub kind_map : {B C : Type 0} (g : Geometry) (n : ℕ) (f : B → C) (c : Content B) → IsOfKind g n c → IsOfKind g n (map_content f c)
 kind_map g n f content.Free kind = kind
-kind_map g n f (content.Page words) kind = kind
-kind_map g n f (content.Node slots) kind = kind
-kind_map g n f (content.Root r) kind = kind
-kind_map g n f (content.Annex registers) kind = kind
-kind_map g n f (content.Bank limit) kind = kind
+kind_map g n f other kind = kind

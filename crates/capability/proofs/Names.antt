@@ -42,7 +42,7 @@ pub use Rattle.std.specs.List.{All, enumerate_from}
 pub use Rattle.std.specs.Option.{option_map}
 pub use Rattle.std.specs.Prelude.{IsTrue}
 pub use Rattle.capability.specs.Laws.{CalledIsConsumed, ConsumeKeepsSoundFrames, GivenUpIsRescinded, RescindKeepsSoundFrames}
-pub use Rattle.capability.specs.Objects.{live_cap, with_root_in, with_slots_in}
+pub use Rattle.capability.specs.Objects.{changed_root, live_cap, with_root_in, with_slots_in}
 pub use Rattle.capability.specs.Parts.{AreGivenUp, Becomes, Edits, FreshFits, HaveTheirRoles, IsFreshAt, KeepsRest, OnlyFetches, Parts, frames_of}
 pub use Rattle.capability.specs.Parts.{fresh_content, objects_in, with_both, with_header, with_held}
 pub use Rattle.capability.specs.declared.present.Fresh.{Fresh}

@@ -15,11 +15,7 @@ is_root_role _ = false
 
 root_of : (c : Content Cap) → is_root c ≡ is_root_role (role_of c)
 root_of content.Free = refl
-root_of (content.Page words) = refl
-root_of (content.Node slots) = refl
-root_of (content.Root r) = refl
-root_of (content.Annex slots) = refl
-root_of (content.Bank limit) = refl
+root_of other = refl
 
 content_there : (fs : List Frame) (n : ℕ) → content_at (objects_of fs) n ≡ map_content (conveyed (headers fs)) (frame_at fs n).content
 unfolding objects_of
@@ -44,12 +40,8 @@ pub role_there : (p : Parts) (n : ℕ) (hs : List ObjectHeader) (h : ObjectHeade
 role_there p n hs h same is = ap (λ (k : ObjectHeader). is_root_role k.role) (sym (is ∙ ap (λ (ks : List ObjectHeader). header_at ks n) same))
 
 pub no_root_role : (r : Role) → (r ≡ role.Root → ⊥) → is_root_role r ≡ false
-no_root_role role.Free other = refl
-no_root_role role.Page other = refl
-no_root_role role.Node other = refl
 no_root_role role.Root other = absurd (other refl)
-no_root_role role.Annex other = refl
-no_root_role role.Bank other = refl
+no_root_role one other = refl
 
 -- a role decides what a content is, and whether it is free or a bank
 pub role_read : (p : Parts) (hs : List ObjectHeader) (h : ObjectHeader) (n : ℕ) → HaveTheirRoles (frames_of p) → hs ≡ p.headers → h ≡ header_at hs n →
@@ -72,19 +64,11 @@ module _ (r : Role) (c : Content Capability) (is : r ≡ role_of c) where
     where
       go : (d : Content Capability) → role_of d ≡ role.Free → is_free d ≡ true
       go content.Free e = refl
-      go (content.Page words) e = cc
-      go (content.Node slots) e = cc
-      go (content.Root root) e = cc
-      go (content.Annex registers) e = cc
-      go (content.Bank limit) e = cc
+      go other e = cc
 
   pub role_used : (r ≡ role.Free → ⊥) → is_free c ≡ false
   role_used other = go c (λ e. other (is ∙ e))
     where
       go : (d : Content Capability) → (role_of d ≡ role.Free → ⊥) → is_free d ≡ false
       go content.Free e = absurd (e refl)
-      go (content.Page words) e = refl
-      go (content.Node slots) e = refl
-      go (content.Root root) e = refl
-      go (content.Annex registers) e = refl
-      go (content.Bank limit) e = refl
+      go other e = refl

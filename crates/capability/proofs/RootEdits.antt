@@ -15,12 +15,8 @@ GoesThrough change after f = (r : Root Cap) → map_content f (content.Root (cha
 pub through_map : (change : Root Cap → Root Cap) (after : Root Capability → Root Capability) (f : Cap → Capability) → GoesThrough change after f →
     (c : Content Cap) →
     is_root (map_content f c) ≡ true → map_content f (with_root_in change c) ≡ content.Root (after (root_in (map_content f c)))
-through_map change after f through content.Free is = cc
-through_map change after f through (content.Page ws) is = cc
-through_map change after f through (content.Node slots) is = cc
 through_map change after f through (content.Root r) is = through r
-through_map change after f through (content.Annex registers) is = cc
-through_map change after f through (content.Bank limit) is = cc
+through_map change after f through other is = cc
 
 pub root_current : (hs : List ObjectHeader) (change : Root Cap → Root Cap) → ((r : Root Cap) → IsCurrent hs r.space → IsCurrent hs (change r).space) →
     (c : Content Cap) →
@@ -65,8 +61,3 @@ pub space_kept : (g : Geometry) (age : ℕ) (hs : List ObjectHeader) (w : Capabi
     MayBeKept g age (content.Root r) → MayBeKept g age (content.Root (record r { space = held }))
 space_kept g age hs w held is kept space r k =
     (k.0, k.1, k.2, subst (IsKeptCap g age) (sym is) kept, subst (λ (c : Cap). IsSpace c.what) (sym is) space)
-
--- the parts once the root at a number is a changed one
-pub root_put : (p q : Parts) (n : ℕ) (r : Root Cap) (change : Root Cap → Root Cap) → q ≡ with_held p n (with_root_in (λ old. change r) (held_at p.contents n)) →
-    held_at p.contents n ≡ content.Root r → q ≡ with_held p n (with_root_in change (held_at p.contents n))
-root_put p q n r change is held = is ∙ ap (with_held p n) (ap (with_root_in (λ old. change r)) held ∙ sym (ap (with_root_in change) held))

@@ -1,12 +1,21 @@
 -- The delivery of a message.
 use Rattle.capability.specs.Names.{ℕ, List, [], Cap, Capability, ObjectHeader, Content, Object, Root, Running}
 use Rattle.capability.specs.Names.{current_count, root_at, with_root, with_slot_in}
-use Rattle.std.specs.Prelude.{◌+◌, ◌∷◌}
+use Rattle.std.specs.Prelude.{◌+◌, ◌∷◌, slice_set}
 use Rattle.model.specs.declared.object.Content.TheVariants as content
+use Rattle.capability.specs.declared.present.RootChange.{RootChange}
+use Rattle.capability.specs.declared.present.RootChange.TheVariants as change
 
 -- the objects with words and a key given to a process, which runs
 abbrev pub with_message : List Object → ℕ → List ℕ → ℕ → List Object
 with_message os p words key = with_root os p (record (root_at os p) { state = Running; words = words; key = key })
+
+-- a root after a change
+abbrev pub changed_root : RootChange → Root Cap → Root Cap
+changed_root (change.State state) root = record root { state = state }
+changed_root (change.Word index word) root = record root { words = slice_set root.words index word }
+changed_root (change.Space space) root = record root { space = space }
+changed_root (change.Message words key) root = record root { state = Running; words = words; key = key }
 
 -- a content whose root is changed, where it is one
 abbrev pub with_root_in : {C : Type 0} → (Root C → Root C) → Content C → Content C

@@ -12,9 +12,8 @@ ghost use Rattle.capability.specs.Objects.{live_cap, with_message};
 ghost use Rattle.capability.specs.Parts.{AreGivenUp, Edits, FreshFits, IsFreshAt, IsOnce, KeepsRest};
 ghost use Rattle.capability.specs.Parts.{frames_of, fresh_content, objects_in};
 
-use crate::present::{Frames, Fresh, PresentFrames};
-use crate::roots::root;
-use model::{Cap, Capability, ContentRef, Message, Role, Root, State};
+use crate::present::{Frames, Fresh, PresentFrames, RootChange};
+use model::{Cap, Capability, ContentRef, Message, Role};
 
 /// The word of a fetched page, or 0 if the object is no page.
 pub fn word<F: Frames>(store: &F, number: u64, index: usize) -> u64
@@ -153,16 +152,7 @@ pub fn set_message<F: PresentFrames>(store: &mut F, process: u64, words: [u64; 4
         (λ age. Unit {0}) }
 {
     are_root_words(&words);
-    let root = root(store, process);
-    store.set_root(
-        process,
-        Root {
-            state: State::Running,
-            words,
-            key,
-            ..root
-        },
-    );
+    store.change_root(process, RootChange::Message { words, key });
 }
 
 /// Makes a free number, fetched and announced, a new object of a bank (EROS: a space bank's

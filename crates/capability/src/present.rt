@@ -6,13 +6,13 @@ ghost use Rattle.model.specs.Machine.{touching, touched_count};
 ghost use Rattle.model.specs.Frame.{content_behind, header_at, held_at, void_held, given_up, owned_by, called, claimed};
 ghost use Rattle.model.specs.Keepable.{AreKeepable};
 ghost use Rattle.model.specs.Object.{role_of, with_slot_in, with_word_in};
-ghost use Rattle.capability.specs.Objects.{with_root_in, with_slots_in};
+ghost use Rattle.capability.specs.Objects.{changed_root, with_root_in, with_slots_in};
 ghost use Rattle.capability.specs.Parts.{Parts, frames_of, with_header, with_held, with_both, fresh_content, IsFreshAt};
 ghost use Rattle.capability.specs.Parts.{Becomes, OnlyFetches};
 
 use crate::table::ObjectTable;
 use device::Failed;
-use model::{Cap, ContentRef, Geometry, Role, Root};
+use model::{Cap, ContentRef, Geometry, Role, Root, State};
 use std::alloc::AllocError;
 
 /// How many frames can be fetched at a time.
@@ -83,6 +83,42 @@ pub enum Fresh {
     Bank {
         limit: u64,
     },
+}
+
+/// A change of a process's root.
+#[derive(Clone, Copy, Debug)]
+pub enum RootChange {
+    /// The state.
+    State(State),
+    /// One of the words received last, if there is one at the index.
+    Word { index: usize, word: u64 },
+    /// The address space.
+    Space(Cap),
+    /// The words and the key of a message: the process runs from then on.
+    Message { words: [u64; 4], key: u16 },
+}
+
+impl RootChange {
+    /// Makes the change.
+    #[inline(always)]
+    pub fn make(self, root: &mut Root<Cap>)
+        ensures { root.new ≡ changed_root self root.old }
+    {
+        match self {
+            RootChange::State(state) => root.state = state,
+            RootChange::Word { index, word } => {
+                if index < root.words.len() {
+                    root.words[index] = word;
+                }
+            }
+            RootChange::Space(space) => root.space = space,
+            RootChange::Message { words, key } => {
+                root.state = State::Running;
+                root.words = words;
+                root.key = key;
+            }
+        }
+    }
 }
 
 /// The objects as they are now, to be read.
@@ -196,13 +232,13 @@ pub trait PresentFrames: Frames {
             (with_held (Self.parts self.old) number
             (with_slots_in (held_at (Self.parts self.old).contents number) 28 held)) };
 
-    /// Replaces the root of a process. Any other body stays.
-    fn set_root(&mut self, process: u64, root: Root<Cap>)
+    /// Changes the root of a process. Any other body stays.
+    fn change_root(&mut self, process: u64, change: RootChange)
         requires fetched { Self.IsFetched self.old process }
         requires announced { IsAnnounced self.old process }
         ensures { Becomes Self.parts Self.IsFetched IsAnnounced Self.ContinuesTo self.old self.new
             (with_held (Self.parts self.old) process
-            (with_root_in (λ r. root) (held_at (Self.parts self.old).contents process))) };
+            (with_root_in (changed_root change) (held_at (Self.parts self.old).contents process))) };
 
     /// Makes a free number an object. Its counts stay.
     fn claim(&mut self, number: u64, fresh: Fresh, owner: u64)

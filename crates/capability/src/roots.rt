@@ -1,7 +1,5 @@
 // The roots of processes, read and changed as the definitions see them.
 ghost use Rattle.std.specs.Prelude.{◌≡◌, ◌<◌, ℕ, IsTrue, slice_index};
-ghost use Rattle.model.specs.declared.object.Content.TheVariants as content;
-ghost use Rattle.model.specs.Frame.{held_at};
 ghost use Rattle.model.specs.Keepable.{IsKeptCap};
 ghost use Rattle.model.specs.Order.{with_root_word, with_space};
 ghost use Rattle.model.specs.Sound.{IsSpace};
@@ -9,8 +7,8 @@ ghost use Rattle.model.specs.World.{root_at, is_process, is_running_process, wit
 ghost use Rattle.capability.specs.Objects.{live_cap};
 ghost use Rattle.capability.specs.Parts.{Edits, HaveTheirRoles, frames_of, objects_in};
 
-use crate::present::{Frames, PresentFrames};
-use model::{Cap, Capability, ContentRef, Role, Root, State};
+use crate::present::{Frames, PresentFrames, RootChange};
+use model::{Capability, ContentRef, Role, State};
 
 /// Whether a number is that of a process, by its role in the table: it needn't be fetched.
 pub fn is_process<F: Frames>(store: &F, number: u64) -> bool
@@ -18,24 +16,6 @@ pub fn is_process<F: Frames>(store: &F, number: u64) -> bool
     ensures { result ≡ is_process (objects_in (F.parts store.now)) number }
 {
     matches!(store.table().header(number).role, Role::Root)
-}
-
-/// A copy of the root of a process. The root must be fetched.
-pub fn root<F: Frames>(store: &F, process: u64) -> Root<Cap>
-    requires fetched { F.IsFetched store.now process }
-    requires process { IsTrue (is_process (objects_in (F.parts store.now)) process) }
-    ensures { held_at (F.parts store.now).contents process ≡ content.Root result }
-{
-    match store.frame(process) {
-        ContentRef::Root(root) => Root {
-            state: root.state,
-            words: root.words,
-            key: root.key,
-            annex: root.annex,
-            space: root.space,
-        },
-        _ => unreachable!(),
-    }
 }
 
 /// A word that a process was last delivered. Its root is fetched.
@@ -111,9 +91,7 @@ pub fn set_word<F: PresentFrames>(store: &mut F, process: u64, index: usize, wor
         (with_root_word (root_at (objects_in (F.parts store.old)) process) index word))
         (λ age. Unit {0}) }
 {
-    let mut root = root(store, process);
-    root.words[index] = word;
-    store.set_root(process, root);
+    store.change_root(process, RootChange::Word { index, word });
 }
 
 /// Puts a process, whose root is fetched and announced, into a state.
@@ -125,8 +103,7 @@ pub fn set_state<F: PresentFrames>(store: &mut F, process: u64, state: State)
         (with_state (objects_in (F.parts store.old)) process state)
         (λ age. Unit {0}) }
 {
-    let root = root(store, process);
-    store.set_root(process, Root { state, ..root });
+    store.change_root(process, RootChange::State(state));
 }
 
 /// Gives a process, whose root is fetched and announced, an address space, live.
@@ -141,12 +118,5 @@ pub fn set_space<F: PresentFrames>(store: &mut F, process: u64, capability: Capa
         × IsSpace capability) }
 {
     let held = store.table().live_cap(capability);
-    let root = root(store, process);
-    store.set_root(
-        process,
-        Root {
-            space: held,
-            ..root
-        },
-    );
+    store.change_root(process, RootChange::Space(held));
 }

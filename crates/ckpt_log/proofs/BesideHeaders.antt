@@ -9,7 +9,7 @@ pub sequences_reported : SequencesAreReported
 sequences_reported h fits = sequence_of h fits
 
 pub next_follows : NextFollows
-next_follows image room h next is commits after = let more = next_fits room h is in precedes image h next commits (omega (arith, more)) after
+next_follows image room h next is commits after = let more = next_fits is in precedes image h next commits (omega (arith, more)) after
 
 pub spare_sectors : HeadersSpareSectors
 spare_sectors old new h at n behind e = (e.before 0 (omega arith), λ i lt. e.after (at + i) (omega (arith, behind)))

@@ -11,22 +11,22 @@ use Rattle.ckpt_log.proofs.Winners.{belongs, counts_if, opened, slot_of_image}
 -- ---- of two slots
 
 -- The first has the lesser number, and neither begins to count. Where it still counts, the second is unchanged.
-first_in_turn : (first second first_was second_was : Bool) (m n : ℕ) → nat_lt m n ≡ true → (first ≡ true → first_was ≡ true) →
+first_in_turn : (first second first_was : Bool) {second_was : Bool} (m n : ℕ) → nat_lt m n ≡ true → (first ≡ true → first_was ≡ true) →
     (second ≡ true → second_was ≡ true) → (first ≡ true → second ≡ second_was)
     → (committed_of first m second n ≡ committed_of first_was m second_was n) ⊎ (committed_of first m second n ≡ None)
-first_in_turn true second first_was second_was m n lt was was_second same = inl (rw (was refl, same refl) refl)
-first_in_turn false true true second_was m n lt was was_second same = inl (rw (was_second refl, lt) refl)
-first_in_turn false true false second_was m n lt was was_second same = inl (rw (was_second refl) refl)
-first_in_turn false false first_was second_was m n lt was was_second same = inr refl
+first_in_turn true second first_was m n lt was was_second same = inl (rw (was refl, same refl) refl)
+first_in_turn false true true m n lt was was_second same = inl (rw (was_second refl, lt) refl)
+first_in_turn false true false m n lt was was_second same = inl (rw (was_second refl) refl)
+first_in_turn false false first_was m n lt was was_second same = inr refl
 
 -- so it is the other way round
-second_in_turn : (first second first_was second_was : Bool) (m n : ℕ) → nat_lt m n ≡ false → (first ≡ true → first_was ≡ true) →
+second_in_turn : (first second : Bool) {first_was : Bool} (second_was : Bool) (m n : ℕ) → nat_lt m n ≡ false → (first ≡ true → first_was ≡ true) →
     (second ≡ true → second_was ≡ true) → (second ≡ true → first ≡ first_was)
     → (committed_of first m second n ≡ committed_of first_was m second_was n) ⊎ (committed_of first m second n ≡ None)
-second_in_turn first true first_was second_was m n lt was was_second same = inl (rw (was_second refl, same refl) refl)
-second_in_turn true false first_was true m n lt was was_second same = inl (rw (was refl, lt) refl)
-second_in_turn true false first_was false m n lt was was_second same = inl (rw (was refl) refl)
-second_in_turn false false first_was second_was m n lt was was_second same = inr refl
+second_in_turn first true second_was m n lt was was_second same = inl (rw (was_second refl, same refl) refl)
+second_in_turn true false true m n lt was was_second same = inl (rw (was refl, lt) refl)
+second_in_turn true false false m n lt was was_second same = inl (rw (was refl) refl)
+second_in_turn false false second_was m n lt was was_second same = inr refl
 
 -- ---- an image whose gates alone change
 
@@ -36,10 +36,9 @@ OpensNoMore gate old new = is_open (new gate) ≡ true → is_open (old gate) �
 
 counts_no_more : (header old_gate new_gate : List ℕ) (slot : ℕ) → (is_open new_gate ≡ true → is_open old_gate ≡ true) → does_count header new_gate slot ≡ true →
     does_count header old_gate slot ≡ true
-counts_no_more header old_gate new_gate slot was counts = counts_if header old_gate slot (was (opened header new_gate slot counts))
-    (belongs header new_gate slot counts)
+counts_no_more header old_gate new_gate slot was counts = counts_if header old_gate (was (opened header new_gate slot counts)) (belongs header new_gate counts)
 
-module _ (old new : Image) (elsewhere : SparesRest old new) (first : OpensNoMore 2 old new) (second : OpensNoMore 4 old new) where
+module _ {old new : Image} (elsewhere : SparesRest old new) (first : OpensNoMore 2 old new) (second : OpensNoMore 4 old new) where
   one : new 1 ≡ old 1
   one = elsewhere 1 (λ is. omega (arith, is)) (λ is. omega (arith, is))
 
@@ -50,7 +49,7 @@ module _ (old new : Image) (elsewhere : SparesRest old new) (first : OpensNoMore
   same_header None is = refl
   same_header (Some zero) is = ap (λ (b : List ℕ). Some b) one
   same_header (Some (suc zero)) is = ap (λ (b : List ℕ). Some b) three
-  same_header (Some (suc (suc k))) is = let two = slot_of_image old (suc (suc k)) is in absurd (omega (arith, two))
+  same_header (Some (suc (suc k))) is = let two = slot_of_image old is in absurd (omega (arith, two))
 
   kept_or_none : (committed_slot new ≡ committed_slot old) ⊎ (committed_slot new ≡ None) → KeepsOrHasNone old new
   kept_or_none (inl same) = record { elsewhere = elsewhere; committed = inl (ap (option_at new) same ∙ same_header (committed_slot old) refl) }
@@ -58,33 +57,31 @@ module _ (old new : Image) (elsewhere : SparesRest old new) (first : OpensNoMore
 
   pub first_is_lesser : nat_lt (sequence_in (old 1)) (sequence_in (old 3)) ≡ true → (is_open (new 2) ≡ true → new 4 ≡ old 4) → KeepsOrHasNone old new
   first_is_lesser lt same =
-      let step = first_in_turn (does_count (old 1) (new 2) 0) (does_count (old 3) (new 4) 1) (does_count (old 1) (old 2) 0) (does_count (old 3) (old 4) 1)
-      (sequence_in (old 1)) (sequence_in (old 3)) lt
-      (counts_no_more (old 1) (old 2) (new 2) 0 first) (counts_no_more (old 3) (old 4) (new 4) 1 second)
+      let step = first_in_turn (does_count (old 1) (new 2) 0) (does_count (old 3) (new 4) 1) (does_count (old 1) (old 2) 0)
+      (sequence_in (old 1)) (sequence_in (old 3)) lt (counts_no_more (old 1) (old 2) (new 2) 0 first) (counts_no_more (old 3) (old 4) (new 4) 1 second)
       (λ counts. ap (λ (b : List ℕ). does_count (old 3) b 1) (same (opened (old 1) (new 2) 0 counts))) in
       kept_or_none (rw (one, three) step)
 
   pub second_is_lesser : nat_lt (sequence_in (old 1)) (sequence_in (old 3)) ≡ false → (is_open (new 4) ≡ true → new 2 ≡ old 2) → KeepsOrHasNone old new
   second_is_lesser lt same =
-      let step = second_in_turn (does_count (old 1) (new 2) 0) (does_count (old 3) (new 4) 1) (does_count (old 1) (old 2) 0) (does_count (old 3) (old 4) 1)
-      (sequence_in (old 1)) (sequence_in (old 3)) lt
-      (counts_no_more (old 1) (old 2) (new 2) 0 first) (counts_no_more (old 3) (old 4) (new 4) 1 second)
+      let step = second_in_turn (does_count (old 1) (new 2) 0) (does_count (old 3) (new 4) 1) (does_count (old 3) (old 4) 1)
+      (sequence_in (old 1)) (sequence_in (old 3)) lt (counts_no_more (old 1) (old 2) (new 2) 0 first) (counts_no_more (old 3) (old 4) (new 4) 1 second)
       (λ counts. ap (λ (b : List ℕ). does_count (old 1) b 0) (same (opened (old 3) (new 4) 1 counts))) in
       kept_or_none (rw (one, three) step)
 
 -- ---- what a closing leaves
 
 -- a gate that is closed stays so, and one that is open may be torn
-opens_by : (b : Bool) (gate : ℕ) (old new : Image) → is_open (old gate) ≡ b → (is_open (old gate) ≡ false → Agrees new old) → OpensNoMore gate old new
-opens_by true gate old new is same open' = is
-opens_by false gate old new is same open' = ap is_open (sym (same is gate)) ∙ open'
+opens_by : (b : Bool) (gate : ℕ) {old new : Image} → is_open (old gate) ≡ b → (is_open (old gate) ≡ false → Agrees new old) → OpensNoMore gate old new
+opens_by true gate is same open' = is
+opens_by false gate is same open' = ap is_open (sym (same is gate)) ∙ open'
 
-opens_no_more : (gate : ℕ) (old new : Image) → (is_open (old gate) ≡ false → Agrees new old) → OpensNoMore gate old new
-opens_no_more gate old new same = opens_by (is_open (old gate)) gate old new refl same
+opens_no_more : (gate : ℕ) {old new : Image} → (is_open (old gate) ≡ false → Agrees new old) → OpensNoMore gate old new
+opens_no_more gate {old} {new} same = opens_by (is_open (old gate)) gate refl same
 
 -- one sector is touched
-beside : (gate : ℕ) (old new : Image) → Elsewhere gate 1 old new → (i : ℕ) → (i ≡ gate → ⊥) → new i ≡ old i
-beside gate old new change i other = ⊎_elim (λ lt. change.before i lt) (λ le. change.after i (omega (arith, le, other))) (cases_lt i gate)
+beside : {gate : ℕ} {old new : Image} → Elsewhere gate 1 old new → {i : ℕ} → (i ≡ gate → ⊥) → new i ≡ old i
+beside {gate} change {i} other = ⊎_elim (λ lt. change.before i lt) (λ le. change.after i (omega (arith, le, other))) (cases_lt i gate)
 
 -- closed by what closes it
 shut_by : (b : Bool) (bytes : List ℕ) → is_open bytes ≡ b → is_open (if b then gate_bytes Closed else bytes) ≡ false
@@ -95,81 +92,77 @@ pub is_shut : (bytes : List ℕ) → is_open (closed_gate bytes) ≡ false
 is_shut bytes = shut_by (is_open bytes) bytes refl
 
 -- while the first is closed
-pub closing_first : (lesser greater : ℕ) (old c : Image) → AreInTurn old lesser greater → Elsewhere lesser 1 old c →
+pub closing_first : {lesser greater : ℕ} {old c : Image} → AreInTurn old lesser greater → Elsewhere lesser 1 old c →
     (is_open (old lesser) ≡ false → Agrees c old) → KeepsOrHasNone old c
-closing_first lesser greater old c (inl turn) change same =
+closing_first {old} {c} (inl turn) change same =
     let change_two = rw turn.0 at change in
     let same_two = rw turn.0 at same in
     let four : c 4 ≡ old 4 = change_two.after 4 (omega arith) in
-    first_is_lesser old c (λ i two _. beside 2 old c change_two i two) (opens_no_more 2 old c same_two) (λ open'. ap is_open (sym four) ∙ open') turn.2
-    (λ _. four)
-closing_first lesser greater old c (inr turn) change same =
+    first_is_lesser (λ i two _. beside change_two two) (opens_no_more 2 same_two) (λ open'. ap is_open (sym four) ∙ open') turn.2 (λ _. four)
+closing_first {old} {c} (inr turn) change same =
     let change_four = rw turn.0 at change in
     let same_four = rw turn.0 at same in
     let two : c 2 ≡ old 2 = change_four.before 2 (omega arith) in
-    second_is_lesser old c (λ i _ four. beside 4 old c change_four i four) (λ open'. ap is_open (sym two) ∙ open') (opens_no_more 4 old c same_four) turn.2
-    (λ _. two)
+    second_is_lesser (λ i _ four. beside change_four four) (λ open'. ap is_open (sym two) ∙ open') (opens_no_more 4 same_four) turn.2 (λ _. two)
 
 never_open : {A : Type 0} (bytes : List ℕ) → is_open bytes ≡ false → is_open bytes ≡ true → A
 never_open bytes shut open' = let never : false ≡ true = sym shut ∙ open' in cc
 
 -- and while the second is closed, the first being closed
-pub closing_second : (lesser greater : ℕ) (old mid c : Image) → AreInTurn old lesser greater → Elsewhere lesser 1 old mid → is_open (mid lesser) ≡ false
+pub closing_second : {lesser greater : ℕ} {old mid c : Image} → AreInTurn old lesser greater → Elsewhere lesser 1 old mid → is_open (mid lesser) ≡ false
     → Elsewhere greater 1 mid c → (is_open (mid greater) ≡ false → Agrees c mid) → KeepsOrHasNone old c
-closing_second lesser greater old mid c (inl turn) first shut change same =
+closing_second {old} {mid} {c} (inl turn) first shut change same =
     let first_two = rw turn.0 at first in
     let shut_two = rw turn.0 at shut in
     let change_four = rw turn.1 at change in
     let same_four = rw turn.1 at same in
     let two : is_open (c 2) ≡ false = ap is_open (change_four.before 2 (omega arith)) ∙ shut_two in
     let four : mid 4 ≡ old 4 = first_two.after 4 (omega arith) in
-    first_is_lesser old c (λ i not_two not_four. beside 4 mid c change_four i not_four ∙ beside 2 old mid first_two i not_two)
-    (λ open'. never_open (c 2) two open') (λ open'. ap is_open (sym four) ∙ opens_no_more 4 mid c same_four open') turn.2 (λ open'. never_open (c 2) two open')
-closing_second lesser greater old mid c (inr turn) first shut change same =
+    first_is_lesser (λ i not_two not_four. beside change_four not_four ∙ beside first_two not_two)
+    (λ open'. never_open (c 2) two open') (λ open'. ap is_open (sym four) ∙ opens_no_more 4 same_four open') turn.2 (λ open'. never_open (c 2) two open')
+closing_second {old} {mid} {c} (inr turn) first shut change same =
     let first_four = rw turn.0 at first in
     let shut_four = rw turn.0 at shut in
     let change_two = rw turn.1 at change in
     let same_two = rw turn.1 at same in
     let four : is_open (c 4) ≡ false = ap is_open (change_two.after 4 (omega arith)) ∙ shut_four in
     let two : mid 2 ≡ old 2 = first_four.before 2 (omega arith) in
-    second_is_lesser old c (λ i not_two not_four. beside 2 mid c change_two i not_two ∙ beside 4 old mid first_four i not_four)
-    (λ open'. ap is_open (sym two) ∙ opens_no_more 2 mid c same_two open') (λ open'. never_open (c 4) four open') turn.2 (λ open'. never_open (c 4) four open')
+    second_is_lesser (λ i not_two not_four. beside change_two not_two ∙ beside first_four not_four)
+    (λ open'. ap is_open (sym two) ∙ opens_no_more 2 same_two open') (λ open'. never_open (c 4) four open') turn.2 (λ open'. never_open (c 4) four open')
 
 -- nothing was touched
-pub untouched : (image : Image) → KeepsOrHasNone image image
-untouched image = record { elsewhere = λ i _ _. refl; committed = inl refl }
+pub untouched : {image : Image} → KeepsOrHasNone image image
+untouched = record { elsewhere = λ i _ _. refl; committed = inl refl }
 
 -- where both are closed no header is committed
-none_of : (first second : Bool) (m n : ℕ) → first ≡ false → second ≡ false → committed_of first m second n ≡ None
-none_of first second m n not_first not_second = rw (not_first, not_second) refl
+none_of : {first second : Bool} (m n : ℕ) → first ≡ false → second ≡ false → committed_of first m second n ≡ None
+none_of m n not_first not_second = rw (not_first, not_second) refl
 
 pub none_committed : (image : Image) → AreClosed image → HasNoHeader image
 none_committed image shut =
-    none_of (does_count (image 1) (image 2) 0) (does_count (image 3) (image 4) 1) (sequence_in (image 1)) (sequence_in (image 3))
+    none_of (sequence_in (image 1)) (sequence_in (image 3))
     (ap (λ (b : Bool). b && (sequence_in (image 1) % 2 == 0)) shut.first) (ap (λ (b : Bool). b && (sequence_in (image 3) % 2 == 1)) shut.second)
 
 -- ---- at each moment
 
 -- while the first is closed
-pub first_run : (lesser greater : ℕ) (image : Image) {old new : Disk} → AreInTurn image lesser greater → LeavesOnly old new (λ c. IsClosing lesser image c) →
+pub first_run : {lesser greater : ℕ} {image : Image} {old new : Disk} → AreInTurn image lesser greater → LeavesOnly old new (λ c. IsClosing lesser image c) →
     LeavesOnly old new (λ c. KeepsOrHasNone image c)
-first_run lesser greater image {old} {new} turn run =
-    leaves_weaker {old = old} {new = new} {P = λ c. IsClosing lesser image c} (λ c. KeepsOrHasNone image c)
-    (λ c is. closing_first lesser greater image c turn is.0 is.1) run
+first_run {lesser} {greater} {image} {old} {new} turn run =
+    leaves_weaker {old = old} {new = new} {P = λ c. IsClosing lesser image c} (λ c. KeepsOrHasNone image c) (λ c is. closing_first turn is.0 is.1) run
 
 -- and then the second
-pub second_run : (lesser greater : ℕ) (image mid_image : Image) {old mid new : Disk} → AreInTurn image lesser greater → Elsewhere lesser 1 image mid_image →
-    is_open (mid_image lesser) ≡ false
-    → LeavesOnly old mid (λ c. KeepsOrHasNone image c) → LeavesOnly mid new (λ c. IsClosing greater mid_image c) →
+pub second_run : {lesser greater : ℕ} {image mid_image : Image} {old mid new : Disk} → AreInTurn image lesser greater → Elsewhere lesser 1 image mid_image →
+    is_open (mid_image lesser) ≡ false → LeavesOnly old mid (λ c. KeepsOrHasNone image c) → LeavesOnly mid new (λ c. IsClosing greater mid_image c) →
     LeavesOnly old new (λ c. KeepsOrHasNone image c)
-second_run lesser greater image mid_image {old} {mid} {new} turn change shut first second =
+second_run {lesser} {greater} {image} {mid_image} {old} {mid} {new} turn change shut first second =
     leaves_on {old = old} {mid = mid} {new = new} {P = λ c. KeepsOrHasNone image c} first
     (leaves_weaker {old = mid} {new = new} {P = λ c. IsClosing greater mid_image c} (λ c. KeepsOrHasNone image c)
-    (λ c is. closing_second lesser greater image mid_image c turn change shut is.0 is.1) second)
+    (λ c is. closing_second turn change shut is.0 is.1) second)
 
 -- a sync, which may fail, and reads
 pub peek_run : {old new : Disk} → Peeks old new → LeavesOnly old new (λ c. WasKeptOrHasNone old c)
-peek_run {old} {new} run = leaves_weaker {old = old} {new = new} {P = old.may_leave} (λ c. WasKeptOrHasNone old c) (λ c left. (c, left, untouched c)) run
+peek_run {old} {new} run = leaves_weaker {old = old} {new = new} {P = old.may_leave} (λ c. WasKeptOrHasNone old c) (λ c left. (c, left, untouched)) run
 
 -- and what closes the gates after them
 pub closing_run : {old mid new : Disk} → old.may_leave old.seen → Agrees mid.seen old.seen

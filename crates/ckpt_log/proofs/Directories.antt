@@ -22,15 +22,15 @@ nothing_behind : (image : Image) (at : ℕ) → drop (16 * 0) (sectors_from imag
 unfolding sectors_from
 nothing_behind image at = refl
 
-pub none_behind : (image : Image) (at n : ℕ) → n ≡ 0 → drop (16 * n) (sectors_from image at (directory_length n)) ≡ replicate
+pub none_behind : (image : Image) (at : ℕ) {n : ℕ} → n ≡ 0 → drop (16 * n) (sectors_from image at (directory_length n)) ≡ replicate
     (512 * directory_length n - 16 * n) 0
-none_behind image at n none = rw none (nothing_behind image at)
+none_behind image at none = rw none (nothing_behind image at)
 
 -- behind the entries of one that is written over zeros there are zeros
-pub zeros_behind : (image : Image) (at n : ℕ) (run : List ℕ) → n ≤ 4096 → sectors_from image at ((n + 32 - 1) / 32) ≡ run
+pub zeros_behind : (image : Image) (at : ℕ) {n : ℕ} {run : List ℕ} → n ≤ 4096 → sectors_from image at ((n + 32 - 1) / 32) ≡ run
     → drop (16 * n) run ≡ drop (16 * n) (take (512 * ((n + 32 - 1) / 32)) (replicate 65536 0)) →
     drop (16 * n) (sectors_from image at (directory_length n)) ≡ replicate (512 * directory_length n - 16 * n) 0
-zeros_behind image at n run few written rest =
+zeros_behind image at {n} few written rest =
     let same : (n + 32 - 1) / 32 ≡ directory_length n = omega arith in
     subst (λ (k : ℕ). drop (16 * n) (sectors_from image at k) ≡ replicate (512 * k - 16 * n) 0) same
     (ap (drop (16 * n)) written ∙ rest

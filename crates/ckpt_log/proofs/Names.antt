@@ -1,7 +1,7 @@
 -- The names that the proofs here cite: of other crates, and of the definitions of this one.
 pub use Rattle.device.proofs.Images.{agrees_is, elsewhere_on, elsewhere_same}
 pub use Rattle.device.proofs.Moments.{CountsNow, OnlyNow, ends, in_one_call, leaves_on, leaves_weaker}
-pub use Rattle.device.specs.Calls.{Agrees, AreSectors, Elsewhere, Narrows, Only, sectors_of}
+pub use Rattle.device.specs.Calls.{Agrees, AreSectors, Elsewhere, Narrows, sectors_of}
 pub use Rattle.device.specs.Disk.{Disk, Image}
 pub use Rattle.device.specs.Moments.{Elapses, LeavesOnly, Peeks}
 pub use Rattle.frame_io.specs.Frames.{IsRefused}
@@ -20,7 +20,7 @@ pub use Rattle.layout.specs.Frame.{IsFrameOf, frame_bytes}
 pub use Rattle.layout.specs.Gate.{gate_bytes, is_open}
 pub use Rattle.layout.specs.Header.{IsHeader}
 unfoldable pub use Rattle.layout.specs.Header.{header_bytes}
-pub use Rattle.layout.specs.Homes.{home_place, place_length, shape_of}
+pub use Rattle.layout.specs.Homes.{place_length, shape_of}
 pub use Rattle.layout.specs.Image.{Encodes, HasDirectory, HasHeader, HasNoHeader, SavedState, committed_bytes, committed_of, committed_slot, directory_in}
 pub use Rattle.layout.specs.Image.{directory_length, directory_sector, does_count, frame_sector, frame_slot_in, half_sector, option_at, sector_or, sequence_in}
 pub use Rattle.layout.specs.Image.{slot_sector}

@@ -1,79 +1,75 @@
 -- What a crash leaves in the course of a commit.
-use Rattle.ckpt_log.proofs.Names.{ℕ, false, inl, inr, refl, sym, ap, subst, CheckpointHeader, is_open, header_bytes, committed_bytes, Image, Disk, Agrees}
-use Rattle.ckpt_log.proofs.Names.{Elsewhere, Narrows, Only, Elapses, LeavesOnly, Peeks, agrees_is, elsewhere_same, OnlyNow, CountsNow, in_one_call}
-use Rattle.ckpt_log.proofs.Names.{leaves_weaker, leaves_on, ends, header_sector, gate_sector, IsInOrder, IsInOrderAfter, CommitsOne, Precedes, KeepsHeader}
-use Rattle.ckpt_log.proofs.Names.{HasNew, IsOldOrNew, IsOld}
-use Rattle.std.proofs.Common.{◌≡◌, ◌<◌, ◌^◌, ◌⊎◌, ◌∙◌}
+use Rattle.ckpt_log.proofs.Names.{ℕ, false, inl, inr, refl, subst, CheckpointHeader, is_open, header_bytes, Image, Disk, Agrees, Elsewhere, Narrows, Elapses}
+use Rattle.ckpt_log.proofs.Names.{LeavesOnly, agrees_is, elsewhere_same, OnlyNow, in_one_call, leaves_weaker, leaves_on, header_sector, gate_sector, IsInOrder}
+use Rattle.ckpt_log.proofs.Names.{IsInOrderAfter, CommitsOne, Precedes, KeepsHeader, HasNew, IsOldOrNew, IsOld}
+use Rattle.std.proofs.Common.{◌≡◌, ◌<◌, ◌^◌, ◌⊎◌}
 use Rattle.ckpt_log.proofs.Commits.{closing_keeps, either_on, header_keeps, opening, precedes_on, keeps_on}
 
 -- what a crash leaves while a gate is closed where it is open
 abbrev pub IsClosing : ℕ → Image → Image → Type 0
 IsClosing at old c = Elsewhere at 1 old c × (is_open (old at) ≡ false → Agrees c old)
 
-pub closing_run : (h : CheckpointHeader) (at : ℕ) (image : Image) {old new : Disk} → at ≡ gate_sector h → Precedes image h
+pub closing_run : {h : CheckpointHeader} {at : ℕ} {image : Image} {old new : Disk} → at ≡ gate_sector h → Precedes image h
     → LeavesOnly old new (λ c. IsClosing at image c) → LeavesOnly old new (λ c. KeepsHeader h image c)
-closing_run h at image {old} {new} place next run =
+closing_run {h} {at} {image} {old} {new} place next run =
     leaves_weaker {old = old} {new = new} {P = λ c. IsClosing at image c} (λ c. KeepsHeader h image c)
-    (λ c is. let here : IsClosing (gate_sector h) image c = subst (λ (i : ℕ). IsClosing i image c) place is in closing_keeps h image c next here.0 here.1) run
+    (λ c is. let here : IsClosing (gate_sector h) image c = subst (λ (i : ℕ). IsClosing i image c) place is in closing_keeps next here.0 here.1) run
 
 -- a header is written under a closed gate, after a run that keeps the committed one
-pub header_run : (h : CheckpointHeader) (at : ℕ) (image mid_image : Image) {old mid new : Disk} → at ≡ header_sector h → Precedes image h
+pub header_run : {h : CheckpointHeader} {at : ℕ} {image mid_image : Image} {old mid new : Disk} → at ≡ header_sector h → Precedes image h
     → KeepsHeader h image mid_image → is_open (mid_image (gate_sector h)) ≡ false
     → LeavesOnly old mid (λ c. KeepsHeader h image c) → LeavesOnly mid new (λ c. Elsewhere at 1 mid_image c) → LeavesOnly old new (λ c. KeepsHeader h image c)
-header_run h at image mid_image {old} {mid} {new} place next kept closed first second =
+header_run {h} {at} {image} {mid_image} {old} {mid} {new} place next kept closed first second =
     leaves_on {old = old} {mid = mid} {new = new} {P = λ c. KeepsHeader h image c} first
-    (leaves_weaker {old = mid} {new = new} {P = λ c. Elsewhere at 1 mid_image c} (λ c. KeepsHeader h image c)
-    (λ c is. keeps_on h image mid_image c kept
-    (header_keeps h mid_image c (precedes_on h image mid_image next kept) closed (subst (λ (i : ℕ). Elsewhere i 1 mid_image c) place is))) second)
+    (leaves_weaker {old = mid} {new = new} {P = λ c. Elsewhere at 1 mid_image c} (λ c. KeepsHeader h image c) (λ c is. keeps_on kept
+    (header_keeps (precedes_on next kept) closed (subst (λ (i : ℕ). Elsewhere i 1 mid_image c) place is))) second)
 
 -- the gate is opened
-pub opening_run : (h : CheckpointHeader) (at : ℕ) (image : Image) {old new : Disk} → at ≡ gate_sector h → h.sequence < 2 ^ 64 → Precedes image h →
-    image (header_sector h) ≡ header_bytes h
-    → LeavesOnly old new (λ c. Elsewhere at 1 image c) → LeavesOnly old new (λ c. IsOldOrNew h image c)
-opening_run h at image {old} {new} place fits next written run =
+pub opening_run : {h : CheckpointHeader} {at : ℕ} {image : Image} {old new : Disk} → at ≡ gate_sector h → h.sequence < 2 ^ 64 → Precedes image h →
+    image (header_sector h) ≡ header_bytes h → LeavesOnly old new (λ c. Elsewhere at 1 image c) → LeavesOnly old new (λ c. IsOldOrNew h image c)
+opening_run {h} {at} {image} {old} {new} place fits next written run =
     leaves_weaker {old = old} {new = new} {P = λ c. Elsewhere at 1 image c} (λ c. IsOldOrNew h image c)
-    (λ c is. opening h image c fits next written (subst (λ (i : ℕ). Elsewhere i 1 image c) place is)) run
+    (λ c is. opening fits next written (subst (λ (i : ℕ). Elsewhere i 1 image c) place is)) run
 
 -- a header is written under a closed gate, and then its gate is opened
-pub preparing_run : (h : CheckpointHeader) (image : Image) {old new : Disk} → LeavesOnly old new (λ c. KeepsHeader h image c) →
+pub preparing_run : {h : CheckpointHeader} {image : Image} {old new : Disk} → LeavesOnly old new (λ c. KeepsHeader h image c) →
     LeavesOnly old new (λ c. IsOldOrNew h image c)
-preparing_run h image {old} {new} run = leaves_weaker {old = old} {new = new} {P = λ c. KeepsHeader h image c} (λ c. IsOldOrNew h image c) (λ c kept. inl kept)
-    run
+preparing_run {h} {image} {old} {new} run = leaves_weaker {old = old} {new = new} {P = λ c. KeepsHeader h image c} (λ c. IsOldOrNew h image c)
+    (λ c kept. inl kept) run
 
-pub publishing_run : (h : CheckpointHeader) (image mid_image : Image) {old mid new : Disk} → KeepsHeader h image mid_image
+pub publishing_run : {h : CheckpointHeader} {image mid_image : Image} {old mid new : Disk} → KeepsHeader h image mid_image
     → LeavesOnly old mid (λ c. KeepsHeader h image c) → LeavesOnly mid new (λ c. IsOldOrNew h mid_image c) → LeavesOnly old new (λ c. IsOldOrNew h image c)
-publishing_run h image mid_image {old} {mid} {new} kept first second =
-    leaves_on {old = old} {mid = mid} {new = new} {P = λ c. IsOldOrNew h image c} (preparing_run h image {old = old} {new = mid} first)
-    (leaves_weaker {old = mid} {new = new} {P = λ c. IsOldOrNew h mid_image c} (λ c. IsOldOrNew h image c) (λ c is. either_on h image mid_image c kept is)
-    second)
+publishing_run {h} {image} {mid_image} {old} {mid} {new} kept first second =
+    leaves_on {old = old} {mid = mid} {new = new} {P = λ c. IsOldOrNew h image c} (preparing_run {old = old} {new = mid} first)
+    (leaves_weaker {old = mid} {new = new} {P = λ c. IsOldOrNew h mid_image c} (λ c. IsOldOrNew h image c) (λ c is. either_on kept is) second)
 
 -- ---- from a disk whose writes aren't durable
 
 abbrev pub IsOldOrCommitted : CheckpointHeader → Disk → Image → Type 0
 IsOldOrCommitted h disk c = IsOld h disk c ⊎ HasNew h disk.seen c
 
-still_old : (h : CheckpointHeader) (disk : Disk) (c : Image) → CommitsOne disk → disk.may_leave c → IsOld h disk c
-still_old h disk c one left = record { could_be = (c, left, elsewhere_same (header_sector h) 2 c c (λ i. refl)); committed = one c left }
+still_old : {h : CheckpointHeader} {disk : Disk} {c : Image} → CommitsOne disk → disk.may_leave c → IsOld h disk c
+still_old {h} {c} one left = record { could_be = (c, left, elsewhere_same (header_sector h) 2 c c (λ i. refl)); committed = one c left }
 
-was_seen : (h : CheckpointHeader) (disk : Disk) (c : Image) → disk.may_leave disk.seen → IsOldOrNew h disk.seen c → IsOldOrCommitted h disk c
-was_seen h disk c left (inl kept) = inl (record { could_be = (disk.seen, left, kept.elsewhere); committed = kept.committed })
-was_seen h disk c left (inr next) = inr next
+was_seen : {h : CheckpointHeader} {disk : Disk} {c : Image} → disk.may_leave disk.seen → IsOldOrNew h disk.seen c → IsOldOrCommitted h disk c
+was_seen {disk} left (inl kept) = inl (record { could_be = (disk.seen, left, kept.elsewhere); committed = kept.committed })
+was_seen left (inr next) = inr next
 
 -- a sync that may fail
-pub sync_run : (h : CheckpointHeader) {old new : Disk} → CommitsOne old → OnlyNow old → Elapses old new → Narrows old new →
+pub sync_run : {h : CheckpointHeader} {old new : Disk} → CommitsOne old → OnlyNow old → Elapses old new → Narrows old new →
     LeavesOnly old new (λ c. IsOldOrCommitted h old c)
-sync_run h {old} {new} one only_now time narrows =
-    in_one_call {old = old} {new = new} (λ c. IsOldOrCommitted h old c) only_now time (λ c left. inl (still_old h old c one left))
-    (λ c left. inl (still_old h old c one (narrows c left)))
+sync_run {h} {old} {new} one only_now time narrows =
+    in_one_call {old = old} {new = new} (λ c. IsOldOrCommitted h old c) only_now time (λ c left. inl (still_old one left))
+    (λ c left. inl (still_old one (narrows c left)))
 
 -- the commit after a sync
-pub commit_run : (h : CheckpointHeader) {old mid new : Disk} → old.may_leave old.seen → Agrees mid.seen old.seen
+pub commit_run : {h : CheckpointHeader} {old mid new : Disk} → old.may_leave old.seen → Agrees mid.seen old.seen
     → LeavesOnly old mid (λ c. IsOldOrCommitted h old c) → LeavesOnly mid new (λ c. IsOldOrNew h mid.seen c) →
     LeavesOnly old new (λ c. IsOldOrCommitted h old c)
-commit_run h {old} {mid} {new} left same first second =
+commit_run {h} {old} {mid} {new} left same first second =
     leaves_on {old = old} {mid = mid} {new = new} {P = λ c. IsOldOrCommitted h old c} first
     (leaves_weaker {old = mid} {new = new} {P = λ c. IsOldOrNew h mid.seen c} (λ c. IsOldOrCommitted h old c)
-    (λ c is. was_seen h old c left (subst (λ (image : Image). IsOldOrNew h image c) (agrees_is mid.seen old.seen same) is)) second)
+    (λ c is. was_seen left (subst (λ (image : Image). IsOldOrNew h image c) (agrees_is mid.seen old.seen same) is)) second)
 
 -- ---- the order of the writes of a slot
 

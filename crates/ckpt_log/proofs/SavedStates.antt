@@ -16,7 +16,7 @@ same_slot old new same =
 same_option : (old new : Image) (slot : Option ℕ) → SameFrom 1 4 old new → committed_slot old ≡ slot → option_at new slot ≡ option_at old slot
 same_option old new None same is = refl
 same_option old new (Some k) same is =
-    let below : k < 2 = slot_of_image old k is in
+    let below : k < 2 = slot_of_image old is in
     let place : 1 + 2 * k ≡ 1 + (2 * k) = omega arith in
     ap (λ (b : List ℕ). Some b) (subst (λ (i : ℕ). new i ≡ old i) (sym place) (same (2 * k) (omega (arith, below))))
 

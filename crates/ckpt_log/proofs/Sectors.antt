@@ -7,8 +7,8 @@ pub one_sector : (bytes : List ℕ) → length bytes ≡ 512 → sectors_of byte
 one_sector bytes size = ap (λ (n : ℕ). n / 512) size
 
 -- the bytes of one sector
-pub sector_is : (image : Image) (at : ℕ) (bytes : List ℕ) → length bytes ≡ 512 → AreSectors image at bytes → bytes ≡ image at
-sector_is image at bytes size are =
+pub sector_is : (image : Image) {at : ℕ} {bytes : List ℕ} → length bytes ≡ 512 → AreSectors image at bytes → bytes ≡ image at
+sector_is image {at} {bytes} size are =
     let first : take 512 (drop (512 * 0) bytes) ≡ image (at + 0) = are 0 (omega (arith, one_sector bytes size)) in
     let place : at + 0 ≡ at = omega arith in
     sym (take_all 512 bytes (omega (arith, size))) ∙ first ∙ ap image place
@@ -27,5 +27,5 @@ unfolding sectors_from
 one_from image at = refl
 
 -- the bytes of one sector, where a read leaves the image
-pub read_is : (old new : Image) (at : ℕ) (bytes : List ℕ) → Agrees new old → sectors_from new at 1 ≡ bytes → bytes ≡ old at
-read_is old new at bytes same is = sym is ∙ one_from new at ∙ append-nil (new at) ∙ same at
+pub read_is : {old new : Image} {at : ℕ} (bytes : List ℕ) → Agrees new old → sectors_from new at 1 ≡ bytes → bytes ≡ old at
+read_is {new} {at} bytes same is = sym is ∙ one_from new at ∙ append-nil (new at) ∙ same at

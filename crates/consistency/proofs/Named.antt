@@ -49,24 +49,20 @@ none_named fs n none = subst (λ (cs : List Cap). IsTrue true ↔ All (IsNamed f
 
 pub holds_none : (c : Content Cap) → ((x : List Cap) → c ≡ content.Node x → ⊥) → ((x : Root Cap) → c ≡ content.Root x → ⊥) →
     ((x : List Cap) → c ≡ content.Annex x → ⊥) → caps_in c ≡ []
-holds_none content.Free node root annex = refl
-holds_none (content.Page words) node root annex = refl
 holds_none (content.Node slots) node root annex = absurd (node slots refl)
 holds_none (content.Root r) node root annex = absurd (root r refl)
 holds_none (content.Annex registers) node root annex = absurd (annex registers refl)
-holds_none (content.Bank limit) node root annex = refl
+holds_none other node root annex = refl
 
 pub other_named : (fs : List Frame) (c : Content Cap) (n : ℕ) → c ≡ (frame_at fs n).content → caps_in c ≡ [] →
     IsTrue true ↔ All (IsNamed fs) (caps_in (frame_at fs n).content)
 other_named fs c n is none = none_named fs n (sym (ap (λ (d : Content Cap). caps_in d) is) ∙ none)
 
 pub role_holds_none : (c : Content Cap) (r : Role) → r ≡ role_of c → (r ≡ role.Node → ⊥) → (r ≡ role.Root → ⊥) → (r ≡ role.Annex → ⊥) → caps_in c ≡ []
-role_holds_none content.Free r is node root annex = refl
-role_holds_none (content.Page words) r is node root annex = refl
 role_holds_none (content.Node slots) r is node root annex = absurd (node is)
 role_holds_none (content.Root x) r is node root annex = absurd (root is)
 role_holds_none (content.Annex registers) r is node root annex = absurd (annex is)
-role_holds_none (content.Bank limit) r is node root annex = refl
+role_holds_none other r is node root annex = refl
 
 -- all objects
 pub named_whole : (p : Parts) (hs : List ObjectHeader) (count n : ℕ) → hs ≡ p.headers → count ≡ length hs → count ≤ n →

@@ -6,12 +6,8 @@ use Rattle.model.specs.declared.object.Content.TheVariants as content
 
 -- what is no root is not noted
 pub unnoted : {C : Type 0} (c : Content C) → ((x : Root C) → c ≡ content.Root x → ⊥) → noted_in c ≡ None
-unnoted content.Free other = refl
-unnoted (content.Page words) other = refl
-unnoted (content.Node slots) other = refl
 unnoted (content.Root r) other = absurd (other r refl)
-unnoted (content.Annex registers) other = refl
-unnoted (content.Bank limit) other = refl
+unnoted one other = refl
 
 -- a note has the annex
 annex_of_note : Option Noted → Option ℕ
@@ -21,11 +17,7 @@ annex_of_note (Some note) = Some note.annex
 annex_noted : {C : Type 0} (c : Content C) → annex_of_note (noted_in c) ≡ annex_in c
 unfolding annex_of_note
 annex_noted content.Free = refl
-annex_noted (content.Page words) = refl
-annex_noted (content.Node slots) = refl
-annex_noted (content.Root r) = refl
-annex_noted (content.Annex registers) = refl
-annex_noted (content.Bank limit) = refl
+annex_noted other = refl
 
 module _ (fs : List Frame) (notes : List (Option Noted)) (noted : AreNoted fs notes) where
   pub root_noted : (p : ℕ) (note : Noted) → note_at notes p ≡ Some note → IsRootOf fs p note.annex

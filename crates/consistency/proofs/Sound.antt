@@ -13,16 +13,12 @@ use Rattle.consistency.proofs.Standing.{role_bank, role_free, root_of}
 
 -- what follows of a capability that is kept
 follows_formed : (g : Geometry) (age count : ℕ) (c : Capability) → Follows g age count c → IsWellFormed c
-follows_formed g age count Void f = tt
 follows_formed g age count (Number n) f = f.0
 follows_formed g age count (Page o a) f = f.0
 follows_formed g age count (Node o a) f = f.0
 follows_formed g age count (Space o h a) f = (f.1, f.2, f.0)
-follows_formed g age count (Process p) f = tt
 follows_formed g age count (Start p key) f = f.0
-follows_formed g age count (Resume p) f = tt
-follows_formed g age count (Bank b) f = tt
-follows_formed g age count Discrim f = tt
+follows_formed g age count other f = tt
 
 -- a frame that can be kept stands at each number, since what isn't there is free
 pub kept_at : (g : Geometry) (age : ℕ) (fs : List Frame) → AreKeepable g age fs → (n : ℕ) → IsKeepable g age n (frame_at fs n)

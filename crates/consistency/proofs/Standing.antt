@@ -39,11 +39,7 @@ role_from _ = role.Bank
 from_number : (r : Role) → role_from (role_number r) ≡ r
 unfolding role_from
 from_number role.Free = refl
-from_number role.Page = refl
-from_number role.Node = refl
-from_number role.Root = refl
-from_number role.Annex = refl
-from_number role.Bank = refl
+from_number other = refl
 
 -- roles of one number are the same
 pub is_same : (r s : Role) → is r s ≡ true → r ≡ s
@@ -59,36 +55,20 @@ record AreTested {C : Type 0} (c : Content C) : Type 0 where
 
 tested : {C : Type 0} (c : Content C) → AreTested c
 tested content.Free = record { free = refl; page = refl; node = refl; root = refl; annex = refl; bank = refl }
-tested (content.Page words) = record { free = refl; page = refl; node = refl; root = refl; annex = refl; bank = refl }
-tested (content.Node slots) = record { free = refl; page = refl; node = refl; root = refl; annex = refl; bank = refl }
-tested (content.Root r) = record { free = refl; page = refl; node = refl; root = refl; annex = refl; bank = refl }
-tested (content.Annex registers) = record { free = refl; page = refl; node = refl; root = refl; annex = refl; bank = refl }
-tested (content.Bank limit) = record { free = refl; page = refl; node = refl; root = refl; annex = refl; bank = refl }
+tested other = record { free = refl; page = refl; node = refl; root = refl; annex = refl; bank = refl }
 
 -- roots, whatever capabilities they hold
 annex_map : (f : Cap → Capability) (c : Content Cap) → annex_in (map_content f c) ≡ annex_in c
 annex_map f content.Free = refl
-annex_map f (content.Page words) = refl
-annex_map f (content.Node slots) = refl
-annex_map f (content.Root r) = refl
-annex_map f (content.Annex registers) = refl
-annex_map f (content.Bank limit) = refl
+annex_map f other = refl
 
 waiting_map : (f : Cap → Capability) (c : Content Cap) → is_waiting_root (map_content f c) ≡ is_waiting_root c
 waiting_map f content.Free = refl
-waiting_map f (content.Page words) = refl
-waiting_map f (content.Node slots) = refl
-waiting_map f (content.Root r) = refl
-waiting_map f (content.Annex registers) = refl
-waiting_map f (content.Bank limit) = refl
+waiting_map f other = refl
 
 root_annex : (c : Content Capability) → is_root c ≡ true → annex_in c ≡ Some (root_in c).annex
 root_annex (content.Root r) root = refl
-root_annex content.Free root = cc
-root_annex (content.Page words) root = cc
-root_annex (content.Node slots) root = cc
-root_annex (content.Annex registers) root = cc
-root_annex (content.Bank limit) root = cc
+root_annex other root = cc
 
 -- one number in an option
 pub some_same : (a b : ℕ) → (let x : Option ℕ = Some a in x) ≡ Some b → a ≡ b
@@ -96,27 +76,15 @@ some_same a b same = cc
 
 annex_root : (c : Content Capability) (a : ℕ) → annex_in c ≡ Some a → IsTrue (is_root c) × ((root_in c).annex ≡ a)
 annex_root (content.Root r) a root = (refl, some_same r.annex a root)
-annex_root content.Free a root = cc
-annex_root (content.Page words) a root = cc
-annex_root (content.Node slots) a root = cc
-annex_root (content.Annex registers) a root = cc
-annex_root (content.Bank limit) a root = cc
+annex_root other a root = cc
 
 waiting_root : (c : Content Capability) → is_waiting_root c ≡ true → IsTrue (is_root c) × IsTrue (is_waiting (root_in c).state)
 waiting_root (content.Root r) waits = (refl, waits)
-waiting_root content.Free waits = cc
-waiting_root (content.Page words) waits = cc
-waiting_root (content.Node slots) waits = cc
-waiting_root (content.Annex registers) waits = cc
-waiting_root (content.Bank limit) waits = cc
+waiting_root other waits = cc
 
 root_waiting : (c : Content Capability) → is_waiting_root c ≡ is_waiting (root_in c).state
 root_waiting content.Free = refl
-root_waiting (content.Page words) = refl
-root_waiting (content.Node slots) = refl
-root_waiting (content.Root r) = refl
-root_waiting (content.Annex registers) = refl
-root_waiting (content.Bank limit) = refl
+root_waiting other = refl
 
 pub limit_is : (fs : List Frame) (n : ℕ) → limit_in (content_at (objects_of fs) n) ≡ limit_in (frame_at fs n).content
 limit_is fs n = ap (λ (c : Content Capability). limit_in c) (content_is fs n) ∙ (mapped (conveyed (headers fs)) (frame_at fs n).content).limit
@@ -191,8 +159,6 @@ module _ (fs : List Frame) (roles : HaveTheirRoles fs) (n : ℕ) where
 -- what a capability names
 module _ (fs : List Frame) (roles : HaveTheirRoles fs) where
   pub names_kind : (c : Capability) → NamesItsRole fs c → NamesItsKind (objects_of fs) c
-  names_kind Void names = tt
-  names_kind (Number n) names = tt
   names_kind (Page o a) names = role_page fs roles o names
   names_kind (Node o a) names = role_node fs roles o names
   names_kind (Space o h a) names = role_node fs roles o names
@@ -200,11 +166,9 @@ module _ (fs : List Frame) (roles : HaveTheirRoles fs) where
   names_kind (Start p key) names = role_root fs roles p names
   names_kind (Resume p) names = waiting_of fs p names
   names_kind (Bank b) names = role_bank fs roles b names
-  names_kind Discrim names = tt
+  names_kind other names = tt
 
   pub names_role : (c : Capability) → NamesItsKind (objects_of fs) c → NamesItsRole fs c
-  names_role Void names = tt
-  names_role (Number n) names = tt
   names_role (Page o a) names = page_role fs roles o names
   names_role (Node o a) names = node_role fs roles o names
   names_role (Space o h a) names = node_role fs roles o names
@@ -212,4 +176,4 @@ module _ (fs : List Frame) (roles : HaveTheirRoles fs) where
   names_role (Start p key) names = root_role fs roles p names
   names_role (Resume p) names = waits_of fs p names.1
   names_role (Bank b) names = bank_role fs roles b names
-  names_role Discrim names = tt
+  names_role other names = tt

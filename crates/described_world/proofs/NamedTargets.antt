@@ -48,8 +48,6 @@ no_calls : (d : Description) (fs : List Frame) (n : ℕ) → HasNumbers d → Is
 no_calls d fs n numbers is = sym (ap (λ (h : ObjectHeader). h.calls) (header_in fs n) ∙ (first_at d fs n numbers is).calls)
 
 pub never_raised : (d : Description) (fs : List Frame) (c : Capability) → HasNumbers d → IsDescribed d fs → 0 ≡ current_count (headers fs) c
-never_raised d fs Void numbers is = refl
-never_raised d fs (Number n) numbers is = refl
 never_raised d fs (Page o a) numbers is = no_allocations d fs o numbers is
 never_raised d fs (Node o a) numbers is = no_allocations d fs o numbers is
 never_raised d fs (Space o h a) numbers is = no_allocations d fs o numbers is
@@ -57,33 +55,22 @@ never_raised d fs (Process p) numbers is = no_allocations d fs p numbers is
 never_raised d fs (Start p key) numbers is = no_allocations d fs p numbers is
 never_raised d fs (Resume p) numbers is = no_calls d fs p numbers is
 never_raised d fs (Bank b) numbers is = no_allocations d fs b numbers is
-never_raised d fs Discrim numbers is = refl
+never_raised d fs other numbers is = refl
 
 -- The numbers of a kind.
 
 of_page : (g : Geometry) (n : ℕ) (c : Content Cap) → IsOfKind g n c → role_of c ≡ role.Page → (g.nodes ≤ n) × (n < object_count g)
-of_page g n content.Free kind is = absurd cc
 of_page g n (content.Page words) kind is = kind
-of_page g n (content.Node slots) kind is = absurd cc
-of_page g n (content.Root root) kind is = absurd cc
-of_page g n (content.Annex registers) kind is = absurd cc
-of_page g n (content.Bank limit) kind is = absurd cc
+of_page g n other kind is = absurd cc
 
 of_node : (g : Geometry) (n : ℕ) (c : Content Cap) → IsOfKind g n c → role_of c ≢ role.Free → role_of c ≢ role.Page → n < g.nodes
 of_node g n content.Free kind some other = absurd (some refl)
 of_node g n (content.Page words) kind some other = absurd (other refl)
-of_node g n (content.Node slots) kind some other = kind
-of_node g n (content.Root root) kind some other = kind
-of_node g n (content.Annex registers) kind some other = kind
-of_node g n (content.Bank limit) kind some other = kind
+of_node g n one kind some other = kind
 
 of_waiting : (g : Geometry) (n : ℕ) (c : Content Cap) → IsOfKind g n c → IsTrue (is_waiting_root c) → n < g.nodes
-of_waiting g n content.Free kind is = absurd cc
-of_waiting g n (content.Page words) kind is = absurd cc
-of_waiting g n (content.Node slots) kind is = absurd cc
 of_waiting g n (content.Root root) kind is = kind
-of_waiting g n (content.Annex registers) kind is = absurd cc
-of_waiting g n (content.Bank limit) kind is = absurd cc
+of_waiting g n other kind is = absurd cc
 
 not_free_node : role.Node ≢ role.Free
 not_free_node is = cc
@@ -120,8 +107,6 @@ module _ (d : Description) (fs : List Frame) (numbers : HasNumbers d) (is : IsDe
       of_node d.geometry o (frame_at fs o).content first.kind (λ e. not_free_bank (sym role ∙ first.role ∙ e)) (λ e. not_page_bank (sym role ∙ first.role ∙ e))
 
   pub role_target : (c : Capability) → NamesItsRole fs c → IsTarget d.geometry c
-  role_target Void names = tt
-  role_target (Number n) names = tt
   role_target (Page o a) names = a_page o names
   role_target (Node o a) names = a_node o names
   role_target (Space o h a) names = a_node o names
@@ -129,7 +114,7 @@ module _ (d : Description) (fs : List Frame) (numbers : HasNumbers d) (is : IsDe
   role_target (Start p key) names = a_root p names
   role_target (Resume p) names = of_waiting d.geometry p (frame_at fs p).content (first_at d fs p numbers is).kind names
   role_target (Bank b) names = a_bank b names
-  role_target Discrim names = tt
+  role_target other names = tt
 
   held_target : (c : Capability) → IsNamed fs (fresh_cap c) → IsTarget d.geometry c
   held_target c named = role_target c (named.live (never_raised d fs c numbers is))

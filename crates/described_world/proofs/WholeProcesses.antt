@@ -26,8 +26,7 @@ rooted d (OfRoot q) f p a of is frame root =
     let same : Some q.annex ≡ Some a = sym (ap annex_of frame.4) ∙ root in
     (q, record { of = of; root = is; annex = cc })
 rooted d (OfAnnex q) f p a of is frame root = let none : None ≡ Some a = sym (ap annex_of frame.2) ∙ root in absurd cc
-rooted d (OfNode n) f p a of is frame root = let none : None ≡ Some a = sym (ap annex_of frame.2) ∙ root in absurd cc
-rooted d (OfPage q) f p a of is frame root = let none : None ≡ Some a = sym (ap annex_of frame.2) ∙ root in absurd cc
+rooted d other f p a of is frame root = let none : None ≡ Some a = sym (ap annex_of frame.2) ∙ root in absurd cc
 
 pub root_is : (d : Description) (fs : List Frame) (p a : ℕ) → IsDescribed d fs → IsRootOf fs p a → (q : ProcessEntry) × IsProcess d q p a
 root_is d fs p a is root = elim (described_cases d fs p is) [
@@ -65,11 +64,8 @@ has_root d fs q p a is q_is =
     subst (λ n. annex_of (frame_at fs n) ≡ Some a) q_is.root (named ∙ ap Some q_is.annex)
 
 abbrev root_number : Entry → ℕ
-root_number (OfBank b) = 0
-root_number (OfRoot p) = 0
 root_number (OfAnnex p) = p.root
-root_number (OfNode n) = 0
-root_number (OfPage p) = 0
+root_number other = 0
 
 -- an annex is that of one process
 pub one_process : (d : Description) (q r : ProcessEntry) (m n a : ℕ) → HasNumbers d → IsProcess d q m a → IsProcess d r n a → m ≡ n

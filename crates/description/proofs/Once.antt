@@ -69,8 +69,7 @@ state_found text =
 
 state_again : (s : State) → state_found (state_text s) ≡ Some s
 state_again Available = refl
-state_again Running = refl
-state_again Waiting = refl
+state_again other = refl
 
 state_once : Once IsState ◌≡◌
 state_once d None None one other = refl

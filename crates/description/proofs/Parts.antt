@@ -6,13 +6,7 @@ use Rattle.image_writer.specs.declared.fault.BuildFault.TheVariants as fault
 pub passed_on : {A B : Type 0} (P : A → Type 0) (Q : B → Type 0) (e : BuildFault) → Fails P e → ((y : B) → Q y → (x : A) × P x) → Fails Q e
 passed_on P Q fault.Shape none part = λ y is. none (part y is).0 (part y is).1
 passed_on P Q fault.NoMemory none part = tt
-passed_on P Q fault.Limits none part = none
-passed_on P Q fault.Number none part = none
-passed_on P Q fault.Field none part = none
-passed_on P Q fault.Target none part = none
-passed_on P Q fault.Owner none part = none
-passed_on P Q fault.Small none part = none
-passed_on P Q fault.Failed none part = none
+passed_on P Q other none part = none
 
 -- a list that is read is that of a Vec
 pub as_vec : {A : Type 0} (P : List A → Type 0) (r : Result (Vec A Global) BuildFault) → ReadsList P r → Reads (λ (v : Vec A Global). P v.items) r

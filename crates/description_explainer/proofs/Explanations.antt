@@ -60,7 +60,4 @@ module _ (d : Description) (fs gs : List Frame) (same : gs ≡ fs) (is : IsDescr
 pub refused_rule : (ms : Members) (d : Description) (sectors : ℕ) (r : Rule) → IsDescription ms d → IsFirstBroken d sectors (rule_fault r) →
     Refuses ms sectors (rule_fault r)
 refused_rule ms d sectors (rule.Limit l) is first = (d, is, first)
-refused_rule ms d sectors (rule.Number n) is first = (d, is, first)
-refused_rule ms d sectors (rule.Field p) is first = (d, is, first)
-refused_rule ms d sectors (rule.Target h) is first = (d, is, first)
-refused_rule ms d sectors (rule.Owner u) is first = (d, is, first)
+refused_rule ms d sectors other is first = (d, is, first)

@@ -21,21 +21,13 @@ pub count_broken : (d : Description) (l : Limit) → BreaksGeometry d.geometry l
 count_broken d limit.Nodes broken = broken
 count_broken d limit.Pages broken = broken
 count_broken d limit.Log broken = broken
-count_broken d limit.RangeCount broken = absurd broken
-count_broken d (limit.Range i n) broken = absurd broken
-count_broken d (limit.RangesEnd n) broken = absurd broken
-count_broken d limit.Age broken = absurd broken
-count_broken d limit.Layout broken = absurd broken
+count_broken d other broken = absurd broken
 
 ranges_broken : (d : Description) (l : Limit) → BreaksRanges d.geometry d.ranges.items l → BreaksLimit d l
 ranges_broken d limit.RangeCount broken = broken
 ranges_broken d (limit.Range i n) broken = broken
 ranges_broken d (limit.RangesEnd n) broken = broken
-ranges_broken d limit.Nodes broken = absurd broken
-ranges_broken d limit.Pages broken = absurd broken
-ranges_broken d limit.Log broken = absurd broken
-ranges_broken d limit.Age broken = absurd broken
-ranges_broken d limit.Layout broken = absurd broken
+ranges_broken d other broken = absurd broken
 
 -- what the ranges decide where all else is within the limits
 pub ranges_decide : (d : Description) (rs : List NumberRange) (found : Option Limit) (v : Version) → rs ≡ d.ranges.items → d.layout ≡ version_number v →

@@ -13,13 +13,7 @@ pub reads_decided : {A : Type 0} (P : A → Type 0) (r : Result A BuildFault) (o
 reads_decided P (Ok x) out is reads = rw is (λ _. (x, reads), λ _. refl)
 reads_decided P (Err fault.Shape) out is reads = rw is (λ so. absurd (false≢true so), λ p. absurd (reads p.0 p.1))
 reads_decided P (Err fault.NoMemory) out is reads = rw is tt
-reads_decided P (Err fault.Limits) out is reads = absurd reads
-reads_decided P (Err fault.Number) out is reads = absurd reads
-reads_decided P (Err fault.Field) out is reads = absurd reads
-reads_decided P (Err fault.Target) out is reads = absurd reads
-reads_decided P (Err fault.Owner) out is reads = absurd reads
-reads_decided P (Err fault.Small) out is reads = absurd reads
-reads_decided P (Err fault.Failed) out is reads = absurd reads
+reads_decided P other out is reads = absurd reads
 
 pub list_decided : {A : Type 0} (P : List A → Type 0) (r : Result (Vec A Global) BuildFault) (out : Result Bool AllocError) → out ≡ decided r →
     ReadsList P r →

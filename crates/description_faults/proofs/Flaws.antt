@@ -16,33 +16,11 @@ abbrev pub IsPlain : Key → Type 0
 IsPlain key = (i : ℕ) → object_at key i ≡ None
 
 pub plain_item : (key : Key) (i : ℕ) → object_at key i ≡ None → (d : Data) → IsItem key d → IsWholeItem key d
-plain_item Nodes i plain d said = said
-plain_item Pages i plain d said = said
-plain_item Log i plain d said = said
-plain_item Layout i plain d said = said
-plain_item Age i plain d said = said
-plain_item Ranges i plain d said = said
 plain_item Banks i plain d said = absurd (none-some (name.Bank i) (sym plain))
 plain_item Processes i plain d said = absurd (none-some (name.Process i) (sym plain))
 plain_item NodeList i plain d said = absurd (none-some (name.Node i) (sym plain))
 plain_item PageList i plain d said = absurd (none-some (name.Page i) (sym plain))
-plain_item BankNumber i plain d said = said
-plain_item BankOwner i plain d said = said
-plain_item BankLimit i plain d said = said
-plain_item ProcessRoot i plain d said = said
-plain_item ProcessAnnex i plain d said = said
-plain_item ProcessOwner i plain d said = said
-plain_item ProcessState i plain d said = said
-plain_item ProcessKey i plain d said = said
-plain_item ProcessWords i plain d said = said
-plain_item ProcessSpace i plain d said = said
-plain_item ProcessRegisters i plain d said = said
-plain_item NodeNumber i plain d said = said
-plain_item NodeOwner i plain d said = said
-plain_item NodeSlots i plain d said = said
-plain_item PageNumber i plain d said = said
-plain_item PageOwner i plain d said = said
-plain_item PageWords i plain d said = said
+plain_item other i plain d said = said
 
 -- a table with all its keys, and no others, says what it has to
 module _ (ms : Members) where
@@ -197,22 +175,7 @@ table_refused NodeList i which d t object is none said = let x = subst (λ w. Is
 table_refused PageList i which d t object is none said = let x = subst (λ w. IsTableOf w t) (sym (same_Some (name.Page i) which object)) said in none
     (x.0, (t, is, x.1))
 table_refused BankNumber i which d t object is none said = absurd (none-some which object)
-table_refused BankOwner i which d t object is none said = absurd (none-some which object)
-table_refused BankLimit i which d t object is none said = absurd (none-some which object)
-table_refused ProcessRoot i which d t object is none said = absurd (none-some which object)
-table_refused ProcessAnnex i which d t object is none said = absurd (none-some which object)
-table_refused ProcessOwner i which d t object is none said = absurd (none-some which object)
-table_refused ProcessState i which d t object is none said = absurd (none-some which object)
-table_refused ProcessKey i which d t object is none said = absurd (none-some which object)
-table_refused ProcessWords i which d t object is none said = absurd (none-some which object)
-table_refused ProcessSpace i which d t object is none said = absurd (none-some which object)
-table_refused ProcessRegisters i which d t object is none said = absurd (none-some which object)
-table_refused NodeNumber i which d t object is none said = absurd (none-some which object)
-table_refused NodeOwner i which d t object is none said = absurd (none-some which object)
-table_refused NodeSlots i which d t object is none said = absurd (none-some which object)
-table_refused PageNumber i which d t object is none said = absurd (none-some which object)
-table_refused PageOwner i which d t object is none said = absurd (none-some which object)
-table_refused PageWords i which d t object is none said = absurd (none-some which object)
+table_refused other i which d t object is none said = absurd (none-some which object)
 
 pub table_there : (key : Key) (i : ℕ) (which : TableName) (ms : Members) (d : Data) (t : Members) → object_at key i ≡ Some which →
     HasItem (key_name key) i (λ x. x ≡ d) ms → d ≡ table t → IsTableAt ms which t
@@ -231,51 +194,14 @@ table_there NodeList i which ms d t object at is = subst (λ w. IsTableAt ms w t
 table_there PageList i which ms d t object at is = subst (λ w. IsTableAt ms w t) (same_Some (name.Page i) which object)
     (item_has (key_name PageList) i ms d (λ x. x ≡ table t) at is)
 table_there BankNumber i which ms d t object at is = absurd (none-some which object)
-table_there BankOwner i which ms d t object at is = absurd (none-some which object)
-table_there BankLimit i which ms d t object at is = absurd (none-some which object)
-table_there ProcessRoot i which ms d t object at is = absurd (none-some which object)
-table_there ProcessAnnex i which ms d t object at is = absurd (none-some which object)
-table_there ProcessOwner i which ms d t object at is = absurd (none-some which object)
-table_there ProcessState i which ms d t object at is = absurd (none-some which object)
-table_there ProcessKey i which ms d t object at is = absurd (none-some which object)
-table_there ProcessWords i which ms d t object at is = absurd (none-some which object)
-table_there ProcessSpace i which ms d t object at is = absurd (none-some which object)
-table_there ProcessRegisters i which ms d t object at is = absurd (none-some which object)
-table_there NodeNumber i which ms d t object at is = absurd (none-some which object)
-table_there NodeOwner i which ms d t object at is = absurd (none-some which object)
-table_there NodeSlots i which ms d t object at is = absurd (none-some which object)
-table_there PageNumber i which ms d t object at is = absurd (none-some which object)
-table_there PageOwner i which ms d t object at is = absurd (none-some which object)
-table_there PageWords i which ms d t object at is = absurd (none-some which object)
+table_there other i which ms d t object at is = absurd (none-some which object)
 
 pub not_table : (key : Key) (i : ℕ) (which : TableName) (d : Data) → object_at key i ≡ Some which → ((ms : Members) → d ≡ table ms → ⊥) → IsItem key d → ⊥
-not_table Nodes i which d object none said = absurd (none-some which object)
-not_table Pages i which d object none said = absurd (none-some which object)
-not_table Log i which d object none said = absurd (none-some which object)
-not_table Layout i which d object none said = absurd (none-some which object)
-not_table Age i which d object none said = absurd (none-some which object)
-not_table Ranges i which d object none said = absurd (none-some which object)
 not_table Banks i which d object none said = none said.0 said.1
 not_table Processes i which d object none said = none said.0 said.1
 not_table NodeList i which d object none said = none said.0 said.1
 not_table PageList i which d object none said = none said.0 said.1
-not_table BankNumber i which d object none said = absurd (none-some which object)
-not_table BankOwner i which d object none said = absurd (none-some which object)
-not_table BankLimit i which d object none said = absurd (none-some which object)
-not_table ProcessRoot i which d object none said = absurd (none-some which object)
-not_table ProcessAnnex i which d object none said = absurd (none-some which object)
-not_table ProcessOwner i which d object none said = absurd (none-some which object)
-not_table ProcessState i which d object none said = absurd (none-some which object)
-not_table ProcessKey i which d object none said = absurd (none-some which object)
-not_table ProcessWords i which d object none said = absurd (none-some which object)
-not_table ProcessSpace i which d object none said = absurd (none-some which object)
-not_table ProcessRegisters i which d object none said = absurd (none-some which object)
-not_table NodeNumber i which d object none said = absurd (none-some which object)
-not_table NodeOwner i which d object none said = absurd (none-some which object)
-not_table NodeSlots i which d object none said = absurd (none-some which object)
-not_table PageNumber i which d object none said = absurd (none-some which object)
-not_table PageOwner i which d object none said = absurd (none-some which object)
-not_table PageWords i which d object none said = absurd (none-some which object)
+not_table other i which d object none said = absurd (none-some which object)
 
 -- the place of an item that isn't of its form, and of an object in whose table something is wrong
 pub item_place : (key : Key) (i : ℕ) (e : Data) → Contains (keys_of name.Whole) key → (IsItem key e → ⊥) → (ms : Members) →

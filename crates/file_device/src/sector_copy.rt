@@ -61,7 +61,7 @@ fn store(stored: &mut SparseVec<[u8; SECTOR_SIZE]>, at: usize, sector: &[u8])
     ensures length { length stored.new ≡ length stored.old }
 {
     if stored.has(at) {
-        *stored.item_mut(at) = array_of(sector);
+        stored.item_mut(at).copy_from_slice(sector);
     } else if !are_zeros(sector) {
         stored.add(at, array_of(sector));
     }

@@ -62,10 +62,10 @@ packed_alone rank packed new others stay rest = record {
 }
 
 -- and is written to sectors
-pub alone_there : {T E : Type 0} (result : Result T E) (image : Image) (at rank : ℕ) (bytes : List ℕ) → OnOk result (sectors_from image at 8 ≡ bytes) →
+pub alone_there : {T E : Type 0} (result : Result T E) (image : Image) (at : ℕ) {rank : ℕ} {bytes : List ℕ} → OnOk result (sectors_from image at 8 ≡ bytes) →
     IsAlone rank bytes → OnOk result (IsAlone rank (sectors_from image at 8))
-alone_there (Ok done) image at rank bytes written alone = subst (IsAlone rank) (sym written) alone
-alone_there (Err error) image at rank bytes written alone = tt
+alone_there (Ok done) image at {rank} written alone = subst (IsAlone rank) (sym written) alone
+alone_there (Err error) image at written alone = tt
 
 pub packed_written : {T E : Type 0} (result : Result T E) (image : Image) (at rank : ℕ) (bytes frame : List ℕ) → OnOk result (sectors_from image at 8 ≡ bytes) →
     shape_bytes (Packed rank) bytes ≡ frame

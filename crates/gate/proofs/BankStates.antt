@@ -1,6 +1,6 @@
 -- What is counted, as a process that returns becomes available, after the reply, and after an invocation with no bank's order.
 use Rattle.gate.proofs.Names.{ℕ, Bool, true, false, List, Result, Ok, Err, drop, length, refl, sym, ap, subst, arith, IsTrue, OnOk, OnErr, slice_index, All}
-use Rattle.gate.proofs.Names.{Bank, Invocation, Frame, Operation, Call, Return, Send, Geometry, Object, Arguments, objects_of, deliver, AreCurrent, AreKeepable}
+use Rattle.gate.proofs.Names.{Bank, Invocation, Operation, Call, Return, Send, Geometry, Object, Arguments, objects_of, deliver, AreCurrent, AreKeepable}
 use Rattle.gate.proofs.Names.{IsSoundFrames, is_running, IsNoBankOrder, IsSound, NamesItsKind, Fits, World, annex_at, is_process, is_running_process}
 use Rattle.gate.proofs.Names.{register_at, root_at, deliver_frame, invocation_frame, state_sound, AreArguments, IsNow, held_to, SameFrame, frame_refl, tests_at}
 use Rattle.gate.proofs.Names.{usage_same, Caller, OrderPlan, Reply, message_of, AreSound, IsUnchanged, Parts, frames_of, objects_in, AreCounted, BanksState}
@@ -13,8 +13,8 @@ use Rattle.gate.proofs.Plans.{arguments_held, invoked_held}
 use Rattle.gate.proofs.Standing.{ReadsAs, looked_objects, looked_sound, now_sound}
 
 -- what is counted holds of objects of the same frame
-pub counted_on : (g : Geometry) (os us : List Object) (s : BanksState) → SameFrame os us → AreCounted g os s → AreCounted g us s
-counted_on g os us s f h =
+pub counted_on : {g : Geometry} {os us : List Object} {s : BanksState} → SameFrame os us → AreCounted g os s → AreCounted g us s
+counted_on {g} {os} {us} f h =
     let t = tests_at os us f in
     record {
       nodes = h.nodes;
@@ -45,14 +45,12 @@ module _ (old mid : Parts) (s : BanksState) (sound : AreSound old) (counted : Ar
     before_frame = subst (SameFrame (objects_in old)) (sym is) (frame_before op (objects_in old) p (running_process (objects_in old) p runs))
 
     pub before_counted : AreCounted mid.geometry (objects_in mid) s
-    before_counted = subst (λ (g : Geometry). AreCounted g (objects_in mid) s) (sym geometry)
-        (counted_on old.geometry (objects_in old) (objects_in mid) s before_frame counted)
+    before_counted = subst (λ (g : Geometry). AreCounted g (objects_in mid) s) (sym geometry) (counted_on before_frame counted)
 
     sound_before : (k : Operation) → (let w : World = record { objects = state_before k (objects_in old) p; age = sound.0 } in IsSound old.geometry w)
-    sound_before Call = sound.1.sound
     sound_before Return = state_sound old.geometry (objects_in old) p sound.0 sound.1.sound (running_process (objects_in old) p runs)
         (process_runs (objects_in old) p runs)
-    sound_before Send = sound.1.sound
+    sound_before c = sound.1.sound
 
     pub before_sound : AreCurrent (frames_of mid) → AreKeepable old.geometry sound.0 (frames_of mid) → AreSound mid
     before_sound current keepable = (
@@ -65,8 +63,7 @@ module _ (old mid : Parts) (s : BanksState) (sound : AreSound old) (counted : Ar
     )
 
     pub before_may : (i : Invocation) (caller : Caller) (plan : OrderPlan) (list : List ℕ) → IsPlanned old.geometry (objects_in old) i caller plan list →
-        AreSound mid
-        → MayChange mid.geometry (objects_in mid) (drop (writer_count caller.operation) list) plan.change
+        AreSound mid → MayChange mid.geometry (objects_in mid) (drop (writer_count caller.operation) list) plan.change
     before_may i caller plan list planned there =
         subst (λ (g : Geometry). MayChange g (objects_in mid) (drop (writer_count caller.operation) list) plan.change) (sym geometry)
         (planned.plans.may (objects_in mid) before_frame (subst (λ (g : Geometry). IsNow g (objects_in mid)) geometry (now_sound mid there)))
@@ -94,20 +91,17 @@ annex_listed P Send p a rest list is call all = cc
 
 pub no_send : (op : Operation) → op ≡ Call → op ≡ Send → ⊥
 no_send Call is other = cc
-no_send Return is other = cc
-no_send Send is other = cc
+no_send c is other = cc
 
 pub writers_within : (op : Operation) (p a : ℕ) (rest list : List ℕ) → list ≡ writers op p a ++ rest → writer_count op ≤ length list
-writers_within Call p a rest list is = omega (arith, ap (λ (ns : List ℕ). length ns) is)
-writers_within Return p a rest list is = omega (arith, ap (λ (ns : List ℕ). length ns) is)
 writers_within Send p a rest list is = omega arith
+writers_within c p a rest list is = omega (arith, ap (λ (ns : List ℕ). length ns) is)
 
 -- what is counted stays after a read-only call
-pub counted_looked : (old mid : Parts) (s : BanksState) → ReadsAs old mid → AreCounted old.geometry (objects_in old) s →
+pub counted_looked : {old mid : Parts} {s : BanksState} → ReadsAs old mid → AreCounted old.geometry (objects_in old) s →
     AreCounted mid.geometry (objects_in mid) s
-counted_looked old mid s only_reads counted =
-    subst (λ (g : Geometry). AreCounted g (objects_in mid) s) (sym only_reads.geometry)
-    (subst (λ (us : List Object). AreCounted old.geometry us s) (sym (looked_objects old mid only_reads)) counted)
+counted_looked {old} {mid} {s} only_reads counted =
+    subst (λ (X : Type 0). X) (λ k. AreCounted (sym only_reads.geometry k) (sym (looked_objects only_reads) k) s) counted
 
 -- what isn't a bank's order leaves what is counted, after a read-only call too
 module _ (old mid new : Parts) (i : Invocation) (s : BanksState) (sound : AreSound old) (only_reads : ReadsAs old mid)
@@ -115,45 +109,18 @@ module _ (old mid new : Parts) (i : Invocation) (s : BanksState) (sound : AreSou
     (other : IsNoBankOrder (register_at (objects_in old) i.process i.register) (slice_index i.words 0))
     (counted : AreCounted old.geometry (objects_in old) s) (geometry : new.geometry ≡ mid.geometry) where
   counted_mid : AreCounted mid.geometry (objects_in mid) s
-  counted_mid = counted_looked old mid s only_reads counted
-
-  counted_done : Invokes mid.geometry i (objects_in mid) mid.touched (objects_in new) new.touched → AreCounted new.geometry (objects_in new) s
-  counted_done invokes =
-      let same = looked_objects old mid only_reads in
-      let frame = invocation_frame mid.geometry (objects_in mid) i invokes.0 (now_sound mid (looked_sound old mid only_reads sound)) fits
-      (subst (λ (us : List Object). IsTrue (is_running_process us i.process)) (sym same) runs)
-      (subst (λ (us : List Object). IsNoBankOrder (register_at us i.process i.register) (slice_index i.words 0)) (sym same) other) invokes.1 in
-      subst (λ (g : Geometry). AreCounted g (objects_in new) s) (sym geometry)
-      (subst (λ (us : List Object). AreCounted mid.geometry us s) (sym invokes.2)
-      (counted_on mid.geometry (objects_in mid) invokes.0.objects s frame counted_mid))
-
-  counted_same : IsUnchanged mid new → AreCounted new.geometry (objects_in new) s
-  counted_same unchanged =
-      subst (λ (g : Geometry). AreCounted g (objects_in new) s) (sym geometry)
-      (subst (λ (us : List Object). AreCounted mid.geometry us s)
-      (ap (λ (fs : List Frame). objects_of fs) (sym (same_frames mid new unchanged.headers unchanged.contents))) counted_mid)
+  counted_mid = counted_looked only_reads counted
 
   pub counted_after : {T E : Type 0} (r : Result T E) → OnOk r (Invokes mid.geometry i (objects_in mid) mid.touched (objects_in new) new.touched) →
       OnErr r (IsUnchanged mid new) → AreCounted new.geometry (objects_in new) s
-  counted_after (Ok x) done unchanged = counted_done done
-  counted_after (Err e) done unchanged = counted_same unchanged
-
--- what is counted stays whatever is listed
-pub counted_listed : (g : Geometry) (os : List Object) (s t : BanksState) (list : List ℕ) → t ≡ record s { listed = list } → AreCounted g os s →
-    AreCounted g os t
-counted_listed g os s t list kept h = subst (AreCounted g os) (sym kept) (record {
-  nodes = h.nodes;
-  pages = h.pages;
-  node = h.node;
-  page = h.page;
-  usage_each = h.usage_each;
-  limit_each = h.limit_each;
-  annex_each = h.annex_each;
-  usage = h.usage;
-  limit = h.limit;
-  annex = h.annex;
-  room = h.room;
-})
+  counted_after (Ok x) invokes unchanged =
+      let same = looked_objects only_reads in
+      let frame = invocation_frame mid.geometry (objects_in mid) i invokes.0 (now_sound mid (looked_sound only_reads sound)) fits
+      (subst (λ (us : List Object). IsTrue (is_running_process us i.process)) (sym same) runs)
+      (subst (λ (us : List Object). IsNoBankOrder (register_at us i.process i.register) (slice_index i.words 0)) (sym same) other) invokes.1 in
+      subst (λ (X : Type 0). X) (λ k. AreCounted (sym geometry k) (sym invokes.2 k) s) (counted_on frame counted_mid)
+  counted_after (Err e) done unchanged =
+      subst (λ (X : Type 0). X) (λ k. AreCounted (sym geometry k) (objects_of (sym (same_frames mid new unchanged.headers unchanged.contents) k)) s) counted_mid
 
 -- an order of the bank that is invoked may be planned
 pub bank_may_ask : (p : Parts) (s : BanksState) (i : Invocation) (caller : Caller) (b : ℕ) (args : Arguments) → AreSound p →
@@ -162,19 +129,16 @@ pub bank_may_ask : (p : Parts) (s : BanksState) (i : Invocation) (caller : Calle
 bank_may_ask p s i caller b args sound counted fits is args_are invoked =
     let os = objects_in p in
     record {
-      sound = sound;
-      counted = counted;
-      bank = subst (NamesItsKind os) invoked (held_to os caller.invoked (invoked_held p.geometry os i (now_sound p sound) caller.invoked is.invoked)).1;
+      serves = record {
+        sound = sound;
+        counted = counted;
+        bank = subst (NamesItsKind os) invoked (held_to os caller.invoked (invoked_held p.geometry os i (now_sound p sound) caller.invoked is.invoked)).1;
+      };
       sent = held_to os args.capability
           (subst (λ (a : Arguments). AreArguments os a) (sym args_are) (arguments_held p.geometry os i (now_sound p sound) fits)).held;
     }
 
--- what is planned is planned of the same objects
-pub planned_same : (g : Geometry) (os us : List Object) (i : Invocation) (caller : Caller) (plan : OrderPlan) (list : List ℕ) → os ≡ us
-    → IsPlanned g os i caller plan list → IsPlanned g us i caller plan list
-planned_same g os us i caller plan list same planned = subst (λ (vs : List Object). IsPlanned g vs i caller plan list) same planned
-
 pub annex_requested : (old mid : Parts) (i : Invocation) (caller : Caller) → ReadsAs old mid → caller.process ≡ i.process →
     annex_at (objects_in old) i.process ≡ annex_at (objects_in mid) caller.process
 annex_requested old mid i caller only_reads is =
-    ap (λ (us : List Object). annex_at us i.process) (sym (looked_objects old mid only_reads)) ∙ ap (λ (p : ℕ). annex_at (objects_in mid) p) (sym is)
+    ap (λ (us : List Object). annex_at us i.process) (sym (looked_objects only_reads)) ∙ ap (λ (p : ℕ). annex_at (objects_in mid) p) (sym is)

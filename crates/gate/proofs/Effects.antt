@@ -1,12 +1,11 @@
 -- The effect of an invocation, from what each part of it reported.
 use Rattle.gate.proofs.Names.{ℕ, zero, suc, Bool, List, Option, None, Some, drop, length, refl, sym, ap, subst, arith, IsTrue, slice_index, All, Capability}
-use Rattle.gate.proofs.Names.{Void, Number, Page, Node, Space, Process, Start, Resume, Bank, Discrim, Invocation, Operation, Call, Return, Send, Frame}
-use Rattle.gate.proofs.Names.{Geometry, Object, Available, Arguments, ResultCode, objects_of, Effect, can_start, invoke, on_kernel_object, ordered}
-use Rattle.gate.proofs.Names.{through_gate, AreCurrent, AreKeepable, IsSoundFrames, world_at, touching, touched_count, order, OrderOutcome, consume, IsSound}
-use Rattle.gate.proofs.Names.{object_count, Fits, World, annex_at, is_process, is_running_process, register_at, with_state, state_frame, invocation_keeps}
-use Rattle.gate.proofs.Names.{ordered_keeps, order_keeps, IsNow, held_to, SameFrame, frame_refl, Caller, OrderPlan, Reply, changed, writer_count, writers}
-use Rattle.gate.proofs.Names.{Invokes, IsRequested, IsKernelObject, Overfills, result_code, IsPlanned, answered, arguments_of, finished, ordered_by}
-use Rattle.gate.proofs.Names.{state_before, FitsCap, fetched_of}
+use Rattle.gate.proofs.Names.{Start, Resume, Invocation, Operation, Call, Return, Send, Frame, Geometry, Object, Available, Arguments, ResultCode, objects_of}
+use Rattle.gate.proofs.Names.{Effect, can_start, invoke, on_kernel_object, ordered, through_gate, AreCurrent, AreKeepable, IsSoundFrames, world_at, touching}
+use Rattle.gate.proofs.Names.{touched_count, order, OrderOutcome, consume, IsSound, object_count, Fits, World, annex_at, is_process, is_running_process}
+use Rattle.gate.proofs.Names.{register_at, with_state, state_frame, invocation_keeps, ordered_keeps, order_keeps, IsNow, held_to, SameFrame, frame_refl, Caller}
+use Rattle.gate.proofs.Names.{OrderPlan, Reply, changed, writer_count, writers, Invokes, IsRequested, IsKernelObject, Overfills, result_code, IsPlanned}
+use Rattle.gate.proofs.Names.{answered, arguments_of, finished, ordered_by, state_before, FitsCap, fetched_of}
 use Rattle.std.proofs.Common.{◌≡◌, ◌+◌, ◌++◌, ◌^◌, ◌<◌, ◌≤◌, ◌∙◌, if◌then◌else◌}
 use Rattle.model.specs.declared.command.Command.TheVariants as command
 use Rattle.gate.proofs.Fits.{held_fits}
@@ -25,32 +24,18 @@ unfolding invoke
 invoke_is g os i = refl
 
 object_by : (g : Geometry) (os : List Object) (i : Invocation) (c : Capability) → IsKernelObject c → invoked_by g os i c ≡ Some (on_kernel_object g os i)
-object_by g os i Void object = refl
-object_by g os i (Number n) object = refl
-object_by g os i (Page o a) object = refl
-object_by g os i (Node o a) object = refl
-object_by g os i (Space o h a) object = refl
-object_by g os i (Process p) object = refl
 object_by g os i (Start p key) object = absurd object
 object_by g os i (Resume p) object = absurd object
-object_by g os i (Bank b) object = refl
-object_by g os i Discrim object = refl
+object_by g os i c object = refl
 
 -- the result code of an invocation by the capability that is invoked
 abbrev pub code_by : Geometry → List Object → Invocation → Capability → Option ResultCode
 code_by g os i c = elim c [ Start q key ↦ None | Resume q ↦ None | _ ↦ Some (ordered g os i).code ]
 
 object_code : (g : Geometry) (os : List Object) (i : Invocation) (c : Capability) → IsKernelObject c → code_by g os i c ≡ Some (ordered g os i).code
-object_code g os i Void object = refl
-object_code g os i (Number n) object = refl
-object_code g os i (Page o a) object = refl
-object_code g os i (Node o a) object = refl
-object_code g os i (Space o h a) object = refl
-object_code g os i (Process p) object = refl
 object_code g os i (Start p key) object = absurd object
 object_code g os i (Resume p) object = absurd object
-object_code g os i (Bank b) object = refl
-object_code g os i Discrim object = refl
+object_code g os i c object = refl
 
 pub object_invoked : (g : Geometry) (os : List Object) (i : Invocation) (caller : Caller) → IsRequested os i caller → IsKernelObject caller.invoked →
     invoke g os i ≡ Some (on_kernel_object g os i)
@@ -93,11 +78,10 @@ effect_is g os i = refl
 
 -- a process that returns leaves the frame
 pub frame_before : (op : Operation) (os : List Object) (p : ℕ) → IsTrue (is_process os p) → SameFrame os (state_before op os p)
-frame_before Call os p is = frame_refl os
 frame_before Return os p is = state_frame os p Available is
-frame_before Send os p is = frame_refl os
+frame_before c os p is = frame_refl os
 
-module _ (g : Geometry) (os : List Object) (i : Invocation) (caller : Caller) (plan : OrderPlan) (list : List ℕ) (is : IsRequested os i caller)
+module _ {g : Geometry} {os : List Object} {i : Invocation} {caller : Caller} {plan : OrderPlan} {list : List ℕ} (is : IsRequested os i caller)
     (planned : IsPlanned g os i caller plan list) (process : IsTrue (is_process os caller.process)) where
   abbrev word : ℕ
   word = slice_index i.words 0
@@ -112,15 +96,8 @@ module _ (g : Geometry) (os : List Object) (i : Invocation) (caller : Caller) (p
   effect_requested : on_kernel_object g os i ≡ effect_by caller.operation caller.process caller.annex
       (order g (state_before caller.operation os caller.process) caller.invoked word args)
   effect_requested =
-      effect_is g os i
-      ∙ ap (λ (op : Operation). effect_by op i.process (annex_at os i.process)
-      (order g (state_before op os i.process) (register_at os i.process i.register) word args)) (sym is.operation)
-      ∙ ap (λ (p : ℕ). effect_by caller.operation p (annex_at os i.process)
-      (order g (state_before caller.operation os p) (register_at os i.process i.register) word args)) (sym is.process)
-      ∙ ap (λ (a : ℕ). effect_by caller.operation caller.process a
-      (order g (state_before caller.operation os caller.process) (register_at os i.process i.register) word args)) (sym is.annex)
-      ∙ ap (λ (c : Capability). effect_by caller.operation caller.process caller.annex (order g (state_before caller.operation os caller.process) c word args))
-      (sym is.invoked)
+      effect_is g os i ∙ (λ k. effect_by (sym is.operation k) (sym is.process k) (sym is.annex k)
+      (order g (state_before (sym is.operation k) os (sym is.process k)) (sym is.invoked k) word args))
 
   effect_planned : (op : Operation) → effect_by op caller.process caller.annex (order g (state_before op os caller.process) caller.invoked word args)
       ≡ record {
@@ -131,11 +108,7 @@ module _ (g : Geometry) (os : List Object) (i : Invocation) (caller : Caller) (p
   effect_planned Return =
       let us = with_state os caller.process Available in
       let frame = state_frame os caller.process Available process in
-      ap (λ (vs : List Object). let e : Effect =
-      record { objects = vs; written = writers Return caller.process caller.annex ++ (order g us caller.invoked word args).written } in e)
-      (planned.plans.objects us frame)
-      ∙ ap (λ (ns : List ℕ). let e : Effect = record { objects = changed us rest plan.change; written = writers Return caller.process caller.annex ++ ns } in e)
-      (planned.plans.written us frame)
+      λ k. record { objects = planned.plans.objects us frame k; written = writers Return caller.process caller.annex ++ planned.plans.written us frame k }
   effect_planned Send = ap (effect_by Send caller.process caller.annex) planned.plans.here
 
   pub order_objects : (on_kernel_object g os i).objects ≡ finished os caller rest plan
@@ -164,16 +137,12 @@ module _ (g : Geometry) (os : List Object) (i : Invocation) (caller : Caller) (p
   -- the objects after the order are sound, and what it gives fits
   module _ (now : IsNow g os) (fits : Fits (command.Invoke i)) (runs : IsTrue (is_running_process os i.process)) where
     ordered_requested : ordered g os i ≡ order g (state_before caller.operation os caller.process) caller.invoked word args
-    ordered_requested =
-        ap (λ (op : Operation). order g (state_before op os i.process) (register_at os i.process i.register) word args) (sym is.operation)
-        ∙ ap (λ (p : ℕ). order g (state_before caller.operation os p) (register_at os i.process i.register) word args) (sym is.process)
-        ∙ ap (λ (c : Capability). order g (state_before caller.operation os caller.process) c word args) (sym is.invoked)
+    ordered_requested = λ k. order g (state_before (sym is.operation k) os (sym is.process k)) (sym is.invoked k) word args
 
     pub order_after : IsNow g (ordered_by os caller rest plan)
     order_after =
         subst (IsNow g) (ap (λ (o : OrderOutcome). o.objects) ordered_requested ∙ planned.plans.objects (state_before caller.operation os caller.process)
-        (frame_before caller.operation os caller.process process))
-        (ordered_keeps g os i now fits runs).now
+        (frame_before caller.operation os caller.process process)) (ordered_keeps g os i now fits runs).now
 
     pub order_fits : object_count g < 2 ^ 64 → FitsCap g plan.reply.capability
     order_fits few =
@@ -185,7 +154,6 @@ module _ (g : Geometry) (os : List Object) (i : Invocation) (caller : Caller) (p
     -- the code of the plan is the order's
     pub order_code : IsKernelObject caller.invoked → result_code g os i ≡ Some plan.reply.code
     order_code object =
-        ap (code_by g os i) (sym is.invoked)
-        ∙ object_code g os i caller.invoked object
+        ap (code_by g os i) (sym is.invoked) ∙ object_code g os i caller.invoked object
         ∙ ap Some (ap (λ (o : OrderOutcome). o.code) ordered_requested ∙ planned.plans.code (state_before caller.operation os caller.process)
         (frame_before caller.operation os caller.process process))

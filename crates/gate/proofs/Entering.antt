@@ -1,7 +1,7 @@
 -- The effect of an invocation through a gate.
 use Rattle.gate.proofs.Names.{ℕ, Bool, true, false, List, None, Some, refl, sym, ap, subst, IsTrue, slice_set, All, All-map, All-set, Capability, Resume}
-use Rattle.gate.proofs.Names.{Invocation, Operation, Call, Return, Send, Geometry, Object, Effect, can_start, invoke, sent_by, through_gate, NamesItsKind}
-use Rattle.gate.proofs.Names.{object_count, annex_at, is_process, register_at, IsNow, held_to, AreSound, Parts, objects_in, Gate, Caller, IsRequested, entered}
+use Rattle.gate.proofs.Names.{Invocation, Operation, Call, Geometry, Object, Effect, can_start, invoke, sent_by, through_gate, NamesItsKind, object_count}
+use Rattle.gate.proofs.Names.{annex_at, is_process, register_at, IsNow, held_to, AreSound, Parts, objects_in, Gate, Caller, IsRequested, entered}
 use Rattle.gate.proofs.Names.{gate_capability, received, result_code, written_through, FitsCap}
 use Rattle.std.proofs.Common.{◌≡◌, ◌^◌, ◌<◌, ◌||◌, ◌∙◌, if◌then◌else◌}
 use Rattle.gate.proofs.Effects.{code_by, invoke_is, invoked_by}
@@ -38,8 +38,7 @@ stalled_by g os i q key true can = cc
 stalled_by g os i q key false can = ap (λ (b : Bool). if b then Some (through_gate os i q key) else None) can
 
 pub gate_stalled : (g : Geometry) (os : List Object) (i : Invocation) (caller : Caller) (gate : Gate) → IsRequested os i caller →
-    caller.invoked ≡ gate_capability gate →
-    (gate.is_resume || can_start os i gate.process) ≡ false → invoke g os i ≡ None
+    caller.invoked ≡ gate_capability gate → (gate.is_resume || can_start os i gate.process) ≡ false → invoke g os i ≡ None
 gate_stalled g os i caller gate is same can =
     invoke_is g os i ∙ ap (invoked_by g os i) (sym is.invoked ∙ same) ∙ stalled_by g os i gate.process gate.key gate.is_resume can
 
@@ -57,10 +56,9 @@ gate_names : (os : List Object) (q key : ℕ) (b : Bool) → NamesItsKind os (ga
 gate_names os q key true kind = kind.0
 gate_names os q key false kind = kind
 
-pub gate_process : (p : Parts) (sound : AreSound p) (i : Invocation) (caller : Caller) (gate : Gate) → IsRequested (objects_in p) i caller →
-    caller.invoked ≡ gate_capability gate →
-    IsTrue (is_process (objects_in p) gate.process)
-gate_process p sound i caller gate requested same =
+pub gate_process : (p : Parts) (sound : AreSound p) {i : Invocation} {caller : Caller} (gate : Gate) → IsRequested (objects_in p) i caller →
+    caller.invoked ≡ gate_capability gate → IsTrue (is_process (objects_in p) gate.process)
+gate_process p sound {i} {caller} gate requested same =
     gate_names (objects_in p) gate.process gate.key gate.is_resume
     (subst (NamesItsKind (objects_in p)) same (register_kind p sound i.process i.register caller.invoked requested.invoked))
 
@@ -76,5 +74,4 @@ received_fits g os i sent now few is same = go i.operation
 
     go : (o : Operation) → All (FitsCap g) (elim o [ Call ↦ slice_set sent 3 (Resume i.process) | _ ↦ sent ])
     go Call = All-set (FitsCap g) sent 3 (Resume i.process) (resume_fits g os now.frame.kinds few i.process is) all
-    go Return = all
-    go Send = all
+    go c = all

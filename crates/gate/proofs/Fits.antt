@@ -1,9 +1,9 @@
 -- Capabilities that may be kept.
-use Rattle.gate.proofs.Names.{ℕ, true, List, length, refl, sym, subst, arith, IsTrue, get_or-map, Cap, Capability, Void, Number, Page, Node, Space, Process}
-use Rattle.gate.proofs.Names.{Start, Resume, Bank, Discrim, Frame, ObjectHeader, Geometry, Content, Object, blank_frame, conveyed, current_count, frame_at}
-use Rattle.gate.proofs.Names.{header_at, headers, held_at, AreKeepable, IsCount, IsKeptCap, IsNodeNumber, is_annex, is_node, is_root, map_content, IsOfKind}
-use Rattle.gate.proofs.Names.{MayBeHeld, object_count, content_at, Parts, frames_of, objects_in, content_there, headers_in, known_used, node_used}
-use Rattle.gate.proofs.Names.{keepable_count, bank_number, node_number, page_number, root_number, FitsCap}
+use Rattle.gate.proofs.Names.{ℕ, true, List, length, refl, sym, subst, arith, IsTrue, get_or-map, Cap, Capability, Number, Page, Node, Space, Process, Start}
+use Rattle.gate.proofs.Names.{Resume, Bank, Frame, ObjectHeader, Geometry, Content, Object, blank_frame, conveyed, current_count, frame_at, header_at, headers}
+use Rattle.gate.proofs.Names.{held_at, AreKeepable, IsCount, IsKeptCap, IsNodeNumber, is_annex, is_node, is_root, map_content, IsOfKind, MayBeHeld}
+use Rattle.gate.proofs.Names.{object_count, content_at, Parts, frames_of, objects_in, content_there, headers_in, known_used, node_used, keepable_count}
+use Rattle.gate.proofs.Names.{bank_number, node_number, page_number, root_number, FitsCap}
 use Rattle.std.proofs.Common.{◌≡◌, ◌^◌, ◌<◌, ◌≤◌}
 use Rattle.model.specs.declared.object.Content.TheVariants as content
 
@@ -19,7 +19,6 @@ module _ (g : Geometry) (age : ℕ) (fs : List Frame) (keepable : AreKeepable g 
   calls_fit n inside = subst (λ (h : ObjectHeader). IsCount age h.calls) (sym (header_there fs n)) (keepable.each n inside).kept.calls
 
   pub live_is_kept : (c : Capability) → FitsCap g c → IsKeptCap g age (record { what = c; count = current_count (headers fs) c })
-  live_is_kept Void fits = refl
   live_is_kept (Number n) fits = fits
   live_is_kept (Page o a) fits = (fits.0, fits.1, allocations_fit o fits.1.1)
   live_is_kept (Node o a) fits = (fits.0, fits.1, allocations_fit o (omega (arith, fits.1.0)))
@@ -28,7 +27,7 @@ module _ (g : Geometry) (age : ℕ) (fs : List Frame) (keepable : AreKeepable g 
   live_is_kept (Start p key) fits = (fits.0, fits.1, allocations_fit p (omega (arith, fits.1.0)))
   live_is_kept (Resume p) fits = (fits.0, calls_fit p (omega (arith, fits.0.0)))
   live_is_kept (Bank b) fits = (fits.0, allocations_fit b (omega (arith, fits.0.0)))
-  live_is_kept Discrim fits = refl
+  live_is_kept c fits = refl
 
 -- what may be held in objects of their kinds fits
 module _ (g : Geometry) (os : List Object) (kinds : (n : ℕ) → IsOfKind g n (content_at os n)) (few : object_count g < 2 ^ 64) where
@@ -39,7 +38,6 @@ module _ (g : Geometry) (os : List Object) (kinds : (n : ℕ) → IsOfKind g n (
   zero_count = (omega arith, omega arith)
 
   pub held_fits : (c : Capability) → MayBeHeld os c → FitsCap g c
-  held_fits Void h = refl
   held_fits (Number n) h = (h.0, refl)
   held_fits (Page o a) h = let place = page_number g o (content_at os o) (kinds o) h.1 in (h.0, (place.0, place.1, omega (arith, place.1, few)), zero_count)
   held_fits (Node o a) h = (h.0, kept_number o (node_number g o (content_at os o) (kinds o) h.1), zero_count)
@@ -48,7 +46,7 @@ module _ (g : Geometry) (os : List Object) (kinds : (n : ℕ) → IsOfKind g n (
   held_fits (Start p key) h = (h.0, kept_number p (root_number g p (content_at os p) (kinds p) h.1), zero_count)
   held_fits (Resume p) h = (kept_number p (root_number g p (content_at os p) (kinds p) h.1.0), zero_count)
   held_fits (Bank b) h = (kept_number b (bank_number g b (content_at os b) (kinds b) h.1), zero_count)
-  held_fits Discrim h = refl
+  held_fits c h = refl
 
   -- and so does the right to resume a process
   pub resume_fits : (p : ℕ) → IsTrue (is_root (content_at os p)) → FitsCap g (Resume p)
@@ -62,17 +60,13 @@ fits_kept g age p keepable c fits =
     (live_is_kept g age (frames_of p) keepable c fits)
 
 -- frames that can be kept in a geometry can be in the same one
-pub in_geometry : (f g : Geometry) (age : ℕ) (fs : List Frame) → f ≡ g → AreKeepable g age fs → AreKeepable f age fs
-in_geometry f g age fs same k = subst (λ (h : Geometry). AreKeepable h age fs) (sym same) k
+pub in_geometry : {f g : Geometry} {age : ℕ} {fs : List Frame} → f ≡ g → AreKeepable g age fs → AreKeepable f age fs
+in_geometry {f} {g} {age} {fs} same k = subst (λ (h : Geometry). AreKeepable h age fs) (sym same) k
 
 -- what is a node isn't an annex
 no_annex_map : (f : Cap → Capability) (c : Content Cap) → is_node (map_content f c) ≡ true → is_annex c ≡ true → ⊥
 no_annex_map f content.Free node annex = cc
-no_annex_map f (content.Page words) node annex = cc
-no_annex_map f (content.Node slots) node annex = cc
-no_annex_map f (content.Root r) node annex = cc
-no_annex_map f (content.Annex registers) node annex = cc
-no_annex_map f (content.Bank limit) node annex = cc
+no_annex_map f c node annex = cc
 
 pub node_is_no_annex : (p : Parts) (n : ℕ) → IsTrue (is_node (content_at (objects_in p) n)) → IsTrue (is_annex (held_at p.contents n)) → ⊥
 node_is_no_annex p n node annex =

@@ -1,8 +1,8 @@
 -- The outcome of an invocation, from what its read-only calls, its announcing and its change reported.
-use Rattle.gate.proofs.Names.{ℕ, Bool, false, List, Option, None, Some, Result, Ok, Err, refl, sym, ap, subst, ⊎_elim, arith, cases_lt, IfOk, IsErrOf, IsTrue}
-use Rattle.gate.proofs.Names.{OnErr, Invocation, Geometry, Object, ResultCode, Effect, invoke, AreCurrent, AreKeepable, touching, touched_count, Fits}
-use Rattle.gate.proofs.Names.{is_running_process, PrepareFault, IsUnchanged, Parts, Prepares, Renews, frames_of, objects_in, InvokeFault, Invoked}
-use Rattle.gate.proofs.Names.{FetchesOrFails, Failed, IsErr, Invokes, IsOfGate, Overfills, fault_of, result_code}
+use Rattle.gate.proofs.Names.{ℕ, Bool, false, List, Option, None, Some, Result, Ok, Err, refl, sym, ap, subst, arith, IfOk, IsErrOf, IsTrue, OnErr, Invocation}
+use Rattle.gate.proofs.Names.{Geometry, Object, ResultCode, Effect, invoke, AreCurrent, AreKeepable, touching, touched_count, Fits, is_running_process}
+use Rattle.gate.proofs.Names.{PrepareFault, IsUnchanged, Parts, Prepares, Renews, frames_of, objects_in, InvokeFault, Invoked, FetchesOrFails, Failed, IsErr}
+use Rattle.gate.proofs.Names.{Invokes, IsOfGate, Overfills, fault_of, result_code, unrisen}
 use Rattle.std.proofs.Common.{◌≡◌, ◌+◌, ◌^◌, ◌<◌, ◌≤◌, ◌∙◌}
 use Rattle.model.specs.declared.command.Command.TheVariants as command
 use Rattle.capability.specs.declared.present.PrepareFault.TheVariants as prepare
@@ -34,10 +34,10 @@ fault_failed : {T U : Type 0} (e : PrepareFault) → IsErrOf {T = T} (Err e) pre
 fault_failed prepare.Failed is = refl
 fault_failed prepare.LogFull is = cc
 
-ok_no_failure : {T : Type 0} (x : T) → (let r : Result T PrepareFault = Ok x in IsErrOf r prepare.Failed) → ⊥
+pub ok_no_failure : {T : Type 0} (x : T) → (let r : Result T PrepareFault = Ok x in IsErrOf r prepare.Failed) → ⊥
 ok_no_failure x is = cc
 
-ok_no_err : {T : Type 0} (x : T) → IsErr {T = T} {E = Failed} (Ok x) → ⊥
+pub ok_no_err : {T : Type 0} (x : T) → IsErr {T = T} {E = Failed} (Ok x) → ⊥
 ok_no_err x is = cc
 
 on_err : {T E : Type 0} (r : Result T E) {P Q : Type 0} → (P → Q) → OnErr r P → OnErr r Q
@@ -48,23 +48,17 @@ if_ok : {T E : Type 0} (r : Result T E) {P Q : T → Type 0} → ((x : T) → P 
 if_ok (Ok x) f p = f x p
 if_ok (Err e) f p = tt
 
--- what rose by no failure stayed
-unrisen : (m n : ℕ) → m ≤ n → (m < n → ⊥) → n ≡ m
-unrisen m n later stayed = ⊎_elim (λ (rose : m < n). absurd (stayed rose)) (λ (within : n ≤ m). omega arith) (cases_lt m n)
-
-module _ {S : Type 0} (parts : S → Parts) (Continues : S → S → Type 0) (i : Invocation) where
+module _ {S : Type 0} {parts : S → Parts} {Continues : S → S → Type 0} (i : Invocation) where
   -- an invocation after a read-only call
-  module _ (twice : (s t u : S) → Continues s t → Continues t u → Continues s u) (s t u : S) {T : Type 0} (x : T)
+  module _ (twice : (s t u : S) → Continues s t → Continues t u → Continues s u) {s t : S} (u : S) {T : Type 0} {x : T}
       (only_reads : FetchesOrFails {T = T} parts Continues s t (Ok x)) where
     still : (parts t).failures ≡ (parts s).failures
     still = unrisen (parts s).failures (parts t).failures only_reads.later (λ rose. ok_no_err x (only_reads.cause.1 rose))
 
     before : (P : Geometry → List Object → List Bool → Type 0) → P (parts t).geometry (objects_in (parts t)) (parts t).touched →
         P (parts s).geometry (objects_in (parts s)) (parts s).touched
-    before P p =
-        subst (λ (g : Geometry). P g (objects_in (parts s)) (parts s).touched) only_reads.snapshots.geometry
-        (subst (λ (os : List Object). P (parts t).geometry os (parts s).touched) (looked_objects (parts s) (parts t) (looked_as only_reads.snapshots))
-        (subst (λ (ts : List Bool). P (parts t).geometry (objects_in (parts t)) ts) only_reads.snapshots.touched p))
+    before P p = subst (λ (X : Type 0). X)
+        (λ k. P (only_reads.snapshots.geometry k) (looked_objects (looked_as only_reads.snapshots) k) (only_reads.snapshots.touched k)) p
 
     -- a refusal that only a read reported
     found : (k : InvokeFault) → IsOfGate k → (IsErrOf {T = Option ResultCode} (Err k) fault.LogFull → ⊥) →
@@ -99,8 +93,8 @@ module _ {S : Type 0} (parts : S → Parts) (Continues : S → S → Type 0) (i 
       runs = λ e. before (λ g os ts. is_running_process os i.process ≡ false) (is.runs e);
       stalled = λ e. before (λ g os ts. invoke g os i ≡ None) (is.stalled e);
       full = λ e. before (λ g os ts. Overfills g i os ts) (is.full e);
-      sound = on_ok r (keeps_looked (parts s) (parts t) (parts u) (looked_as only_reads.snapshots)) is.sound;
-      renews = on_ok r (renews_looked (parts s) (parts t) (parts u) (looked_as only_reads.snapshots)) is.renews;
+      sound = on_ok r (keeps_looked (parts u) (looked_as only_reads.snapshots)) is.sound;
+      renews = on_ok r (renews_looked (looked_as only_reads.snapshots)) is.renews;
       unchanged = on_err r (λ (same : IsUnchanged (parts t) (parts u)). record {
         headers = same.headers ∙ only_reads.snapshots.headers;
         contents = same.contents ∙ only_reads.snapshots.contents;
@@ -151,7 +145,7 @@ module _ {S : Type 0} (parts : S → Parts) (Continues : S → S → Type 0) (i 
           all_still = failures ∙ unrisen (parts t).failures (parts m).failures replying.later (λ rose. ok_no_failure y (replying.cause.1 rose)) ∙ still
 
           there : ReadsAs (parts s) (parts m)
-          there = only_reads_again (parts s) (parts t) (parts m) (looked_as only_reads.snapshots) (prepared_as replying)
+          there = only_reads_again (looked_as only_reads.snapshots) (prepared_as replying)
 
           pub carried_out : (parts u).touched ≡ (parts m).touched → (parts u).geometry ≡ (parts m).geometry → Continues m u → objects_in (parts u) ≡ e.objects
               → Fits (command.Invoke i) → IsTrue (is_running_process (objects_in (parts s)) i.process) → AreCurrent (frames_of (parts u))
@@ -170,9 +164,7 @@ module _ {S : Type 0} (parts : S → Parts) (Continues : S → S → Type 0) (i 
             stalled = λ is. cc;
             full = λ is. cc;
             sound = λ age young sound. sound_after (parts s).geometry age (frames_of (parts s)) (frames_of (parts u)) i e young fits running invoked objects
-                sound
-                (in_geometry (parts s).geometry (parts m).geometry (age + 1) (frames_of (parts u)) (sym there.geometry)
-                (keepable age (omega (arith, young)) (looked_keepable (parts s) (parts m) there age sound.keepable)))
+                sound (in_geometry (sym there.geometry) (keepable age (omega (arith, young)) (looked_keepable there age sound.keepable)))
                 current;
             renews = renews;
             unchanged = tt;

@@ -1,8 +1,7 @@
 -- Which numbers have objects.
-use Rattle.gate.proofs.Names.{ℕ, zero, suc, true, false, Bool, Some, List, [], length, refl, ap, subst, arith, IsTrue, All, Capability, Void, Number, Page}
-use Rattle.gate.proofs.Names.{Node, Space, Process, Start, Resume, Bank, Discrim, ObjectHeader, Object, named, frames_in, is_annex, is_free, NamesItsKind}
-use Rattle.gate.proofs.Names.{content_at, is_process, is_running_process, Parts, frames_of, objects_in, annex_used, bank_used, known_used, node_used, page_used}
-use Rattle.gate.proofs.Names.{root_used}
+use Rattle.gate.proofs.Names.{ℕ, zero, suc, true, false, Bool, Some, List, [], length, refl, ap, subst, arith, IsTrue, All, Capability, Page, Node, Space}
+use Rattle.gate.proofs.Names.{Process, Start, Resume, Bank, ObjectHeader, Object, named, frames_in, is_annex, is_free, NamesItsKind, content_at, is_process}
+use Rattle.gate.proofs.Names.{is_running_process, Parts, frames_of, objects_in, annex_used, bank_used, known_used, node_used, page_used, root_used}
 use Rattle.std.proofs.Common.{◌≡◌, ◌<◌, ◌&&◌, ◌∷◌, ◌∙◌}
 
 pub annex_known : (p : Parts) (n : ℕ) → IsTrue (is_annex (content_at (objects_in p) n)) → n < length p.headers
@@ -11,8 +10,6 @@ annex_known p n is = known_used p n (annex_used (content_at (objects_in p) n) is
 -- what a capability names that may be held isn't free
 module _ (os : List Object) where
   pub named_used : (c : Capability) → NamesItsKind os c → (n : ℕ) → named c ≡ Some n → is_free (content_at os n) ≡ false
-  named_used Void kind n is = cc
-  named_used (Number m) kind n is = cc
   named_used (Page o a) kind n is = let e : o ≡ n = cc in subst (λ (m : ℕ). is_free (content_at os m) ≡ false) e (page_used (content_at os o) kind)
   named_used (Node o a) kind n is = let e : o ≡ n = cc in subst (λ (m : ℕ). is_free (content_at os m) ≡ false) e (node_used (content_at os o) kind)
   named_used (Space o h a) kind n is = let e : o ≡ n = cc in subst (λ (m : ℕ). is_free (content_at os m) ≡ false) e (node_used (content_at os o) kind)
@@ -20,7 +17,7 @@ module _ (os : List Object) where
   named_used (Start o key) kind n is = let e : o ≡ n = cc in subst (λ (m : ℕ). is_free (content_at os m) ≡ false) e (root_used (content_at os o) kind)
   named_used (Resume o) kind n is = let e : o ≡ n = cc in subst (λ (m : ℕ). is_free (content_at os m) ≡ false) e (root_used (content_at os o) kind.0)
   named_used (Bank o) kind n is = let e : o ≡ n = cc in subst (λ (m : ℕ). is_free (content_at os m) ≡ false) e (bank_used (content_at os o) kind)
-  named_used Discrim kind n is = cc
+  named_used c kind n is = cc
 
 pub named_known : (p : Parts) (c : Capability) → NamesItsKind (objects_in p) c → (n : ℕ) → named c ≡ Some n → n < length p.headers
 named_known p c kind n is = known_used p n (named_used (objects_in p) c kind n is)

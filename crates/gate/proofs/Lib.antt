@@ -3,10 +3,9 @@ pub mod BankStates
 mod Effects
 mod Entering
 mod Fits
-mod Invoking
+pub mod Invoking
 pub mod Known
 mod Listed
-mod Messages
 mod Plans
 mod Renewing
 mod Roles

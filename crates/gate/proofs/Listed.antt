@@ -31,9 +31,8 @@ abbrev asking : Operation → ℕ → List ℕ
 asking operation p = elim operation [ Send ↦ [] | _ ↦ p ∷ [] ]
 
 asking_in : (operation : Operation) (p q a : ℕ) → (operation ≡ Send → ⊥) → Contains (written_through operation p q a) p
-asking_in Call p q a other = third_in q a p []
-asking_in Return p q a other = third_in q a p []
 asking_in Send p q a other = absurd (other refl)
+asking_in c p q a other = third_in q a p []
 
 pub announced_through : (Announced : ℕ → Type 0) (operation : Operation) (p q a : ℕ) → ((n : ℕ) → Contains (written_through operation p q a) n → Announced n)
     → Announced q × Announced a × ((operation ≡ Send → ⊥) → Announced p)

@@ -34,7 +34,7 @@ pub use Rattle.model.specs.World.{World, annex_at, content_at, is_process, is_ru
 unfoldable pub use Rattle.model.specs.World.{with_content, with_root, with_slot, with_state, with_word}
 pub use Rattle.model.specs.declared.capability.Cap.{Cap}
 pub use Rattle.model.specs.declared.capability.Capability.{Capability}
-pub use Rattle.model.specs.declared.capability.Capability.TheVariants.{Bank, Discrim, Node, Number, Page, Process, Resume, Space, Start, Void}
+pub use Rattle.model.specs.declared.capability.Capability.TheVariants.{Bank, Node, Number, Page, Process, Resume, Space, Start, Void}
 pub use Rattle.model.specs.declared.command.Invocation.{Invocation}
 pub use Rattle.model.specs.declared.command.Message.{Message}
 pub use Rattle.model.specs.declared.command.Operation.{Operation}
@@ -44,7 +44,6 @@ pub use Rattle.model.specs.declared.frame.ObjectHeader.{ObjectHeader}
 pub use Rattle.model.specs.declared.geometry.Geometry.{Geometry}
 pub use Rattle.model.specs.declared.object.Content.{Content}
 pub use Rattle.model.specs.declared.object.Object.{Object}
-pub use Rattle.model.specs.declared.object.Root.{Root}
 pub use Rattle.model.specs.declared.object.State.{State}
 pub use Rattle.model.specs.declared.object.State.TheVariants.{Available, Waiting}
 pub use Rattle.model.specs.declared.order.Arguments.{Arguments}
@@ -59,7 +58,8 @@ pub use Rattle.model_laws.proofs.SoundOrders.{AreArguments, IsNow}
 pub use Rattle.model_laws.proofs.SoundParts.{IsHeld, Waits, held_to, nearly_from}
 pub use Rattle.model_laws.proofs.Usage.{SameFrame, frame_refl, tests_at, usage_same}
 pub use Rattle.space_bank.proofs.Ending.{snapshots_alone}
-pub use Rattle.space_bank.proofs.Renewing.{SameAllocations, SameFree, renews_after, renews_none, renews_then}
+pub use Rattle.space_bank.proofs.Missing.{counted_listed}
+pub use Rattle.space_bank.proofs.Renewing.{SameAllocations, SameFree, renews_after, renews_none, renews_then, unrisen}
 pub use Rattle.space_bank.specs.Allocating.{numbers_of}
 pub use Rattle.space_bank.specs.Banks.{AreCounted, BanksState, MayAsk}
 pub use Rattle.space_bank.specs.Carrying.{IsForBank, MayMake, PlansAs}
@@ -68,7 +68,6 @@ pub use Rattle.std.proofs.Common.{Bool, Err, List, None, Ok, Option, Result, Som
 pub use Rattle.std.proofs.Common.{true, zero, ℕ, ⊎_elim}
 pub use Rattle.std.proofs.Math.ListN.{get_or-map}
 pub use Rattle.std.proofs.Math.Seq.{map-set_same}
-pub use Rattle.std.proofs.lemmas.Bool.{cases_lt}
 pub use Rattle.std.proofs.lemmas.List.Elements.{All-drop, All-map, All-set}
 pub use Rattle.std.proofs.lemmas.Result.{err_from_is_err_and}
 pub use Rattle.std.specs.List.{All, Contains}

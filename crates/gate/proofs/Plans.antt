@@ -1,12 +1,12 @@
 -- The effect of an order that is carried out as planned.
 use Rattle.gate.proofs.Names.{⊎_elim, ℕ, zero, suc, true, List, [], Option, None, Some, drop, length, refl, sym, ap, subst, arith, IsTrue, slice_index, All}
-use Rattle.gate.proofs.Names.{option_to_list, Capability, Void, Number, Page, Node, Space, Process, Start, Resume, Bank, Discrim, Invocation, Operation, Call}
-use Rattle.gate.proofs.Names.{Return, Send, Geometry, Object, Arguments, BankOrder, on_bank, is_annex, is_bank, is_node, OrderOutcome, refused, bank_order}
-use Rattle.gate.proofs.Names.{order, NamesItsKind, object_count, Fits, annex_at, content_at, is_process, register_at, used_within, annex_kept, written_within}
-use Rattle.gate.proofs.Names.{all_words, held_sent, AreArguments, IsNow, IsHeld, Waits, held_to, SameFrame, frame_refl, tests_at, BankChange, Caller, Change}
-use Rattle.gate.proofs.Names.{OrderPlan, changed, outcome_by, target_of, written_of, numbers_of, IsForBank, MayMake, PlansAs, writer_count, writers}
-use Rattle.gate.proofs.Names.{IsRequested, IsPlanned, Plans, arguments_of, ChangesAs, FitsCap, HaveAnnexesOf, IsFor, IsOfProcess, IsWithinObject, MayChange}
-use Rattle.gate.proofs.Names.{MayEdit, MayHold, fetched_of, node_named, outcome_of, process_named, annex_used, node_used, root_used}
+use Rattle.gate.proofs.Names.{option_to_list, Capability, Number, Node, Process, Bank, Invocation, Operation, Call, Geometry, Object, Arguments, BankOrder}
+use Rattle.gate.proofs.Names.{on_bank, is_annex, is_bank, is_node, OrderOutcome, refused, bank_order, order, NamesItsKind, object_count, Fits, annex_at}
+use Rattle.gate.proofs.Names.{content_at, is_process, register_at, used_within, annex_kept, written_within, all_words, held_sent, AreArguments, IsNow, IsHeld}
+use Rattle.gate.proofs.Names.{Waits, held_to, SameFrame, frame_refl, tests_at, BankChange, Caller, Change, OrderPlan, changed, outcome_by, target_of}
+use Rattle.gate.proofs.Names.{written_of, numbers_of, IsForBank, MayMake, PlansAs, writer_count, writers, IsRequested, IsPlanned, Plans, arguments_of}
+use Rattle.gate.proofs.Names.{ChangesAs, FitsCap, HaveAnnexesOf, IsFor, IsOfProcess, IsWithinObject, MayChange, MayEdit, MayHold, fetched_of, node_named}
+use Rattle.gate.proofs.Names.{outcome_of, process_named, annex_used, node_used, root_used}
 use Rattle.std.proofs.Common.{◌≡◌, ◌^◌, ◌<◌, ◌++◌, ◌∙◌}
 use Rattle.model.specs.declared.command.Command.TheVariants as command
 use Rattle.model.specs.declared.order.ResultCode.TheVariants as code
@@ -22,61 +22,37 @@ none_all P k d inside = absurd (omega arith)
 -- the process and the node that a capability names that may be held
 pub process_there : (os : List Object) (c : Capability) → NamesItsKind os c → (p : ℕ) → process_named c ≡ Some p → IsTrue (is_process os p)
 process_there os (Process q) kind p is = let e : q ≡ p = cc in subst (λ (n : ℕ). IsTrue (is_process os n)) e kind
-process_there os Void kind p is = cc
-process_there os (Number n) kind p is = cc
-process_there os (Page o a) kind p is = cc
-process_there os (Node o a) kind p is = cc
-process_there os (Space o h a) kind p is = cc
-process_there os (Start q key) kind p is = cc
-process_there os (Resume q) kind p is = cc
-process_there os (Bank b) kind p is = cc
-process_there os Discrim kind p is = cc
+process_there os c kind p is = cc
 
 node_there : (os : List Object) (c : Capability) → NamesItsKind os c → (n : ℕ) → node_named c ≡ Some n → IsTrue (is_node (content_at os n))
 node_there os (Node o a) kind n is = let e : o ≡ n = cc in subst (λ (m : ℕ). IsTrue (is_node (content_at os m))) e kind
-node_there os Void kind n is = cc
-node_there os (Number m) kind n is = cc
-node_there os (Page o a) kind n is = cc
-node_there os (Process q) kind n is = cc
-node_there os (Space o h a) kind n is = cc
-node_there os (Start q key) kind n is = cc
-node_there os (Resume q) kind n is = cc
-node_there os (Bank b) kind n is = cc
-node_there os Discrim kind n is = cc
+node_there os c kind n is = cc
 
 module _ (os : List Object) (c : Capability) (args : Arguments) (kind : NamesItsKind os c) where
   for_within : (x : Change) → IsFor os c args x → IsWithinObject x
-  for_within change.Nothing for = tt
   for_within (change.Word page index word) for = for.0
   for_within (change.Slot node slot held) for = for.0
   for_within (change.Register process annex register held) for = (for.0, for.1)
   for_within (change.RootWord process index word) for = for.0
-  for_within (change.SetState process state) for = tt
-  for_within (change.Space process held) for = tt
   for_within (change.Bank made) for = for
+  for_within x for = tt
 
   for_process : (x : Change) → IsFor os c args x → IsOfProcess os x
-  for_process change.Nothing for = tt
-  for_process (change.Word page index word) for = tt
-  for_process (change.Slot node slot held) for = tt
-  for_process (change.Register process annex register held) for = tt
   for_process (change.RootWord process index word) for = process_there os c kind process for.1
   for_process (change.SetState process state) for = process_there os c kind process for
   for_process (change.Space process held) for = process_there os c kind process for.0
   for_process (change.Bank made) for = absurd for
+  for_process x for = tt
 
   for_holds : (g : Geometry) → FitsCap g args.capability → args.second < 2 ^ 64 → (x : Change) → IsFor os c args x → MayHold g os x
-  for_holds g fits small change.Nothing for = tt
-  for_holds g fits small (change.Word page index word) for = tt
   for_holds g fits small (change.Slot node slot held) for = (
     ⊎_elim (λ (e : held ≡ args.capability). subst (FitsCap g) (sym e) fits) (λ (e : held ≡ Number args.second). subst (FitsCap g) (sym e) (small, refl)) for.2,
     node_there os c kind node for.1,
   )
   for_holds g fits small (change.Register process annex register held) for = subst (FitsCap g) (sym for.4) fits
-  for_holds g fits small (change.RootWord process index word) for = tt
-  for_holds g fits small (change.SetState process state) for = tt
   for_holds g fits small (change.Space process held) for = (subst (FitsCap g) (sym for.1) fits, for.2)
   for_holds g fits small (change.Bank made) for = absurd for
+  for_holds g fits small x for = tt
 
   -- what it writes is one of the objects
   for_target : ((p : ℕ) → IsTrue (is_process os p) → IsTrue (is_annex (content_at os (annex_at os p)))) → (x : Change) → IsFor os c args x → (n : ℕ) →
@@ -104,58 +80,33 @@ module _ (os : List Object) (c : Capability) (args : Arguments) (kind : NamesIts
 -- an edit that may be made may be made also where the frame is the same
 module _ (g : Geometry) (os us : List Object) (frame : SameFrame os us) where
   process_alike : (x : Change) → IsOfProcess os x → IsOfProcess us x
-  process_alike change.Nothing of = tt
-  process_alike (change.Word page index word) of = tt
-  process_alike (change.Slot node slot held) of = tt
-  process_alike (change.Register process annex register held) of = tt
   process_alike (change.RootWord process index word) of = (tests_at os us frame process).root ∙ of
   process_alike (change.SetState process state) of = (tests_at os us frame process).root ∙ of
   process_alike (change.Space process held) of = (tests_at os us frame process).root ∙ of
-  process_alike (change.Bank made) of = tt
+  process_alike c of = tt
 
   holds_alike : (x : Change) → MayHold g os x → MayHold g us x
-  holds_alike change.Nothing holds = tt
-  holds_alike (change.Word page index word) holds = tt
   holds_alike (change.Slot node slot held) holds = (holds.0, (tests_at os us frame node).node ∙ holds.1)
   holds_alike (change.Register process annex register held) holds = holds
-  holds_alike (change.RootWord process index word) holds = tt
-  holds_alike (change.SetState process state) holds = tt
   holds_alike (change.Space process held) holds = holds
-  holds_alike (change.Bank made) holds = tt
+  holds_alike c holds = tt
 
   edit_alike : (list : List ℕ) (x : Change) → MayEdit g os list x → MayEdit g us list x
   edit_alike list x may = record { within = may.within; process = process_alike x may.process; holds = holds_alike x may.holds; listed = may.listed }
 
 module _ (g : Geometry) (os : List Object) (list : List ℕ) where
   pub edit_change : (x : Change) → MayEdit g os list x → MayChange g os list x
-  edit_change change.Nothing may = may
-  edit_change (change.Word page index word) may = may
-  edit_change (change.Slot node slot held) may = may
-  edit_change (change.Register process annex register held) may = may
-  edit_change (change.RootWord process index word) may = may
-  edit_change (change.SetState process state) may = may
-  edit_change (change.Space process held) may = may
   edit_change (change.Bank made) may = absurd may.within
+  edit_change c may = may
 
   pub change_edit : (x : Change) → ((made : BankChange) → x ≡ change.Bank made → ⊥) → MayChange g os list x → MayEdit g os list x
-  change_edit change.Nothing other may = may
-  change_edit (change.Word page index word) other may = may
-  change_edit (change.Slot node slot held) other may = may
-  change_edit (change.Register process annex register held) other may = may
-  change_edit (change.RootWord process index word) other may = may
-  change_edit (change.SetState process state) other may = may
-  change_edit (change.Space process held) other may = may
   change_edit (change.Bank made) other may = absurd (other made refl)
+  change_edit c other may = may
 
   pub bank_change : (x : Change) → IsForBank g os list x → MayChange g os list x
   bank_change change.Nothing may = record { within = tt; process = tt; holds = tt; listed = may }
-  bank_change (change.Word page index word) may = absurd may
-  bank_change (change.Slot node slot held) may = absurd may
-  bank_change (change.Register process annex register held) may = absurd may
-  bank_change (change.RootWord process index word) may = absurd may
-  bank_change (change.SetState process state) may = absurd may
-  bank_change (change.Space process held) may = absurd may
   bank_change (change.Bank made) may = may
+  bank_change c may = absurd may
 
   -- what holds of all that is written holds of what is to be fetched
   made_fetched : (P : ℕ → Type 0) (made : BankChange) → MayMake g os list made → All P list → All P (numbers_of made)
@@ -175,14 +126,8 @@ module _ (g : Geometry) (os : List Object) (list : List ℕ) where
   change_fetched P (change.Bank made) may all = made_fetched P made may all
 
 pub edit_fetched : (x : Change) → ((made : BankChange) → x ≡ change.Bank made → ⊥) → fetched_of x ≡ written_of x
-edit_fetched change.Nothing other = refl
-edit_fetched (change.Word page index word) other = refl
-edit_fetched (change.Slot node slot held) other = refl
-edit_fetched (change.Register process annex register held) other = refl
-edit_fetched (change.RootWord process index word) other = refl
-edit_fetched (change.SetState process state) other = refl
-edit_fetched (change.Space process held) other = refl
 edit_fetched (change.Bank made) other = absurd (other made refl)
+edit_fetched c other = refl
 
 pub target_all : (P : ℕ → Type 0) (o : Option ℕ) → All P (option_to_list o) → (n : ℕ) → o ≡ Some n → P n
 target_all P None all n is = cc
@@ -196,8 +141,7 @@ all_target P (Some m) each (suc k) d inside = absurd (omega arith)
 -- behind the numbers that the invocation writes itself
 pub behind_writers : (op : Operation) (p annex : ℕ) (ns : List ℕ) → drop (writer_count op) (writers op p annex ++ ns) ≡ ns
 behind_writers Call p annex ns = refl
-behind_writers Return p annex ns = refl
-behind_writers Send p annex ns = refl
+behind_writers c p annex ns = refl
 
 pub planned_by : (g : Geometry) (os : List Object) (i : Invocation) (caller : Caller) (plan : OrderPlan) (args : Arguments) (first list rest : List ℕ) →
     args ≡ arguments_of os i
@@ -223,10 +167,8 @@ module _ (g : Geometry) (os : List Object) (i : Invocation) (now : IsNow g os) w
 
 -- an order that isn't a bank's is planned
 pub object_planned : (g : Geometry) (os us : List Object) (i : Invocation) (caller : Caller) (plan : OrderPlan) (args : Arguments) (first list : List ℕ) →
-    us ≡ os → IsNow g os
-    → object_count g < 2 ^ 64 → Fits (command.Invoke i) → IsRequested os i caller → args ≡ arguments_of os i →
-    first ≡ writers caller.operation caller.process caller.annex
-    → list ≡ first ++ written_of plan.change → IsFor us caller.invoked args plan.change
+    us ≡ os → IsNow g os → object_count g < 2 ^ 64 → Fits (command.Invoke i) → IsRequested os i caller → args ≡ arguments_of os i →
+    first ≡ writers caller.operation caller.process caller.annex → list ≡ first ++ written_of plan.change → IsFor us caller.invoked args plan.change
     → outcome_of us plan ≡ order g us caller.invoked (slice_index i.words 0) args
     → ((vs : List Object) → HaveAnnexesOf us vs → ChangesAs vs plan (order g vs caller.invoked (slice_index i.words 0) args)) →
     IsPlanned g os i caller plan list

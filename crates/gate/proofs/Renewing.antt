@@ -21,17 +21,15 @@ free_in_frame p q us objects frame n =
     ap (λ (vs : List Object). is_free (content_at vs n)) objects ∙ (tests_at (objects_in p) us frame n).free
 
 -- the counts after a read-only call
-pub renews_looked : (old mid new : Parts) → ReadsAs old mid → Renews mid new → Renews old new
-renews_looked old mid new only_reads renews =
+pub renews_looked : {old mid new : Parts} → ReadsAs old mid → Renews mid new → Renews old new
+renews_looked {old} {mid} {new} only_reads renews =
     renews_after old mid new (λ n. ap (λ (hs : List ObjectHeader). (header_at hs n).allocations) only_reads.headers)
-    (λ n. ap (λ (us : List Object). is_free (content_at us n)) (looked_objects old mid only_reads)) renews
+    (λ n. ap (λ (us : List Object). is_free (content_at us n)) (looked_objects only_reads)) renews
 
 -- what isn't a bank's order gives nothing up
 pub renews_invoked : (old mid new : Parts) (i : Invocation) (e : Effect) → AreSound old → ReadsAs old mid → Fits (command.Invoke i)
-    → IsTrue (is_running_process (objects_in old) i.process)
-    → IsNoBankOrder (register_at (objects_in old) i.process i.register) (slice_index i.words 0)
+    → IsTrue (is_running_process (objects_in old) i.process) → IsNoBankOrder (register_at (objects_in old) i.process i.register) (slice_index i.words 0)
     → invoke old.geometry (objects_in old) i ≡ Some e → objects_in new ≡ e.objects → SameAllocations mid new → Renews old new
 renews_invoked old mid new i e sound only_reads fits runs other is objects same =
-    let frame = invocation_frame old.geometry (objects_in old) i e (now_sound old sound) fits runs other is in
     renews_none old new (λ n. same n ∙ ap (λ (hs : List ObjectHeader). (header_at hs n).allocations) only_reads.headers)
-    (λ n used. free_in_frame old new e.objects objects frame n ∙ used)
+    (λ n used. free_in_frame old new e.objects objects (invocation_frame old.geometry (objects_in old) i e (now_sound old sound) fits runs other is) n ∙ used)

@@ -1,9 +1,9 @@
 -- What stays of processes while one of them changes.
 use Rattle.gate.proofs.Names.{ℕ, List, [], refl, sym, ap, IsTrue, slice_index_or, get_or-map, map-set_same, Capability, Invocation, Operation, Call, Return}
-use Rattle.gate.proofs.Names.{Send, Content, Object, Root, State, Available, Waiting, after_gate, free, is_root, map_content, root_in, with_slot_in}
-use Rattle.gate.proofs.Names.{with_word_in, with_root_word, with_space, consume, resumes, void_where, without, annex_at, content_at, is_process, root_at}
-use Rattle.gate.proofs.Names.{with_content, with_root, with_slot, with_state, with_word, root_frame, set_frame, slot_frame, word_frame, SameFrame, frame_refl}
-use Rattle.gate.proofs.Names.{Change, changed, IsOfProcess, IsWithinObject}
+use Rattle.gate.proofs.Names.{Send, Content, Object, State, Available, Waiting, after_gate, free, is_root, map_content, root_in, with_slot_in, with_word_in}
+use Rattle.gate.proofs.Names.{with_root_word, with_space, consume, resumes, void_where, without, annex_at, content_at, is_process, root_at, with_content}
+use Rattle.gate.proofs.Names.{with_root, with_slot, with_state, with_word, root_frame, set_frame, slot_frame, word_frame, SameFrame, frame_refl, Change}
+use Rattle.gate.proofs.Names.{changed, IsOfProcess, IsWithinObject}
 use Rattle.std.proofs.Common.{◌≡◌, ◌∙◌}
 use Rattle.model.specs.declared.object.Content.TheVariants as content
 use Rattle.capability.specs.declared.order.Change.TheVariants as change
@@ -18,8 +18,7 @@ module _ {X : Type 0} (field : Content Capability → X) where
   unfolding with_content
   field_kept os n c same m =
       sym (get_or-map field_of (with_content os n c) m free)
-      ∙ ap (λ (xs : List X). slice_index_or xs m (field_of free)) (map-set_same field_of os n _ free same)
-      ∙ get_or-map field_of os m free
+      ∙ ap (λ (xs : List X). slice_index_or xs m (field_of free)) (map-set_same field_of os n _ free same) ∙ get_or-map field_of os m free
 
 -- the annex that a content names
 abbrev annex_in : Content Capability → ℕ
@@ -57,33 +56,20 @@ after_annex os i q = go i.operation
 -- a slot, a word and what goes void leave annexes
 word_annex : (c : Content Capability) (i word : ℕ) → annex_in (with_word_in c i word) ≡ annex_in c
 word_annex content.Free i word = refl
-word_annex (content.Page words) i word = refl
-word_annex (content.Node slots) i word = refl
-word_annex (content.Root r) i word = refl
-word_annex (content.Annex slots) i word = refl
-word_annex (content.Bank limit) i word = refl
+word_annex c i word = refl
 
 slot_annex : (c : Content Capability) (i : ℕ) (held : Capability) → annex_in (with_slot_in c i held) ≡ annex_in c
 slot_annex content.Free i held = refl
-slot_annex (content.Page words) i held = refl
-slot_annex (content.Node slots) i held = refl
-slot_annex (content.Root r) i held = refl
-slot_annex (content.Annex slots) i held = refl
-slot_annex (content.Bank limit) i held = refl
+slot_annex c i held = refl
 
 void_annex : (f : Capability → Capability) (c : Content Capability) → annex_in (map_content f c) ≡ annex_in c
 void_annex f content.Free = refl
-void_annex f (content.Page words) = refl
-void_annex f (content.Node slots) = refl
-void_annex f (content.Root r) = refl
-void_annex f (content.Annex slots) = refl
-void_annex f (content.Bank limit) = refl
+void_annex f c = refl
 
 consume_annex : (p : ℕ) (os : List Object) (q : ℕ) → annex_at (consume p os) q ≡ annex_at os q
 unfolding consume
 consume_annex p os q =
-    ap (λ (o : Object). annex_in o.content) (get_or-map (without (resumes p)) os q free)
-    ∙ void_annex (void_where (resumes p)) (content_at os q)
+    ap (λ (o : Object). annex_in o.content) (get_or-map (without (resumes p)) os q free) ∙ void_annex (void_where (resumes p)) (content_at os q)
 
 -- a change leaves the annex of each process
 pub changed_annex : (os : List Object) (list : List ℕ) (c : Change) → IsWithinObject c → (q : ℕ) → annex_at (changed os list c) q ≡ annex_at os q
@@ -100,14 +86,8 @@ changed_annex os list (change.Bank made) within q = absurd within
 
 -- an edit that a list doesn't have is the same with another list, and leaves the frame
 pub changed_any : (os : List Object) (list : List ℕ) (c : Change) → IsWithinObject c → changed os [] c ≡ changed os list c
-changed_any os list change.Nothing within = refl
-changed_any os list (change.Word page index word) within = refl
-changed_any os list (change.Slot node slot held) within = refl
-changed_any os list (change.Register process annex register held) within = refl
-changed_any os list (change.RootWord process index word) within = refl
-changed_any os list (change.SetState process state) within = refl
-changed_any os list (change.Space process held) within = refl
 changed_any os list (change.Bank made) within = absurd within
+changed_any os list c within = refl
 
 pub changed_frame : (os : List Object) (c : Change) → IsWithinObject c → IsOfProcess os c → SameFrame os (changed os [] c)
 changed_frame os change.Nothing within of = frame_refl os

@@ -41,7 +41,7 @@ module _ {S : Type 0} {parts : S → Parts} {Continues : S → S → Type 0} {s 
   pub prepared_as : {T : Type 0} {ns : List ℕ} {r : Result T PrepareFault} → Prepares parts Continues s t ns r → ReadsAs (parts s) (parts t)
   prepared_as replying = record { headers = replying.headers; contents = replying.contents; geometry = replying.geometry }
 
-module _ (old now : Parts) (only_reads : ReadsAs old now) where
+module _ {old now : Parts} (only_reads : ReadsAs old now) where
   pub looked_frames : frames_of now ≡ frames_of old
   looked_frames = same_frames old now only_reads.headers only_reads.contents
 
@@ -49,23 +49,19 @@ module _ (old now : Parts) (only_reads : ReadsAs old now) where
   looked_objects = ap (λ (fs : List Frame). objects_of fs) looked_frames
 
   pub looked_sound : AreSound old → AreSound now
-  looked_sound sound = (
-    sound.0,
-    subst (λ (g : Geometry). IsSoundFrames g sound.0 (frames_of now)) (sym only_reads.geometry)
-        (subst (λ (fs : List Frame). IsSoundFrames old.geometry sound.0 fs) (sym looked_frames) sound.1),
-  )
+  looked_sound sound =
+      (sound.0, subst (λ (X : Type 0). X) (λ i. IsSoundFrames (sym only_reads.geometry i) sound.0 (sym looked_frames i)) sound.1)
 
   pub looked_number : (n : ℕ) → n < length old.headers → n < length now.headers
   looked_number n known = subst (λ (hs : List ObjectHeader). n < length hs) (sym only_reads.headers) known
 
   pub looked_keepable : (age : ℕ) → AreKeepable old.geometry age (frames_of old) → AreKeepable now.geometry age (frames_of now)
   looked_keepable age k =
-      subst (λ (g : Geometry). AreKeepable g age (frames_of now)) (sym only_reads.geometry)
-      (subst (λ (fs : List Frame). AreKeepable old.geometry age fs) (sym looked_frames) k)
+      subst (λ (X : Type 0). X) (λ i. AreKeepable (sym only_reads.geometry i) age (sym looked_frames i)) k
 
 -- one read-only call after another
-pub only_reads_again : (old mid now : Parts) → ReadsAs old mid → ReadsAs mid now → ReadsAs old now
-only_reads_again old mid now a b = record { headers = b.headers ∙ a.headers; contents = b.contents ∙ a.contents; geometry = b.geometry ∙ a.geometry }
+pub only_reads_again : {old mid now : Parts} → ReadsAs old mid → ReadsAs mid now → ReadsAs old now
+only_reads_again a b = record { headers = b.headers ∙ a.headers; contents = b.contents ∙ a.contents; geometry = b.geometry ∙ a.geometry }
 
 -- what is among the objects has a header
 pub inside_known : (p : Parts) (n : ℕ) → n < length (objects_in p) → n < length p.headers
@@ -75,8 +71,7 @@ pub requested_annex : (p : Parts) (sound : AreSound p) (q a : ℕ) → IsTrue (i
 requested_annex p sound q a is same = subst (λ (n : ℕ). n < length p.headers) (sym same) (annex_known p (annex_at (objects_in p) q) (annex_there p sound q is))
 
 -- what keeps frames sound after a read-only call keeps those before it
-pub keeps_looked : (old mid new : Parts) → ReadsAs old mid → KeepsSoundFrames mid new → KeepsSoundFrames old new
-keeps_looked old mid new only_reads keeps age young sound =
-    let there = subst (λ (g : Geometry). IsSoundFrames g age (frames_of mid)) (sym only_reads.geometry)
-    (subst (λ (fs : List Frame). IsSoundFrames old.geometry age fs) (sym (looked_frames old mid only_reads)) sound) in
+pub keeps_looked : {old mid : Parts} (new : Parts) → ReadsAs old mid → KeepsSoundFrames mid new → KeepsSoundFrames old new
+keeps_looked {old} {mid} new only_reads keeps age young sound =
+    let there = subst (λ (X : Type 0). X) (λ i. IsSoundFrames (sym only_reads.geometry i) age (sym (looked_frames only_reads) i)) sound in
     subst (λ (g : Geometry). IsSoundFrames g (age + 1) (frames_of new)) only_reads.geometry (keeps age young there)

@@ -3,7 +3,7 @@ use Rattle.gate.specs.Names.{ℕ, Bool, true, false, List, [], Option, None, Som
 use Rattle.gate.specs.Names.{OnErr, IsErrOf, Capability, Start, Resume, Invocation, Operation, Call, Send, Geometry}
 use Rattle.gate.specs.Names.{Object, ResultCode, Effect, invoke, after_gate, deliver, ordered, IsSoundFrames, touching}
 use Rattle.gate.specs.Names.{touched_count, consume, annex_at, is_running_process, register_at, Caller, PrepareFault}
-use Rattle.gate.specs.Names.{IsUnchanged, Parts, Renews, frames_of, objects_in, Failed, IsErr, OnlyFetches, IfErr}
+use Rattle.gate.specs.Names.{IsUnchanged, Parts, Renews, frames_of, objects_in, IfErr}
 use Rattle.std.specs.Prelude.{◌≡◌, ◌↔◌, ◌+◌, ◌^◌, ◌<◌, ◌≤◌, ◌∷◌, if◌then◌else◌}
 use Rattle.capability.specs.declared.present.PrepareFault.TheVariants as prepare
 use Rattle.gate.specs.declared.fault.InvokeFault.{InvokeFault}

@@ -1,12 +1,11 @@
 -- The names of other crates that the definitions here cite.
 pub use Rattle.capability.specs.Changes.{changed, message_of, outcome_by, written_of}
-pub use Rattle.capability.specs.Parts.{IsUnchanged, OnlyFetches, Parts, Renews, frames_of, objects_in}
+pub use Rattle.capability.specs.Parts.{IsUnchanged, Parts, Renews, frames_of, objects_in}
 pub use Rattle.capability.specs.declared.order.Caller.{Caller}
 pub use Rattle.capability.specs.declared.order.Change.{Change}
 pub use Rattle.capability.specs.declared.order.OrderPlan.{OrderPlan}
 pub use Rattle.capability.specs.declared.order.Reply.{Reply}
 pub use Rattle.capability.specs.declared.present.PrepareFault.{PrepareFault}
-pub use Rattle.device.specs.declared.device.Failed.{Failed}
 pub use Rattle.model.specs.Capability.{named}
 pub use Rattle.model.specs.Invoke.{Effect, after_gate, ordered, sent_by}
 unfoldable pub use Rattle.model.specs.Invoke.{deliver, invoke}
@@ -37,6 +36,5 @@ pub use Rattle.space_bank.specs.Allocating.{numbers_of}
 pub use Rattle.space_bank.specs.Carrying.{MayMake}
 pub use Rattle.space_bank.specs.Planning.{writer_count, writers}
 pub use Rattle.std.specs.List.{All}
-pub use Rattle.std.specs.Prelude.{Bool, Err, IfErr, IfOk, IsErr, IsErrOf, IsTrue, List, None, Ok, OnErr, OnOk, Option}
-pub use Rattle.std.specs.Prelude.{Result, Some, [], drop, false, length, slice_index, slice_index_or, slice_set, true}
-pub use Rattle.std.specs.Prelude.{ℕ}
+pub use Rattle.std.specs.Prelude.{Bool, Err, IfErr, IfOk, IsErrOf, IsTrue, List, None, Ok, OnErr, OnOk, Option, Result}
+pub use Rattle.std.specs.Prelude.{Some, [], drop, false, length, slice_index, slice_index_or, slice_set, true, ℕ}

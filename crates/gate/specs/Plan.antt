@@ -54,14 +54,12 @@ IsPlain c w = IsNoBankOrder c w
 
 -- a change of a word, slot or register that its object has
 abbrev pub IsWithinObject : Change → Type 0
-IsWithinObject change.Nothing = Unit {0}
 IsWithinObject (change.Word page index word) = index < 512
 IsWithinObject (change.Slot node slot held) = slot < 32
 IsWithinObject (change.Register process annex register held) = (register < 32) × (1 ≤ register)
 IsWithinObject (change.RootWord process index word) = index < 4
-IsWithinObject (change.SetState process state) = Unit {0}
-IsWithinObject (change.Space process held) = Unit {0}
 IsWithinObject (change.Bank made) = ⊥
+IsWithinObject _ = Unit {0}
 
 -- a change of a root is one of a process
 abbrev pub IsOfProcess : List Object → Change → Type 0

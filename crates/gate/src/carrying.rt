@@ -76,42 +76,6 @@ fn change<F: PresentFrames>(store: &mut F, banks: &mut Banks, skip: usize, chang
     }
 }
 
-// Delivers the reply to a process, if it runs.
-#[inline(always)]
-fn deliver_reply<F: PresentFrames>(store: &mut F, process: u64, reply: Reply)
-    requires process { IsTrue (is_process (objects_in (F.parts store.old)) process) }
-    requires root_fetched { F.IsFetched store.old process }
-    requires root_announced { F.IsAnnounced store.old process }
-    requires annex_fetched { F.IsFetched store.old
-        (annex_at (objects_in (F.parts store.old)) process) }
-    requires annex_announced { F.IsAnnounced store.old
-        (annex_at (objects_in (F.parts store.old)) process) }
-    ensures objects { objects_in (F.parts store.new)
-        ≡ answered Operation.Call process (objects_in (F.parts store.old)) reply }
-    ensures current { AreCurrent (frames_of (F.parts store.old))
-        → AreCurrent (frames_of (F.parts store.new)) }
-    ensures keepable { (age : ℕ) → FitsCap (F.parts store.old).geometry reply.capability
-        → AreKeepable (F.parts store.old).geometry age (frames_of (F.parts store.old))
-        → AreKeepable (F.parts store.old).geometry age (frames_of (F.parts store.new)) }
-    ensures snapshots { KeepsRest F.parts F.IsFetched F.IsAnnounced F.ContinuesTo store.old store.new }
-{
-    if !roots::is_running(store, process) {
-        return;
-    }
-    let [first, second, third] = reply.words;
-    let message = Message {
-        words: [reply.code.number(), first, second, third],
-        key: 0,
-        capabilities: [
-            reply.capability,
-            Capability::Void,
-            Capability::Void,
-            Capability::Void,
-        ],
-    };
-    deliver(store, process, message);
-}
-
 // Gives a caller the reply, if it is still a process and runs.
 fn reply<F: PresentFrames>(store: &mut F, process: u64, reply: Reply)
     requires roles { HaveTheirRoles (frames_of (F.parts store.old)) }
@@ -129,9 +93,24 @@ fn reply<F: PresentFrames>(store: &mut F, process: u64, reply: Reply)
         → AreKeepable (F.parts store.old).geometry age (frames_of (F.parts store.new)) }
     ensures snapshots { KeepsRest F.parts F.IsFetched F.IsAnnounced F.ContinuesTo store.old store.new }
 {
-    if roots::is_process(store, process) {
-        deliver_reply(store, process, reply);
+    if !roots::is_process(store, process) {
+        return;
     }
+    if !roots::is_running(store, process) {
+        return;
+    }
+    let [first, second, third] = reply.words;
+    let message = Message {
+        words: [reply.code.number(), first, second, third],
+        key: 0,
+        capabilities: [
+            reply.capability,
+            Capability::Void,
+            Capability::Void,
+            Capability::Void,
+        ],
+    };
+    deliver(store, process, message);
 }
 
 // After the order: a process that called gets the reply.

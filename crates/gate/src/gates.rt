@@ -16,10 +16,10 @@ ghost use Rattle.gate.specs.Plan.{FitsCap};
 use crate::delivery::deliver;
 use crate::fault::InvokeFault;
 use crate::looking::{all_sent, look_at_process};
-use crate::written::Written;
 use capability::{Caller, Frames, PrepareFault, PresentFrames, objects, roots};
 use model::{Capability, Invocation, Message, Operation, ResultCode, State};
 use space_bank::Banks;
+use std::marker::Model;
 
 /// An invoked gate: its process, its key, and whether it works only once.
 #[derive(Clone, Copy, Debug)]
@@ -65,6 +65,49 @@ fn message(invocation: &Invocation, sent: [Capability; 4], key: u16) -> Message
         words,
         key,
         capabilities,
+    }
+}
+
+/// The numbers that an invocation writes, three at most.
+#[derive(Drop)]
+pub struct Written {
+    numbers: [u64; 3],
+    count: usize,
+}
+
+impl Model for Written {
+    ghost use Rattle.std.specs.Prelude.{ℕ, List, ◌≤◌, take};
+
+    ghost Value = { List ℕ };
+
+    ghost view = { λ w. take w.count w.numbers };
+
+    ghost invariant = { λ w. w.count ≤ 3 };
+}
+
+impl Written {
+    /// What an invocation through the gate of a process writes: that process and its annex, and
+    /// the one that calls or returns.
+    pub fn through(operation: Operation, process: u64, receiver: u64, annex: u64) -> Written
+        ensures { result ≡ written_through operation process receiver annex }
+    {
+        match operation {
+            Operation::Send => Written {
+                numbers: [receiver, annex, process],
+                count: 2,
+            },
+            Operation::Call | Operation::Return => Written {
+                numbers: [receiver, annex, process],
+                count: 3,
+            },
+        }
+    }
+
+    /// The numbers.
+    pub fn as_slice(&self) -> &[u64]
+        ensures { result.now ≡ self.now }
+    {
+        &self.numbers[..self.count]
     }
 }
 

@@ -14,7 +14,6 @@ mod node;
 mod orders;
 mod page;
 mod process;
-mod written;
 
 pub use fault::InvokeFault;
 pub use invocation::invoke;

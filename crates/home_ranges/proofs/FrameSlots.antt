@@ -20,13 +20,13 @@ pub record HasBeside (p : Plan) (es : List Entry) (n slot : ℕ) : Type 0 where
   pub home_is : home_place p (entry_at es index).object ≡ home_place p n
   pub slot_is : (entry_at es index).slot ≡ slot
 
-pub same_some : (a b : ℕ) → Some a ≡ Some b → a ≡ b
-same_some a b e = cc
+pub same_some : {a b : ℕ} → Some a ≡ Some b → a ≡ b
+same_some e = cc
 
 pub found_beside : (p : Plan) (es : List Entry) (n s : ℕ) → slot_beside p es n ≡ Some s → HasBeside p es n s
 found_beside p [] n s is = absurd cc
 found_beside p (e ∷ es) n s is = elim (cases_eq (home_place p e.object) (home_place p n)) [
-  | inl same ↦ record { index = 0; within = omega arith; home_is = same; slot_is = same_some e.slot s (sym (beside_here p e es n same) ∙ is) }
+  | inl same ↦ record { index = 0; within = omega arith; home_is = same; slot_is = same_some (sym (beside_here p e es n same) ∙ is) }
   | inr other ↦
       let rest = found_beside p es n s (sym (beside_behind p e es n other) ∙ is) in
       record { index = suc rest.index; within = omega (arith, rest.within); home_is = rest.home_is; slot_is = rest.slot_is }
@@ -34,14 +34,14 @@ found_beside p (e ∷ es) n s is = elim (cases_eq (home_place p e.object) (home_
 
 -- ---- the slot of an object, or else that one
 
-frame_slot_by : (p : Plan) (es : List Entry) (n : ℕ) (own : Option ℕ) → slot_in es n ≡ own → frame_slot_in p es n ≡ or_beside own (slot_beside p es n)
-frame_slot_by p es n own is = ap (λ (o : Option ℕ). or_beside o (slot_beside p es n)) is
+frame_slot_by : (p : Plan) (es : List Entry) (n : ℕ) {own : Option ℕ} → slot_in es n ≡ own → frame_slot_in p es n ≡ or_beside own (slot_beside p es n)
+frame_slot_by p es n is = ap (λ (o : Option ℕ). or_beside o (slot_beside p es n)) is
 
-pub own_frame_slot : (p : Plan) (es : List Entry) (n s : ℕ) → slot_in es n ≡ Some s → frame_slot_in p es n ≡ Some s
-own_frame_slot p es n s is = frame_slot_by p es n (Some s) is
+pub own_frame_slot : (p : Plan) (es : List Entry) (n : ℕ) {s : ℕ} → slot_in es n ≡ Some s → frame_slot_in p es n ≡ Some s
+own_frame_slot p es n {s} is = frame_slot_by p es n is
 
 pub beside_frame_slot : (p : Plan) (es : List Entry) (n : ℕ) → slot_in es n ≡ None → frame_slot_in p es n ≡ slot_beside p es n
-beside_frame_slot p es n is = frame_slot_by p es n None is
+beside_frame_slot p es n is = frame_slot_by p es n is
 
 -- the entry of a frame slot
 pub frame_slot_entry : (p : Plan) (es : List Entry) (n s : ℕ) → frame_slot_in p es n ≡ Some s → HasBeside p es n s
@@ -50,5 +50,5 @@ frame_slot_entry p es n s frame_slot = by (slot_in es n) refl where
   by None none = found_beside p es n s (sym (beside_frame_slot p es n none) ∙ frame_slot)
   by (Some t) own =
       let entry = found_slot es n t own in
-      let same : t ≡ s = same_some t s (sym (own_frame_slot p es n t own) ∙ frame_slot) in
+      let same : t ≡ s = same_some (sym (own_frame_slot p es n own) ∙ frame_slot) in
       record { index = entry.index; within = entry.within; home_is = ap (home_place p) entry.object_is; slot_is = entry.slot_is ∙ same }

@@ -1,12 +1,12 @@
 -- Places of numbers in ranges that cover them.
 use Rattle.home_ranges.proofs.Names.{ℕ, zero, suc, refl, Option, Some, None, List, [], length, get_or, map, sym, ap, subst, inl, inr, arith, Result, Ok, Err}
-use Rattle.home_ranges.proofs.Names.{true, false, nat_lt, nat_le, min, OnOk, ⊤, cases_lt, length-map, get_or_append_left, get_or-map, nat_tests, Geometry}
-use Rattle.home_ranges.proofs.Names.{Image, Extent, HomeRange, Half, First, Second, Shape, Node, Packed, Page, Version, One, Two, half_of, range_with}
-use Rattle.home_ranges.proofs.Names.{node_offset, place_in, place_by, home_place, rank_in, shape_of, place_length, sectors_from, node_shape, shape_bytes}
-use Rattle.home_ranges.proofs.Names.{shape_length, Plan, IsPlan, Cover, IsOfOneKind, IsWithin, IsApart, IsInside, extent_at, extents, nodes_length}
-use Rattle.home_ranges.proofs.Names.{range_extent, half_extent, half_start, itself, apart_inside, apart_turned, many, half_at, IsObject, EndsInZeros, HaveHome}
-use Rattle.home_ranges.proofs.Names.{HoldsHome, home_extent, PlacesAreWithin, PlacesAreApart, NumbersAreApart, PlacesSpareLog}
-use Rattle.std.proofs.Common.{◌≡◌, ◌⊎◌, ◌+◌, ◌-◌, ◌*◌, ◌/◌, ◌%◌, ◌<◌, ◌≤◌, ◌∷◌, ◌∙◌, ◌&&◌}
+use Rattle.home_ranges.proofs.Names.{true, false, nat_lt, min, OnOk, ⊤, cases_lt, length-map, get_or_append_left, get_or-map, nat_tests, Geometry, Image}
+use Rattle.home_ranges.proofs.Names.{Extent, HomeRange, Half, First, Second, Shape, Node, Packed, Page, Version, One, Two, half_of, range_with, node_offset}
+use Rattle.home_ranges.proofs.Names.{place_in, place_by, home_place, rank_in, shape_of, place_length, sectors_from, node_shape, shape_bytes, shape_length, Plan}
+use Rattle.home_ranges.proofs.Names.{IsPlan, Cover, IsOfOneKind, IsWithin, IsApart, IsInside, extent_at, extents, nodes_length, range_extent, half_extent}
+use Rattle.home_ranges.proofs.Names.{half_start, itself, apart_inside, apart_turned, many, half_at, IsObject, EndsInZeros, HaveHome, HoldsHome, home_extent}
+use Rattle.home_ranges.proofs.Names.{PlacesAreWithin, PlacesAreApart, NumbersAreApart, PlacesSpareLog}
+use Rattle.std.proofs.Common.{◌≡◌, ◌⊎◌, ◌+◌, ◌-◌, ◌*◌, ◌/◌, ◌%◌, ◌<◌, ◌≤◌, ◌∷◌, ◌∙◌}
 use Rattle.std.specs.Prelude.{if◌then◌else◌}
 use Rattle.home_ranges.proofs.Tests.{if_false, if_true, in_false, in_true}
 
@@ -31,9 +31,9 @@ lt_true a b lt = grind (arith, nat_tests)
 pub lt_false : (a b : ℕ) → b ≤ a → nat_lt a b ≡ false
 lt_false a b le = grind (arith, nat_tests)
 
-find_in : (g : Geometry) (n number : ℕ) (rs : List HomeRange) → Cover g n rs → n ≤ number → number < g.nodes + g.pages → (i : ℕ) × IsFound g rs number i
-find_in g n number [] c low high = absurd (omega (arith, c))
-find_in g n number (r ∷ rs) c low high = elim (cases_lt number (n + r.count)) [
+find_in : (g : Geometry) (n : ℕ) {number : ℕ} (rs : List HomeRange) → Cover g n rs → n ≤ number → number < g.nodes + g.pages → (i : ℕ) × IsFound g rs number i
+find_in g n [] c low high = absurd (omega (arith, c))
+find_in g n {number} (r ∷ rs) c low high = elim (cases_lt number (n + r.count)) [
   | inl lt ↦
       let low : r.first ≤ number = omega (arith, c.0.0) in
       let high : number < r.first + r.count = omega (arith, c.0.0) in (
@@ -41,25 +41,23 @@ find_in g n number (r ∷ rs) c low high = elim (cases_lt number (n + r.count)) 
         record {
           within = omega arith;
           has = record { low = low; high = high; kind = c.0.2 };
-          found = if_true (nat_le r.first number && nat_lt number (r.first + r.count)) (Some r) (range_with rs number)
-              (in_true r.first number (r.first + r.count) low high);
+          found = if_true (range_with rs number) (in_true r.first (r.first + r.count) low high);
         },
       )
   | inr le ↦
-      let rest = find_in g (n + r.count) number rs c.1 le high in
+      let rest = find_in g (n + r.count) rs c.1 le high in
       let past : r.first + r.count ≤ number = omega (arith, c.0.0) in (
         suc rest.0,
         record {
           within = omega (arith, rest.1.within);
           has = rest.1.has;
-          found = if_false (nat_le r.first number && nat_lt number (r.first + r.count)) (Some r) (range_with rs number)
-              (in_false r.first number (r.first + r.count) past) ∙ rest.1.found;
+          found = if_false (Some r) (in_false r.first (r.first + r.count) past) ∙ rest.1.found;
         },
       )
 ]
 
-pub found : (p : Plan) (number : ℕ) → IsPlan p → IsObject p.geometry number → (i : ℕ) × IsFound p.geometry p.ranges number i
-found p number fits is = find_in p.geometry 0 number p.ranges fits.cover (omega arith) is
+pub found : {p : Plan} (number : ℕ) → IsPlan p → IsObject p.geometry number → (i : ℕ) × IsFound p.geometry p.ranges number i
+found {p} number fits is = find_in p.geometry 0 p.ranges fits.cover (omega arith) is
 
 -- ---- in one range
 
@@ -79,17 +77,22 @@ node_inside : (v : Version) (i rank count : ℕ) → i < count → node_offset v
 node_inside One i rank count lt = omega (arith, lt)
 node_inside Two i rank count lt = omega (arith, lt)
 
-inside_range : (v : Version) (g : Geometry) (r : HomeRange) (number : ℕ) → Has g r number → IsInside (extent_in v g r number) (range_extent v g r)
-inside_range v g r number has = elim has.kind [
+-- its numbers are all of one kind
+node_in : {g : Geometry} {r : HomeRange} {a : ℕ} → Has g r a → r.first + r.count ≤ g.nodes → nat_lt a g.nodes ≡ true
+node_in {g} {r} {a} has nodes = lt_true a g.nodes (omega (arith, nodes, has.high))
+
+page_in : {g : Geometry} {r : HomeRange} {a : ℕ} → Has g r a → g.nodes ≤ r.first → nat_lt a g.nodes ≡ false
+page_in {g} {r} {a} has pages = lt_false a g.nodes (omega (arith, pages, has.low))
+
+inside_range : (v : Version) {g : Geometry} {r : HomeRange} {number : ℕ} → Has g r number → IsInside (extent_in v g r number) (range_extent v g r)
+inside_range v {g} {r} {number} has = elim has.kind [
   | inl nodes ↦
-      let number_lt : nat_lt number g.nodes ≡ true = lt_true number g.nodes (omega (arith, nodes, has.high)) in
       let first_lt : nat_lt r.first g.nodes ≡ true = lt_true r.first g.nodes (omega (arith, nodes, has.low, has.high)) in
       let inside = node_inside v (number - r.first) ((number - r.first) % 5) r.count (omega (arith, has.low, has.high)) in
-      record { starts = rw number_lt (omega arith); ends = rw (number_lt, first_lt) (omega (arith, inside)) }
+      record { starts = rw (node_in has nodes) (omega arith); ends = rw (node_in has nodes, first_lt) (omega (arith, inside)) }
   | inr pages ↦
-      let number_ge : nat_lt number g.nodes ≡ false = lt_false number g.nodes (omega (arith, pages, has.low)) in
       let first_ge : nat_lt r.first g.nodes ≡ false = lt_false r.first g.nodes (omega (arith, pages)) in
-      record { starts = rw number_ge (omega arith); ends = rw (number_ge, first_ge) (omega (arith, has.low, has.high)) }
+      record { starts = rw (page_in has pages) (omega arith); ends = rw (page_in has pages, first_ge) (omega (arith, has.low, has.high)) }
 ]
 
 -- of two nodes of a range one begins behind the other, or where it does
@@ -104,140 +107,130 @@ node_apart Two i j a b differ = elim (cases_lt (i / 5) (j / 5)) [
   | inr le ↦ inr (omega (arith, le, differ))
 ]
 
-apart_in_one : (v : Version) (g : Geometry) (r : HomeRange) (a b : ℕ) → Has g r a → Has g r b → (place_in v g r a ≡ place_in v g r b → ⊥) →
+apart_in_one : (v : Version) {g : Geometry} {r : HomeRange} {a b : ℕ} → Has g r a → Has g r b → (place_in v g r a ≡ place_in v g r b → ⊥) →
     IsApart (extent_in v g r a) (extent_in v g r b)
-apart_in_one v g r a b has_a has_b = elim has_a.kind [
-  | inl nodes ↦
-      let a_lt : nat_lt a g.nodes ≡ true = lt_true a g.nodes (omega (arith, nodes, has_a.high)) in
-      let b_lt : nat_lt b g.nodes ≡ true = lt_true b g.nodes (omega (arith, nodes, has_b.high)) in
-      rw (a_lt, b_lt) (λ differ. elim
+apart_in_one v {g} {r} {a} {b} has_a has_b = elim has_a.kind [
+  | inl nodes ↦ rw (node_in has_a nodes, node_in has_b nodes) (λ differ. elim
       (node_apart v (a - r.first) (b - r.first) ((a - r.first) % 5) ((b - r.first) % 5) (λ same. differ (ap (λ (offset : ℕ). r.sector + offset) same))) [
         | inl before ↦ inl (omega (arith, before))
         | inr behind ↦ inr (omega (arith, behind))
       ])
-  | inr pages ↦
-      let a_ge : nat_lt a g.nodes ≡ false = lt_false a g.nodes (omega (arith, pages, has_a.low)) in
-      let b_ge : nat_lt b g.nodes ≡ false = lt_false b g.nodes (omega (arith, pages, has_b.low)) in
-      rw (a_ge, b_ge) (λ differ. elim (cases_lt a b) [
-        | inl lt ↦ inl (omega (arith, lt, has_a.low))
-        | inr le ↦ inr (omega (arith, le, differ, has_b.low))
-      ])
+  | inr pages ↦ rw (page_in has_a pages, page_in has_b pages) (λ differ. elim (cases_lt a b) [
+    | inl lt ↦ inl (omega (arith, lt, has_a.low))
+    | inr le ↦ inr (omega (arith, le, differ, has_b.low))
+  ])
 ]
 
 -- by version 1 two numbers of a range that have one place are one
-same_number : (v : Version) (g : Geometry) (r : HomeRange) (a b : ℕ) → v ≡ One → Has g r a → Has g r b → place_in v g r a ≡ place_in v g r b → a ≡ b
-same_number v g r a b first has_a has_b = elim has_a.kind [
-  | inl nodes ↦
-      let a_lt : nat_lt a g.nodes ≡ true = lt_true a g.nodes (omega (arith, nodes, has_a.high)) in
-      let b_lt : nat_lt b g.nodes ≡ true = lt_true b g.nodes (omega (arith, nodes, has_b.high)) in
-      rw (first, a_lt, b_lt) (λ same. omega (arith, same, has_a.low, has_b.low))
-  | inr pages ↦
-      let a_ge : nat_lt a g.nodes ≡ false = lt_false a g.nodes (omega (arith, pages, has_a.low)) in
-      let b_ge : nat_lt b g.nodes ≡ false = lt_false b g.nodes (omega (arith, pages, has_b.low)) in
-      rw (a_ge, b_ge) (λ same. omega (arith, same, has_a.low, has_b.low))
+same_number : {v : Version} {g : Geometry} {r : HomeRange} {a b : ℕ} → v ≡ One → Has g r a → Has g r b → place_in v g r a ≡ place_in v g r b → a ≡ b
+same_number {g} {a} {b} first has_a has_b = elim has_a.kind [
+  | inl nodes ↦ rw (first, node_in has_a nodes, node_in has_b nodes) (λ same. omega (arith, same, has_a.low, has_b.low))
+  | inr pages ↦ rw (page_in has_a pages, page_in has_b pages) (λ same. omega (arith, same, has_a.low, has_b.low))
 ]
 
 -- ---- ranges and log halves as extents
 
-ranges_extent : (p : Plan) (i : ℕ) → i < length p.ranges → extent_at (extents p) i ≡ range_extent p.version p.geometry (range_at p.ranges i)
-ranges_extent p i lt =
+ranges_extent : (p : Plan) {i : ℕ} → i < length p.ranges → extent_at (extents p) i ≡ range_extent p.version p.geometry (range_at p.ranges i)
+ranges_extent p {i} lt =
     let size : length (map (range_extent p.version p.geometry) p.ranges) ≡ length p.ranges = length-map p.ranges (range_extent p.version p.geometry) in
     get_or_append_left (map (range_extent p.version p.geometry) p.ranges) (half_extent p.geometry p.half_0 ∷ half_extent p.geometry p.half_1 ∷ [])
     (record { sector = 0; length = 0 }) i (omega arith)
     ∙ get_or-map (range_extent p.version p.geometry) p.ranges i (record { first = 0; count = 0; sector = 0 }) (record { sector = 0; length = 0 }) lt
 
-range_within : (p : Plan) (i : ℕ) → IsPlan p → i < length p.ranges → IsWithin p.total (range_extent p.version p.geometry (range_at p.ranges i))
-range_within p i fits lt = subst (IsWithin p.total) (ranges_extent p i lt) (fits.within i (record { sector = 0; length = 0 }) (omega (arith, many p)))
+range_within : {p : Plan} {i : ℕ} → IsPlan p → i < length p.ranges → IsWithin p.total (range_extent p.version p.geometry (range_at p.ranges i))
+range_within {p} {i} fits lt = subst (IsWithin p.total) (ranges_extent p lt) (fits.within i (record { sector = 0; length = 0 }) (omega (arith, many p)))
 
-ranges_apart : (p : Plan) (i j : ℕ) → IsPlan p → i < j → j < length p.ranges → IsApart (range_extent p.version p.geometry (range_at p.ranges i))
+ranges_apart : {p : Plan} {i j : ℕ} → IsPlan p → i < j → j < length p.ranges → IsApart (range_extent p.version p.geometry (range_at p.ranges i))
     (range_extent p.version p.geometry (range_at p.ranges j))
-ranges_apart p i j fits lt within =
+ranges_apart {p} {i} {j} fits lt within =
     let apart = fits.apart i j lt (omega (arith, many p)) in
     let in_i : i < length p.ranges = omega arith in
-    subst (λ (e : Extent). IsApart e (range_extent p.version p.geometry (range_at p.ranges j))) (ranges_extent p i in_i)
-    (subst (IsApart (extent_at (extents p) i)) (ranges_extent p j within) apart)
+    subst (λ (e : Extent). IsApart e (range_extent p.version p.geometry (range_at p.ranges j))) (ranges_extent p in_i)
+    (subst (IsApart (extent_at (extents p) i)) (ranges_extent p within) apart)
 
-range_spares_half : (p : Plan) (i k : ℕ) → IsPlan p → i < length p.ranges → k < 2 → IsApart (range_extent p.version p.geometry (range_at p.ranges i))
+range_spares_half : {p : Plan} {i : ℕ} (k : ℕ) → IsPlan p → i < length p.ranges → k < 2 → IsApart (range_extent p.version p.geometry (range_at p.ranges i))
     (extent_at (half_extent p.geometry p.half_0 ∷ half_extent p.geometry p.half_1 ∷ []) k)
-range_spares_half p i k fits lt few =
+range_spares_half {p} {i} k fits lt few =
     let apart = fits.apart i (length p.ranges + k) (omega arith) (omega (arith, many p)) in
-    subst (λ (e : Extent). IsApart e (extent_at (half_extent p.geometry p.half_0 ∷ half_extent p.geometry p.half_1 ∷ []) k)) (ranges_extent p i lt)
+    subst (λ (e : Extent). IsApart e (extent_at (half_extent p.geometry p.half_0 ∷ half_extent p.geometry p.half_1 ∷ []) k)) (ranges_extent p lt)
     (subst (IsApart (extent_at (extents p) i)) (half_at p k) apart)
 
 -- ---- the laws
 
 -- the place of a number is that in its range,
-pub place_is : (p : Plan) (number i : ℕ) → IsFound p.geometry p.ranges number i → home_place p number ≡ place_in p.version p.geometry (range_at p.ranges i)
+pub place_is : (p : Plan) {number i : ℕ} → IsFound p.geometry p.ranges number i → home_place p number ≡ place_in p.version p.geometry (range_at p.ranges i)
     number
-place_is p number i at = ap (λ (r : Option HomeRange). place_by p.version p.geometry r number) at.found
+place_is p {number} at = ap (λ (r : Option HomeRange). place_by p.version p.geometry r number) at.found
 
 -- and so are its sectors
-home_is : (p : Plan) (number i : ℕ) → IsFound p.geometry p.ranges number i → home_extent p number ≡ extent_in p.version p.geometry (range_at p.ranges i) number
-home_is p number i at =
+home_is : (p : Plan) {number i : ℕ} → IsFound p.geometry p.ranges number i → home_extent p number ≡ extent_in p.version p.geometry (range_at p.ranges i) number
+home_is p {number} at =
     ap (λ (r : Option HomeRange). extent_of (place_by p.version p.geometry r number)
     (shape_length (if nat_lt number p.geometry.nodes then node_shape p.version (rank_in r number) else Page))) at.found
 
-home_inside : (p : Plan) (number i : ℕ) → IsFound p.geometry p.ranges number i →
+home_inside : (p : Plan) {number i : ℕ} → IsFound p.geometry p.ranges number i →
     IsInside (home_extent p number) (range_extent p.version p.geometry (range_at p.ranges i))
-home_inside p number i at = subst (λ (e : Extent). IsInside e (range_extent p.version p.geometry (range_at p.ranges i))) (sym (home_is p number i at))
-    (inside_range p.version p.geometry (range_at p.ranges i) number at.has)
+home_inside p {number} {i} at = subst (λ (e : Extent). IsInside e (range_extent p.version p.geometry (range_at p.ranges i))) (sym (home_is p at))
+    (inside_range p.version at.has)
 
 pub places_within : PlacesAreWithin
 places_within p a fits is =
-    let at = found p a fits is in
-    let inside = home_inside p a at.0 at.1 in
-    let within = range_within p at.0 fits at.1.within in
+    let at = found a fits is in
+    let inside = home_inside p at.1 in
+    let within = range_within fits at.1.within in
     (omega (arith, inside.starts, within.0), omega (arith, inside.ends, within.1))
 
--- two homes are apart where they are in each range that has both
-apart_by : (p : Plan) (a b : ℕ) → IsPlan p → IsObject p.geometry a → IsObject p.geometry b
-    → ((i : ℕ) → IsFound p.geometry p.ranges a i → IsFound p.geometry p.ranges b i → IsApart (extent_in p.version p.geometry (range_at p.ranges i) a)
-    (extent_in p.version p.geometry (range_at p.ranges i) b))
-    → IsApart (home_extent p a) (home_extent p b)
-apart_by p a b fits is_a is_b in_one =
-    let at_a = found p a fits is_a in
-    let at_b = found p b fits is_b in
-    let in_a = home_inside p a at_a.0 at_a.1 in
-    let in_b = home_inside p b at_b.0 at_b.1 in
+-- two homes are apart, or a range has both
+either_range : {p : Plan} {a b : ℕ} → IsPlan p → IsObject p.geometry a → IsObject p.geometry b →
+    IsApart (home_extent p a) (home_extent p b) ⊎ ((i : ℕ) × IsFound p.geometry p.ranges a i × IsFound p.geometry p.ranges b i)
+either_range {p} {a} {b} fits is_a is_b =
+    let at_a = found a fits is_a in
+    let at_b = found b fits is_b in
+    let in_a = home_inside p at_a.1 in
+    let in_b = home_inside p at_b.1 in
     let range_a : Extent = range_extent p.version p.geometry (range_at p.ranges at_a.0) in
     let range_b : Extent = range_extent p.version p.geometry (range_at p.ranges at_b.0) in
     elim (cases_lt at_a.0 at_b.0) [
-      | inl lt ↦ apart_inside (home_extent p a) (home_extent p b) range_a range_b in_a in_b (ranges_apart p at_a.0 at_b.0 fits lt at_b.1.within)
+      | inl lt ↦ inl (apart_inside (home_extent p a) (home_extent p b) range_a range_b in_a in_b (ranges_apart fits lt at_b.1.within))
       | inr le ↦ elim (cases_lt at_b.0 at_a.0) [
-        | inl lt ↦ apart_turned (home_extent p b) (home_extent p a)
-            (apart_inside (home_extent p b) (home_extent p a) range_b range_a in_b in_a (ranges_apart p at_b.0 at_a.0 fits lt at_a.1.within))
+        | inl lt ↦ inl (apart_turned (home_extent p b) (home_extent p a)
+            (apart_inside (home_extent p b) (home_extent p a) range_b range_a in_b in_a (ranges_apart fits lt at_a.1.within)))
         | inr ge ↦
             let one : at_b.0 ≡ at_a.0 = omega (arith, le, ge) in
-            let b_there : IsFound p.geometry p.ranges b at_a.0 = subst (IsFound p.geometry p.ranges b) one at_b.1 in
-            subst (IsApart (home_extent p a)) (sym (home_is p b at_a.0 b_there))
-            (subst (λ (e : Extent). IsApart e (extent_in p.version p.geometry (range_at p.ranges at_a.0) b)) (sym (home_is p a at_a.0 at_a.1))
-            (in_one at_a.0 at_a.1 b_there))
+            inr (at_a.0, at_a.1, subst (IsFound p.geometry p.ranges b) one at_b.1)
       ]
     ]
 
+-- so they are apart where they are in each range that has both
+apart_by : {p : Plan} {a b : ℕ} → IsPlan p → IsObject p.geometry a → IsObject p.geometry b
+    → ((i : ℕ) → IsFound p.geometry p.ranges a i → IsFound p.geometry p.ranges b i → IsApart (extent_in p.version p.geometry (range_at p.ranges i) a)
+    (extent_in p.version p.geometry (range_at p.ranges i) b)) → IsApart (home_extent p a) (home_extent p b)
+apart_by {p} {a} {b} fits is_a is_b in_one = elim (either_range fits is_a is_b) [
+  | inl apart ↦ apart
+  | inr at ↦ subst (IsApart (home_extent p a)) (sym (home_is p at.2))
+      (subst (λ (e : Extent). IsApart e (extent_in p.version p.geometry (range_at p.ranges at.0) b)) (sym (home_is p at.1)) (in_one at.0 at.1 at.2))
+]
+
 pub places_apart : PlacesAreApart
-places_apart p a b fits is_a is_b differ = apart_by p a b fits is_a is_b (λ i at_a at_b.
-    apart_in_one p.version p.geometry (range_at p.ranges i) a b at_a.has at_b.has (λ same. differ (place_is p a i at_a ∙ same ∙ sym (place_is p b i at_b))))
+places_apart p a b fits is_a is_b differ = apart_by fits is_a is_b (λ i at_a at_b.
+    apart_in_one p.version at_a.has at_b.has (λ same. differ (place_is p at_a ∙ same ∙ sym (place_is p at_b))))
 
 pub numbers_apart : NumbersAreApart
-numbers_apart p a b fits first is_a is_b differ = apart_by p a b fits is_a is_b (λ i at_a at_b.
-    apart_in_one p.version p.geometry (range_at p.ranges i) a b at_a.has at_b.has
-    (λ same. differ (same_number p.version p.geometry (range_at p.ranges i) a b first at_a.has at_b.has same)))
+numbers_apart p a b fits first is_a is_b differ = apart_by fits is_a is_b (λ i at_a at_b. apart_in_one p.version at_a.has at_b.has
+    (λ same. differ (same_number first at_a.has at_b.has same)))
 
-spares_half : (p : Plan) (a : ℕ) (h : Half) → IsPlan p → IsObject p.geometry a → IsApart (home_extent p a) (half_extent p.geometry (half_start p h))
-spares_half p a First fits is =
-    let at = found p a fits is in
+spares_half : {p : Plan} {a : ℕ} (h : Half) → IsPlan p → IsObject p.geometry a → IsApart (home_extent p a) (half_extent p.geometry (half_start p h))
+spares_half {p} {a} First fits is =
+    let at = found a fits is in
     apart_inside (home_extent p a) (half_extent p.geometry p.half_0) (range_extent p.version p.geometry (range_at p.ranges at.0))
-    (half_extent p.geometry p.half_0)
-    (home_inside p a at.0 at.1) (itself (half_extent p.geometry p.half_0)) (range_spares_half p at.0 0 fits at.1.within (omega arith))
-spares_half p a Second fits is =
-    let at = found p a fits is in
+    (half_extent p.geometry p.half_0) (home_inside p at.1) (itself (half_extent p.geometry p.half_0)) (range_spares_half 0 fits at.1.within (omega arith))
+spares_half {p} {a} Second fits is =
+    let at = found a fits is in
     apart_inside (home_extent p a) (half_extent p.geometry p.half_1) (range_extent p.version p.geometry (range_at p.ranges at.0))
-    (half_extent p.geometry p.half_1)
-    (home_inside p a at.0 at.1) (itself (half_extent p.geometry p.half_1)) (range_spares_half p at.0 1 fits at.1.within (omega arith))
+    (half_extent p.geometry p.half_1) (home_inside p at.1) (itself (half_extent p.geometry p.half_1)) (range_spares_half 1 fits at.1.within (omega arith))
 
 pub places_spare_log : PlacesSpareLog
-places_spare_log p a generation fits is = spares_half p a (half_of generation) fits is
+places_spare_log p a generation fits is = spares_half (half_of generation) fits is
 
 -- ---- objects that have one home
 
@@ -247,33 +240,31 @@ covered_from g n i [] c lt = absurd (omega (arith, lt))
 covered_from g n zero (r ∷ rs) c lt = omega (arith, c.0.0)
 covered_from g n (suc i) (r ∷ rs) c lt = let later = covered_from g (n + r.count) i rs c.1 (omega (arith, lt)) in omega (arith, later)
 
-pub found_too : (g : Geometry) (n i number : ℕ) (rs : List HomeRange) → Cover g n rs → i < length rs → Has g (range_at rs i) number → IsFound g rs number i
-found_too g n i number [] c lt has = absurd (omega (arith, lt))
-found_too g n zero number (r ∷ rs) c lt has = record {
+pub found_too : {g : Geometry} (n i : ℕ) {number : ℕ} (rs : List HomeRange) → Cover g n rs → i < length rs → Has g (range_at rs i) number →
+    IsFound g rs number i
+found_too n i [] c lt has = absurd (omega (arith, lt))
+found_too n zero {number} (r ∷ rs) c lt has = record {
   within = lt;
   has = has;
-  found = if_true (nat_le r.first number && nat_lt number (r.first + r.count)) (Some r) (range_with rs number)
-      (in_true r.first number (r.first + r.count) has.low has.high);
+  found = if_true (range_with rs number) (in_true r.first (r.first + r.count) has.low has.high);
 }
-found_too g n (suc i) number (r ∷ rs) c lt has =
-    let rest = found_too g (n + r.count) i number rs c.1 (omega (arith, lt)) has in
+found_too {g} n (suc i) {number} (r ∷ rs) c lt has =
+    let rest = found_too (n + r.count) i rs c.1 (omega (arith, lt)) has in
     let later = covered_from g (n + r.count) i rs c.1 (omega (arith, lt)) in
     let past : r.first + r.count ≤ number = omega (arith, c.0.0, later, has.low) in record {
       within = lt;
       has = has;
-      found = if_false (nat_le r.first number && nat_lt number (r.first + r.count)) (Some r) (range_with rs number)
-          (in_false r.first number (r.first + r.count) past) ∙ rest.found;
+      found = if_false (Some r) (in_false r.first (r.first + r.count) past) ∙ rest.found;
     }
 
 some_sectors : (s : Shape) → 1 ≤ shape_length s
 some_sectors Node = omega arith
-some_sectors (Packed rank) = omega arith
-some_sectors Page = omega arith
+some_sectors other = omega arith
 
 -- two extents that begin in one sector aren't apart
-never_apart : (d e : Extent) → d.sector ≡ e.sector → 1 ≤ d.length → 1 ≤ e.length → IsApart d e → ⊥
-never_apart d e same some_d some_e (inl before) = omega (arith, same, some_d, before)
-never_apart d e same some_d some_e (inr behind) = omega (arith, same, some_e, behind)
+never_apart : {d e : Extent} → d.sector ≡ e.sector → 1 ≤ d.length → 1 ≤ e.length → IsApart d e → ⊥
+never_apart same some_d some_e (inl before) = omega (arith, same, some_d, before)
+never_apart same some_d some_e (inr behind) = omega (arith, same, some_e, behind)
 
 -- a range that has both of two numbers
 pub record HasBoth (p : Plan) (a b : ℕ) (i : ℕ) : Type 0 where
@@ -281,106 +272,81 @@ pub record HasBoth (p : Plan) (a b : ℕ) (i : ℕ) : Type 0 where
   pub other : IsFound p.geometry p.ranges b i
   pub place : place_in p.version p.geometry (range_at p.ranges i) a ≡ place_in p.version p.geometry (range_at p.ranges i) b
 
-pub one_range : (p : Plan) (a b : ℕ) → IsPlan p → IsObject p.geometry a → IsObject p.geometry b → home_place p a ≡ home_place p b → (i : ℕ) × HasBoth p a b i
-one_range p a b fits is_a is_b same =
-    let at_a = found p a fits is_a in
-    let at_b = found p b fits is_b in
-    let in_a = home_inside p a at_a.0 at_a.1 in
-    let in_b = home_inside p b at_b.0 at_b.1 in
-    let range_a : Extent = range_extent p.version p.geometry (range_at p.ranges at_a.0) in
-    let range_b : Extent = range_extent p.version p.geometry (range_at p.ranges at_b.0) in
-    let some_a : 1 ≤ place_length p a = some_sectors (shape_of p a) in
-    let some_b : 1 ≤ place_length p b = some_sectors (shape_of p b) in
-    elim (cases_lt at_a.0 at_b.0) [
-      | inl lt ↦ absurd (never_apart (home_extent p a) (home_extent p b) same some_a some_b
-          (apart_inside (home_extent p a) (home_extent p b) range_a range_b in_a in_b (ranges_apart p at_a.0 at_b.0 fits lt at_b.1.within)))
-      | inr le ↦ elim (cases_lt at_b.0 at_a.0) [
-        | inl lt ↦ absurd (never_apart (home_extent p b) (home_extent p a) (sym same) some_b some_a
-            (apart_inside (home_extent p b) (home_extent p a) range_b range_a in_b in_a (ranges_apart p at_b.0 at_a.0 fits lt at_a.1.within)))
-        | inr ge ↦
-            let one : at_b.0 ≡ at_a.0 = omega (arith, le, ge) in
-            let b_there : IsFound p.geometry p.ranges b at_a.0 = subst (IsFound p.geometry p.ranges b) one at_b.1 in
-            (at_a.0, record { one = at_a.1; other = b_there; place = sym (place_is p a at_a.0 at_a.1) ∙ same ∙ place_is p b at_a.0 b_there })
-      ]
-    ]
+pub one_range : {p : Plan} {a b : ℕ} → IsPlan p → IsObject p.geometry a → IsObject p.geometry b → home_place p a ≡ home_place p b → (i : ℕ) × HasBoth p a b i
+one_range {p} {a} {b} fits is_a is_b same = elim (either_range fits is_a is_b) [
+  | inl apart ↦ absurd (never_apart same (some_sectors (shape_of p a)) (some_sectors (shape_of p b)) apart)
+  | inr at ↦ (at.0, record { one = at.1; other = at.2; place = sym (place_is p at.1) ∙ same ∙ place_is p at.2 })
+]
 
 -- the shape of a number is that in its range
-pub shape_is : (p : Plan) (number i : ℕ) → IsFound p.geometry p.ranges number i → shape_of p number ≡ shape_in p.version p.geometry (range_at p.ranges i) number
-shape_is p number i at = ap (λ (r : Option HomeRange). if nat_lt number p.geometry.nodes then node_shape p.version (rank_in r number) else Page) at.found
+pub shape_is : (p : Plan) {number i : ℕ} → IsFound p.geometry p.ranges number i → shape_of p number ≡ shape_in p.version p.geometry (range_at p.ranges i) number
+shape_is p {number} at = ap (λ (r : Option HomeRange). if nat_lt number p.geometry.nodes then node_shape p.version (rank_in r number) else Page) at.found
 
 node_lengths : (v : Version) (a b : ℕ) → shape_length (node_shape v a) ≡ shape_length (node_shape v b)
 node_lengths One a b = refl
 node_lengths Two a b = refl
 
-lengths_in : (v : Version) (g : Geometry) (r : HomeRange) (a b : ℕ) → Has g r a → Has g r b → shape_length (shape_in v g r a) ≡ shape_length (shape_in v g r b)
-lengths_in v g r a b has_a has_b = elim has_a.kind [
-  | inl nodes ↦
-      let a_lt : nat_lt a g.nodes ≡ true = lt_true a g.nodes (omega (arith, nodes, has_a.high)) in
-      let b_lt : nat_lt b g.nodes ≡ true = lt_true b g.nodes (omega (arith, nodes, has_b.high)) in
-      rw (a_lt, b_lt) (node_lengths v ((a - r.first) % 5) ((b - r.first) % 5))
-  | inr pages ↦
-      let a_ge : nat_lt a g.nodes ≡ false = lt_false a g.nodes (omega (arith, pages, has_a.low)) in
-      let b_ge : nat_lt b g.nodes ≡ false = lt_false b g.nodes (omega (arith, pages, has_b.low)) in
-      rw (a_ge, b_ge) refl
+lengths_in : (v : Version) {g : Geometry} {r : HomeRange} {a b : ℕ} → Has g r a → Has g r b → shape_length (shape_in v g r a) ≡ shape_length (shape_in v g r b)
+lengths_in v {g} {r} {a} {b} has_a has_b = elim has_a.kind [
+  | inl nodes ↦ rw (node_in has_a nodes, node_in has_b nodes) (node_lengths v ((a - r.first) % 5) ((b - r.first) % 5))
+  | inr pages ↦ rw (page_in has_a pages, page_in has_b pages) refl
 ]
 
 -- what has one home has as many sectors
 pub one_length : (p : Plan) (a b : ℕ) → IsPlan p → IsObject p.geometry a → IsObject p.geometry b → home_place p a ≡ home_place p b →
     place_length p a ≡ place_length p b
 one_length p a b fits is_a is_b same =
-    let there = one_range p a b fits is_a is_b same in
+    let there = one_range fits is_a is_b same in
     let at = there.1 in
-    ap shape_length (shape_is p a there.0 at.one) ∙ lengths_in p.version p.geometry (range_at p.ranges there.0) a b at.one.has at.other.has ∙
-    ap shape_length (sym (shape_is p b there.0 at.other))
+    ap shape_length (shape_is p at.one) ∙ lengths_in p.version at.one.has at.other.has ∙ ap shape_length (sym (shape_is p at.other))
 
 -- so the bytes of a home are the frames of all that have it
-pub home_held : (p : Plan) (number at n : ℕ) (s : Shape) (bytes : List ℕ) (image : Image) → IsPlan p → IsObject p.geometry number → at ≡ home_place p number →
-    s ≡ shape_of p number → n ≡ shape_length s
-    → sectors_from image at n ≡ bytes → HoldsHome p number bytes image
-home_held p number at n s bytes image fits is place shape length held a is_a same =
+pub home_held : {p : Plan} {number at n : ℕ} {s : Shape} {bytes : List ℕ} (image : Image) → IsPlan p → IsObject p.geometry number → at ≡ home_place p number →
+    s ≡ shape_of p number → n ≡ shape_length s → sectors_from image at n ≡ bytes → HoldsHome p number bytes image
+home_held {p} {number} {at} {n} image fits is place shape length held a is_a same =
     let length_is : place_length p a ≡ n = one_length p a number fits is_a is same ∙ ap shape_length (sym shape) ∙ sym length in
     ap (λ (k : ℕ). shape_bytes (shape_of p a) (sectors_from image k (place_length p a))) (same ∙ sym place)
     ∙ ap (λ (k : ℕ). shape_bytes (shape_of p a) (sectors_from image at k)) length_is ∙ ap (shape_bytes (shape_of p a)) held
 
-pub written_home : {T E : Type 0} (result : Result T E) (p : Plan) (number at n : ℕ) (s : Shape) (bytes : List ℕ) (image : Image) → IsPlan p →
+pub written_home : {T E : Type 0} (result : Result T E) {p : Plan} {number at n : ℕ} {s : Shape} (bytes : List ℕ) (image : Image) → IsPlan p →
     IsObject p.geometry number → at ≡ home_place p number → s ≡ shape_of p number
     → n ≡ shape_length s → OnOk result (sectors_from image at n ≡ bytes) → OnOk result (HoldsHome p number bytes image)
-written_home (Ok value) p number at n s bytes image fits is place shape length held = home_held p number at n s bytes image fits is place shape length held
-written_home (Err error) p number at n s bytes image fits is place shape length held = tt
+written_home (Ok value) {p} {number} {at} {n} {s} bytes image fits is place shape length held = home_held image fits is place shape length held
+written_home (Err error) bytes image fits is place shape length held = tt
 
 -- ---- the range that was found
 
 -- the sector of a range lies on a device
-sector_fits : (p : Plan) (i : ℕ) → IsPlan p → i < length p.ranges → (range_at p.ranges i).sector ≤ 131072
-sector_fits p i fits lt = let within = range_within p i fits lt in omega (arith, within.1, fits.total)
+sector_fits : {p : Plan} {i : ℕ} → IsPlan p → i < length p.ranges → (range_at p.ranges i).sector ≤ 131072
+sector_fits {p} {i} fits lt = let within = range_within fits lt in omega (arith, within.1, fits.total)
 
-same_range : (q r : HomeRange) → Some q ≡ Some r → q ≡ r
-same_range q r e = cc
+same_range : {q r : HomeRange} → Some q ≡ Some r → q ≡ r
+same_range e = cc
 
 -- the range that has a number, and so the place of the number
 pub record IsRangeOf (p : Plan) (number : ℕ) (r : HomeRange) : Type 0 where
   pub sector : r.sector ≤ 131072
   pub place : home_place p number ≡ place_in p.version p.geometry r number
 
-range_of : (p : Plan) (number : ℕ) (r : HomeRange) → IsPlan p → IsObject p.geometry number → Some r ≡ range_with p.ranges number → IsRangeOf p number r
-range_of p number r fits is reported =
-    let at = found p number fits is in
-    let same : r ≡ range_at p.ranges at.0 = same_range r (range_at p.ranges at.0) (reported ∙ at.1.found) in
+range_of : {p : Plan} {number : ℕ} {r : HomeRange} → IsPlan p → IsObject p.geometry number → Some r ≡ range_with p.ranges number → IsRangeOf p number r
+range_of {p} {number} {r} fits is reported =
+    let at = found number fits is in
+    let same : r ≡ range_at p.ranges at.0 = same_range (reported ∙ at.1.found) in
     record {
-      sector = subst (λ (q : HomeRange). q.sector ≤ 131072) (sym same) (sector_fits p at.0 fits at.1.within);
+      sector = subst (λ (q : HomeRange). q.sector ≤ 131072) (sym same) (sector_fits fits at.1.within);
       place = ap (λ (q : Option HomeRange). place_by p.version p.geometry q number) (sym reported);
     }
 
 -- the plan is written in two ways, `p` and `q`
-pub range_reported : (p q : Plan) (number : ℕ) (r : HomeRange) → p ≡ q → IsPlan p → IsObject q.geometry number → Some r ≡ range_with p.ranges number →
+pub range_reported : {p q : Plan} {number : ℕ} {r : HomeRange} → p ≡ q → IsPlan p → IsObject q.geometry number → Some r ≡ range_with p.ranges number →
     IsRangeOf q number r
-range_reported p q number r e fits is reported =
-    subst (λ (x : Plan). IsObject x.geometry number → IsRangeOf x number r) e (λ is_p. range_of p number r fits is_p reported) is
+range_reported {p} {number} {r} e fits is reported =
+    subst (λ (x : Plan). IsObject x.geometry number → IsRangeOf x number r) e (λ is_p. range_of fits is_p reported) is
 
-pub no_range_reported : (p q : Plan) (number : ℕ) → p ≡ q → IsPlan p → IsObject q.geometry number → None ≡ range_with p.ranges number → ⊥
-no_range_reported p q number e fits is reported =
+pub no_range_reported : {p q : Plan} {number : ℕ} → p ≡ q → IsPlan p → IsObject q.geometry number → None ≡ range_with p.ranges number → ⊥
+no_range_reported {p} {number} e fits is reported =
     subst (λ (x : Plan). IsObject x.geometry number → ⊥) e
-    (λ is_p. let at = found p number fits is_p in let never : None ≡ Some (range_at p.ranges at.0) = reported ∙ at.1.found in cc) is
+    (λ is_p. let at = found number fits is_p in let never : None ≡ Some (range_at p.ranges at.0) = reported ∙ at.1.found in cc) is
 
 -- a place of a number, behind the headers and before the end
 pub record IsPlace (p : Plan) (number place : ℕ) : Type 0 where
@@ -388,19 +354,17 @@ pub record IsPlace (p : Plan) (number place : ℕ) : Type 0 where
   pub behind : 5 ≤ place
   pub inside : place + place_length p number ≤ p.total
 
-place_lies : (p : Plan) (number place : ℕ) → IsPlan p → IsObject p.geometry number → place ≡ home_place p number → IsPlace p number place
-place_lies p number place fits is same =
+place_lies : {p : Plan} {number place : ℕ} → IsPlan p → IsObject p.geometry number → place ≡ home_place p number → IsPlace p number place
+place_lies {p} {number} fits is same =
     let within = places_within p number fits is in
     record { value = same; behind = omega (arith, within.0, same); inside = omega (arith, within.1, same) }
 
-pub place_reported : (p q : Plan) (v : Version) (g : Geometry) (number place : ℕ) (r : HomeRange) → v ≡ p.version → g ≡ p.geometry → p ≡ q → IsPlan p →
-    IsObject q.geometry number → Some r ≡ range_with p.ranges number
-    → place ≡ place_in v g r number → IsPlace q number place
-place_reported p q v g number place r version geometry e fits is reported made =
-    subst (λ (x : Plan). IsObject x.geometry number → IsPlace x number place) e
-    (λ is_p. place_lies p number place fits is_p
+pub place_reported : {p q : Plan} {v : Version} {g : Geometry} {number place : ℕ} {r : HomeRange} → v ≡ p.version → g ≡ p.geometry → p ≡ q → IsPlan p →
+    IsObject q.geometry number → Some r ≡ range_with p.ranges number → place ≡ place_in v g r number → IsPlace q number place
+place_reported {p} {g} {number} {place} {r} version geometry e fits is reported made =
+    subst (λ (x : Plan). IsObject x.geometry number → IsPlace x number place) e (λ is_p. place_lies fits is_p
     (made ∙ ap (λ (w : Version). place_in w g r number) version ∙ ap (λ (h : Geometry). place_in p.version h r number) geometry ∙
-    sym (range_of p number r fits is_p reported).place)) is
+    sym (range_of fits is_p reported).place)) is
 
 -- ---- who has a home
 
@@ -421,48 +385,48 @@ rank_or_0 Node = 0
 rank_or_0 (Packed rank) = rank
 rank_or_0 Page = 0
 
-ranked_node : (v : Version) (rank i : ℕ) → node_shape v i ≡ Packed rank → (v ≡ Two) × (rank ≡ i)
-ranked_node One rank i e = let never : Node ≡ Packed rank = e in cc
-ranked_node Two rank i e = (refl, sym (ap rank_or_0 e))
+ranked_node : (v : Version) {rank i : ℕ} → node_shape v i ≡ Packed rank → (v ≡ Two) × (rank ≡ i)
+ranked_node One {rank} e = let never : Node ≡ Packed rank = e in cc
+ranked_node Two e = (refl, sym (ap rank_or_0 e))
 
-pub ranked_in : (v : Version) (g : Geometry) (r : HomeRange) (number rank : ℕ) → Has g r number → shape_in v g r number ≡ Packed rank →
+pub ranked_in : {v : Version} {g : Geometry} {r : HomeRange} {number rank : ℕ} → Has g r number → shape_in v g r number ≡ Packed rank →
     IsRanked v g r number rank
-ranked_in v g r number rank has e = elim has.kind [
+ranked_in {v} {g} {r} {number} {rank} has e = elim has.kind [
   | inl nodes ↦
-      let is = ranked_node v rank ((number - r.first) % 5) (rw (lt_true number g.nodes (omega (arith, nodes, has.high))) at e) in
+      let is = ranked_node v (rw (lt_true number g.nodes (omega (arith, nodes, has.high))) at e) in
       record { second = is.0; nodes = nodes; value = is.1 }
   | inr pages ↦ absurd (let never : Page ≡ Packed rank = rw (lt_false number g.nodes (omega (arith, pages, has.low))) at e in cc)
 ]
 
 -- the place of a rank's cluster
-cluster_place : (v : Version) (g : Geometry) (r : HomeRange) (number rank : ℕ) → Has g r number → IsRanked v g r number rank →
+cluster_place : {v : Version} {g : Geometry} {r : HomeRange} {number rank : ℕ} → Has g r number → IsRanked v g r number rank →
     place_in v g r number ≡ r.sector + 8 * ((number - r.first) / 5)
-cluster_place v g r number rank has is =
+cluster_place {g} {number} has is =
     let number_lt : nat_lt number g.nodes ≡ true = lt_true number g.nodes (omega (arith, is.nodes, has.high)) in
     rw (is.second, number_lt) refl
 
 -- and of the others of its range
-same_ranked : (v : Version) (g : Geometry) (r : HomeRange) (a number rank : ℕ) → IsRanked v g r number rank → IsRanked v g r a ((a - r.first) % 5)
-same_ranked v g r a number rank is = record { second = is.second; nodes = is.nodes; value = refl }
+same_ranked : {v : Version} {g : Geometry} {r : HomeRange} {a number rank : ℕ} → IsRanked v g r number rank → IsRanked v g r a ((a - r.first) % 5)
+same_ranked is = record { second = is.second; nodes = is.nodes; value = refl }
 
-ranked_shape : (v : Version) (g : Geometry) (r : HomeRange) (number rank : ℕ) → Has g r number → IsRanked v g r number rank →
+ranked_shape : {v : Version} {g : Geometry} {r : HomeRange} {number rank : ℕ} → Has g r number → IsRanked v g r number rank →
     shape_in v g r number ≡ Packed rank
-ranked_shape v g r number rank has is =
+ranked_shape {g} {number} has is =
     let number_lt : nat_lt number g.nodes ≡ true = lt_true number g.nodes (omega (arith, is.nodes, has.high)) in
     rw (is.second, number_lt) (ap (λ (k : ℕ). Packed k) (sym is.value))
 
 -- in a range, what has the home of a number
-pub one_cluster : (v : Version) (g : Geometry) (r : HomeRange) (a number rank : ℕ) → Has g r a → Has g r number → IsRanked v g r number rank →
+pub one_cluster : {v : Version} {g : Geometry} {r : HomeRange} {a number rank : ℕ} → Has g r a → Has g r number → IsRanked v g r number rank →
     place_in v g r a ≡ place_in v g r number → (a - r.first) / 5 ≡ (number - r.first) / 5
-one_cluster v g r a number rank has_a has is same =
-    let place_a = cluster_place v g r a ((a - r.first) % 5) has_a (same_ranked v g r a number rank is) in
-    let place = cluster_place v g r number rank has is in
+one_cluster {v} {g} {r} {a} {number} {rank} has_a has is same =
+    let place_a = cluster_place has_a (same_ranked is) in
+    let place = cluster_place has is in
     omega (arith, place_a, place, same)
 
-alone_in : (v : Version) (g : Geometry) (r : HomeRange) (a number : ℕ) → Has g r a → Has g r number → IsOwn (shape_in v g r number) →
+alone_in : (v : Version) {g : Geometry} {r : HomeRange} {a number : ℕ} → Has g r a → Has g r number → IsOwn (shape_in v g r number) →
     place_in v g r a ≡ place_in v g r number → a ≡ number
-alone_in One g r a number has_a has = λ own same. same_number One g r a number refl has_a has same
-alone_in Two g r a number has_a has = elim has.kind [
+alone_in One {g} {r} {a} {number} has_a has = λ own same. same_number refl has_a has same
+alone_in Two {g} {a} {number} has_a has = elim has.kind [
   | inl nodes ↦ rw (lt_true number g.nodes (omega (arith, nodes, has.high))) (λ own same. absurd own)
   | inr pages ↦ rw (lt_false a g.nodes (omega (arith, pages, has_a.low)), lt_false number g.nodes (omega (arith, pages, has.low)))
       (λ own same. omega (arith, same, has_a.low, has.low))
@@ -472,25 +436,24 @@ alone_in Two g r a number has_a has = elim has.kind [
 pub alone : (p : Plan) (a number : ℕ) → IsPlan p → IsObject p.geometry a → IsObject p.geometry number → IsOwn (shape_of p number) →
     home_place p a ≡ home_place p number → a ≡ number
 alone p a number fits is_a is own same =
-    let there = one_range p a number fits is_a is same in
+    let there = one_range fits is_a is same in
     let at = there.1 in
-    alone_in p.version p.geometry (range_at p.ranges there.0) a number at.one.has at.other.has (subst IsOwn (shape_is p number there.0 at.other) own) at.place
+    alone_in p.version at.one.has at.other.has (subst IsOwn (shape_is p at.other) own) at.place
 
 -- what has the home of the first of a cluster lies there by its rank
 pub ranked : (p : Plan) (a number : ℕ) → IsPlan p → IsObject p.geometry a → IsObject p.geometry number → shape_of p number ≡ Packed 0 →
     home_place p a ≡ home_place p number → (number ≤ a) × (a < number + 5) × (shape_of p a ≡ Packed (a - number)) × (a < p.geometry.nodes)
 ranked p a number fits is_a is shape same =
-    let there = one_range p a number fits is_a is same in
+    let there = one_range fits is_a is same in
     let at = there.1 in
     let r : HomeRange = range_at p.ranges there.0 in
-    let first = ranked_in p.version p.geometry r number 0 at.other.has (sym (shape_is p number there.0 at.other) ∙ shape) in
-    let one = one_cluster p.version p.geometry r a number 0 at.one.has at.other.has first at.place in
+    let first = ranked_in at.other.has (sym (shape_is p at.other) ∙ shape) in
+    let one = one_cluster at.one.has at.other.has first at.place in
     let low : number ≤ a = omega (arith, one, first.value, at.one.has.low, at.other.has.low) in
     let rank : a - number ≡ (a - r.first) % 5 = omega (arith, one, first.value, at.one.has.low, at.other.has.low) in (
       low,
       omega (arith, one, first.value, at.one.has.low, at.other.has.low),
-      shape_is p a there.0 at.one ∙
-          ranked_shape p.version p.geometry r a (a - number) at.one.has (record { second = first.second; nodes = first.nodes; value = rank }),
+      shape_is p at.one ∙ ranked_shape at.one.has (record { second = first.second; nodes = first.nodes; value = rank }),
       omega (arith, first.nodes, at.one.has.high),
     )
 
@@ -502,27 +465,26 @@ module _ (p : Plan) (number rank i : ℕ) (fits : IsPlan p) (at : IsFound p.geom
   r = range_at p.ranges i
 
   -- another of its range and its five has its home
-  pub beside : (a : ℕ) → r.first ≤ a → a < r.first + r.count → (a - r.first) / 5 ≡ (number - r.first) / 5 → home_place p a ≡ home_place p number
-  beside a low high one =
+  pub beside : {a : ℕ} → r.first ≤ a → a < r.first + r.count → (a - r.first) / 5 ≡ (number - r.first) / 5 → home_place p a ≡ home_place p number
+  beside {a} low high one =
       let has : Has p.geometry r a = record { low = low; high = high; kind = at.has.kind } in
-      let there = found_too p.geometry 0 i a p.ranges fits.cover at.within has in
-      place_is p a i there ∙ cluster_place p.version p.geometry r a ((a - r.first) % 5) has (same_ranked p.version p.geometry r a number rank is)
-      ∙ ap (λ (k : ℕ). r.sector + 8 * k) one ∙ sym (cluster_place p.version p.geometry r number rank at.has is) ∙ sym (place_is p number i at)
+      let there = found_too 0 i p.ranges fits.cover at.within has in
+      place_is p there ∙ cluster_place has (same_ranked is) ∙ ap (λ (k : ℕ). r.sector + 8 * k) one ∙ sym (cluster_place at.has is) ∙ sym (place_is p at)
 
 -- a number of a cluster but the first of it has the home of the number before
 pub one_before : (p : Plan) (number rank : ℕ) → IsPlan p → IsObject p.geometry number → shape_of p number ≡ Packed rank → 1 ≤ rank →
     (1 ≤ number) × (home_place p (number - 1) ≡ home_place p number)
 one_before p number rank fits is shape some =
-    let there = found p number fits is in
+    let there = found number fits is in
     let at = there.1 in
     let r : HomeRange = range_at p.ranges there.0 in
-    let here = ranked_in p.version p.geometry r number rank at.has (sym (shape_is p number there.0 at) ∙ shape) in (
+    let here = ranked_in at.has (sym (shape_is p at) ∙ shape) in (
       omega (arith, here.value, some, at.has.low),
-      beside p number rank there.0 fits at here (number - 1) (omega (arith, here.value, some, at.has.low)) (omega (arith, at.has.high, here.value, some))
+      beside p number rank there.0 fits at here (omega (arith, here.value, some, at.has.low)) (omega (arith, at.has.high, here.value, some))
           (omega (arith, here.value, some, at.has.low)),
     )
 
-module _ (p : Plan) (number : ℕ) (fits : IsPlan p) (is : IsObject p.geometry number) where
+module _ {p : Plan} {number : ℕ} (fits : IsPlan p) (is : IsObject p.geometry number) where
   -- a frame in sectors of its own shares them with none
   itself_alone : IsOwn (shape_of p number) → HaveHome p number 1
   itself_alone own = record {
@@ -532,55 +494,54 @@ module _ (p : Plan) (number : ℕ) (fits : IsPlan p) (is : IsObject p.geometry n
   }
 
   -- a node of a cluster shares it with those behind it, up to the fifth or to the end of the range
-  cluster_shared : (r : HomeRange) (rank n : ℕ) → Some r ≡ range_with p.ranges number → shape_of p number ≡ Packed rank →
+  cluster_shared : {r : HomeRange} {rank n : ℕ} → Some r ≡ range_with p.ranges number → shape_of p number ≡ Packed rank →
       n ≡ min (r.count - (number - r.first)) (5 - rank) → HaveHome p number n
-  cluster_shared r rank n reported shape count =
-      let there = found p number fits is in
+  cluster_shared {r} {rank} {n} reported shape count =
+      let there = found number fits is in
       let at = there.1 in
       let q : HomeRange = range_at p.ranges there.0 in
-      let one : r ≡ q = same_range r q (reported ∙ at.found) in
+      let one : r ≡ q = same_range (reported ∙ at.found) in
       let few : n ≡ min (q.count - (number - q.first)) (5 - rank) = subst (λ (x : HomeRange). n ≡ min (x.count - (number - x.first)) (5 - rank)) one count in
-      let here = ranked_in p.version p.geometry q number rank at.has (sym (shape_is p number there.0 at) ∙ shape) in record {
+      let here = ranked_in at.has (sym (shape_is p at) ∙ shape) in record {
         object = λ k lt. omega (arith, lt, few, here.nodes, at.has.low, at.has.high);
-        same = λ k lt. beside p number rank there.0 fits at here (number + k) (omega (arith, at.has.low)) (omega (arith, lt, few, at.has.low, at.has.high))
+        same = λ k lt. beside p number rank there.0 fits at here (omega (arith, at.has.low)) (omega (arith, lt, few, at.has.low, at.has.high))
             (omega (arith, lt, few, here.value, at.has.low));
         all = λ a is_a low same.
-            let both = one_range p a number fits is_a is same in
-            let other : range_at p.ranges both.0 ≡ q = same_range (range_at p.ranges both.0) q (sym both.1.other.found ∙ at.found) in
+            let both = one_range fits is_a is same in
+            let other : range_at p.ranges both.0 ≡ q = same_range (sym both.1.other.found ∙ at.found) in
             let a_has : Has p.geometry q a = subst (λ (x : HomeRange). Has p.geometry x a) other both.1.one.has in
             let place : place_in p.version p.geometry q a ≡ place_in p.version p.geometry q number = subst
             (λ (x : HomeRange). place_in p.version p.geometry x a ≡ place_in p.version p.geometry x number) other both.1.place in
-            let five = one_cluster p.version p.geometry q a number rank a_has at.has here place in
+            let five = one_cluster a_has at.has here place in
             omega (arith, few, five, here.value, low, a_has.low, a_has.high, at.has.low);
       }
 
 -- the plan is written in two ways
-pub own_reported : (p q : Plan) (number : ℕ) (s : Shape) → p ≡ q → IsPlan p → IsObject q.geometry number → IsOwn s → s ≡ shape_of q number → HaveHome q number 1
-own_reported p q number s e fits is own reported = itself_alone q number (subst IsPlan e fits) is (subst IsOwn reported own)
+pub own_reported : {p q : Plan} {number : ℕ} {s : Shape} → p ≡ q → IsPlan p → IsObject q.geometry number → IsOwn s → s ≡ shape_of q number → HaveHome q number 1
+own_reported {number} e fits is own reported = itself_alone (subst IsPlan e fits) is (subst IsOwn reported own)
 
-pub cluster_reported : (p q : Plan) (number rank n : ℕ) (r : HomeRange) → p ≡ q → IsPlan p → IsObject q.geometry number → Some r ≡ range_with p.ranges number →
-    Packed rank ≡ shape_of q number → n ≡ min (r.count - (number - r.first)) (5 - rank)
-    → HaveHome q number n
-cluster_reported p q number rank n r e fits is reported shape count = cluster_shared q number (subst IsPlan e fits) is r rank n
+pub cluster_reported : {p q : Plan} {number rank n : ℕ} {r : HomeRange} → p ≡ q → IsPlan p → IsObject q.geometry number → Some r ≡ range_with p.ranges number →
+    Packed rank ≡ shape_of q number → n ≡ min (r.count - (number - r.first)) (5 - rank) → HaveHome q number n
+cluster_reported {number} {rank} {n} {r} e fits is reported shape count = cluster_shared (subst IsPlan e fits) is
     (reported ∙ ap (λ (x : Plan). range_with x.ranges number) e) (sym shape) count
 
 -- the frames of all that have the home of the first node stay where those in the places of these do
-pub cluster_stays : (p : Plan) (first n : ℕ) (old new : List ℕ) → IsPlan p → IsObject p.geometry first → shape_of p first ≡ Packed 0 → HaveHome p first n
+pub cluster_stays : {p : Plan} {first n : ℕ} (old new : List ℕ) → IsPlan p → IsObject p.geometry first → shape_of p first ≡ Packed 0 → HaveHome p first n
     → ((rank : ℕ) → rank < n → shape_bytes (Packed rank) new ≡ shape_bytes (Packed rank) old)
     → (a : ℕ) → IsObject p.geometry a → home_place p a ≡ home_place p first → shape_bytes (shape_of p a) new ≡ shape_bytes (shape_of p a) old
-cluster_stays p first n old new fits is shape have stays a is_a same =
+cluster_stays {p} {first} old new fits is shape have stays a is_a same =
     let at = ranked p a first fits is_a is shape same in
     let few = have.all a is_a at.0 same in
     ap (λ (s : Shape). shape_bytes s new) at.2 ∙ stays (a - first) (omega (arith, few, at.0)) ∙ ap (λ (s : Shape). shape_bytes s old) (sym at.2)
 
 -- what was written to a home, said in two ways
-pub written_bytes : {T E : Type 0} (result : Result T E) (p : Plan) (number at n : ℕ) (s : Shape) (bytes : List ℕ) (image : Image) → at ≡ home_place p number →
-    s ≡ shape_of p number → n ≡ shape_length s
+pub written_bytes : {T E : Type 0} (result : Result T E) (p : Plan) (number : ℕ) {at n : ℕ} {s : Shape} (bytes : List ℕ) (image : Image) →
+    at ≡ home_place p number → s ≡ shape_of p number → n ≡ shape_length s
     → OnOk result (sectors_from image at n ≡ bytes) → OnOk result (sectors_from image (home_place p number) (place_length p number) ≡ bytes)
-written_bytes (Ok done) p number at n s bytes image place shape size written =
+written_bytes (Ok done) p number {at} bytes image place shape size written =
     ap (λ (k : ℕ). sectors_from image k (place_length p number)) (sym place) ∙ ap (λ (k : ℕ). sectors_from image at k) (ap shape_length (sym shape) ∙ sym size)
     ∙ written
-written_bytes (Err error) p number at n s bytes image place shape size written = tt
+written_bytes (Err error) p number bytes image place shape size written = tt
 
 -- the zeros of a cluster stand where it was written
 pub zeros_in : {T E : Type 0} (result : Result T E) (p : Plan) (first : ℕ) (there bytes : List ℕ) → OnOk result (there ≡ bytes) → EndsInZeros p first bytes →

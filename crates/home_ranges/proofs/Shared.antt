@@ -1,26 +1,25 @@
 -- Homes that several numbers share.
 use Rattle.home_ranges.proofs.Names.{ℕ, Bool, true, false, nat_lt, refl, sym, ap, inl, inr, arith, Geometry, HomeRange, Shape, Node, Packed, Page, Version, One}
-use Rattle.home_ranges.proofs.Names.{Two, range_with, node_offset, place_in, home_place, rank_in, shape_of, node_shape, Plan, IsPlan, IsObject}
+use Rattle.home_ranges.proofs.Names.{Two, node_offset, place_in, home_place, shape_of, node_shape, Plan, IsPlan, IsObject}
 use Rattle.std.proofs.Common.{◌≡◌, ◌+◌, ◌-◌, ◌%◌, ◌<◌, ◌≤◌, ◌∙◌}
 use Rattle.std.specs.Prelude.{if◌then◌else◌}
 use Rattle.home_ranges.proofs.Places.{range_at, Has, found, found_too, place_is, shape_is, lt_true, lt_false, one_range, IsOwn, ranked_in, one_cluster, beside}
 
 -- ---- what lies between two numbers that share a home has it too
 
-offset_between : (v : Version) (i j k : ℕ) → i ≤ j → j ≤ k → node_offset v k ≡ node_offset v i → node_offset v j ≡ node_offset v i
-offset_between One i j k low high same = omega (arith, low, high, same)
-offset_between Two i j k low high same = omega (arith, low, high, same)
+offset_between : (v : Version) {i j : ℕ} (k : ℕ) → i ≤ j → j ≤ k → node_offset v k ≡ node_offset v i → node_offset v j ≡ node_offset v i
+offset_between One k low high same = omega (arith, low, high, same)
+offset_between Two k low high same = omega (arith, low, high, same)
 
-place_between : (v : Version) (g : Geometry) (r : HomeRange) (a b n : ℕ) → Has g r a → Has g r n → n ≤ b → b ≤ a → place_in v g r a ≡ place_in v g r n →
+place_between : (v : Version) {g : Geometry} {r : HomeRange} {a b n : ℕ} → Has g r a → Has g r n → n ≤ b → b ≤ a → place_in v g r a ≡ place_in v g r n →
     place_in v g r b ≡ place_in v g r n
-place_between v g r a b n has_a has_n low high = elim has_a.kind [
+place_between v {g} {r} {a} {b} {n} has_a has_n low high = elim has_a.kind [
   | inl nodes ↦
       let a_lt : nat_lt a g.nodes ≡ true = lt_true a g.nodes (omega (arith, nodes, has_a.high)) in
       let b_lt : nat_lt b g.nodes ≡ true = lt_true b g.nodes (omega (arith, nodes, has_a.high, high)) in
       let n_lt : nat_lt n g.nodes ≡ true = lt_true n g.nodes (omega (arith, nodes, has_n.high)) in
-      rw (a_lt, b_lt, n_lt)
-      (λ same. ap (λ (offset : ℕ). r.sector + offset)
-      (offset_between v (n - r.first) (b - r.first) (a - r.first) (omega (arith, low)) (omega (arith, high)) (omega (arith, same))))
+      rw (a_lt, b_lt, n_lt) (λ same. ap (λ (offset : ℕ). r.sector + offset)
+      (offset_between v (a - r.first) (omega (arith, low)) (omega (arith, high)) (omega (arith, same))))
   | inr pages ↦
       let a_ge : nat_lt a g.nodes ≡ false = lt_false a g.nodes (omega (arith, pages, has_a.low)) in
       let b_ge : nat_lt b g.nodes ≡ false = lt_false b g.nodes (omega (arith, pages, has_n.low, low)) in
@@ -28,17 +27,16 @@ place_between v g r a b n has_a has_n low high = elim has_a.kind [
       rw (a_ge, b_ge, n_ge) (λ same. omega (arith, same, low, high, has_a.low, has_n.low))
 ]
 
-pub home_between : (p : Plan) (a b n : ℕ) → IsPlan p → IsObject p.geometry a → IsObject p.geometry n → n ≤ b → b ≤ a → home_place p a ≡ home_place p n →
+pub home_between : {p : Plan} {a b n : ℕ} → IsPlan p → IsObject p.geometry a → IsObject p.geometry n → n ≤ b → b ≤ a → home_place p a ≡ home_place p n →
     home_place p b ≡ home_place p n
-home_between p a b n fits is_a is_n low high same =
-    let there = one_range p a n fits is_a is_n same in
+home_between {p} {a} {b} {n} fits is_a is_n low high same =
+    let there = one_range fits is_a is_n same in
     let both = there.1 in
     let r : HomeRange = range_at p.ranges there.0 in
     let has_b : Has p.geometry r b =
     record { low = omega (arith, both.other.has.low, low); high = omega (arith, both.one.has.high, high); kind = both.one.has.kind } in
-    place_is p b there.0 (found_too p.geometry 0 there.0 b p.ranges fits.cover both.one.within has_b)
-    ∙ place_between p.version p.geometry r a b n both.one.has both.other.has low high both.place
-    ∙ sym (place_is p n there.0 both.other)
+    place_is p (found_too 0 there.0 p.ranges fits.cover both.one.within has_b) ∙ place_between p.version both.one.has both.other.has low high both.place
+    ∙ sym (place_is p both.other)
 
 -- ---- where a cluster begins
 
@@ -49,34 +47,32 @@ pub record Begins (p : Plan) (n rank : ℕ) : Type 0 where
   pub first : shape_of p (n - rank) ≡ Packed 0
   pub least : (a : ℕ) → IsObject p.geometry a → home_place p a ≡ home_place p n → n - rank ≤ a
 
-first_shape : (p : Plan) (first : ℕ) (r : HomeRange) → p.version ≡ Two →
+first_shape : (p : Plan) {first : ℕ} (r : HomeRange) → p.version ≡ Two →
     shape_of p first ≡ (if nat_lt first p.geometry.nodes then node_shape p.version ((first - r.first) % 5) else Page) → first < p.geometry.nodes →
-    (first - r.first) % 5 ≡ 0
-    → shape_of p first ≡ Packed 0
-first_shape p first r two is node rank =
+    (first - r.first) % 5 ≡ 0 → shape_of p first ≡ Packed 0
+first_shape p {first} r two is node rank =
     is ∙ ap (λ (test : Bool). if test then node_shape p.version ((first - r.first) % 5) else Page) (lt_true first p.geometry.nodes node)
     ∙ ap (λ (v : Version). node_shape v ((first - r.first) % 5)) two ∙ ap (λ (k : ℕ). Packed k) rank
 
 pub begins : (p : Plan) (n rank : ℕ) → IsPlan p → IsObject p.geometry n → shape_of p n ≡ Packed rank → Begins p n rank
 begins p n rank fits is shape =
-    let there = found p n fits is in
+    let there = found n fits is in
     let at = there.1 in
     let r : HomeRange = range_at p.ranges there.0 in
-    let here = ranked_in p.version p.geometry r n rank at.has (sym (shape_is p n there.0 at) ∙ shape) in
+    let here = ranked_in at.has (sym (shape_is p at) ∙ shape) in
     let has_first : Has p.geometry r (n - rank) = record { low = omega (arith, here.value, at.has.low); high = omega (arith, at.has.high); kind = at.has.kind }
     in
-    let found_first = found_too p.geometry 0 there.0 (n - rank) p.ranges fits.cover at.within has_first in
+    let found_first = found_too 0 there.0 p.ranges fits.cover at.within has_first in
     record {
       below = omega (arith, here.value);
-      home = beside p n rank there.0 fits at here (n - rank) has_first.low has_first.high (omega (arith, here.value, at.has.low));
-      first = first_shape p (n - rank) r here.second (shape_is p (n - rank) there.0 found_first) (omega (arith, here.nodes, at.has.high))
-          (omega (arith, here.value, at.has.low));
+      home = beside p n rank there.0 fits at here has_first.low has_first.high (omega (arith, here.value, at.has.low));
+      first = first_shape p r here.second (shape_is p found_first) (omega (arith, here.nodes, at.has.high)) (omega (arith, here.value, at.has.low));
       least = λ a is_a same.
-          let shared = one_range p a n fits is_a is same in
+          let shared = one_range fits is_a is same in
           let both = shared.1 in
           let q : HomeRange = range_at p.ranges shared.0 in
-          let rank_there = ranked_in p.version p.geometry q n rank both.other.has (sym (shape_is p n shared.0 both.other) ∙ shape) in
-          let one = one_cluster p.version p.geometry q a n rank both.one.has both.other.has rank_there both.place in
+          let rank_there = ranked_in both.other.has (sym (shape_is p both.other) ∙ shape) in
+          let one = one_cluster both.one.has both.other.has rank_there both.place in
           omega (arith, one, rank_there.value, both.one.has.low, both.other.has.low);
     }
 

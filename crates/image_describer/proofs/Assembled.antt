@@ -315,12 +315,8 @@ module _ (g : Geometry) (w : World) (sound : IsSound g w) where
         subst (Contains (map (λ p. p.annex) d.processes.items)) annex (contains_map (λ p. p.annex) entry.0 d.processes.items entry.1)
       where
         root_role : (c : Content Capability) → IsTrue (is_root c) → role_of c ≡ role.Root
-        root_role content.Free is = absurd cc
-        root_role (content.Page words) is = absurd cc
-        root_role (content.Node slots) is = absurd cc
         root_role (content.Root r) is = refl
-        root_role (content.Annex registers) is = absurd cc
-        root_role (content.Bank limit) is = absurd cc
+        root_role other is = absurd cc
 
     -- what isn't named is free
     other_free : (n : ℕ) (c : Content Capability) → content_at w.objects n ≡ c → (Contains (node_numbers d ++ page_numbers d) n → ⊥) → c ≡ content.Free

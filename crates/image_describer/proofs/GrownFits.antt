@@ -13,19 +13,11 @@ use Rattle.image_describer.proofs.Plain.{plain_at}
 -- what has a role isn't free
 role_not_free : {C : Type 0} (c : Content C) → role_of c ≢ role.Free → is_free c ≡ false
 role_not_free content.Free other = absurd (other refl)
-role_not_free (content.Page words) other = refl
-role_not_free (content.Node slots) other = refl
-role_not_free (content.Root r) other = refl
-role_not_free (content.Annex registers) other = refl
-role_not_free (content.Bank limit) other = refl
+role_not_free one other = refl
 
 free_has_role : {C : Type 0} (c : Content C) → role_of c ≡ role.Free → is_free c ≡ true
 free_has_role content.Free is = refl
-free_has_role (content.Page words) is = absurd cc
-free_has_role (content.Node slots) is = absurd cc
-free_has_role (content.Root r) is = absurd cc
-free_has_role (content.Annex registers) is = absurd cc
-free_has_role (content.Bank limit) is = absurd cc
+free_has_role other is = absurd cc
 
 first_not_free : (f : Frame) (owner : ℕ) (c : Content Cap) → role_of c ≢ role.Free → f ≡ first_frame owner c → f.header.role ≢ role.Free
 first_not_free f owner c other is free = other (sym (ap (λ (g : Frame). g.header.role) is) ∙ free)

@@ -27,8 +27,6 @@ grown_is_described w d e sound describes same nodes pages =
 
 module _ (at : ℕ → ℕ) (stays : (n : ℕ) → at n ≡ n) where
   capability_stays : (c : Capability) → moved_capability at c ≡ c
-  capability_stays Void = refl
-  capability_stays (Number n) = refl
   capability_stays (Page o a) = ap (λ (n : ℕ). let c : Capability = Page n a in c) (stays o)
   capability_stays (Node o a) = ap (λ (n : ℕ). let c : Capability = Node n a in c) (stays o)
   capability_stays (Space o h a) = ap (λ (n : ℕ). let c : Capability = Space n h a in c) (stays o)
@@ -36,7 +34,7 @@ module _ (at : ℕ → ℕ) (stays : (n : ℕ) → at n ≡ n) where
   capability_stays (Start p key) = ap (λ (n : ℕ). let c : Capability = Start n key in c) (stays p)
   capability_stays (Resume p) = ap (λ (n : ℕ). let c : Capability = Resume n in c) (stays p)
   capability_stays (Bank b) = ap (λ (n : ℕ). let c : Capability = Bank n in c) (stays b)
-  capability_stays Discrim = refl
+  capability_stays other = refl
 
   slots_stay : (cs : List Capability) → map (moved_capability at) cs ≡ cs
   slots_stay [] = refl

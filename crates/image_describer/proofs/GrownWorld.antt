@@ -75,11 +75,7 @@ module _ (old new : Geometry) where
 
 pub free_object : (owner : ℕ) (c : Content Capability) → is_free c ≡ true → owner ≡ 0 → (let o : Object = record { owner = owner; content = c } in o) ≡ free
 free_object owner content.Free is unowned = ap (λ (n : ℕ). let o : Object = record { owner = n; content = content.Free } in o) unowned
-free_object owner (content.Page words) is unowned = absurd cc
-free_object owner (content.Node slots) is unowned = absurd cc
-free_object owner (content.Root r) is unowned = absurd cc
-free_object owner (content.Annex registers) is unowned = absurd cc
-free_object owner (content.Bank limit) is unowned = absurd cc
+free_object owner other is unowned = absurd cc
 
 module _ (old new : Geometry) (w : World) (sound : IsSound old w) where
   abbrev pub grown_world : World

@@ -27,44 +27,24 @@ moved_wide old new n few also wide = grind (arith, nat_tests)
 
 module _ (at : ℕ → ℕ) where
   pub well_formed_moved : (c : Capability) → IsWellFormed c → IsWellFormed (moved_capability at c)
-  well_formed_moved Void h = tt
   well_formed_moved (Number n) h = h
   well_formed_moved (Page o a) h = h
   well_formed_moved (Node o a) h = h
   well_formed_moved (Space o k a) h = h
-  well_formed_moved (Process p) h = tt
   well_formed_moved (Start p key) h = h
-  well_formed_moved (Resume p) h = tt
-  well_formed_moved (Bank b) h = tt
-  well_formed_moved Discrim h = tt
+  well_formed_moved other h = tt
 
   pub space_moved : (c : Capability) → IsSpace c → IsSpace (moved_capability at c)
   space_moved Void h = tt
-  space_moved (Number n) h = absurd h
   space_moved (Page o a) h = tt
-  space_moved (Node o a) h = absurd h
   space_moved (Space o k a) h = tt
-  space_moved (Process p) h = absurd h
-  space_moved (Start p key) h = absurd h
-  space_moved (Resume p) h = absurd h
-  space_moved (Bank b) h = absurd h
-  space_moved Discrim h = absurd h
+  space_moved other h = absurd h
 
   pub void_moved : (c : Capability) → moved_capability at c ≡ Void → c ≡ Void
   void_moved Void h = refl
-  void_moved (Number n) h = absurd cc
-  void_moved (Page o a) h = absurd cc
-  void_moved (Node o a) h = absurd cc
-  void_moved (Space o k a) h = absurd cc
-  void_moved (Process p) h = absurd cc
-  void_moved (Start p key) h = absurd cc
-  void_moved (Resume p) h = absurd cc
-  void_moved (Bank b) h = absurd cc
-  void_moved Discrim h = absurd cc
+  void_moved other h = absurd cc
 
   pub named_moved : ((n : ℕ) → IsWide n → IsWide (at n)) → (c : Capability) → IfSome (named c) IsWide → IfSome (named (moved_capability at c)) IsWide
-  named_moved on Void h = tt
-  named_moved on (Number n) h = tt
   named_moved on (Page o a) h = on o h
   named_moved on (Node o a) h = on o h
   named_moved on (Space o k a) h = on o h
@@ -72,7 +52,7 @@ module _ (at : ℕ → ℕ) where
   named_moved on (Start p key) h = on p h
   named_moved on (Resume p) h = on p h
   named_moved on (Bank b) h = on b h
-  named_moved on Discrim h = tt
+  named_moved on other h = tt
 
   -- those that may be absent
   pub held_moved : (o : Option Capability) → unwrap_or (moved_held at o) Void ≡ moved_capability at (unwrap_or o Void)

@@ -24,8 +24,6 @@ no_calls : (os : List Object) (n : ℕ) → (header_at (headers (plain_frames os
 no_calls os n = ap (λ (h : ObjectHeader). h.calls) (header_plain os n)
 
 no_count : (os : List Object) (c : Capability) → current_count (headers (plain_frames os)) c ≡ 0
-no_count os Void = refl
-no_count os (Number n) = refl
 no_count os (Page o a) = no_allocations os o
 no_count os (Node o a) = no_allocations os o
 no_count os (Space o h a) = no_allocations os o
@@ -33,7 +31,7 @@ no_count os (Process p) = no_allocations os p
 no_count os (Start p key) = no_allocations os p
 no_count os (Resume p) = no_calls os p
 no_count os (Bank b) = no_allocations os b
-no_count os Discrim = refl
+no_count os other = refl
 
 -- so each capability conveys what it is
 conveyed_plain : (os : List Object) (c : Capability) → conveyed (headers (plain_frames os)) (fresh_cap c) ≡ c
@@ -70,14 +68,12 @@ module _ (g : Geometry) (age : ℕ) (hs : List ObjectHeader) where
   follows_none : (count : ℕ) (c : Capability) → Follows g age count c → Follows g age 0 c
   follows_none count Void h = refl
   follows_none count (Number n) h = (h.0, refl)
-  follows_none count (Page o a) h = (h.0, h.1, (omega arith, omega arith))
-  follows_none count (Node o a) h = (h.0, h.1, (omega arith, omega arith))
   follows_none count (Space o k a) h = (h.0, h.1, h.2, h.3, (omega arith, omega arith))
   follows_none count (Process p) h = (h.0, (omega arith, omega arith))
-  follows_none count (Start p key) h = (h.0, h.1, (omega arith, omega arith))
   follows_none count (Resume p) h = (h.0, (omega arith, omega arith))
   follows_none count (Bank b) h = (h.0, (omega arith, omega arith))
   follows_none count Discrim h = refl
+  follows_none count other h = (h.0, h.1, (omega arith, omega arith))
 
   kept_either : (c : Cap) (b : Bool) → IsKeptCap g age c → IsKeptCap g age (fresh_cap (if b then Void else c.what))
   kept_either c true kept = refl
@@ -153,12 +149,10 @@ keepable_plain g age fs keepable = record {
 
 -- No capability is ahead.
 never_ahead : (hs : List ObjectHeader) (c : Content Capability) → All (IsCurrent hs) (caps_in (map_content fresh_cap c))
-never_ahead hs content.Free = λ k d inside. absurd (omega (arith, inside))
-never_ahead hs (content.Page words) = λ k d inside. absurd (omega (arith, inside))
 never_ahead hs (content.Node slots) = All-map (IsCurrent hs) fresh_cap slots (λ k d inside. omega arith)
 never_ahead hs (content.Root r) = All-map (IsCurrent hs) fresh_cap (r.space ∷ []) (λ k d inside. omega arith)
 never_ahead hs (content.Annex registers) = All-map (IsCurrent hs) fresh_cap registers (λ k d inside. omega arith)
-never_ahead hs (content.Bank limit) = λ k d inside. absurd (omega (arith, inside))
+never_ahead hs other = λ k d inside. absurd (omega (arith, inside))
 
 current_plain : (os : List Object) → AreCurrent (plain_frames os)
 current_plain os n =
@@ -189,8 +183,4 @@ described_is_laid g age fs d fault.Field sound describes wrong = absurd (wrong.1
 described_is_laid g age fs d fault.Target sound describes wrong =
     absurd (wrong.2 (plain_frames (objects_of fs)) describes.frames (sound_named g age (plain_frames (objects_of fs)) (sound_plain g age fs sound)))
 described_is_laid g age fs d fault.NoMemory sound describes wrong = refl
-described_is_laid g age fs d fault.Shape sound describes wrong = absurd wrong
-described_is_laid g age fs d fault.Limits sound describes wrong = absurd wrong
-described_is_laid g age fs d fault.Owner sound describes wrong = absurd wrong
-described_is_laid g age fs d fault.Small sound describes wrong = absurd wrong
-described_is_laid g age fs d fault.Failed sound describes wrong = absurd wrong
+described_is_laid g age fs d other sound describes wrong = absurd wrong

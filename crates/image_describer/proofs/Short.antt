@@ -18,8 +18,6 @@ use Rattle.image_describer.proofs.Plain.{plain_at, sound_plain}
 
 -- what can be held names a number of 64 bits
 follows_wide : (g : Geometry) (age count : ℕ) (c : Capability) → Follows g age count c → IfSome (named c) IsWide
-follows_wide g age count Void h = tt
-follows_wide g age count (Number n) h = tt
 follows_wide g age count (Page o a) h = h.1.2
 follows_wide g age count (Node o a) h = h.1.1
 follows_wide g age count (Space o k a) h = h.3.1
@@ -27,19 +25,15 @@ follows_wide g age count (Process p) h = h.0.1
 follows_wide g age count (Start p key) h = h.1.1
 follows_wide g age count (Resume p) h = h.0.1
 follows_wide g age count (Bank b) h = h.0.1
-follows_wide g age count Discrim h = tt
+follows_wide g age count other h = tt
 
 held_wide : (g : Geometry) (age : ℕ) (o : Option Capability) → Follows g age 0 (unwrap_or o Void) → NamesWide o
 held_wide g age None h = tt
 held_wide g age (Some c) h = follows_wide g age 0 c h
 
 bank_kind : {C : Type 0} (g : Geometry) (n : ℕ) (c : Content C) → IsTrue (is_bank c) → IsOfKind g n c → n < g.nodes
-bank_kind g n content.Free bank kind = absurd cc
-bank_kind g n (content.Page words) bank kind = absurd cc
-bank_kind g n (content.Node slots) bank kind = absurd cc
-bank_kind g n (content.Root r) bank kind = absurd cc
-bank_kind g n (content.Annex registers) bank kind = absurd cc
 bank_kind g n (content.Bank limit) bank kind = kind
+bank_kind g n other bank kind = absurd cc
 
 -- the entries of slots and of words that a frame holds
 module _ (g : Geometry) (age : ℕ) where
@@ -80,11 +74,7 @@ ranges_inside g n (r ∷ rs) cover = let rest = covered g (n + r.count) rs cover
 
 free_role : {C : Type 0} (c : Content C) → is_free c ≡ true → role_of c ≡ role.Free
 free_role content.Free free = refl
-free_role (content.Page words) free = absurd cc
-free_role (content.Node slots) free = absurd cc
-free_role (content.Root r) free = absurd cc
-free_role (content.Annex registers) free = absurd cc
-free_role (content.Bank limit) free = absurd cc
+free_role other free = absurd cc
 
 version_short : (v : Version) → IsShort (version_number v)
 version_short One = omega arith

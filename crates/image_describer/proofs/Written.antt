@@ -214,24 +214,15 @@ spells_space (Some (Node o a)) is wide = absurd is.1
 spells_space (Some (Space o h a)) is wide = deeper 0 2 (held_text (Some (Space o h a))) (held_data (Some (Space o h a))) (omega arith)
     (spells_held (Some (Space o h a)) is.0 wide)
 spells_space (Some (Process p)) is wide = absurd is.1
-spells_space (Some (Start p key)) is wide = absurd is.1
-spells_space (Some (Resume p)) is wide = absurd is.1
-spells_space (Some (Bank b)) is wide = absurd is.1
-spells_space (Some Discrim) is wide = absurd is.1
+spells_space other is wide = absurd is.1
 
 pub says_space : (space : Option Capability) → IsSpaceEntry space → NamesWide space →
     MatchOption (space_data space) (space ≡ Some Void) (λ d. IsCapability d space)
 says_space None is wide = absurd is
 says_space (Some Void) is wide = refl
-says_space (Some (Number n)) is wide = absurd is.1
 says_space (Some (Page o a)) is wide = (is.0, wide, refl)
-says_space (Some (Node o a)) is wide = absurd is.1
 says_space (Some (Space o h a)) is wide = (is.0, wide, refl)
-says_space (Some (Process p)) is wide = absurd is.1
-says_space (Some (Start p key)) is wide = absurd is.1
-says_space (Some (Resume p)) is wide = absurd is.1
-says_space (Some (Bank b)) is wide = absurd is.1
-says_space (Some Discrim) is wide = absurd is.1
+says_space other is wide = absurd is.1
 
 -- the home ranges
 range_is : (r : NumberRange) (n count : ℕ) → (r.first == n && r.count == count) ≡ true → r ≡ record { first = n; count = count }

@@ -17,12 +17,9 @@ whats_fresh [] = refl
 whats_fresh (c ∷ cs) = ap (λ (ds : List Capability). c ∷ ds) (whats_fresh cs)
 
 content_back : (c : Content Capability) → map_content what (map_content fresh_cap c) ≡ c
-content_back content.Free = refl
-content_back (content.Page words) = refl
 content_back (content.Node slots) = ap (λ (cs : List Capability). let x : Content Capability = content.Node cs in x) (whats_fresh slots)
-content_back (content.Root r) = refl
 content_back (content.Annex registers) = ap (λ (cs : List Capability). let x : Content Capability = content.Annex cs in x) (whats_fresh registers)
-content_back (content.Bank limit) = refl
+content_back other = refl
 
 -- the object of a plain frame
 pub object_back : (o : Object) (owner : ℕ) (held : Content Cap) → plain_frame o ≡ first_frame owner held →

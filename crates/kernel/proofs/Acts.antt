@@ -1,11 +1,11 @@
 -- How a command ends: refused, carried out, or in a failure of the device.
 use Rattle.kernel.proofs.Names.{IsErrAnd, ℕ, Bool, Option, None, Some, Result, Ok, Err, List, [], length, refl, sym, ap, subst, arith, Answer, Refusal, Command}
 use Rattle.kernel.proofs.Names.{Frame, Geometry, objects_of, AreKeepable, IsSoundFrames, world_at, Frozen, Running, Saved, Up, touched_count, untouched, Step}
-use Rattle.kernel.proofs.Names.{moved, refusal_of, second, Failed, Image, Disk, IsCommitAnswer, IsFreezeAnswer, IsRefused, Holds, LeavesSaved, LeavesEither}
-use Rattle.kernel.proofs.Names.{Parts, frames_of, objects_in, keepable_count, MayCommit, Snapshots, freezing, left_in, moved_saved, next_saved, all_frozen}
-use Rattle.kernel.proofs.Names.{whole, FrozenFrames, IsStabilizeAnswer, Continues, View, stabilized, AreCounted, BanksState, Performs, answer_of, Live}
-use Rattle.kernel.proofs.Names.{saved_of, LeavesOne, AreSoundTogether, IsUp, base_of, disk_at, frozen_of, renewed_since, running, running_of, IsCaused}
-use Rattle.kernel.proofs.Names.{ServesUp, leaves_saved, base_frozen, none_renewed, IsUnlooked}
+use Rattle.kernel.proofs.Names.{refusal_of, second, Failed, Image, Disk, IsCommitAnswer, IsFreezeAnswer, IsRefused, Holds, LeavesSaved, LeavesEither, Parts}
+use Rattle.kernel.proofs.Names.{frames_of, objects_in, keepable_count, MayCommit, Snapshots, freezing, left_in, moved_saved, next_saved, all_frozen, whole}
+use Rattle.kernel.proofs.Names.{FrozenFrames, IsStabilizeAnswer, Continues, View, stabilized, AreCounted, BanksState, Performs, answer_of, Live, saved_of}
+use Rattle.kernel.proofs.Names.{LeavesOne, AreSoundTogether, IsUp, base_of, disk_at, frozen_of, renewed_since, running, running_of, IsCaused, ServesUp}
+use Rattle.kernel.proofs.Names.{leaves_saved, base_frozen, none_renewed, IsUnlooked}
 use Rattle.std.proofs.Common.{◌≡◌, ◌↔◌, ◌+◌, ◌-◌, ◌^◌, ◌<◌, ◌≤◌, ◌∷◌, ◌∙◌}
 use Rattle.checkpoint.specs.Snapshots as stage
 use Rattle.model.specs.declared.answer.Answer.TheVariants as answer
@@ -73,8 +73,7 @@ module _ {D S : Type 0} (disk : D → Disk) (view : S → View D) (parts : S →
     continues_along : (g : Geometry) (c : Command) → IsUp disk view parts g l →
         LeavesOne g (disk_at disk view parts l) (disk (view s).beneath) (saved_of (view l.store).snapshots.saved ∷ second (Up (running disk view parts l)) c)
     continues_along g c up =
-        leaves_along g (disk_at disk view parts l) (disk (view s).beneath) (view l.store).snapshots.saved (second (Up (running disk view parts l)) c)
-        up.sound.saved continues.size (continues.any_moment up.store)
+        leaves_along up.sound.saved continues.size (continues.any_moment up.store)
 
     -- processes act, at an age that doesn't fall
     pub acted : (banks : BanksState) (age : ℕ) (c : Command) (a : Answer) → l.age ≤ age → Performs l.age (parts l.store) c a age (parts s) →
@@ -87,16 +86,13 @@ module _ {D S : Type 0} (disk : D → Disk) (view : S → View D) (parts : S →
               subst (λ (x : Snapshots FrozenFrames). Step g (Up (running disk view parts l)) c a (Up (running_of (parts s) x age l.frozen_age)))
               (sym continues.snapshots)
               (subst (λ (h : Geometry). Step h (Up (running disk view parts l)) c a (Up (running_of (parts s) (view l.store).snapshots age l.frozen_age)))
-              up.sound.geometry
-              (subst (λ (rs : List Bool). Step (parts l.store).geometry (Up (running disk view parts l)) c a
+              up.sound.geometry (subst (λ (rs : List Bool). Step (parts l.store).geometry (Up (running disk view parts l)) c a
               (Up (record (running_of (parts s) (view l.store).snapshots age l.frozen_age) { renewed = rs })))
               (renewed_on (base_of (view l.store).snapshots) (parts l.store) (parts s) serves.renews up.sound.risen)
               (serves.step (renewed_since (base_of (view l.store).snapshots) (frames_of (parts l.store)))
-              (frozen_of l.frozen_age (view l.store).snapshots.frozen) (saved_of (view l.store).snapshots.saved)
-              (view l.store).snapshots.to_move other)));
+              (frozen_of l.frozen_age (view l.store).snapshots.frozen) (saved_of (view l.store).snapshots.saved) (view l.store).snapshots.to_move other)));
           up = λ other. is_up g (record { store = s; banks = banks; age = age; frozen_age = l.frozen_age }) (continues.sound up.store)
-              (acts_sound g (parts l.store) (parts s) (view l.store).snapshots (view s).snapshots l.banks banks l.age age l.frozen_age continues.snapshots later
-              geometry serves.renews
+              (acts_sound continues.snapshots later geometry serves.renews
               (subst (λ (h : Geometry). IsSoundFrames h age (frames_of (parts s))) geometry serves.sound)
               (subst (λ (h : Geometry). AreCounted h (objects_in (parts s)) banks) geometry counted) up.sound);
           leaves = continues_along g c up;
@@ -104,15 +100,14 @@ module _ {D S : Type 0} (disk : D → Disk) (view : S → View D) (parts : S →
 
     module _ (same : AreSame (parts l.store) (parts s)) where
       up_again : (g : Geometry) → IsUp disk view parts g l → IsUp disk view parts g (with_store l s)
-      up_again g up = is_up g (with_store l s) (continues.sound up.store)
-          (stays_sound g (parts l.store) (parts s) same (view l.store).snapshots (view s).snapshots continues.snapshots l.banks l.age l.frozen_age up.sound)
+      up_again g up = is_up g (with_store l s) (continues.sound up.store) (stays_sound same continues.snapshots up.sound)
 
       -- an object was put out
       pub evicted : (n : ℕ) → n < length (parts l.store).headers → ServesUp disk view parts l (command.Evict n) answer.Done (with_store l s)
       evicted n within g up = record {
         step = λ other.
             subst (λ (r : Running). Step g (Up (running disk view parts l)) (command.Evict n) answer.Done (Up r))
-            (sym (same_running g (parts l.store) (parts s) same (view l.store).snapshots (view s).snapshots continues.snapshots l.age l.frozen_age))
+            (sym (same_running same continues.snapshots l.age l.frozen_age))
             (evict_step g (running disk view parts l) n (subst (λ (m : ℕ). n < m) (keepable_count g l.age (parts l.store) up.sound.now.keepable) within));
         up = λ other. up_again g up;
         leaves = continues_along g (command.Evict n) up;
@@ -132,56 +127,42 @@ module _ {D S : Type 0} (disk : D → Disk) (view : S → View D) (parts : S →
       frames_of (parts s) ≡ frames_of (parts l.store) → (parts s).touched ≡ untouched (parts l.store).geometry → (parts s).geometry ≡ (parts l.store).geometry →
       n ≡ touched_count (parts l.store).touched →
       (view s).snapshots ≡ freezing (all_frozen (frames_of (parts l.store)) (touched_count (parts l.store).touched)) (view l.store).snapshots →
-      (view s).beneath ≡ (view l.store).beneath →
-      ((view l.store).is_sound → (view s).is_sound) →
+      (view s).beneath ≡ (view l.store).beneath → ((view l.store).is_sound → (view s).is_sound) →
       ServesUp disk view parts l command.Checkpoint (answer.Frozen n) (record { store = s; banks = l.banks; age = l.age + 1; frozen_age = l.age + 1 })
   begun l s n young none home frames touched geometry size beside beneath sound g up =
-      let p = parts l.store in
       let a = (view l.store).snapshots in
-      let k = touched_count p.touched in
       let before = running disk view parts l in
       record {
         step = λ other.
-            subst (λ (m : ℕ). Step g (Up before) command.Checkpoint (answer.Frozen m) (Up (running_of (parts s) (view s).snapshots (l.age + 1) (l.age + 1))))
-            (sym size)
-            (subst (λ (x : Snapshots FrozenFrames). Step g (Up before) command.Checkpoint (answer.Frozen k)
-            (Up (running_of (parts s) x (l.age + 1) (l.age + 1)))) (sym beside)
-            (subst (λ fs. Step g (Up before) command.Checkpoint (answer.Frozen k)
-            (Up (record {
-              now = world_at (l.age + 1) fs;
-              touched = (parts s).touched;
-              renewed = renewed_since (frames_of p) fs;
-              frozen = Some (record { world = world_at (l.age + 1) (frames_of p); size = k; left = k });
-              saved = saved_of a.saved;
-              to_move = a.to_move;
-            })))
-            (sym frames)
-            (subst (λ (ts : List Bool). Step g (Up before) command.Checkpoint (answer.Frozen k)
-            (Up (record {
-              now = world_at (l.age + 1) (frames_of p);
-              touched = ts;
-              renewed = renewed_since (frames_of p) (frames_of p);
-              frozen = Some (record { world = world_at (l.age + 1) (frames_of p); size = k; left = k });
-              saved = saved_of a.saved;
-              to_move = a.to_move;
-            })))
-            (sym (touched ∙ ap untouched up.sound.geometry))
-            (subst (λ (rs : List Bool). Step g (Up before) command.Checkpoint (answer.Frozen k)
-            (Up (record {
-              now = world_at (l.age + 1) (frames_of p);
-              touched = untouched g;
-              renewed = rs;
-              frozen = Some (record { world = world_at (l.age + 1) (frames_of p); size = k; left = k });
-              saved = saved_of a.saved;
-              to_move = a.to_move;
-            })))
-            (sym (none_renewed g (frames_of p) up.sound.now.keepable.count))
-            (checkpoint_step g before young (frozen_none a.frozen l.frozen_age none) home)))));
+            subst (λ (X : Type 0). X) (sym (λ i. Step g (Up before) command.Checkpoint (answer.Frozen (size i)) (Up (after g up i))))
+            (checkpoint_step g before young (frozen_none a.frozen l.frozen_age none) home);
         up = λ other. is_up g (record { store = s; banks = l.banks; age = l.age + 1; frozen_age = l.age + 1 }) (sound up.store)
             (subst (λ (x : Snapshots FrozenFrames). AreSoundTogether g (parts s) x l.banks (l.age + 1) (l.age + 1)) (sym beside)
-            (begun_sound g p a l.banks l.age l.frozen_age up.sound (parts s) k geometry frames young));
+            (begun_sound up.sound (parts s) (touched_count (parts l.store).touched) geometry frames young));
         leaves = subst (λ (d : D). LeavesOne g (disk_at disk view parts l) (disk d) (saved_of a.saved ∷ [])) (sym beneath)
             (leaves_here g (disk_at disk view parts l) (saved_of a.saved ∷ []) [] (only_now (view l.store).beneath) up.leaves);
+      }
+    where
+      after : (g : Geometry) (up : IsUp disk view parts g l) → running_of (parts s) (view s).snapshots (l.age + 1) (l.age + 1) ≡ record {
+        now = world_at (l.age + 1) (frames_of (parts l.store));
+        touched = untouched g;
+        renewed = untouched g;
+        frozen = Some (record {
+          world = world_at (l.age + 1) (frames_of (parts l.store));
+          size = touched_count (parts l.store).touched;
+          left = touched_count (parts l.store).touched;
+        });
+        saved = saved_of (view l.store).snapshots.saved;
+        to_move = (view l.store).snapshots.to_move;
+      }
+      after g up = λ i. record {
+        now = world_at (l.age + 1) (frames i);
+        touched = (touched ∙ ap untouched up.sound.geometry) i;
+        renewed = (ap (λ (x : Snapshots FrozenFrames). renewed_since (base_of x) (frames_of (parts s))) beside
+            ∙ (ap (renewed_since (frames_of (parts l.store))) frames ∙ none_renewed g (frames_of (parts l.store)) up.sound.now.keepable.count)) i;
+        frozen = frozen_of (l.age + 1) (beside i).frozen;
+        saved = saved_of (beside i).saved;
+        to_move = (beside i).to_move;
       }
 
   -- a stage that writes: what it leaves of the present objects, and what a crash leaves
@@ -190,15 +171,13 @@ module _ {D S : Type 0} (disk : D → Disk) (view : S → View D) (parts : S →
       -- it came to another state beside the objects
       came : (g : Geometry) (b : Snapshots FrozenFrames) → (view s).snapshots ≡ b → (view s).is_sound →
           AreSoundTogether g (parts l.store) b l.banks l.age l.frozen_age → IsUp disk view parts g (with_store l s)
-      came g b beside store sound = is_up g (with_store l s) store
-          (stays_sound g (parts l.store) (parts s) same b (view s).snapshots beside l.banks l.age l.frozen_age sound)
+      came g b beside store sound = is_up g (with_store l s) store (stays_sound same beside sound)
 
       stepped : (g : Geometry) (b : Snapshots FrozenFrames) (c : Command) (a : Answer) → (view s).snapshots ≡ b →
           Step g (Up (running disk view parts l)) c a (Up (running_of (parts l.store) b l.age l.frozen_age)) →
           Step g (Up (running disk view parts l)) c a (Up (running disk view parts (with_store l s)))
       stepped g b c a beside step =
-          subst (λ (r : Running). Step g (Up (running disk view parts l)) c a (Up r))
-          (sym (same_running g (parts l.store) (parts s) same b (view s).snapshots beside l.age l.frozen_age)) step
+          subst (λ (r : Running). Step g (Up (running disk view parts l)) c a (Up r)) (sym (same_running same beside l.age l.frozen_age)) step
 
       module _ (f : FrozenFrames) (frozen : (view l.store).snapshots.frozen ≡ Some f) where
         now_frozen : Frozen
@@ -213,8 +192,7 @@ module _ {D S : Type 0} (disk : D → Disk) (view : S → View D) (parts : S →
           where
             stabilize_along : (g : Geometry) → IsUp disk view parts g l →
                 LeavesOne g (disk_at disk view parts l) (disk (view s).beneath) (saved_of (view l.store).snapshots.saved ∷ [])
-            stabilize_along g up = leaves_along g (disk_at disk view parts l) (disk (view s).beneath) (view l.store).snapshots.saved [] up.sound.saved size
-                (moments up.store)
+            stabilize_along g up = leaves_along up.sound.saved size (moments up.store)
 
             pub stabilize_went : (left : ℕ) → left ≡ f.left - n → (view s).snapshots ≡ stabilized n f (view l.store).snapshots →
                 ((view l.store).is_sound → (view s).is_sound) →
@@ -223,17 +201,11 @@ module _ {D S : Type 0} (disk : D → Disk) (view : S → View D) (parts : S →
             stabilize_went left reported beside sound g up = record {
               step = λ other.
                   stepped g (stabilized n f (view l.store).snapshots) (command.Stabilize n) (answer.Left left) beside
-                  (subst (λ (k : ℕ). Step g (Up (running disk view parts l)) (command.Stabilize n) (answer.Left k)
-                  (Up (running_of (parts l.store) (stabilized n f (view l.store).snapshots) l.age l.frozen_age))) (sym reported)
-                  (subst (λ (base : List Frame). Step g (Up (running disk view parts l)) (command.Stabilize n) (answer.Left (f.left - n))
+                  (subst (λ (X : Type 0). X) (λ i. Step g (Up (running disk view parts l)) (command.Stabilize n) (answer.Left (sym reported i))
                   (Up (record (running_of (parts l.store) (stabilized n f (view l.store).snapshots) l.age l.frozen_age) {
-                    renewed = renewed_since base
-                        (frames_of (parts l.store));
-                  })))
-                  (base_frozen (view l.store).snapshots f frozen)
-                  (stabilize_step g (running disk view parts l) n now_frozen is_frozen)));
-              up = λ other. came g (stabilized n f (view l.store).snapshots) beside (sound up.store)
-                  (stabilized_sound g (parts l.store) (view l.store).snapshots l.banks l.age l.frozen_age up.sound n f frozen);
+                    renewed = renewed_since (base_frozen (view l.store).snapshots f frozen i) (frames_of (parts l.store));
+                  }))) (stabilize_step g (running disk view parts l) n now_frozen is_frozen));
+              up = λ other. came g (stabilized n f (view l.store).snapshots) beside (sound up.store) (stabilized_sound up.sound n f frozen);
               leaves = stabilize_along g up;
             }
 
@@ -251,9 +223,7 @@ module _ {D S : Type 0} (disk : D → Disk) (view : S → View D) (parts : S →
           commit_along g up =
               subst (λ (ss : List Saved). LeavesOne g (disk_at disk view parts l) (disk (view s).beneath) (saved_of (view l.store).snapshots.saved ∷ ss))
               (sym (second_of_commit g (running disk view parts l) now_frozen is_frozen stable))
-              (leaves_either g (disk_at disk view parts l) (disk (view s).beneath) (view l.store).snapshots.saved
-              (next_saved whole l.frozen_age f (view l.store).snapshots.saved) up.sound.saved
-              (next_sound g (parts l.store) (view l.store).snapshots l.banks l.age l.frozen_age up.sound f frozen) size moments)
+              (leaves_either up.sound.saved (next_sound up.sound f frozen) size moments)
 
           pub commit_went : (generation : ℕ) → generation ≡ (view l.store).snapshots.saved.generation + 1 →
               (view s).snapshots ≡ stage.committed whole l.frozen_age f (view l.store).snapshots → (view s).is_sound →
@@ -262,18 +232,11 @@ module _ {D S : Type 0} (disk : D → Disk) (view : S → View D) (parts : S →
           commit_went generation reported beside sound g up = record {
             step = λ other.
                 stepped g (stage.committed whole l.frozen_age f (view l.store).snapshots) command.Commit (answer.Committed generation) beside
-                (subst (λ (k : ℕ). Step g (Up (running disk view parts l)) command.Commit (answer.Committed k)
-                (Up (running_of (parts l.store) (stage.committed whole l.frozen_age f (view l.store).snapshots) l.age l.frozen_age))) (sym reported)
-                (subst (λ (base : List Frame). Step g (Up (running disk view parts l)) command.Commit
-                (answer.Committed ((view l.store).snapshots.saved.generation + 1))
+                (subst (λ (X : Type 0). X) (λ i. Step g (Up (running disk view parts l)) command.Commit (answer.Committed (sym reported i))
                 (Up (record (running_of (parts l.store) (stage.committed whole l.frozen_age f (view l.store).snapshots) l.age l.frozen_age) {
-                  renewed =
-                      renewed_since base (frames_of (parts l.store));
-                })))
-                (base_frozen (view l.store).snapshots f frozen)
-                (commit_step g (running disk view parts l) now_frozen is_frozen stable)));
-            up = λ other. came g (stage.committed whole l.frozen_age f (view l.store).snapshots) beside sound
-                (committed_sound g (parts l.store) (view l.store).snapshots l.banks l.age l.frozen_age up.sound f frozen);
+                  renewed = renewed_since (base_frozen (view l.store).snapshots f frozen i) (frames_of (parts l.store));
+                }))) (commit_step g (running disk view parts l) now_frozen is_frozen stable));
+            up = λ other. came g (stage.committed whole l.frozen_age f (view l.store).snapshots) beside sound (committed_sound up.sound f frozen);
             leaves = commit_along g up;
           }
 
@@ -294,20 +257,12 @@ module _ {D S : Type 0} (disk : D → Disk) (view : S → View D) (parts : S →
         migrate_went left reported beside sound g up = record {
           step = λ other.
               stepped g (stage.moved n (view l.store).snapshots) (command.Migrate n) (answer.Left left) beside
-              (subst (λ (k : ℕ). Step g (Up (running disk view parts l)) (command.Migrate n) (answer.Left k)
-              (Up (running_of (parts l.store) (stage.moved n (view l.store).snapshots) l.age l.frozen_age))) (sym reported)
-              (subst (λ (x : Saved). Step g (Up (running disk view parts l)) (command.Migrate n) (answer.Left ((view l.store).snapshots.to_move - n))
-              (Up (record (running_of (parts l.store) (stage.moved n (view l.store).snapshots) l.age l.frozen_age) { saved = x })))
-              (sym (saved_moved (parts l.store) (view l.store).snapshots l.age l.frozen_age n))
-              (subst (λ (base : List Frame). Step g (Up (running disk view parts l)) (command.Migrate n) (answer.Left ((view l.store).snapshots.to_move - n))
+              (subst (λ (X : Type 0). X) (λ i. Step g (Up (running disk view parts l)) (command.Migrate n) (answer.Left (sym reported i))
               (Up (record (running_of (parts l.store) (stage.moved n (view l.store).snapshots) l.age l.frozen_age) {
-                saved = moved (running disk view parts l) n;
-                renewed = renewed_since base (frames_of (parts l.store));
-              })))
-              (sym (base_moved (view l.store).snapshots n))
-              (migrate_step g (running disk view parts l) n))));
-          up = λ other. came g (stage.moved n (view l.store).snapshots) beside sound
-              (moved_sound g (parts l.store) (view l.store).snapshots l.banks l.age l.frozen_age up.sound n);
+                saved = sym (saved_moved (parts l.store) (view l.store).snapshots l.age l.frozen_age n) i;
+                renewed = renewed_since (sym (base_moved (view l.store).snapshots n) i) (frames_of (parts l.store));
+              }))) (migrate_step g (running disk view parts l) n));
+          up = λ other. came g (stage.moved n (view l.store).snapshots) beside sound (moved_sound up.sound n);
           leaves = migrate_along g up;
         }
 
@@ -326,21 +281,18 @@ module _ {D S : Type 0} (disk : D → Disk) (view : S → View D) (parts : S →
         refused_again l s command.Checkpoint refusal.CheckpointRunning same
         (λ g up. running_already g (running disk view parts l) young _ (frozen_some (view l.store).snapshots.frozen f.0 l.frozen_age f.1))
     freeze_refused refusal.MigrationPending same young reported =
-        refused_again l s command.Checkpoint refusal.MigrationPending same
-        (λ g up. not_home g (running disk view parts l) young
+        refused_again l s command.Checkpoint refusal.MigrationPending same (λ g up. not_home g (running disk view parts l) young
         (frozen_none (view l.store).snapshots.frozen l.frozen_age (none_there (view l.store).snapshots.frozen reported.0)) reported.1)
     freeze_refused why same young reported = absurd reported
 
     module _ (same : AreSame (parts l.store) (parts s)) (size : (disk (view s).beneath).sectors ≡ (disk (view l.store).beneath).sectors) where
       -- nothing is written to the log, or not all of it
       pub stabilize_refused : (why : Refusal) (n : ℕ) → IsStabilizeAnswer (disk (view l.store).beneath) (disk (view s).beneath)
-          (left_in whole (view l.store).snapshots) n (Err why) →
-          (IsRefused {T = ℕ} (Err why) → s ≡ l.store) →
+          (left_in whole (view l.store).snapshots) n (Err why) → (IsRefused {T = ℕ} (Err why) → s ≡ l.store) →
           ((view l.store).is_sound → LeavesSaved (disk (view l.store).beneath) (disk (view s).beneath) (view l.store).snapshots.saved) →
           ServesUp disk view parts l (command.Stabilize n) (answer.Refused why) (with_store l s)
       stabilize_refused refusal.NoCheckpoint n reported again moments =
-          refused_again l s (command.Stabilize n) refusal.NoCheckpoint (again tt)
-          (λ g up. none_to_stabilize g (running disk view parts l) n
+          refused_again l s (command.Stabilize n) refusal.NoCheckpoint (again tt) (λ g up. none_to_stabilize g (running disk view parts l) n
           (frozen_none (view l.store).snapshots.frozen l.frozen_age (none_there (view l.store).snapshots.frozen reported.1)))
       stabilize_refused refusal.Fault n reported again moments =
           let f = some_there (view l.store).snapshots.frozen reported.1 in
@@ -355,8 +307,7 @@ module _ {D S : Type 0} (disk : D → Disk) (view : S → View D) (parts : S →
           (next_saved whole l.frozen_age f (view l.store).snapshots.saved)) →
           ServesUp disk view parts l command.Commit (answer.Refused why) (with_store l s)
       commit_refused refusal.NoCheckpoint reported again moments =
-          refused_again l s command.Commit refusal.NoCheckpoint (again tt)
-          (λ g up. none_to_commit g (running disk view parts l)
+          refused_again l s command.Commit refusal.NoCheckpoint (again tt) (λ g up. none_to_commit g (running disk view parts l)
           (frozen_none (view l.store).snapshots.frozen l.frozen_age (none_there (view l.store).snapshots.frozen reported.1)))
       commit_refused (refusal.NotStable left) reported again moments =
           let f = some_left (view l.store).snapshots.frozen left (sym reported.1) in
@@ -438,9 +389,9 @@ err_answer Q (Ok a) failed = absurd failed
 err_answer Q (Err e) failed = refl
 
 -- the device reports who failed
-pub caused : (p q : Parts) (old new : Disk) (c : Command) (age later : ℕ) (a : Answer) → p.failures ≡ old.failures → q.failures ≡ new.failures →
+pub caused : {p q : Parts} {old new : Disk} {c : Command} {age later : ℕ} {a : Answer} → p.failures ≡ old.failures → q.failures ≡ new.failures →
     Performs age p c a later q → IsCaused old new a
-caused p q old new c age later a before after serves = record {
+caused {p} {q} {old} {new} {c} {age} {later} {a} before after serves = record {
   later = subst (λ (n : ℕ). n ≤ new.failures) before (subst (λ (n : ℕ). p.failures ≤ n) after serves.later);
   exact = subst (λ (n : ℕ). (a ≡ answer.Refused refusal.Fault) ↔ (n < new.failures)) before
       (subst (λ (n : ℕ). (a ≡ answer.Refused refusal.Fault) ↔ (p.failures < n)) after serves.cause);

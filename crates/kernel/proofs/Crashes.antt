@@ -18,19 +18,19 @@ leaves_here g disk ss ts only_now here = record {
 }
 
 -- a crash left what was saved all along
-pub leaves_along : (g : Geometry) (old new : Disk) (fs : SavedFrames) (ts : List Saved) → IsSoundSaved g fs → new.sectors ≡ old.sectors →
+pub leaves_along : {g : Geometry} {old new : Disk} {fs : SavedFrames} {ts : List Saved} → IsSoundSaved g fs → new.sectors ≡ old.sectors →
     LeavesSaved old new fs → LeavesOne g old new (saved_of fs ∷ ts)
-leaves_along g old new fs ts sound size moments = record {
+leaves_along {g} {old} {new} {fs} {ts} sound size moments = record {
   size = size;
   any_moment = leaves_weaker {old = old} {new = new} {P = λ c. Holds old.sectors c fs} (DenotesOne g old.sectors (saved_of fs ∷ ts))
       (λ c holds. inl (denoted_by g old.sectors c fs sound holds)) moments;
 }
 
 -- or what is saved next
-pub leaves_either : (g : Geometry) (old new : Disk) (fs next : SavedFrames) → IsSoundSaved g fs → IsSoundSaved g next → new.sectors ≡ old.sectors →
+pub leaves_either : {g : Geometry} {old new : Disk} {fs next : SavedFrames} → IsSoundSaved g fs → IsSoundSaved g next → new.sectors ≡ old.sectors →
     LeavesEither old new fs next →
     LeavesOne g old new (saved_of fs ∷ saved_of next ∷ [])
-leaves_either g old new fs next sound sound_next size moments = record {
+leaves_either {g} {old} {new} {fs} {next} sound sound_next size moments = record {
   size = size;
   any_moment = leaves_weaker {old = old} {new = new} {P = λ c. Holds old.sectors c fs ⊎ Holds old.sectors c next}
       (DenotesOne g old.sectors (saved_of fs ∷ saved_of next ∷ []))
@@ -67,9 +67,7 @@ leaves_home g old new a n sound size moments =
     record {
       size = size;
       any_moment = leaves_weaker {old = old} {new = new} {P = λ c. Holds old.sectors c a.saved ⊎ Holds old.sectors c (moved_saved n a)}
-          (DenotesOne g old.sectors (saved_of a.saved ∷ more))
-          (λ c held. ⊎_elim
-          (λ was. inl (denoted_by g old.sectors c a.saved sound was))
+          (DenotesOne g old.sectors (saved_of a.saved ∷ more)) (λ c held. ⊎_elim (λ was. inl (denoted_by g old.sectors c a.saved sound was))
           (λ is. home_or_saved g old.sectors c a.saved sound (a.saved.entries == 0) (a.to_move - n == 0) refl is)
           held) moments;
     }

@@ -7,7 +7,7 @@ use Rattle.kernel.proofs.Names.{IsSoundFrames, MayBeKept, caps_in, Frozen, Runni
 use Rattle.kernel.proofs.Names.{object_count, Step, carried_out, refusal_of, second, unjournaled, unless, World, content_at, owner_at, with_content}
 use Rattle.kernel.proofs.Names.{journal_keeps_sound, journaled_saved, with_words, SavedFrames, maps_same, Parts, frames_of, objects_in, at_set, frame_in}
 use Rattle.kernel.proofs.Names.{keepable_count, is_page_now, is_page_role, is_still_saved, Snapshots, journaled, FrozenFrames, next_journaled, words_now}
-use Rattle.kernel.proofs.Names.{BanksState, saved_of, IsSoundSaved, AreSoundTogether, base_of, renewed_since, running_of, allocations_at, base_saved}
+use Rattle.kernel.proofs.Names.{BanksState, saved_of, IsSoundSaved, AreSoundTogether, base_of, frozen_of, renewed_since, running_of, allocations_at, base_saved}
 use Rattle.kernel.proofs.Names.{renewed_at}
 use Rattle.std.proofs.Common.{◌≡◌, ◌+◌, ◌^◌, ◌<◌, ◌≤◌, ◌&&◌, ◌∷◌, ◌∙◌, ◌==◌}
 use Rattle.std.specs.Prelude.{if◌then◌else◌}
@@ -37,32 +37,29 @@ module _ (g : Geometry) (s : Running) (n : ℕ) where
   unfolding refusal_of
   ordered_is = refl
 
-  by : (young : Bool) (frozen : Option Frozen) (home known page saved : Bool) → nat_lt s.now.age (2 ^ 62) ≡ young → s.frozen ≡ frozen →
+  by : {young : Bool} {frozen : Option Frozen} {home known page saved : Bool} → nat_lt s.now.age (2 ^ 62) ≡ young → s.frozen ≡ frozen →
       (s.saved.entries == 0) ≡ home → nat_lt n (object_count g) ≡ known →
       is_page (content_at s.now.objects n) ≡ page → machine.is_saved_page s n ≡ saved → refusal_of g s (command.Journal n) ≡ ordered young frozen home known
       page saved
-  by young frozen home known page saved a b c d e f = ordered_is ∙ (λ k. ordered (a k) (b k) (c k) (d k) (e k) (f k))
+  by a b c d e f = ordered_is ∙ (λ k. ordered (a k) (b k) (c k) (d k) (e k) (f k))
 
   pub journal_worn : 2 ^ 62 ≤ s.now.age → refusal_of g s (command.Journal n) ≡ Some refusal.Worn
   journal_worn old =
       let past : nat_lt s.now.age (2 ^ 62) ≡ false = grind (arith, nat_tests) in
-      by false s.frozen (s.saved.entries == 0) (nat_lt n (object_count g)) (is_page (content_at s.now.objects n)) (machine.is_saved_page s n) past refl refl
-      refl refl refl
+      by past refl refl refl refl refl
 
   module _ (young : s.now.age < 2 ^ 62) where
     is_young : nat_lt s.now.age (2 ^ 62) ≡ true
     is_young = grind (arith, nat_tests)
 
     pub journal_running : (f : Frozen) → s.frozen ≡ Some f → refusal_of g s (command.Journal n) ≡ Some refusal.CheckpointRunning
-    journal_running f is =
-        by true (Some f) (s.saved.entries == 0) (nat_lt n (object_count g)) (is_page (content_at s.now.objects n)) (machine.is_saved_page s n) is_young is refl
-        refl refl refl
+    journal_running f is = by is_young is refl refl refl refl
 
     module _ (none : s.frozen ≡ None) where
       pub journal_pending : (s.saved.entries ≡ 0 → ⊥) → refusal_of g s (command.Journal n) ≡ Some refusal.MigrationPending
       journal_pending more =
           let away : (s.saved.entries == 0) ≡ false = grind (arith, nat_tests) in
-          by true None false (nat_lt n (object_count g)) (is_page (content_at s.now.objects n)) (machine.is_saved_page s n) is_young none away refl refl refl
+          by is_young none away refl refl refl
 
       module _ (home : s.saved.entries ≡ 0) where
         is_home : (s.saved.entries == 0) ≡ true
@@ -71,25 +68,25 @@ module _ (g : Geometry) (s : Running) (n : ℕ) where
         pub journal_unknown : object_count g ≤ n → refusal_of g s (command.Journal n) ≡ Some refusal.BadNumber
         journal_unknown past =
             let beyond : nat_lt n (object_count g) ≡ false = grind (arith, nat_tests) in
-            by true None true false (is_page (content_at s.now.objects n)) (machine.is_saved_page s n) is_young none is_home beyond refl refl
+            by is_young none is_home beyond refl refl
 
         module _ (known : n < object_count g) where
           is_known : nat_lt n (object_count g) ≡ true
           is_known = grind (arith, nat_tests)
 
           pub journal_no_page : is_page (content_at s.now.objects n) ≡ false → refusal_of g s (command.Journal n) ≡ Some (refusal.NotJournaled NotPage)
-          journal_no_page other = by true None true true false (machine.is_saved_page s n) is_young none is_home is_known other refl
+          journal_no_page other = by is_young none is_home is_known other refl
 
           module _ (page : is_page (content_at s.now.objects n) ≡ true) where
             pub journal_renewed : machine.is_saved_page s n ≡ false → refusal_of g s (command.Journal n) ≡ Some (refusal.NotJournaled Renewed)
-            journal_renewed other = by true None true true true false is_young none is_home is_known page other
+            journal_renewed other = by is_young none is_home is_known page other
 
             pub journal_step : machine.is_saved_page s n ≡ true →
                 Step g (Up s) (command.Journal n) (answer.Journaled (s.saved.generation + 2))
                 (let now : World = record { objects = s.now.objects; age = s.now.age + 1 } in Up
                 (record s { now = now; saved = machine.journaled s n; to_move = 1 }))
             unfolding carried_out
-            journal_step saved = done_step g s (command.Journal n) _ _ (by true None true true true true is_young none is_home is_known page saved) refl refl
+            journal_step saved = done_step g s (command.Journal n) _ _ (by is_young none is_home is_known page saved) refl refl
 
         -- what it may have saved besides
         abbrev seconds : Bool → Option Frozen → Bool → Bool → Bool → List Saved
@@ -109,19 +106,11 @@ page_by_role r c is = ap is_page_role is ∙ of_content c
   where
     of_content : (c : Content Cap) → is_page_role (role_of c) ≡ is_page c
     of_content content.Free = refl
-    of_content (content.Page words) = refl
-    of_content (content.Node slots) = refl
-    of_content (content.Root root) = refl
-    of_content (content.Annex slots) = refl
-    of_content (content.Bank limit) = refl
+    of_content c = refl
 
 page_through : (f : Cap → Capability) (c : Content Cap) → is_page (map_content f c) ≡ is_page c
 page_through f content.Free = refl
-page_through f (content.Page words) = refl
-page_through f (content.Node slots) = refl
-page_through f (content.Root root) = refl
-page_through f (content.Annex slots) = refl
-page_through f (content.Bank limit) = refl
+page_through f c = refl
 
 words_through : (f : Cap → Capability) (c : Content Cap) → is_page c ≡ true → map_content f c ≡ content.Page (words_in c)
 words_through f (content.Page words) is = refl
@@ -189,8 +178,7 @@ module _ (fs : List Frame) (n : ℕ) (words : List ℕ) where
   pub objects_after : objects_of (set fs n (with_words words (frame_at fs n))) ≡ with_content (objects_of fs) n (content.Page words)
   unfolding objects_of with_content
   objects_after =
-      ap (λ (hs : List ObjectHeader). map (object_of hs) (set fs n page)) same_headers
-      ∙ map-set (object_of (headers fs)) fs n page
+      ap (λ (hs : List ObjectHeader). map (object_of hs) (set fs n page)) same_headers ∙ map-set (object_of (headers fs)) fs n page
       ∙ ap put_at_owner (sym owner_is)
 
   has_risen : List Frame → List Frame → ℕ → Bool
@@ -200,8 +188,7 @@ module _ (fs : List Frame) (n : ℕ) (words : List ℕ) where
   unfolding renewed_since has_risen
   renewed_after gs =
       ap (λ (k : ℕ). map (λ m. not ((frame_at gs m).header.allocations == (frame_at (set fs n page) m).header.allocations)) (range_with_len 0 k))
-      (length-set fs n page)
-      ∙ maps_same (λ m. not ((frame_at gs m).header.allocations == (frame_at (set fs n page) m).header.allocations))
+      (length-set fs n page) ∙ maps_same (λ m. not ((frame_at gs m).header.allocations == (frame_at (set fs n page) m).header.allocations))
       (λ m. not ((frame_at gs m).header.allocations == (frame_at fs m).header.allocations)) (length fs)
       (λ m lt. ap (λ (h : ObjectHeader). not ((frame_at gs m).header.allocations == h.allocations)) (same_header m))
 
@@ -251,7 +238,7 @@ not_twice : (b : Bool) → not (not b) ≡ b
 not_twice true = refl
 not_twice false = refl
 
-module _ (g : Geometry) (p : Parts) (a : Snapshots FrozenFrames) (banks : BanksState) (age frozen_age : ℕ) (s : AreSoundTogether g p a banks age frozen_age)
+module _ {g : Geometry} {p : Parts} {a : Snapshots FrozenFrames} {banks : BanksState} {age frozen_age : ℕ} (s : AreSoundTogether g p a banks age frozen_age)
     (n : ℕ) where
   abbrev r : Running
   r = running_of p a age frozen_age
@@ -308,15 +295,13 @@ module _ (g : Geometry) (p : Parts) (a : Snapshots FrozenFrames) (banks : BanksS
             first false c e = cc
 
         pub saved_next : saved_of (journaled_saved (a.saved.age + 1) n (words_now p n) a.saved) ≡ machine.journaled (running_of p a age frozen_age) n
-        saved_next = ap
-            (λ (os : List Object). let w : World = record { objects = os; age = a.saved.age + 1 } in let x : Saved =
+        saved_next = ap (λ (os : List Object). let w : World = record { objects = os; age = a.saved.age + 1 } in let x : Saved =
             record { world = w; generation = a.saved.generation + 2; entries = 1 } in x)
             (objects_after a.saved.frames n (words_now p n) ∙ ap (with_content (objects_of a.saved.frames) n) (sym words_are))
 
         world_next : IsSound g (record { objects = with_content (objects_of a.saved.frames) n (content.Page (words_now p n)); age = a.saved.age + 1 })
         world_next = subst (λ (c : Content Capability). IsSound g (record { objects = with_content (objects_of a.saved.frames) n c; age = a.saved.age + 1 }))
-            words_are
-            (journal_keeps_sound g r n s.now.sound s.saved.sound.sound (omega (arith, s.order, young)) none_refuses)
+            words_are (journal_keeps_sound g r n s.now.sound s.saved.sound.sound (omega (arith, s.order, young)) none_refuses)
 
         frames_next : IsSoundFrames g (a.saved.age + 1) a.saved.frames
         frames_next = frames_later g a.saved.age (a.saved.age + 1) a.saved.frames (omega arith) (omega (arith, s.order, young)) s.saved.sound
@@ -348,17 +333,16 @@ module _ (g : Geometry) (p : Parts) (a : Snapshots FrozenFrames) (banks : BanksS
             ≡ (let now : World = record { objects = objects_in p; age = age + 1 } in let x : Running = record
             (running_of p a age frozen_age) { now = now; saved = machine.journaled (running_of p a age frozen_age) n; to_move = 1 } in x)
         running_next =
-            ap (λ (rs : List Bool). let now : World = record { objects = objects_in p; age = age + 1 } in let x : Running = record
-            (running_of p a age frozen_age) {
-              now = now;
-              renewed = rs;
-              saved = saved_of (journaled_saved (a.saved.age + 1) n (words_now p n) a.saved);
+            let renewed = ap (λ (fs : List Frame). renewed_since fs (frames_of p)) base_next ∙ renewed_after a.saved.frames n (words_now p n) (frames_of p) ∙
+            ap (λ (fs : List Frame). renewed_since fs (frames_of p)) (sym (base_saved a none)) in
+            λ k. record {
+              now = record { objects = objects_in p; age = age + 1 };
+              touched = p.touched;
+              renewed = renewed k;
+              frozen = frozen_of frozen_age a.frozen;
+              saved = saved_next k;
               to_move = 1;
-            } in x)
-            (ap (λ (fs : List Frame). renewed_since fs (frames_of p)) base_next ∙ renewed_after a.saved.frames n (words_now p n) (frames_of p) ∙
-            ap (λ (fs : List Frame). renewed_since fs (frames_of p)) (sym (base_saved a none)))
-            ∙ ap (λ (x : Saved). let now : World = record { objects = objects_in p; age = age + 1 } in let y : Running = record
-            (running_of p a age frozen_age) { now = now; saved = x; to_move = 1 } in y) saved_next
+            }
 
 -- what is saved besides, where nothing but what is saved may refuse it
 pub next_is : {F : Type 0} (age n : ℕ) (words : List ℕ) (o : Option F) (s : SavedFrames) (page saved b : Bool) → o ≡ None → s.entries ≡ 0 → page ≡ true →

@@ -41,8 +41,7 @@ sound_still (inr sound) = sound
 
 -- where it is refused with no read of an object, the store is the same
 pub unlooked_same : {S : Type 0} (was now : Disk) (left : Option ℕ) (s : SavedFrames) (known page saved : Bool) (why : Refusal) {old new : S} →
-    IsJournalAnswer was now left s known page saved (Err why) →
-    (IsTurnedAway (Err why) → new ≡ old) → IsUnlooked (answer.Refused why) → new ≡ old
+    IsJournalAnswer was now left s known page saved (Err why) → (IsTurnedAway (Err why) → new ≡ old) → IsUnlooked (answer.Refused why) → new ≡ old
 unlooked_same was now left s known page saved refusal.BadNumber reported same is = same tt
 unlooked_same was now left s known page saved refusal.NoProcess reported same is = absurd reported
 unlooked_same was now left s known page saved refusal.Down reported same is = absurd reported
@@ -93,16 +92,13 @@ module _ {D S : Type 0} (disk : D → Disk) (view : S → View D) (parts : S →
       along : (b : Bool) → is_still_saved (parts l.store) a.saved n ≡ b → (g : Geometry) → IsUp disk view parts g l →
           LeavesOne g (disk_at disk view parts l) (disk (view s).beneath)
           (saved_of (view l.store).snapshots.saved ∷ second (Up (running disk view parts l)) (command.Journal n))
-      along false is g up = leaves_along g old new a.saved (second (Up (running disk view parts l)) (command.Journal n)) up.sound.saved size (run_by false is)
+      along false is g up = leaves_along up.sound.saved size (run_by false is)
       along true is g up =
           let sound = up.sound in
-          let p = parts l.store in
-          subst (λ (ss : List Saved). LeavesOne g old new (saved_of a.saved ∷ ss))
-          (ap (λ (x : Saved). x ∷ []) (saved_next g p a l.banks l.age l.frozen_age sound n none page is young)
+          subst (λ (ss : List Saved). LeavesOne g old new (saved_of a.saved ∷ ss)) (ap (λ (x : Saved). x ∷ []) (saved_next sound n none page is young)
           ∙ sym (second_of_journal g (running disk view parts l) n young (frozen_none a.frozen l.frozen_age none) home
-          (page_now g p a l.banks l.age l.frozen_age sound n none page) (saved_too g p a l.banks l.age l.frozen_age sound n none page is young)))
-          (leaves_either g old new a.saved (journaled_saved age n (words_now p n) a.saved) sound.saved
-          (sound_next g p a l.banks l.age l.frozen_age sound n none page is young) size (run_by true is))
+          (page_now sound n none page) (saved_too sound n none page is young)))
+          (leaves_either sound.saved (sound_next sound n none page is young) size (run_by true is))
 
       pub journal_failed : ServesUp disk view parts l (command.Journal n) (answer.Refused refusal.Fault) (with_store l s)
       journal_failed = failed disk view parts only_now sound_holds l (with_store l s) (command.Journal n)
@@ -113,19 +109,15 @@ module _ {D S : Type 0} (disk : D → Disk) (view : S → View D) (parts : S →
           (view s).is_sound →
           ServesUp disk view parts l (command.Journal n) (answer.Refused (refusal.NotJournaled Renewed)) (with_store l s)
       not_saved other beside sound g up =
-          let p = parts l.store in
           let r = running disk view parts l in
-          let known = known_now g p a l.banks l.age l.frozen_age up.sound n none page in
+          let known = known_now up.sound n none page in
           record {
             step = λ not_fault.
                 subst (λ (x : Running). Step g (Up r) (command.Journal n) (answer.Refused (refusal.NotJournaled Renewed)) (Up x))
-                (sym (same_running g p (parts s) same a (view s).snapshots beside l.age l.frozen_age))
-                (refused_step g r (command.Journal n) (refusal.NotJournaled Renewed)
-                (journal_renewed g r n young (frozen_none a.frozen l.frozen_age none) home known
-                (page_now g p a l.banks l.age l.frozen_age up.sound n none page)
-                (sym (saved_is g p a l.banks l.age l.frozen_age up.sound n none known) ∙ other)));
-            up = λ not_fault. is_up disk view parts only_now sound_holds g (with_store l s) sound
-                (stays_sound g p (parts s) same a (view s).snapshots beside l.banks l.age l.frozen_age up.sound);
+                (sym (same_running same beside l.age l.frozen_age)) (refused_step g r (command.Journal n) (refusal.NotJournaled Renewed)
+                (journal_renewed g r n young (frozen_none a.frozen l.frozen_age none) home known (page_now up.sound n none page)
+                (sym (saved_is up.sound n none known) ∙ other)));
+            up = λ not_fault. is_up disk view parts only_now sound_holds g (with_store l s) sound (stays_sound same beside up.sound);
             leaves = along false other g up;
           }
 
@@ -135,22 +127,18 @@ module _ {D S : Type 0} (disk : D → Disk) (view : S → View D) (parts : S →
           (view s).snapshots ≡ journaled ((view l.store).snapshots.saved.age + 1) n (words_now (parts l.store) n) (view l.store).snapshots → (view s).is_sound →
           ServesUp disk view parts l (command.Journal n) (answer.Journaled generation) (with_age l s (l.age + 1))
       journal_went is generation reported beside sound g up =
-          let p = parts l.store in
           let r = running disk view parts l in
-          let b = journaled age n (words_now p n) a in
           record {
             step = λ not_fault.
                 subst (λ (x : Running). Step g (Up r) (command.Journal n) (answer.Journaled generation) (Up x))
-                (sym (same_running g p (parts s) same b (view s).snapshots beside (l.age + 1) l.frozen_age ∙
-                running_next g p a l.banks l.age l.frozen_age up.sound n none page is young))
-                (subst (λ (k : ℕ). Step g (Up r) (command.Journal n) (answer.Journaled k)
+                (sym (same_running same beside (l.age + 1) l.frozen_age ∙
+                running_next up.sound n none page is young)) (subst (λ (k : ℕ). Step g (Up r) (command.Journal n) (answer.Journaled k)
                 (let now : World = record { objects = r.now.objects; age = r.now.age + 1 } in Up
                 (record r { now = now; saved = machine.journaled r n; to_move = 1 }))) (sym reported)
-                (journal_step g r n young (frozen_none a.frozen l.frozen_age none) home (known_now g p a l.banks l.age l.frozen_age up.sound n none page)
-                (page_now g p a l.banks l.age l.frozen_age up.sound n none page) (saved_too g p a l.banks l.age l.frozen_age up.sound n none page is young)));
+                (journal_step g r n young (frozen_none a.frozen l.frozen_age none) home (known_now up.sound n none page)
+                (page_now up.sound n none page) (saved_too up.sound n none page is young)));
             up = λ not_fault. is_up disk view parts only_now sound_holds g (with_age l s (l.age + 1)) sound
-                (stays_sound g p (parts s) same b (view s).snapshots beside l.banks (l.age + 1) l.frozen_age
-                (together_next g p a l.banks l.age l.frozen_age up.sound n none page is young));
+                (stays_sound same beside (together_next up.sound n none page is young));
             leaves = along true is g up;
           }
 
@@ -179,7 +167,7 @@ module _ {D S : Type 0} (disk : D → Disk) (view : S → View D) (parts : S →
         turned_away (refusal.NotJournaled NotPage) (away tt)
         (λ g up. journal_no_page g (running disk view parts l) n young (frozen_none a.frozen l.frozen_age (none_there a.frozen reported.1)) reported.2
         (subst (λ (m : ℕ). n < m) (keepable_count g l.age (parts l.store) up.sound.now.keepable) (lies_within n (length (parts l.store).headers) reported.3))
-        (sym (now_is g (parts l.store) a l.banks l.age l.frozen_age up.sound n) ∙ reported.4))
+        (sym (now_is up.sound n) ∙ reported.4))
     journal_refused (refusal.NotJournaled Renewed) same size reported away beside sound run =
         not_saved same size run (none_there a.frozen reported.1) reported.2 reported.3 reported.4 beside (sound_still sound)
     journal_refused refusal.Fault same size reported away beside sound run = journal_failed same size run (none_there a.frozen reported.1) reported.2 reported.3

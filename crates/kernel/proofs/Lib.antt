@@ -1,7 +1,5 @@
 mod Names
 mod Acts
-mod Codes
-mod Counted
 mod Crashes
 mod JournalSteps
 mod Journals

@@ -4,14 +4,15 @@ use Rattle.kernel.proofs.Names.{Answer, Command, Geometry, Machine, Running, Sav
 use Rattle.kernel.proofs.Names.{second, Only, Disk, Elapses, LeavesOnly, agrees_is, CountsNow, OnlyNow, goes_on_cut, leaves_on, leaves_weaker, started}
 use Rattle.kernel.proofs.Names.{OpenFault, Parts, View, Live, Power, power_of, saved_of, DenotesOne, Leaves, LeavesOne, RefusesToOpen, Recovers, IsNoReason}
 use Rattle.kernel.proofs.Names.{IsSomeDown, Opens, ReopensAs, Reopened, IsSomeUp, IsUp, running, IsCaused, IsDeviceOf, IsSomeMachine, Serves, ServesFrom}
-use Rattle.kernel.proofs.Names.{ServesUp, Stands, disk_of, one_denoted, one_not_bad, refused_by, true, takes_memory, wants_memory_to_show}
+use Rattle.kernel.proofs.Names.{ServesUp, Stands, disk_of, one_denoted, one_not_bad, refused_by, true, takes_memory, wants_memory_to_show, None, Result, Ok}
+use Rattle.kernel.proofs.Names.{Err, IfOk, Invocation, objects_in, code_with, HasCode, Refusal, ResultCode, done_with, InvokeFault}
 use Rattle.std.proofs.Common.{◌≡◌, ◌↔◌, ◌⊎◌, ◌<◌, ◌≤◌, ◌∷◌, ◌++◌, ◌∙◌}
+use Rattle.kernel.proofs.Crashes.{leaves_end, leaves_here, among}
 use Rattle.model.specs.declared.answer.Answer.TheVariants as answer
 use Rattle.model.specs.declared.answer.Refusal.TheVariants as refusal
 use Rattle.model.specs.declared.command.Command.TheVariants as command
 use Rattle.checkpoint.specs.declared.open_fault.OpenFault.TheVariants as fault
 use Rattle.kernel.specs.Power as power
-use Rattle.kernel.proofs.Crashes.{leaves_end, leaves_here, among}
 
 -- ---- steps of the machine
 
@@ -41,12 +42,8 @@ restarts g (Down saved) a after (inr (inr failed)) = inr (inr (refl, failed.0, f
 
 is_cut : (g : Geometry) (m : Machine) (a : Answer) (after : Machine) → ReopensAs g (candidates m) a after → Step g m command.Cut a after
 unfolding refusal_of carried_out
-is_cut g (Up r) a after (inl again) = inl (up_again g r a after again)
-is_cut g (Up r) a after (inr (inl none)) = inr (inl (refl, none.0, none.1))
-is_cut g (Up r) a after (inr (inr failed)) = inr (inr (tt, failed.0, failed.1))
-is_cut g (Down saved) a after (inl again) = inl again
-is_cut g (Down saved) a after (inr (inl none)) = inr (inl (refl, none.0, none.1))
-is_cut g (Down saved) a after (inr (inr failed)) = inr (inr (refl, failed.0, failed.1 ∙ ap Down (sym (append-nil saved))))
+is_cut g (Up r) a after again = restarts g (Up r) a after again
+is_cut g (Down saved) a after again = restarts g (Down saved) a after again
 
 reopens_step : (g : Geometry) (m : Machine) (c : Command) (a : Answer) (after : Machine) → (c ≡ command.Restart) ⊎ (c ≡ command.Cut) →
     ReopensAs g (candidates m) a after → Step g m c a after
@@ -119,11 +116,10 @@ module _ {D S : Type 0} (disk : D → Disk) (view : S → View D) (parts : S →
       d ≡ (view k.store).beneath →
       Serves disk view parts (power.Up l) c (answer.Refused refusal.Fault) (power.Down d)
   goes_down l k c d counts_now serves is g (Up r) stands =
-      let s = serves g stands.0 in
       let was : Machine = Up (running disk view parts l) in
       let ss : List Saved = candidates was ++ second was c in
       let left : LeavesOne g (disk (view l.store).beneath) (disk d) ss = subst (λ (x : D). LeavesOne g (disk (view l.store).beneath) (disk x) ss) (sym is)
-      s.leaves in
+      (serves g stands.0).leaves in
       subst (λ (x : Running). ServesFrom disk view parts g (Up x) (power.Up l) c (answer.Refused refusal.Fault) (power.Down d)) (sym stands.1) (record {
         after = Down ss;
         step = inr (inr (tt, refl, refl));
@@ -207,10 +203,9 @@ module _ {D S : Type 0} (disk : D → Disk) (view : S → View D) (parts : S →
   -- a device that a crash of a kernel left is an image
   pub no_reason : (device back : D) (why : OpenFault) → (disk device).may_leave (disk device).seen → IsSomeDown disk device →
       RefusesToOpen disk device back why → IsNoReason why
-  no_reason device back fault.Failed seen_left down refuses = tt
-  no_reason device back fault.NoMemory seen_left down refuses = tt
   no_reason device back (fault.Bad reason) seen_left down refuses =
       absurd (one_not_bad down.0 (disk device).sectors (disk device).seen down.1 reason (down.2 (disk device).seen seen_left) refuses.is_why.1)
+  no_reason device back c seen_left down refuses = tt
 
   -- ---- restarts and power cuts
 
@@ -280,3 +275,24 @@ module _ {D S : Type 0} (disk : D → Disk) (view : S → View D) (parts : S →
       (disk e).sectors ≡ (disk d).sectors → Elapses (disk d) (disk e) → IsSomeDown disk d → IsSomeDown disk e
   some_cut d e only_now counts_now left durable size time down =
       (down.0, down.1, (left_cut d e only_now counts_now left durable size time down.0 down.1 down.2).1)
+
+-- an invocation by a store that is up has that of its objects
+module _ {D S : Type 0} (disk : D → Disk) (view : S → View D) (parts : S → Parts) where
+  invoked_code : (l : Live S) (i : Invocation) (code : Option ResultCode) → code ≡ code_with (parts l.store).geometry (objects_in (parts l.store)) i answer.Done
+      → HasCode disk view parts (power.Up l) (command.Invoke i) (done_with code)
+  invoked_code l i code is g (Up r) stands =
+      is ∙ ap (λ (h : Geometry). code_with h (objects_in (parts l.store)) i answer.Done) stands.0.sound.geometry
+      ∙ ap (λ (x : Running). code_with g x.now.objects i answer.Done) (sym stands.1)
+  invoked_code l i code is g (Down saved) stands = absurd stands
+
+  pub up_code : (l : Live S) (i : Invocation) (r : Result (Option ResultCode) InvokeFault) →
+      IfOk r (λ code. code ≡ code_with (parts l.store).geometry (objects_in (parts l.store)) i answer.Done)
+      → IfOk r (λ code. HasCode disk view parts (power.Up l) (command.Invoke i) (done_with code))
+  up_code l i (Ok code) is = invoked_code l i code is
+  up_code l i (Err why) is = tt
+
+  -- a refusal has none
+  pub refused_code : (p : Power D S) (i : Invocation) (why : Refusal) →
+      HasCode disk view parts p (command.Invoke i) (record { answer = answer.Refused why; code = None })
+  refused_code p i why g (Up r) stands = refl
+  refused_code p i why g (Down saved) stands = refl

@@ -3,21 +3,21 @@ use Rattle.kernel.proofs.Names.{ℕ, Bool, true, List, [], Option, None, Some, R
 use Rattle.kernel.proofs.Names.{Frame, ObjectHeader, Geometry, Object, header_at, objects_of, IsSoundFrames, Frozen, Saved, Machine, touching, touched_count}
 use Rattle.kernel.proofs.Names.{Step, is_process, is_running_process, with_word, none_in_frame, renewing_none, word_frame, SameFrame, frame_refl, tests_at}
 use Rattle.kernel.proofs.Names.{PrepareFault, IsUnchanged, OnlyFetches, Parts, frames_of, objects_in, IsLoaded, IsStored, KeepsSound, OverfillsStore}
-use Rattle.kernel.proofs.Names.{renews_none, InvokeFault, IsEarly, Performs, refusal_by, machine_at, renewed_by, FetchesOrFails, IsErr, Failed}
+use Rattle.kernel.proofs.Names.{renews_none, InvokeFault, IsEarly, Performs, refusal_by, machine_at, renewed_by, FetchesOrFails, Failed, unrisen, ok_no_err}
+use Rattle.kernel.proofs.Names.{ok_no_failure, AreCounted, BanksState, counted_on}
 use Rattle.std.proofs.Common.{◌≡◌, ◌↔◌, ◌%◌, ◌<◌, ◌≤◌, ◌∷◌, ◌∙◌}
+use Rattle.kernel.proofs.Performing.{AreSame, refused_serves, same_frames, same_renews, same_sound, serves_looked, standing, still_machine, reported_cause}
+use Rattle.kernel.proofs.ProcessSteps.{early_fine}
+use Rattle.kernel.proofs.MemorySteps.{load_early, load_step, loaded_answer, store_early, store_fault_step, store_full_step, store_step}
 use Rattle.model.specs.declared.answer.Answer.TheVariants as answer
 use Rattle.model.specs.declared.answer.Refusal.TheVariants as refusal
 use Rattle.model.specs.declared.command.Command.TheVariants as command
 use Rattle.capability.specs.declared.present.PrepareFault.TheVariants as prepare
-use Rattle.kernel.proofs.Performing.{AreSame, refused_serves, same_frames, same_renews, same_sound, serves_looked, standing, still_machine, reported_cause}
-use Rattle.kernel.proofs.Performing.{unfailed}
-use Rattle.kernel.proofs.ProcessSteps.{early_fine}
-use Rattle.kernel.proofs.MemorySteps.{load_early, load_step, loaded_answer, store_early, store_fault_step, store_full_step, store_step}
 
 -- what was only read is the same
-pub looked_same : {S : Type 0} (parts : S → Parts) (Continues : S → S → Type 0) (old new : S) → OnlyFetches parts Continues old new →
+pub looked_same : {S : Type 0} {parts : S → Parts} {Continues : S → S → Type 0} {old new : S} → OnlyFetches parts Continues old new →
     AreSame (parts old) (parts new)
-looked_same parts Continues old new snapshots =
+looked_same snapshots =
     record { headers = snapshots.headers; contents = snapshots.contents; touched = snapshots.touched; geometry = snapshots.geometry }
 
 -- and so is what wasn't changed
@@ -26,14 +26,8 @@ unchanged_same old new geometry unchanged =
     record { headers = unchanged.headers; contents = unchanged.contents; touched = unchanged.touched; geometry = geometry }
 
 -- what an outcome isn't
-ok_unfailed : {T : Type 0} (t : T) → (let r : Result T PrepareFault = Ok t in IsErrOf r prepare.Failed) → ⊥
-ok_unfailed t e = cc
-
 full_unfailed : {T : Type 0} (f : PrepareFault) → f ≡ prepare.LogFull → (let r : Result T PrepareFault = Err f in IsErrOf r prepare.Failed) → ⊥
 full_unfailed f is e = let d : f ≡ prepare.Failed = cc in cc
-
-no_err : {T : Type 0} (t : T) → IsErr {T = T} {E = Failed} (Ok t) → ⊥
-no_err t e = cc
 
 -- what a store answers
 abbrev pub stored_answer : Result (Unit {0}) MemoryFault → Answer
@@ -52,12 +46,10 @@ stored_unfailed (Err why) e = cc
 machine_is : (age : ℕ) (new : Parts) (renewed now : List Bool) (frozen : Option Frozen) (saved : Saved) (to_move : ℕ) (os : List Object) (ts : List Bool) →
     objects_in new ≡ os → new.touched ≡ ts → renewed ≡ now → standing age renewed frozen saved to_move os ts ≡ machine_at age new now frozen saved to_move
 machine_is age new renewed now frozen saved to_move os ts objects touched same =
-    ap (λ (us : List Object). standing age renewed frozen saved to_move us ts) (sym objects)
-    ∙ ap (standing age renewed frozen saved to_move (objects_in new)) (sym touched)
-    ∙ ap (λ (rs : List Bool). standing age rs frozen saved to_move (objects_in new) new.touched) same
+    λ k. standing age (same k) frozen saved to_move (sym objects k) (sym touched k)
 
 -- a process that can't act
-module _ {S : Type 0} (parts : S → Parts) (Continues : S → S → Type 0) (age : ℕ) (old new : S) (p address : ℕ) (why : InvokeFault)
+module _ {S : Type 0} {parts : S → Parts} {Continues : S → S → Type 0} {age : ℕ} {old new : S} (p address : ℕ) (why : InvokeFault)
     (sound : IsSoundFrames (parts old).geometry age (frames_of (parts old))) (early : IsEarly (objects_in (parts old)) p (Some why))
     (snapshots : OnlyFetches parts Continues old new) (later : (parts old).failures ≤ (parts new).failures)
     (stayed : (parts old).failures < (parts new).failures → ⊥) where
@@ -66,18 +58,16 @@ module _ {S : Type 0} (parts : S → Parts) (Continues : S → S → Type 0) (ag
 
   pub early_load : Performs age (parts old) (command.Load p address) (answer.Refused (refusal_by why)) age (parts new)
   early_load =
-      refused_serves age (parts old) (parts new) (command.Load p address) (refusal_by why) (looked_same parts Continues old new snapshots) sound later
-      why_cause
-      (λ renewed frozen saved to_move other. load_early (parts old).geometry _ p address why early)
+      refused_serves (looked_same snapshots) sound later
+      why_cause (λ renewed frozen saved to_move other. load_early (parts old).geometry _ p address why early)
 
   pub early_store : (word : ℕ) → Performs age (parts old) (command.Store p address word) (answer.Refused (refusal_by why)) age (parts new)
   early_store word =
-      refused_serves age (parts old) (parts new) (command.Store p address word) (refusal_by why) (looked_same parts Continues old new snapshots) sound later
-      why_cause
-      (λ renewed frozen saved to_move other. store_early (parts old).geometry _ p address word why early)
+      refused_serves (looked_same snapshots) sound later
+      why_cause (λ renewed frozen saved to_move other. store_early (parts old).geometry _ p address word why early)
 
 -- the answer to a process that runs, after it was read, by the outcome of its load or store
-module _ {S : Type 0} (parts : S → Parts) (Continues : S → S → Type 0) (age : ℕ) (before between after : S) (p address : ℕ)
+module _ {S : Type 0} {parts : S → Parts} {Continues : S → S → Type 0} {age : ℕ} {before between : S} (after : S) (p address : ℕ)
     (sound : IsSoundFrames (parts before).geometry age (frames_of (parts before))) (acts : IsEarly (objects_in (parts before)) p None)
     (snapshots : OnlyFetches parts Continues before between) (rises : (parts before).failures ≤ (parts between).failures)
     (stayed : (parts before).failures < (parts between).failures → ⊥) where
@@ -91,38 +81,36 @@ module _ {S : Type 0} (parts : S → Parts) (Continues : S → S → Type 0) (ag
   new = parts after
 
   same : AreSame old mid
-  same = looked_same parts Continues before between snapshots
+  same = looked_same snapshots
 
   failures : mid.failures ≡ old.failures
-  failures = unfailed old.failures mid.failures rises stayed
+  failures = unrisen old.failures mid.failures rises stayed
 
   process : is_process (objects_in mid) p ≡ true
-  process = ap (λ (fs : List Frame). is_process (objects_of fs) p) (same_frames old mid same) ∙ acts.0
+  process = ap (λ (fs : List Frame). is_process (objects_of fs) p) (same_frames same) ∙ acts.0
 
   running : is_running_process (objects_in mid) p ≡ true
-  running = ap (λ (fs : List Frame). is_running_process (objects_of fs) p) (same_frames old mid same) ∙ acts.1
+  running = ap (λ (fs : List Frame). is_running_process (objects_of fs) p) (same_frames same) ∙ acts.1
 
   mid_sound : IsSoundFrames mid.geometry age (frames_of mid)
-  mid_sound = same_sound old mid same age sound
+  mid_sound = same_sound same age sound
 
   refused_then : (c : Command) (why : Refusal) → (why ≡ refusal.Fault → ⊥) → AreSame mid new → mid.failures ≤ new.failures → (mid.failures < new.failures → ⊥) →
       ((renewed : List Bool) (frozen : Option Frozen) (saved : Saved) (to_move : ℕ) →
       Step mid.geometry (machine_at age mid renewed frozen saved to_move) c (answer.Refused why) (machine_at age mid renewed frozen saved to_move)) →
       Performs age old c (answer.Refused why) age new
   refused_then c why other unchanged later stayed step =
-      serves_looked age age old mid new c (answer.Refused why) same failures
-      (refused_serves age mid new c why unchanged mid_sound later (reported_cause why other stayed)
+      serves_looked same failures (refused_serves unchanged mid_sound later (reported_cause why other stayed)
       (λ renewed frozen saved to_move differs. step renewed frozen saved to_move))
 
   load_then : (loaded : Result ℕ MemoryFault) → IsLoaded (objects_in mid) p address loaded → AreSame mid new → mid.failures ≤ new.failures →
       (mid.failures < new.failures → ⊥) → Performs age old (command.Load p address) (loaded_answer loaded) age new
-  load_then loaded is unchanged later stayed = serves_looked age age old mid new (command.Load p address) (loaded_answer loaded) same failures (record {
+  load_then loaded is unchanged later stayed = serves_looked same failures (record {
     step = λ renewed frozen saved to_move other.
         subst (λ (m : Machine). Step mid.geometry (machine_at age mid renewed frozen saved to_move) (command.Load p address) (loaded_answer loaded) m)
-        (sym (still_machine mid new unchanged age renewed frozen saved to_move))
-        (load_step mid.geometry _ p address process running loaded is);
-    renews = same_renews mid new unchanged;
-    sound = same_sound mid new unchanged age mid_sound;
+        (sym (still_machine unchanged age renewed frozen saved to_move)) (load_step mid.geometry _ p address process running loaded is);
+    renews = same_renews unchanged;
+    sound = same_sound unchanged age mid_sound;
     geometry = unchanged.geometry;
     later = later;
     cause = (λ e. absurd (loaded_unfailed loaded e), λ rose. absurd (stayed rose));
@@ -133,7 +121,7 @@ module _ {S : Type 0} (parts : S → Parts) (Continues : S → S → Type 0) (ag
       Performs age old (command.Load p address) (loaded_answer reported) age new
   load_answers loaded reported is found fetches =
       subst (λ (r : Result ℕ MemoryFault). Performs age old (command.Load p address) (loaded_answer r) age new) is
-      (load_then loaded found (looked_same parts Continues between after fetches.snapshots) fetches.later (λ rose. no_err loaded (fetches.cause.1 rose)))
+      (load_then loaded found (looked_same fetches.snapshots) fetches.later (λ rose. ok_no_err loaded (fetches.cause.1 rose)))
 
   -- a store, after which the count of failures may have risen
   module _ (word : ℕ) (geometry : new.geometry ≡ mid.geometry) (headers : new.headers ≡ mid.headers) (later : mid.failures ≤ new.failures) where
@@ -157,14 +145,12 @@ module _ {S : Type 0} (parts : S → Parts) (Continues : S → S → Type 0) (ag
     stored_step (Ok done) is renewed frozen saved to_move =
         subst (λ (m : Machine). Step mid.geometry (machine_at age mid renewed frozen saved to_move) (command.Store p address word) answer.Done m)
         (machine_is age new renewed (renewed_by renewed mid new) frozen saved to_move (with_word (objects_in mid) is.0 (address % 512) word)
-        (touching mid.touched (is.0 ∷ [])) is.2 is.3
-        (sym (none_renewed renewed (stored_frame (Ok done) is))))
+        (touching mid.touched (is.0 ∷ [])) is.2 is.3 (sym (none_renewed renewed (stored_frame (Ok done) is))))
         (store_step mid.geometry _ p address word process running is.0 is.1 (subst (λ (ts : List Bool). touched_count ts ≤ mid.geometry.log) is.3 is.4))
     stored_step (Err why) is renewed frozen saved to_move =
         subst (λ (m : Machine). Step mid.geometry (machine_at age mid renewed frozen saved to_move) (command.Store p address word) (answer.MemoryFault why) m)
         (machine_is age new renewed (renewed_by renewed mid new) frozen saved to_move (objects_in mid) mid.touched is.1 is.2
-        (sym (none_renewed renewed (stored_frame (Err why) is))))
-        (store_fault_step mid.geometry _ p address word process running why is.0)
+        (sym (none_renewed renewed (stored_frame (Err why) is)))) (store_fault_step mid.geometry _ p address word process running why is.0)
 
     pub store_answers : (stored reported : Result (Unit {0}) MemoryFault) → stored ≡ reported →
         IsStored mid.geometry.log (objects_in mid) mid.touched p address word (objects_in new) new.touched stored →
@@ -173,14 +159,14 @@ module _ {S : Type 0} (parts : S → Parts) (Continues : S → S → Type 0) (ag
         Performs age old (command.Store p address word) (stored_answer reported) age new
     store_answers stored reported is found keeps cause =
         subst (λ (r : Result (Unit {0}) MemoryFault). Performs age old (command.Store p address word) (stored_answer r) age new) is
-        (serves_looked age age old mid new (command.Store p address word) (stored_answer stored) same failures (record {
+        (serves_looked same failures (record {
           step = λ renewed frozen saved to_move other. stored_step stored found renewed frozen saved to_move;
           renews = renews_none mid new (λ n. ap (λ (hs : List ObjectHeader). (header_at hs n).allocations) headers)
               (λ n used. (tests_at (objects_in mid) (objects_in new) (stored_frame stored found) n).free ∙ used);
           sound = subst (λ (g : Geometry). IsSoundFrames g age (frames_of new)) (sym geometry) (keeps age mid_sound);
           geometry = geometry;
           later = later;
-          cause = (λ e. absurd (stored_unfailed stored e), λ rose. absurd (ok_unfailed stored (cause.1 rose)));
+          cause = (λ e. absurd (stored_unfailed stored e), λ rose. absurd (ok_no_failure stored (cause.1 rose)));
         }))
 
     pub store_full : (f : PrepareFault) → f ≡ prepare.LogFull → IsUnchanged mid new →
@@ -193,3 +179,14 @@ module _ {S : Type 0} (parts : S → Parts) (Continues : S → S → Type 0) (ag
         refused_then (command.Store p address word) refusal.LogFull (λ e. cc) (unchanged_same mid new geometry unchanged) later
         (λ rose. full_unfailed f is (cause.1 rose))
         (λ renewed frozen saved to_move. store_full_step mid.geometry _ p address word process running over.0 over.1 over.2)
+
+abbrev IsCountedAt : Parts → BanksState → Type 0
+IsCountedAt p s = AreCounted p.geometry (objects_in p) s
+
+-- after a store, or a fault
+pub stored_counted : (mid new : Parts) (s : BanksState) (p address word : ℕ) (r : Result (Unit {0}) MemoryFault) → new.geometry ≡ mid.geometry →
+    IsStored mid.geometry.log (objects_in mid) mid.touched p address word (objects_in new) new.touched r → IsCountedAt mid s → IsCountedAt new s
+stored_counted mid new s p address word (Ok done) geometry stored h =
+    subst (λ (X : Type 0). X) (λ k. AreCounted (sym geometry k) (sym stored.2 k) s) (counted_on (word_frame (objects_in mid) stored.0 _ word) h)
+stored_counted mid new s p address word (Err why) geometry stored h =
+    subst (λ (X : Type 0). X) (λ k. AreCounted (sym geometry k) (sym stored.1 k) s) h

@@ -15,13 +15,13 @@ module _ (g : Geometry) (s : Running) (c : Command) (p : ℕ) (next : Option Ref
   abbrev in_order : Bool → Bool → Option Refusal
   in_order a b = unless a refusal.NoProcess (unless b refusal.NotRunning next)
 
-  by : (a b : Bool) → is_process s.now.objects p ≡ a → is_running_process s.now.objects p ≡ b → refusal_of g s c ≡ in_order a b
-  by a b as_a as_b = of ∙ ap (λ (x : Bool). in_order x (is_running_process s.now.objects p)) as_a ∙ ap (in_order a) as_b
+  by : {a b : Bool} → is_process s.now.objects p ≡ a → is_running_process s.now.objects p ≡ b → refusal_of g s c ≡ in_order a b
+  by as_a as_b = of ∙ (λ k. in_order (as_a k) (as_b k))
 
   -- a process that can't act
   pub cannot_act : (why : InvokeFault) → IsEarly s.now.objects p (Some why) → Step g (Up s) c (answer.Refused (refusal_by why)) (Up s)
-  cannot_act fault.NoProcess early = refused_step g s c refusal.NoProcess (by false (is_running_process s.now.objects p) early refl)
-  cannot_act fault.NotRunning early = refused_step g s c refusal.NotRunning (by true false early.0 early.1)
+  cannot_act fault.NoProcess early = refused_step g s c refusal.NoProcess (by early refl)
+  cannot_act fault.NotRunning early = refused_step g s c refusal.NotRunning (by early.0 early.1)
   cannot_act _ early = absurd early
 
 -- what a load answers
@@ -54,9 +54,8 @@ module _ (g : Geometry) (s : Running) (p address : ℕ) where
         s ≡ (after_loading r).after →
         Step g (Up s) (command.Load p address) a (Up s)
     load_done r is a reported stays =
-        done_step g s (command.Load p address) a (Up s) (by g s (command.Load p address) p None load_order true true process running)
-        (reported ∙ ap (λ (o : Outcome). o.answer) (sym (loads r is)))
-        (ap Up (stays ∙ ap (λ (o : Outcome). o.after) (sym (loads r is))))
+        done_step g s (command.Load p address) a (Up s) (by g s (command.Load p address) p None load_order process running)
+        (reported ∙ ap (λ (o : Outcome). o.answer) (sym (loads r is))) (ap Up (stays ∙ ap (λ (o : Outcome). o.after) (sym (loads r is))))
 
     pub load_step : (loaded : Result ℕ MemoryFault) → IsLoaded s.now.objects p address loaded →
         Step g (Up s) (command.Load p address) (loaded_answer loaded) (Up s)
@@ -92,15 +91,13 @@ module _ (g : Geometry) (s : Running) (p address word : ℕ) where
   module _ (process : is_process s.now.objects p ≡ true) (running : is_running_process s.now.objects p ≡ true) where
     store_refusal : (r : Result ℕ MemoryFault) → writable (reached s.now.objects p address) ≡ r → refusal_of g s (command.Store p address word) ≡ full_or_none r
     store_refusal r is =
-        by g s (command.Store p address word) p (full_or_none (writable (reached s.now.objects p address))) store_order true true process running
-        ∙ ap full_or_none is
+        by g s (command.Store p address word) p (full_or_none (writable (reached s.now.objects p address))) store_order process running ∙ ap full_or_none is
 
     store_done : (r : Result ℕ MemoryFault) → writable (reached s.now.objects p address) ≡ r → full_or_none r ≡ None →
         Step g (Up s) (command.Store p address word) (after_storing r).answer (Up (after_storing r).after)
     store_done r is fits =
         done_step g s (command.Store p address word) (after_storing r).answer (Up (after_storing r).after) (store_refusal r is ∙ fits)
-        (ap (λ (o : Outcome). o.answer) (sym (stores r is)))
-        (ap (λ (o : Outcome). Up o.after) (sym (stores r is)))
+        (ap (λ (o : Outcome). o.answer) (sym (stores r is))) (ap (λ (o : Outcome). Up o.after) (sym (stores r is)))
 
     pub store_step : (page : ℕ) → writable (reached s.now.objects p address) ≡ Ok page → touched_count (touching s.touched (page ∷ [])) ≤ g.log →
         Step g (Up s) (command.Store p address word) answer.Done

@@ -17,8 +17,9 @@ pub use Rattle.device.specs.Disk.{Disk, Image}
 pub use Rattle.device.specs.Moments.{Elapses, LeavesOnly}
 pub use Rattle.device.specs.declared.device.Failed.{Failed}
 pub use Rattle.gate.proofs.BankStates.{counted_looked, counted_on}
+pub use Rattle.gate.proofs.Invoking.{ok_no_err, ok_no_failure}
 pub use Rattle.gate.proofs.Known.{annex_known, one_known}
-pub use Rattle.gate.proofs.Standing.{ReadsAs, keepable_most, looked_as}
+pub use Rattle.gate.proofs.Standing.{keepable_most, looked_as}
 pub use Rattle.gate.specs.Invoke.{Invoked, Invokes, KeepsSoundFrames, TellsState}
 pub use Rattle.gate.specs.declared.fault.InvokeFault.{InvokeFault}
 pub use Rattle.model.specs.Frame.{blank_frame, conveyed, frame_at, header_at, headers, held_at, object_of}
@@ -66,7 +67,7 @@ pub use Rattle.recovery.specs.Live.{AreSoundTogether, IsSomeUp, IsSoundFrozen, I
 unfoldable pub use Rattle.recovery.specs.Live.{renewed_since}
 pub use Rattle.recovery.specs.Recovered.{Recovers, RefusesToOpen}
 pub use Rattle.recovery.specs.declared.live.Live.{Live}
-pub use Rattle.space_bank.proofs.Renewing.{renews_after, renews_none}
+pub use Rattle.space_bank.proofs.Renewing.{renews_after, renews_none, unrisen}
 pub use Rattle.space_bank.specs.Banks.{AreCounted, BanksState}
 pub use Rattle.std.proofs.Common.{Bool, Err, List, None, Ok, Option, Result, Some, [], ap, append-nil, arith, false, inl, inr, length, length-set, map, not}
 pub use Rattle.std.proofs.Common.{refl, set, subst, suc, sym, true, zero, ℕ, ⊎_elim}
@@ -84,4 +85,4 @@ pub use Rattle.kernel.specs.Machine.{IsEarly, IsUnlooked, Performs, answer_of, a
 pub use Rattle.kernel.specs.Opening.{IsNoReason, IsSomeDown, Opens, Reopened, ReopensAs, refused_by}
 pub use Rattle.kernel.specs.Power.{Power, power_of}
 pub use Rattle.kernel.specs.Prepared.{refusal_by}
-pub use Rattle.kernel.specs.Standing.{HasCode, IsCaused, IsDeviceOf, IsSomeMachine, Serves, ServesFrom, ServesUp, Stands, disk_of, done_with, reported_code}
+pub use Rattle.kernel.specs.Standing.{HasCode, IsCaused, IsDeviceOf, IsSomeMachine, Serves, ServesFrom, ServesUp, Stands, disk_of, done_with}

@@ -1,10 +1,9 @@
 -- The outcome of a command over present frames, from what each part of it reported.
-use Rattle.kernel.proofs.Names.{ℕ, Bool, true, false, List, length, Option, Result, Ok, Err, refl, sym, ap, subst, ⊎_elim, arith, cases_lt, Answer, Refusal}
-use Rattle.kernel.proofs.Names.{Command, Invocation, Frame, Geometry, Object, ResultCode, ObjectHeader, frames_in, header_at, objects_of, IsSoundFrames}
-use Rattle.kernel.proofs.Names.{world_at, Frozen, Running, Saved, Machine, Up, renewing, touching, touched_count, is_free, Step, shown, content_at, is_process}
-use Rattle.kernel.proofs.Names.{is_running_process, none_given_up, renewing_none, Parts, Renews, frames_of, objects_in, keepable_count, IsErr, IsErrOf}
-use Rattle.kernel.proofs.Names.{InvokeFault, Invoked, Invokes, KeepsSoundFrames, TellsState, Failed, renews_after, renews_none, Performs, machine_at}
-use Rattle.kernel.proofs.Names.{renewed_by, refusal_by, ReadFault}
+use Rattle.kernel.proofs.Names.{ℕ, Bool, true, false, List, length, Option, Result, Ok, Err, refl, sym, ap, subst, arith, Answer, Refusal, Command, Invocation}
+use Rattle.kernel.proofs.Names.{Frame, Geometry, Object, ResultCode, ObjectHeader, frames_in, header_at, objects_of, IsSoundFrames, world_at, Frozen, Saved}
+use Rattle.kernel.proofs.Names.{Machine, Up, renewing, touching, touched_count, is_free, Step, shown, content_at, is_process, is_running_process, none_given_up}
+use Rattle.kernel.proofs.Names.{renewing_none, Parts, Renews, frames_of, objects_in, keepable_count, IsErr, IsErrOf, InvokeFault, Invoked, Invokes}
+use Rattle.kernel.proofs.Names.{KeepsSoundFrames, TellsState, Failed, renews_after, renews_none, Performs, machine_at, renewed_by, refusal_by, ReadFault}
 use Rattle.std.proofs.Common.{◌≡◌, ◌↔◌, ◌+◌, ◌^◌, ◌<◌, ◌≤◌, ◌∙◌}
 use Rattle.model.specs.declared.answer.Answer.TheVariants as answer
 use Rattle.model.specs.declared.answer.Refusal.TheVariants as refusal
@@ -20,7 +19,7 @@ pub record AreSame (old new : Parts) : Type 0 where
   pub touched : new.touched ≡ old.touched
   pub geometry : new.geometry ≡ old.geometry
 
-module _ (old new : Parts) (same : AreSame old new) where
+module _ {old new : Parts} (same : AreSame old new) where
   pub same_frames : frames_of new ≡ frames_of old
   same_frames = ap (λ (hs : List ObjectHeader). frames_in hs new.contents) same.headers ∙ ap (frames_in old.headers) same.contents
 
@@ -31,12 +30,8 @@ module _ (old new : Parts) (same : AreSame old new) where
 
   pub same_machine : (age : ℕ) (renewed : List Bool) (frozen : Option Frozen) (saved : Saved) (to_move : ℕ) →
       machine_at age new renewed frozen saved to_move ≡ machine_at age old renewed frozen saved to_move
-  same_machine age renewed frozen saved to_move =
-      ap (λ (fs : List Frame). let r : Running =
-      record { now = world_at age fs; touched = new.touched; renewed = renewed; frozen = frozen; saved = saved; to_move = to_move } in Up r) same_frames
-      ∙ ap (λ (ts : List Bool). let r : Running =
-      record { now = world_at age (frames_of old); touched = ts; renewed = renewed; frozen = frozen; saved = saved; to_move = to_move } in Up r)
-      same.touched
+  same_machine age renewed frozen saved to_move = λ k.
+      Up (record { now = world_at age (same_frames k); touched = same.touched k; renewed = renewed; frozen = frozen; saved = saved; to_move = to_move })
 
   -- nothing is given up
   pub same_renews : Renews old new
@@ -55,19 +50,17 @@ module _ (old new : Parts) (same : AreSame old new) where
       ap (λ (rs : List Bool). machine_at age new rs frozen saved to_move) (same_renewed renewed) ∙ same_machine age renewed frozen saved to_move
 
 -- a refusal that changes nothing
-pub refused_serves : (age : ℕ) (old new : Parts) (c : Command) (why : Refusal) → AreSame old new → IsSoundFrames old.geometry age (frames_of old) →
-    old.failures ≤ new.failures →
-    ((why ≡ refusal.Fault) ↔ (old.failures < new.failures)) →
+pub refused_serves : {age : ℕ} {old new : Parts} {c : Command} {why : Refusal} → AreSame old new → IsSoundFrames old.geometry age (frames_of old) →
+    old.failures ≤ new.failures → ((why ≡ refusal.Fault) ↔ (old.failures < new.failures)) →
     ((renewed : List Bool) (frozen : Option Frozen) (saved : Saved) (to_move : ℕ) → (why ≡ refusal.Fault → ⊥) →
     Step old.geometry (machine_at age old renewed frozen saved to_move) c (answer.Refused why) (machine_at age old renewed frozen saved to_move)) →
     Performs age old c (answer.Refused why) age new
-refused_serves age old new c why same sound later cause step = record {
+refused_serves {age} {old} {new} {c} {why} same sound later cause step = record {
   step = λ renewed frozen saved to_move other.
       subst (λ (m : Machine). Step old.geometry (machine_at age old renewed frozen saved to_move) c (answer.Refused why) m)
-      (sym (still_machine old new same age renewed frozen saved to_move))
-      (step renewed frozen saved to_move (λ e. other (ap answer.Refused e)));
-  renews = same_renews old new same;
-  sound = same_sound old new same age sound;
+      (sym (still_machine same age renewed frozen saved to_move)) (step renewed frozen saved to_move (λ e. other (ap answer.Refused e)));
+  renews = same_renews same;
+  sound = same_sound same age sound;
   geometry = same.geometry;
   later = later;
   cause = (λ e. let f : why ≡ refusal.Fault = cc in cause.0 f, λ rose. ap answer.Refused (cause.1 rose));
@@ -77,24 +70,16 @@ refused_serves age old new c why same sound later cause step = record {
 pub reported_cause : (why : Refusal) {X : Type 0} → (why ≡ refusal.Fault → ⊥) → (X → ⊥) → (why ≡ refusal.Fault) ↔ X
 reported_cause why other stayed = (λ e. absurd (other e), λ x. absurd (stayed x))
 
--- a count that neither fell nor rose is the same
-pub unfailed : (m n : ℕ) → m ≤ n → (m < n → ⊥) → n ≡ m
-unfailed m n later stayed = ⊎_elim (λ (rose : m < n). absurd (stayed rose)) (λ (within : n ≤ m). omega arith) (cases_lt m n)
-
 -- what is answered after a read-only call is answered before it
-pub serves_looked : (age after : ℕ) (old mid new : Parts) (c : Command) (a : Answer) → AreSame old mid → mid.failures ≡ old.failures →
+pub serves_looked : {age after : ℕ} {old mid new : Parts} {c : Command} {a : Answer} → AreSame old mid → mid.failures ≡ old.failures →
     Performs age mid c a after new → Performs age old c a after new
-serves_looked age after old mid new c a same failures serves = record {
+serves_looked {age} {after} {old} {mid} {new} {c} {a} same failures serves = record {
   step = λ renewed frozen saved to_move other.
-      subst (λ (g : Geometry). Step g (machine_at age old renewed frozen saved to_move) c a
-      (machine_at after new (renewed_by renewed old new) frozen saved to_move)) same.geometry
-      (subst (λ (m : Machine). Step mid.geometry m c a (machine_at after new (renewed_by renewed old new) frozen saved to_move))
-      (same_machine old mid same age renewed frozen saved to_move)
-      (subst (λ (fs : List Frame). Step mid.geometry (machine_at age mid renewed frozen saved to_move) c a
-      (machine_at after new (renewing renewed (objects_of fs) (objects_in new)) frozen saved to_move)) (same_frames old mid same)
-      (serves.step renewed frozen saved to_move other)));
+      subst (λ (X : Type 0). X) (λ k. Step (same.geometry k) (same_machine same age renewed frozen saved to_move k) c a
+      (machine_at after new (renewing renewed (objects_of (same_frames same k)) (objects_in new)) frozen saved to_move))
+      (serves.step renewed frozen saved to_move other);
   renews = renews_after old mid new (λ n. ap (λ (hs : List ObjectHeader). (header_at hs n).allocations) same.headers)
-      (λ n. ap (λ (fs : List Frame). is_free (content_at (objects_of fs) n)) (same_frames old mid same)) serves.renews;
+      (λ n. ap (λ (fs : List Frame). is_free (content_at (objects_of fs) n)) (same_frames same)) serves.renews;
   sound = serves.sound;
   geometry = serves.geometry ∙ same.geometry;
   later = subst (λ (n : ℕ). n ≤ new.failures) failures serves.later;
@@ -106,22 +91,14 @@ standing age renewed frozen saved to_move os ts = Up
     (record { now = record { objects = os; age = age }; touched = ts; renewed = renewed; frozen = frozen; saved = saved; to_move = to_move })
 
 -- an invocation that was carried out
-pub done_serves : (age : ℕ) (old new : Parts) (i : Invocation) → age < 2 ^ 62 → is_process (objects_in old) i.process ≡ true →
+done_serves : {age : ℕ} {old new : Parts} {i : Invocation} → age < 2 ^ 62 → is_process (objects_in old) i.process ≡ true →
     is_running_process (objects_in old) i.process ≡ true → IsSoundFrames old.geometry age (frames_of old) →
     Invokes old.geometry i (objects_in old) old.touched (objects_in new) new.touched → KeepsSoundFrames old new → Renews old new → new.geometry ≡ old.geometry →
     old.failures ≤ new.failures → (old.failures < new.failures → ⊥) → Performs age old (command.Invoke i) answer.Done (age + 1) new
-done_serves age old new i young process running sound invokes keeps renews geometry later stayed = record {
+done_serves {age} {old} {new} {i} young process running sound invokes keeps renews geometry later stayed = record {
   step = λ renewed frozen saved to_move other.
-      let s : Running = record {
-        now = world_at age (frames_of old);
-        touched = old.touched;
-        renewed = renewed;
-        frozen = frozen;
-        saved = saved;
-        to_move = to_move;
-      } in
-      subst (Step old.geometry (Up s) (command.Invoke i) answer.Done) (made renewed frozen saved to_move)
-      (invoke_step old.geometry s i process running young invokes.0 invokes.1
+      subst (Step old.geometry (machine_at age old renewed frozen saved to_move) (command.Invoke i) answer.Done) (made renewed frozen saved to_move)
+      (invoke_step old.geometry _ i process running young invokes.0 invokes.1
       (subst (λ (ts : List Bool). touched_count ts ≤ old.geometry.log) invokes.3 invokes.4));
   renews = renews;
   sound = subst (λ (g : Geometry). IsSoundFrames g (age + 1) (frames_of new)) (sym geometry) (keeps age young sound);
@@ -134,17 +111,14 @@ done_serves age old new i young process running sound invokes keeps renews geome
         standing (age + 1) (renewing renewed (objects_in old) invokes.0.objects) frozen saved to_move invokes.0.objects (touching old.touched invokes.0.written)
         ≡ machine_at (age + 1) new (renewed_by renewed old new) frozen saved to_move
     made renewed frozen saved to_move =
-        ap (λ (os : List Object). standing (age + 1) (renewing renewed (objects_in old) os) frozen saved to_move os (touching old.touched invokes.0.written))
-        (sym invokes.2)
-        ∙ ap (standing (age + 1) (renewed_by renewed old new) frozen saved to_move (objects_in new)) (sym invokes.3)
+        λ k. standing (age + 1) (renewing renewed (objects_in old) (sym invokes.2 k)) frozen saved to_move (sym invokes.2 k) (sym invokes.3 k)
 
 -- what is answered where there is no process
 pub no_process_serves : (p : Parts) (age : ℕ) (i : Invocation) → IsSoundFrames p.geometry age (frames_of p) → is_process (objects_in p) i.process ≡ false →
     Performs age p (command.Invoke i) (answer.Refused refusal.NoProcess) age p
 no_process_serves p age i sound none =
-    refused_serves age p p (command.Invoke i) refusal.NoProcess (record { headers = refl; contents = refl; touched = refl; geometry = refl }) sound
-    (omega arith)
-    (reported_cause refusal.NoProcess (λ e. cc) (λ rose. absurd (omega (arith, rose))))
+    refused_serves (record { headers = refl; contents = refl; touched = refl; geometry = refl }) sound
+    (omega arith) (reported_cause refusal.NoProcess (λ e. cc) (λ rose. absurd (omega (arith, rose))))
     (λ renewed frozen saved to_move other. early_step p.geometry _ i fault.NoProcess none)
 
 -- what is answered to an invocation that wasn't carried out
@@ -161,7 +135,7 @@ module _ {S : Type 0} (parts : S → Parts) (Continues : S → S → Type 0) (ag
         (machine_at age (parts old) renewed frozen saved to_move)) →
         Performs age (parts old) (command.Invoke i) (answer.Refused why) age (parts new)
     refused why same step =
-        refused_serves age (parts old) (parts new) (command.Invoke i) why unchanged sound said.later (
+        refused_serves unchanged sound said.later (
           λ e. said.cause.0 (ap (λ (k : InvokeFault). let r : Result (Option ResultCode) InvokeFault = Err k in r) (same.0 e)),
           λ rose. let failed = said.cause.1 rose in same.1 cc,
         ) step
@@ -180,15 +154,13 @@ module _ {S : Type 0} (parts : S → Parts) (Continues : S → S → Type 0) (ag
       (λ renewed frozen saved to_move other. full_step (parts old).geometry _ i process tells young over.0 over.1 over.2)
   fault_serves fault.Failed tells said =
       refused fault.Failed said refusal.Fault (λ e. refl, λ e. refl) (λ renewed frozen saved to_move other. absurd (other refl))
-  fault_serves fault.NoProcess tells said = absurd tells
-  fault_serves fault.Worn tells said = absurd tells
+  fault_serves c tells said = absurd tells
 
   -- and to one that was
   pub invoked_serves : (code : Option ResultCode) → TellsState (objects_in (parts old)) i (Ok code) → Invoked parts Continues old new i (Ok code) →
       Performs age (parts old) (command.Invoke i) answer.Done (age + 1) (parts new)
   invoked_serves code runs said =
-      done_serves age (parts old) (parts new) i young process runs sound said.done said.sound said.renews said.geometry said.later
-      (λ rose. let failed = said.cause.1 rose in cc)
+      done_serves young process runs sound said.done said.sound said.renews said.geometry said.later (λ rose. let failed = said.cause.1 rose in cc)
 
 -- what is shown of an object
 pub shown_serves : (age : ℕ) (old new : Parts) (n : ℕ) (a : Answer) → n < length old.headers → AreSame old new →
@@ -197,10 +169,10 @@ pub shown_serves : (age : ℕ) (old new : Parts) (n : ℕ) (a : Answer) → n < 
 shown_serves age old new n a known same sound reported later stayed = record {
   step = λ renewed frozen saved to_move other.
       subst (λ (m : Machine). Step old.geometry (machine_at age old renewed frozen saved to_move) (command.Show n) a m)
-      (sym (still_machine old new same age renewed frozen saved to_move))
+      (sym (still_machine same age renewed frozen saved to_move))
       (show_step old.geometry _ n (subst (λ (m : ℕ). n < m) (keepable_count old.geometry age old sound.keepable) known) a reported);
-  renews = same_renews old new same;
-  sound = same_sound old new same age sound;
+  renews = same_renews same;
+  sound = same_sound same age sound;
   geometry = same.geometry;
   later = later;
   cause = (λ e. let d : shown (objects_in old) n ≡ answer.Refused refusal.Fault = sym reported ∙ e in cc, λ rose. absurd (stayed rose));
@@ -211,15 +183,14 @@ module _ (age : ℕ) (old new : Parts) (n : ℕ) (same : AreSame old new) (sound
   pub bad_number_serves : length old.headers ≤ n → (old.failures < new.failures → ⊥) → Performs age old (command.Show n) (answer.Refused refusal.BadNumber) age
       new
   bad_number_serves past stayed =
-      refused_serves age old new (command.Show n) refusal.BadNumber same sound later (reported_cause refusal.BadNumber (λ e. cc) stayed)
+      refused_serves same sound later (reported_cause refusal.BadNumber (λ e. cc) stayed)
       (λ renewed frozen saved to_move other. bad_number_step old.geometry _ n
       (subst (λ (m : ℕ). m ≤ n) (keepable_count old.geometry age old sound.keepable) past))
 
   pub show_no_memory_serves : n < length old.headers → (old.failures < new.failures → ⊥) → Performs age old (command.Show n) (answer.Refused refusal.NoMemory)
       age new
   show_no_memory_serves known stayed =
-      refused_serves age old new (command.Show n) refusal.NoMemory same sound later (reported_cause refusal.NoMemory (λ e. cc) stayed)
-      (λ renewed frozen saved to_move other. show_no_memory old.geometry _ n
+      refused_serves same sound later (reported_cause refusal.NoMemory (λ e. cc) stayed) (λ renewed frozen saved to_move other. show_no_memory old.geometry _ n
       (subst (λ (m : ℕ). n < m) (keepable_count old.geometry age old sound.keepable) known))
 
 -- what a fault of a read isn't

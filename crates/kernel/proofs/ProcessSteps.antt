@@ -36,45 +36,39 @@ module _ (g : Geometry) (s : Running) (i : Invocation) where
   unfolding refusal_of
   refusal_is = refl
 
-  by : (a b c : Bool) (o : Option Effect) → is_process s.now.objects i.process ≡ a → is_running_process s.now.objects i.process ≡ b →
+  by : {a b c : Bool} {o : Option Effect} → is_process s.now.objects i.process ≡ a → is_running_process s.now.objects i.process ≡ b →
       nat_lt s.now.age (2 ^ 62) ≡ c →
       invoke g s.now.objects i ≡ o → refusal_of g s (command.Invoke i) ≡ in_order a b c o
-  by a b c o as_a as_b as_c as_o =
-      refusal_is
-      ∙ ap (λ (x : Bool). in_order x (is_running_process s.now.objects i.process) (nat_lt s.now.age (2 ^ 62)) (invoke g s.now.objects i)) as_a
-      ∙ ap (λ (x : Bool). in_order a x (nat_lt s.now.age (2 ^ 62)) (invoke g s.now.objects i)) as_b
-      ∙ ap (λ (x : Bool). in_order a b x (invoke g s.now.objects i)) as_c
-      ∙ ap (in_order a b c) as_o
+  by as_a as_b as_c as_o = refusal_is ∙ (λ k. in_order (as_a k) (as_b k) (as_c k) (as_o k))
 
   -- a process that can't act
   pub early_step : (why : InvokeFault) → IsEarly s.now.objects i.process (Some why) →
       Step g (Up s) (command.Invoke i) (answer.Refused (refusal_by why)) (Up s)
   early_step fault.NoProcess early =
-      refused_step g s (command.Invoke i) refusal.NoProcess
-      (by false (is_running_process s.now.objects i.process) (nat_lt s.now.age (2 ^ 62)) (invoke g s.now.objects i) early refl refl refl)
+      refused_step g s (command.Invoke i) refusal.NoProcess (by early refl refl refl)
   early_step fault.NotRunning early =
-      refused_step g s (command.Invoke i) refusal.NotRunning (by true false (nat_lt s.now.age (2 ^ 62)) (invoke g s.now.objects i) early.0 early.1 refl refl)
+      refused_step g s (command.Invoke i) refusal.NotRunning (by early.0 early.1 refl refl)
   early_step _ early = absurd early
 
   module _ (process : is_process s.now.objects i.process ≡ true) (running : is_running_process s.now.objects i.process ≡ true) where
     pub worn_step : 2 ^ 62 ≤ s.now.age → Step g (Up s) (command.Invoke i) (answer.Refused refusal.Worn) (Up s)
     worn_step old =
         let past : nat_lt s.now.age (2 ^ 62) ≡ false = grind (arith, nat_tests) in
-        refused_step g s (command.Invoke i) refusal.Worn (by true true false (invoke g s.now.objects i) process running past refl)
+        refused_step g s (command.Invoke i) refusal.Worn (by process running past refl)
 
     module _ (young : s.now.age < 2 ^ 62) where
       test_young : nat_lt s.now.age (2 ^ 62) ≡ true
       test_young = grind (arith, nat_tests)
 
       pub stalled_step : invoke g s.now.objects i ≡ None → Step g (Up s) (command.Invoke i) (answer.Refused refusal.Stalled) (Up s)
-      stalled_step none = refused_step g s (command.Invoke i) refusal.Stalled (by true true true None process running test_young none)
+      stalled_step none = refused_step g s (command.Invoke i) refusal.Stalled (by process running test_young none)
 
       pub full_step : (e : Effect) → invoke g s.now.objects i ≡ Some e → g.log < touched_count (touching s.touched e.written) →
           Step g (Up s) (command.Invoke i) (answer.Refused refusal.LogFull) (Up s)
       full_step e is over =
           let overfull : overfills g s.touched e.written ≡ true = grind (arith, nat_tests) in
           refused_step g s (command.Invoke i) refusal.LogFull
-          (by true true true (Some e) process running test_young is ∙ ap (λ (b : Bool). unless (not b) refusal.LogFull None) overfull)
+          (by process running test_young is ∙ ap (λ (b : Bool). unless (not b) refusal.LogFull None) overfull)
 
       abbrev after_invoking : Option Effect → Outcome
       after_invoking o = elim o [
@@ -93,10 +87,8 @@ module _ (g : Geometry) (s : Running) (i : Invocation) where
           Step g (Up s) (command.Invoke i) answer.Done (Up (writing s e.objects (s.now.age + 1) e.written (renewing s.renewed s.now.objects e.objects)))
       invoke_step e is within =
           let fits : overfills g s.touched e.written ≡ false = grind (arith, nat_tests) in
-          done_step g s (command.Invoke i) answer.Done _
-          (by true true true (Some e) process running test_young is ∙ ap (λ (b : Bool). unless (not b) refusal.LogFull None) fits)
-          (sym (ap (λ (o : Outcome). o.answer) (done_by_effect e is)))
-          (sym (ap (λ (o : Outcome). Up o.after) (done_by_effect e is)))
+          done_step g s (command.Invoke i) answer.Done _ (by process running test_young is ∙ ap (λ (b : Bool). unless (not b) refusal.LogFull None) fits)
+          (sym (ap (λ (o : Outcome). o.answer) (done_by_effect e is))) (sym (ap (λ (o : Outcome). Up o.after) (done_by_effect e is)))
 
 -- show
 module _ (g : Geometry) (s : Running) (n : ℕ) where

@@ -35,8 +35,7 @@ module _ (base : List Frame) (p q : Parts) (renews : Renews p q) (risen : (n : �
 
   rises : (n : ℕ) → allocations_at (frames_of q) n ≡ allocations_at (frames_of p) n + (if gone n then 1 else 0)
   rises n =
-      ap (λ (h : ObjectHeader). h.allocations) (header_in q.headers q.contents n)
-      ∙ (renews.each n
+      ap (λ (h : ObjectHeader). h.allocations) (header_in q.headers q.contents n) ∙ (renews.each n
       ∙ ap (λ (h : ObjectHeader). h.allocations + (if gone n then 1 else 0)) (sym (header_in p.headers p.contents n)))
 
   pub risen_on : (n : ℕ) → allocations_at base n ≤ allocations_at (frames_of q) n
@@ -50,12 +49,10 @@ module _ (base : List Frame) (p q : Parts) (renews : Renews p q) (risen : (n : �
       let test : ℕ → Bool = λ n. slice_index_or before n false || gone n in
       let count = length-map-range_with_len test 0 (length before) in
       let size = renewed_length base (frames_of p) in
-      ext_get_or false (map test (range_with_len 0 (length before))) after (count ∙ (size ∙ sym (renewed_length base (frames_of q))))
-      (λ n inside.
+      ext_get_or false (map test (range_with_len 0 (length before))) after (count ∙ (size ∙ sym (renewed_length base (frames_of q)))) (λ n inside.
       let within : n < length before = omega (arith, inside, count) in
       let known : n < length base = omega (arith, within, size) in
-      get_or-map-range_with_len test 0 (length before) n n false within (omega arith)
-      ∙ (ap (λ (b : Bool). b || gone n) (renewed_at base (frames_of p) n known)
+      get_or-map-range_with_len test 0 (length before) n n false within (omega arith) ∙ (ap (λ (b : Bool). b || gone n) (renewed_at base (frames_of p) n known)
       ∙ (differs (gone n) (allocations_at base n) (allocations_at (frames_of p) n) (allocations_at (frames_of q) n) (risen n) (rises n)
       ∙ sym (renewed_at base (frames_of q) n known))))
 

@@ -1,8 +1,8 @@
 -- What is sound stays sound through each stage of a checkpoint.
 use Rattle.kernel.proofs.Names.{ℕ, Bool, true, false, Option, None, Some, List, refl, sym, ap, subst, arith, option_map, Frame, Geometry, frames_in, objects_of}
-use Rattle.kernel.proofs.Names.{AreKeepable, IsSoundFrames, world_at, Running, IsSound, Snapshots, freezing, moved_saved, next_saved, all_frozen, whole}
-use Rattle.kernel.proofs.Names.{at_home, moved, Parts, Renews, frames_of, objects_in, keepable_later, most, SavedFrames, home_saved, FrozenFrames, stabilized}
-use Rattle.kernel.proofs.Names.{AreCounted, BanksState, saved_of, IsSoundSaved, AreSoundTogether, IsSoundFrozen, base_of, frozen_of, renewed_since, running_of}
+use Rattle.kernel.proofs.Names.{AreKeepable, IsSoundFrames, world_at, IsSound, Snapshots, freezing, moved_saved, next_saved, all_frozen, whole, at_home, moved}
+use Rattle.kernel.proofs.Names.{Parts, Renews, frames_of, objects_in, keepable_later, most, SavedFrames, home_saved, FrozenFrames, stabilized, AreCounted}
+use Rattle.kernel.proofs.Names.{BanksState, saved_of, IsSoundSaved, AreSoundTogether, IsSoundFrozen, base_of, frozen_of, renewed_since, running_of}
 use Rattle.kernel.proofs.Names.{allocations_at, base_frozen}
 use Rattle.std.proofs.Common.{◌≡◌, ◌+◌, ◌-◌, ◌^◌, ◌<◌, ◌≤◌, ◌∙◌}
 use Rattle.std.specs.Prelude.{◌==◌, if◌then◌else◌}
@@ -42,53 +42,41 @@ frames_later g age later fs le within f = record {
 -- sound frames can be put out and read back
 pub keepable_most : (g : Geometry) (p : Parts) (age : ℕ) → p.geometry ≡ g → IsSoundFrames g age (frames_of p) → AreKeepable p.geometry most (frames_of p)
 keepable_most g p age same f =
-    subst (λ (h : Geometry). AreKeepable h most (frames_of p)) (sym same)
-    (keepable_later g age most (frames_of p) (omega (arith, f.sound.age)) f.keepable)
+    subst (λ (h : Geometry). AreKeepable h most (frames_of p)) (sym same) (keepable_later g age most (frames_of p) (omega (arith, f.sound.age)) f.keepable)
 
 -- ---- the same objects
 
 pub frames_again : (p q : Parts) → q.headers ≡ p.headers → q.contents ≡ p.contents → frames_of q ≡ frames_of p
 frames_again p q headers contents = ap (λ hs. frames_in hs q.contents) headers ∙ ap (frames_in p.headers) contents
 
-module _ (g : Geometry) (p q : Parts) (same : AreSame p q) (a b : Snapshots FrozenFrames) (beside : b ≡ a) where
+module _ {p q : Parts} (same : AreSame p q) {a b : Snapshots FrozenFrames} (beside : b ≡ a) where
   pub same_running : (age frozen_age : ℕ) → running_of q b age frozen_age ≡ running_of p a age frozen_age
-  same_running age frozen_age =
-      ap (λ (x : Snapshots FrozenFrames). running_of q x age frozen_age) beside
-      ∙ ap (λ (fs : List Frame). let r : Running =
-      record {
-        now = world_at age fs;
-        touched = q.touched;
-        renewed = renewed_since (base_of a) fs;
-        frozen = frozen_of frozen_age a.frozen;
-        saved = saved_of a.saved;
-        to_move = a.to_move;
-      } in r) (same_frames p q same)
-      ∙ ap (λ (ts : List Bool). let r : Running =
-      record {
-        now = world_at age (frames_of p);
-        touched = ts;
-        renewed = renewed_since (base_of a) (frames_of p);
-        frozen = frozen_of frozen_age a.frozen;
-        saved = saved_of a.saved;
-        to_move = a.to_move;
-      } in r) same.touched
+  same_running age frozen_age = λ k. record {
+    now = world_at age (same_frames same k);
+    touched = same.touched k;
+    renewed = renewed_since (base_of (beside k)) (same_frames same k);
+    frozen = frozen_of frozen_age (beside k).frozen;
+    saved = saved_of (beside k).saved;
+    to_move = (beside k).to_move;
+  }
 
-  pub stays_sound : (banks : BanksState) (age frozen_age : ℕ) → AreSoundTogether g p a banks age frozen_age → AreSoundTogether g q b banks age frozen_age
-  stays_sound banks age frozen_age s = subst (λ (x : Snapshots FrozenFrames). AreSoundTogether g q x banks age frozen_age) (sym beside) (record {
+  pub stays_sound : {g : Geometry} {banks : BanksState} {age frozen_age : ℕ} → AreSoundTogether g p a banks age frozen_age →
+      AreSoundTogether g q b banks age frozen_age
+  stays_sound {g} {banks} {age} {frozen_age} s = subst (λ (x : Snapshots FrozenFrames). AreSoundTogether g q x banks age frozen_age) (sym beside) (record {
     geometry = same.geometry ∙ s.geometry;
-    now = subst (λ (fs : List Frame). IsSoundFrames g age fs) (sym (same_frames p q same)) s.now;
-    counted = subst (λ (fs : List Frame). AreCounted g (objects_of fs) banks) (sym (same_frames p q same)) s.counted;
+    now = subst (λ (fs : List Frame). IsSoundFrames g age fs) (sym (same_frames same)) s.now;
+    counted = subst (λ (fs : List Frame). AreCounted g (objects_of fs) banks) (sym (same_frames same)) s.counted;
     frozen = s.frozen;
     saved = s.saved;
     order = s.order;
-    risen = λ n. subst (λ (fs : List Frame). allocations_at (base_of a) n ≤ allocations_at fs n) (sym (same_frames p q same)) (s.risen n);
+    risen = λ n. subst (λ (fs : List Frame). allocations_at (base_of a) n ≤ allocations_at fs n) (sym (same_frames same)) (s.risen n);
   })
 
 -- other objects, at an age that didn't fall
-pub acts_sound : (g : Geometry) (p q : Parts) (a b : Snapshots FrozenFrames) (old_banks banks : BanksState) (old_age age frozen_age : ℕ) → b ≡ a →
+pub acts_sound : {g : Geometry} {p q : Parts} {a b : Snapshots FrozenFrames} {old_banks banks : BanksState} {old_age age frozen_age : ℕ} → b ≡ a →
     old_age ≤ age → q.geometry ≡ g → Renews p q → IsSoundFrames g age (frames_of q) →
     AreCounted g (objects_in q) banks → AreSoundTogether g p a old_banks old_age frozen_age → AreSoundTogether g q b banks age frozen_age
-acts_sound g p q a b old_banks banks old_age age frozen_age beside later geometry renews now counted s = subst
+acts_sound {g} {p} {q} {a} {b} {old_banks} {banks} {old_age} {age} {frozen_age} beside later geometry renews now counted s = subst
     (λ (x : Snapshots FrozenFrames). AreSoundTogether g q x banks age frozen_age) (sym beside) (record {
       geometry = geometry;
       now = now;
@@ -101,7 +89,7 @@ acts_sound g p q a b old_banks banks old_age age frozen_age beside later geometr
 
 -- ---- stages
 
-module _ (g : Geometry) (p : Parts) (a : Snapshots FrozenFrames) (banks : BanksState) (age frozen_age : ℕ) (s : AreSoundTogether g p a banks age frozen_age)
+module _ {g : Geometry} {p : Parts} {a : Snapshots FrozenFrames} {banks : BanksState} {age frozen_age : ℕ} (s : AreSoundTogether g p a banks age frozen_age)
   where
     -- all is frozen, one age later
     pub begun_sound : (q : Parts) (n : ℕ) → q.geometry ≡ p.geometry → frames_of q ≡ frames_of p → age < 2 ^ 62 →

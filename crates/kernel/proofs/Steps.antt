@@ -38,40 +38,35 @@ module _ (g : Geometry) (s : Running) where
   unfolding refusal_of
   begun_is = refl
 
-  begun_by : (young : Bool) (frozen : Option Frozen) (home : Bool) → nat_lt s.now.age (2 ^ 62) ≡ young → s.frozen ≡ frozen → (s.saved.entries == 0) ≡ home →
+  begun_by : {young : Bool} {frozen : Option Frozen} {home : Bool} → nat_lt s.now.age (2 ^ 62) ≡ young → s.frozen ≡ frozen → (s.saved.entries == 0) ≡ home →
       refusal_of g s command.Checkpoint ≡ begun young frozen home
-  begun_by young frozen home is_young is_frozen is_home =
-      begun_is
-      ∙ ap (λ (b : Bool). begun b s.frozen (s.saved.entries == 0)) is_young
-      ∙ ap (λ (o : Option Frozen). begun young o (s.saved.entries == 0)) is_frozen
-      ∙ ap (begun young frozen) is_home
+  begun_by is_young is_frozen is_home = begun_is ∙ (λ k. begun (is_young k) (is_frozen k) (is_home k))
 
   pub worn : 2 ^ 62 ≤ s.now.age → refusal_of g s command.Checkpoint ≡ Some refusal.Worn
   worn old =
       let past : nat_lt s.now.age (2 ^ 62) ≡ false = grind (arith, nat_tests) in
-      begun_by false s.frozen (s.saved.entries == 0) past refl refl
+      begun_by past refl refl
 
   module _ (young : s.now.age < 2 ^ 62) where
     is_young : nat_lt s.now.age (2 ^ 62) ≡ true
     is_young = grind (arith, nat_tests)
 
     pub running_already : (f : Frozen) → s.frozen ≡ Some f → refusal_of g s command.Checkpoint ≡ Some refusal.CheckpointRunning
-    running_already f is = begun_by true (Some f) (s.saved.entries == 0) is_young is refl
+    running_already f is = begun_by is_young is refl
 
     pub not_home : s.frozen ≡ None → (s.saved.entries ≡ 0 → ⊥) → refusal_of g s command.Checkpoint ≡ Some refusal.MigrationPending
     not_home none more =
         let away : (s.saved.entries == 0) ≡ false = grind (arith, nat_tests) in
-        begun_by true None false is_young none away
+        begun_by is_young none away
 
-    pub checkpoint_step : s.frozen ≡ None → s.saved.entries ≡ 0 →
-        (let now : World = record { objects = s.now.objects; age = s.now.age + 1 } in
+    pub checkpoint_step : s.frozen ≡ None → s.saved.entries ≡ 0 → (let now : World = record { objects = s.now.objects; age = s.now.age + 1 } in
         let f : Frozen = record { world = now; size = touched_count s.touched; left = touched_count s.touched } in
         Step g (Up s) command.Checkpoint (answer.Frozen (touched_count s.touched))
         (Up (record { now = now; touched = untouched g; renewed = untouched g; frozen = Some f; saved = s.saved; to_move = s.to_move })))
     unfolding carried_out
     checkpoint_step none home =
         let there : (s.saved.entries == 0) ≡ true = grind (arith, nat_tests) in
-        done_step g s command.Checkpoint _ _ (begun_by true None true is_young none there) refl refl
+        done_step g s command.Checkpoint _ _ (begun_by is_young none there) refl refl
 
   -- ---- and goes on
   pub none_to_stabilize : (n : ℕ) → s.frozen ≡ None → refusal_of g s (command.Stabilize n) ≡ Some refusal.NoCheckpoint
@@ -100,8 +95,7 @@ module _ (g : Geometry) (s : Running) where
       Step g (Up s) (command.Stabilize n) (answer.Left (f.left - n)) (Up (with_frozen s (Some (record { world = f.world; size = f.size; left = f.left - n }))))
   stabilize_step n f is =
       subst (λ (o : Option Frozen). Step g (Up (with_frozen s o)) (command.Stabilize n) (answer.Left (f.left - n))
-      (Up (with_frozen s (Some (record { world = f.world; size = f.size; left = f.left - n })))))
-      (sym is) (stabilize_with n f)
+      (Up (with_frozen s (Some (record { world = f.world; size = f.size; left = f.left - n }))))) (sym is) (stabilize_with n f)
 
   commit_with : (f : Frozen) → f.left ≡ 0 →
       Step g (Up (with_frozen s (Some f))) command.Commit (answer.Committed (s.saved.generation + 1))

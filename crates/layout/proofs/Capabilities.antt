@@ -29,15 +29,7 @@ fields_number t a k h ft fa fk fh =
 
 tag_fits : (k : Capability) → tag_of k < 256
 tag_fits Void = omega arith
-tag_fits (Number n) = omega arith
-tag_fits (Page o a) = omega arith
-tag_fits (Node o a) = omega arith
-tag_fits (Space o h a) = omega arith
-tag_fits (Process p) = omega arith
-tag_fits (Start p key) = omega arith
-tag_fits (Resume p) = omega arith
-tag_fits (Bank b) = omega arith
-tag_fits Discrim = omega arith
+tag_fits other = omega arith
 
 head_is : (k : Capability) → HeadFits k → head_bytes k ≡ number (head_number k)
 unfolding head_bytes
@@ -94,15 +86,12 @@ follows_fits g age count Discrim f =
 assembled_again : (k : Capability) (tag bits key height n : ℕ) → tag ≡ tag_of k → bits ≡ access_bits k → key ≡ key_of k → height ≡ height_of k → n ≡ number_of k
     → assembled tag (record { 0 = bits }) key height n ≡ k
 assembled_again Void tag bits key height n et eb ek eh en = rw (et) refl
-assembled_again (Number m) tag bits key height n et eb ek eh en = rw (et, en) refl
 assembled_again (Page o a) tag bits key height n et eb ek eh en = rw (et, eb, en) refl
 assembled_again (Node o a) tag bits key height n et eb ek eh en = rw (et, eb, en) refl
 assembled_again (Space o h a) tag bits key height n et eb ek eh en = rw (et, eb, eh, en) refl
-assembled_again (Process p) tag bits key height n et eb ek eh en = rw (et, en) refl
 assembled_again (Start p k) tag bits key height n et eb ek eh en = rw (et, ek, en) refl
-assembled_again (Resume p) tag bits key height n et eb ek eh en = rw (et, en) refl
-assembled_again (Bank b) tag bits key height n et eb ek eh en = rw (et, en) refl
 assembled_again Discrim tag bits key height n et eb ek eh en = rw (et) refl
+assembled_again other tag bits key height n et eb ek eh en = rw (et, en) refl
 
 -- the fields of a head
 head_parts : (t a k h : ℕ) → t < 256 → a < 256 → k < 65536 → h < 256 →

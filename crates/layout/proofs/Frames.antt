@@ -72,11 +72,7 @@ mid_put a k xs ys = sym (append_assoc (take a xs) ys (drop k (drop a xs))) ∙ a
 role_bytes : (r : Role) → role_number r ∷ zeros 7 ≡ number (role_number r)
 unfolding zeros number
 role_bytes role.Free = refl
-role_bytes role.Page = refl
-role_bytes role.Node = refl
-role_bytes role.Root = refl
-role_bytes role.Annex = refl
-role_bytes role.Bank = refl
+role_bytes other = refl
 
 pub front_bytes_are : (h : ObjectHeader) → front_bytes h ≡ front_numbers (role_number h.role) h
 unfolding front_bytes front_numbers
@@ -120,8 +116,7 @@ slots_put old mid new caps k few len size is put =
 
 state_again : (s : State) → state_in (state_number s) ≡ s
 state_again Available = refl
-state_again Running = refl
-state_again Waiting = refl
+state_again other = refl
 
 abbrev root_of : State → List ℕ → ℕ → ℕ → Cap → Root Cap
 root_of s ws key annex space = record { state = s; words = ws; key = key; annex = annex; space = space }
@@ -139,20 +134,13 @@ root_again s (a ∷ b ∷ c ∷ d ∷ []) key annex space len fits =
 root_again s (a ∷ b ∷ c ∷ d ∷ e ∷ ws) key annex space len fits = absurd (omega (arith, len))
 
 pub content_again : (c : Content Cap) → FollowsRole c → content_of (body_in (role_number (role_of c)) (slots_of c)) (slots_of c) [] ≡ c
-content_again content.Free f = refl
 content_again (content.Page words) f = absurd f
-content_again (content.Node slots) f = refl
 content_again (content.Root r) f = ap (λ (x : Root Cap). content.Root x) (root_again r.state r.words r.key r.annex r.space f.0 f.1)
-content_again (content.Annex registers) f = refl
-content_again (content.Bank limit) f = refl
+content_again other f = refl
 
 pub role_again : (r : Role) → role_in (role_number r) ≡ r
 role_again role.Free = refl
-role_again role.Page = refl
-role_again role.Node = refl
-role_again role.Root = refl
-role_again role.Annex = refl
-role_again role.Bank = refl
+role_again other = refl
 
 -- ---- reading
 
@@ -205,11 +193,7 @@ same_front r r' n a c o n' a' c' o' e is is' =
 
 pub role_fits : (r : Role) → role_number r < 2 ^ 64
 role_fits role.Free = omega arith
-role_fits role.Page = omega arith
-role_fits role.Node = omega arith
-role_fits role.Root = omega arith
-role_fits role.Annex = omega arith
-role_fits role.Bank = omega arith
+role_fits other = omega arith
 
 pub front_reported : (age role : ℕ) (h : ObjectHeader) (f : Frame) (x y : List ℕ) → AllFit (front_list role h) → h.role ≡ role_in role → IsFront age f
     → front_numbers role h ++ x ≡ front_numbers (role_number f.header.role) f.header ++ y → (role ≡ role_number (role_of f.content)) × (h ≡ f.header)
@@ -251,12 +235,8 @@ body_reported f role h slots age read follows front =
 
 -- of a body at a node's number the words don't matter
 same_content : (b : Body) (slots : List Cap) (words : List ℕ) → FollowsRole (content_of b slots []) → content_of b slots [] ≡ content_of b slots words
-same_content body.Free slots words f = refl
 same_content body.Page slots words f = absurd f
-same_content body.Node slots words f = refl
-same_content (body.Root root) slots words f = refl
-same_content body.Annex slots words f = refl
-same_content (body.Bank limit) slots words f = refl
+same_content other slots words f = refl
 
 pub any_words : (role owner : ℕ) (b : Body) (slots : List Cap) (words : List ℕ) → IsBody role owner slots (content_of b slots []) →
     IsBody role owner slots (content_of b slots words)
@@ -315,10 +295,7 @@ pub record IsFreeSpelling (age : ℕ) (h : ObjectHeader) (bytes : List ℕ) : Ty
 free_slots : (c : Content Cap) → FollowsRole c → 0 ≡ role_number (role_of c) → record { free : IsTrue (is_free c); slots : slots_of c ≡ replicate 32 void_held }
 free_slots content.Free f e = record { free = refl; slots = refl }
 free_slots (content.Page words) f e = absurd f
-free_slots (content.Node slots) f e = absurd (omega (arith, e))
-free_slots (content.Root root) f e = absurd (omega (arith, e))
-free_slots (content.Annex registers) f e = absurd (omega (arith, e))
-free_slots (content.Bank limit) f e = absurd (omega (arith, e))
+free_slots other f e = absurd (omega (arith, e))
 
 pub free_node_spelling : (g : Geometry) (age : ℕ) (h : ObjectHeader) (f : Frame) (bytes rest : List ℕ) → AllFit (front_list 0 h) → h.role ≡ role_in 0
     → bytes ≡ front_numbers 0 h ++ rest → IsNodeFrame g age f → bytes ≡ node_frame_bytes f → IsFreeSpelling age h bytes

@@ -22,8 +22,7 @@ number_kept g age n fits = (fits, refl)
 
 state_fits : (s : State) → state_number s < 2 ^ 64
 state_fits Available = omega arith
-state_fits Running = omega arith
-state_fits Waiting = omega arith
+state_fits other = omega arith
 
 numbers_kept : (g : Geometry) (age : ℕ) (ws : List ℕ) → All (λ w. w < 2 ^ 64) ws → Kept g age (map number_cap ws)
 numbers_kept g age ws each = All-map (IsKeptCap g age) number_cap ws
@@ -85,12 +84,10 @@ slots_kept g age n (content.Bank limit) lt kind may =
     record { count = refl; each = All-cons (IsKeptCap g age) (number_cap limit) (replicate 31 void_held) (number_kept g age limit may) (voids_kept g age 31) }
 
 follows_role : (g : Geometry) (age n : ℕ) (c : Content Cap) → n < g.nodes → IsOfKind g n c → MayBeKept g age c → FollowsRole c
-follows_role g age n content.Free lt kind may = tt
 follows_role g age n (content.Page words) lt kind may = absurd (omega (arith, lt, kind.0))
-follows_role g age n (content.Node slots) lt kind may = tt
 follows_role g age n (content.Root r) lt kind may = (may.0.count_is, may.1, may.4)
 follows_role g age n (content.Annex registers) lt kind may = may.1
-follows_role g age n (content.Bank limit) lt kind may = tt
+follows_role g age n other lt kind may = tt
 
 may_be_kept : (g : Geometry) (age n : ℕ) (c : Content Cap) → n < g.nodes → AreKeptSlots g age (slots_of c) → FollowsRole c → IsOfKind g n c × MayBeKept g age c
 may_be_kept g age n content.Free lt are follows = (tt, tt)
@@ -105,36 +102,22 @@ may_be_kept g age n (content.Bank limit) lt are follows = (lt, (are.each 0 void_
 holds_page : (g : Geometry) (age n : ℕ) (c : Content Cap) → g.nodes ≤ n → IsOfKind g n c → MayBeKept g age c → HoldsPage c
 holds_page g age n content.Free le kind may = tt
 holds_page g age n (content.Page words) le kind may = may
-holds_page g age n (content.Node slots) le kind may = absurd (omega (arith, le, kind))
-holds_page g age n (content.Root r) le kind may = absurd (omega (arith, le, kind))
-holds_page g age n (content.Annex registers) le kind may = absurd (omega (arith, le, kind))
-holds_page g age n (content.Bank limit) le kind may = absurd (omega (arith, le, kind))
+holds_page g age n other le kind may = absurd (omega (arith, le, kind))
 
 page_may_be_kept : (g : Geometry) (age n : ℕ) (c : Content Cap) → g.nodes ≤ n → n < g.nodes + g.pages → HoldsPage c → IsOfKind g n c × MayBeKept g age c
 page_may_be_kept g age n content.Free le lt holds = (tt, tt)
 page_may_be_kept g age n (content.Page words) le lt holds = ((le, lt), holds)
-page_may_be_kept g age n (content.Node slots) le lt holds = absurd holds
-page_may_be_kept g age n (content.Root r) le lt holds = absurd holds
-page_may_be_kept g age n (content.Annex registers) le lt holds = absurd holds
-page_may_be_kept g age n (content.Bank limit) le lt holds = absurd holds
+page_may_be_kept g age n other le lt holds = absurd holds
 
 -- ---- frames
 
 free_role : (c : Content Cap) → IsTrue (is_free c) → role_of c ≡ role.Free
 free_role content.Free t = refl
-free_role (content.Page words) t = absurd (false≢true t)
-free_role (content.Node slots) t = absurd (false≢true t)
-free_role (content.Root r) t = absurd (false≢true t)
-free_role (content.Annex registers) t = absurd (false≢true t)
-free_role (content.Bank limit) t = absurd (false≢true t)
+free_role other t = absurd (false≢true t)
 
 role_free : (c : Content Cap) → role_of c ≡ role.Free → IsTrue (is_free c)
 role_free content.Free e = refl
-role_free (content.Page words) e = absurd cc
-role_free (content.Node slots) e = absurd cc
-role_free (content.Root r) e = absurd cc
-role_free (content.Annex registers) e = absurd cc
-role_free (content.Bank limit) e = absurd cc
+role_free other e = absurd cc
 
 front_of : (g : Geometry) (age : ℕ) (f : Frame) → IsKept g age f → IsFront age f
 front_of g age f is =

@@ -77,18 +77,12 @@ zero_words_bytes = refl
 pub words_fit : (c : Content Cap) → HoldsPage c → AreKeptWords 512 (page_words c)
 words_fit content.Free h = zero_words_fit
 words_fit (content.Page words) h = h
-words_fit (content.Node slots) h = absurd h
-words_fit (content.Root root) h = absurd h
-words_fit (content.Annex registers) h = absurd h
-words_fit (content.Bank limit) h = absurd h
+words_fit other h = absurd h
 
 pub content_again : (c : Content Cap) → HoldsPage c → content_of (page_body_in (role_number (role_of c))) [] (page_words c) ≡ c
 content_again content.Free h = refl
 content_again (content.Page words) h = refl
-content_again (content.Node slots) h = absurd h
-content_again (content.Root root) h = absurd h
-content_again (content.Annex registers) h = absurd h
-content_again (content.Bank limit) h = absurd h
+content_again other h = absurd h
 
 pub record HasPageParts (f : Frame) (bytes : List ℕ) : Type 0 where
   pub whole : bytes ≡ front_numbers (role_number f.header.role) f.header ++ (zeros 480 ++ words_bytes (page_words f.content))
@@ -134,10 +128,7 @@ page_kind : (role owner : ℕ) (last : List ℕ) (c : Content Cap) → role ≡ 
     → (IsTrue (is_free c) → owner ≡ 0) → (role ≡ 1) ⊎ ((role ≡ 0) × (owner ≡ 0) × (last ≡ zeros 4096))
 page_kind role owner last content.Free r l h unowned = inr (r, unowned refl, l ∙ zero_words_bytes)
 page_kind role owner last (content.Page _) r l h unowned = inl r
-page_kind role owner last (content.Node slots) r l h unowned = absurd h
-page_kind role owner last (content.Root root) r l h unowned = absurd h
-page_kind role owner last (content.Annex registers) r l h unowned = absurd h
-page_kind role owner last (content.Bank limit) r l h unowned = absurd h
+page_kind role owner last other r l h unowned = absurd h
 
 -- what the bytes of a frame with the number of a page are
 pub record IsPageSpelling (age role : ℕ) (h : ObjectHeader) (bytes : List ℕ) : Type 0 where
@@ -249,9 +240,5 @@ blanked_front old new n room e =
     (take_at new (drop n old) n size ∙ is, drop_at new (drop n old) n size)
 
 pub not_page : (r : ContentRef) → ((words : Bor (List ℕ)) → r ≡ content_ref.Page words → ⊥) → page_words (content_behind r) ≡ zero_words
-not_page content_ref.Free h = refl
 not_page (content_ref.Page words) h = absurd (h words refl)
-not_page (content_ref.Node slots) h = refl
-not_page (content_ref.Root root) h = refl
-not_page (content_ref.Annex registers) h = refl
-not_page (content_ref.Bank limit) h = refl
+not_page other h = refl

@@ -8,8 +8,7 @@ use Rattle.layout.proofs.Sectors.{same_sectors}
 -- no frame takes more than a slot of the log
 pub few_sectors : (s : Shape) → shape_length s ≤ 9
 few_sectors Node = omega arith
-few_sectors (Packed rank) = omega arith
-few_sectors Page = omega arith
+few_sectors other = omega arith
 
 -- the bytes of a frame are those of its sectors
 pub same_shaped : (at : ℕ) (s : Shape) (old new : Image) → ((i : ℕ) → i < shape_length s → new (at + i) ≡ old (at + i)) →

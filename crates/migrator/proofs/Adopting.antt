@@ -1,76 +1,68 @@
 -- A header is adopted with its directory.
-use Rattle.migrator.proofs.Names.{ℕ, zero, suc, Option, None, List, [], length, refl, sym, ap, subst, inl, inr, ⊎_elim, replicate, Disk, LeavesOnly}
+use Rattle.migrator.proofs.Names.{Publishes, ℕ, zero, suc, Option, None, List, [], length, refl, sym, ap, subst, inl, inr, ⊎_elim, replicate, Disk, LeavesOnly}
 use Rattle.migrator.proofs.Names.{leaves_weaker, Entry, CheckpointHeader, Encodes, SavedState, state_in, Holds, LeavesEither, directory_extent, Books, Place}
-use Rattle.migrator.proofs.Names.{Nowhere, IsDurable, IsKept, IsRunning, IsSoundOn, LeavesState, Stored, saved_state, stored_in, stored_on, Unwritten, mended}
-use Rattle.migrator.proofs.Names.{MayAdopt, MaySave, SavesOnly, SparesKept, adopted, place_at}
-use Rattle.std.proofs.Common.{◌≡◌, ◌⊎◌, ◌∷◌, ◌∙◌}
+use Rattle.migrator.proofs.Names.{Nowhere, IsDurable, IsKept, IsRunning, IsSoundOn, LeavesState, Stored, saved_state, stored_on, Unwritten, mended, MayAdopt}
+use Rattle.migrator.proofs.Names.{SavesOnly, SparesKept, adopted, place_at, Ok, Err, Result, IsErr, Counts, Spares}
+use Rattle.std.proofs.Common.{◌+◌, ◌≡◌, ◌⊎◌, ◌∷◌, ◌∙◌}
+use Rattle.migrator.proofs.Counting.{err_counts, ok_counts}
+use Rattle.migrator.proofs.Saving.{kept_raw, no_ok, on_err, stored_raw}
 use Rattle.migrator.proofs.Buffered.{none_idle, without}
 use Rattle.migrator.proofs.Committing.{kept_saves, state_saves, stored_saves}
 use Rattle.migrator.proofs.GoingOn.{holds}
 
--- ---- where nothing is unwritten, the device has all
-
-module _ (disk : Disk) (b : Books) (none : b.unwritten ≡ None) where
-  pub kept_raw : IsDurable disk b → IsKept disk.sectors disk.seen b
-  kept_raw is = subst (λ (o : Option Unwritten). IsKept disk.sectors (mended disk.seen o) b) none is.kept
-
-  pub stored_raw : (c : Books) → c.unwritten ≡ b.unwritten → stored_on disk c ≡ stored_in disk.seen c
-  stored_raw c same = ap (λ (o : Option Unwritten). stored_in (mended disk.seen o) c) (same ∙ none)
-
-  pub sound_raw : IsSoundOn disk b → LeavesState disk (saved_state disk.seen b)
-  sound_raw sound = subst (λ (o : Option Unwritten). LeavesState disk (saved_state (mended disk.seen o) b)) none sound
-
 -- ---- the call
 
-module _ (disk : Disk) (b : Books) (next : CheckpointHeader) (es : List Entry) (may : MayAdopt disk b next es) where
-  module _ (new : Disk) (size : new.sectors ≡ disk.sectors) (only : SavesOnly b.plan next disk.seen new.seen) where
-    kept_then : (c : Books) → c.unwritten ≡ b.unwritten → IsKept disk.sectors new.seen c → IsKept new.sectors (mended new.seen c.unwritten) c
-    kept_then c same kept = subst (λ (o : Option Unwritten). IsKept new.sectors (mended new.seen o) c) (sym (same ∙ may.written))
-        (subst (λ (k : ℕ). IsKept k new.seen c) (sym size) kept)
+module _ {disk : Disk} {b : Books} {next : CheckpointHeader} {es : List Entry} (may : MayAdopt disk b next es) {new : Disk} (size : new.sectors ≡ disk.sectors)
+    (only : SavesOnly b.plan next disk.seen new.seen)
+    (run : LeavesOnly disk new (λ c. Encodes c disk.sectors (state_in disk.seen b.plan b.header b.directory) ⊎ Encodes c disk.sectors
+    (state_in disk.seen b.plan next es))) where
+  abbrev after : Books
+  after = adopted next es b
 
-    pub adopted_durable : IsDurable new (adopted next es b)
-    adopted_durable = record {
-      kept = kept_then (adopted next es b) refl (kept_saves disk.sectors (adopted next es b) next disk.seen new.seen may.kept only may.spares_next);
-      unwritten = without (adopted next es b) b.unwritten may.written;
-    }
+  raw_kept : IsKept disk.sectors disk.seen b
+  raw_kept = kept_raw may.written may.stands
 
-    pub adopted_stored : stored_on new (adopted next es b) ≡ stored_on disk (adopted next es b)
-    adopted_stored =
-        stored_raw new b may.written (adopted next es b) refl ∙ stored_saves disk.sectors (adopted next es b) next disk.seen new.seen may.kept only
-        may.spares_next
-        ∙ sym (stored_raw disk b may.written (adopted next es b) refl)
+  kept_then : {c : Books} → c.unwritten ≡ b.unwritten → IsKept disk.sectors new.seen c → IsKept new.sectors (mended new.seen c.unwritten) c
+  kept_then {c} same kept = subst (λ (o : Option Unwritten). IsKept new.sectors (mended new.seen o) c) (sym (same ∙ may.written))
+      (subst (λ (k : ℕ). IsKept k new.seen c) (sym size) kept)
 
-    pub adopted_sound : LeavesState new (state_in disk.seen b.plan next es) → IsSoundOn new (adopted next es b)
-    adopted_sound saved =
-        subst (λ (o : Option Unwritten). LeavesState new (saved_state (mended new.seen o) (adopted next es b))) (sym may.written)
-        (subst (λ (s : SavedState). LeavesState new s)
-        (sym (state_saves disk.sectors (adopted next es b) next disk.seen new.seen may.kept only may.spares_next)) saved)
-
-    -- after a failure
-    pub left_durable : IsDurable new b
-    left_durable = record {
-      kept = kept_then b refl (kept_saves disk.sectors b next disk.seen new.seen (kept_raw disk b may.written may.stands) only may.spares);
-      unwritten = may.stands.unwritten;
-    }
-
-    pub left_stored : stored_on new b ≡ stored_on disk b
-    left_stored =
-        stored_raw new b may.written b refl ∙ stored_saves disk.sectors b next disk.seen new.seen (kept_raw disk b may.written may.stands) only may.spares
-        ∙ sym (stored_raw disk b may.written b refl)
-
-  pub adopt_moments : (new : Disk) →
-      LeavesOnly disk new (λ c. Encodes c disk.sectors (state_in disk.seen b.plan b.header b.directory) ⊎ Encodes c disk.sectors
-      (state_in disk.seen b.plan next es))
-      → LeavesEither disk new (stored_on disk b).saved (stored_on disk (adopted next es b)).saved
-  adopt_moments new run =
+  moments : LeavesEither disk new (stored_on disk b).saved (stored_on disk after).saved
+  moments =
       leaves_weaker {old = disk} {new = new} {P = λ c. Encodes c disk.sectors (state_in disk.seen b.plan b.header b.directory) ⊎ Encodes c disk.sectors
-      (state_in disk.seen b.plan next es)}
-      (λ c. Holds disk.sectors c (stored_on disk b).saved ⊎ Holds disk.sectors c (stored_on disk (adopted next es b)).saved)
-      (λ c. ⊎_elim
-      (λ is. inl (subst (λ (s : Stored). Holds disk.sectors c s.saved) (sym (stored_raw disk b may.written b refl))
-      (holds disk.sectors c (state_in disk.seen b.plan b.header b.directory) is)))
-      (λ is. inr (subst (λ (s : Stored). Holds disk.sectors c s.saved) (sym (stored_raw disk b may.written (adopted next es b) refl))
-      (holds disk.sectors c (state_in disk.seen b.plan next es) is)))) run
+      (state_in disk.seen b.plan next es)} (λ c. Holds disk.sectors c (stored_on disk b).saved ⊎ Holds disk.sectors c (stored_on disk after).saved) (λ c. ⊎_elim
+      (λ is. inl (subst (λ (s : Stored). Holds disk.sectors c s.saved) (sym (stored_raw disk b may.written b refl)) (holds is)))
+      (λ is. inr (subst (λ (s : Stored). Holds disk.sectors c s.saved) (sym (stored_raw disk b may.written after refl)) (holds is)))) run
+
+  pub adopted_publishes : {T E : Type 0} {value : T} → LeavesState new (state_in disk.seen b.plan next es) → new.failures ≡ disk.failures →
+      Publishes {T = T} {E = E} disk new b (adopted next es b) (stored_on disk (adopted next es b)) (Ok value)
+  adopted_publishes saved none = record {
+    stands = record {
+      kept = kept_then refl (kept_saves may.kept only may.spares_next);
+      unwritten = without after may.written;
+    };
+    stored = stored_raw new b may.written after refl ∙ stored_saves may.kept only may.spares_next ∙ sym (stored_raw disk b may.written after refl);
+    unchanged = tt;
+    plan = refl;
+    sound = subst (λ (o : Option Unwritten). LeavesState new (saved_state (mended new.seen o) after)) (sym may.written)
+        (subst (λ (s : SavedState). LeavesState new s) (sym (state_saves may.kept only may.spares_next)) saved);
+    size = size;
+    any_moment = moments;
+    cause = ok_counts none;
+  }
+
+  -- after a failure
+  pub left_publishes : {T E U F : Type 0} {e : E} {r : Result U F} → IsErr r → Counts {T = T} disk new (Err e) →
+      Publishes disk new b b (stored_on disk (adopted next es b)) r
+  left_publishes {r} failed counts = record {
+    stands = record { kept = kept_then refl (kept_saves raw_kept only may.spares); unwritten = may.stands.unwritten };
+    stored = no_ok r failed _;
+    unchanged = on_err r (stored_raw new b may.written b refl ∙ stored_saves raw_kept only may.spares ∙ sym (stored_raw disk b may.written b refl));
+    plan = refl;
+    sound = no_ok r failed _;
+    size = size;
+    any_moment = moments;
+    cause = err_counts failed counts;
+  }
 
 -- ---- where no checkpoint is on its way
 
@@ -84,7 +76,7 @@ no_places [] none = refl
 no_places (p ∷ ps) none = ap (λ (q : Place). q ∷ replicate (length ps) Nowhere) (sym (none zero)) ∙
     ap (λ (qs : List Place). p ∷ qs) (no_places ps (λ n. none (suc n)))
 
-module _ (disk : Disk) (b : Books) (next : CheckpointHeader) (es : List Entry) (is : IsDurable disk b) (idle : b.size ≡ None) where
+module _ {disk : Disk} {b : Books} (next : CheckpointHeader) (es : List Entry) (is : IsDurable disk b) (idle : b.size ≡ None) where
   pub none : b.unwritten ≡ None
   none = none_idle b b.unwritten is.unwritten idle
 
@@ -96,14 +88,17 @@ module _ (disk : Disk) (b : Books) (next : CheckpointHeader) (es : List Entry) (
       ap (λ (o : Option ℕ). record (with_header b next es) { size = o }) idle
       ∙ ap (λ (ps : List Place). record (with_header b next es) { frozen = ps; size = None }) (sym (no_places b.frozen blank))
 
-  pub may_adopt_idle : MaySave disk b.plan b.header b.directory next es → IsKept disk.sectors disk.seen (with_header b next es) →
-      SparesKept b (directory_extent b.plan next.generation next.entries)
+  pub may_adopt_idle : IsSoundOn disk b → b.header.sequence + 1 ≡ next.sequence → IsKept disk.sectors disk.seen (with_header b next es) →
+      Spares b.plan b.header b.directory (directory_extent b.plan next.generation next.entries)
+      → SparesKept b (directory_extent b.plan next.generation next.entries)
       → SparesKept (with_header b next es) (directory_extent b.plan next.generation next.entries) → MayAdopt disk b next es
-  may_adopt_idle may kept spares spares_next = record {
+  may_adopt_idle sound follows kept apart spares spares_next = record {
     stands = is;
     written = none;
-    may = may;
+    sound = sound;
+    follows = follows;
     kept = subst (IsKept disk.sectors disk.seen) idle_books kept;
+    apart = apart;
     spares = spares;
     spares_next = subst (λ (c : Books). SparesKept c (directory_extent b.plan next.generation next.entries)) idle_books spares_next;
   }

@@ -7,8 +7,8 @@ use Rattle.migrator.proofs.Names.{length_read, read_at, spelt_same, spelt_at, be
 use Rattle.migrator.proofs.Names.{directory_extent, frames_behind, frames_in_slots, directories_inside, slots_spare_directories, Place, Nowhere, Torn, Whole}
 use Rattle.migrator.proofs.Names.{place_at, slot_of, taken_count, whole_count, has_slot, entries_of, Put, Absent, put_at, put_or, overlaid, slot_bytes, put_of}
 use Rattle.migrator.proofs.Names.{puts_in, ArePut, most, Books, IsDurable, frozen_generation, working_generation, committed, generation_after, Stored}
-use Rattle.migrator.proofs.Names.{saved_state, frozen_of, stored_in, IsRunning, IsKept, LeavesState, next_header, puts, on_snapshots, AreComplete, MayAdopt}
-use Rattle.migrator.proofs.Names.{MaySave, SavesOnly, SparesKept, adopted, SparesFrames, Spares, maps_same}
+use Rattle.migrator.proofs.Names.{saved_state, frozen_of, stored_in, IsRunning, IsKept, next_header, puts, on_snapshots, AreComplete, MayAdopt, SavesOnly}
+use Rattle.migrator.proofs.Names.{SparesKept, adopted, SparesFrames, Spares, maps_same, IsSoundOn}
 use Rattle.std.proofs.Common.{◌≡◌, ◌+◌, ◌-◌, ◌%◌, ◌^◌, ◌<◌, ◌≤◌, ◌∙◌}
 use Rattle.std.specs.Prelude.{◌==◌}
 use Rattle.migrator.proofs.Tables.{all_whole, whole_taken, entries_directory, length_entries, slot_entries, blank_at, blank_table, tally-blank}
@@ -25,10 +25,9 @@ abbrev pub header_extent : CheckpointHeader → Extent
 header_extent h = record { sector = header_sector h; length = 2 }
 
 -- all that is kept lies behind the headers
-pub headers_spare : (size : ℕ) (image : Image) (b : Books) (h : CheckpointHeader) → IsKept size image b → SparesKept b (header_extent h)
-headers_spare size image b h kept = record {
-  frames = λ n lt. let behind = frames_behind b.plan b.header.generation b.directory n kept.plan (homes_behind b.plan kept.plan n lt) in inr
-      (omega (arith, behind));
+pub headers_spare : {size : ℕ} {image : Image} {b : Books} (h : CheckpointHeader) → IsKept size image b → SparesKept b (header_extent h)
+headers_spare {b} h kept = record {
+  frames = λ n lt. let behind = frames_behind b.plan b.header.generation b.directory n kept.plan (homes_behind kept.plan n lt) in inr (omega (arith, behind));
   homes = λ i lt.
       let behind = places_within b.plan (entry_at b.directory i).object kept.plan
       (kept.directory.each i (record { object = 0; slot = 0 }) (omega (arith, lt, kept.few, kept.count))).object in inr (omega (arith, behind.0));
@@ -36,29 +35,25 @@ headers_spare size image b h kept = record {
   working = λ n s lt is. let behind = half_within b.plan (working_generation b) kept.plan in inr (omega (arith, behind.0));
 }
 
-module _ (size : ℕ) (b : Books) (next : CheckpointHeader) (old new : Image) (kept : IsKept size old b) (only : SavesOnly b.plan next old new)
+module _ {size : ℕ} {b : Books} {next : CheckpointHeader} {old new : Image} (kept : IsKept size old b) (only : SavesOnly b.plan next old new)
     (spares : SparesKept b (directory_extent b.plan next.generation next.entries)) where
   between_kept : IsKept size only.between b
-  between_kept = kept_on size b (directory_extent b.plan next.generation next.entries) old only.between spares only.directory kept
+  between_kept = kept_on size spares only.directory kept
 
   pub kept_saves : IsKept size new b
-  kept_saves = kept_on size b (header_extent next) only.between new (headers_spare size only.between b next between_kept) only.header between_kept
+  kept_saves = kept_on size (headers_spare next between_kept) only.header between_kept
 
   pub stored_saves : stored_in new b ≡ stored_in old b
-  stored_saves =
-      stored_stays size b (header_extent next) only.between new (headers_spare size only.between b next between_kept) only.header
-      ∙ stored_stays size b (directory_extent b.plan next.generation next.entries) old only.between spares only.directory
+  stored_saves = stored_stays size (headers_spare next between_kept) only.header ∙ stored_stays size spares only.directory
 
   pub state_saves : saved_state new b ≡ saved_state old b
-  state_saves =
-      state_stays b.plan b.header b.directory (header_extent next) only.between new (headers_spare size only.between b next between_kept).frames only.header
-      ∙ state_stays b.plan b.header b.directory (directory_extent b.plan next.generation next.entries) old only.between spares.frames only.directory
+  state_saves = state_stays (headers_spare next between_kept).frames only.header ∙ state_stays spares.frames only.directory
 
 -- ---- a directory and the slots of its half
 
-pub slots_apart_directory : (p : Plan) (generation s m n : ℕ) → s < p.geometry.log → m ≤ p.geometry.log →
+pub slots_apart_directory : (p : Plan) (generation : ℕ) {s : ℕ} (m n : ℕ) → s < p.geometry.log → m ≤ p.geometry.log →
     IsApart (place_extent p generation s n) (directory_extent p generation m)
-slots_apart_directory p generation s m n lt le =
+slots_apart_directory p generation {s} m n lt le =
     apart_inside (place_extent p generation s n) (directory_extent p generation m) (slot_extent p generation s) (directory_extent p generation m)
     (frames_in_slots p generation s n) (itself (directory_extent p generation m)) (slots_spare_directories p generation s m lt)
 
@@ -72,9 +67,9 @@ pub one_more : (t : Bool) → cond t 1 0 ≤ 1
 one_more true = omega arith
 one_more false = omega arith
 
-pub next_fits : (room age : ℕ) (b : Books) → IsHeader room b.header → b.header.age < age → age ≤ 2 ^ 62 → taken_count b.frozen ≤ room → room ≤ 4096 →
+pub next_fits : {room age : ℕ} (b : Books) → IsHeader room b.header → b.header.age < age → age ≤ 2 ^ 62 → taken_count b.frozen ≤ room → room ≤ 4096 →
     IsHeader room (next_header age b)
-next_fits room age b is later most few small = record {
+next_fits {age} b is later most few small = record {
   entries = few;
   age = most;
   generation = omega (arith, is.generation, later);
@@ -85,13 +80,13 @@ next_fits room age b is later most few small = record {
 -- ---- the frames that are saved next
 
 -- the frozen frames' places are a directory
-pub frozen_fits : (size : ℕ) (image : Image) (b : Books) → IsKept size image b → IsDirectory b.plan.geometry (entries_of b.frozen)
-frozen_fits size image b kept =
-    entries_directory b.plan.geometry b.frozen kept.frozen.table kept.frozen.count kept.frozen.few
+pub frozen_fits : {size : ℕ} {image : Image} {b : Books} → IsKept size image b → IsDirectory b.plan.geometry (entries_of b.frozen)
+frozen_fits {b} kept =
+    entries_directory kept.frozen.table kept.frozen.count kept.frozen.few
     (omega (arith, kept.plan.geometry.most_nodes, kept.plan.geometry.most_pages)) kept.plan.geometry.most_log
 
 -- all that was put is whole
-module _ (size : ℕ) (image : Image) (b : Books) (k : ℕ) (kept : IsKept size image b) (running : b.size ≡ Some k) (stable : k ≤ whole_count b.frozen) where
+module _ {size : ℕ} {image : Image} {b : Books} (k : ℕ) (kept : IsKept size image b) (running : b.size ≡ Some k) (stable : k ≤ whole_count b.frozen) where
   pub was : IsRunning b (Some k)
   was = subst (IsRunning b) running kept.running
 
@@ -105,14 +100,14 @@ module _ (size : ℕ) (image : Image) (b : Books) (k : ℕ) (kept : IsKept size 
   none_saved n = no_entries b.plan b.directory n (kept.count ∙ was.0)
 
   pub fs_fit : IsDirectory b.plan.geometry (entries_of b.frozen)
-  fs_fit = frozen_fits size image b kept
+  fs_fit = frozen_fits kept
 
-  whole_at : (n s : ℕ) → n < count_of b.plan → slot_of (place_at b.frozen n) ≡ Some s → place_at b.frozen n ≡ Whole s
-  whole_at n s lt is = let less = whole_taken b.frozen in all_whole b.frozen n s (omega (arith, was.1, stable)) (omega (arith, lt, kept.frozen.count)) is
+  whole_at : {n s : ℕ} → n < count_of b.plan → slot_of (place_at b.frozen n) ≡ Some s → place_at b.frozen n ≡ Whole s
+  whole_at {n} {s} lt is = let less = whole_taken b.frozen in all_whole b.frozen n (omega (arith, was.1, stable)) (omega (arith, lt, kept.frozen.count)) is
 
-  slot_frame_in : (n s : ℕ) → slot_of (place_at b.frozen n) ≡ Some s → frame_in image b.plan (b.header.generation + 1) (entries_of b.frozen) n ≡ slot_bytes
-      image b.plan (b.header.generation + 1) s n
-  slot_frame_in n s is = in_slot image b.plan (b.header.generation + 1) (entries_of b.frozen) n s (slot_entries b.frozen n ∙ is)
+  slot_frame_in : (n : ℕ) {s : ℕ} → slot_of (place_at b.frozen n) ≡ Some s → frame_in image b.plan (b.header.generation + 1)
+      (entries_of b.frozen) n ≡ slot_bytes image b.plan (b.header.generation + 1) s n
+  slot_frame_in n {s} is = in_slot image b.plan (b.header.generation + 1) (entries_of b.frozen) n (slot_entries b.frozen n ∙ is)
 
   abbrev saved_frames : List Frame
   saved_frames = frames_read image b.plan b.header.generation b.directory
@@ -123,9 +118,9 @@ module _ (size : ℕ) (image : Image) (b : Books) (k : ℕ) (kept : IsKept size 
   -- and each without a place, whose cluster has one, lies beside it as at home
   module _ (complete : AreComplete image b.plan (frozen_generation b) (entries_of b.frozen)) where
     -- where an object has no place it has the frame that lies at home, as before
-    home_frame : (n : ℕ) → n < count_of b.plan → slot_of (place_at b.frozen n) ≡ None → frame_in image b.plan (b.header.generation + 1) (entries_of b.frozen) n
+    home_frame : {n : ℕ} → n < count_of b.plan → slot_of (place_at b.frozen n) ≡ None → frame_in image b.plan (b.header.generation + 1) (entries_of b.frozen) n
         ≡ frame_in image b.plan b.header.generation b.directory n
-    home_frame n lt none = by (slot_beside b.plan (entries_of b.frozen) n) refl where
+    home_frame {n} lt none = by (slot_beside b.plan (entries_of b.frozen) n) refl where
       no_slot : slot_in (entries_of b.frozen) n ≡ None
       no_slot = slot_entries b.frozen n ∙ none
 
@@ -135,9 +130,8 @@ module _ (size : ℕ) (image : Image) (b : Books) (k : ℕ) (kept : IsKept size 
           at_home image b.plan (b.header.generation + 1) (entries_of b.frozen) n (beside_frame_slot b.plan (entries_of b.frozen) n no_slot ∙ is)
           ∙ sym (at_home image b.plan b.header.generation b.directory n (none_saved n))
       by (Some s) is =
-          in_frame_slot image b.plan (b.header.generation + 1) (entries_of b.frozen) n s (beside_frame_slot b.plan (entries_of b.frozen) n no_slot ∙ is) ∙
-          complete n s lt no_slot is
-          ∙ sym (at_home image b.plan b.header.generation b.directory n (none_saved n))
+          in_frame_slot image b.plan (b.header.generation + 1) (entries_of b.frozen) n (beside_frame_slot b.plan (entries_of b.frozen) n no_slot ∙ is) ∙
+          complete n s lt no_slot is ∙ sym (at_home image b.plan b.header.generation b.directory n (none_saved n))
 
     frame_next : (n : ℕ) → n < count_of b.plan → frame_read image b.plan (b.header.generation + 1) (entries_of b.frozen) n ≡ put_or (put_at frozen_puts n)
         (frame_at saved_frames n)
@@ -145,17 +139,16 @@ module _ (size : ℕ) (image : Image) (b : Books) (k : ℕ) (kept : IsKept size 
       by : (o : Option ℕ) → slot_of (place_at b.frozen n) ≡ o → frame_read image b.plan (b.header.generation + 1) (entries_of b.frozen) n ≡ put_or
           (put_at frozen_puts n) (frame_at saved_frames n)
       by None is =
-          ap (frame_from b.plan.geometry n) (home_frame n lt is) ∙ sym (read_at image b.plan b.header.generation b.directory n lt)
+          ap (frame_from b.plan.geometry n) (home_frame lt is) ∙ sym (read_at image b.plan b.header.generation b.directory n lt)
           ∙ sym (ap (λ (x : Put). put_or x (frame_at saved_frames n))
-          (put_is image b.plan (frozen_generation b) b.frozen n lt ∙ none_put (place_at b.frozen n) is)) where
+          (put_is image b.plan (frozen_generation b) b.frozen lt ∙ none_put (place_at b.frozen n) is)) where
             none_put : (q : Place) → slot_of q ≡ None → put_of image b.plan (frozen_generation b) n q ≡ Absent
             none_put Nowhere e = refl
             none_put (Torn s) e = absurd cc
             none_put (Whole s) e = absurd cc
       by (Some s) is =
-          ap (frame_from b.plan.geometry n) (slot_frame_in n s is)
-          ∙ sym (ap (λ (x : Put). put_or x (frame_at saved_frames n))
-          (put_is image b.plan (frozen_generation b) b.frozen n lt ∙ ap (put_of image b.plan (frozen_generation b) n) (whole_at n s lt is)))
+          ap (frame_from b.plan.geometry n) (slot_frame_in n is) ∙ sym (ap (λ (x : Put). put_or x (frame_at saved_frames n))
+          (put_is image b.plan (frozen_generation b) b.frozen lt ∙ ap (put_of image b.plan (frozen_generation b) n) (whole_at lt is)))
 
     -- the frames that are saved next are the saved ones with the frozen ones in their place
     pub frames_next : frames_read image b.plan (b.header.generation + 1) (entries_of b.frozen) ≡ overlaid frozen_puts saved_frames
@@ -166,9 +159,9 @@ module _ (size : ℕ) (image : Image) (b : Books) (k : ℕ) (kept : IsKept size 
         ∙ ap (λ (m : ℕ). map (λ n. put_or (put_at frozen_puts n) (frame_at saved_frames n)) (range_with_len 0 m))
         (sym (length_read image b.plan b.header.generation b.directory))
 
-    module _ (age : ℕ) (keepable : AreKeepable b.plan.geometry age (overlaid frozen_puts saved_frames)) where
-      keepable_at : (n : ℕ) → n < count_of b.plan → IsKeepable b.plan.geometry age n (frame_read image b.plan (b.header.generation + 1) (entries_of b.frozen) n)
-      keepable_at n lt =
+    module _ {age : ℕ} (keepable : AreKeepable b.plan.geometry age (overlaid frozen_puts saved_frames)) where
+      keepable_at : {n : ℕ} → n < count_of b.plan → IsKeepable b.plan.geometry age n (frame_read image b.plan (b.header.generation + 1) (entries_of b.frozen) n)
+      keepable_at {n} lt =
           subst (IsKeepable b.plan.geometry age n)
           (ap (λ (xs : List Frame). frame_at xs n) (sym frames_next) ∙ read_at image b.plan (b.header.generation + 1) (entries_of b.frozen) n lt)
           (keepable.each n lt)
@@ -178,56 +171,44 @@ module _ (size : ℕ) (image : Image) (b : Books) (k : ℕ) (kept : IsKept size 
         by : (o : Option ℕ) → slot_of (place_at b.frozen n) ≡ o → IsSpelt image b.plan age (b.header.generation + 1) (entries_of b.frozen) n
         by None is =
             spelt_at image b.plan b.header.age age (b.header.generation + 1) (entries_of b.frozen) n
-            (spelt_same image image b.plan b.header.age (b.header.generation + 1) b.header.generation (entries_of b.frozen) b.directory n (home_frame n lt is)
-            (kept.saved n lt)) (keepable_at n lt)
+            (spelt_same image image b.plan b.header.age (b.header.generation + 1) b.header.generation (entries_of b.frozen) b.directory n (home_frame lt is)
+            (kept.saved n lt)) (keepable_at lt)
         by (Some s) is =
             spelt_at image b.plan most age (b.header.generation + 1) (entries_of b.frozen) n
-            (subst (λ (bytes : List ℕ). IsFrameOf b.plan.geometry most n bytes (frame_from b.plan.geometry n bytes)) (sym (slot_frame_in n s is))
-            (kept.frozen.spelt n s lt (whole_at n s lt is))) (keepable_at n lt)
+            (subst (λ (bytes : List ℕ). IsFrameOf b.plan.geometry most n bytes (frame_from b.plan.geometry n bytes)) (sym (slot_frame_in n is))
+            (kept.frozen.spelt n s lt (whole_at lt is))) (keepable_at lt)
 
 -- ---- a commit
 
-module _ (disk : Disk) (b : Books) (k : ℕ) (kept : IsKept disk.sectors disk.seen b) (running : b.size ≡ Some k) (stable : k ≤ whole_count b.frozen)
-    (complete : AreComplete disk.seen b.plan (frozen_generation b) (entries_of b.frozen))
-    (age : ℕ) (later : b.header.age < age) (most_age : age ≤ 2 ^ 62)
+module _ (disk : Disk) {b : Books} (k : ℕ) (kept : IsKept disk.sectors disk.seen b) (running : b.size ≡ Some k) (stable : k ≤ whole_count b.frozen)
+    (complete : AreComplete disk.seen b.plan (frozen_generation b) (entries_of b.frozen)) {age : ℕ} (later : b.header.age < age) (most_age : age ≤ 2 ^ 62)
     (keepable : AreKeepable b.plan.geometry age
     (overlaid (puts_in disk.seen b.plan (frozen_generation b) b.frozen) (frames_read disk.seen b.plan b.header.generation b.directory))) where
-  pub fits_next : IsHeader b.plan.geometry.log (next_header age b)
-  fits_next = next_fits b.plan.geometry.log age b kept.header later most_age kept.frozen.few kept.plan.geometry.most_log
+  abbrev extent : Extent
+  extent = directory_extent b.plan (frozen_generation b) (taken_count b.frozen)
 
-  directory_next : IsDirectory b.plan.geometry (entries_of b.frozen)
-  directory_next = fs_fit disk.sectors disk.seen b k kept running stable
+  abbrev es : List Entry
+  es = entries_of b.frozen
 
-  inside_half : IsInside (directory_extent b.plan (frozen_generation b) (taken_count b.frozen))
-      (half_extent b.plan.geometry (half_sector b.plan (frozen_generation b)))
+  abbrev putting : List Put
+  putting = puts_in disk.seen b.plan (working_generation b) b.working
+
+  abbrev after : Books
+  after = adopted (next_header age b) es b
+
+  directory_next : IsDirectory b.plan.geometry es
+  directory_next = fs_fit k kept running stable
+
+  inside_half : IsInside extent (half_extent b.plan.geometry (half_sector b.plan (frozen_generation b)))
   inside_half = directory_inside b.plan (frozen_generation b) (taken_count b.frozen) kept.frozen.few
 
-  spares_now : Spares b.plan b.header b.directory (directory_extent b.plan (frozen_generation b) (taken_count b.frozen))
-  spares_now =
-      spares_other b.plan b.header b.directory (frozen_generation b) (directory_extent b.plan (frozen_generation b) (taken_count b.frozen)) kept.plan
-      kept.directory kept.header.entries (other_parity b.header.generation) inside_half
+  spares_now : Spares b.plan b.header b.directory extent
+  spares_now = spares_other b.header (frozen_generation b) kept.plan kept.directory kept.header.entries (other_parity b.header.generation) inside_half
 
-  spares_then : SparesFrames b.plan (frozen_generation b) (entries_of b.frozen) (directory_extent b.plan (frozen_generation b) (taken_count b.frozen))
+  spares_then : SparesFrames b.plan (frozen_generation b) es extent
   spares_then n lt =
-      frame_apart b.plan (frozen_generation b) (entries_of b.frozen) n (directory_extent b.plan (frozen_generation b) (taken_count b.frozen))
-      (λ s is. slots_apart_directory b.plan (frozen_generation b) s (taken_count b.frozen) n
-      (frame_slot_fits b.plan (entries_of b.frozen) n s directory_next is) kept.frozen.few)
-      (λ _. home_apart b.plan (frozen_generation b) n (directory_extent b.plan (frozen_generation b) (taken_count b.frozen)) kept.plan lt inside_half)
-
-  may_save : LeavesState disk (saved_state disk.seen b) → MaySave disk b.plan b.header b.directory (next_header age b) (entries_of b.frozen)
-  may_save sound = record {
-    plan = kept.plan;
-    inside = kept.inside;
-    header = kept.header;
-    sound = sound;
-    fits = fits_next;
-    after = refl;
-    directory = directory_next;
-    count = length_entries b.frozen;
-    spelt = spelt_next disk.sectors disk.seen b k kept running stable complete age keepable;
-    spares = spares_now;
-    spares_next = spares_then;
-  }
+      frame_apart b.plan (frozen_generation b) es n extent (λ s is. slots_apart_directory b.plan (frozen_generation b) (taken_count b.frozen) n
+      (frame_slot_fits b.plan n directory_next is) kept.frozen.few) (λ _. home_apart (frozen_generation b) kept.plan lt inside_half)
 
   generation_is : working_generation b ≡ frozen_generation b + 1
   generation_is = ap (generation_after b.header.generation) running
@@ -236,14 +217,13 @@ module _ (disk : Disk) (b : Books) (k : ℕ) (kept : IsKept disk.sectors disk.se
   later_half same = other_parity (frozen_generation b) (sym (sym (ap (λ (g : ℕ). g % 2) generation_is) ∙ same))
 
   -- what was kept lies apart from the directory
-  spares_kept : SparesKept b (directory_extent b.plan (frozen_generation b) (taken_count b.frozen))
+  spares_kept : SparesKept b extent
   spares_kept = record {
     frames = spares_now.frames;
-    homes = homes_spare disk.sectors disk.seen b (frozen_generation b) (directory_extent b.plan (frozen_generation b) (taken_count b.frozen)) kept inside_half;
-    frozen = λ n s lt is. let less = kept.frozen.table.few n s (ap slot_of is) in slots_apart_directory b.plan (frozen_generation b) s (taken_count b.frozen) n
+    homes = homes_spare (frozen_generation b) kept inside_half;
+    frozen = λ n s lt is. let less = kept.frozen.table.few n s (ap slot_of is) in slots_apart_directory b.plan (frozen_generation b) (taken_count b.frozen) n
         (omega (arith, less, kept.frozen.few)) kept.frozen.few;
-    working = half_spares b.plan (working_generation b) (frozen_generation b) b.working (directory_extent b.plan (frozen_generation b) (taken_count b.frozen))
-        kept.plan later_half kept.working.table kept.working.few inside_half;
+    working = half_spares (working_generation b) (frozen_generation b) kept.plan later_half kept.working.table kept.working.few inside_half;
   }
 
   abbrev blank : List Place
@@ -263,14 +243,16 @@ module _ (disk : Disk) (b : Books) (k : ℕ) (kept : IsKept disk.sectors disk.se
   working_put : ArePut disk.seen b.plan (frozen_generation b + 1) b.working
   working_put = subst (λ (g : ℕ). ArePut disk.seen b.plan g b.working) generation_is kept.working
 
-  committed_kept : IsKept disk.sectors disk.seen (adopted (next_header age b) (entries_of b.frozen) b)
+  committed_kept : IsKept disk.sectors disk.seen after
   committed_kept = record {
-    plan = kept.plan;
-    inside = kept.inside;
-    header = fits_next;
-    count = length_entries b.frozen;
-    directory = directory_next;
-    saved = spelt_next disk.sectors disk.seen b k kept running stable complete age keepable;
+    readable = record {
+      plan = kept.plan;
+      inside = kept.inside;
+      header = next_fits b kept.header later most_age kept.frozen.few kept.plan.geometry.most_log;
+      count = length_entries b.frozen;
+      directory = directory_next;
+      saved = spelt_next k kept running stable complete keepable;
+    };
     few = omega arith;
     moved = λ i lt. absurd (omega (arith, lt));
     frozen = no_place;
@@ -278,13 +260,12 @@ module _ (disk : Disk) (b : Books) (k : ℕ) (kept : IsKept disk.sectors disk.se
     working = working_put;
   }
 
-  committed_spares : SparesKept (adopted (next_header age b) (entries_of b.frozen) b) (directory_extent b.plan (frozen_generation b) (taken_count b.frozen))
+  committed_spares : SparesKept after extent
   committed_spares = record {
     frames = spares_then;
     homes = λ i lt. absurd (omega (arith, lt));
-    frozen = none_spares b.plan (frozen_generation b + 1) blank (directory_extent b.plan (frozen_generation b) (taken_count b.frozen)) none;
-    working = half_spares b.plan (frozen_generation b + 1) (frozen_generation b) b.working
-        (directory_extent b.plan (frozen_generation b) (taken_count b.frozen)) kept.plan
+    frozen = none_spares b.plan (frozen_generation b + 1) blank extent none;
+    working = half_spares (frozen_generation b + 1) (frozen_generation b) kept.plan
         (λ same. other_parity (frozen_generation b) (sym same)) kept.working.table kept.working.few inside_half;
   }
 
@@ -300,19 +281,22 @@ module _ (disk : Disk) (b : Books) (k : ℕ) (kept : IsKept disk.sectors disk.se
       (stored_in disk.seen b)
   committed_stored =
       ap (λ (g : ℕ). stored_as (taken_count b.frozen) (puts_in disk.seen b.plan g b.working)
-      (frames_read disk.seen b.plan (frozen_generation b) (entries_of b.frozen))) (sym generation_is)
-      ∙ ap (λ (fs : List Frame). stored_as (taken_count b.frozen) (puts_in disk.seen b.plan (working_generation b) b.working) fs)
-      (frames_next disk.sectors disk.seen b k kept running stable complete)
-      ∙ ap (λ (n : ℕ). stored_as n (puts_in disk.seen b.plan (working_generation b) b.working)
+      (frames_read disk.seen b.plan (frozen_generation b) es)) (sym generation_is) ∙ ap (λ (fs : List Frame). stored_as (taken_count b.frozen) putting fs)
+      (frames_next k kept running stable complete) ∙ ap (λ (n : ℕ). stored_as n putting
       (overlaid (puts_in disk.seen b.plan (frozen_generation b) b.frozen) (frames_read disk.seen b.plan b.header.generation b.directory)))
-      (taken_all disk.sectors disk.seen b k kept running stable)
+      (taken_all k kept running stable)
       ∙ same_move k (overlaid (puts_in disk.seen b.plan (frozen_generation b) b.frozen) (frames_read disk.seen b.plan b.header.generation b.directory)) where
-        same_move : (n : ℕ) (fs : List Frame) → stored_as n (puts_in disk.seen b.plan (working_generation b) b.working) fs ≡ record
-            (stored_as n (puts_in disk.seen b.plan (working_generation b) b.working) fs) { to_move = n }
-        same_move n fs = let same : n - 0 ≡ n = omega arith in ap
-            (λ (m : ℕ). record (stored_as n (puts_in disk.seen b.plan (working_generation b) b.working) fs) { to_move = m }) same
+        same_move : (n : ℕ) (fs : List Frame) → stored_as n putting fs ≡ record (stored_as n putting fs) { to_move = n }
+        same_move n fs = let same : n - 0 ≡ n = omega arith in ap (λ (m : ℕ). record (stored_as n putting fs) { to_move = m }) same
 
-  pub may_commit : IsDurable disk b → b.unwritten ≡ None → LeavesState disk (saved_state disk.seen b) →
-      MayAdopt disk b (next_header age b) (entries_of b.frozen)
-  may_commit is written sound =
-      record { stands = is; written = written; may = may_save sound; kept = committed_kept; spares = spares_kept; spares_next = committed_spares }
+  pub may_commit : IsDurable disk b → b.unwritten ≡ None → IsSoundOn disk b → MayAdopt disk b (next_header age b) (entries_of b.frozen)
+  may_commit is written sound = record {
+    stands = is;
+    written = written;
+    sound = sound;
+    follows = refl;
+    kept = committed_kept;
+    apart = spares_now;
+    spares = spares_kept;
+    spares_next = committed_spares;
+  }

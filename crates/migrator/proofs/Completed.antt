@@ -1,20 +1,20 @@
 -- What is kept of a store is kept while its slots are completed.
 use Rattle.migrator.proofs.Names.{ℕ, Option, Some, None, List, refl, sym, ap, subst, arith, Image, Disk, IsTorn, AreKeepable, Entry, Extent, CheckpointHeader}
-use Rattle.migrator.proofs.Names.{entry_at, half_sector, count_of, Plan, IsInside, half_extent, shape_of, found_slot, own_slot, spelt_same, Place, Whole}
-use Rattle.migrator.proofs.Names.{place_at, slot_of, entries_of, AreComplete, Keeps, Unwritten, mended, IfUnwritten, Put, slot_bytes, puts_in, Books}
-use Rattle.migrator.proofs.Names.{frozen_generation, working_generation, generation_after, FrozenPuts, Stored, stored_in, frozen_of, next_saved, next_header}
-use Rattle.migrator.proofs.Names.{saved_state, IsKept, IsRunning, LeavesState, MayHaveUnwritten, Holds, LeavesSaved, kept_of, Spares, puts, Touches, SparesPuts}
+use Rattle.migrator.proofs.Names.{entry_at, half_sector, count_of, IsInside, half_extent, found_slot, own_slot, Whole, place_at, slot_of, entries_of}
+use Rattle.migrator.proofs.Names.{AreComplete, Keeps, Unwritten, mended, IfUnwritten, Put, slot_bytes, puts_in, Books, frozen_generation, working_generation}
+use Rattle.migrator.proofs.Names.{generation_after, FrozenPuts, Stored, stored_in, frozen_of, next_saved, next_header, saved_state, IsKept, LeavesState}
+use Rattle.migrator.proofs.Names.{MayHaveUnwritten, Holds, LeavesSaved, kept_of, Spares, puts, Touches, SparesPuts}
 use Rattle.std.proofs.Common.{◌≡◌, ◌+◌, ◌*◌, ◌%◌, ◌<◌, ◌∙◌}
 use Rattle.migrator.proofs.Committing.{frozen_fits}
 use Rattle.migrator.proofs.GoingOn.{GoesOnSeen, goes_spared}
-use Rattle.migrator.proofs.Kept.{puts_same, are_put_same, puts_stay, are_put_on, stored_same, home_stays}
+use Rattle.migrator.proofs.Kept.{puts_same, are_put_same, puts_stay, are_put_on, stored_same, home_stays, readable_stays}
 use Rattle.migrator.proofs.Mended.{mended_disk, leaves_mended, leaves_raw, unmended}
 use Rattle.migrator.proofs.PlacesApart.{spares_other}
 use Rattle.migrator.proofs.Putting.{other_parity, half_spares, homes_spare}
-use Rattle.migrator.proofs.Spared.{frame_stays, state_stays}
+use Rattle.migrator.proofs.Spared.{state_stays}
 use Rattle.migrator.proofs.Tables.{slot_entries}
 
-module _ (old new : Disk) (b : Books) (was now : Option Unwritten) (k : ℕ) (kept : IsKept old.sectors (mended old.seen was) b) (running : b.size ≡ Some k)
+module _ {old new : Disk} {b : Books} {was now : Option Unwritten} {k : ℕ} (kept : IsKept old.sectors (mended old.seen was) b) (running : b.size ≡ Some k)
     (keeps : Keeps b.plan (frozen_generation b) (entries_of b.frozen) old was new now) where
   abbrev before : Image
   before = mended old.seen was
@@ -30,8 +30,7 @@ module _ (old new : Disk) (b : Books) (was now : Option Unwritten) (k : ℕ) (ke
   inside = record { starts = omega arith; ends = omega arith }
 
   spares : Spares b.plan b.header b.directory extent
-  spares = spares_other b.plan b.header b.directory (frozen_generation b) extent kept.plan kept.directory kept.header.entries (other_parity b.header.generation)
-      inside
+  spares = spares_other b.header (frozen_generation b) kept.plan kept.directory kept.header.entries (other_parity b.header.generation) inside
 
   later : working_generation b % 2 ≡ frozen_generation b % 2 → ⊥
   later same =
@@ -40,7 +39,7 @@ module _ (old new : Disk) (b : Books) (was now : Option Unwritten) (k : ℕ) (ke
       other_parity (b.header.generation + 1) (sym both)
 
   working_spares : SparesPuts b.plan (working_generation b) b.working extent
-  working_spares = half_spares b.plan (working_generation b) (frozen_generation b) b.working extent kept.plan later kept.working.table kept.working.few inside
+  working_spares = half_spares (working_generation b) (frozen_generation b) kept.plan later kept.working.table kept.working.few inside
 
   -- the frozen frames stay in their slots
   frozen_stay : (n s : ℕ) → n < count_of b.plan → place_at b.frozen n ≡ Whole s → slot_bytes after b.plan (frozen_generation b) s n ≡ slot_bytes before b.plan
@@ -53,34 +52,27 @@ module _ (old new : Disk) (b : Books) (was now : Option Unwritten) (k : ℕ) (ke
       entry.slot_is (keeps.frames entry.index entry.within))
 
   pub puts_after : puts_in after b.plan (frozen_generation b) b.frozen ≡ puts_in before b.plan (frozen_generation b) b.frozen
-  puts_after = puts_same b.plan (frozen_generation b) b.frozen before after frozen_stay
+  puts_after = puts_same b.plan (frozen_generation b) (frozen_generation b) b.frozen before after frozen_stay
 
   pub frozen_after : frozen_of after b k ≡ frozen_of before b k
   frozen_after = ap (λ (puts : List Put). record { put = puts; size = k }) puts_after
 
   pub state_after : saved_state after b ≡ saved_state before b
-  state_after = state_stays b.plan b.header b.directory extent before after spares.frames keeps.elsewhere
+  state_after = state_stays spares.frames keeps.elsewhere
 
   pub stored_after : stored_in after b ≡ stored_in before b
-  stored_after = stored_same after before b (puts_stay b.plan (working_generation b) b.working extent before after working_spares keeps.elsewhere) puts_after
-      state_after
+  stored_after = stored_same after before b (puts_stay b.plan (working_generation b) b.working working_spares keeps.elsewhere) puts_after state_after
 
   kept_after : IsKept old.sectors after b
   kept_after = record {
-    plan = kept.plan;
-    inside = kept.inside;
-    header = kept.header;
-    count = kept.count;
-    directory = kept.directory;
-    saved = λ n lt. spelt_same after before b.plan b.header.age b.header.generation b.header.generation b.directory b.directory n
-        (frame_stays b.plan b.header.generation b.directory extent before after spares.frames keeps.elsewhere n lt) (kept.saved n lt);
+    readable = readable_stays spares.frames keeps.elsewhere kept.readable;
     few = kept.few;
-    moved = λ i lt. home_stays b extent before after spares.frames keeps.elsewhere i kept.plan
+    moved = λ i lt. home_stays b spares.frames keeps.elsewhere i kept.plan
         (kept.directory.each i (record { object = 0; slot = 0 }) (omega (arith, lt, kept.few, kept.count))).object
-        (homes_spare old.sectors before b (frozen_generation b) extent kept inside i lt) (kept.moved i lt);
-    frozen = are_put_same b.plan (frozen_generation b) b.frozen before after frozen_stay kept.frozen;
+        (homes_spare (frozen_generation b) kept inside i lt) (kept.moved i lt);
+    frozen = are_put_same frozen_stay kept.frozen;
     running = kept.running;
-    working = are_put_on b.plan (working_generation b) b.working extent before after working_spares keeps.elsewhere kept.working;
+    working = are_put_on b.plan (working_generation b) b.working working_spares keeps.elsewhere kept.working;
   }
 
   pub mid_kept : IsKept new.sectors after b
@@ -91,49 +83,41 @@ module _ (old new : Disk) (b : Books) (was now : Option Unwritten) (k : ℕ) (ke
     size = keeps.touches.size;
     elsewhere = keeps.elsewhere;
     crash = keeps.touches.crash;
-    any_moment = leaves_mended old new was now (IsTorn extent.sector extent.length old) keeps.touches.any_moment;
+    any_moment = leaves_mended was now (IsTorn extent.sector extent.length old) keeps.touches.any_moment;
   }
 
   pub goes_after : GoesOnSeen (mended_disk old was) (mended_disk new now) b b
-  goes_after = goes_spared (mended_disk old was) (mended_disk new now) b b extent refl refl refl spares touches
+  goes_after = goes_spared refl refl refl spares touches
 
-  pub has_after : (c : Books) → c.plan ≡ b.plan → c.header ≡ b.header → c.frozen ≡ b.frozen → c.size ≡ b.size → MayHaveUnwritten c now
-  has_after c plan header frozen size = by now keeps.unwritten where
-    by : (o : Option Unwritten) → IfUnwritten b.plan (frozen_generation b) (entries_of b.frozen) o → MayHaveUnwritten c o
+  pub has_after : MayHaveUnwritten b now
+  has_after = by now keeps.unwritten where
+    by : (o : Option Unwritten) → IfUnwritten b.plan (frozen_generation b) (entries_of b.frozen) o → MayHaveUnwritten b o
     by None is = tt
     by (Some u) is =
         let entry = entry_at (entries_of b.frozen) is.index in
-        let own = own_slot (entries_of b.frozen) is.index (frozen_fits old.sectors before b kept).rising is.within in
+        let own = own_slot (entries_of b.frozen) is.index (frozen_fits kept).rising is.within in
         record {
           size = is.size;
           count = k;
-          running = size ∙ running;
+          running = running;
           object = entry.object;
           slot = entry.slot;
-          place = ap (λ (ps : List Place). slot_of (place_at ps entry.object)) frozen ∙ sym (slot_entries b.frozen entry.object) ∙ own;
-          sector_is = rw (plan, header) is.sector_is;
+          place = sym (slot_entries b.frozen entry.object) ∙ own;
+          sector_is = is.sector_is;
           rank = is.rank;
-          shape = ap (λ (p : Plan). shape_of p entry.object) plan ∙ is.shape;
+          shape = is.shape;
         }
 
 -- what is kept doesn't depend on what is unwritten
-pub kept_with : (size : ℕ) (image : Image) (b : Books) (o : Option Unwritten) → IsKept size image b → IsKept size image (record b { unwritten = o })
-kept_with size image b o kept = record {
-  plan = kept.plan;
-  inside = kept.inside;
-  header = kept.header;
-  count = kept.count;
-  directory = kept.directory;
-  saved = kept.saved;
+pub kept_with : {size : ℕ} {image : Image} {b : Books} {o : Option Unwritten} → IsKept size image b → IsKept size image (record b { unwritten = o })
+kept_with {b} kept = record {
+  readable = kept.readable;
   few = kept.few;
   moved = kept.moved;
   frozen = kept.frozen;
-  running = running_with b.size kept.running;
+  running = kept.running;
   working = kept.working;
-} where
-  running_with : (k : Option ℕ) → IsRunning b k → IsRunning (record b { unwritten = o }) k
-  running_with None is = is
-  running_with (Some k) is = is
+}
 
 -- once all slots are complete, nothing is unwritten, and nothing changes
 pub record IsReady (old : Disk) (image : Image) (b : Books) (k : ℕ) (mid : Disk) : Type 0 where
@@ -144,43 +128,38 @@ pub record IsReady (old : Disk) (image : Image) (b : Books) (k : ℕ) (mid : Dis
   pub sound : LeavesState old (saved_state image b) → LeavesState mid (saved_state mid.seen b)
   pub any_moment : LeavesState old (saved_state image b) → LeavesSaved old mid (kept_of (saved_state image b))
 
-pub ready : (old mid : Disk) (b : Books) (was now : Option Unwritten) (k : ℕ) → IsKept old.sectors (mended old.seen was) b → b.size ≡ Some k →
-    Keeps b.plan (frozen_generation b) (entries_of b.frozen) old was mid now → now ≡ None
-    → IsReady old (mended old.seen was) b k mid
-ready old mid b was now k kept running keeps none =
-    let goes = goes_after old mid b was now k kept running keeps in
-    let image : mended mid.seen now ≡ mid.seen = unmended mid.seen now none in
+pub ready : {old mid : Disk} {b : Books} {was now : Option Unwritten} {k : ℕ} → IsKept old.sectors (mended old.seen was) b → b.size ≡ Some k →
+    Keeps b.plan (frozen_generation b) (entries_of b.frozen) old was mid now → now ≡ None → IsReady old (mended old.seen was) b k mid
+ready {old} {mid} {b} {was} {now} {k} kept running keeps none =
+    let goes = goes_after kept running keeps in
+    let image : mended mid.seen now ≡ mid.seen = unmended none in
     record {
-      kept = subst (λ (i : Image). IsKept mid.sectors i b) image (mid_kept old mid b was now k kept running keeps);
+      kept = subst (λ (i : Image). IsKept mid.sectors i b) image (mid_kept kept running keeps);
       size = keeps.touches.size;
-      frozen = ap (λ (i : Image). frozen_of i b k) (sym image) ∙ frozen_after old mid b was now k kept running keeps;
-      stored = ap (λ (i : Image). stored_in i b) (sym image) ∙ stored_after old mid b was now k kept running keeps;
+      frozen = ap (λ (i : Image). frozen_of i b k) (sym image) ∙ frozen_after kept running keeps;
+      stored = ap (λ (i : Image). stored_in i b) (sym image) ∙ stored_after kept running keeps;
       sound = λ sound. subst (λ (i : Image). LeavesState mid (saved_state i b)) image (goes.sound sound);
-      any_moment = λ sound. leaves_raw old mid was now (λ c. Holds old.sectors c (kept_of (saved_state (mended old.seen was) b))) (goes.any_moment sound);
+      any_moment = λ sound. leaves_raw was now (λ c. Holds old.sectors c (kept_of (saved_state (mended old.seen was) b))) (goes.any_moment sound);
     }
 
 -- ---- said of the header and the entries that are committed
 
-pub keeps_at : (b : Books) (old mid : Disk) (was now : Option Unwritten) (p : Plan) (h : CheckpointHeader) (es : List Entry) {age : ℕ} → p ≡ b.plan →
-    h ≡ next_header age b → es ≡ entries_of b.frozen → Keeps p h.generation es old was mid now
-    → Keeps b.plan (frozen_generation b) (entries_of b.frozen) old was mid now
-keeps_at b old mid was now p h es plan header entries keeps =
-    subst (λ (q : Plan). Keeps q (frozen_generation b) (entries_of b.frozen) old was mid now) plan
-    (subst (λ (x : CheckpointHeader). Keeps p x.generation (entries_of b.frozen) old was mid now) header
-    (subst (λ (fs : List Entry). Keeps p h.generation fs old was mid now) entries keeps))
+pub keeps_at : (b : Books) {old mid : Disk} {was now : Option Unwritten} {h : CheckpointHeader} {es : List Entry} {age : ℕ} → h ≡ next_header age b →
+    es ≡ entries_of b.frozen → Keeps b.plan h.generation es old was mid now → Keeps b.plan (frozen_generation b) (entries_of b.frozen) old was mid now
+keeps_at b {old} {mid} {was} {now} {es = es} header entries keeps =
+    subst (λ (fs : List Entry). Keeps b.plan (frozen_generation b) fs old was mid now) entries
+    (subst (λ (x : CheckpointHeader). Keeps b.plan x.generation es old was mid now) header keeps)
 
-pub complete_at : (b : Books) (image : Image) (p : Plan) (h : CheckpointHeader) (es : List Entry) {age : ℕ} → p ≡ b.plan → h ≡ next_header age b →
-    es ≡ entries_of b.frozen → AreComplete image p h.generation es
-    → AreComplete image b.plan (frozen_generation b) (entries_of b.frozen)
-complete_at b image p h es plan header entries complete =
-    subst (λ (q : Plan). AreComplete image q (frozen_generation b) (entries_of b.frozen)) plan
-    (subst (λ (x : CheckpointHeader). AreComplete image p x.generation (entries_of b.frozen)) header
-    (subst (λ (fs : List Entry). AreComplete image p h.generation fs) entries complete))
+pub complete_at : (b : Books) (image : Image) {h : CheckpointHeader} {es : List Entry} {age : ℕ} → h ≡ next_header age b → es ≡ entries_of b.frozen →
+    AreComplete image b.plan h.generation es → AreComplete image b.plan (frozen_generation b) (entries_of b.frozen)
+complete_at b image {es = es} header entries complete =
+    subst (λ (fs : List Entry). AreComplete image b.plan (frozen_generation b) fs) entries
+    (subst (λ (x : CheckpointHeader). AreComplete image b.plan x.generation es) header complete)
 
 -- what is to be saved may be
-pub keepable_at : (age : ℕ) (old : Disk) (image : Image) (b : Books) (k : ℕ) (mid : Disk) → IsReady old image b k mid →
+pub keepable_at : {age : ℕ} {old : Disk} {image : Image} {b : Books} {k : ℕ} {mid : Disk} → IsReady old image b k mid →
     AreKeepable b.plan.geometry age (next_saved puts age (frozen_of image b k) (stored_in image b).saved).frames
     → AreKeepable b.plan.geometry age (next_saved puts age (frozen_of mid.seen b k) (stored_in mid.seen b).saved).frames
-keepable_at age old image b k mid is keepable =
+keepable_at {age} {image} {b} {k} {mid} is keepable =
     subst (λ (s : Stored). AreKeepable b.plan.geometry age (next_saved puts age (frozen_of mid.seen b k) s.saved).frames) (sym is.stored)
     (subst (λ (f : FrozenPuts). AreKeepable b.plan.geometry age (next_saved puts age f (stored_in image b).saved).frames) (sym is.frozen) keepable)

@@ -15,12 +15,11 @@ use Rattle.migrator.proofs.Spared.{bytes_stay}
 -- ---- a cluster is put together
 
 -- the frames at home were gathered, and that of the entry was packed over its own
-pub filled : (image : Image) (p : Plan) (generation rank : ℕ) (e : Entry) (node old new : List ℕ) → IsPlan p → IsObject p.geometry e.object →
+pub filled : (image : Image) {p : Plan} (generation rank : ℕ) (e : Entry) (node old new : List ℕ) → IsPlan p → IsObject p.geometry e.object →
     shape_of p e.object ≡ Packed rank → IsGathered image p generation [] (e.object - rank) old
     → shaped_at image (slot_sector p generation e.slot) (Packed rank) ≡ node → shape_bytes (Packed rank) new ≡ node →
-    ((other : ℕ) → other < 5 → (other ≡ rank → ⊥) → shape_bytes (Packed other) new ≡ shape_bytes (Packed other) old)
-    → IsFilled image p generation e new
-filled image p generation rank e node old new fits is shape gathered read packed others = record {
+    ((other : ℕ) → other < 5 → (other ≡ rank → ⊥) → shape_bytes (Packed other) new ≡ shape_bytes (Packed other) old) → IsFilled image p generation e new
+filled image {p} generation rank e node old new fits is shape gathered read packed others = record {
   own = ap (λ (s : Shape). shape_bytes s new) shape ∙ packed ∙ sym read ∙ ap (shaped_at image (slot_sector p generation e.slot)) (sym shape);
   others = λ n is_n same differ.
       let start = begins p e.object rank fits is shape in
@@ -36,18 +35,18 @@ filled image p generation rank e node old new fits is shape gathered read packed
 -- ---- it is written into the slot of its entry
 
 -- the rest of it was made zeros
-pub filled_on : (image : Image) (p : Plan) (generation first : ℕ) (e : Entry) (old new : List ℕ) → home_place p first ≡ home_place p e.object →
+pub filled_on : {image : Image} {p : Plan} {generation : ℕ} (first : ℕ) {e : Entry} {old new : List ℕ} → home_place p first ≡ home_place p e.object →
     IsObject p.geometry e.object
     → ((n : ℕ) → IsObject p.geometry n → home_place p n ≡ home_place p first → shape_bytes (shape_of p n) new ≡ shape_bytes (shape_of p n) old) →
     IsFilled image p generation e old → IsFilled image p generation e new
-filled_on image p generation first e old new home is stays was = record {
+filled_on first {e} home is stays was = record {
   own = stays e.object is (sym home) ∙ was.own;
   others = λ n is_n same differ. stays n is_n (same ∙ sym home) ∙ was.others n is_n same differ;
 }
 
-half_of_slot : (p : Plan) (generation slot : ℕ) → slot < p.geometry.log → IsInside (record { sector = slot_sector p generation slot; length = 8 })
+half_of_slot : (p : Plan) (generation : ℕ) {slot : ℕ} → slot < p.geometry.log → IsInside (record { sector = slot_sector p generation slot; length = 8 })
     (half_extent p.geometry (half_sector p generation))
-half_of_slot p generation slot low = record { starts = omega arith; ends = omega (arith, low) }
+half_of_slot p generation low = record { starts = omega arith; ends = omega (arith, low) }
 
 -- what a slot then has
 cluster_read : (image : Image) (u : Unwritten) → length u.bytes ≡ 4096 → sectors_from (mended image (Some u)) u.sector 8 ≡ u.bytes
@@ -56,88 +55,84 @@ cluster_read image u size =
     subst (λ (k : ℕ). sectors_from (mended image (Some u)) u.sector k ≡ u.bytes) eight
     (whole_sectors (mended image (Some u)) u.sector u.bytes (omega (arith, size)) (λ j lt.
     let few : u.sector + j - u.sector ≡ j = omega arith in
-    sym (mended_here image u (u.sector + j) (omega arith) (omega (arith, lt, size)) ∙ ap (image_of u.bytes) few)))
+    sym (mended_here image u (omega arith) (omega (arith, lt, size)) ∙ ap (image_of u.bytes) few)))
 
 -- the zeros of a cluster stand in the slot that it was written into
-pub zeros_written : (p : Plan) (n : ℕ) (old new : Image) (u : Unwritten) (now : Option Unwritten) → length u.bytes ≡ 4096 →
-    mended new now ≡ mended old (Some u) → now ≡ None → HasZerosAt p n u.bytes
-    → HasZerosAt p n (sectors_from new u.sector 8)
-zeros_written p n old new u now size seen none zeros rank shape =
+pub zeros_written : {p : Plan} (n : ℕ) (old new : Image) (u : Unwritten) {now : Option Unwritten} → length u.bytes ≡ 4096 →
+    mended new now ≡ mended old (Some u) → now ≡ None → HasZerosAt p n u.bytes → HasZerosAt p n (sectors_from new u.sector 8)
+zeros_written {p} n old new u size seen none zeros rank shape =
     let there : new ≡ mended old (Some u) = ap (mended new) (sym none) ∙ seen in
     subst (EndsInZeros p (n - rank)) (sym (ap (λ (image : Image). sectors_from image u.sector 8) there ∙ cluster_read old u size)) (zeros rank shape)
 
-pub packed_read : (image : Image) (u : Unwritten) (p : Plan) (n rank : ℕ) → length u.bytes ≡ 4096 → shape_of p n ≡ Packed rank →
+pub packed_read : (image : Image) (u : Unwritten) (p : Plan) (n : ℕ) {rank : ℕ} → length u.bytes ≡ 4096 → shape_of p n ≡ Packed rank →
     bytes_at (mended image (Some u)) u.sector p n ≡ shape_bytes (shape_of p n) u.bytes
-packed_read image u p n rank size shape =
+packed_read image u p n {rank} size shape =
     ap (shaped_at (mended image (Some u)) u.sector) shape ∙ ap (shape_bytes (Packed rank)) (cluster_read image u size) ∙
     ap (λ (s : Shape). shape_bytes s u.bytes) (sym shape)
 
-module _ (image new : Image) (p : Plan) (generation : ℕ) (es : List Entry) (i : ℕ) (fits : IsPlan p) (is : IsDirectory p.geometry es) (within : i < length es)
-  where
-    abbrev e : Entry
-    e = entry_at es i
+module _ {p : Plan} (generation : ℕ) {es : List Entry} (i : ℕ) (fits : IsPlan p) (is : IsDirectory p.geometry es) (within : i < length es) where
+  abbrev e : Entry
+  e = entry_at es i
 
-    -- each that shares the home, and has no entry, isn't the entry's object
-    other_object : (n : ℕ) → slot_in es n ≡ None → n ≡ e.object → ⊥
-    other_object n none same = let never : None ≡ Some e.slot = sym none ∙ ap (slot_in es) same ∙ own_slot es i is.rising within in cc
+  -- each that shares the home, and has no entry, isn't the entry's object
+  other_object : (n : ℕ) → slot_in es n ≡ None → n ≡ e.object → ⊥
+  other_object n none same = let never : None ≡ Some e.slot = sym none ∙ ap (slot_in es) same ∙ own_slot es i is.rising within in cc
 
-    -- an entry whose frame is not packed has a home of its own
-    pub own_complete : IsOwn (shape_of p e.object) → IsComplete image p generation es i
-    own_complete own first n is_n same none = absurd
-        (other_object n none (alone p n e.object fits is_n (is.each i (record { object = 0; slot = 0 }) within).object own same))
+  -- an entry whose frame is not packed has a home of its own
+  pub own_complete : (image : Image) → IsOwn (shape_of p e.object) → IsComplete image p generation es i
+  own_complete image own first n is_n same none = absurd
+      (other_object n none (alone p n e.object fits is_n (is.each i (record { object = 0; slot = 0 }) within).object own same))
 
-    -- and one that follows another completes nothing
-    pub later_complete : (0 < i) × (home_place p (entry_at es (i - 1)).object ≡ home_place p e.object) → IsComplete image p generation es i
-    later_complete follows first n is_n same none = absurd (first (i - 1) (omega (arith, follows.0)) follows.1)
+  -- and one that follows another completes nothing
+  pub later_complete : (image : Image) → (0 < i) × (home_place p (entry_at es (i - 1)).object ≡ home_place p e.object) → IsComplete image p generation es i
+  later_complete image follows first n is_n same none = absurd (first (i - 1) (omega (arith, follows.0)) follows.1)
 
-    -- the sectors of the slot that a cluster takes
-    abbrev sectors : Extent
-    sectors = record { sector = slot_sector p generation e.slot; length = 8 }
+  -- the sectors of the slot that a cluster takes
+  abbrev sectors : Extent
+  sectors = record { sector = slot_sector p generation e.slot; length = 8 }
 
-    slot_low : e.slot < p.geometry.log
-    slot_low = (is.each i (record { object = 0; slot = 0 }) within).slot
+  slot_low : e.slot < p.geometry.log
+  slot_low = (is.each i (record { object = 0; slot = 0 }) within).slot
 
-    sectors_inside : IsInside sectors (slot_extent p generation e.slot)
-    sectors_inside = record { starts = omega arith; ends = omega arith }
+  sectors_inside : IsInside sectors (slot_extent p generation e.slot)
+  sectors_inside = record { starts = omega arith; ends = omega arith }
 
-    -- lie apart from the other slots
-    others_apart : (j n : ℕ) → j < length es → (j ≡ i → ⊥) → IsApart (place_extent p generation (entry_at es j).slot n) sectors
-    others_apart j n lt other =
-        apart_inside (place_extent p generation (entry_at es j).slot n) sectors (slot_extent p generation (entry_at es j).slot)
-        (slot_extent p generation e.slot)
-        (frames_in_slots p generation (entry_at es j).slot n) sectors_inside (slots_apart p generation (entry_at es j).slot e.slot differ) where
-          differ : (entry_at es j).slot ≡ e.slot → ⊥
-          differ same = elim (cases_eq j i) [
-            | inl one ↦ other one
-            | inr differs ↦ elim (cases_lt j i) [
-              | inl less ↦ is.apart j i less within same
-              | inr le ↦ is.apart i j (omega (arith, le, differs)) lt (sym same)
-            ]
+  -- lie apart from the other slots
+  others_apart : {j : ℕ} (n : ℕ) → j < length es → (j ≡ i → ⊥) → IsApart (place_extent p generation (entry_at es j).slot n) sectors
+  others_apart {j} n lt other =
+      apart_inside (place_extent p generation (entry_at es j).slot n) sectors (slot_extent p generation (entry_at es j).slot) (slot_extent p generation e.slot)
+      (frames_in_slots p generation (entry_at es j).slot n) sectors_inside (slots_apart p generation (entry_at es j).slot e.slot differ) where
+        differ : (entry_at es j).slot ≡ e.slot → ⊥
+        differ same = elim (cases_eq j i) [
+          | inl one ↦ other one
+          | inr differs ↦ elim (cases_lt j i) [
+            | inl less ↦ is.apart j i less within same
+            | inr le ↦ is.apart i j (omega (arith, le, differs)) lt (sym same)
           ]
+        ]
 
-    -- and from the homes
-    homes_apart : (n : ℕ) → IsObject p.geometry n → IsApart (record { sector = home_place p n; length = place_length p n }) sectors
-    homes_apart n is_n = home_apart p generation n sectors fits is_n (half_of_slot p generation e.slot slot_low)
+  -- and from the homes
+  homes_apart : {n : ℕ} → IsObject p.geometry n → IsApart (record { sector = home_place p n; length = place_length p n }) sectors
+  homes_apart {n} is_n = home_apart generation fits is_n (half_of_slot p generation slot_low)
 
-    module _ (change : Elsewhere (slot_sector p generation e.slot) 8 image new) where
-      -- what the other slots and the homes have stays
-      pub slot_stays : (j n : ℕ) → j < length es → (j ≡ i → ⊥) → slot_bytes new p generation (entry_at es j).slot n ≡ slot_bytes image p generation
-          (entry_at es j).slot n
-      slot_stays j n lt other = bytes_stay (slot_sector p generation (entry_at es j).slot) p n sectors image new (others_apart j n lt other) change
+  module _ {image new : Image} (change : Elsewhere (slot_sector p generation e.slot) 8 image new) where
+    -- what the other slots and the homes have stays
+    pub slot_stays : {j : ℕ} (n : ℕ) → j < length es → (j ≡ i → ⊥) → slot_bytes new p generation (entry_at es j).slot n ≡ slot_bytes image p generation
+        (entry_at es j).slot n
+    slot_stays {j} n lt other = bytes_stay p n (others_apart n lt other) change
 
-      pub home_stays : (n : ℕ) → IsObject p.geometry n → bytes_at new (home_place p n) p n ≡ bytes_at image (home_place p n) p n
-      home_stays n is_n = bytes_stay (home_place p n) p n sectors image new (homes_apart n is_n) change
+    pub home_stays : {n : ℕ} → IsObject p.geometry n → bytes_at new (home_place p n) p n ≡ bytes_at image (home_place p n) p n
+    home_stays {n} is_n = bytes_stay p n (homes_apart is_n) change
 
-      -- so do the clusters that are complete
-      pub complete_stays : (j : ℕ) → j < i → IsComplete image p generation es j → IsComplete new p generation es j
-      complete_stays j less was first n is_n same none =
-          slot_stays j n (omega (arith, less, within)) (λ e. omega (arith, less, e)) ∙ was first n is_n same none ∙ sym (home_stays n is_n)
+    -- so do the clusters that are complete
+    pub complete_stays : {j : ℕ} → j < i → IsComplete image p generation es j → IsComplete new p generation es j
+    complete_stays {j} less was first n is_n same none =
+        slot_stays n (omega (arith, less, within)) (λ e. omega (arith, less, e)) ∙ was first n is_n same none ∙ sym (home_stays is_n)
 
 -- ---- the outcome for one entry's cluster
 
-module _ (old : Disk) (p : Plan) (generation : ℕ) (es : List Entry) (i rank : ℕ) (fits : IsPlan p) (is : IsDirectory p.geometry es) (within : i < length es)
-    (shape : shape_of p (entry_at es i).object ≡ Packed rank)
-    (bytes : List ℕ) (size : length bytes ≡ 4096) (filled : IsFilled old.seen p generation (entry_at es i) bytes) where
+module _ {p : Plan} (generation : ℕ) {es : List Entry} (i : ℕ) {rank : ℕ} (fits : IsPlan p) (is : IsDirectory p.geometry es) (within : i < length es)
+    (shape : shape_of p (entry_at es i).object ≡ Packed rank) (bytes : List ℕ) (size : length bytes ≡ 4096) where
   abbrev entry : Entry
   entry = entry_at es i
 
@@ -150,13 +145,13 @@ module _ (old : Disk) (p : Plan) (generation : ℕ) (es : List Entry) (i rank : 
   low : entry.slot < p.geometry.log
   low = (is.each i (record { object = 0; slot = 0 }) within).slot
 
-  module _ (new : Disk) (now : Option Unwritten) (seen : mended new.seen now ≡ mended old.seen (Some u)) (touches : Touches u.sector 8 old new)
-      (either : (now ≡ None) ⊎ (now ≡ Some u)) where
+  module _ {old new : Disk} (now : Option Unwritten) (filled : IsFilled old.seen p generation (entry_at es i) bytes)
+      (seen : mended new.seen now ≡ mended old.seen (Some u)) (touches : Touches u.sector 8 old new) (either : (now ≡ None) ⊎ (now ≡ Some u)) where
     change : Elsewhere u.sector 8 old.seen (mended new.seen now)
-    change = subst (Elsewhere u.sector 8 old.seen) (sym seen) (mended_elsewhere old.seen u)
+    change = subst (Elsewhere u.sector 8 old.seen) (sym seen) (mended_elsewhere u)
 
-    now_fits : (o : Option Unwritten) → (o ≡ None) ⊎ (o ≡ Some u) → IfUnwritten p generation es o
-    now_fits o which = elim which [
+    now_fits : {o : Option Unwritten} → (o ≡ None) ⊎ (o ≡ Some u) → IfUnwritten p generation es o
+    now_fits which = elim which [
       | inl none ↦ subst (IfUnwritten p generation es) (sym none) tt
       | inr some ↦ subst (IfUnwritten p generation es) (sym some)
           (record { size = size; index = i; within = within; sector_is = refl; rank = rank; shape = shape })
@@ -166,9 +161,8 @@ module _ (old : Disk) (p : Plan) (generation : ℕ) (es : List Entry) (i rank : 
     kept_one = record {
       touches = touches;
       elsewhere = change;
-      own = ap (λ (image : Image). slot_bytes image p generation entry.slot entry.object) seen ∙ packed_read old.seen u p entry.object rank size shape ∙
-          filled.own;
-      unwritten = now_fits now either;
+      own = ap (λ (image : Image). slot_bytes image p generation entry.slot entry.object) seen ∙ packed_read old.seen u p entry.object size shape ∙ filled.own;
+      unwritten = now_fits either;
     }
 
     pub one_complete : now ≡ None → IsComplete new.seen p generation es i
@@ -176,33 +170,32 @@ module _ (old : Disk) (p : Plan) (generation : ℕ) (es : List Entry) (i rank : 
         let start = begins p entry.object rank fits object shape in
         let at = ranked p n (entry.object - rank) fits is_n (omega (arith, object)) start.first (same ∙ sym start.home) in
         let there : new.seen ≡ mended old.seen (Some u) = ap (mended new.seen) (sym none) ∙ seen in
-        ap (λ (image : Image). slot_bytes image p generation entry.slot n) there ∙ packed_read old.seen u p n (n - (entry.object - rank)) size at.2
-        ∙ filled.others n is_n same (other_object old.seen new.seen p generation es i fits is within n no_slot)
-        ∙ sym (ap (λ (image : Image). bytes_at image (home_place p n) p n) there ∙ home_stays old.seen (mended old.seen (Some u)) p generation es i fits is
-        within (mended_elsewhere old.seen u) n is_n)
+        ap (λ (image : Image). slot_bytes image p generation entry.slot n) there ∙ packed_read old.seen u p n size at.2
+        ∙ filled.others n is_n same (other_object generation i fits is within n no_slot)
+        ∙ sym (ap (λ (image : Image). bytes_at image (home_place p n) p n) there ∙ home_stays generation i fits is within (mended_elsewhere u) is_n)
 
 -- ---- one after the other
 
 -- the device isn't called
-pub touches_none : (at n : ℕ) (disk : Disk) → OnlyNow disk → Touches at n disk disk
-touches_none at n disk only_now = record {
+pub touches_none : {at n : ℕ} {disk : Disk} → OnlyNow disk → Touches at n disk disk
+touches_none {at} {n} {disk} only_now = record {
   size = refl;
   elsewhere = record { before = λ i lt. refl; after = λ i le. refl };
   crash = λ c left. (c, left, record { before = λ i lt. refl; after = λ i le. refl });
   any_moment = started disk (IsTorn at n disk) only_now (λ c left. (c, left, record { before = λ i lt. refl; after = λ i le. refl }));
 }
 
-pub keeps_one_none : (p : Plan) (generation : ℕ) (es : List Entry) (i : ℕ) (disk : Disk) → OnlyNow disk → KeepsOne p generation es i disk disk None
-keeps_one_none p generation es i disk only_now = record {
-  touches = touches_none (slot_sector p generation (entry_at es i).slot) 8 disk only_now;
+pub keeps_one_none : {p : Plan} {generation : ℕ} {es : List Entry} {i : ℕ} {disk : Disk} → OnlyNow disk → KeepsOne p generation es i disk disk None
+keeps_one_none {p} {generation} {es} {i} {disk} only_now = record {
+  touches = touches_none only_now;
   elsewhere = record { before = λ i lt. refl; after = λ i le. refl };
   own = refl;
   unwritten = tt;
 }
 
-slots_hold : (p : Plan) (generation slot : ℕ) → slot < p.geometry.log → IsInside (record { sector = slot_sector p generation slot; length = 8 })
+slots_hold : (p : Plan) (generation : ℕ) {slot : ℕ} → slot < p.geometry.log → IsInside (record { sector = slot_sector p generation slot; length = 8 })
     (record { sector = half_sector p generation; length = 9 * p.geometry.log })
-slots_hold p generation slot low = record { starts = omega arith; ends = omega (arith, low) }
+slots_hold p generation low = record { starts = omega arith; ends = omega (arith, low) }
 
 -- after a write nothing is unwritten, or the same as before
 pub either_of : {T E : Type 0} {o p : Option Unwritten} (result : Result T E) → OnOk result (p ≡ None) → OnErr result (p ≡ o) → (p ≡ None) ⊎ (p ≡ o)
@@ -210,21 +203,21 @@ either_of (Ok x) none same = inl none
 either_of (Err e) none same = inr same
 
 -- a cluster that the device failed to write lies on it
-pub unwritten_inside : (p : Plan) (generation : ℕ) (es : List Entry) (o : Option Unwritten) (u : Unwritten) → IsPlan p → IsDirectory p.geometry es →
+pub unwritten_inside : {p : Plan} (generation : ℕ) {es : List Entry} {o : Option Unwritten} {u : Unwritten} → IsPlan p → IsDirectory p.geometry es →
     IfUnwritten p generation es o → o ≡ Some u → u.sector + 8 ≤ p.total
-unwritten_inside p generation es o u fits is has some =
+unwritten_inside {p} generation {es} {u} fits is has some =
     let entry : IsUnwritten p generation es u = subst (IfUnwritten p generation es) some has in
     let low = (is.each entry.index (record { object = 0; slot = 0 }) entry.within).slot in
-    let inside = half_of_slot p generation (entry_at es entry.index).slot low in
+    let inside = half_of_slot p generation low in
     let half = halves_within p generation fits in
     omega (arith, inside.ends, half.1, entry.sector_is)
 
 -- a cluster that the device failed to write before is written
-pub keeps_written : (p : Plan) (generation : ℕ) (es : List Entry) (old new : Disk) (was now : Option Unwritten) → OnlyNow old → IsDirectory p.geometry es →
+pub keeps_written : {p : Plan} {generation : ℕ} {es : List Entry} {old new : Disk} {was now : Option Unwritten} → OnlyNow old → IsDirectory p.geometry es →
     IfUnwritten p generation es was → mended new.seen now ≡ mended old.seen was
     → ((u : Unwritten) → was ≡ Some u → Touches u.sector 8 old new) → (was ≡ None → new ≡ old) → (now ≡ None) ⊎ (now ≡ was) →
     Keeps p generation es old was new now
-keeps_written p generation es old new was now only_now is fits seen touches none either = record {
+keeps_written {p} {generation} {es} {old} {new} {was} only_now is fits seen touches none either = record {
   touches = touched was refl fits;
   elsewhere = subst (Elsewhere (half_sector p generation) (9 * p.geometry.log) (mended old.seen was)) (sym seen)
       (record { before = λ i lt. refl; after = λ i le. refl });
@@ -232,31 +225,27 @@ keeps_written p generation es old new was now only_now is fits seen touches none
   unwritten = elim either [ inl empty ↦ subst (IfUnwritten p generation es) (sym empty) tt | inr same ↦ subst (IfUnwritten p generation es) (sym same) fits ];
 } where
   touched : (o : Option Unwritten) → was ≡ o → IfUnwritten p generation es o → Touches (half_sector p generation) (9 * p.geometry.log) old new
-  touched None empty fits = subst (Touches (half_sector p generation) (9 * p.geometry.log) old) (sym (none empty))
-      (touches_none (half_sector p generation) (9 * p.geometry.log) old only_now)
+  touched None empty fits = subst (Touches (half_sector p generation) (9 * p.geometry.log) old) (sym (none empty)) (touches_none only_now)
   touched (Some u) some fits =
-      touches_within u.sector 8 (record { sector = half_sector p generation; length = 9 * p.geometry.log }) old new
-      (let inside = slots_hold p generation (entry_at es fits.index).slot (is.each fits.index (record { object = 0; slot = 0 }) fits.within).slot in
+      touches_within (let inside = slots_hold p generation (is.each fits.index (record { object = 0; slot = 0 }) fits.within).slot in
       record { starts = omega (arith, inside.starts, fits.sector_is); ends = omega (arith, inside.ends, fits.sector_is) }) (touches u some)
 
 -- one entry's slot more
-pub keeps_more : (p : Plan) (generation : ℕ) (es : List Entry) (i : ℕ) (old mid new : Disk) (was now : Option Unwritten) → IsPlan p →
+pub keeps_more : {p : Plan} {generation : ℕ} {es : List Entry} {i : ℕ} {old mid new : Disk} {was now : Option Unwritten} → IsPlan p →
     IsDirectory p.geometry es → i < length es
     → Keeps p generation es old was mid None → KeepsOne p generation es i mid new now → Keeps p generation es old was new now
-keeps_more p generation es i old mid new was now fits is within so_far one =
+keeps_more {p} {generation} {es} {i} {old} {mid} {new} {was} {now} fits is within so_far one =
     let low : (entry_at es i).slot < p.geometry.log = (is.each i (record { object = 0; slot = 0 }) within).slot in
-    let inside = slots_hold p generation (entry_at es i).slot low in
+    let inside = slots_hold p generation low in
     let half : Extent = record { sector = half_sector p generation; length = 9 * p.geometry.log } in
     record {
-      touches = touches_on half.sector half.length old mid new so_far.touches
-          (touches_within (slot_sector p generation (entry_at es i).slot) 8 half mid new inside one.touches);
+      touches = touches_on so_far.touches (touches_within inside one.touches);
       elsewhere = elsewhere_on half.sector half.length (mended old.seen was) mid.seen (mended new.seen now) so_far.elsewhere
-          (elsewhere_within (slot_sector p generation (entry_at es i).slot) 8 half mid.seen (mended new.seen now) inside one.elsewhere);
+          (elsewhere_within inside one.elsewhere);
       frames = λ j lt. elim (cases_eq j i) [
         | inl same ↦ subst (λ (k : ℕ). slot_bytes (mended new.seen now) p generation (entry_at es k).slot (entry_at es k).object ≡ slot_bytes mid.seen p
             generation (entry_at es k).slot (entry_at es k).object) (sym same) one.own ∙ so_far.frames j lt
-        | inr other ↦ slot_stays mid.seen (mended new.seen now) p generation es i fits is within one.elsewhere j (entry_at es j).object lt other ∙
-            so_far.frames j lt
+        | inr other ↦ slot_stays generation i fits is within one.elsewhere (entry_at es j).object lt other ∙ so_far.frames j lt
       ];
       unwritten = one.unwritten;
     }

@@ -1,10 +1,9 @@
 -- All that is saved is home, and a header says so.
-use Rattle.migrator.proofs.Names.{ℕ, Bool, false, cond, Option, Some, None, List, [], refl, sym, ap, subst, inr, arith, ne_eqb, Frame, Disk, Extent}
+use Rattle.migrator.proofs.Names.{MayFinish, ℕ, Bool, false, cond, Option, Some, None, List, [], refl, sym, ap, subst, inr, arith, ne_eqb, Frame, Disk, Extent}
 use Rattle.migrator.proofs.Names.{CheckpointHeader, IsDirectory, IsHeader, frame_in, frame_slot_in, half_sector, count_of, AreSpelt, frames_read, Plan, IsApart}
 use Rattle.migrator.proofs.Names.{IsInside, half_extent, half_within, within_inside, read_same, spelt_same, frame_slot_entry, home_extent, directory_extent}
-use Rattle.migrator.proofs.Names.{Nowhere, place_at, Books, IsDurable, IsSoundOn, seen_by, stored_on, frozen_generation, working_generation, generation_after}
-use Rattle.migrator.proofs.Names.{Stored, saved_state, stored_in, IsRunning, IsKept, LeavesState, all_moved, home_header, MayAdopt, MaySave, SparesKept}
-use Rattle.migrator.proofs.Names.{SparesPuts, adopted, SparesFrames, Spares, Unwritten, mended, on_snapshots}
+use Rattle.migrator.proofs.Names.{Nowhere, place_at, Books, stored_on, frozen_generation, working_generation, generation_after, Stored, stored_in, IsRunning}
+use Rattle.migrator.proofs.Names.{IsKept, all_moved, home_header, MayAdopt, SparesPuts, adopted, SparesFrames, Spares, Unwritten, mended, on_snapshots}
 use Rattle.std.proofs.Common.{◌≡◌, ◌+◌, ◌-◌, ◌*◌, ◌%◌, ◌<◌, ◌≤◌, ◌∙◌}
 use Rattle.std.specs.Prelude.{◌==◌}
 use Rattle.migrator.proofs.PlacesApart.{at_home, frame_apart, home_apart}
@@ -12,7 +11,8 @@ use Rattle.migrator.proofs.FrameSlots.{frame_slot_fits}
 use Rattle.migrator.proofs.Putting.{none_spares, half_spares, homes_spare, other_parity}
 use Rattle.migrator.proofs.Committing.{slots_apart_directory, directory_inside}
 use Rattle.migrator.proofs.Moving.{no_checkpoint}
-use Rattle.migrator.proofs.Adopting.{with_header, idle_books, kept_raw, may_adopt_idle, sound_raw}
+use Rattle.migrator.proofs.Adopting.{with_header, idle_books, may_adopt_idle}
+use Rattle.migrator.proofs.Saving.{kept_raw}
 use Rattle.migrator.proofs.Buffered.{none_idle}
 
 no_directory : (p : Plan) → IsDirectory p.geometry []
@@ -22,18 +22,27 @@ no_directory p = record {
   apart = λ i j lt within. absurd (omega (arith, within));
 }
 
-home_fits : (room : ℕ) (h : CheckpointHeader) → IsHeader room h → 0 < h.entries → IsHeader room (home_header h)
-home_fits room h is some =
+home_fits : {room : ℕ} {h : CheckpointHeader} → IsHeader room h → 0 < h.entries → IsHeader room (home_header h)
+home_fits {h} is some =
     let test : (h.entries == 0) ≡ false = ne_eqb h.entries 0 (λ none. omega (arith, none, some)) in
     let few : h.sequence ≤ 2 * h.age + 0 = subst (λ (t : Bool). h.sequence ≤ 2 * h.age + cond t 1 0) test is.sequence in
     record { entries = omega arith; age = is.age; generation = is.generation; sequence = omega (arith, few); entries_fit = omega arith }
 
-module _ (disk : Disk) (b : Books) (is : IsDurable disk b) (some : 0 < b.header.entries) (all : b.moved ≡ b.header.entries) where
+module _ {disk : Disk} {b : Books} (may : MayFinish disk b) where
   none : b.size ≡ None
-  none = no_checkpoint disk.sectors (seen_by disk.seen b) b is.kept some
+  none = no_checkpoint may.stands.kept may.some
+
+  written : b.unwritten ≡ None
+  written = none_idle b b.unwritten may.stands.unwritten none
 
   kept : IsKept disk.sectors disk.seen b
-  kept = kept_raw disk b (none_idle b b.unwritten is.unwritten none) is
+  kept = kept_raw written may.stands
+
+  abbrev header : CheckpointHeader
+  header = home_header b.header
+
+  abbrev books : Books
+  books = with_header b header []
 
   abbrev extent : Extent
   extent = directory_extent b.plan b.header.generation 0
@@ -45,24 +54,25 @@ module _ (disk : Disk) (b : Books) (is : IsDurable disk b) (some : 0 < b.header.
   inside_half = directory_inside b.plan b.header.generation 0 (omega arith)
 
   -- an object's home frame is its saved frame
-  same_frame : (n : ℕ) → n < count_of b.plan → frame_in disk.seen b.plan b.header.generation [] n ≡ frame_in disk.seen b.plan b.header.generation b.directory n
-  same_frame n lt = by (frame_slot_in b.plan b.directory n) refl where
+  same_frame : {n : ℕ} → n < count_of b.plan → frame_in disk.seen b.plan b.header.generation [] n ≡ frame_in disk.seen b.plan b.header.generation b.directory n
+  same_frame {n} lt = by (frame_slot_in b.plan b.directory n) refl where
     by : (o : Option ℕ) → frame_slot_in b.plan b.directory n ≡ o → frame_in disk.seen b.plan b.header.generation [] n ≡ frame_in disk.seen b.plan
         b.header.generation b.directory n
     by None is = at_home disk.seen b.plan b.header.generation [] n refl ∙ sym (at_home disk.seen b.plan b.header.generation b.directory n is)
     by (Some s) is =
         let entry = frame_slot_entry b.plan b.directory n s is in
-        at_home disk.seen b.plan b.header.generation [] n refl ∙ kept.moved entry.index (omega (arith, entry.within, kept.count, all)) n lt (sym entry.home_is)
+        at_home disk.seen b.plan b.header.generation [] n refl ∙ kept.moved entry.index (omega (arith, entry.within, kept.count, may.all)) n lt
+        (sym entry.home_is)
 
   frames_home : frames_read disk.seen b.plan b.header.generation [] ≡ frames_read disk.seen b.plan b.header.generation b.directory
-  frames_home = read_same disk.seen disk.seen b.plan b.header.generation b.header.generation [] b.directory (λ n lt. same_frame n lt)
+  frames_home = read_same disk.seen disk.seen b.plan b.header.generation b.header.generation [] b.directory (λ n lt. same_frame lt)
 
   spelt_home : AreSpelt disk.seen b.plan b.header.age b.header.generation []
-  spelt_home n lt = spelt_same disk.seen disk.seen b.plan b.header.age b.header.generation b.header.generation [] b.directory n (same_frame n lt)
+  spelt_home n lt = spelt_same disk.seen disk.seen b.plan b.header.age b.header.generation b.header.generation [] b.directory n (same_frame lt)
       (kept.saved n lt)
 
-  spares_homes : (n : ℕ) → n < count_of b.plan → IsApart (home_extent b.plan n) extent
-  spares_homes n lt = home_apart b.plan b.header.generation n extent kept.plan lt inside_half
+  spares_homes : {n : ℕ} → n < count_of b.plan → IsApart (home_extent b.plan n) extent
+  spares_homes {n} lt = home_apart b.header.generation kept.plan lt inside_half
 
   spares : Spares b.plan b.header b.directory extent
   spares = record {
@@ -70,69 +80,17 @@ module _ (disk : Disk) (b : Books) (is : IsDurable disk b) (some : 0 < b.header.
         (half_within b.plan b.header.generation kept.plan)).0;
     directory = inr (inr (omega arith));
     frames = λ n lt. frame_apart b.plan b.header.generation b.directory n extent
-        (λ s is. slots_apart_directory b.plan b.header.generation s 0 n (frame_slot_fits b.plan b.directory n s kept.directory is) (omega arith))
-        (λ _. spares_homes n lt);
+        (λ s is. slots_apart_directory b.plan b.header.generation 0 n (frame_slot_fits b.plan n kept.directory is) (omega arith)) (λ _. spares_homes lt);
   }
 
   spares_then : SparesFrames b.plan b.header.generation [] extent
-  spares_then n lt = frame_apart b.plan b.header.generation [] n extent (λ s is. absurd (let never : None ≡ Some s = is in cc)) (λ _. spares_homes n lt)
-
-  may_save : LeavesState disk (saved_state disk.seen b) → MaySave disk b.plan b.header b.directory (home_header b.header) []
-  may_save sound = record {
-    plan = kept.plan;
-    inside = kept.inside;
-    header = kept.header;
-    sound = sound;
-    fits = home_fits b.plan.geometry.log b.header kept.header some;
-    after = refl;
-    directory = no_directory b.plan;
-    count = refl;
-    spelt = spelt_home;
-    spares = spares;
-    spares_next = spares_then;
-  }
+  spares_then n lt = frame_apart b.plan b.header.generation [] n extent (λ s is. absurd (let never : None ≡ Some s = is in cc)) (λ _. spares_homes lt)
 
   next_half : working_generation b % 2 ≡ b.header.generation % 2 → ⊥
   next_half same = other_parity b.header.generation (sym (sym (ap (λ (o : Option ℕ). generation_after b.header.generation o % 2) none) ∙ same))
 
   working_spares : SparesPuts b.plan (working_generation b) b.working extent
-  working_spares = half_spares b.plan (working_generation b) b.header.generation b.working extent kept.plan next_half kept.working.table kept.working.few
-      inside_half
-
-  spares_now : SparesKept b extent
-  spares_now = record {
-    frames = spares.frames;
-    homes = homes_spare disk.sectors disk.seen b b.header.generation extent kept inside_half;
-    frozen = none_spares b.plan (frozen_generation b) b.frozen extent blank;
-    working = working_spares;
-  }
-
-  running_of : (o : Option ℕ) → IsRunning b o → IsRunning (with_header b (home_header b.header) []) o
-  running_of None is = is
-  running_of (Some k) is = (refl, is.1, is.2)
-
-  home_kept : IsKept disk.sectors disk.seen (with_header b (home_header b.header) [])
-  home_kept = record {
-    plan = kept.plan;
-    inside = kept.inside;
-    header = home_fits b.plan.geometry.log b.header kept.header some;
-    count = refl;
-    directory = no_directory b.plan;
-    saved = spelt_home;
-    few = omega arith;
-    moved = λ i lt. absurd (omega (arith, lt));
-    frozen = kept.frozen;
-    running = running_of b.size kept.running;
-    working = kept.working;
-  }
-
-  spares_home_books : SparesKept (with_header b (home_header b.header) []) extent
-  spares_home_books = record {
-    frames = spares_then;
-    homes = λ i lt. absurd (omega (arith, lt));
-    frozen = none_spares b.plan (frozen_generation b) b.frozen extent blank;
-    working = working_spares;
-  }
+  working_spares = half_spares (working_generation b) b.header.generation kept.plan next_half kept.working.table kept.working.few inside_half
 
   abbrev stored_as : List Frame → ℕ → Stored
   stored_as frames to_move = record
@@ -142,18 +100,43 @@ module _ (disk : Disk) (b : Books) (is : IsDurable disk b) (some : 0 < b.header.
         to_move = to_move;
       }
 
-  home_stored : stored_in disk.seen (with_header b (home_header b.header) []) ≡ on_snapshots all_moved (stored_in disk.seen b)
+  home_stored : stored_in disk.seen books ≡ on_snapshots all_moved (stored_in disk.seen b)
   home_stored =
       let zero' : 0 - 0 ≡ 0 = omega arith in
       ap (λ (fs : List Frame). stored_as fs (0 - 0)) frames_home ∙ ap (stored_as (frames_read disk.seen b.plan b.header.generation b.directory)) zero'
 
-  pub may_finish : IsSoundOn disk b → MayAdopt disk b (home_header b.header) []
-  may_finish sound =
-      may_adopt_idle disk b (home_header b.header) [] is none (may_save (sound_raw disk b (none_idle b b.unwritten is.unwritten none) sound)) home_kept
-      spares_now spares_home_books
+  pub may_finish : MayAdopt disk b (home_header b.header) []
+  may_finish = may_adopt_idle header [] may.stands none may.sound refl
+      (record {
+        readable = record {
+          plan = kept.plan;
+          inside = kept.inside;
+          header = home_fits kept.header may.some;
+          count = refl;
+          directory = no_directory b.plan;
+          saved = spelt_home;
+        };
+        few = omega arith;
+        moved = λ i lt. absurd (omega (arith, lt));
+        frozen = kept.frozen;
+        running = subst (IsRunning books) (sym none) blank;
+        working = kept.working;
+      }) spares
+      (record {
+        frames = spares.frames;
+        homes = homes_spare b.header.generation kept inside_half;
+        frozen = none_spares b.plan (frozen_generation b) b.frozen extent blank;
+        working = working_spares;
+      })
+      (record {
+        frames = spares_then;
+        homes = λ i lt. absurd (omega (arith, lt));
+        frozen = none_spares b.plan (frozen_generation b) b.frozen extent blank;
+        working = working_spares;
+      })
 
   pub finished_stored : stored_on disk (adopted (home_header b.header) [] b) ≡ on_snapshots all_moved (stored_on disk b)
   finished_stored =
-      ap (stored_on disk) (sym (idle_books disk b (home_header b.header) [] is none))
-      ∙ subst (λ (o : Option Unwritten). stored_in (mended disk.seen o) (with_header b (home_header b.header) []) ≡ on_snapshots all_moved
-      (stored_in (mended disk.seen o) b)) (sym (none_idle b b.unwritten is.unwritten none)) home_stored
+      ap (stored_on disk) (sym (idle_books header [] may.stands none))
+      ∙ subst (λ (o : Option Unwritten). stored_in (mended disk.seen o) books ≡ on_snapshots all_moved (stored_in (mended disk.seen o) b)) (sym written)
+      home_stored

@@ -9,8 +9,8 @@ use Rattle.migrator.proofs.Freezing.{puts_blank}
 use Rattle.migrator.proofs.GoingOn.{holds}
 use Rattle.migrator.proofs.Reading.{opened_sound}
 
-none_put : (image : Image) (p : Plan) (generation : ℕ) (ps : List Place) → ps ≡ replicate (count_of p) Nowhere → ArePut image p generation ps
-none_put image p generation ps blank = record {
+none_put : {image : Image} {p : Plan} {generation : ℕ} {ps : List Place} → ps ≡ replicate (count_of p) Nowhere → ArePut image p generation ps
+none_put {p} {ps} blank = record {
   count = ap length blank ∙ length-replicate {A = Place} (count_of p) Nowhere;
   few = let taken : taken_count ps ≡ 0 = ap taken_count blank ∙ tally-blank has_slot (count_of p) refl in omega (arith, taken);
   table = subst IsTable (sym blank) (blank_table (count_of p));
@@ -20,7 +20,7 @@ none_put image p generation ps blank = record {
 abbrev pub first_books : Plan → CheckpointHeader → List Entry → List Place → List Place → Books
 first_books p h es fs ws = record { plan = p; header = h; directory = take h.entries es; moved = 0; frozen = fs; size = None; working = ws; unwritten = None }
 
-module _ (old new : Disk) (p : Plan) (h : CheckpointHeader) (es : List Entry) (fs ws : List Place) (only_reads : OnlyReads old new)
+module _ {old new : Disk} {p : Plan} {h : CheckpointHeader} {es : List Entry} {fs ws : List Place} (only_reads : OnlyReads old new)
     (plan : HasPlan old.seen old.sectors p) (read : IsRead old.seen p h es)
     (frozen : fs ≡ replicate (count_of p) Nowhere) (working : ws ≡ replicate (count_of p) Nowhere) where
   same : old.seen ≡ new.seen
@@ -34,17 +34,19 @@ module _ (old new : Disk) (p : Plan) (h : CheckpointHeader) (es : List Entry) (f
 
   first_kept : IsKept new.sectors new.seen (first_books p h es fs ws)
   first_kept = record {
-    plan = plan.fits;
-    inside = plan_new.whole;
-    header = read.header.fits;
-    count = read.directory.count;
-    directory = read.directory.fits;
-    saved = read_new.spelt;
+    readable = record {
+      plan = plan.fits;
+      inside = plan_new.whole;
+      header = read.header.fits;
+      count = read.directory.count;
+      directory = read.directory.fits;
+      saved = read_new.spelt;
+    };
     few = omega arith;
     moved = λ i lt. absurd (omega (arith, lt));
-    frozen = none_put new.seen p (h.generation + 1) fs frozen;
+    frozen = none_put frozen;
     running = λ n. ap (λ (qs : List Place). place_at qs n) frozen ∙ blank_at (count_of p) n;
-    working = none_put new.seen p (h.generation + 1) ws working;
+    working = none_put working;
   }
 
   first_state : Encodes old.seen old.sectors (saved_state new.seen (first_books p h es fs ws))
@@ -53,16 +55,15 @@ module _ (old new : Disk) (p : Plan) (h : CheckpointHeader) (es : List Entry) (f
       (denotes old.seen old.sectors p h (take h.entries es) plan read.header read.directory read.spelt)
 
   first_sound : Only new.seen new → IsSoundOn new (first_books p h es fs ws)
-  first_sound only = opened_sound new p h (take h.entries es) only plan_new read_new.header read_new.directory read_new.spelt
+  first_sound only = opened_sound new only plan_new read_new.header read_new.directory read_new.spelt
 
   first_holds : Holds old.sectors old.seen (stored_in new.seen (first_books p h es fs ws)).saved
-  first_holds = holds old.sectors old.seen (saved_state new.seen (first_books p h es fs ws)) first_state
+  first_holds = holds first_state
 
   first_working : (stored_in new.seen (first_books p h es fs ws)).working ≡ replicate (length (stored_in new.seen (first_books p h es fs ws)).saved.frames)
       Absent
   first_working =
-      puts_blank new.seen p (h.generation + 1) (length (frames_read new.seen p h.generation (take h.entries es))) ws
-      (λ n. ap (λ (qs : List Place). place_at qs n) working ∙ blank_at (count_of p) n)
+      puts_blank new.seen p (h.generation + 1) ws (λ n. ap (λ (qs : List Place). place_at qs n) working ∙ blank_at (count_of p) n)
       (length_read new.seen p h.generation (take h.entries es))
 
   -- the frames that were read are those of the store
@@ -73,15 +74,14 @@ module _ (old new : Disk) (p : Plan) (h : CheckpointHeader) (es : List Entry) (f
   first_durable = record { kept = first_kept; unwritten = tt }
 
 -- so a store is opened
-pub first_opens : {D : Type 0} (disk : D → Disk) (device back : D) (p : Plan) (h : CheckpointHeader) (es : List Entry) (fs ws : List Place) →
+pub first_opens : {D : Type 0} {disk : D → Disk} {device back : D} {p : Plan} {h : CheckpointHeader} {es : List Entry} {fs ws : List Place} →
     OnlyReads (disk device) (disk back) → HasPlan (disk device).seen (disk device).sectors p
     → IsRead (disk device).seen p h es → fs ≡ replicate (count_of p) Nowhere → ws ≡ replicate (count_of p) Nowhere → Only (disk back).seen (disk back) →
-    (disk back).failures ≡ (disk device).failures
-    → OpensDurable disk device (record { beneath = back; books = first_books p h es fs ws })
-first_opens disk device back p h es fs ws only_reads plan read frozen working only failures = record {
-  sound = first_sound (disk device) (disk back) p h es fs ws only_reads plan read frozen working only;
-  holds = first_holds (disk device) (disk back) p h es fs ws only_reads plan read frozen working;
-  working = first_working (disk device) (disk back) p h es fs ws only_reads plan read frozen working;
+    (disk back).failures ≡ (disk device).failures → OpensDurable disk device (record { beneath = back; books = first_books p h es fs ws })
+first_opens {p} {h} {es} {fs} {ws} only_reads plan read frozen working only failures = record {
+  sound = first_sound only_reads plan read frozen working only;
+  holds = first_holds only_reads plan read frozen working;
+  working = first_working only_reads plan read frozen working;
   frozen = refl;
   to_move = let all : h.entries - 0 ≡ h.entries = omega arith in all;
   durable = only;

@@ -37,7 +37,7 @@ found_first p (e ∷ es) n s is = elim (cases_eq (home_place p e.object) (home_p
     index = 0;
     within = omega arith;
     home_is = same;
-    slot_is = same_some e.slot s (sym (beside_here p e es n same) ∙ is);
+    slot_is = same_some (sym (beside_here p e es n same) ∙ is);
     before = λ j lt. absurd (omega (arith, lt));
   }
   | inr other ↦
@@ -66,17 +66,17 @@ some_beside p (e ∷ es) n (suc i) lt is none = elim (cases_eq (home_place p e.o
 ]
 
 -- an object whose frame isn't packed has no slot but its own
-pub alone_beside : (p : Plan) (es : List Entry) (n : ℕ) → IsPlan p → IsDirectory p.geometry es → n < count_of p → IsOwn (shape_of p n) → slot_in es n ≡ None →
+pub alone_beside : {p : Plan} {es : List Entry} {n : ℕ} → IsPlan p → IsDirectory p.geometry es → n < count_of p → IsOwn (shape_of p n) → slot_in es n ≡ None →
     slot_beside p es n ≡ None
-alone_beside p es n fits is lt own none = none_beside p es n (λ i within same.
+alone_beside {p} {es} {n} fits is lt own none = none_beside p es n (λ i within same.
     let object = (is.each i (record { object = 0; slot = 0 }) within).object in
     let one : (entry_at es i).object ≡ n = alone p (entry_at es i).object n fits object lt own same in
     let never : None ≡ Some (entry_at es i).slot = sym none ∙ ap (slot_in es) (sym one) ∙ own_slot es i is.rising within in
     cc)
 
 -- as that of a page isn't
-pub page_own : (p : Plan) (n : ℕ) → p.geometry.nodes ≤ n → IsOwn (shape_of p n)
-page_own p n le = subst IsOwn
+pub page_own : (p : Plan) {n : ℕ} → p.geometry.nodes ≤ n → IsOwn (shape_of p n)
+page_own p {n} le = subst IsOwn
     (sym (ap (λ (test : Bool). if test then node_shape p.version (rank_in (range_with p.ranges n) n) else Page) (lt_false n p.geometry.nodes le))) tt
 
 -- where there are no entries there is none
@@ -85,44 +85,43 @@ no_entries p [] n size = refl
 no_entries p (e ∷ es) n size = absurd (omega (arith, size))
 
 -- an object without one doesn't share its home with an object that has a slot
-pub frame_slots_differ : (p : Plan) (es : List Entry) (n m t : ℕ) → slot_in es m ≡ Some t → frame_slot_in p es n ≡ None → home_place p n ≡ home_place p m → ⊥
-frame_slots_differ p es n m t has none same =
+pub frame_slots_differ : (p : Plan) (es : List Entry) (n m : ℕ) {t : ℕ} → slot_in es m ≡ Some t → frame_slot_in p es n ≡ None → home_place p n ≡ home_place p m
+    → ⊥
+frame_slots_differ p es n m {t} has none same =
     let entry = found_slot es m t has in
     some_beside p es n entry.index entry.within (ap (home_place p) entry.object_is ∙ sym same) (beside_none (slot_in es n) refl) where
       beside_none : (o : Option ℕ) → slot_in es n ≡ o → slot_beside p es n ≡ None
       beside_none None is = sym (beside_frame_slot p es n is) ∙ none
-      beside_none (Some s) is = let never : None ≡ Some s = sym none ∙ own_frame_slot p es n s is in absurd cc
+      beside_none (Some s) is = let never : None ≡ Some s = sym none ∙ own_frame_slot p es n is in absurd cc
 
 -- a frame slot is a slot of some entry
-pub frame_slot_fits : (p : Plan) (es : List Entry) (n s : ℕ) → IsDirectory p.geometry es → frame_slot_in p es n ≡ Some s → s < p.geometry.log
-frame_slot_fits p es n s is frame_slot =
+pub frame_slot_fits : (p : Plan) {es : List Entry} (n : ℕ) {s : ℕ} → IsDirectory p.geometry es → frame_slot_in p es n ≡ Some s → s < p.geometry.log
+frame_slot_fits p {es} n {s} is frame_slot =
     let entry = frame_slot_entry p es n s frame_slot in
     let one = is.each entry.index (record { object = 0; slot = 0 }) entry.within in
     omega (arith, one.slot, entry.slot_is)
 
 -- ---- the first entry of a home
 
-not_above : (es : List Entry) (a b : ℕ) → AreRising es → a ≤ b → b < length es → (entry_at es a).object ≤ (entry_at es b).object
-not_above es a b rising le within = elim (cases_lt a b) [
+not_above : (es : List Entry) {a b : ℕ} → AreRising es → a ≤ b → b < length es → (entry_at es a).object ≤ (entry_at es b).object
+not_above es {a} {b} rising le within = elim (cases_lt a b) [
   | inl less ↦ let one = rising_to es a b rising less within in omega (arith, one)
   | inr ge ↦ let one : a ≡ b = omega (arith, le, ge) in subst (λ (k : ℕ). (entry_at es a).object ≤ (entry_at es k).object) one (omega arith)
 ]
 
-pub not_same : (a b : ℕ) → not (nat_eq a b) ≡ true → a ≡ b → ⊥
-not_same a b differs same = let never : false ≡ true = ap not (sym (eq-eqb a b same)) ∙ differs in cc
+pub not_same : {a b : ℕ} → not (nat_eq a b) ≡ true → a ≡ b → ⊥
+not_same {a} {b} differs same = let never : false ≡ true = ap not (sym (eq-eqb a b same)) ∙ differs in cc
 
 -- is the one behind an entry of another home
-pub first_of : (p : Plan) (es : List Entry) (i : ℕ) → IsPlan p → IsDirectory p.geometry es → i < length es →
+pub first_of : {p : Plan} {es : List Entry} {i : ℕ} → IsPlan p → IsDirectory p.geometry es → i < length es →
     (0 < i → home_place p (entry_at es (i - 1)).object ≡ home_place p (entry_at es i).object → ⊥) → IsFirst p es i
-first_of p es i fits is within other j less same =
+first_of {p} {es} {i} fits is within other j less same =
     let last : i - 1 < length es = omega (arith, within) in
     let before : j < length es = omega (arith, less, within) in
-    let low : (entry_at es j).object ≤ (entry_at es (i - 1)).object = not_above es j (i - 1) is.rising (omega (arith, less)) last in
-    let high : (entry_at es (i - 1)).object ≤ (entry_at es i).object = not_above es (i - 1) i is.rising (omega arith) within in
+    let low : (entry_at es j).object ≤ (entry_at es (i - 1)).object = not_above es is.rising (omega (arith, less)) last in
+    let high : (entry_at es (i - 1)).object ≤ (entry_at es i).object = not_above es is.rising (omega arith) within in
     let object : (k : ℕ) → k < length es → (entry_at es k).object < count_of p = λ k lt. (is.each k (record { object = 0; slot = 0 }) lt).object in
-    other (omega (arith, less))
-    (home_between p (entry_at es i).object (entry_at es (i - 1)).object (entry_at es j).object fits (object i within) (object j before) low high (sym same)
-    ∙ same)
+    other (omega (arith, less)) (home_between fits (object i within) (object j before) low high (sym same) ∙ same)
 
 -- ---- the search from the first number of a cluster on
 
@@ -149,7 +148,7 @@ module _ (p : Plan) (es : List Entry) (n rank at : ℕ) (fits : IsPlan p) (is : 
         let first = from at (omega arith) (omega (arith, le, within)) in
         let start = begins p n rank fits lt shape in
         let same_start : home_place p (entry_at es i).object ≡ home_place p (n - rank) = same ∙ sym start.home in
-        let up : (entry_at es at).object ≤ (entry_at es i).object = not_above es at i is.rising le within in
-        let shared = home_between p (entry_at es i).object (entry_at es at).object (n - rank) fits (object i within) (omega (arith, lt)) first up same_start in
+        let up : (entry_at es at).object ≤ (entry_at es i).object = not_above es is.rising le within in
+        let shared = home_between fits (object i within) (omega (arith, lt)) first up same_start in
         other (omega (arith, le, within)) (shared ∙ start.home)
   ])

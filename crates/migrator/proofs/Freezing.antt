@@ -11,10 +11,10 @@ unfolding puts_in
 length_puts image p generation ps = length-map-range_with_len (λ n. put_of image p generation n (place_at ps n)) 0 (count_of p)
 
 -- where nothing has a place nothing was put
-pub puts_blank : (image : Image) (p : Plan) (generation m : ℕ) (ps : List Place) → ((n : ℕ) → place_at ps n ≡ Nowhere) → m ≡ count_of p →
+pub puts_blank : (image : Image) (p : Plan) (generation : ℕ) {m : ℕ} (ps : List Place) → ((n : ℕ) → place_at ps n ≡ Nowhere) → m ≡ count_of p →
     puts_in image p generation ps ≡ replicate m Absent
 unfolding puts_in
-puts_blank image p generation m ps none size =
+puts_blank image p generation {m} ps none size =
     let f : ℕ → Put = λ n. put_of image p generation n (place_at ps n) in
     same_lists (map f (range_with_len 0 (count_of p))) (replicate m Absent)
     (length-map-range_with_len f 0 (count_of p) ∙ sym size ∙ sym (length-replicate {A = Put} m Absent))
@@ -23,8 +23,8 @@ puts_blank image p generation m ps none size =
     get_or-map-range_with_len f 0 (count_of p) n n d few (omega arith) ∙ ap (put_of image p generation n) (none n) ∙
     sym (get_or-replicate m n Absent d (omega (arith, few, size))))
 
-pub blank_put : (image : Image) (p : Plan) (a b : ℕ) (ps : List Place) → ArePut image p a ps → ((n : ℕ) → place_at ps n ≡ Nowhere) → ArePut image p b ps
-blank_put image p a b ps are none = record {
+pub blank_put : {image : Image} {p : Plan} {a b : ℕ} {ps : List Place} → ArePut image p a ps → ((n : ℕ) → place_at ps n ≡ Nowhere) → ArePut image p b ps
+blank_put are none = record {
   count = are.count;
   few = are.few;
   table = are.table;
@@ -44,17 +44,12 @@ module _ (size : ℕ) (image : Image) (b : Books) (k : ℕ) (none : b.size ≡ N
   pub freeze_kept : b.header.entries ≡ 0 → sum_of held_slot (puts_in image b.plan (working_generation b) b.working) ≤ k → k ≤ b.plan.geometry.log →
       IsKept size image (frozen_books b k)
   freeze_kept home enough few = record {
-    plan = kept.plan;
-    inside = kept.inside;
-    header = kept.header;
-    count = kept.count;
-    directory = kept.directory;
-    saved = kept.saved;
+    readable = kept.readable;
     few = kept.few;
     moved = kept.moved;
     frozen = subst (λ (g : ℕ). ArePut image b.plan g b.working) generation kept.working;
     running = (home, omega (arith, enough, held_taken image b.plan (working_generation b) b.working kept.working.count), few);
-    working = blank_put image b.plan (frozen_generation b) (b.header.generation + 1 + 1) b.frozen kept.frozen blank;
+    working = blank_put kept.frozen blank;
   }
 
   abbrev stored_of : List Put → List Put → Stored
@@ -63,7 +58,6 @@ module _ (size : ℕ) (image : Image) (b : Books) (k : ℕ) (none : b.size ≡ N
   pub freeze_stored : stored_in image (frozen_books b k) ≡ freezing_puts k (stored_in image b)
   freeze_stored =
       ap (λ (puts : List Put). stored_of puts (puts_in image b.plan (frozen_generation b) b.working))
-      (puts_blank image b.plan (b.header.generation + 1 + 1) (length (puts_in image b.plan (working_generation b) b.working)) b.frozen blank
-      (length_puts image b.plan (working_generation b) b.working))
+      (puts_blank image b.plan (b.header.generation + 1 + 1) b.frozen blank (length_puts image b.plan (working_generation b) b.working))
       ∙ ap (λ (g : ℕ). stored_of (replicate (length (puts_in image b.plan (working_generation b) b.working)) Absent) (puts_in image b.plan g b.working))
       (sym generation)

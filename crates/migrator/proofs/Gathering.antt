@@ -13,25 +13,26 @@ use Rattle.migrator.proofs.PlacesApart.{in_slot}
 -- ---- one node
 
 -- what was read at the frame slot of a node is its saved frame
-pub frame_slot_bytes : (image : Image) (p : Plan) (generation : ℕ) (es : List Entry) (n rank at : ℕ) (o : Option ℕ) (node : List ℕ) →
+pub frame_slot_bytes : (image : Image) (p : Plan) (generation : ℕ) (es : List Entry) (n : ℕ) {rank at : ℕ} {o : Option ℕ} {node : List ℕ} →
     shape_of p n ≡ Packed rank → o ≡ frame_slot_in p es n → at ≡ sector_or o (slot_sector p generation) (home_place p n)
     → shaped_at image at (Packed rank) ≡ node → node ≡ frame_in image p generation es n
-frame_slot_bytes image p generation es n rank at o node shape frame_slot place read =
+frame_slot_bytes image p generation es n {rank} shape frame_slot place read =
     sym read ∙ ap (λ (sector : ℕ). shaped_at image sector (Packed rank))
     (place ∙ ap (λ (q : Option ℕ). sector_or q (slot_sector p generation) (home_place p n)) frame_slot)
     ∙ ap (shaped_at image (sector_or (frame_slot_in p es n) (slot_sector p generation) (home_place p n))) (sym shape)
 
 -- 1024 bytes of a packed frame end in zeros
-pub packed_end : (bytes node : List ℕ) (s : Shape) (rank : ℕ) → s ≡ Packed rank → node ≡ shape_bytes s bytes → length node ≡ 1024 → drop 800 node ≡ zeros 224
-packed_end bytes node s rank shape is size =
+pub packed_end : (bytes : List ℕ) {node : List ℕ} {s : Shape} {rank : ℕ} → s ≡ Packed rank → node ≡ shape_bytes s bytes → length node ≡ 1024 →
+    drop 800 node ≡ zeros 224
+packed_end bytes {node} {rank} shape is size =
     let part : List ℕ = take 800 (drop (800 * rank) bytes) in
     let whole : node ≡ part ++ zeros 224 = is ∙ ap (λ (t : Shape). shape_bytes t bytes) shape in
     ap (drop 800) whole ∙ drop_at part (zeros 224) 800 (omega (arith, ap length whole, size, length-append part (zeros 224), length-zeros 224))
 
-pub frame_end : (image : Image) (p : Plan) (generation : ℕ) (es : List Entry) (n rank : ℕ) (node : List ℕ) → shape_of p n ≡ Packed rank →
+pub frame_end : (image : Image) (p : Plan) (generation : ℕ) (es : List Entry) (n : ℕ) {rank : ℕ} {node : List ℕ} → shape_of p n ≡ Packed rank →
     node ≡ frame_in image p generation es n → length node ≡ 1024 → drop 800 node ≡ zeros 224
-frame_end image p generation es n rank node shape is size = packed_end (sectors_from image (frame_sector p generation es n) (place_length p n)) node
-    (shape_of p n) rank shape is size
+frame_end image p generation es n {rank} {node} shape is size = packed_end (sectors_from image (frame_sector p generation es n) (place_length p n)) shape is
+    size
 
 -- ---- node by node
 
@@ -39,29 +40,28 @@ frame_end image p generation es n rank node shape is size = packed_end (sectors_
 abbrev pub AreIn : Image → Plan → ℕ → List Entry → ℕ → ℕ → List ℕ → Type 0
 AreIn image p generation es number n cluster = (k : ℕ) → k < n → shape_bytes (Packed k) cluster ≡ frame_in image p generation es (number + k)
 
-pub one_more : (image : Image) (p : Plan) (generation : ℕ) (es : List Entry) (number n : ℕ) (old new : List ℕ) → n < 5 →
+pub one_more : (image : Image) (p : Plan) (generation : ℕ) (es : List Entry) (number : ℕ) {n : ℕ} (old new : List ℕ) → n < 5 →
     AreIn image p generation es number n old → shape_bytes (Packed n) new ≡ frame_in image p generation es (number + n)
     → ((other : ℕ) → other < 5 → (other ≡ n → ⊥) → shape_bytes (Packed other) new ≡ shape_bytes (Packed other) old) →
     AreIn image p generation es number (n + 1) new
-one_more image p generation es number n old new few so_far here others k below = elim (cases_lt k n) [
+one_more image p generation es number {n} old new few so_far here others k below = elim (cases_lt k n) [
   | inl lt ↦ others k (omega (arith, lt, few)) (λ e. omega (arith, lt, e)) ∙ so_far k lt
   | inr le ↦ let last : n ≡ k = omega (arith, below, le) in subst (λ (m : ℕ). shape_bytes (Packed m) new ≡ frame_in image p generation es (number + m)) last
       here
 ]
 
 -- a number that has the home of the first has its rank there
-pub rank_there : (p : Plan) (number n k : ℕ) → IsPlan p → IsObject p.geometry number → shape_of p number ≡ Packed 0 → HaveHome p number n → k < n →
+pub rank_there : {p : Plan} {number n k : ℕ} → IsPlan p → IsObject p.geometry number → shape_of p number ≡ Packed 0 → HaveHome p number n → k < n →
     shape_of p (number + k) ≡ Packed k
-rank_there p number n k fits is first have lt =
+rank_there {p} {number} {k} fits is first have lt =
     let at = ranked p (number + k) number fits (have.object k lt) is first (have.same k lt) in
     let rank : number + k - number ≡ k = omega arith in
     at.2 ∙ ap (λ (r : ℕ). Packed r) rank
 
 -- once all that have the home are in it, they are gathered
-pub all_in : (image : Image) (p : Plan) (generation : ℕ) (es : List Entry) (number n : ℕ) (cluster : List ℕ) → IsPlan p → IsObject p.geometry number →
-    shape_of p number ≡ Packed 0 → HaveHome p number n → AreIn image p generation es number n cluster
-    → IsGathered image p generation es number cluster
-all_in image p generation es number n cluster fits is first have so_far a is_a same =
+pub all_in : (image : Image) {p : Plan} (generation : ℕ) (es : List Entry) {number n : ℕ} (cluster : List ℕ) → IsPlan p → IsObject p.geometry number →
+    shape_of p number ≡ Packed 0 → HaveHome p number n → AreIn image p generation es number n cluster → IsGathered image p generation es number cluster
+all_in image {p} generation es {number} cluster fits is first have so_far a is_a same =
     let at = ranked p a number fits is_a is first same in
     let few = have.all a is_a at.0 same in
     let one : number + (a - number) ≡ a = omega (arith, at.0) in
@@ -70,19 +70,19 @@ all_in image p generation es number n cluster fits is first have so_far a is_a s
 -- ---- a home
 
 -- of a number whose home is its own only that one is copied
-own_copied : (old new : Image) (p : Plan) (generation : ℕ) (es : List Entry) (number slot : ℕ) → IsPlan p → IsObject p.geometry number →
+own_copied : (old new : Image) {p : Plan} (generation : ℕ) (es : List Entry) {number slot : ℕ} → IsPlan p → IsObject p.geometry number →
     IsOwn (shape_of p number) → slot_in es number ≡ Some slot
     → bytes_at new (home_place p number) p number ≡ bytes_at old (slot_sector p generation slot) p number → IsCopied old new p generation es number
-own_copied old new p generation es number slot fits is own has copied n is_n same =
+own_copied old new {p} generation es {number} {slot} fits is own has copied n is_n same =
     let one : number ≡ n = sym (alone p n number fits is_n is own same) in
-    subst (λ (m : ℕ). bytes_at new (home_place p m) p m ≡ frame_in old p generation es m) one (copied ∙ sym (in_slot old p generation es number slot has))
+    subst (λ (m : ℕ). bytes_at new (home_place p m) p m ≡ frame_in old p generation es m) one (copied ∙ sym (in_slot old p generation es number has))
 
 -- the home is written in two ways, `p` and `q`
-pub copied_own : (old new : Image) (p : Plan) (generation : ℕ) (es : List Entry) (number slot from to : ℕ) (s : Shape) → IsPlan p → IsObject p.geometry number →
+pub copied_own : (old new : Image) {p : Plan} (generation : ℕ) (es : List Entry) {number slot from to : ℕ} {s : Shape} → IsPlan p → IsObject p.geometry number →
     IsOwn s → s ≡ shape_of p number → slot_in es number ≡ Some slot
     → from ≡ slot_sector p generation slot → to ≡ home_place p number → shaped_at new to s ≡ shaped_at old from s → IsCopied old new p generation es number
-copied_own old new p generation es number slot from to s fits is own shape has from_is to_is copied =
-    own_copied old new p generation es number slot fits is (subst IsOwn shape own) has
+copied_own old new {p} generation es {number} {slot} {s} fits is own shape has from_is to_is copied =
+    own_copied old new generation es fits is (subst IsOwn shape own) has
     (ap (shaped_at new (home_place p number)) (sym shape) ∙ ap (λ (at : ℕ). shaped_at new at s) (sym to_is) ∙ copied ∙
     ap (λ (at : ℕ). shaped_at old at s) from_is ∙ ap (shaped_at old (slot_sector p generation slot)) shape)
 
@@ -92,31 +92,31 @@ pub on_ok : {T E : Type 0} (result : Result T E) {P Q : Type 0} → (P → Q) �
 on_ok (Ok value) {P} {Q} follows is = follows is
 on_ok (Err error) {P} {Q} follows is = tt
 
-pub counts_on : {T E : Type 0} (old mid new : Disk) (result : Result T E) → mid.failures ≡ old.failures → Counts mid new result → Counts old new result
-counts_on old mid new result same counts = record {
+pub counts_on : {T E : Type 0} {old mid new : Disk} {result : Result T E} → mid.failures ≡ old.failures → Counts mid new result → Counts old new result
+counts_on {new} {result} same counts = record {
   never_falls = subst (λ (k : ℕ). k ≤ new.failures) same counts.never_falls;
   cause = subst (λ (k : ℕ). IsErr result ↔ (k < new.failures)) same counts.cause;
 }
 
-pub cluster_touched : (old mid new : Disk) (p q : Plan) (first : ℕ) → q ≡ p → shape_of p first ≡ Packed 0 → ReadsOnly old mid →
+pub cluster_touched : {old mid new : Disk} {p q : Plan} (first : ℕ) → q ≡ p → shape_of p first ≡ Packed 0 → ReadsOnly old mid →
     WritesAt (home_place q first) (place_length q first) mid new → Touches (home_place p first) 8 old new
-cluster_touched old mid new p q first same shape reads writes =
+cluster_touched {old} {mid} {new} {p} first same shape reads writes =
     let there = subst (λ (x : Plan). WritesAt (home_place x first) (place_length x first) mid new) same writes in
-    reads_then (home_place p first) 8 old mid new reads (subst (λ (n : ℕ). WritesAt (home_place p first) n mid new) (ap shape_length shape) there)
+    reads_then reads (subst (λ (n : ℕ). WritesAt (home_place p first) n mid new) (ap shape_length shape) there)
 
 -- ---- the zeros of a cluster
 
-same_rank : (a b : ℕ) → Packed a ≡ Packed b → a ≡ b
-same_rank a b same = cc
+same_rank : {a b : ℕ} → Packed a ≡ Packed b → a ≡ b
+same_rank same = cc
 
-pub zeros_at : (p : Plan) (n rank : ℕ) (bytes : List ℕ) → shape_of p n ≡ Packed rank → EndsInZeros p (n - rank) bytes → HasZerosAt p n bytes
-zeros_at p n rank bytes shape zeros other is = subst (λ (r : ℕ). EndsInZeros p (n - r) bytes) (same_rank rank other (sym shape ∙ is)) zeros
+pub zeros_at : {p : Plan} (n : ℕ) {rank : ℕ} (bytes : List ℕ) → shape_of p n ≡ Packed rank → EndsInZeros p (n - rank) bytes → HasZerosAt p n bytes
+zeros_at {p} n {rank} bytes shape zeros other is = subst (λ (r : ℕ). EndsInZeros p (n - r) bytes) (same_rank (sym shape ∙ is)) zeros
 
 -- a number whose home is its own lies in no cluster
-pub no_cluster : {T E : Type 0} (result : Result T E) (p : Plan) (n : ℕ) (s : Shape) (bytes : List ℕ) → IsOwn s → s ≡ shape_of p n →
+pub no_cluster : {T E : Type 0} (result : Result T E) (p : Plan) (n : ℕ) {s : Shape} (bytes : List ℕ) → IsOwn s → s ≡ shape_of p n →
     OnOk result (HasZerosAt p n bytes)
-no_cluster (Ok done) p n s bytes own shape = λ rank is. absurd (subst IsOwn (shape ∙ is) own)
-no_cluster (Err error) p n s bytes own shape = tt
+no_cluster (Ok done) p n bytes own shape = λ rank is. absurd (subst IsOwn (shape ∙ is) own)
+no_cluster (Err error) p n bytes own shape = tt
 
 -- what was gathered is copied, though the rest of the cluster was made zeros
 pub copied_blank : {T E : Type 0} (result : Result T E) (old new : Image) (p : Plan) (generation : ℕ) (es : List Entry) (first : ℕ) (gathered blank : List ℕ) →
@@ -127,9 +127,9 @@ copied_blank (Ok done) old new p generation es first gathered blank are stays he
 copied_blank (Err error) old new p generation es first gathered blank are stays held = tt
 
 -- the home of the first of a cluster is that of each
-pub zeros_there : {T E : Type 0} (result : Result T E) (p : Plan) (n rank : ℕ) (new : Image) → shape_of p n ≡ Packed rank →
+pub zeros_there : {T E : Type 0} (result : Result T E) (p : Plan) (n : ℕ) {rank : ℕ} (new : Image) → shape_of p n ≡ Packed rank →
     home_place p (n - rank) ≡ home_place p n
     → OnOk result (EndsInZeros p (n - rank) (sectors_from new (home_place p (n - rank)) 8)) → OnOk result (HasZerosAt p n (sectors_from new (home_place p n) 8))
-zeros_there (Ok done) p n rank new shape home zeros = zeros_at p n rank (sectors_from new (home_place p n) 8) shape
+zeros_there (Ok done) p n {rank} new shape home zeros = zeros_at n (sectors_from new (home_place p n) 8) shape
     (subst (λ (at : ℕ). EndsInZeros p (n - rank) (sectors_from new at 8)) home zeros)
-zeros_there (Err error) p n rank new shape home zeros = tt
+zeros_there (Err error) p n new shape home zeros = tt

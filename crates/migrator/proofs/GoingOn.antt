@@ -6,8 +6,8 @@ use Rattle.migrator.proofs.Mended.{mended_disk, leaves_raw}
 use Rattle.migrator.proofs.Spared.{sound_spared, moments_spared}
 
 -- what denotes a saved state holds its frames
-pub holds : (size : ℕ) (c : Image) (s : SavedState) → Encodes c size s → Holds size c (kept_of s)
-holds size c s is = (s, is, refl)
+pub holds : {size : ℕ} {c : Image} {s : SavedState} → Encodes c size s → Holds size c (kept_of s)
+holds {s} is = (s, is, refl)
 
 -- from one disk and books to others the same is saved, where a read gives what is seen of it
 pub record GoesOnSeen (old new : Disk) (b c : Books) : Type 0 where
@@ -17,34 +17,31 @@ pub record GoesOnSeen (old new : Disk) (b c : Books) : Type 0 where
   pub any_moment : LeavesState old (saved_state old.seen b) → LeavesSaved old new (kept_of (saved_state old.seen b))
 
 -- the same over a device that is partly in memory
-pub goes_seen : (old new : Disk) (b c : Books) → GoesOnSeen (mended_disk old b.unwritten) (mended_disk new c.unwritten) b c → GoesOnDisk old new b c
-goes_seen old new b c goes = record {
+pub goes_seen : {old new : Disk} {b c : Books} → GoesOnSeen (mended_disk old b.unwritten) (mended_disk new c.unwritten) b c → GoesOnDisk old new b c
+goes_seen {old} {new} {b} {c} goes = record {
   plan = goes.plan;
   size = goes.size;
   sound = goes.sound;
-  any_moment = λ sound. leaves_raw old new b.unwritten c.unwritten (λ x. Holds old.sectors x (kept_of (saved_state (seen_by old.seen b) b)))
-      (goes.any_moment sound);
+  any_moment = λ sound. leaves_raw b.unwritten c.unwritten (λ x. Holds old.sectors x (kept_of (saved_state (seen_by old.seen b) b))) (goes.any_moment sound);
 }
 
 same_state : (image : Image) (b c : Books) → c.plan ≡ b.plan → c.header ≡ b.header → c.directory ≡ b.directory → saved_state image b ≡ saved_state image c
 same_state image b c plan header directory = rw (plan, header, directory) refl
 
-pub goes_spared : (old new : Disk) (b c : Books) (e : Extent) → c.plan ≡ b.plan → c.header ≡ b.header → c.directory ≡ b.directory →
+pub goes_spared : {old new : Disk} {b c : Books} {e : Extent} → c.plan ≡ b.plan → c.header ≡ b.header → c.directory ≡ b.directory →
     Spares b.plan b.header b.directory e → Touches e.sector e.length old new → GoesOnSeen old new b c
-goes_spared old new b c e plan header directory spares writes = record {
+goes_spared {old} {new} {b} {c} {e} plan header directory spares writes = record {
   plan = plan;
   size = writes.size;
-  sound = λ sound. subst (LeavesState new) (same_state new.seen b c plan header directory)
-      (sound_spared old new b.plan b.header b.directory e spares writes sound);
+  sound = λ sound. subst (LeavesState new) (same_state new.seen b c plan header directory) (sound_spared spares writes sound);
   any_moment = λ sound. leaves_weaker {old = old} {new = new} {P = λ x. Encodes x old.sectors (saved_state old.seen b)}
-      (λ x. Holds old.sectors x (kept_of (saved_state old.seen b)))
-      (λ x is. holds old.sectors x (saved_state old.seen b) is) (moments_spared old new b.plan b.header b.directory e spares writes sound);
+      (λ x. Holds old.sectors x (kept_of (saved_state old.seen b))) (λ x is. holds is) (moments_spared spares writes sound);
 }
 
 -- what else is kept in memory doesn't matter
-pub goes_with : (old new : Disk) (b c d : Books) → d.plan ≡ c.plan → d.header ≡ c.header → d.directory ≡ c.directory → GoesOnSeen old new b c →
+pub goes_with : {old new : Disk} {b c d : Books} → d.plan ≡ c.plan → d.header ≡ c.header → d.directory ≡ c.directory → GoesOnSeen old new b c →
     GoesOnSeen old new b d
-goes_with old new b c d plan header directory goes = record {
+goes_with {new} {c} {d} plan header directory goes = record {
   plan = plan ∙ goes.plan;
   size = goes.size;
   sound = λ sound. subst (LeavesState new) (same_state new.seen c d plan header directory) (goes.sound sound);

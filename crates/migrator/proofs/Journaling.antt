@@ -1,72 +1,53 @@
 -- One object is saved anew: its frame lies in the half of the log that the saved generation used, and it is the one entry of the generation after the next.
-use Rattle.migrator.proofs.Names.{ℕ, zero, suc, Bool, Option, Some, None, List, [], length, get_or, set, refl, sym, ap, subst, inl, inr, arith, option_map}
-use Rattle.migrator.proofs.Names.{cases_lt, cases_eq, le-ltb, get_or_past, get_or_default, Cap, Frame, ObjectHeader, Geometry, Content, frame_at, blank_frame}
-use Rattle.migrator.proofs.Names.{IsKeepable, AreKeptWords, role_of, IsOfKind, Image, Disk, LeavesOnly, leaves_weaker, leaves_on, Entry, Extent, Half, First}
-use Rattle.migrator.proofs.Names.{Second, IsDirectory, IsEntry, entry_at, IsFrameOf, page_frame_bytes, node_frame_bytes, frame_from, half_of, IsHeader}
-use Rattle.migrator.proofs.Names.{frame_in, frame_slot_in, slot_sector, half_sector, sectors_from, shaped_at, bytes_at, count_of, frame_read, frames_read}
-use Rattle.migrator.proofs.Names.{IsSpelt, AreSpelt, Plan, IsPlan, IsInside, half_extent, half_start, slot_here, slot_behind, length_read, read_at, spelt_same}
-use Rattle.migrator.proofs.Names.{spelt_at, bytes_spelt, Shape, home_place, shape_of, IsShapeFor, page_bytes, WritesAt, slot_extent, directory_extent}
-use Rattle.migrator.proofs.Names.{slots_inside, Place, Nowhere, Torn, Whole, place_at, Put, Kept, slot_bytes, put_of, puts_in, ArePut, most, SavedFrames, Holds}
-use Rattle.migrator.proofs.Names.{LeavesSaved, LeavesEither, replaced_saved, with_words, journaled_saved, Books, IsDurable, IsSoundOn, frozen_generation}
-use Rattle.migrator.proofs.Names.{working_generation, generation_after, FrozenPuts, Stored, journaled, replaced, saved_state, frozen_of, stored_in, stored_on}
-use Rattle.migrator.proofs.Names.{IsRunning, IsKept, LeavesState, replaced_header, on_snapshots, first_bytes, first_frame, beside_frame_slot, alone, IsHeaderOf}
-use Rattle.migrator.proofs.Names.{MayAdopt, MaySave, SparesKept, adopted, SparesFrames, maps_same, Unwritten, mended}
-use Rattle.std.proofs.Common.{◌≡◌, ◌⊎◌, ◌+◌, ◌*◌, ◌%◌, ◌^◌, ◌<◌, ◌≤◌, ◌∷◌, ◌∙◌}
+use Rattle.migrator.proofs.Names.{IsIdle, MayReplace, Stays, ℕ, zero, suc, Bool, Option, Some, None, List, [], length, get_or, set, refl, sym, ap, subst, inl}
+use Rattle.migrator.proofs.Names.{inr, arith, option_map, cases_lt, cases_eq, le-ltb, get_or_past, get_or_default, Cap, Frame, ObjectHeader, Geometry, Content}
+use Rattle.migrator.proofs.Names.{frame_at, blank_frame, IsKeepable, AreKeptWords, role_of, IsOfKind, Image, Disk, Entry, Extent, Half, First, Second}
+use Rattle.migrator.proofs.Names.{IsDirectory, IsEntry, entry_at, IsFrameOf, page_frame_bytes, node_frame_bytes, frame_from, half_of, IsHeader, frame_in}
+use Rattle.migrator.proofs.Names.{frame_slot_in, slot_sector, half_sector, sectors_from, shaped_at, bytes_at, count_of, frame_read, frames_read, IsSpelt}
+use Rattle.migrator.proofs.Names.{AreSpelt, Plan, IsPlan, IsInside, half_extent, half_start, slot_here, slot_behind, length_read, read_at, spelt_same, spelt_at}
+use Rattle.migrator.proofs.Names.{bytes_spelt, Shape, home_place, shape_of, IsShapeFor, page_bytes, WritesAt, slot_extent, directory_extent, slots_inside}
+use Rattle.migrator.proofs.Names.{Place, Nowhere, place_at, Put, slot_bytes, puts_in, ArePut, most, with_words, Books, IsDurable, frozen_generation}
+use Rattle.migrator.proofs.Names.{working_generation, generation_after, FrozenPuts, Stored, journaled, replaced, frozen_of, stored_in, stored_on, IsRunning}
+use Rattle.migrator.proofs.Names.{IsKept, replaced_header, on_snapshots, first_bytes, first_frame, beside_frame_slot, alone, IsHeaderOf, MayAdopt, SparesKept}
+use Rattle.migrator.proofs.Names.{adopted, SparesFrames, Unwritten, mended, MayJournal}
+use Rattle.std.proofs.Common.{◌≡◌, ◌+◌, ◌*◌, ◌%◌, ◌^◌, ◌<◌, ◌≤◌, ◌∷◌, ◌∙◌}
 use Rattle.std.specs.Prelude.{◌==◌, if◌then◌else◌}
 use Rattle.model.specs.declared.object.Content.TheVariants as content
 use Rattle.model.specs.declared.object.Role.TheVariants as role
 use Rattle.migrator.proofs.Spared.{touches}
-use Rattle.migrator.proofs.Kept.{map_set, stored_stays, kept_on}
-use Rattle.migrator.proofs.GoingOn.{GoesOnSeen, goes_spared}
+use Rattle.migrator.proofs.Kept.{are_put_same, puts_same, map_set, stored_stays, kept_on}
+use Rattle.migrator.proofs.GoingOn.{GoesOnSeen, goes_seen, goes_spared}
 use Rattle.migrator.proofs.Later.{keepable_later}
 use Rattle.migrator.proofs.PlacesApart.{in_slot, at_home, frame_apart, home_apart, spares_log}
 use Rattle.migrator.proofs.FrameSlots.{none_beside, page_own, no_entries, frame_slot_fits}
 use Rattle.migrator.proofs.Putting.{other_parity, half_spares, none_spares, homes_spare}
 use Rattle.migrator.proofs.Committing.{one_more, slots_apart_directory, directory_inside}
-use Rattle.migrator.proofs.Adopting.{with_header, idle_books, kept_raw, may_adopt_idle, sound_raw}
+use Rattle.migrator.proofs.Adopting.{with_header, idle_books, may_adopt_idle}
+use Rattle.migrator.proofs.Saving.{kept_raw}
 use Rattle.migrator.proofs.Buffered.{none_idle}
+use Rattle.migrator.proofs.Mended.{mended_disk, unmended, writes_mended}
 
 -- ---- generations of one half
 
 half_same : (g h : ℕ) → g % 2 ≡ h % 2 → half_of g ≡ half_of h
 half_same g h same = ap (λ (r : ℕ). if r == 0 then First else Second) same
 
-module _ (image : Image) (p : Plan) (g h : ℕ) (same : half_of g ≡ half_of h) where
-  slot_same : (s n : ℕ) → slot_bytes image p g s n ≡ slot_bytes image p h s n
-  slot_same s n = ap (λ (half : Half). bytes_at image (half_start p half + 9 * s) p n) same
+slot_same : (image : Image) (p : Plan) (g h : ℕ) → half_of g ≡ half_of h → (s n : ℕ) → slot_bytes image p g s n ≡ slot_bytes image p h s n
+slot_same image p g h same s n = ap (λ (half : Half). bytes_at image (half_start p half + 9 * s) p n) same
 
-  put_same : (n : ℕ) (q : Place) → put_of image p g n q ≡ put_of image p h n q
-  put_same n Nowhere = refl
-  put_same n (Torn s) = refl
-  put_same n (Whole s) = ap (λ (bytes : List ℕ). Kept (frame_from p.geometry n bytes)) (slot_same s n)
-
-  -- what was put for one was put for the other
-  puts_same : (ps : List Place) → puts_in image p g ps ≡ puts_in image p h ps
-  unfolding puts_in
-  puts_same ps = maps_same (λ n. put_of image p g n (place_at ps n)) (λ n. put_of image p h n (place_at ps n)) (count_of p) (λ n lt. put_same n (place_at ps n))
-
-  are_put_same : (ps : List Place) → ArePut image p g ps → ArePut image p h ps
-  are_put_same ps are = record {
-    count = are.count;
-    few = are.few;
-    table = are.table;
-    spelt = λ n s lt is. subst (λ (bytes : List ℕ). IsFrameOf p.geometry most n bytes (frame_from p.geometry n bytes)) (slot_same s n) (are.spelt n s lt is);
-  }
+half_put : {image : Image} {p : Plan} {g h : ℕ} {ps : List Place} → half_of h ≡ half_of g → ArePut image p g ps → ArePut image p h ps
+half_put {image} {p} {g} {h} same are = are_put_same (λ n s lt is. slot_same image p h g same s n) are
 
 -- ---- a page with other words
 
-words_kind : (g : Geometry) (n : ℕ) (words : List ℕ) (c : Content Cap) → role_of c ≡ role.Page → IsOfKind g n c → IsOfKind {C = Cap} g n (content.Page words)
-words_kind g n words content.Free is kind = absurd cc
-words_kind g n words (content.Page ws) is kind = kind
-words_kind g n words (content.Node slots) is kind = absurd cc
-words_kind g n words (content.Root root) is kind = absurd cc
-words_kind g n words (content.Annex registers) is kind = absurd cc
-words_kind g n words (content.Bank limit) is kind = absurd cc
+words_kind : (g : Geometry) {n : ℕ} (words : List ℕ) (c : Content Cap) → role_of c ≡ role.Page → IsOfKind g n c → IsOfKind {C = Cap} g n (content.Page words)
+words_kind g words (content.Page ws) is kind = kind
+words_kind g words other is kind = absurd cc
 
-words_keepable : (g : Geometry) (age n : ℕ) (f : Frame) (words : List ℕ) → f.header.role ≡ role.Page → AreKeptWords 512 words → IsKeepable g age n f →
+words_keepable : {g : Geometry} {age n : ℕ} {f : Frame} {words : List ℕ} → f.header.role ≡ role.Page → AreKeptWords 512 words → IsKeepable g age n f →
     IsKeepable g age n (with_words words f)
-words_keepable g age n f words page fits is = record {
-  kind = words_kind g n words f.content (sym is.kept.role ∙ page) is.kind;
+words_keepable {g} {n} {f} {words} page fits is = record {
+  kind = words_kind g words f.content (sym is.kept.role ∙ page) is.kind;
   kept = record {
     role = page;
     allocations = is.kept.allocations;
@@ -77,19 +58,19 @@ words_keepable g age n f words page fits is = record {
   };
 }
 
-pub words_fit : (words : List ℕ) → length words ≡ 512 → ((i : ℕ) → get_or words i 0 < 2 ^ 64) → AreKeptWords 512 words
-words_fit words count fits = record { count_is = count; each = λ i d lt. subst (λ (word : ℕ). word < 2 ^ 64) (sym (get_or_default words i d 0 lt)) (fits i) }
+pub words_fit : {words : List ℕ} → length words ≡ 512 → ((i : ℕ) → get_or words i 0 < 2 ^ 64) → AreKeptWords 512 words
+words_fit {words} count fits = record { count_is = count; each = λ i d lt. subst (λ (word : ℕ). word < 2 ^ 64) (sym (get_or_default words i d 0 lt)) (fits i) }
 
 -- its bytes
-page_spelt : (p : Plan) (age n : ℕ) (image : Image) (at : ℕ) (f : Frame) → p.geometry.nodes ≤ n → IsKeepable p.geometry age n f →
+page_spelt : (p : Plan) {age n : ℕ} (image : Image) (at : ℕ) {f : Frame} → p.geometry.nodes ≤ n → IsKeepable p.geometry age n f →
     sectors_from image at 9 ≡ page_frame_bytes f → IsFrameOf p.geometry age n (bytes_at image at p n) f
-page_spelt p age n image at f le is written =
+page_spelt p {n} image at {f} le is written =
     let test = le-ltb n p.geometry.nodes le in
     (is, page_bytes image at p n le ∙ written ∙ sym (ap (λ (node : Bool). if node then node_frame_bytes f else page_frame_bytes f) test))
 
 -- ---- where all that is saved is home
 
-module _ (size : ℕ) (image : Image) (b : Books) (kept : IsKept size image b) (home : b.header.entries ≡ 0) where
+module _ {size : ℕ} {image : Image} {b : Books} (kept : IsKept size image b) (home : b.header.entries ≡ 0) where
   none_saved : (n : ℕ) → frame_slot_in b.plan b.directory n ≡ None
   none_saved n = no_entries b.plan b.directory n (kept.count ∙ home)
 
@@ -97,13 +78,13 @@ module _ (size : ℕ) (image : Image) (b : Books) (kept : IsKept size image b) (
   pub lies_home : (n : ℕ) → frame_in image b.plan b.header.generation b.directory n ≡ bytes_at image (home_place b.plan n) b.plan n
   lies_home n = at_home image b.plan b.header.generation b.directory n (none_saved n)
 
-  pub saved_read : (n : ℕ) → n < count_of b.plan → frame_at (frames_read image b.plan b.header.generation b.directory) n ≡ frame_from b.plan.geometry n
+  pub saved_read : {n : ℕ} → n < count_of b.plan → frame_at (frames_read image b.plan b.header.generation b.directory) n ≡ frame_from b.plan.geometry n
       (bytes_at image (home_place b.plan n) b.plan n)
-  saved_read n lt = read_at image b.plan b.header.generation b.directory n lt ∙ ap (frame_from b.plan.geometry n) (lies_home n)
+  saved_read {n} lt = read_at image b.plan b.header.generation b.directory n lt ∙ ap (frame_from b.plan.geometry n) (lies_home n)
 
   -- only an object is a page
-  pub page_known : (n : ℕ) → (frame_at (frames_read image b.plan b.header.generation b.directory) n).header.role ≡ role.Page → n < count_of b.plan
-  page_known n page = elim (cases_lt n (count_of b.plan)) [
+  pub page_known : {n : ℕ} → (frame_at (frames_read image b.plan b.header.generation b.directory) n).header.role ≡ role.Page → n < count_of b.plan
+  page_known {n} page = elim (cases_lt n (count_of b.plan)) [
     | inl lt ↦ lt
     | inr le ↦
         let past = get_or_past (frames_read image b.plan b.header.generation b.directory) n blank_frame
@@ -111,24 +92,24 @@ module _ (size : ℕ) (image : Image) (b : Books) (kept : IsKept size image b) (
         let never : role.Free ≡ role.Page = sym (ap (λ (f : Frame). f.header.role) past) ∙ page in absurd cc
   ]
 
-  saved_keepable : (n : ℕ) → n < count_of b.plan →
+  saved_keepable : {n : ℕ} → n < count_of b.plan →
       IsKeepable b.plan.geometry b.header.age n (frame_at (frames_read image b.plan b.header.generation b.directory) n)
-  saved_keepable n lt = subst (IsKeepable b.plan.geometry b.header.age n) (sym (read_at image b.plan b.header.generation b.directory n lt)) (kept.saved n lt).0
+  saved_keepable {n} lt = subst (IsKeepable b.plan.geometry b.header.age n) (sym (read_at image b.plan b.header.generation b.directory n lt))
+      (kept.saved n lt).0
 
 -- the header that was read of its home is the saved one
-pub header_read : (old : Image) (size : ℕ) (new : Image) (b : Books) → IsKept size old b → b.header.entries ≡ 0 → (n at : ℕ) (shape : Shape) →
+pub header_read : {old : Image} {size : ℕ} (new : Image) {b : Books} → IsKept size old b → b.header.entries ≡ 0 → {n at : ℕ} {shape : Shape} →
     n < count_of b.plan → at ≡ home_place b.plan n → shape ≡ shape_of b.plan n → IsShapeFor b.plan.geometry n shape
-    → (bytes_at new (home_place b.plan n) b.plan n ≡ bytes_at old (home_place b.plan n) b.plan n) → (header : ObjectHeader) → IsHeaderOf new at shape header →
+    → (bytes_at new (home_place b.plan n) b.plan n ≡ bytes_at old (home_place b.plan n) b.plan n) → {header : ObjectHeader} → IsHeaderOf new at shape header →
     header ≡ (frame_at (stored_in old b).saved.frames n).header
-header_read old size new b kept home n at shape lt place shape_is fits same header is =
+header_read {old} {size} new {b} kept home {n} {at} lt place shape_is fits same is =
     is b.plan.geometry n fits ∙ ap (λ (s : Shape). (frame_from b.plan.geometry n (shaped_at new at s)).header) shape_is
     ∙ ap (λ (sector : ℕ). (frame_from b.plan.geometry n (bytes_at new sector b.plan n)).header) place
-    ∙ ap (λ (bytes : List ℕ). (frame_from b.plan.geometry n bytes).header) same
-    ∙ sym (ap (λ (f : Frame). f.header) (saved_read size old b kept home n lt))
+    ∙ ap (λ (bytes : List ℕ). (frame_from b.plan.geometry n bytes).header) same ∙ sym (ap (λ (f : Frame). f.header) (saved_read kept home lt))
 
 -- ---- and no checkpoint is on its way
 
-module _ (size : ℕ) (image : Image) (b : Books) (kept : IsKept size image b) (free : b.size ≡ None) (home : b.header.entries ≡ 0) where
+module _ {size : ℕ} {image : Image} {b : Books} (kept : IsKept size image b) (free : b.size ≡ None) (home : b.header.entries ≡ 0) where
   blank : (n : ℕ) → place_at b.frozen n ≡ Nowhere
   blank = subst (IsRunning b) free kept.running
 
@@ -136,58 +117,80 @@ module _ (size : ℕ) (image : Image) (b : Books) (kept : IsKept size image b) (
   other_half g same is = other_parity b.header.generation (sym (sym (ap (λ (o : Option ℕ). generation_after b.header.generation o % 2) free) ∙ is ∙ same))
 
   -- the half of the saved generation lies apart from all that is kept
-  spares_half : (g : ℕ) (e : Extent) → g % 2 ≡ b.header.generation % 2 → IsInside e (half_extent b.plan.geometry (half_sector b.plan g)) → SparesKept b e
-  spares_half g e same inside = record {
-    frames = (spares_log b.plan b.header b.directory g e kept.plan kept.count home inside).frames;
-    homes = homes_spare size image b g e kept inside;
+  spares_half : (g : ℕ) {e : Extent} → g % 2 ≡ b.header.generation % 2 → IsInside e (half_extent b.plan.geometry (half_sector b.plan g)) → SparesKept b e
+  spares_half g {e} same inside = record {
+    frames = (spares_log b.header b.directory g kept.plan kept.count home inside).frames;
+    homes = homes_spare g kept inside;
     frozen = none_spares b.plan (frozen_generation b) b.frozen e blank;
-    working = half_spares b.plan (working_generation b) g b.working e kept.plan (other_half g same) kept.working.table kept.working.few inside;
+    working = half_spares (working_generation b) g kept.plan (other_half g same) kept.working.table kept.working.few inside;
   }
 
 -- ---- a page is written into the first slot of that half
 
-module _ (old new : Disk) (b : Books) (kept : IsKept old.sectors old.seen b) (free : b.size ≡ None) (home : b.header.entries ≡ 0)
+module _ {old new : Disk} {b : Books} (kept : IsKept old.sectors old.seen b) (free : b.size ≡ None) (home : b.header.entries ≡ 0)
     (writes : WritesAt (slot_sector b.plan b.header.generation 0) 9 old new) where
-  inside : IsInside (slot_extent b.plan b.header.generation 0) (half_extent b.plan.geometry (half_sector b.plan b.header.generation))
+  abbrev first_slot : Extent
+  first_slot = slot_extent b.plan b.header.generation 0
+
+  inside : IsInside first_slot (half_extent b.plan.geometry (half_sector b.plan b.header.generation))
   inside = slots_inside b.plan b.header.generation 0 (omega (arith, kept.plan.geometry.least_log))
 
-  spares : SparesKept b (slot_extent b.plan b.header.generation 0)
-  spares = spares_half old.sectors old.seen b kept free home b.header.generation (slot_extent b.plan b.header.generation 0) refl inside
+  spares : SparesKept b first_slot
+  spares = spares_half kept free home b.header.generation refl inside
 
-  pub put_kept : IsKept new.sectors new.seen b
-  put_kept = subst (λ (size : ℕ). IsKept size new.seen b) (sym writes.size)
-      (kept_on old.sectors b (slot_extent b.plan b.header.generation 0) old.seen new.seen spares writes.elsewhere kept)
+  put_kept : IsKept new.sectors new.seen b
+  put_kept = subst (λ (size : ℕ). IsKept size new.seen b) (sym writes.size) (kept_on old.sectors spares writes.elsewhere kept)
 
-  pub put_stored : stored_in new.seen b ≡ stored_in old.seen b
-  put_stored = stored_stays old.sectors b (slot_extent b.plan b.header.generation 0) old.seen new.seen spares writes.elsewhere
+  put_stored : stored_in new.seen b ≡ stored_in old.seen b
+  put_stored = stored_stays old.sectors spares writes.elsewhere
 
-  pub put_goes_on : GoesOnSeen old new b b
-  put_goes_on =
-      goes_spared old new b b (slot_extent b.plan b.header.generation 0) refl refl refl
-      (spares_log b.plan b.header b.directory b.header.generation (slot_extent b.plan b.header.generation 0) kept.plan kept.count home inside)
-      (touches (slot_sector b.plan b.header.generation 0) 9 old new writes)
+  put_goes_on : GoesOnSeen old new b b
+  put_goes_on = goes_spared refl refl refl (spares_log b.header b.directory b.header.generation kept.plan kept.count home inside) (touches writes)
 
   -- the slot spells the page with its words, at each age from the saved one on
-  pub put_spelt : (n : ℕ) (header : ObjectHeader) (words : List ℕ) → (frame_at (stored_in old.seen b).saved.frames n).header.role ≡ role.Page →
+  put_spelt : {n : ℕ} {header : ObjectHeader} {words : List ℕ} → (frame_at (stored_in old.seen b).saved.frames n).header.role ≡ role.Page →
       header ≡ (frame_at (stored_in old.seen b).saved.frames n).header → AreKeptWords 512 words
       → sectors_from new.seen (slot_sector b.plan b.header.generation 0) 9 ≡ page_frame_bytes (record { header = header; content = content.Page words }) →
-      (age : ℕ) → b.header.age ≤ age
-      → IsFrameOf b.plan.geometry age n (slot_bytes new.seen b.plan b.header.generation 0 n) (with_words words (frame_at (stored_in old.seen b).saved.frames n))
-  put_spelt n header words page is fits written age le =
+      {age : ℕ} → b.header.age ≤ age
+      → IsFrameOf b.plan.geometry age n (first_bytes new.seen b n) (with_words words (frame_at (stored_in old.seen b).saved.frames n))
+  put_spelt {n} {header} {words} page is fits written {age} le =
       let saved : Frame = frame_at (stored_in old.seen b).saved.frames n in
-      let lt = page_known old.sectors old.seen b kept home n page in
-      let keepable = words_keepable b.plan.geometry age n saved words page fits
-      (keepable_later b.plan.geometry b.header.age age le n saved (saved_keepable old.sectors old.seen b kept home n lt)) in
-      page_spelt b.plan age n new.seen (slot_sector b.plan b.header.generation 0) (with_words words saved) keepable.kind.0 keepable
+      let lt = page_known kept home page in
+      let keepable = words_keepable page fits (keepable_later b.plan.geometry b.header.age age le (saved_keepable kept home lt)) in
+      page_spelt b.plan new.seen first_slot.sector keepable.kind.0 keepable
       (written ∙ ap (λ (h : ObjectHeader). page_frame_bytes (record { header = h; content = content.Page words })) is)
+
+-- and so over a device that is partly in memory
+module _ {old new : Disk} {b : Books} (is : IsDurable old b) (free : b.size ≡ None) (home : b.header.entries ≡ 0)
+    (writes : WritesAt (slot_sector b.plan b.header.generation 0) 9 old new) where
+  mended_writes : WritesAt (slot_sector b.plan b.header.generation 0) 9 (mended_disk old b.unwritten) (mended_disk new b.unwritten)
+  mended_writes = writes_mended b.unwritten writes
+
+  pub page_stays : Stays old new b b
+  page_stays = record {
+    stands = record { kept = put_kept is.kept free home mended_writes; unwritten = is.unwritten };
+    stored = put_stored is.kept free home mended_writes;
+    goes_on = goes_seen (put_goes_on is.kept free home mended_writes);
+  }
+
+  pub spelt_page : (n : ℕ) {header : ObjectHeader} {words : List ℕ} → (frame_at (stored_on old b).saved.frames n).header.role ≡ role.Page →
+      header ≡ (frame_at (stored_on old b).saved.frames n).header → AreKeptWords 512 words
+      → sectors_from new.seen (slot_sector b.plan b.header.generation 0) 9 ≡ page_frame_bytes (record { header = header; content = content.Page words }) →
+      (age : ℕ) → b.header.age ≤ age → IsFrameOf b.plan.geometry age n (first_bytes new.seen b n) (with_words words (frame_at (stored_on old b).saved.frames n))
+  spelt_page n {header} {words} page same fits written age le =
+      let seen = unmended (none_idle b b.unwritten is.unwritten free) in
+      subst (λ (image : Image). IsFrameOf b.plan.geometry age n (first_bytes image b n) (with_words words (frame_at (stored_on old b).saved.frames n))) seen
+      (put_spelt is.kept free home mended_writes page same fits
+      (subst (λ (image : Image). sectors_from image (slot_sector b.plan b.header.generation 0) 9 ≡ page_frame_bytes
+      (record { header = header; content = content.Page words })) (sym seen) written) le)
 
 -- ---- the object of that slot is saved anew
 
 abbrev pub one_entry : ℕ → List Entry
 one_entry n = record { object = n; slot = 0 } ∷ []
 
-one_fits : (p : Plan) (n : ℕ) → IsPlan p → n < count_of p → IsDirectory p.geometry (record { object = n; slot = 0 } ∷ [])
-one_fits p n fits lt = record {
+one_fits : {p : Plan} {n : ℕ} → IsPlan p → n < count_of p → IsDirectory p.geometry (record { object = n; slot = 0 } ∷ [])
+one_fits {p} {n} fits lt = record {
   each = each;
   rising = λ i less. absurd (omega (arith, less));
   apart = λ i j less within. absurd (omega (arith, less, within));
@@ -204,8 +207,8 @@ one_fits p n fits lt = record {
   each zero d less = entry
   each (suc i) d less = absurd (omega (arith, less))
 
-header_fits : (room age : ℕ) (b : Books) → IsHeader room b.header → b.header.age < age → age ≤ 2 ^ 62 → 1 ≤ room → IsHeader room (replaced_header age b)
-header_fits room age b is later most some = record {
+header_fits : {room age : ℕ} (b : Books) → IsHeader room b.header → b.header.age < age → age ≤ 2 ^ 62 → 1 ≤ room → IsHeader room (replaced_header age b)
+header_fits {age} b is later most some = record {
   entries = some;
   age = most;
   generation = omega (arith, is.generation, later);
@@ -221,12 +224,9 @@ none_frozen : (f g : ℕ → FrozenPuts) (o : Option ℕ) → o ≡ None → opt
 none_frozen f g None is = refl
 none_frozen f g (Some k) is = absurd cc
 
-module _ (disk : Disk) (b : Books) (is : IsDurable disk b) (free : b.size ≡ None) (home : b.header.entries ≡ 0) (n : ℕ) (lt : n < count_of b.plan)
-    (page : b.plan.geometry.nodes ≤ n)
-    (age : ℕ) (later : b.header.age < age) (most_age : age ≤ 2 ^ 62)
-    (spelt : IsFrameOf b.plan.geometry age n (first_bytes disk.seen b n) (first_frame disk.seen b n)) where
+module _ {disk : Disk} {b : Books} {n age : ℕ} (may : MayReplace disk b n age) where
   kept : IsKept disk.sectors disk.seen b
-  kept = kept_raw disk b (none_idle b b.unwritten is.unwritten free) is
+  kept = kept_raw (none_idle b b.unwritten may.stands.unwritten may.free) may.stands
 
   abbrev again : ℕ
   again = b.header.generation + 2
@@ -237,14 +237,17 @@ module _ (disk : Disk) (b : Books) (is : IsDurable disk b) (free : b.size ≡ No
   abbrev entry : Entry
   entry = record { object = n; slot = 0 }
 
-  pub some : 1 ≤ b.plan.geometry.log
+  abbrev frame : Frame
+  frame = first_frame disk.seen b n
+
+  abbrev books : Books
+  books = with_header b (replaced_header age b) (one_entry n)
+
+  some : 1 ≤ b.plan.geometry.log
   some = omega (arith, kept.plan.geometry.least_log)
 
-  pub fits_next : IsHeader b.plan.geometry.log (replaced_header age b)
-  fits_next = header_fits b.plan.geometry.log age b kept.header later most_age some
-
   directory_next : IsDirectory b.plan.geometry (one_entry n)
-  directory_next = one_fits b.plan n kept.plan lt
+  directory_next = one_fits kept.plan may.object
 
   parity : again % 2 ≡ b.header.generation % 2
   parity = omega arith
@@ -253,95 +256,44 @@ module _ (disk : Disk) (b : Books) (is : IsDurable disk b) (free : b.size ≡ No
   inside_half = directory_inside b.plan again 1 some
 
   frame_here : frame_in disk.seen b.plan again (one_entry n) n ≡ first_bytes disk.seen b n
-  frame_here = in_slot disk.seen b.plan again (one_entry n) n 0 (slot_here entry [] n refl) ∙
+  frame_here = in_slot disk.seen b.plan again (one_entry n) n (slot_here entry [] n refl) ∙
       slot_same disk.seen b.plan again b.header.generation (half_same again b.header.generation parity) 0 n
 
   -- a page shares its home with none
-  one_page : (i : ℕ) → i < 1 → (m : ℕ) → m < count_of b.plan → home_place b.plan (entry_at (one_entry n) i).object ≡ home_place b.plan m → n ≡ m
-  one_page zero few m within same = sym (alone b.plan m n kept.plan within lt (page_own b.plan n page) (sym same))
-  one_page (suc i) few m within same = absurd (omega (arith, few))
+  one_page : (i : ℕ) → i < 1 → {m : ℕ} → m < count_of b.plan → home_place b.plan (entry_at (one_entry n) i).object ≡ home_place b.plan m → n ≡ m
+  one_page zero few {m} within same = sym (alone b.plan m n kept.plan within may.object (page_own b.plan may.page) (sym same))
+  one_page (suc i) few within same = absurd (omega (arith, few))
 
-  frame_there : (m : ℕ) → m < count_of b.plan → (n ≡ m → ⊥) → frame_in disk.seen b.plan again (one_entry n) m ≡ frame_in disk.seen b.plan b.header.generation
+  frame_there : {m : ℕ} → m < count_of b.plan → (n ≡ m → ⊥) → frame_in disk.seen b.plan again (one_entry n) m ≡ frame_in disk.seen b.plan b.header.generation
       b.directory m
-  frame_there m within other =
-      at_home disk.seen b.plan again (one_entry n) m
-      (beside_frame_slot b.plan (one_entry n) m (slot_behind entry [] m other) ∙
-      none_beside b.plan (one_entry n) m (λ i few same. other (one_page i few m within same)))
-      ∙ sym (lies_home disk.sectors disk.seen b kept home m)
+  frame_there {m} within other =
+      at_home disk.seen b.plan again (one_entry n) m (beside_frame_slot b.plan (one_entry n) m (slot_behind entry [] m other) ∙
+      none_beside b.plan (one_entry n) m (λ i few same. other (one_page i few within same))) ∙ sym (lies_home kept may.home m)
 
-  frames_next : frames_read disk.seen b.plan again (one_entry n) ≡ set (frames_read disk.seen b.plan b.header.generation b.directory) n
-      (first_frame disk.seen b n)
+  frames_next : frames_read disk.seen b.plan again (one_entry n) ≡ set (frames_read disk.seen b.plan b.header.generation b.directory) n frame
   unfolding frames_read
   frames_next =
-      map_set (frame_read disk.seen b.plan b.header.generation b.directory) (frame_read disk.seen b.plan again (one_entry n)) (count_of b.plan) n
-      (first_frame disk.seen b n) lt
-      (ap (frame_from b.plan.geometry n) frame_here)
-      (λ m within other. ap (frame_from b.plan.geometry m) (frame_there m within (λ same. other (sym same))))
-
-  spelt_here : IsSpelt disk.seen b.plan age again (one_entry n) n
-  spelt_here = subst (λ (bytes : List ℕ). IsFrameOf b.plan.geometry age n bytes (frame_from b.plan.geometry n bytes)) (sym frame_here) spelt
-
-  spelt_there : (m : ℕ) → m < count_of b.plan → (n ≡ m → ⊥) → IsSpelt disk.seen b.plan age again (one_entry n) m
-  spelt_there m within other =
-      let was = spelt_same disk.seen disk.seen b.plan b.header.age again b.header.generation (one_entry n) b.directory m (frame_there m within other)
-      (kept.saved m within) in
-      spelt_at disk.seen b.plan b.header.age age again (one_entry n) m was
-      (keepable_later b.plan.geometry b.header.age age (omega (arith, later)) m (frame_read disk.seen b.plan again (one_entry n) m) was.0)
+      map_set (frame_read disk.seen b.plan b.header.generation b.directory) (frame_read disk.seen b.plan again (one_entry n)) (count_of b.plan) n frame
+      may.object (ap (frame_from b.plan.geometry n) frame_here)
+      (λ m within other. ap (frame_from b.plan.geometry m) (frame_there within (λ same. other (sym same))))
 
   spelt_next : AreSpelt disk.seen b.plan age again (one_entry n)
   spelt_next m within = elim (cases_eq n m) [
-    | inl same ↦ subst (λ (k : ℕ). IsSpelt disk.seen b.plan age again (one_entry n) k) same spelt_here
-    | inr other ↦ spelt_there m within other
+    | inl same ↦ subst (λ (k : ℕ). IsSpelt disk.seen b.plan age again (one_entry n) k) same
+        (subst (λ (bytes : List ℕ). IsFrameOf b.plan.geometry age n bytes (frame_from b.plan.geometry n bytes)) (sym frame_here) may.spelt)
+    | inr other ↦
+        let was = spelt_same disk.seen disk.seen b.plan b.header.age again b.header.generation (one_entry n) b.directory m (frame_there within other)
+        (kept.saved m within) in
+        spelt_at disk.seen b.plan b.header.age age again (one_entry n) m was (keepable_later b.plan.geometry b.header.age age (omega (arith, may.later)) was.0)
   ]
 
   spares_then : SparesFrames b.plan again (one_entry n) extent
   spares_then m within =
-      frame_apart b.plan again (one_entry n) m extent
-      (λ s is. slots_apart_directory b.plan again s 1 m (frame_slot_fits b.plan (one_entry n) m s directory_next is) some)
-      (λ _. home_apart b.plan again m extent kept.plan within inside_half)
+      frame_apart b.plan again (one_entry n) m extent (λ s is. slots_apart_directory b.plan again 1 m (frame_slot_fits b.plan m directory_next is) some)
+      (λ _. home_apart again kept.plan within inside_half)
 
-  may_save : LeavesState disk (saved_state disk.seen b) → MaySave disk b.plan b.header b.directory (replaced_header age b) (one_entry n)
-  may_save sound = record {
-    plan = kept.plan;
-    inside = kept.inside;
-    header = kept.header;
-    sound = sound;
-    fits = fits_next;
-    after = refl;
-    directory = directory_next;
-    count = refl;
-    spelt = spelt_next;
-    spares = spares_log b.plan b.header b.directory again extent kept.plan kept.count home inside_half;
-    spares_next = spares_then;
-  }
-
-  then_half : working_generation (with_header b (replaced_header age b) (one_entry n)) % 2 ≡ again % 2 → ⊥
-  then_half is = other_parity again (sym (sym (ap (λ (o : Option ℕ). generation_after again o % 2) free) ∙ is))
-
-  replaced_kept : IsKept disk.sectors disk.seen (with_header b (replaced_header age b) (one_entry n))
-  replaced_kept = record {
-    plan = kept.plan;
-    inside = kept.inside;
-    header = fits_next;
-    count = refl;
-    directory = directory_next;
-    saved = spelt_next;
-    few = omega arith;
-    moved = λ i less. absurd (omega (arith, less));
-    frozen = are_put_same disk.seen b.plan (frozen_generation b) (again + 1) (half_same (frozen_generation b) (again + 1) (omega arith)) b.frozen kept.frozen;
-    running = subst (IsRunning (with_header b (replaced_header age b) (one_entry n))) (sym free) (blank disk.sectors disk.seen b kept free home);
-    working = are_put_same disk.seen b.plan (working_generation b) (working_generation (with_header b (replaced_header age b) (one_entry n)))
-        (sym (after_half b.header.generation b.size)) b.working kept.working;
-  }
-
-  replaced_spares : SparesKept (with_header b (replaced_header age b) (one_entry n)) extent
-  replaced_spares = record {
-    frames = spares_then;
-    homes = λ i less. absurd (omega (arith, less));
-    frozen = none_spares b.plan (again + 1) b.frozen extent (blank disk.sectors disk.seen b kept free home);
-    working = half_spares b.plan (working_generation (with_header b (replaced_header age b) (one_entry n))) again b.working extent kept.plan then_half
-        kept.working.table kept.working.few inside_half;
-  }
+  then_half : working_generation books % 2 ≡ again % 2 → ⊥
+  then_half is = other_parity again (sym (sym (ap (λ (o : Option ℕ). generation_after again o % 2) may.free) ∙ is))
 
   abbrev stored_as : List Put → Option FrozenPuts → List Frame → Stored
   stored_as working frozen frames = record {
@@ -351,33 +303,46 @@ module _ (disk : Disk) (b : Books) (is : IsDurable disk b) (free : b.size ≡ No
     to_move = 1;
   }
 
-  replaced_stored : stored_in disk.seen (with_header b (replaced_header age b) (one_entry n)) ≡ on_snapshots (replaced age n (first_frame disk.seen b n))
-      (stored_in disk.seen b)
+  replaced_stored : stored_in disk.seen books ≡ on_snapshots (replaced age n frame) (stored_in disk.seen b)
   replaced_stored =
-      ap (λ (puts : List Put). stored_as puts (option_map (frozen_of disk.seen (with_header b (replaced_header age b) (one_entry n))) b.size)
-      (frames_read disk.seen b.plan again (one_entry n)))
-      (puts_same disk.seen b.plan (working_generation (with_header b (replaced_header age b) (one_entry n))) (working_generation b)
-      (after_half b.header.generation b.size) b.working)
+      ap (λ (puts : List Put). stored_as puts (option_map (frozen_of disk.seen books) b.size) (frames_read disk.seen b.plan again (one_entry n)))
+      (puts_same b.plan (working_generation books) (working_generation b) b.working disk.seen disk.seen
+      (λ m s lt is. slot_same disk.seen b.plan (working_generation books) (working_generation b) (after_half b.header.generation b.size) s m))
       ∙ ap (λ (frozen : Option FrozenPuts). stored_as (puts_in disk.seen b.plan (working_generation b) b.working) frozen
-      (frames_read disk.seen b.plan again (one_entry n)))
-      (none_frozen (frozen_of disk.seen (with_header b (replaced_header age b) (one_entry n))) (frozen_of disk.seen b) b.size free)
+      (frames_read disk.seen b.plan again (one_entry n))) (none_frozen (frozen_of disk.seen books) (frozen_of disk.seen b) b.size may.free)
       ∙ ap (λ (fs : List Frame). stored_as (puts_in disk.seen b.plan (working_generation b) b.working) (option_map (frozen_of disk.seen b) b.size) fs)
       frames_next
 
-  -- what was kept lies apart from the directory
-  spares_now : SparesKept b extent
-  spares_now = spares_half disk.sectors disk.seen b kept free home again extent parity inside_half
-
-  pub may_replace : IsSoundOn disk b → MayAdopt disk b (replaced_header age b) (one_entry n)
-  may_replace sound = may_adopt_idle disk b (replaced_header age b) (one_entry n) is free
-      (may_save (sound_raw disk b (none_idle b b.unwritten is.unwritten free) sound)) replaced_kept spares_now replaced_spares
+  pub may_replace : MayAdopt disk b (replaced_header age b) (one_entry n)
+  may_replace = may_adopt_idle (replaced_header age b) (one_entry n) may.stands may.free may.sound refl
+      (record {
+        readable = record {
+          plan = kept.plan;
+          inside = kept.inside;
+          header = header_fits b kept.header may.later may.most some;
+          count = refl;
+          directory = directory_next;
+          saved = spelt_next;
+        };
+        few = omega arith;
+        moved = λ i less. absurd (omega (arith, less));
+        frozen = half_put (half_same (again + 1) (frozen_generation b) (omega arith)) kept.frozen;
+        running = subst (IsRunning books) (sym may.free) (blank kept may.free may.home);
+        working = half_put (after_half b.header.generation b.size) kept.working;
+      }) (spares_log b.header b.directory again kept.plan kept.count may.home inside_half) (spares_half kept may.free may.home again parity inside_half)
+      (record {
+        frames = spares_then;
+        homes = λ i less. absurd (omega (arith, less));
+        frozen = none_spares b.plan (again + 1) b.frozen extent (blank kept may.free may.home);
+        working = half_spares (working_generation books) again kept.plan then_half kept.working.table kept.working.few inside_half;
+      })
 
   pub replaced_on : stored_on disk (adopted (replaced_header age b) (one_entry n) b) ≡ on_snapshots (replaced age n (first_frame disk.seen b n))
       (stored_on disk b)
   replaced_on =
-      ap (stored_on disk) (sym (idle_books disk b (replaced_header age b) (one_entry n) is free))
-      ∙ subst (λ (o : Option Unwritten). stored_in (mended disk.seen o) (with_header b (replaced_header age b) (one_entry n)) ≡ on_snapshots
-      (replaced age n (first_frame disk.seen b n)) (stored_in (mended disk.seen o) b)) (sym (none_idle b b.unwritten is.unwritten free)) replaced_stored
+      ap (stored_on disk) (sym (idle_books (replaced_header age b) (one_entry n) may.stands may.free))
+      ∙ subst (λ (o : Option Unwritten). stored_in (mended disk.seen o) books ≡ on_snapshots (replaced age n frame) (stored_in (mended disk.seen o) b))
+      (sym (none_idle b b.unwritten may.stands.unwritten may.free)) replaced_stored
 
 -- no checkpoint is on its way
 pub size_none : (f : ℕ → FrozenPuts) (o : Option ℕ) → option_map f o ≡ None → o ≡ None
@@ -386,38 +351,24 @@ size_none f (Some k) is = absurd cc
 
 -- ---- the write, and then the commit
 
--- where the write failed
-pub either_first : (old new : Disk) (saved next : SavedFrames) → LeavesSaved old new saved → LeavesEither old new saved next
-either_first old new saved next run =
-    leaves_weaker {old = old} {new = new} {P = λ c. Holds old.sectors c saved} (λ c. Holds old.sectors c saved ⊎ Holds old.sectors c next) (λ c is. inl is) run
-
-pub both_runs : (old mid new : Disk) (saved next : SavedFrames) → mid.sectors ≡ old.sectors → LeavesSaved old mid saved → LeavesEither mid new saved next →
-    LeavesEither old new saved next
-both_runs old mid new saved next size first second =
-    leaves_on {old = old} {mid = mid} {new = new} {P = λ c. Holds old.sectors c saved ⊎ Holds old.sectors c next} (either_first old mid saved next first)
-    (subst (λ (k : ℕ). LeavesOnly mid new (λ c. Holds k c saved ⊎ Holds k c next)) size second)
-
-module _ (old mid : Disk) (b : Books) (n age : ℕ) (words : List ℕ) (stored : stored_on mid b ≡ stored_on old b)
+module _ {old mid : Disk} {b : Books} {n age : ℕ} {words : List ℕ} (idle : IsIdle old b) (stays : Stays old mid b b)
+    (may : MayJournal age n (stored_on old b).saved)
     (spelt : IsFrameOf b.plan.geometry age n (first_bytes mid.seen b n) (with_words words (frame_at (stored_on old b).saved.frames n))) where
-  abbrev page : Frame
-  page = with_words words (frame_at (stored_on old b).saved.frames n)
-
   -- the slot spells a frame, which is the page
-  pub found : IsFrameOf b.plan.geometry age n (first_bytes mid.seen b n) (first_frame mid.seen b n) × (first_frame mid.seen b n ≡ page)
-  found = bytes_spelt b.plan.geometry age n (first_bytes mid.seen b n) page spelt.0 spelt.1
+  found : IsFrameOf b.plan.geometry age n (first_bytes mid.seen b n) (first_frame mid.seen b n)
+      × (first_frame mid.seen b n ≡ with_words words (frame_at (stored_on old b).saved.frames n))
+  found = bytes_spelt b.plan.geometry age n (first_bytes mid.seen b n) (with_words words (frame_at (stored_on old b).saved.frames n)) spelt.0 spelt.1
 
-  pub object_is : n < b.plan.geometry.nodes + b.plan.geometry.pages
-  object_is = spelt.0.kind.1
+  pub may_save_first : MayReplace mid b n age
+  may_save_first = record {
+    idle = record { stands = stays.stands; free = idle.free; home = idle.home; sound = stays.goes_on.sound idle.sound };
+    object = spelt.0.kind.1;
+    page = spelt.0.kind.0;
+    spelt = found.0;
+    later = may.later;
+    most = may.most;
+  }
 
   pub journaled_is : on_snapshots (replaced age n (first_frame mid.seen b n)) (stored_on mid b) ≡ on_snapshots (journaled age n words) (stored_on old b)
   journaled_is = ap (λ (f : Frame). on_snapshots (replaced age n f) (stored_on mid b)) found.1 ∙
-      ap (λ (s : Stored). on_snapshots (replaced age n page) s) stored
-
-  -- the run to its end
-  pub either_run : (new : Disk) → mid.sectors ≡ old.sectors → LeavesSaved old mid (stored_on old b).saved
-      → LeavesEither mid new (stored_on mid b).saved (replaced_saved age n (first_frame mid.seen b n) (stored_on mid b).saved)
-      → LeavesEither old new (stored_on old b).saved (journaled_saved age n words (stored_on old b).saved)
-  either_run new size first second =
-      both_runs old mid new (stored_on old b).saved (journaled_saved age n words (stored_on old b).saved) size first
-      (subst (λ (s : Stored). LeavesEither mid new s.saved (replaced_saved age n page s.saved)) stored
-      (subst (λ (f : Frame). LeavesEither mid new (stored_on mid b).saved (replaced_saved age n f (stored_on mid b).saved)) found.1 second))
+      ap (λ (s : Stored). on_snapshots (replaced age n (with_words words (frame_at (stored_on old b).saved.frames n))) s) stays.stored

@@ -1,10 +1,10 @@
 -- What is kept of a store is kept through a write apart from it.
 use Rattle.migrator.proofs.Names.{ℕ, Option, Some, None, List, length, get_or, set, refl, sym, ap, subst, inl, inr, arith, map, option_map, range_with_len}
 use Rattle.migrator.proofs.Names.{cases_eq, same_lists, length-set, get_or-set_same, get_or-set_other, length-map-range_with_len, get_or-map-range_with_len}
-use Rattle.migrator.proofs.Names.{Image, Elsewhere, Extent, entry_at, IsFrameOf, frame_from, SavedState, slot_sector, count_of, Plan, IsPlan, IsApart}
-use Rattle.migrator.proofs.Names.{spelt_same, home_place, place_length, home_extent, one_length, Place, Nowhere, Torn, Whole, place_at, Put, Kept, slot_bytes}
-use Rattle.migrator.proofs.Names.{put_of, puts_in, ArePut, maps_same, most, SavedFrames, kept_of, Books, frozen_generation, working_generation, FrozenPuts}
-use Rattle.migrator.proofs.Names.{Stored, saved_state, frozen_of, stored_in, IsHome, IsKept, SparesFrames, SparesKept, SparesPuts}
+use Rattle.migrator.proofs.Names.{Image, Elsewhere, Extent, entry_at, IsFrameOf, frame_from, SavedState, count_of, Plan, IsPlan, IsApart, spelt_same}
+use Rattle.migrator.proofs.Names.{home_place, place_length, home_extent, one_length, Place, Nowhere, Torn, Whole, place_at, Put, Kept, slot_bytes, put_of}
+use Rattle.migrator.proofs.Names.{puts_in, ArePut, maps_same, most, SavedFrames, kept_of, Books, frozen_generation, working_generation, FrozenPuts, Stored}
+use Rattle.migrator.proofs.Names.{saved_state, frozen_of, stored_in, IsHome, IsKept, SparesFrames, SparesKept, SparesPuts, IsReadable, CheckpointHeader, Entry}
 use Rattle.std.proofs.Common.{◌≡◌, ◌-◌, ◌<◌, ◌∙◌}
 use Rattle.migrator.proofs.Spared.{frame_stays, state_stays, bytes_stay}
 
@@ -28,26 +28,23 @@ map_set f g n k x within here others =
 
 -- ---- what was put
 
-put_same : (new old : Image) (p : Plan) (generation n : ℕ) (place : Place) →
-    ((s : ℕ) → place ≡ Whole s → slot_bytes new p generation s n ≡ slot_bytes old p generation s n) →
-    put_of new p generation n place ≡ put_of old p generation n place
-put_same new old p generation n Nowhere same = refl
-put_same new old p generation n (Torn s) same = refl
-put_same new old p generation n (Whole s) same = ap (λ (bytes : List ℕ). Kept (frame_from p.geometry n bytes)) (same s refl)
+put_same : (new old : Image) (p : Plan) (g h n : ℕ) (place : Place) → ((s : ℕ) → place ≡ Whole s → slot_bytes new p g s n ≡ slot_bytes old p h s n) →
+    put_of new p g n place ≡ put_of old p h n place
+put_same new old p g h n Nowhere same = refl
+put_same new old p g h n (Torn s) same = refl
+put_same new old p g h n (Whole s) same = ap (λ (bytes : List ℕ). Kept (frame_from p.geometry n bytes)) (same s refl)
 
 -- where their bytes are the same, so are they
-pub puts_same : (p : Plan) (generation : ℕ) (ps : List Place) (old new : Image) →
-    ((n s : ℕ) → n < count_of p → place_at ps n ≡ Whole s → slot_bytes new p generation s n ≡ slot_bytes old p generation s n)
-    → puts_in new p generation ps ≡ puts_in old p generation ps
+pub puts_same : (p : Plan) (g h : ℕ) (ps : List Place) (old new : Image) →
+    ((n s : ℕ) → n < count_of p → place_at ps n ≡ Whole s → slot_bytes new p g s n ≡ slot_bytes old p h s n) → puts_in new p g ps ≡ puts_in old p h ps
 unfolding puts_in
-puts_same p generation ps old new same =
-    maps_same (λ n. put_of new p generation n (place_at ps n)) (λ n. put_of old p generation n (place_at ps n)) (count_of p)
-    (λ n lt. put_same new old p generation n (place_at ps n) (λ s is. same n s lt is))
+puts_same p g h ps old new same =
+    maps_same (λ n. put_of new p g n (place_at ps n)) (λ n. put_of old p h n (place_at ps n)) (count_of p)
+    (λ n lt. put_same new old p g h n (place_at ps n) (λ s is. same n s lt is))
 
-pub are_put_same : (p : Plan) (generation : ℕ) (ps : List Place) (old new : Image) →
-    ((n s : ℕ) → n < count_of p → place_at ps n ≡ Whole s → slot_bytes new p generation s n ≡ slot_bytes old p generation s n)
-    → ArePut old p generation ps → ArePut new p generation ps
-are_put_same p generation ps old new same are = record {
+pub are_put_same : {p : Plan} {g h : ℕ} {ps : List Place} {old new : Image} →
+    ((n s : ℕ) → n < count_of p → place_at ps n ≡ Whole s → slot_bytes new p g s n ≡ slot_bytes old p h s n) → ArePut old p h ps → ArePut new p g ps
+are_put_same {p} same are = record {
   count = are.count;
   few = are.few;
   table = are.table;
@@ -55,16 +52,16 @@ are_put_same p generation ps old new same are = record {
       (are.spelt n s lt is);
 }
 
-module _ (p : Plan) (generation : ℕ) (ps : List Place) (e : Extent) (old new : Image) (spares : SparesPuts p generation ps e)
+module _ (p : Plan) (generation : ℕ) (ps : List Place) {e : Extent} {old new : Image} (spares : SparesPuts p generation ps e)
     (change : Elsewhere e.sector e.length old new) where
   slot_stays : (n s : ℕ) → n < count_of p → place_at ps n ≡ Whole s → slot_bytes new p generation s n ≡ slot_bytes old p generation s n
-  slot_stays n s lt is = bytes_stay (slot_sector p generation s) p n e old new (spares n s lt is) change
+  slot_stays n s lt is = bytes_stay p n (spares n s lt is) change
 
   pub puts_stay : puts_in new p generation ps ≡ puts_in old p generation ps
-  puts_stay = puts_same p generation ps old new slot_stays
+  puts_stay = puts_same p generation generation ps old new slot_stays
 
   pub are_put_on : ArePut old p generation ps → ArePut new p generation ps
-  are_put_on are = are_put_same p generation ps old new slot_stays are
+  are_put_on are = are_put_same slot_stays are
 
 -- ---- all of it
 
@@ -87,41 +84,45 @@ stored_same new old b working frozen saved =
     ∙ ap (λ (x : SavedState). stored_of (puts_in old b.plan (working_generation b) b.working) (option_map (frozen_of old b) b.size) (kept_of x)
     (b.header.entries - b.moved)) saved
 
+-- what is saved can still be read
+pub readable_stays : {size : ℕ} {p : Plan} {h : CheckpointHeader} {es : List Entry} {e : Extent} {old new : Image} → SparesFrames p h.generation es e →
+    Elsewhere e.sector e.length old new → IsReadable size old p h es → IsReadable size new p h es
+readable_stays {p = p} {h = h} {es = es} {e} {old} {new} spares change is = record {
+  plan = is.plan;
+  inside = is.inside;
+  header = is.header;
+  count = is.count;
+  directory = is.directory;
+  saved = λ n lt. spelt_same new old p h.age h.generation h.generation es es n (frame_stays p h.generation es e spares change n lt) (is.saved n lt);
+}
+
 -- the frames of a home stay
-pub home_stays : (b : Books) (e : Extent) (old new : Image) → SparesFrames b.plan b.header.generation b.directory e → Elsewhere e.sector e.length old new →
+pub home_stays : (b : Books) {e : Extent} {old new : Image} → SparesFrames b.plan b.header.generation b.directory e → Elsewhere e.sector e.length old new →
     (i : ℕ) → IsPlan b.plan → (entry_at b.directory i).object < count_of b.plan
     → IsApart (home_extent b.plan (entry_at b.directory i).object) e → IsHome old b.plan b.header.generation b.directory i →
     IsHome new b.plan b.header.generation b.directory i
-home_stays b e old new spares change i plan fits apart is n lt same =
+home_stays b {e} {old} {new} spares change i plan fits apart is n lt same =
     let object : ℕ = (entry_at b.directory i).object in
     let there : IsApart (home_extent b.plan n) e =
     subst (λ (length : ℕ). IsApart (record { sector = home_place b.plan n; length = length }) e) (sym (one_length b.plan n object plan lt fits same))
     (subst (λ (sector : ℕ). IsApart (record { sector = sector; length = place_length b.plan object }) e) (sym same) apart) in
-    bytes_stay (home_place b.plan n) b.plan n e old new there change ∙ is n lt same ∙
-    sym (frame_stays b.plan b.header.generation b.directory e old new spares change n lt)
+    bytes_stay b.plan n there change ∙ is n lt same ∙ sym (frame_stays b.plan b.header.generation b.directory e spares change n lt)
 
-module _ (size : ℕ) (b : Books) (e : Extent) (old new : Image) (spares : SparesKept b e) (change : Elsewhere e.sector e.length old new) where
+module _ (size : ℕ) {b : Books} {e : Extent} {old new : Image} (spares : SparesKept b e) (change : Elsewhere e.sector e.length old new) where
   pub stored_stays : stored_in new b ≡ stored_in old b
   stored_stays =
-      stored_same new old b (puts_stay b.plan (working_generation b) b.working e old new spares.working change)
-      (puts_stay b.plan (frozen_generation b) b.frozen e old new spares.frozen change)
-      (state_stays b.plan b.header b.directory e old new spares.frames change)
+      stored_same new old b (puts_stay b.plan (working_generation b) b.working spares.working change)
+      (puts_stay b.plan (frozen_generation b) b.frozen spares.frozen change) (state_stays spares.frames change)
 
-  object_fits : IsKept size old b → (i : ℕ) → i < b.moved → (entry_at b.directory i).object < count_of b.plan
-  object_fits kept i lt = (kept.directory.each i (record { object = 0; slot = 0 }) (omega (arith, lt, kept.few, kept.count))).object
+  object_fits : IsKept size old b → {i : ℕ} → i < b.moved → (entry_at b.directory i).object < count_of b.plan
+  object_fits kept {i} lt = (kept.directory.each i (record { object = 0; slot = 0 }) (omega (arith, lt, kept.few, kept.count))).object
 
   pub kept_on : IsKept size old b → IsKept size new b
   kept_on kept = record {
-    plan = kept.plan;
-    inside = kept.inside;
-    header = kept.header;
-    count = kept.count;
-    directory = kept.directory;
-    saved = λ n lt. spelt_same new old b.plan b.header.age b.header.generation b.header.generation b.directory b.directory n
-        (frame_stays b.plan b.header.generation b.directory e old new spares.frames change n lt) (kept.saved n lt);
+    readable = readable_stays spares.frames change kept.readable;
     few = kept.few;
-    moved = λ i lt. home_stays b e old new spares.frames change i kept.plan (object_fits kept i lt) (spares.homes i lt) (kept.moved i lt);
-    frozen = are_put_on b.plan (frozen_generation b) b.frozen e old new spares.frozen change kept.frozen;
+    moved = λ i lt. home_stays b spares.frames change i kept.plan (object_fits kept lt) (spares.homes i lt) (kept.moved i lt);
+    frozen = are_put_on b.plan (frozen_generation b) b.frozen spares.frozen change kept.frozen;
     running = kept.running;
-    working = are_put_on b.plan (working_generation b) b.working e old new spares.working change kept.working;
+    working = are_put_on b.plan (working_generation b) b.working spares.working change kept.working;
   }

@@ -19,10 +19,10 @@ pub mod Saving
 mod Committing
 pub mod Moving
 mod Adopting
+mod Publishing
 mod Finishing
 mod Later
 mod Journaling
-mod Pages
 mod Moves
 mod HomeMoves
 mod Opening

@@ -2,8 +2,8 @@
 use Rattle.migrator.proofs.Names.{ℕ, Option, Some, None, List, length, refl, sym, ap, subst, inl, inr, arith, cases_lt, Image, Disk, LeavesOnly, leaves_on}
 use Rattle.migrator.proofs.Names.{started, entry_at, slot_in, count_of, Plan, IsPlan, apart_turned, own_slot, home_place, place_length, places_apart}
 use Rattle.migrator.proofs.Names.{home_extent, place_extent, Place, Nowhere, place_at, slot_of, IsTable, taken_count, IsCopied, IsFirst, SavedFrames, Holds}
-use Rattle.migrator.proofs.Names.{Books, frozen_generation, working_generation, seen_by, Stored, GoesOnDisk, saved_state, stored_in, IsHome, IsRunning, IsKept}
-use Rattle.migrator.proofs.Names.{Spares, Touches, SparesPuts, SparesKept}
+use Rattle.migrator.proofs.Names.{Books, frozen_generation, working_generation, seen_by, Stored, GoesOnDisk, stored_in, IsHome, IsRunning, IsKept, Spares}
+use Rattle.migrator.proofs.Names.{Touches, SparesPuts, SparesKept}
 use Rattle.std.proofs.Common.{◌≡◌, ◌+◌, ◌-◌, ◌<◌, ◌≤◌, ◌∙◌}
 use Rattle.migrator.proofs.Spared.{frame_stays}
 use Rattle.migrator.proofs.Kept.{stored_stays, kept_on}
@@ -17,23 +17,22 @@ not_running : (b : Books) (o : Option ℕ) → IsRunning b o → 0 < b.header.en
 not_running b None running some = refl
 not_running b (Some k) running some = absurd (omega (arith, running.0, some))
 
-pub no_checkpoint : (size : ℕ) (image : Image) (b : Books) → IsKept size image b → 0 < b.header.entries → b.size ≡ None
-no_checkpoint size image b kept some = not_running b b.size kept.running some
+pub no_checkpoint : {size : ℕ} {image : Image} {b : Books} → IsKept size image b → 0 < b.header.entries → b.size ≡ None
+no_checkpoint {b} kept some = not_running b b.size kept.running some
 
 -- sectors that hold no frame that was put: a home
-puts_home : (p : Plan) (generation m : ℕ) (ps : List Place) → IsPlan p → IsTable ps → taken_count ps ≤ p.geometry.log → m < count_of p →
+puts_home : {p : Plan} (generation : ℕ) {m : ℕ} {ps : List Place} → IsPlan p → IsTable ps → taken_count ps ≤ p.geometry.log → m < count_of p →
     SparesPuts p generation ps (home_extent p m)
-puts_home p generation m ps fits table few within n s lt is =
+puts_home {p} generation {m} fits table few within n s lt is =
     let less = table.few n s (ap slot_of is) in
-    apart_turned (home_extent p m) (place_extent p generation s n)
-    (home_apart p generation m (place_extent p generation s n) fits within (place_inside p generation s n (omega (arith, less, few))))
+    apart_turned (home_extent p m) (place_extent p generation s n) (home_apart generation fits within (place_inside p generation n (omega (arith, less, few))))
 
 abbrev pub moved_books : Books → ℕ → Books
 moved_books b k = record b { moved = b.moved + k }
 
 -- ---- the next frame is copied
 
-module _ (old new : Disk) (b : Books) (kept : IsKept old.sectors old.seen b) (some : b.moved < b.header.entries) (first : IsFirst b.plan b.directory b.moved)
+module _ {old new : Disk} {b : Books} (kept : IsKept old.sectors old.seen b) (some : b.moved < b.header.entries) (first : IsFirst b.plan b.directory b.moved)
     (touches : Touches (home_place b.plan (entry_at b.directory b.moved).object) (place_length b.plan (entry_at b.directory b.moved).object) old new) where
   abbrev object : ℕ
   object = (entry_at b.directory b.moved).object
@@ -51,10 +50,10 @@ module _ (old new : Disk) (b : Books) (kept : IsKept old.sectors old.seen b) (so
   has_slot = own_slot b.directory b.moved kept.directory.rising in_list
 
   spares : Spares b.plan b.header b.directory (home_extent b.plan object)
-  spares = spares_home b.plan b.header b.directory object (entry_at b.directory b.moved).slot kept.plan kept.directory kept.header.entries object_fits has_slot
+  spares = spares_home kept.plan kept.directory kept.header.entries object_fits has_slot
 
   none : b.size ≡ None
-  none = no_checkpoint old.sectors old.seen b kept (omega (arith, some))
+  none = no_checkpoint kept (omega (arith, some))
 
   blank : (n : ℕ) → place_at b.frozen n ≡ Nowhere
   blank = subst (IsRunning b) none kept.running
@@ -66,40 +65,31 @@ module _ (old new : Disk) (b : Books) (kept : IsKept old.sectors old.seen b) (so
         places_apart b.plan (entry_at b.directory i).object object kept.plan
         (kept.directory.each i (record { object = 0; slot = 0 }) (omega (arith, lt, in_list))).object object_fits (first i lt);
     frozen = none_spares b.plan (frozen_generation b) b.frozen (home_extent b.plan object) blank;
-    working = puts_home b.plan (working_generation b) object b.working kept.plan kept.working.table kept.working.few object_fits;
+    working = puts_home (working_generation b) kept.plan kept.working.table kept.working.few object_fits;
   }
 
   kept_new : IsKept new.sectors new.seen b
-  kept_new = subst (λ (k : ℕ). IsKept k new.seen b) (sym touches.size)
-      (kept_on old.sectors b (home_extent b.plan object) old.seen new.seen spares_all touches.elsewhere kept)
+  kept_new = subst (λ (k : ℕ). IsKept k new.seen b) (sym touches.size) (kept_on old.sectors spares_all touches.elsewhere kept)
 
   stored_new : stored_in new.seen b ≡ stored_in old.seen b
-  stored_new = stored_stays old.sectors b (home_extent b.plan object) old.seen new.seen spares_all touches.elsewhere
+  stored_new = stored_stays old.sectors spares_all touches.elsewhere
 
   is_home : IsCopied old.seen new.seen b.plan b.header.generation b.directory object → IsHome new.seen b.plan b.header.generation b.directory b.moved
   is_home copied n lt same = copied n lt same ∙
-      sym (frame_stays b.plan b.header.generation b.directory (home_extent b.plan object) old.seen new.seen spares.frames touches.elsewhere n lt)
+      sym (frame_stays b.plan b.header.generation b.directory (home_extent b.plan object) spares.frames touches.elsewhere n lt)
 
   pub copied_kept : IsCopied old.seen new.seen b.plan b.header.generation b.directory object → IsKept new.sectors new.seen (moved_books b 1)
   copied_kept copied = record {
-    plan = kept_new.plan;
-    inside = kept_new.inside;
-    header = kept_new.header;
-    count = kept_new.count;
-    directory = kept_new.directory;
-    saved = kept_new.saved;
+    readable = kept_new.readable;
     few = omega (arith, some);
     moved = λ i lt. elim (cases_lt i b.moved) [
       | inl less ↦ kept_new.moved i less
       | inr le ↦ let same : b.moved ≡ i = omega (arith, lt, le) in subst (IsHome new.seen b.plan b.header.generation b.directory) same (is_home copied)
     ];
     frozen = kept_new.frozen;
-    running = running_of b.size kept_new.running;
+    running = kept_new.running;
     working = kept_new.working;
-  } where
-    running_of : (o : Option ℕ) → IsRunning b o → IsRunning (moved_books b 1) o
-    running_of None is = is
-    running_of (Some k) is = is
+  }
 
   pub uncopied_kept : IsKept new.sectors new.seen b
   uncopied_kept = kept_new
@@ -112,38 +102,30 @@ module _ (old new : Disk) (b : Books) (kept : IsKept old.sectors old.seen b) (so
       ap (λ (n : ℕ). record (stored_in old.seen b) { to_move = b.header.entries - n }) same
 
   pub copied_goes_on : (k : ℕ) → GoesOnSeen old new b (moved_books b k)
-  copied_goes_on k = goes_spared old new b (moved_books b k) (home_extent b.plan object) refl refl refl spares touches
+  copied_goes_on k = goes_spared refl refl refl spares touches
 
   pub uncopied_goes_on : GoesOnSeen old new b b
-  uncopied_goes_on = goes_spared old new b b (home_extent b.plan object) refl refl refl spares touches
+  uncopied_goes_on = goes_spared refl refl refl spares touches
 
 -- ---- the next frame went home with the one before it
 
-module _ (size : ℕ) (image : Image) (b : Books) (kept : IsKept size image b) (some : b.moved < b.header.entries) (one : 0 < b.moved)
+module _ {size : ℕ} {image : Image} {b : Books} (kept : IsKept size image b) (some : b.moved < b.header.entries) (one : 0 < b.moved)
     (same : home_place b.plan (entry_at b.directory (b.moved - 1)).object ≡ home_place b.plan (entry_at b.directory b.moved).object) where
   there : IsHome image b.plan b.header.generation b.directory b.moved
   there n lt has = kept.moved (b.moved - 1) (omega (arith, one)) n lt (has ∙ sym same)
 
   pub passed_kept : IsKept size image (moved_books b 1)
   passed_kept = record {
-    plan = kept.plan;
-    inside = kept.inside;
-    header = kept.header;
-    count = kept.count;
-    directory = kept.directory;
-    saved = kept.saved;
+    readable = kept.readable;
     few = omega (arith, some);
     moved = λ i lt. elim (cases_lt i b.moved) [
       | inl less ↦ kept.moved i less
       | inr le ↦ let last : b.moved ≡ i = omega (arith, lt, le) in subst (IsHome image b.plan b.header.generation b.directory) last there
     ];
     frozen = kept.frozen;
-    running = running_of b.size kept.running;
+    running = kept.running;
     working = kept.working;
-  } where
-    running_of : (o : Option ℕ) → IsRunning b o → IsRunning (moved_books b 1) o
-    running_of None is = is
-    running_of (Some k) is = is
+  }
 
 -- ---- one after the other
 
@@ -164,6 +146,5 @@ goes_none disk b only_now = record {
   plan = refl;
   size = refl;
   sound = λ sound. sound;
-  any_moment = λ sound. started disk (λ c. Holds disk.sectors c (stored_in (seen_by disk.seen b) b).saved) only_now
-      (λ c left. holds disk.sectors c (saved_state (seen_by disk.seen b) b) (sound c left));
+  any_moment = λ sound. started disk (λ c. Holds disk.sectors c (stored_in (seen_by disk.seen b) b).saved) only_now (λ c left. holds (sound c left));
 }

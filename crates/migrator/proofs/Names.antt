@@ -1,8 +1,8 @@
 -- The names that the proofs here cite: of other crates, and of the definitions of this one.
 pub use Rattle.checkpoint.proofs.Lists.{maps_same}
 pub use Rattle.checkpoint.specs.Opened.{IsBadFor, OnlyReads}
-pub use Rattle.checkpoint.specs.Saved.{Holds, LeavesEither, LeavesSaved, SavedFrames, home_saved, journaled_saved, kept_of, most, replaced_saved, with_words}
-pub use Rattle.checkpoint.specs.Snapshots.{MayCommit, all_moved, committed, journaled, moved, moved_saved, next_saved, replaced}
+pub use Rattle.checkpoint.specs.Saved.{Holds, LeavesEither, LeavesSaved, SavedFrames, home_saved, kept_of, most, with_words}
+pub use Rattle.checkpoint.specs.Snapshots.{MayCommit, all_moved, committed, journaled, moved_saved, next_saved, replaced}
 pub use Rattle.checkpoint.specs.declared.open_fault.OpenFault.{OpenFault}
 pub use Rattle.ckpt_log.proofs.BesideHeaders.{next_follows}
 pub use Rattle.ckpt_log.proofs.Denoted.{frames_behind, new_denoted, old_denoted}
@@ -23,7 +23,7 @@ pub use Rattle.frame_io.specs.Fault.{CountsFailed}
 pub use Rattle.frame_io.specs.Frames.{IsHeaderAt, IsObject, IsRefused}
 pub use Rattle.frame_io.specs.declared.fault.Unreadable.{Unreadable}
 pub use Rattle.home_ranges.proofs.FrameSlots.{beside_behind, beside_frame_slot, beside_here, frame_slot_entry, own_frame_slot, same_some}
-pub use Rattle.home_ranges.proofs.Places.{IsOwn, alone, lt_false, lt_true, one_length, places_apart, places_spare_log, places_within, ranked, zeros_home}
+pub use Rattle.home_ranges.proofs.Places.{IsOwn, alone, lt_false, lt_true, one_length, places_apart, places_spare_log, places_within, ranked}
 pub use Rattle.home_ranges.proofs.Shared.{begins, home_between, own_of}
 pub use Rattle.home_ranges.specs.Home.{EndsInZeros, HaveHome, HoldsHome}
 pub use Rattle.home_ranges.specs.Laws.{home_extent}
@@ -86,14 +86,14 @@ pub use Rattle.std.proofs.lemmas.List.FromFn.{get_or-map-range_with_len, length-
 pub use Rattle.std.proofs.lemmas.Option.{same_Some}
 pub use Rattle.std.proofs.lemmas.Result.{err_from_is_err_and}
 pub use Rattle.std.specs.List.{range_with_len}
-pub use Rattle.std.specs.Prelude.{IfErr, IfOk, IsErr, OnErr, OnOk, map, option_map, replicate, slice_set}
+pub use Rattle.std.specs.Prelude.{IfErr, IfOk, IsErr, OnErr, OnOk, is_err, map, option_map, replicate, slice_set}
 pub use Rattle.std.specs.Vec.{vec_capacity}
 pub use Rattle.migrator.specs.Completed.{AreComplete, IsComplete, IsFilled, Keeps, KeepsOne}
-pub use Rattle.migrator.specs.Durable.{DurableState, FrozenPuts, GoesOn, GoesOnDisk, HasUnwritten, IsDurable, IsHome, IsKept, IsLesser, IsRunning, IsSoundOn}
-pub use Rattle.migrator.specs.Durable.{LeavesState, MayHaveUnwritten, MayJournal, MovedBy, ReadsStore, Stored, below_at, first_bytes, first_frame}
-pub use Rattle.migrator.specs.Durable.{freezing_puts, frozen_generation, frozen_of, frozen_put, generation_after, home_header, is_sound, left_of, newest}
-pub use Rattle.migrator.specs.Durable.{next_header, on_snapshots, puts, replaced_header, saved_state, seen_by, snapshots_in, stored_in, stored_of, stored_on}
-pub use Rattle.migrator.specs.Durable.{with_frozen, with_put, with_working, working_generation}
+pub use Rattle.migrator.specs.Durable.{DurableState, FrozenPuts, GoesOnDisk, HasUnwritten, IsDurable, IsHome, IsKept, IsLesser, IsReadable, IsRunning}
+pub use Rattle.migrator.specs.Durable.{IsSoundOn, LeavesState, MayHaveUnwritten, MayJournal, MayPut, Migrates, MovedBy, Publishes, PutsFrame, ReadsStore, Stays}
+pub use Rattle.migrator.specs.Durable.{Stored, Stores, below_at, first_bytes, first_frame, freezing_puts, frozen_generation, frozen_of, frozen_put}
+pub use Rattle.migrator.specs.Durable.{generation_after, home_header, is_sound, left_of, newest, next_header, on_snapshots, puts, replaced_header, saved_state}
+pub use Rattle.migrator.specs.Durable.{seen_by, snapshots_in, stored_in, stored_of, stored_on, with_frozen, with_put, with_working, working_generation}
 pub use Rattle.migrator.specs.Gathered.{HasZerosAt, IsCopied, IsFirst, IsGathered}
 pub use Rattle.migrator.specs.Headers.{IsHeaderOf}
 pub use Rattle.migrator.specs.Mended.{IfUnwritten, IsSpeltIn, IsUnwritten, Unwritten, mended, unwritten_of}
@@ -101,7 +101,7 @@ pub use Rattle.migrator.specs.Opened.{HasNoPlan, IsBadAt, IsRead, IsUnplanned, O
 pub use Rattle.migrator.specs.Put.{Absent, ArePut, Broken, HasFreeSlot, Kept, Put, held_slot, kept_count, kept_frame, put_at, put_of, put_or, slot_bytes}
 pub use Rattle.migrator.specs.Put.{slot_frame}
 unfoldable pub use Rattle.migrator.specs.Put.{overlaid, puts_in, sum_of}
-pub use Rattle.migrator.specs.Saving.{MayAdopt, MaySave, SavesOnly, SparesKept, SparesPuts, adopted}
+pub use Rattle.migrator.specs.Saving.{IsIdle, MayAdopt, MayCommitAt, MayFinish, MayReplace, SavesOnly, SparesKept, SparesPuts, adopted}
 pub use Rattle.migrator.specs.Spared.{Spares, SparesFrames, Touches, frame_extent}
 pub use Rattle.migrator.specs.Table.{IsTable, entries_from, entry_before, has_frame, has_slot, is_held, place_at, slot_for, slot_of, slot_or, taken_count}
 pub use Rattle.migrator.specs.Table.{whole_count}

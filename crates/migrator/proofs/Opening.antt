@@ -13,44 +13,33 @@ one_sector : (image : Image) → sectors_from image 0 1 ≡ image 0
 unfolding sectors_from
 one_sector image = append-nil (image 0)
 
-pub sector_is : (old mid : Image) (bytes : List ℕ) → Agrees mid old → sectors_from mid 0 1 ≡ bytes → old 0 ≡ bytes
-sector_is old mid bytes same is = sym (same 0) ∙ sym (one_sector mid) ∙ is
+pub sector_is : {old mid : Image} {bytes : List ℕ} → Agrees mid old → sectors_from mid 0 1 ≡ bytes → old 0 ≡ bytes
+sector_is {mid} same is = sym (same 0) ∙ sym (one_sector mid) ∙ is
 
 not_small : (image : Image) (size : ℕ) (bytes : List ℕ) → image 0 ≡ bytes → 5 ≤ size → total_in bytes ≤ size → IsTooSmall image size → ⊥
 not_small image size bytes is least whole small = ⊎_elim (λ lt. omega (arith, lt, least))
     (λ lt. let less : size < total_in bytes = subst (λ (b : List ℕ). size < total_in b) is lt in omega (arith, less, whole)) small
 
-pub total_small : (image : Image) (size : ℕ) (bytes : List ℕ) → image 0 ≡ bytes → size < total_in bytes → IsTooSmall image size
-total_small image size bytes is lt = inr (subst (λ (b : List ℕ). size < total_in b) (sym is) lt)
+pub total_small : (image : Image) {size : ℕ} {bytes : List ℕ} → image 0 ≡ bytes → size < total_in bytes → IsTooSmall image size
+total_small image {size} is lt = inr (subst (λ (b : List ℕ). size < total_in b) (sym is) lt)
 
-pub plan_refused : (image : Image) (size : ℕ) (bytes : List ℕ) (reason : BadImage) → image 0 ≡ bytes → 5 ≤ size → total_in bytes ≤ size →
+pub plan_refused : (image : Image) {size : ℕ} {bytes : List ℕ} (reason : BadImage) → image 0 ≡ bytes → 5 ≤ size → total_in bytes ≤ size →
     IsRefused bytes reason → HasNoPlan image size reason
-plan_refused image size bytes bad.Small is least whole refused = absurd refused
-plan_refused image size bytes bad.NotASuperblock is least whole refused =
+plan_refused image bad.Small is least whole refused = absurd refused
+plan_refused image {size} {bytes} bad.NotASuperblock is least whole refused =
     (not_small image size bytes is least whole, subst (λ (b : List ℕ). IsRefused b bad.NotASuperblock) (sym is) refused)
-plan_refused image size bytes bad.BadGeometry is least whole refused =
+plan_refused image {size} {bytes} bad.BadGeometry is least whole refused =
     let parts = subst (λ (b : List ℕ). IsRefused b bad.BadGeometry) (sym is) refused in
     (not_small image size bytes is least whole, parts.0, parts.1)
-plan_refused image size bytes bad.NoHeader is least whole refused = absurd refused
-plan_refused image size bytes bad.BadHeader is least whole refused = absurd refused
-plan_refused image size bytes bad.BadDirectory is least whole refused = absurd refused
-plan_refused image size bytes bad.BadFrame is least whole refused = absurd refused
-plan_refused image size bytes bad.BadCapability is least whole refused = absurd refused
-plan_refused image size bytes bad.BadProcess is least whole refused = absurd refused
-plan_refused image size bytes bad.BadBank is least whole refused = absurd refused
+plan_refused image bad.NoHeader is least whole refused = absurd refused
+plan_refused image other is least whole refused = absurd refused
 
 -- such a reason is the least of all
 pub planless : (image : Image) (size : ℕ) (reason : BadImage) → HasNoPlan image size reason → IsBadBy image size reason
 planless image size bad.Small none = none
 planless image size bad.NotASuperblock none = none
 planless image size bad.BadGeometry none = none
-planless image size bad.NoHeader none = absurd none
-planless image size bad.BadHeader none = absurd none
-planless image size bad.BadDirectory none = absurd none
-planless image size bad.BadFrame none = absurd none
-planless image size bad.BadCapability none = absurd none
-planless image size bad.BadProcess none = absurd none
-planless image size bad.BadBank none = absurd none
+planless image size other none = absurd none
 
 unplanned : (image : Image) (size : ℕ) (why : OpenFault) → IsUnplanned image size why → IsBadFor image size why
 unplanned image size refusal.Failed none = tt
@@ -62,9 +51,9 @@ pub refused_plan : {T : Type 0} (result : Result T OpenFault) (image : Image) (s
 refused_plan (Ok value) image size none = tt
 refused_plan (Err why) image size none = unplanned image size why none
 
-pub plan_read : (image : Image) (size : ℕ) (bytes : List ℕ) (p : Plan) → image 0 ≡ bytes → 5 ≤ size → total_in bytes ≤ size → bytes ≡ superblock_bytes p →
+pub plan_read : {image : Image} {size : ℕ} {bytes : List ℕ} {p : Plan} → image 0 ≡ bytes → 5 ≤ size → total_in bytes ≤ size → bytes ≡ superblock_bytes p →
     IsPlan p → HasPlan image size p
-plan_read image size bytes p is least whole spelt fits = record {
+plan_read {p} is least whole spelt fits = record {
   least = least;
   whole = let total = ap total_in spelt ∙ total_reported p fits in omega (arith, whole, total);
   fits = fits;
@@ -73,14 +62,13 @@ plan_read image size bytes p is least whole spelt fits = record {
 
 -- ---- looking a slot up
 
-pub found_at : (es : List Entry) (n i : ℕ) (e : Entry) → AreRising es → i < length es → e ≡ entry_at es i → e.object ≡ n → slot_in es n ≡ Some e.slot
-found_at es n i e rising lt is same =
+pub found_at : (es : List Entry) {n i : ℕ} {e : Entry} → AreRising es → i < length es → e ≡ entry_at es i → e.object ≡ n → slot_in es n ≡ Some e.slot
+found_at es {i} rising lt is same =
     ap (slot_in es) (sym same ∙ ap (λ (x : Entry). x.object) is) ∙ own_slot es i rising lt ∙ ap (λ (x : Entry). Some x.slot) (sym is)
 
-pub none_at : (es : List Entry) (n at : ℕ) → ((i : ℕ) → i < at → (entry_at es i).object < n) → ((i : ℕ) → at ≤ i → i < length es → n ≤ (entry_at es i).object) →
-    AreRising es
-    → (at < length es → (entry_at es at).object ≡ n → ⊥) → slot_in es n ≡ None
-none_at es n at below above rising other =
+pub none_at : (es : List Entry) {n at : ℕ} → ((i : ℕ) → i < at → (entry_at es i).object < n) → ((i : ℕ) → at ≤ i → i < length es → n ≤ (entry_at es i).object) →
+    AreRising es → (at < length es → (entry_at es at).object ≡ n → ⊥) → slot_in es n ≡ None
+none_at es {n} {at} below above rising other =
     no_slot es n (λ i lt same. elim (cases_lt i at) [
       | inl less ↦ let one = below i less in omega (arith, one, same)
       | inr le ↦ elim (cases_lt at i) [

@@ -41,73 +41,70 @@ puts_are image p generation ps size =
     get_or-map-range_with_len (λ n. put_of image p generation n (place_at ps n)) 0 (count_of p) i i d few (omega arith)
     ∙ sym (from_at image p generation 0 i ps d (omega (arith, few, size)) ∙ ap (λ (k : ℕ). put_of image p generation k (place_at ps i)) place))
 
-sum_from : (count : Put → ℕ) (has : Place → ℕ) (image : Image) (p : Plan) (generation n : ℕ) (ps : List Place) →
-    ((k : ℕ) (q : Place) → count (put_of image p generation k q) ≡ has q)
-    → sum_of count (puts_from image p generation n ps) ≡ tally has ps
+sum_from : (count : Put → ℕ) {has : Place → ℕ} (image : Image) (p : Plan) (generation n : ℕ) (ps : List Place) →
+    ((k : ℕ) (q : Place) → count (put_of image p generation k q) ≡ has q) → sum_of count (puts_from image p generation n ps) ≡ tally has ps
 unfolding sum_of tally
-sum_from count has image p generation n [] same = refl
-sum_from count has image p generation n (q ∷ ps) same = let rest = sum_from count has image p generation (n + 1) ps same in omega (arith, rest, same n q)
+sum_from count image p generation n [] same = refl
+sum_from count {has} image p generation n (q ∷ ps) same = let rest = sum_from count image p generation (n + 1) ps same in omega (arith, rest, same n q)
 
 frame_count : (image : Image) (p : Plan) (generation k : ℕ) (q : Place) → kept_frame (put_of image p generation k q) ≡ has_frame q
 frame_count image p generation k Nowhere = refl
-frame_count image p generation k (Torn s) = refl
-frame_count image p generation k (Whole s) = refl
+frame_count image p generation k other = refl
 
 slot_count : (image : Image) (p : Plan) (generation k : ℕ) (q : Place) → held_slot (put_of image p generation k q) ≡ has_slot q
 slot_count image p generation k Nowhere = refl
-slot_count image p generation k (Torn s) = refl
-slot_count image p generation k (Whole s) = refl
+slot_count image p generation k other = refl
 
 -- as many frames were put as places are whole
 pub kept_whole : (image : Image) (p : Plan) (generation : ℕ) (ps : List Place) → length ps ≡ count_of p →
     kept_count (puts_in image p generation ps) ≡ whole_count ps
 kept_whole image p generation ps size = ap kept_count (puts_are image p generation ps size) ∙
-    sum_from kept_frame has_frame image p generation 0 ps (frame_count image p generation)
+    sum_from kept_frame image p generation 0 ps (frame_count image p generation)
 
 pub held_taken : (image : Image) (p : Plan) (generation : ℕ) (ps : List Place) → length ps ≡ count_of p →
     sum_of held_slot (puts_in image p generation ps) ≡ taken_count ps
 held_taken image p generation ps size = ap (sum_of held_slot) (puts_are image p generation ps size) ∙
-    sum_from held_slot has_slot image p generation 0 ps (slot_count image p generation)
+    sum_from held_slot image p generation 0 ps (slot_count image p generation)
 
-pub put_is : (image : Image) (p : Plan) (generation : ℕ) (ps : List Place) (n : ℕ) → n < count_of p →
+pub put_is : (image : Image) (p : Plan) (generation : ℕ) (ps : List Place) {n : ℕ} → n < count_of p →
     put_at (puts_in image p generation ps) n ≡ put_of image p generation n (place_at ps n)
 unfolding puts_in
-put_is image p generation ps n lt = get_or-map-range_with_len (λ n. put_of image p generation n (place_at ps n)) 0 (count_of p) n n Absent lt (omega arith)
+put_is image p generation ps {n} lt = get_or-map-range_with_len (λ n. put_of image p generation n (place_at ps n)) 0 (count_of p) n n Absent lt (omega arith)
 
-room_by : (image : Image) (p : Plan) (generation room n : ℕ) (q : Place) (taken : ℕ) → taken ≤ room → ((s : ℕ) → slot_of q ≡ Some s → s < taken) →
+room_by : (image : Image) (p : Plan) (generation : ℕ) {room : ℕ} (n : ℕ) (q : Place) {taken : ℕ} → taken ≤ room → ((s : ℕ) → slot_of q ≡ Some s → s < taken) →
     ((put_of image p generation n q ≡ Absent → ⊥) ⊎ (taken < room)) → slot_or (slot_of q) taken < room
-room_by image p generation room n Nowhere taken few in' has = ⊎_elim (λ other. absurd (other refl)) (λ lt. lt) has
-room_by image p generation room n (Torn s) taken few in' has = let lt = in' s refl in omega (arith, lt, few)
-room_by image p generation room n (Whole s) taken few in' has = let lt = in' s refl in omega (arith, lt, few)
+room_by image p generation n Nowhere few in' has = ⊎_elim (λ other. absurd (other refl)) (λ lt. lt) has
+room_by image p generation n (Torn s) few in' has = let lt = in' s refl in omega (arith, lt, few)
+room_by image p generation n (Whole s) few in' has = let lt = in' s refl in omega (arith, lt, few)
 
 -- an object has a slot, or there is a free one among `room`
-pub slot_room : (image : Image) (p : Plan) (generation room : ℕ) (ps : List Place) (n : ℕ) → length ps ≡ count_of p → n < count_of p → IsTable ps →
+pub slot_room : (image : Image) (p : Plan) (generation : ℕ) {room : ℕ} {ps : List Place} {n : ℕ} → length ps ≡ count_of p → n < count_of p → IsTable ps →
     taken_count ps ≤ room → HasFreeSlot room (puts_in image p generation ps) n → slot_for ps n < room
-slot_room image p generation room ps n size lt table few has =
-    room_by image p generation room n (place_at ps n) (taken_count ps) few (λ s is. table.few n s is)
-    (⊎_elim (λ other. inl (λ none. other (put_is image p generation ps n lt ∙ none))) (λ less. inr (omega (arith, less, held_taken image p generation ps size)))
+slot_room image p generation {room} {ps} {n} size lt table few has =
+    room_by image p generation n (place_at ps n) few (λ s is. table.few n s is)
+    (⊎_elim (λ other. inl (λ none. other (put_is image p generation ps lt ∙ none))) (λ less. inr (omega (arith, less, held_taken image p generation ps size)))
     has)
 
 -- ---- a place is set
 
-has_one : (q : Place) (s : ℕ) → slot_of q ≡ Some s → has_slot q ≡ 1
-has_one Nowhere s is = absurd cc
-has_one (Torn t) s is = refl
-has_one (Whole t) s is = refl
+has_one : (q : Place) {s : ℕ} → slot_of q ≡ Some s → has_slot q ≡ 1
+has_one Nowhere is = absurd cc
+has_one (Torn t) is = refl
+has_one (Whole t) is = refl
 
-few_by : (old : Place) (taken taken' room : ℕ) → taken' + has_slot old ≡ taken + 1 → taken ≤ room → slot_or (slot_of old) taken < room → taken' ≤ room
-few_by Nowhere taken taken' room is few lt = omega (arith, is, lt)
-few_by (Torn s) taken taken' room is few lt = omega (arith, is, few)
-few_by (Whole s) taken taken' room is few lt = omega (arith, is, few)
+few_by : (old : Place) {taken taken' room : ℕ} → taken' + has_slot old ≡ taken + 1 → taken ≤ room → slot_or (slot_of old) taken < room → taken' ≤ room
+few_by Nowhere is few lt = omega (arith, is, lt)
+few_by (Torn s) is few lt = omega (arith, is, few)
+few_by (Whole s) is few lt = omega (arith, is, few)
 
-pub taken_set : (ps : List Place) (n room : ℕ) (q : Place) → n < length ps → slot_of q ≡ Some (slot_for ps n) → taken_count ps ≤ room → slot_for ps n < room →
+pub taken_set : (ps : List Place) {n room : ℕ} (q : Place) → n < length ps → slot_of q ≡ Some (slot_for ps n) → taken_count ps ≤ room → slot_for ps n < room →
     taken_count (set ps n q) ≤ room
-taken_set ps n room q lt is few less =
+taken_set ps {n} {room} q lt is few less =
     let set' = tally-set has_slot ps n q lt in
-    let one = has_one q (slot_for ps n) is in
-    few_by (place_at ps n) (taken_count ps) (taken_count (set ps n q)) room (omega (arith, set', one)) few less
+    let one = has_one q is in
+    few_by (place_at ps n) (omega (arith, set', one)) few less
 
-module _ (image : Image) (p : Plan) (generation : ℕ) (ps : List Place) (n : ℕ) (are : ArePut image p generation ps) (lt : n < count_of p)
+module _ {image : Image} {p : Plan} {generation : ℕ} {ps : List Place} {n : ℕ} (are : ArePut image p generation ps) (lt : n < count_of p)
     (room : slot_for ps n < p.geometry.log) where
   in_table : n < length ps
   in_table = omega (arith, lt, are.count)
@@ -116,12 +113,12 @@ module _ (image : Image) (p : Plan) (generation : ℕ) (ps : List Place) (n : �
   pub torn_put : ArePut image p generation (set ps n (Torn (slot_for ps n)))
   torn_put = record {
     count = length-set ps n (Torn (slot_for ps n)) ∙ are.count;
-    few = taken_set ps n p.geometry.log (Torn (slot_for ps n)) in_table refl are.few room;
-    table = table_set ps n (Torn (slot_for ps n)) are.table in_table refl;
+    few = taken_set ps (Torn (slot_for ps n)) in_table refl are.few room;
+    table = table_set (Torn (slot_for ps n)) are.table in_table refl;
     spelt = λ m s within is. elim (cases_eq m n) [
       | inl same ↦ let never : Torn (slot_for ps n) ≡ Whole s = sym
-          (ap (place_at (set ps n (Torn (slot_for ps n)))) same ∙ set_here ps n (Torn (slot_for ps n)) in_table) ∙ is in absurd cc
-      | inr other ↦ are.spelt m s within (sym (set_there ps n m (Torn (slot_for ps n)) other) ∙ is)
+          (ap (place_at (set ps n (Torn (slot_for ps n)))) same ∙ set_here ps in_table) ∙ is in absurd cc
+      | inr other ↦ are.spelt m s within (sym (set_there ps (Torn (slot_for ps n)) other) ∙ is)
     ];
   }
 
@@ -130,16 +127,15 @@ module _ (image : Image) (p : Plan) (generation : ℕ) (ps : List Place) (n : �
       ArePut image p generation (set ps n (Whole (slot_for ps n)))
   whole_put spelt = record {
     count = length-set ps n (Whole (slot_for ps n)) ∙ are.count;
-    few = taken_set ps n p.geometry.log (Whole (slot_for ps n)) in_table refl are.few room;
-    table = table_set ps n (Whole (slot_for ps n)) are.table in_table refl;
+    few = taken_set ps (Whole (slot_for ps n)) in_table refl are.few room;
+    table = table_set (Whole (slot_for ps n)) are.table in_table refl;
     spelt = λ m s within is. elim (cases_eq m n) [
       | inl same ↦
-          let here : Whole (slot_for ps n) ≡ Whole s = sym
-          (ap (place_at (set ps n (Whole (slot_for ps n)))) same ∙ set_here ps n (Whole (slot_for ps n)) in_table) ∙ is in
+          let here : Whole (slot_for ps n) ≡ Whole s = sym (ap (place_at (set ps n (Whole (slot_for ps n)))) same ∙ set_here ps in_table) ∙ is in
           let slot : slot_for ps n ≡ s = cc in
           subst (λ (k : ℕ). IsFrameOf p.geometry most k (slot_bytes image p generation s k) (slot_frame image p generation s k)) (sym same)
           (subst (λ (t : ℕ). IsFrameOf p.geometry most n (slot_bytes image p generation t n) (slot_frame image p generation t n)) slot spelt)
-      | inr other ↦ are.spelt m s within (sym (set_there ps n m (Whole (slot_for ps n)) other) ∙ is)
+      | inr other ↦ are.spelt m s within (sym (set_there ps (Whole (slot_for ps n)) other) ∙ is)
     ];
   }
 
@@ -147,9 +143,8 @@ module _ (image : Image) (p : Plan) (generation : ℕ) (ps : List Place) (n : �
   unfolding puts_in
   puts_set q =
       map_set (λ k. put_of image p generation k (place_at ps k)) (λ k. put_of image p generation k (place_at (set ps n q) k)) (count_of p) n
-      (put_of image p generation n q) lt
-      (ap (put_of image p generation n) (set_here ps n q in_table))
-      (λ m within other. ap (put_of image p generation m) (set_there ps n m q other))
+      (put_of image p generation n q) lt (ap (put_of image p generation n) (set_here ps in_table))
+      (λ m within other. ap (put_of image p generation m) (set_there ps q other))
 
 -- ---- the sectors of a slot
 
@@ -157,53 +152,48 @@ pub other_parity : (g : ℕ) → g % 2 ≡ (g + 1) % 2 → ⊥
 other_parity g same = omega (arith, same)
 
 -- frames in the other slots of a half lie apart from the slot of an object
-pub slots_spare : (p : Plan) (generation : ℕ) (ps : List Place) (n : ℕ) → IsTable ps → n < length ps →
+pub slots_spare : (p : Plan) (generation : ℕ) {ps : List Place} {n : ℕ} → IsTable ps → n < length ps →
     SparesPuts p generation (set ps n (Torn (slot_for ps n))) (place_extent p generation (slot_for ps n) n)
-slots_spare p generation ps n table lt m s within is = elim (cases_eq m n) [
-  | inl same ↦ let never : Torn (slot_for ps n) ≡ Whole s = sym (ap (place_at (set ps n (Torn (slot_for ps n)))) same ∙ set_here ps n (Torn (slot_for ps n)) lt)
-      ∙ is in absurd cc
+slots_spare p generation {ps} {n} table lt m s within is = elim (cases_eq m n) [
+  | inl same ↦ let never : Torn (slot_for ps n) ≡ Whole s = sym (ap (place_at (set ps n (Torn (slot_for ps n)))) same ∙ set_here ps lt) ∙ is in absurd cc
   | inr other ↦
       let whole : Whole s ≡ place_at (set ps n (Torn (slot_for ps n))) m = sym is in
-      let table' = table_set ps n (Torn (slot_for ps n)) table lt refl in
-      let differ : s ≡ slot_for ps n →
-      ⊥ = λ e. other (table'.apart m n s (ap slot_of is) (ap slot_of (set_here ps n (Torn (slot_for ps n)) lt) ∙ ap (λ (k : ℕ). Some k) (sym e))) in
+      let table' = table_set (Torn (slot_for ps n)) table lt refl in
+      let differ : s ≡ slot_for ps n → ⊥ = λ e. other (table'.apart m n s (ap slot_of is) (ap slot_of (set_here ps lt) ∙ ap (λ (k : ℕ). Some k) (sym e))) in
       apart_inside (place_extent p generation s m) (place_extent p generation (slot_for ps n) n) (slot_extent p generation s)
       (slot_extent p generation (slot_for ps n))
       (frames_in_slots p generation s m) (frames_in_slots p generation (slot_for ps n) n) (slots_apart p generation s (slot_for ps n) differ)
 ]
 
 -- frames in one half lie apart from sectors of the other
-pub half_spares : (p : Plan) (a b : ℕ) (ps : List Place) (e : Extent) → IsPlan p → (a % 2 ≡ b % 2 → ⊥) → IsTable ps → taken_count ps ≤ p.geometry.log →
+pub half_spares : {p : Plan} (a b : ℕ) {ps : List Place} {e : Extent} → IsPlan p → (a % 2 ≡ b % 2 → ⊥) → IsTable ps → taken_count ps ≤ p.geometry.log →
     IsInside e (half_extent p.geometry (half_sector p b)) → SparesPuts p a ps e
-half_spares p a b ps e fits differ table few inside n s lt is = let less = table.few n s (ap slot_of is) in other_half p a b s n e fits differ
+half_spares {p} a b {e} fits differ table few inside n s lt is = let less = table.few n s (ap slot_of is) in other_half a b n fits differ
     (omega (arith, less, few)) inside
 
 pub none_spares : (p : Plan) (generation : ℕ) (ps : List Place) (e : Extent) → ((n : ℕ) → place_at ps n ≡ Nowhere) → SparesPuts p generation ps e
 none_spares p generation ps e none n s lt is = let never : Nowhere ≡ Whole s = sym (none n) ∙ is in absurd cc
 
 -- what is saved lies apart from the half of the working frames
-pub saved_working : (size : ℕ) (image : Image) (b : Books) (o : Option ℕ) (e : Extent) → IsKept size image b → IsRunning b o →
+pub saved_working : {size : ℕ} {image : Image} {b : Books} (o : Option ℕ) {e : Extent} → IsKept size image b → IsRunning b o →
     IsInside e (half_extent b.plan.geometry (half_sector b.plan (generation_after b.header.generation o))) → Spares b.plan b.header b.directory e
-saved_working size image b None e kept running inside =
-    spares_other b.plan b.header b.directory (b.header.generation + 1) e kept.plan kept.directory kept.header.entries (other_parity b.header.generation) inside
-saved_working size image b (Some k) e kept running inside = spares_log b.plan b.header b.directory (b.header.generation + 1 + 1) e kept.plan kept.count
-    running.0 inside
+saved_working {b} None {e} kept running inside =
+    spares_other b.header (b.header.generation + 1) kept.plan kept.directory kept.header.entries (other_parity b.header.generation) inside
+saved_working {b} (Some k) {e} kept running inside = spares_log b.header b.directory (b.header.generation + 1 + 1) kept.plan kept.count running.0 inside
 
 -- and so do the frozen frames
-pub frozen_working : (size : ℕ) (image : Image) (b : Books) (o : Option ℕ) (e : Extent) → IsKept size image b → IsRunning b o →
+pub frozen_working : {size : ℕ} {image : Image} {b : Books} (o : Option ℕ) {e : Extent} → IsKept size image b → IsRunning b o →
     IsInside e (half_extent b.plan.geometry (half_sector b.plan (generation_after b.header.generation o))) → SparesPuts b.plan (frozen_generation b) b.frozen e
-frozen_working size image b None e kept running inside = none_spares b.plan (frozen_generation b) b.frozen e running
-frozen_working size image b (Some k) e kept running inside =
-    half_spares b.plan (frozen_generation b) (b.header.generation + 1 + 1) b.frozen e kept.plan (other_parity (b.header.generation + 1)) kept.frozen.table
-    kept.frozen.few inside
+frozen_working {b} None {e} kept running inside = none_spares b.plan (frozen_generation b) b.frozen e running
+frozen_working {b} (Some k) {e} kept running inside =
+    half_spares (frozen_generation b) (b.header.generation + 1 + 1) kept.plan (other_parity (b.header.generation + 1)) kept.frozen.table kept.frozen.few inside
 
 -- the homes of objects lie apart from both halves
-pub homes_spare : (size : ℕ) (image : Image) (b : Books) (generation : ℕ) (e : Extent) → IsKept size image b →
+pub homes_spare : {size : ℕ} {image : Image} {b : Books} (generation : ℕ) {e : Extent} → IsKept size image b →
     IsInside e (half_extent b.plan.geometry (half_sector b.plan generation)) → (i : ℕ) → i < b.moved
     → IsApart (home_extent b.plan (entry_at b.directory i).object) e
-homes_spare size image b generation e kept inside i lt =
-    home_apart b.plan generation (entry_at b.directory i).object e kept.plan
-    (kept.directory.each i (record { object = 0; slot = 0 }) (omega (arith, lt, kept.few, kept.count))).object inside
+homes_spare {b} generation {e} kept inside i lt =
+    home_apart generation kept.plan (kept.directory.each i (record { object = 0; slot = 0 }) (omega (arith, lt, kept.few, kept.count))).object inside
 
 -- ---- the whole frame in the slot
 
@@ -213,13 +203,13 @@ set_twice (z ∷ xs) zero x y = refl
 set_twice {X = X} (z ∷ xs) (suc n) x y = ap (λ (r : List X). z ∷ r) (set_twice xs n x y)
 
 -- where the slot of an object was torn, and has its frame now
-module _ (image : Image) (p : Plan) (generation : ℕ) (ps : List Place) (n s : ℕ) (are : ArePut image p generation (set ps n (Torn s))) (lt : n < count_of p)
+module _ {image : Image} {p : Plan} {generation : ℕ} (ps : List Place) (n s : ℕ) (are : ArePut image p generation (set ps n (Torn s))) (lt : n < count_of p)
   where
     in_list : n < length ps
     in_list = omega (arith, lt, are.count, length-set ps n (Torn s))
 
     here : place_at (set ps n (Torn s)) n ≡ Torn s
-    here = set_here ps n (Torn s) in_list
+    here = set_here ps in_list
 
     slot_here : slot_for (set ps n (Torn s)) n ≡ s
     slot_here = ap (λ (q : Place). slot_or (slot_of q) (taken_count (set ps n (Torn s)))) here
@@ -231,12 +221,11 @@ module _ (image : Image) (p : Plan) (generation : ℕ) (ps : List Place) (n s : 
         ArePut image p generation (set ps n (Whole s))
     mended spelt =
         subst (ArePut image p generation) (set_twice ps n (Torn s) (Whole s))
-        (subst (λ (t : ℕ). ArePut image p generation (set (set ps n (Torn s)) n (Whole t))) slot_here
-        (whole_put image p generation (set ps n (Torn s)) n are lt slot_low
+        (subst (λ (t : ℕ). ArePut image p generation (set (set ps n (Torn s)) n (Whole t))) slot_here (whole_put are lt slot_low
         (subst (λ (t : ℕ). IsFrameOf p.geometry most n (slot_bytes image p generation t n) (slot_frame image p generation t n)) (sym slot_here) spelt)))
 
-    pub puts_mended : (f : Frame) → slot_frame image p generation s n ≡ f →
+    pub puts_mended : {f : Frame} → slot_frame image p generation s n ≡ f →
         puts_in image p generation (set ps n (Whole s)) ≡ set (puts_in image p generation (set ps n (Torn s))) n (Kept f)
-    puts_mended f is =
-        ap (puts_in image p generation) (sym (set_twice ps n (Torn s) (Whole s))) ∙ puts_set image p generation (set ps n (Torn s)) n are lt slot_low (Whole s)
+    puts_mended is =
+        ap (puts_in image p generation) (sym (set_twice ps n (Torn s) (Whole s))) ∙ puts_set are lt slot_low (Whole s)
         ∙ ap (λ (g : Frame). set (puts_in image p generation (set ps n (Torn s))) n (Kept g)) is

@@ -6,8 +6,8 @@ use Rattle.migrator.proofs.Names.{state_in, Plan, denotes, ReadsOnly, OpenFault,
 use Rattle.std.proofs.Common.{◌≡◌, ◌+◌, ◌<◌, ◌∷◌, ◌++◌, ◌∙◌}
 use Rattle.checkpoint.specs.declared.open_fault.OpenFault.TheVariants as refusal
 
-time_on : (a b c : Disk) → ReadsOnly a b → ReadsOnly b c → Elapses a c
-time_on a b c first second = record {
+time_on : {a b c : Disk} → ReadsOnly a b → ReadsOnly b c → Elapses a c
+time_on first second = record {
   later = omega (arith, first.time.later, second.time.later);
   nothing_else = λ t x le left.
       ⊎_elim (λ before. ⊎_elim inl (λ now. inr (second.nothing_durable x now)) (first.time.nothing_else t x le before)) inr
@@ -16,20 +16,20 @@ time_on a b c first second = record {
 }
 
 -- one read after another
-pub reads_more : (a b c : Disk) → ReadsOnly a b → ReadsOnly b c → ReadsOnly a c
-reads_more a b c first second = record {
+pub reads_more : {a b c : Disk} → ReadsOnly a b → ReadsOnly b c → ReadsOnly a c
+reads_more {a} {b} {c} first second = record {
   size = second.size ∙ first.size;
   seen = λ i. second.seen i ∙ first.seen i;
   crash = λ x left. first.crash x (second.crash x left);
   nothing_durable = λ x left. second.nothing_durable x (first.nothing_durable x left);
   any_moment = leaves_on {old = a} {mid = b} {new = c} {P = a.may_leave} first.any_moment
       (leaves_weaker {old = b} {new = c} {P = b.may_leave} a.may_leave first.crash second.any_moment);
-  time = time_on a b c first second;
+  time = time_on first second;
 }
 
 -- before the first
-pub reads_none : (disk : Disk) → ((c : Image) → disk.left_since disk.moment c → disk.may_leave c) → ReadsOnly disk disk
-reads_none disk only_now = record {
+pub reads_none : {disk : Disk} → ((c : Image) → disk.left_since disk.moment c → disk.may_leave c) → ReadsOnly disk disk
+reads_none {disk} only_now = record {
   size = refl;
   seen = λ i. refl;
   crash = λ x left. left;
@@ -65,20 +65,19 @@ spelt_more image p age generation es k below here n lt = elim (cases_lt n k) [
 -- ---- why an image is refused
 
 -- the frame of some object is none
-pub bad_frame : (image : Image) (size : ℕ) (p : Plan) (h : CheckpointHeader) (es : List Entry) (n : ℕ) (e : OpenFault) → HasPlan image size p →
+pub bad_frame : {image : Image} {size : ℕ} {p : Plan} {h : CheckpointHeader} {es : List Entry} {n : ℕ} (e : OpenFault) → HasPlan image size p →
     HasHeader image p h → HasDirectory image p h es → n < count_of p → IsBadAt image p h es n e → IsBadFor image size e
-bad_frame image size p h es n refusal.Failed plan header directory lt is = tt
-bad_frame image size p h es n refusal.NoMemory plan header directory lt is = tt
-bad_frame image size p h es n (refusal.Bad reason) plan header directory lt is =
+bad_frame refusal.Failed plan header directory lt is = tt
+bad_frame refusal.NoMemory plan header directory lt is = tt
+bad_frame {image} {size} {p} {h} {es} {n} (refusal.Bad reason) plan header directory lt is =
     subst (IsBadBy image size) (sym is.0) (p, h, es, plan, header, directory, (n, lt, is.1))
 
 -- ---- a device that was read whole
 
 -- each crash leaves the state that was read, where all is durable
-pub opened_sound : (disk : Disk) (p : Plan) (h : CheckpointHeader) (es : List Entry) → Only disk.seen disk → HasPlan disk.seen disk.sectors p →
-    HasHeader disk.seen p h → HasDirectory disk.seen p h es → AreSpelt disk.seen p h.age h.generation es
-    → LeavesState disk (state_in disk.seen p h es)
-opened_sound disk p h es only plan header directory spelt c left =
+pub opened_sound : (disk : Disk) {p : Plan} {h : CheckpointHeader} {es : List Entry} → Only disk.seen disk → HasPlan disk.seen disk.sectors p →
+    HasHeader disk.seen p h → HasDirectory disk.seen p h es → AreSpelt disk.seen p h.age h.generation es → LeavesState disk (state_in disk.seen p h es)
+opened_sound disk {p} {h} {es} only plan header directory spelt c left =
     subst (λ (i : Image). Encodes i disk.sectors (state_in disk.seen p h es)) (sym (agrees_is c disk.seen (only c left)))
     (denotes disk.seen disk.sectors p h es plan header directory spelt)
 

@@ -26,25 +26,24 @@ tally_at has (p ∷ ps) (suc n) lt = let rest = tally_at has ps n (omega (arith,
 
 frame_slot : (p : Place) → has_frame p ≤ has_slot p
 frame_slot Nowhere = omega arith
-frame_slot (Torn s) = omega arith
-frame_slot (Whole s) = omega arith
+frame_slot other = omega arith
 
 pub whole_taken : (ps : List Place) → whole_count ps ≤ taken_count ps
 unfolding tally
 whole_taken [] = omega arith
 whole_taken (p ∷ ps) = let rest = whole_taken ps in let here = frame_slot p in omega (arith, rest, here)
 
-whole_of : (p : Place) (s : ℕ) → has_slot p ≤ has_frame p → slot_of p ≡ Some s → p ≡ Whole s
-whole_of Nowhere s le is = absurd cc
-whole_of (Torn t) s le is = absurd (omega (arith, le))
-whole_of (Whole t) s le is = let same : t ≡ s = cc in ap Whole same
+whole_of : (p : Place) {s : ℕ} → has_slot p ≤ has_frame p → slot_of p ≡ Some s → p ≡ Whole s
+whole_of Nowhere le is = absurd cc
+whole_of (Torn t) le is = absurd (omega (arith, le))
+whole_of (Whole t) {s} le is = let same : t ≡ s = cc in ap Whole same
 
 -- where no slot is torn, each has its frame
-pub all_whole : (ps : List Place) (n s : ℕ) → taken_count ps ≤ whole_count ps → n < length ps → slot_of (place_at ps n) ≡ Some s → place_at ps n ≡ Whole s
+pub all_whole : (ps : List Place) (n : ℕ) {s : ℕ} → taken_count ps ≤ whole_count ps → n < length ps → slot_of (place_at ps n) ≡ Some s → place_at ps n ≡ Whole s
 unfolding tally
-all_whole [] n s le lt is = absurd (omega (arith, lt))
-all_whole (p ∷ ps) zero s le lt is = let rest = whole_taken ps in whole_of p s (omega (arith, le, rest)) is
-all_whole (p ∷ ps) (suc n) s le lt is = let here = frame_slot p in all_whole ps n s (omega (arith, le, here)) (omega (arith, lt)) is
+all_whole [] n le lt is = absurd (omega (arith, lt))
+all_whole (p ∷ ps) zero {s} le lt is = let rest = whole_taken ps in whole_of p (omega (arith, le, rest)) is
+all_whole (p ∷ ps) (suc n) {s} le lt is = let here = frame_slot p in all_whole ps n (omega (arith, le, here)) (omega (arith, lt)) is
 
 pub tally-blank : (has : Place → ℕ) (n : ℕ) → has Nowhere ≡ 0 → tally has (replicate n Nowhere) ≡ 0
 unfolding tally
@@ -73,35 +72,34 @@ none_has Nowhere is = refl
 none_has (Torn s) is = absurd cc
 none_has (Whole s) is = absurd cc
 
-some_has : (p : Place) (s : ℕ) → slot_of p ≡ Some s → has_slot p ≡ 1
-some_has Nowhere s is = absurd cc
-some_has (Torn t) s is = refl
-some_has (Whole t) s is = refl
+some_has : (p : Place) {s : ℕ} → slot_of p ≡ Some s → has_slot p ≡ 1
+some_has Nowhere is = absurd cc
+some_has (Torn t) is = refl
+some_has (Whole t) is = refl
 
-same_some : (a b : ℕ) → Some a ≡ Some b → a ≡ b
-same_some a b e = cc
+same_some : {a b : ℕ} → Some a ≡ Some b → a ≡ b
+same_some e = cc
 
-pub set_here : (ps : List Place) (n : ℕ) (q : Place) → n < length ps → place_at (set ps n q) n ≡ q
-set_here ps n q lt = get_or-set_same ps n q Nowhere lt
+pub set_here : (ps : List Place) {n : ℕ} {q : Place} → n < length ps → place_at (set ps n q) n ≡ q
+set_here ps {n} {q} lt = get_or-set_same ps n q Nowhere lt
 
 -- the slot that an object has stays its own
-pub slot_kept : (ps : List Place) (n s : ℕ) → slot_of (place_at ps n) ≡ Some s → slot_for ps n ≡ s
-slot_kept ps n s is = ap (λ (o : Option ℕ). slot_or o (taken_count ps)) is
+pub slot_kept : (ps : List Place) (n : ℕ) {s : ℕ} → slot_of (place_at ps n) ≡ Some s → slot_for ps n ≡ s
+slot_kept ps n is = ap (λ (o : Option ℕ). slot_or o (taken_count ps)) is
 
-pub set_there : (ps : List Place) (n m : ℕ) (q : Place) → (m ≡ n → ⊥) → place_at (set ps n q) m ≡ place_at ps m
-set_there ps n m q other = get_or-set_other ps n m q Nowhere other
+pub set_there : (ps : List Place) {n m : ℕ} (q : Place) → (m ≡ n → ⊥) → place_at (set ps n q) m ≡ place_at ps m
+set_there ps {n} {m} q other = get_or-set_other ps n m q Nowhere other
 
 -- an object with a slot stays in it
-table_kept : (ps : List Place) (n t : ℕ) (q : Place) → IsTable ps → n < length ps → slot_of (place_at ps n) ≡ Some t → slot_of q ≡ Some t → IsTable (set ps n q)
-table_kept ps n t q is lt was has =
-    let count : taken_count (set ps n q) ≡ taken_count ps = let set' = tally-set has_slot ps n q lt in let one = some_has (place_at ps n) t was in let one' =
-    some_has q t has in omega (arith, set', one, one') in
+table_kept : {ps : List Place} {n t : ℕ} (q : Place) → IsTable ps → n < length ps → slot_of (place_at ps n) ≡ Some t → slot_of q ≡ Some t → IsTable (set ps n q)
+table_kept {ps} {n} {t} q is lt was has =
+    let count : taken_count (set ps n q) ≡ taken_count ps = let set' = tally-set has_slot ps n q lt in let one = some_has (place_at ps n) was in let one' =
+    some_has q has in omega (arith, set', one, one') in
     let same : (m s : ℕ) → slot_of (place_at (set ps n q) m) ≡ Some s → slot_of (place_at ps m) ≡ Some s = λ m s e. elim (cases_eq m n) [
       | inl here ↦
-          let now : slot_of (place_at (set ps n q) m) ≡ Some t = ap (λ (k : ℕ). slot_of (place_at (set ps n q) k)) here ∙ ap slot_of (set_here ps n q lt) ∙
-          has in
+          let now : slot_of (place_at (set ps n q) m) ≡ Some t = ap (λ (k : ℕ). slot_of (place_at (set ps n q) k)) here ∙ ap slot_of (set_here ps lt) ∙ has in
           ap (λ (k : ℕ). slot_of (place_at ps k)) here ∙ was ∙ sym now ∙ e
-      | inr there ↦ ap slot_of (sym (set_there ps n m q there)) ∙ e
+      | inr there ↦ ap slot_of (sym (set_there ps q there)) ∙ e
     ] in
     record {
       few = λ m s e. let less = is.few m s (same m s e) in omega (arith, less, count);
@@ -109,15 +107,15 @@ table_kept ps n t q is lt was has =
     }
 
 -- the next slot is taken
-table_more : (ps : List Place) (n : ℕ) (q : Place) → IsTable ps → n < length ps → slot_of (place_at ps n) ≡ None → slot_of q ≡ Some (taken_count ps) →
+table_more : {ps : List Place} {n : ℕ} (q : Place) → IsTable ps → n < length ps → slot_of (place_at ps n) ≡ None → slot_of q ≡ Some (taken_count ps) →
     IsTable (set ps n q)
-table_more ps n q is lt was has =
+table_more {ps} {n} q is lt was has =
     let count : taken_count (set ps n q) ≡ taken_count ps + 1 = let set' = tally-set has_slot ps n q lt in let none = none_has (place_at ps n) was in let one =
-    some_has q (taken_count ps) has in omega (arith, set', none, one) in
+    some_has q has in omega (arith, set', none, one) in
     let here : (m s : ℕ) → m ≡ n → slot_of (place_at (set ps n q) m) ≡ Some s → s ≡ taken_count ps = λ m s same e.
-    same_some s (taken_count ps) (sym e ∙ ap (λ (k : ℕ). slot_of (place_at (set ps n q) k)) same ∙ ap slot_of (set_here ps n q lt) ∙ has) in
+    same_some (sym e ∙ ap (λ (k : ℕ). slot_of (place_at (set ps n q) k)) same ∙ ap slot_of (set_here ps lt) ∙ has) in
     let there : (m s : ℕ) → (m ≡ n → ⊥) → slot_of (place_at (set ps n q) m) ≡ Some s →
-    slot_of (place_at ps m) ≡ Some s = λ m s other e. ap slot_of (sym (set_there ps n m q other)) ∙ e in
+    slot_of (place_at ps m) ≡ Some s = λ m s other e. ap slot_of (sym (set_there ps q other)) ∙ e in
     record {
       few = λ m s e. elim (cases_eq m n) [
         | inl same ↦ let at = here m s same e in omega (arith, at, count)
@@ -135,20 +133,19 @@ table_more ps n q is lt was has =
       ];
     }
 
-set_by : (o : Option ℕ) (ps : List Place) (n : ℕ) (q : Place) → IsTable ps → n < length ps → slot_of (place_at ps n) ≡ o →
+set_by : (o : Option ℕ) {ps : List Place} {n : ℕ} (q : Place) → IsTable ps → n < length ps → slot_of (place_at ps n) ≡ o →
     slot_of q ≡ Some (slot_or o (taken_count ps)) → IsTable (set ps n q)
-set_by None ps n q is lt was has = table_more ps n q is lt was has
-set_by (Some s) ps n q is lt was has = table_kept ps n s q is lt was has
+set_by None {ps} {n} q is lt was has = table_more q is lt was has
+set_by (Some s) {ps} {n} q is lt was has = table_kept q is lt was has
 
-pub table_set : (ps : List Place) (n : ℕ) (q : Place) → IsTable ps → n < length ps → slot_of q ≡ Some (slot_for ps n) → IsTable (set ps n q)
-table_set ps n q is lt has = set_by (slot_of (place_at ps n)) ps n q is lt refl has
+pub table_set : {ps : List Place} {n : ℕ} (q : Place) → IsTable ps → n < length ps → slot_of q ≡ Some (slot_for ps n) → IsTable (set ps n q)
+table_set {ps} {n} q is lt has = set_by (slot_of (place_at ps n)) q is lt refl has
 
 -- ---- entries
 
 entry_length : (n : ℕ) (p : Place) (es : List Entry) → length (entry_before n (slot_of p) es) ≡ has_slot p + length es
 entry_length n Nowhere es = omega arith
-entry_length n (Torn s) es = omega arith
-entry_length n (Whole s) es = omega arith
+entry_length n other es = omega arith
 
 length_from : (n : ℕ) (ps : List Place) → length (entries_from n ps) ≡ taken_count ps
 unfolding tally
@@ -195,38 +192,37 @@ entries_unheld ps from (suc k) none =
     ∙ ap (λ (n : ℕ). entries_from n (drop n ps)) next
 
 -- the next object with a slot has the next entry
-pub next_held : (ps : List Place) (from n s : ℕ) → IsNextMarked (map is_held ps) from n → slot_of (place_at ps n) ≡ Some s →
+pub next_held : (ps : List Place) {from n s : ℕ} → IsNextMarked (map is_held ps) from n → slot_of (place_at ps n) ≡ Some s →
     entries_from from (drop from ps) ≡ record { object = n; slot = s } ∷ entries_from (n + 1) (drop (n + 1) ps)
-next_held ps from n s next has =
+next_held ps {from} {n} next has =
     let end : from + (n - from) ≡ n = omega (arith, next.past) in
     entries_unheld ps from (n - from) (λ m past within. next.least m past (omega (arith, end)))
     ∙ ap (λ (m : ℕ). entries_from m (drop m ps)) end ∙ entries_step n n ps ∙ ap (λ (o : Option ℕ). entry_before n o (entries_from (n + 1) (drop (n + 1) ps)))
     has
 
 -- and where there is none, there are no more entries
-pub none_held : (ps : List Place) (from : ℕ) → HasNoneMarked (map is_held ps) from → entries_from from (drop from ps) ≡ []
-none_held ps from none =
-    entries_unheld ps from (length ps) (λ m past within. none m past)
-    ∙ ap (entries_from (from + length ps)) (drop_all (from + length ps) ps (omega arith))
+pub none_held : (ps : List Place) {from : ℕ} → HasNoneMarked (map is_held ps) from → entries_from from (drop from ps) ≡ []
+none_held ps {from} none =
+    entries_unheld ps from (length ps) (λ m past within. none m past) ∙ ap (entries_from (from + length ps)) (drop_all (from + length ps) ps (omega arith))
 
 -- as many entries are left as were not yet listed
 pub entries_left : (ps : List Place) (xs rest : List Entry) → entries_of ps ≡ xs ++ rest → length xs + length rest ≡ taken_count ps
 entries_left ps xs rest are = let all = ap length are in omega (arith, all, length_entries ps, length-append xs rest)
 
 -- so all are listed in the end
-pub entries_done : (ps : List Place) (xs rest : List Entry) → entries_of ps ≡ xs ++ rest → length xs ≡ taken_count ps → xs ≡ entries_of ps
-entries_done ps xs rest are done =
+pub entries_done : (ps : List Place) {xs : List Entry} (rest : List Entry) → entries_of ps ≡ xs ++ rest → length xs ≡ taken_count ps → xs ≡ entries_of ps
+entries_done ps {xs} rest are done =
     let none : rest ≡ [] = nil_from_length rest (omega (arith, entries_left ps xs rest are, done)) in
     sym (append-nil xs) ∙ ap (λ (es : List Entry). xs ++ es) (sym none) ∙ sym are
 
 -- ---- all slots are taken away
 
 pub none_taken : (ps : List Place) → HasNoneMarked (map is_held ps) 0 → taken_count ps ≡ 0
-none_taken ps none = sym (length_from 0 ps) ∙ ap length (none_held ps 0 none)
+none_taken ps none = sym (length_from 0 ps) ∙ ap length (none_held ps none)
 
 -- one is taken away
-pub one_less : (ps : List Place) (n : ℕ) → IsNextMarked (map is_held ps) 0 n → taken_count (set ps n Nowhere) + 1 ≡ taken_count ps
-one_less ps n next =
+pub one_less : (ps : List Place) {n : ℕ} → IsNextMarked (map is_held ps) 0 n → taken_count (set ps n Nowhere) + 1 ≡ taken_count ps
+one_less ps {n} next =
     let within : n < length ps = omega (arith, next.inside, length-map ps is_held) in
     let after = tally-set has_slot ps n Nowhere within in
     let one = held_has (place_at ps n) (sym (mark_is ps n) ∙ next.marked) in
@@ -242,30 +238,30 @@ all_nowhere (Whole s ∷ ps) none = absurd (omega (arith, none))
 
 -- ---- the slots that the entries give
 
-none_below : (o : Option ℕ) (n m : ℕ) (es : List Entry) → m < n → slot_in es m ≡ None → slot_in (entry_before n o es) m ≡ None
-none_below None n m es lt none = none
-none_below (Some s) n m es lt none = slot_behind (record { object = n; slot = s }) es m (λ same. omega (arith, same, lt)) ∙ none
+none_below : (o : Option ℕ) {n m : ℕ} (es : List Entry) → m < n → slot_in es m ≡ None → slot_in (entry_before n o es) m ≡ None
+none_below None es lt none = none
+none_below (Some s) {n} {m} es lt none = slot_behind (record { object = n; slot = s }) es m (λ same. omega (arith, same, lt)) ∙ none
 
-below : (n m : ℕ) (ps : List Place) → m < n → slot_in (entries_from n ps) m ≡ None
-below n m [] lt = refl
-below n m (p ∷ ps) lt = none_below (slot_of p) n m (entries_from (n + 1) ps) lt (below (n + 1) m ps (omega (arith, lt)))
+below : (n : ℕ) {m : ℕ} (ps : List Place) → m < n → slot_in (entries_from n ps) m ≡ None
+below n [] lt = refl
+below n {m} (p ∷ ps) lt = none_below (slot_of p) (entries_from (n + 1) ps) lt (below (n + 1) ps (omega (arith, lt)))
 
 slot_first : (o : Option ℕ) (n : ℕ) (es : List Entry) → slot_in es n ≡ None → slot_in (entry_before n o es) n ≡ o
 slot_first None n es none = none
 slot_first (Some s) n es none = slot_here (record { object = n; slot = s }) es n refl
 
-slot_later : (o : Option ℕ) (n m : ℕ) (es : List Entry) → n < m → slot_in (entry_before n o es) m ≡ slot_in es m
-slot_later None n m es lt = refl
-slot_later (Some s) n m es lt = slot_behind (record { object = n; slot = s }) es m (λ same. omega (arith, same, lt))
+slot_later : (o : Option ℕ) {n m : ℕ} (es : List Entry) → n < m → slot_in (entry_before n o es) m ≡ slot_in es m
+slot_later None es lt = refl
+slot_later (Some s) {n} {m} es lt = slot_behind (record { object = n; slot = s }) es m (λ same. omega (arith, same, lt))
 
 slot_from : (n k : ℕ) (ps : List Place) → slot_in (entries_from n ps) (n + k) ≡ slot_of (place_at ps k)
 slot_from n k [] = refl
 slot_from n zero (p ∷ ps) =
     let none : n + 0 ≡ n = omega arith in
-    ap (slot_in (entries_from n (p ∷ ps))) none ∙ slot_first (slot_of p) n (entries_from (n + 1) ps) (below (n + 1) n ps (omega arith))
+    ap (slot_in (entries_from n (p ∷ ps))) none ∙ slot_first (slot_of p) n (entries_from (n + 1) ps) (below (n + 1) ps (omega arith))
 slot_from n (suc k) (p ∷ ps) =
     let next : n + suc k ≡ n + 1 + k = omega arith in
-    slot_later (slot_of p) n (n + suc k) (entries_from (n + 1) ps) (omega arith) ∙ ap (slot_in (entries_from (n + 1) ps)) next ∙ slot_from (n + 1) k ps
+    slot_later (slot_of p) (entries_from (n + 1) ps) (omega arith) ∙ ap (slot_in (entries_from (n + 1) ps)) next ∙ slot_from (n + 1) k ps
 
 pub slot_entries : (ps : List Place) (n : ℕ) → slot_in (entries_of ps) n ≡ slot_of (place_at ps n)
 unfolding entries_of
@@ -284,9 +280,9 @@ record AreFrom (low high : ℕ) (es : List Entry) : Type 0 where
   pub each : (i : ℕ) → i < length es → (low ≤ (entry_at es i).object) × ((entry_at es i).object < high)
   pub rising : AreRising es
 
-from_by : (o : Option ℕ) (n high : ℕ) (es : List Entry) → n < high → AreFrom (n + 1) high es → AreFrom n high (entry_before n o es)
-from_by None n high es lt are = record { each = λ i within. let one = are.each i within in (omega (arith, one.0), one.1); rising = are.rising }
-from_by (Some s) n high es lt are = record {
+from_by : (o : Option ℕ) {n high : ℕ} {es : List Entry} → n < high → AreFrom (n + 1) high es → AreFrom n high (entry_before n o es)
+from_by None lt are = record { each = λ i within. let one = are.each i within in (omega (arith, one.0), one.1); rising = are.rising }
+from_by (Some s) {n} {high} {es} lt are = record {
   each = each_of;
   rising = rising_cons (record { object = n; slot = s }) es are.rising (λ some. let one = are.each 0 some in omega (arith, one.0));
 } where
@@ -299,27 +295,26 @@ from_of : (n : ℕ) (ps : List Place) → AreFrom n (n + length ps) (entries_fro
 from_of n [] = record { each = λ i lt. absurd (omega (arith, lt)); rising = λ i lt. absurd (omega (arith, lt)) }
 from_of n (p ∷ ps) =
     let end : n + 1 + length ps ≡ n + suc (length ps) = omega arith in
-    from_by (slot_of p) n (n + suc (length ps)) (entries_from (n + 1) ps) (omega arith)
-    (subst (λ (k : ℕ). AreFrom (n + 1) k (entries_from (n + 1) ps)) end (from_of (n + 1) ps))
+    from_by (slot_of p) (omega arith) (subst (λ (k : ℕ). AreFrom (n + 1) k (entries_from (n + 1) ps)) end (from_of (n + 1) ps))
 
 entries_are : (ps : List Place) → AreFrom 0 (0 + length ps) (entries_of ps)
 unfolding entries_of
 entries_are ps = from_of 0 ps
 
 -- the place of the object of an entry
-entry_place : (ps : List Place) (i : ℕ) → i < length (entries_of ps) → slot_of (place_at ps (entry_at (entries_of ps) i).object) ≡ Some
+entry_place : (ps : List Place) {i : ℕ} → i < length (entries_of ps) → slot_of (place_at ps (entry_at (entries_of ps) i).object) ≡ Some
     (entry_at (entries_of ps) i).slot
-entry_place ps i lt = sym (slot_entries ps (entry_at (entries_of ps) i).object) ∙ own_slot (entries_of ps) i (entries_are ps).rising lt
+entry_place ps {i} lt = sym (slot_entries ps (entry_at (entries_of ps) i).object) ∙ own_slot (entries_of ps) i (entries_are ps).rising lt
 
-pub entries_directory : (g : Geometry) (ps : List Place) → IsTable ps → length ps ≡ g.nodes + g.pages → taken_count ps ≤ g.log → g.nodes + g.pages ≤ 8192 →
+pub entries_directory : {g : Geometry} {ps : List Place} → IsTable ps → length ps ≡ g.nodes + g.pages → taken_count ps ≤ g.log → g.nodes + g.pages ≤ 8192 →
     g.log ≤ 4096 → IsDirectory g (entries_of ps)
-entries_directory g ps is size few small small' =
+entries_directory {g} {ps} is size few small small' =
     let es : List Entry = entries_of ps in
     let are = entries_are ps in
     record {
       each = λ i d lt.
           let one = are.each i lt in
-          let slot = is.few (entry_at es i).object (entry_at es i).slot (entry_place ps i lt) in
+          let slot = is.few (entry_at es i).object (entry_at es i).slot (entry_place ps lt) in
           subst (IsEntry g) (sym (get_or_default es i d (record { object = 0; slot = 0 }) lt))
           (record {
             object = omega (arith, one.1, size);
@@ -328,59 +323,54 @@ entries_directory g ps is size few small small' =
             slot_fits = omega (arith, slot, few, small');
           });
       rising = are.rising;
-      apart = λ i j lt within same.
-          two_objects es i j are.rising lt within
-          (is.apart (entry_at es i).object (entry_at es j).object (entry_at es j).slot
-          (entry_place ps i (omega (arith, lt, within)) ∙ ap (λ (k : ℕ). Some k) same) (entry_place ps j within));
+      apart = λ i j lt within same. two_objects es i j are.rising lt within (is.apart (entry_at es i).object (entry_at es j).object (entry_at es j).slot
+          (entry_place ps (omega (arith, lt, within)) ∙ ap (λ (k : ℕ). Some k) same) (entry_place ps within));
     }
 
 -- ---- what the code keeps
 
 one_slot : (p : Place) → has_slot p ≤ 1
 one_slot Nowhere = omega arith
-one_slot (Torn s) = omega arith
-one_slot (Whole s) = omega arith
+one_slot other = omega arith
 
 pub taken_few : (ps : List Place) → taken_count ps ≤ length ps
 unfolding tally
 taken_few [] = omega arith
 taken_few (p ∷ ps) = let rest = taken_few ps in let here = one_slot p in omega (arith, rest, here)
 
-pub count_set : (has : Place → ℕ) (items now : List Place) (n : ℕ) (q old : Place) (count a b : ℕ) → items ≡ now → n < length now → old ≡ place_at now n →
-    count ≡ tally has items → a ≡ has q → b ≡ has old
-    → count + a - b ≡ tally has (set items n q)
-count_set has items now n q old count a b same lt is total one other =
+pub count_set : (has : Place → ℕ) {items now : List Place} {n : ℕ} {q old : Place} {count a b : ℕ} → items ≡ now → n < length now → old ≡ place_at now n →
+    count ≡ tally has items → a ≡ has q → b ≡ has old → count + a - b ≡ tally has (set items n q)
+count_set has {items} {n} {q} {b} same lt is total one other =
     let within : n < length items = subst (λ (xs : List Place). n < length xs) (sym same) lt in
     let before : b ≡ has (place_at items n) = other ∙ ap has (is ∙ ap (λ (xs : List Place). place_at xs n) (sym same)) in
     let after = tally-set has items n q within in
     omega (arith, after, before, total, one)
 
-pub count_at : (has : Place → ℕ) (items now : List Place) (n : ℕ) (old : Place) (count b : ℕ) → items ≡ now → n < length now → old ≡ place_at now n →
+pub count_at : (has : Place → ℕ) {items now : List Place} {n : ℕ} {old : Place} {count b : ℕ} → items ≡ now → n < length now → old ≡ place_at now n →
     count ≡ tally has items → b ≡ has old → b ≤ count
-count_at has items now n old count b same lt is total other =
+count_at has {items} {n} {b} same lt is total other =
     let within : n < length items = subst (λ (xs : List Place). n < length xs) (sym same) lt in
     let before : b ≡ has (place_at items n) = other ∙ ap has (is ∙ ap (λ (xs : List Place). place_at xs n) (sym same)) in
     let one = tally_at has items n within in
     omega (arith, one, before, total)
 
-pub table_is : (items now : List Place) (n : ℕ) (q : Place) → items ≡ now → n < length now → slot_of q ≡ Some (slot_for now n) → IsTable items →
+pub table_is : {items now : List Place} {n : ℕ} (q : Place) → items ≡ now → n < length now → slot_of q ≡ Some (slot_for now n) → IsTable items →
     IsTable (set items n q)
-table_is items now n q same lt has is =
-    table_set items n q is (subst (λ (xs : List Place). n < length xs) (sym same) lt) (has ∙ ap (λ (xs : List Place). Some (slot_for xs n)) (sym same))
+table_is {items} {n} q same lt has is =
+    table_set q is (subst (λ (xs : List Place). n < length xs) (sym same) lt) (has ∙ ap (λ (xs : List Place). Some (slot_for xs n)) (sym same))
 
-slot_held : (p : Place) (s : ℕ) → slot_of p ≡ Some s → is_held p ≡ true
-slot_held Nowhere s has = absurd cc
-slot_held (Torn t) s has = refl
-slot_held (Whole t) s has = refl
+slot_held : (p : Place) {s : ℕ} → slot_of p ≡ Some s → is_held p ≡ true
+slot_held Nowhere has = absurd cc
+slot_held (Torn t) has = refl
+slot_held (Whole t) has = refl
 
-pub held_set : (ps : List Place) (held : List Bool) (n s : ℕ) (q : Place) → held ≡ map is_held ps → slot_of q ≡ Some s →
+pub held_set : (ps : List Place) {held : List Bool} (n : ℕ) {s : ℕ} (q : Place) → held ≡ map is_held ps → slot_of q ≡ Some s →
     set held n true ≡ map is_held (set ps n q)
-held_set ps held n s q are has =
-    ap (λ (bs : List Bool). set bs n true) are ∙ ap (set (map is_held ps) n) (sym (slot_held q s has)) ∙ sym (map-set is_held ps n q)
+held_set ps n {s} q are has = ap (λ (bs : List Bool). set bs n true) are ∙ ap (set (map is_held ps) n) (sym (slot_held q has)) ∙ sym (map-set is_held ps n q)
 
-pub blank_is : (ps : List Place) (held : List Bool) (n : ℕ) → ps ≡ replicate n Nowhere → held ≡ map is_held ps →
+pub blank_is : {ps : List Place} {held : List Bool} (n : ℕ) → ps ≡ replicate n Nowhere → held ≡ map is_held ps →
     IsTable ps × (held ≡ map is_held ps) × (0 ≡ taken_count ps) × (0 ≡ whole_count ps)
-blank_is ps held n is marks =
+blank_is {ps} {held} n is marks =
     subst (λ (xs : List Place). IsTable xs × (held ≡ map is_held ps) × (0 ≡ taken_count xs) × (0 ≡ whole_count xs)) (sym is)
     (blank_table n, marks, sym (tally-blank has_slot n refl), sym (tally-blank has_frame n refl))
 
@@ -389,7 +379,8 @@ pub unheld_all : (n : ℕ) → replicate n false ≡ map is_held (replicate n No
 unheld_all zero = refl
 unheld_all (suc n) = ap (λ (bs : List Bool). false ∷ bs) (unheld_all n)
 
-pub rewritten : {X : Type 0} (items new : List X) (len : ℕ) → length new ≡ length items → len ≡ length items → take len (new ++ drop (length new) items) ≡ new
-rewritten {X = X} items new len long size =
+pub rewritten : {X : Type 0} (items : List X) {new : List X} {len : ℕ} → length new ≡ length items → len ≡ length items → take len
+    (new ++ drop (length new) items) ≡ new
+rewritten {X = X} items {new} {len} long size =
     ap (λ (xs : List X). take len (new ++ xs)) (drop_all (length new) items (omega (arith, long))) ∙ ap (take len) (append-nil new) ∙
     take_all len new (omega (arith, long, size))

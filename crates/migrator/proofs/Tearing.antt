@@ -1,13 +1,18 @@
 -- What was put of an object is given up: its slot stays.
-use Rattle.migrator.proofs.Names.{inl, ℕ, Option, Some, length, sym, ap, arith, get_or-set_same, same_Some, Disk, count_of, Absent, Broken, put_at, puts_in}
-use Rattle.migrator.proofs.Names.{HasFreeSlot, Books, FrozenPuts, Stored, frozen_generation, frozen_of, seen_by, stored_on, with_frozen, with_put}
+use Rattle.migrator.proofs.Names.{MayPut, PutsFrame, Stores, inl, ℕ, Option, Some, length, sym, ap, arith, get_or-set_same, same_Some, Disk, count_of, Absent}
+use Rattle.migrator.proofs.Names.{Broken, put_at, puts_in, HasFreeSlot, Books, FrozenPuts, Stored, frozen_generation, frozen_of, seen_by, stored_on}
+use Rattle.migrator.proofs.Names.{with_frozen, with_put, subst, Result, Err, IsErr, Counts, counts_on, Frame, IsKeepable, IsObject, Plan, Kept, most}
 use Rattle.std.proofs.Common.{◌≡◌, ◌∙◌, ◌<◌, option_map}
+use Rattle.migrator.proofs.Counting.{err_counts}
 use Rattle.migrator.proofs.Freezing.{length_puts}
+use Rattle.migrator.proofs.FrozenFrames.{put_twice}
+use Rattle.migrator.proofs.Moving.{goes_trans}
+use Rattle.migrator.proofs.Saving.{err_then, no_ok, ok_then, on_err}
 
-pub torn_room : (old mid : Disk) (b c : Books) (size n : ℕ) → b.size ≡ Some size → c.size ≡ Some size →
+torn_room : (old mid : Disk) (b c : Books) {size n : ℕ} → b.size ≡ Some size → c.size ≡ Some size →
     stored_on mid c ≡ with_frozen n Broken (stored_on old b) → n < count_of b.plan
     → HasFreeSlot size (puts_in (seen_by mid.seen c) c.plan (frozen_generation c) c.frozen) n
-torn_room old mid b c size n running still torn known =
+torn_room old mid b c {size} {n} running still torn known =
     let puts = puts_in (seen_by old.seen b) b.plan (frozen_generation b) b.frozen in
     let within : n < length puts = omega (arith, known, length_puts (seen_by old.seen b) b.plan (frozen_generation b) b.frozen) in
     let is = same_Some (frozen_of (seen_by mid.seen c) c size) (with_put n Broken (frozen_of (seen_by old.seen b) b size))
@@ -16,3 +21,37 @@ torn_room old mid b c size n running still torn known =
     inl (λ none.
     let never : Broken ≡ Absent = sym (get_or-set_same puts n Broken Absent within) ∙ sym (ap (λ (f : FrozenPuts). put_at f.put n) is) ∙ none in
     absurd cc)
+
+-- it may then be put
+pub may_put_torn : {old mid : Disk} {a b : Books} {k n : ℕ} {f : Frame} → MayPut old a k n f → Stores old mid a b (with_frozen n Broken (stored_on old a)) →
+    b.size ≡ Some k → MayPut mid b k n f
+may_put_torn {old} {mid} {a} {b} {k} {n} {f} may torn still = record {
+  stands = torn.stands;
+  running = still;
+  object = subst (λ (p : Plan). IsObject p.geometry n) (sym torn.goes_on.plan) may.object;
+  keepable = subst (λ (p : Plan). IsKeepable p.geometry most n f) (sym torn.goes_on.plan) may.keepable;
+  room = torn_room old mid a b may.running still torn.stored may.object;
+}
+
+-- the device failed before
+pub puts_none : {T E U F : Type 0} {old mid : Disk} {a b : Books} (n : ℕ) {f : Frame} {e : E} {r : Result U F} →
+    Stores old mid a b (with_frozen n Broken (stored_on old a)) → IsErr r → Counts {T = T} old mid (Err e)
+    → PutsFrame old mid a b f (λ put. with_frozen n put (stored_on old a)) r
+puts_none n {r} torn failed counts = record {
+  stands = torn.stands;
+  put = no_ok r failed _;
+  broken = on_err r torn.stored;
+  goes_on = torn.goes_on;
+  cause = err_counts failed counts;
+}
+
+pub puts_after : {T E : Type 0} {old mid new : Disk} {a b c : Books} (n : ℕ) {f : Frame} {r : Result T E} →
+    Stores old mid a b (with_frozen n Broken (stored_on old a)) → mid.failures ≡ old.failures
+    → PutsFrame mid new b c f (λ put. with_frozen n put (stored_on mid b)) r → PutsFrame old new a c f (λ put. with_frozen n put (stored_on old a)) r
+puts_after {old = old} {mid = mid} {new = new} {a = a} {b = b} {c = c} n {f} {r} torn none is = record {
+  stands = is.stands;
+  put = ok_then r (λ e. e ∙ ap (with_frozen n (Kept f)) torn.stored ∙ put_twice (stored_on old a) n Broken (Kept f)) is.put;
+  broken = err_then r (λ e. e ∙ ap (with_frozen n Broken) torn.stored ∙ put_twice (stored_on old a) n Broken Broken) is.broken;
+  goes_on = goes_trans old mid new a b c (ap (λ (s : Stored). s.saved) torn.stored) torn.goes_on is.goes_on;
+  cause = counts_on none is.cause;
+}

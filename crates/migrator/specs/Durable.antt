@@ -3,16 +3,18 @@ use Rattle.migrator.specs.Names.{⊤, ℕ, Option, Some, None, List, length, opt
 use Rattle.migrator.specs.Names.{frame_at, Image, Disk, Agrees, Narrows, Peeks, Entry, CheckpointHeader, IsDirectory}
 use Rattle.migrator.specs.Names.{entry_at, IsHeader, Packed, shape_of, SavedState, Encodes, slot_sector, AreSpelt}
 use Rattle.migrator.specs.Names.{state_in, Plan, IsPlan, SavedFrames, kept_of, LeavesSaved, FrozenView, Snapshots}
-use Rattle.migrator.specs.Names.{freezing}
+use Rattle.migrator.specs.Names.{freezing, IsObject, IsKeepable, most, Counts, LeavesEither, Result, OnOk, OnErr, moved}
+use Rattle.migrator.specs.Names.{moved_saved}
 use Rattle.std.specs.Prelude.{◌≡◌, ◌⊎◌, ◌+◌, ◌-◌, ◌^◌, ◌<◌, ◌≤◌}
 use Rattle.model.specs.declared.object.Role.TheVariants as role
 use Rattle.migrator.specs.Gathered.{IsCopied}
 use Rattle.migrator.specs.Mended.{Unwritten, mended}
 use Rattle.migrator.specs.declared.books.Books.{Books}
+use Rattle.migrator.specs.declared.table.Place.{Place}
 use Rattle.migrator.specs.declared.table.Place.TheVariants.{Nowhere}
 use Rattle.migrator.specs.Table.{place_at, slot_of, taken_count}
 use Rattle.migrator.specs.Put.{Put, Absent, put_at, put_or, kept_count, overlaid, slot_bytes, slot_frame, puts_in}
-use Rattle.migrator.specs.Put.{ArePut}
+use Rattle.migrator.specs.Put.{ArePut, Broken, HasFreeSlot, Kept}
 
 -- what a read gives, of the device and of that cluster
 abbrev pub seen_by : Image → Books → Image
@@ -104,18 +106,26 @@ abbrev pub IsHome : Image → Plan → ℕ → List Entry → ℕ → Type 0
 IsHome image p generation es i = IsCopied image image p generation es (entry_at es i).object
 
 -- a checkpoint is on its way only where all that is saved is home, and has slots enough
+abbrev pub MayRun : ℕ → ℕ → List Place → Option ℕ → Type 0
+MayRun entries log ps None = (n : ℕ) → place_at ps n ≡ Nowhere
+MayRun entries log ps (Some size) = (entries ≡ 0) × (taken_count ps ≤ size) × (size ≤ log)
+
 abbrev pub IsRunning : Books → Option ℕ → Type 0
-IsRunning b None = (n : ℕ) → place_at b.frozen n ≡ Nowhere
-IsRunning b (Some size) = (b.header.entries ≡ 0) × (taken_count b.frozen ≤ size) × (size ≤ b.plan.geometry.log)
+IsRunning b o = MayRun b.header.entries b.plan.geometry.log b.frozen o
+
+-- all frames that a directory names, and those at home beside them, can be read on `size` sectors
+pub record IsReadable (size : ℕ) (image : Image) (p : Plan) (h : CheckpointHeader) (es : List Entry) : Type 0 where
+  pub plan : IsPlan p
+  pub inside : p.total ≤ size
+  pub header : IsHeader p.geometry.log h
+  pub count : length es ≡ h.entries
+  pub directory : IsDirectory p.geometry es
+  pub saved : AreSpelt image p h.age h.generation es
 
 -- what is kept of the store on `size` sectors, whatever failed: without header and superblock
 pub record IsKept (size : ℕ) (image : Image) (b : Books) : Type 0 where
-  pub plan : IsPlan b.plan
-  pub inside : b.plan.total ≤ size
-  pub header : IsHeader b.plan.geometry.log b.header
-  pub count : length b.directory ≡ b.header.entries
-  pub directory : IsDirectory b.plan.geometry b.directory
-  pub saved : AreSpelt image b.plan b.header.age b.header.generation b.directory
+  pub readable : IsReadable size image b.plan b.header b.directory
+  pub open readable use *
   pub few : b.moved ≤ b.header.entries
   pub moved : (i : ℕ) → i < b.moved → IsHome image b.plan b.header.generation b.directory i
   pub frozen : ArePut image b.plan (frozen_generation b) b.frozen
@@ -123,20 +133,26 @@ pub record IsKept (size : ℕ) (image : Image) (b : Books) : Type 0 where
   pub working : ArePut image b.plan (working_generation b) b.working
 
 -- a cluster is unwritten only in a commit that failed: that of the slot of a frozen node
-pub record HasUnwritten (b : Books) (u : Unwritten) : Type 0 where
+pub record IsUnwrittenOf (p : Plan) (generation : ℕ) (o : Option ℕ) (ps : List Place) (u : Unwritten) : Type 0 where
   pub size : length u.bytes ≡ 4096
   pub count : ℕ
-  pub running : b.size ≡ Some count
+  pub running : o ≡ Some count
   pub object : ℕ
   pub slot : ℕ
-  pub place : slot_of (place_at b.frozen object) ≡ Some slot
-  pub sector_is : u.sector ≡ slot_sector b.plan (frozen_generation b) slot
+  pub place : slot_of (place_at ps object) ≡ Some slot
+  pub sector_is : u.sector ≡ slot_sector p generation slot
   pub rank : ℕ
-  pub shape : shape_of b.plan object ≡ Packed rank
+  pub shape : shape_of p object ≡ Packed rank
+
+abbrev pub HasUnwritten : Books → Unwritten → Type 0
+HasUnwritten b u = IsUnwrittenOf b.plan (frozen_generation b) b.size b.frozen u
+
+abbrev pub IfUnwrittenOf : Plan → ℕ → Option ℕ → List Place → Option Unwritten → Type 0
+IfUnwrittenOf p generation o ps None = ⊤
+IfUnwrittenOf p generation o ps (Some u) = IsUnwrittenOf p generation o ps u
 
 abbrev pub MayHaveUnwritten : Books → Option Unwritten → Type 0
-MayHaveUnwritten b None = ⊤
-MayHaveUnwritten b (Some u) = HasUnwritten b u
+MayHaveUnwritten b o = IfUnwrittenOf b.plan (frozen_generation b) b.size b.frozen o
 
 -- what a device and the books over it hold
 abbrev pub stored_on : Disk → Books → Stored
@@ -201,11 +217,61 @@ pub record GoesOnDisk (old new : Disk) (b c : Books) : Type 0 where
 abbrev pub GoesOn : {D : Type 0} → (D → Disk) → DurableState D → DurableState D → Type 0
 GoesOn disk old new = GoesOnDisk (disk old.beneath) (disk new.beneath) old.books new.books
 
+-- and this is held then
+pub record Stores (old new : Disk) (b c : Books) (s : Stored) : Type 0 where
+  pub stands : IsDurable new c
+  pub stored : stored_on new c ≡ s
+  pub goes_on : GoesOnDisk old new b c
+
+-- nothing that is held changed
+abbrev pub Stays : Disk → Disk → Books → Books → Type 0
+Stays old new b c = Stores old new b c (stored_on old b)
+
+-- a frame may be put for the checkpoint on its way, which writes `size` objects
+pub record MayPut (disk : Disk) (b : Books) (size n : ℕ) (f : Frame) : Type 0 where
+  pub stands : IsDurable disk b
+  pub running : b.size ≡ Some size
+  pub object : IsObject b.plan.geometry n
+  pub keepable : IsKeepable b.plan.geometry most n f
+  pub room : HasFreeSlot size (puts_in (seen_by disk.seen b) b.plan (frozen_generation b) b.frozen) n
+
+-- a frame was put, over which `stored` is held; where the device failed, what was put is broken
+pub record PutsFrame {T E : Type 0} (old new : Disk) (b c : Books) (f : Frame) (stored : Put → Stored)
+    (result : Result T E) : Type 0 where
+  pub stands : IsDurable new c
+  pub put : OnOk result (stored_on new c ≡ stored (Kept f))
+  pub broken : OnErr result (stored_on new c ≡ stored Broken)
+  pub goes_on : GoesOnDisk old new b c
+  pub cause : Counts old new result
+
+-- a header was published, under which `next` is held; where the device failed, nothing that is stored changed
+pub record Publishes {T E : Type 0} (old new : Disk) (b c : Books) (next : Stored) (result : Result T E) : Type 0 where
+  pub stands : IsDurable new c
+  pub stored : OnOk result (stored_on new c ≡ next)
+  pub unchanged : OnErr result (stored_on new c ≡ stored_on old b)
+  pub plan : c.plan ≡ b.plan
+  pub sound : OnOk result (IsSoundOn new c)
+  pub size : new.sectors ≡ old.sectors
+  pub any_moment : LeavesEither old new (stored_on old b).saved next.saved
+  pub cause : Counts old new result
+
 -- count more of the saved objects are home, and nothing else changes
 pub record MovedBy (old new : Disk) (b c : Books) (count : ℕ) : Type 0 where
   pub books : c ≡ record b { moved = b.moved + count }
   pub stored : stored_on new c ≡ record (stored_on old b) { to_move = b.header.entries - (b.moved + count) }
   pub goes_on : GoesOnDisk old new b c
+
+-- `count` of the saved objects went home, and a header says so once all are; where the device failed, some did
+pub record Migrates {T E : Type 0} (old new : Disk) (b c : Books) (count : ℕ) (result : Result T E) : Type 0 where
+  pub stands : IsDurable new c
+  pub moved : OnOk result (stored_on new c ≡ on_snapshots (moved count) (stored_on old b))
+  pub unmoved : OnErr result ((k : ℕ) × (k ≤ (stored_on old b).to_move)
+      × (stored_on new c ≡ record (stored_on old b) { to_move = k }))
+  pub plan : c.plan ≡ b.plan
+  pub sound : OnOk result (IsSoundOn new c)
+  pub size : new.sectors ≡ old.sectors
+  pub any_moment : LeavesEither old new (stored_on old b).saved (moved_saved count (snapshots_in (stored_on old b)))
+  pub cause : Counts old new result
 
 -- the lesser of two numbers
 abbrev pub IsLesser : ℕ → ℕ → ℕ → Type 0

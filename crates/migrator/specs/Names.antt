@@ -1,11 +1,11 @@
 -- The names of other crates that the definitions here cite.
 pub use Rattle.checkpoint.specs.Opened.{OnlyReads}
-pub use Rattle.checkpoint.specs.Saved.{Holds, LeavesSaved, SavedFrames, kept_of, most}
-pub use Rattle.checkpoint.specs.Snapshots.{FrozenView, Snapshots, freezing}
+pub use Rattle.checkpoint.specs.Saved.{Holds, LeavesEither, LeavesSaved, SavedFrames, kept_of, most}
+pub use Rattle.checkpoint.specs.Snapshots.{FrozenView, Snapshots, freezing, moved, moved_saved, next_saved}
 pub use Rattle.checkpoint.specs.declared.open_fault.OpenFault.{OpenFault}
 pub use Rattle.ckpt_log.specs.Commit.{header_sector}
 pub use Rattle.ckpt_log.specs.Places.{directory_extent, place_extent}
-pub use Rattle.device.specs.Calls.{Agrees, Elsewhere, IsTorn, Narrows, Only, Tears, image_of}
+pub use Rattle.device.specs.Calls.{Agrees, Counts, Elsewhere, IsTorn, Narrows, Only, Tears, image_of}
 pub use Rattle.device.specs.Disk.{Disk, Image}
 pub use Rattle.device.specs.Moments.{LeavesOnly, Peeks}
 pub use Rattle.frame_io.specs.Frames.{IsObject}
@@ -31,9 +31,11 @@ pub use Rattle.layout.specs.declared.header.CheckpointHeader.{CheckpointHeader}
 pub use Rattle.layout.specs.declared.shape.Shape.{Shape}
 pub use Rattle.layout.specs.declared.shape.Shape.TheVariants.{Packed}
 pub use Rattle.model.specs.Frame.{frame_at}
+pub use Rattle.model.specs.Keepable.{AreKeepable, IsKeepable}
 pub use Rattle.model.specs.declared.frame.Frame.{Frame}
 pub use Rattle.model.specs.declared.frame.ObjectHeader.{ObjectHeader}
 pub use Rattle.model.specs.declared.geometry.Geometry.{Geometry}
 pub use Rattle.std.specs.List.{range_with_len}
-pub use Rattle.std.specs.Prelude.{Bool, List, None, Option, Some, [], false, length, map, nat_le, nat_lt, option_map}
-pub use Rattle.std.specs.Prelude.{replicate, slice_index_or, slice_set, take, true, vec_capacity, ℕ, ⊤}
+pub use Rattle.std.specs.Prelude.{Bool, List, None, OnErr, OnOk, Option, Result, Some, [], false, length, map, nat_le}
+pub use Rattle.std.specs.Prelude.{nat_lt, option_map, replicate, slice_index_or, slice_set, take, true, vec_capacity, ℕ}
+pub use Rattle.std.specs.Prelude.{⊤}

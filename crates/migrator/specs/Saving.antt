@@ -1,31 +1,17 @@
 -- What is required before a directory is written and a header published over it.
 use Rattle.migrator.specs.Names.{ℕ, None, List, length, replicate, Image, Disk, Elsewhere, Entry, Extent}
-use Rattle.migrator.specs.Names.{CheckpointHeader, IsDirectory, entry_at, IsHeader, directory_sector, directory_length}
-use Rattle.migrator.specs.Names.{AreSpelt, count_of, state_in, Plan, IsPlan, IsApart, header_sector, directory_extent}
-use Rattle.migrator.specs.Names.{place_extent, home_extent}
-use Rattle.std.specs.Prelude.{◌≡◌, ◌+◌, ◌<◌, ◌≤◌}
+use Rattle.migrator.specs.Names.{CheckpointHeader, entry_at, directory_sector, directory_length, count_of, Plan}
+use Rattle.migrator.specs.Names.{IsApart, header_sector, directory_extent, place_extent, home_extent, AreKeepable}
+use Rattle.migrator.specs.Names.{IsFrameOf, next_saved, Some}
+use Rattle.std.specs.Prelude.{◌≡◌, ◌+◌, ◌<◌, ◌≤◌, ◌^◌}
 use Rattle.migrator.specs.declared.books.Books.{Books}
 use Rattle.migrator.specs.declared.table.Place.{Place}
 use Rattle.migrator.specs.declared.table.Place.TheVariants.{Nowhere, Whole}
-use Rattle.migrator.specs.Durable.{IsDurable, IsKept, LeavesState, frozen_generation, working_generation}
-use Rattle.migrator.specs.Table.{place_at}
+use Rattle.migrator.specs.Durable.{IsDurable, IsKept, frozen_generation, working_generation, IsSoundOn}
+use Rattle.migrator.specs.Durable.{frozen_of, first_bytes, first_frame}
+use Rattle.migrator.specs.Durable.{puts, seen_by, stored_on}
+use Rattle.migrator.specs.Table.{place_at, whole_count}
 use Rattle.migrator.specs.Spared.{Spares, SparesFrames}
-
--- a header `next` may be published after the committed h, with directory es; all frames of its directory fs are written
-pub record MaySave (disk : Disk) (p : Plan) (h : CheckpointHeader) (es : List Entry) (next : CheckpointHeader)
-    (fs : List Entry) : Type 0 where
-  pub plan : IsPlan p
-  pub inside : p.total ≤ disk.sectors
-  pub header : IsHeader p.geometry.log h
-  pub sound : LeavesState disk (state_in disk.seen p h es)
-  pub fits : IsHeader p.geometry.log next
-  pub after : h.sequence + 1 ≡ next.sequence
-  pub directory : IsDirectory p.geometry fs
-  pub count : length fs ≡ next.entries
-  pub spelt : AreSpelt disk.seen p next.age next.generation fs
-  -- the directory is written apart from what is saved, and from what is to be
-  pub spares : Spares p h es (directory_extent p next.generation next.entries)
-  pub spares_next : SparesFrames p next.generation fs (directory_extent p next.generation next.entries)
 
 -- a directory was written, or torn, and then the slot of a header
 pub record SavesOnly (p : Plan) (next : CheckpointHeader) (old new : Image) : Type 0 where
@@ -58,12 +44,51 @@ adopted next es b = record {
   unwritten = b.unwritten;
 }
 
--- a header may be adopted with a directory
+-- a header may be published with a directory whose frames are all written, and the books go on from it
 pub record MayAdopt (disk : Disk) (b : Books) (next : CheckpointHeader) (es : List Entry) : Type 0 where
   pub stands : IsDurable disk b
   pub written : b.unwritten ≡ None
-  pub may : MaySave disk b.plan b.header b.directory next es
+  pub sound : IsSoundOn disk b
+  pub follows : b.header.sequence + 1 ≡ next.sequence
   pub kept : IsKept disk.sectors disk.seen (adopted next es b)
-  -- the directory is written apart from all that the books name, and from all that they name then
+  -- the directory is written apart from what is saved, from all that the books name, and from all that they name then
+  pub apart : Spares b.plan b.header b.directory (directory_extent b.plan next.generation next.entries)
   pub spares : SparesKept b (directory_extent b.plan next.generation next.entries)
   pub spares_next : SparesKept (adopted next es b) (directory_extent b.plan next.generation next.entries)
+
+-- ---- what is required before each of the three adoptions
+
+-- the checkpoint on its way writes `size` objects, all were put, and may be saved at an age
+pub record MayCommitAt (disk : Disk) (b : Books) (size age : ℕ) : Type 0 where
+  pub stands : IsDurable disk b
+  pub running : b.size ≡ Some size
+  pub stable : size ≤ whole_count b.frozen
+  pub sound : IsSoundOn disk b
+  pub later : b.header.age < age
+  pub most : age ≤ 2 ^ 62
+  pub keepable : AreKeepable b.plan.geometry age
+      (next_saved puts age (frozen_of (seen_by disk.seen b) b size) (stored_on disk b).saved).frames
+
+-- all that is saved is home, and no header says so yet
+pub record MayFinish (disk : Disk) (b : Books) : Type 0 where
+  pub stands : IsDurable disk b
+  pub some : 0 < b.header.entries
+  pub all : b.moved ≡ b.header.entries
+  pub sound : IsSoundOn disk b
+
+-- no checkpoint is on its way, and all that is saved is home
+pub record IsIdle (disk : Disk) (b : Books) : Type 0 where
+  pub stands : IsDurable disk b
+  pub free : b.size ≡ None
+  pub home : b.header.entries ≡ 0
+  pub sound : IsSoundOn disk b
+
+-- and the frame of a page lies in the first slot of the half that the saved generation used
+pub record MayReplace (disk : Disk) (b : Books) (n age : ℕ) : Type 0 where
+  pub idle : IsIdle disk b
+  pub open idle use *
+  pub object : n < count_of b.plan
+  pub page : b.plan.geometry.nodes ≤ n
+  pub spelt : IsFrameOf b.plan.geometry age n (first_bytes disk.seen b n) (first_frame disk.seen b n)
+  pub later : b.header.age < age
+  pub most : age ≤ 2 ^ 62

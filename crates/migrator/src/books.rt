@@ -11,9 +11,10 @@ ghost use Rattle.frame_io.specs.Calls.{WritesAt};
 ghost use Rattle.frame_io.specs.Clusters.{HasZerosBeside};
 ghost use Rattle.frame_io.specs.Frames.{IsObject};
 ghost use Rattle.checkpoint.specs.Saved.{most};
-ghost use Rattle.migrator.specs.Durable.{GoesOnDisk, IsDurable, IsKept, frozen_generation, left_of, seen_by, stored_in};
+ghost use Rattle.migrator.specs.Durable.{IsDurable, IsKept, MayPut, PutsFrame, Stores, frozen_generation, left_of};
+ghost use Rattle.migrator.specs.Durable.{seen_by, stored_in};
 ghost use Rattle.migrator.specs.Durable.{stored_on, with_frozen, with_working, working_generation};
-ghost use Rattle.migrator.specs.Put.{Broken, HasFreeSlot, Kept, puts_in, slot_bytes};
+ghost use Rattle.migrator.specs.Put.{Broken, HasFreeSlot, puts_in, slot_bytes};
 ghost use Rattle.migrator.specs.Table.{slot_for};
 
 mod access;
@@ -115,14 +116,9 @@ impl Books {
             (record { header = header; content = content_behind content }) }
         requires room { HasFreeSlot self.old.plan.geometry.log
             (stored_on (D.disk device.old) self.old).working number }
-        ensures stands { IsDurable (D.disk device.new) self.new }
-        ensures put { OnOk result (stored_on (D.disk device.new) self.new
-            ≡ with_working number (Kept (record { header = header; content = content_behind content.entry }))
-            (stored_on (D.disk device.old) self.old)) }
-        ensures broken { OnErr result (stored_on (D.disk device.new) self.new
-            ≡ with_working number Broken (stored_on (D.disk device.old) self.old)) }
-        ensures goes_on { GoesOnDisk (D.disk device.old) (D.disk device.new) self.old self.new }
-        ensures cause { Counts (D.disk device.old) (D.disk device.new) result }
+        ensures { PutsFrame (D.disk device.old) (D.disk device.new) self.old self.new
+            (record { header = header; content = content_behind content.entry })
+            (λ put. with_working number put (stored_on (D.disk device.old) self.old)) result }
     {
         let generation = self.working_generation();
         put_frame(
@@ -144,12 +140,10 @@ impl Books {
         requires object { IsObject self.old.plan.geometry number }
         requires room { HasFreeSlot size (puts_in (seen_by (D.disk device.old).seen self.old) self.old.plan
             (frozen_generation self.old) self.old.frozen) number }
-        ensures stands { IsDurable (D.disk device.new) self.new }
-        ensures torn { stored_on (D.disk device.new) self.new
-            ≡ with_frozen number Broken (stored_on (D.disk device.old) self.old) }
+        ensures torn { Stores (D.disk device.old) (D.disk device.new) self.old self.new
+            (with_frozen number Broken (stored_on (D.disk device.old) self.old)) }
         ensures size { self.new.size ≡ Some size }
         ensures written { OnOk result (self.new.unwritten ≡ None) }
-        ensures goes_on { GoesOnDisk (D.disk device.old) (D.disk device.new) self.old self.new }
         ensures cause { Counts (D.disk device.old) (D.disk device.new) result }
     {
         let slot = self.frozen.slot_for(number);
@@ -166,22 +160,12 @@ impl Books {
         header: ObjectHeader,
         content: ContentRef<'_>,
     ) -> Result<(), Failed>
-        requires stands { IsDurable (D.disk device.old) self.old }
-        requires running { self.old.size ≡ Some size }
-        requires written { self.old.unwritten ≡ None }
-        requires object { IsObject self.old.plan.geometry number }
-        requires keepable { IsKeepable self.old.plan.geometry most number
+        requires may { MayPut (D.disk device.old) self.old size number
             (record { header = header; content = content_behind content }) }
-        requires room { HasFreeSlot size (puts_in (seen_by (D.disk device.old).seen self.old) self.old.plan
-            (frozen_generation self.old) self.old.frozen) number }
-        ensures stands { IsDurable (D.disk device.new) self.new }
-        ensures put { OnOk result (stored_on (D.disk device.new) self.new
-            ≡ with_frozen number (Kept (record { header = header; content = content_behind content.entry }))
-            (stored_on (D.disk device.old) self.old)) }
-        ensures broken { OnErr result (stored_on (D.disk device.new) self.new
-            ≡ with_frozen number Broken (stored_on (D.disk device.old) self.old)) }
-        ensures goes_on { GoesOnDisk (D.disk device.old) (D.disk device.new) self.old self.new }
-        ensures cause { Counts (D.disk device.old) (D.disk device.new) result }
+        requires written { self.old.unwritten ≡ None }
+        ensures { PutsFrame (D.disk device.old) (D.disk device.new) self.old self.new
+            (record { header = header; content = content_behind content.entry })
+            (λ put. with_frozen number put (stored_on (D.disk device.old) self.old)) result }
     {
         let generation = self.header.generation + 1;
         put_frame(
@@ -205,21 +189,11 @@ impl Books {
         header: ObjectHeader,
         content: ContentRef<'_>,
     ) -> Result<(), Failed>
-        requires stands { IsDurable (D.disk device.old) self.old }
-        requires running { self.old.size ≡ Some size }
-        requires object { IsObject self.old.plan.geometry number }
-        requires keepable { IsKeepable self.old.plan.geometry most number
+        requires { MayPut (D.disk device.old) self.old size number
             (record { header = header; content = content_behind content }) }
-        requires room { HasFreeSlot size (puts_in (seen_by (D.disk device.old).seen self.old) self.old.plan
-            (frozen_generation self.old) self.old.frozen) number }
-        ensures stands { IsDurable (D.disk device.new) self.new }
-        ensures put { OnOk result (stored_on (D.disk device.new) self.new
-            ≡ with_frozen number (Kept (record { header = header; content = content_behind content.entry }))
-            (stored_on (D.disk device.old) self.old)) }
-        ensures broken { OnErr result (stored_on (D.disk device.new) self.new
-            ≡ with_frozen number Broken (stored_on (D.disk device.old) self.old)) }
-        ensures goes_on { GoesOnDisk (D.disk device.old) (D.disk device.new) self.old self.new }
-        ensures cause { Counts (D.disk device.old) (D.disk device.new) result }
+        ensures { PutsFrame (D.disk device.old) (D.disk device.new) self.old self.new
+            (record { header = header; content = content_behind content.entry })
+            (λ put. with_frozen number put (stored_on (D.disk device.old) self.old)) result }
     {
         self.tear(device, size, number)?;
         self.put_written(device, size, number, header, content)

@@ -2,11 +2,12 @@
 use Rattle.object_cache.proofs.Names.{inr, ℕ, Bool, true, false, is_some, List, length, set, Option, Some, None, option_map, refl, sym, ap, arith, length-set}
 use Rattle.object_cache.proofs.Names.{get_or-set_same, get_or-set_other, none-some, Cap, Content, header_at, Disk, DurableState, Stored, below_at, stored_of}
 use Rattle.object_cache.proofs.Names.{Entry, entry_at, with_entry, Memory, Shared, Apart, mark_at, present_body, newest_body, below_body, apart_body}
-use Rattle.object_cache.proofs.Names.{frozen_body, frozen_frame, frozen_state_of, frozen_state_body, frozen_state_in_memory, frozen_states_in, StoreState}
-use Rattle.object_cache.proofs.Names.{IsCache, IsFetchedIn, cache_of, frozen_state_at}
+use Rattle.object_cache.proofs.Names.{frozen_body, frozen_frame, frozen_state_of, frozen_state_body, frozen_state_in_memory, StoreState, IsCache, IsFetchedIn}
+use Rattle.object_cache.proofs.Names.{cache_of, frozen_state_at}
 use Rattle.std.proofs.Common.{◌≡◌, ◌<◌, ◌∙◌}
 use Rattle.object_cache.proofs.Changing.{with_objects}
-use Rattle.object_cache.proofs.Objects.{has_entry, fetched_known, some_of, cached_stay}
+use Rattle.object_cache.proofs.Leading.{IsSeenAs}
+use Rattle.object_cache.proofs.Objects.{entry_found, fetched_known, cached_stay}
 use Rattle.object_cache.proofs.Caching.{Recaches, cached_cache, frozen_state_changed, seen_cached, frozen_state_entry}
 
 -- a body that is both is of an object that is pending and wasn't written since it was frozen
@@ -30,7 +31,7 @@ module _ (s : Stored) (m : Memory) (n : ℕ) (within : n < length m.entries) (e 
 
   facts : (mark_at m.pending n ≡ true) × (mark_at m.touched n ≡ false) × (e.kept ≡ None)
   facts = shared_frozen_state e (mark_at m.pending n) (mark_at m.touched n)
-      (ap (λ (o : Option Entry). frozen_state_of o (mark_at m.pending n) (mark_at m.touched n)) (sym at) ∙ shared)
+      (ap (λ o. frozen_state_of o (mark_at m.pending n) (mark_at m.touched n)) (sym at) ∙ shared)
 
   now : entry_at apart n ≡ Some (keeping e)
   now = get_or-set_same m.entries n (option_map (keeping) (entry_at m.entries n)) None within ∙ ap (option_map (keeping)) at
@@ -38,56 +39,51 @@ module _ (s : Stored) (m : Memory) (n : ℕ) (within : n < length m.entries) (e 
   frozen_same : frozen_body (entry_at apart n) (mark_at m.touched n) (below_body s m n) ≡ frozen_body (entry_at m.entries n) (mark_at m.touched n)
       (below_body s m n)
   frozen_same =
-      ap (λ (o : Option Entry). frozen_body o (mark_at m.touched n) (below_body s m n)) now
-      ∙ sym (ap (λ (o : Option Entry). frozen_body o (mark_at m.touched n) (below_body s m n)) at
-      ∙ ap (λ (t : Bool). apart_body e.kept t e.present (below_body s m n)) facts.1
-      ∙ ap (λ (k : Option (Content Cap)). apart_body k false e.present (below_body s m n)) facts.2)
+      ap (λ o. frozen_body o (mark_at m.touched n) (below_body s m n)) now
+      ∙ sym (ap (λ o. frozen_body o (mark_at m.touched n) (below_body s m n)) at
+      ∙ ap (λ t. apart_body e.kept t e.present (below_body s m n)) facts.1 ∙ ap (λ k. apart_body k false e.present (below_body s m n)) facts.2)
 
   pub keeps_apart : Recaches s m apart n
   keeps_apart = record {
     count = length-set m.entries n (option_map (keeping) (entry_at m.entries n));
     entries = λ k other. get_or-set_other m.entries n k (option_map (keeping) (entry_at m.entries n)) None other;
     content =
-        ap (λ (o : Option Entry). present_body o (header_at m.headers n).role (newest_body s m n)) now
-        ∙ sym (ap (λ (o : Option Entry). present_body o (header_at m.headers n).role (newest_body s m n)) at);
-    frozen = ap (λ (c : Content Cap). frozen_frame (mark_at m.pending n) (header_at m.frozen_headers n) c (below_at s n)) frozen_same;
+        ap (λ o. present_body o (header_at m.headers n).role (newest_body s m n)) now
+        ∙ sym (ap (λ o. present_body o (header_at m.headers n).role (newest_body s m n)) at);
+    frozen = ap (λ c. frozen_frame (mark_at m.pending n) (header_at m.frozen_headers n) c (below_at s n)) frozen_same;
     apart = λ f here. inr facts.0;
     freed = λ none pending free. absurd (none-some (keeping e) (sym none ∙ now));
   }
 
   pub frozen_state_apart : frozen_state_in_memory (with_objects m m.headers apart) n ≡ Apart
   frozen_state_apart =
-      ap (λ (o : Option Entry). frozen_state_of o (mark_at m.pending n) (mark_at m.touched n)) now
-      ∙ ap (λ (p : Bool). frozen_state_of (Some (keeping e)) p (mark_at m.touched n)) facts.0
+      ap (λ o. frozen_state_of o (mark_at m.pending n) (mark_at m.touched n)) now ∙ ap (λ p. frozen_state_of (Some (keeping e)) p (mark_at m.touched n)) facts.0
 
 -- the same by what is seen
-module _ {D : Type 0} (disk : D → Disk) (d : DurableState D) (m : Memory) (left count : ℕ) (order : List ℕ) (most_entries : ℕ) (s : StoreState D)
+module _ {D : Type 0} (disk : D → Disk) {d : DurableState D} {m : Memory} {left count : ℕ} {order : List ℕ} {most_entries : ℕ} {s : StoreState D}
     (view : cache_of disk d m left order most_entries ≡ s) (is : IsCache (stored_of disk d) m left count) (n : ℕ) (fetched : IsFetchedIn s n)
     (shared : frozen_state_at s.frozen_state n ≡ Shared) where
   known_here : n < length m.headers
-  known_here = fetched_known disk d m left order most_entries s view n fetched
+  known_here = fetched_known disk view is n fetched
 
   entry_within : n < length m.entries
   entry_within = omega (arith, known_here, is.headers, is.entries)
 
   entry_here : (e : Entry) × (entry_at m.entries n ≡ Some e)
-  entry_here = some_of (entry_at m.entries n) (has_entry disk d m left order most_entries s view n fetched)
+  entry_here = entry_found disk view is n fetched
 
   shared_here : frozen_state_in_memory m n ≡ Shared
-  shared_here = sym (frozen_state_entry m n known_here) ∙ ap (λ (t : StoreState D). frozen_state_at t.frozen_state n) view ∙ shared
+  shared_here = sym (frozen_state_entry m n known_here) ∙ ap (λ t. frozen_state_at t.frozen_state n) view ∙ shared
 
   recaches : Recaches (stored_of disk d) m (with_entry keeping n m.entries) n
   recaches = keeps_apart (stored_of disk d) m n entry_within entry_here.0 entry_here.1 shared_here
 
-  pub apart_stands : IsCache (stored_of disk d) (with_objects m m.headers (with_entry keeping n m.entries)) left count
-  apart_stands = cached_cache (stored_of disk d) m (with_entry keeping n m.entries) n recaches left count is
-
-  pub apart_seen : cache_of disk d (with_objects m m.headers (with_entry keeping n m.entries)) left order most_entries ≡ record s
-      { frozen_state = set s.frozen_state n Apart }
-  apart_seen =
-      seen_cached disk d m left order most_entries (with_entry keeping n m.entries) n recaches (set (frozen_states_in m) n Apart)
-      (frozen_state_changed (stored_of disk d) m (with_entry keeping n m.entries) n recaches Apart known_here
-      (frozen_state_apart (stored_of disk d) m n entry_within entry_here.0 entry_here.1 shared_here))
-      ∙ ap (λ (rs : List Bool). record (cache_of disk d m left order most_entries) { cached = rs; frozen_state = set (frozen_states_in m) n Apart })
-      (cached_stay keeping n m.entries)
-      ∙ ap (λ (t : StoreState D). record t { frozen_state = set t.frozen_state n Apart }) view
+  pub apart_next : IsSeenAs disk d (with_objects m m.headers (with_entry keeping n m.entries)) left count order most_entries
+      (record s { frozen_state = set s.frozen_state n Apart })
+  apart_next = record {
+    is = cached_cache recaches is;
+    view =
+        seen_cached disk d left order most_entries recaches (cached_stay keeping n m.entries) (frozen_state_changed recaches Apart known_here
+        (frozen_state_apart (stored_of disk d) m n entry_within entry_here.0 entry_here.1 shared_here))
+        ∙ ap (λ (t : StoreState D). record t { frozen_state = set t.frozen_state n Apart }) view;
+  }

@@ -1,22 +1,18 @@
 -- Objects are brought into memory: those used last stay there.
-use Rattle.object_cache.proofs.Names.{inl, inr, ℕ, zero, suc, nat_eq, Bool, true, false, true≢false, List, [], length, set, take, Option, is_some, Result, Ok}
-use Rattle.object_cache.proofs.Names.{Err, refl, sym, ap, subst, arith, OnOk, OnErr, slice_index_or, Contains, cases_eq, cases_lt, eq-eqb, get_or_past}
-use Rattle.object_cache.proofs.Names.{get_or_default, get_or-set_same, get_or-set_other, length-map, Geometry, AreKeepable, is_member, Disk, most, DurableState}
-use Rattle.object_cache.proofs.Names.{stored_of, frames_of, Snapshots, FrozenFrames, Entry, Memory, without, StoreState, IsCache, IsFetchedIn, GoesOnIn, cond}
-use Rattle.object_cache.proofs.Names.{ne_eqb, cache_of, parts_of, cached_at, cached_in, with_cached, IsRecentIn, on_device, on_device_with}
-use Rattle.std.proofs.Common.{◌≡◌, ◌≢◌, ◌+◌, ◌<◌, ◌≤◌, ◌||◌, ◌∷◌, ◌∙◌}
+use Rattle.object_cache.proofs.Names.{inl, inr, ℕ, zero, suc, nat_eq, Bool, true, false, true≢false, List, [], length, take, Option, is_some, Result, Ok, Err}
+use Rattle.object_cache.proofs.Names.{refl, sym, ap, subst, arith, OnOk, OnErr, slice_index_or, cases_eq, cases_lt, eq-eqb, get_or-set_same, length-map}
+use Rattle.object_cache.proofs.Names.{is_member, Disk, DurableState, stored_of, Entry, Memory, without, StoreState, IsCache, IsFetchedIn, cond, ne_eqb}
+use Rattle.object_cache.proofs.Names.{cache_of, cached_at, cached_in, with_cached, IsRecentIn, on_device, on_device_with, take-take, used_in_turn, IsBounded}
+use Rattle.object_cache.proofs.Names.{UsesSome, take_all, length_without, in_either, in_front, one_more, used_anew, used_front, without_absent, without_here}
+use Rattle.object_cache.proofs.Names.{without_tail, length-take}
+use Rattle.std.proofs.Common.{◌≡◌, ◌≢◌, ◌+◌, ◌<◌, ◌≤◌, ◌||◌, ◌∷◌, ◌∙◌, ◌-◌, ◌++◌}
+use Rattle.object_cache.proofs.Marking.{still_set}
 use Rattle.object_cache.proofs.Objects.{contents_count}
 
 -- ---- the front of an order
 
-pub front_front : (k j : ℕ) (xs : List ℕ) → k ≤ j → take k (take j xs) ≡ take k xs
-front_front zero j xs few = refl
-front_front (suc k) zero xs few = absurd (omega (arith, few))
-front_front (suc k) (suc j) [] few = refl
-front_front (suc k) (suc j) (x ∷ xs) few = ap (λ (ys : List ℕ). x ∷ ys) (front_front k j xs (omega (arith, few)))
-
 front_same : (k j : ℕ) (xs ys : List ℕ) → k ≤ j → take j ys ≡ take j xs → take k ys ≡ take k xs
-front_same k j xs ys few same = sym (front_front k j ys few) ∙ ap (take k) same ∙ front_front k j xs few
+front_same k j xs ys few same = sym (take-take k j ys few) ∙ ap (take k) same ∙ take-take k j xs few
 
 or_right : (t a : Bool) → a ≡ true → (t || a) ≡ true
 or_right true a is = refl
@@ -39,10 +35,10 @@ front_without n [] k m other is = is
 front_without n (a ∷ rest) zero m other is = absurd (true≢false (sym is))
 front_without n (a ∷ rest) (suc k) m other is = elim (cases_eq n a) [
   | inl same ↦
-      ap (λ (t : Bool). is_member (take (suc k) (cond t rest (a ∷ without n rest))) m) (eq-eqb n a same)
-      ∙ front_more rest k m (sym (ap (λ (t : Bool). t || is_member (take k rest) m) (ne_eqb m a (λ there. other (there ∙ sym same)))) ∙ is)
+      ap (λ t. is_member (take (suc k) (cond t rest (a ∷ without n rest))) m) (eq-eqb n a same)
+      ∙ front_more rest k m (sym (ap (λ t. t || is_member (take k rest) m) (ne_eqb m a (λ there. other (there ∙ sym same)))) ∙ is)
   | inr differs ↦
-      ap (λ (t : Bool). is_member (take (suc k) (cond t rest (a ∷ without n rest))) m) (ne_eqb n a differs)
+      ap (λ t. is_member (take (suc k) (cond t rest (a ∷ without n rest))) m) (ne_eqb n a differs)
       ∙ or_keeps (nat_eq m a) (is_member (take k rest) m) (is_member (take k (without n rest)) m) (front_without n rest k m other) is
 ]
   where
@@ -54,7 +50,7 @@ front_without n (a ∷ rest) (suc k) m other is = elim (cases_eq n a) [
 
 front_first : (n k : ℕ) (ns : List ℕ) → 0 < k → is_member (take k (n ∷ ns)) n ≡ true
 front_first n zero ns some = absurd (omega (arith, some))
-front_first n (suc k) ns some = ap (λ (t : Bool). t || is_member (take k ns) n) (eq-eqb n n refl)
+front_first n (suc k) ns some = ap (λ t. t || is_member (take k ns) n) (eq-eqb n n refl)
 
 front_pushed : (n m j k : ℕ) (ns : List ℕ) → j < k → is_member (take j ns) m ≡ true → is_member (take k (n ∷ ns)) m ≡ true
 front_pushed n m j zero ns below is = absurd (omega (arith, below))
@@ -63,36 +59,24 @@ front_pushed n m j (suc k) ns below is = or_right (nat_eq m n) (is_member (take 
 front_used : (n m j k : ℕ) (ns : List ℕ) → j < k → is_member (take j ns) m ≡ true → is_member (take k (n ∷ without n ns)) m ≡ true
 front_used n m j zero ns below is = absurd (omega (arith, below))
 front_used n m j (suc k) ns below is = elim (cases_eq m n) [
-  | inl same ↦ ap (λ (t : Bool). t || is_member (take k (without n ns)) m) (eq-eqb m n same)
+  | inl same ↦ ap (λ t. t || is_member (take k (without n ns)) m) (eq-eqb m n same)
   | inr other ↦ or_right (nat_eq m n) (is_member (take k (without n ns)) m)
       (front_within j k m (without n ns) (omega (arith, below)) (front_without n ns j m other is))
 ]
 
 -- ---- numbers that have an entry
 
-still_cached : (ss : List Bool) (n m : ℕ) → cached_at ss m ≡ true → cached_at (set ss n true) m ≡ true
-still_cached ss n m some = elim (cases_eq m n) [
-  | inl same ↦ elim (cases_lt m (length ss)) [
-    | inl within ↦ ap (λ (k : ℕ). cached_at (set ss k true) m) (sym same) ∙ get_or-set_same ss m true false within
-    | inr past ↦ absurd (true≢false (sym some ∙ get_or_past ss m false past))
-  ]
-  | inr other ↦ get_or-set_other ss n m true false other ∙ some
-]
-
 module _ {D : Type 0} where
   pub place_recent : (s t : StoreState D) → t ≡ on_device_with s t → take 7 t.order ≡ take 7 s.order →
       ((n : ℕ) → is_member (take 7 s.order) n ≡ true → cached_at t.cached n ≡ cached_at s.cached n) → (k n : ℕ) → k ≤ 7 → IsRecentIn s k n → IsRecentIn t k n
   place_recent s t rest order others k n few recent = (
     record {
-      header = omega (arith, recent.0.header, ap (λ (x : StoreState D). length x.headers) rest);
-      content = omega (arith, recent.0.content, ap (λ (x : StoreState D). length x.contents) rest);
+      header = omega (arith, recent.0.header, ap (λ x. length x.headers) rest);
+      content = omega (arith, recent.0.content, ap (λ x. length x.contents) rest);
       cached = others n (front_within k 7 n s.order few recent.1) ∙ recent.0.cached;
     },
-    ap (λ (ns : List ℕ). is_member ns n) (front_same k 7 s.order t.order few order) ∙ recent.1,
+    ap (λ ns. is_member ns n) (front_same k 7 s.order t.order few order) ∙ recent.1,
   )
-
-  pub use_first : (s : StoreState D) (n k : ℕ) → IsFetchedIn s n → 0 < k → IsRecentIn (record s { order = n ∷ without n s.order }) k n
-  use_first s n k there some = (record { header = there.header; content = there.content; cached = there.cached }, front_first n k (without n s.order) some)
 
   pub use_recent : (s : StoreState D) (n j k m : ℕ) → j < k → IsRecentIn s j m → IsRecentIn (record s { order = n ∷ without n s.order }) k m
   use_recent s n j k m below recent =
@@ -100,10 +84,10 @@ module _ {D : Type 0} where
 
   -- what was put is on the device, and what was read is in memory
   pub rest_of : (s t : StoreState D) → t ≡ on_device s t → t ≡ on_device_with s t
-  rest_of s t put = put ∙ ap (λ (x : StoreState D). record (on_device s t) { cached = x.cached; order = x.order }) (sym put)
+  rest_of s t put = put ∙ ap (λ x. record (on_device s t) { cached = x.cached; order = x.order }) (sym put)
 
   pub rest_on : (s t u : StoreState D) → t ≡ on_device_with s t → u ≡ on_device_with t u → u ≡ on_device_with s u
-  rest_on s t u first second = second ∙ ap (λ (x : StoreState D). on_device_with x u) first
+  rest_on s t u first second = second ∙ ap (λ x. on_device_with x u) first
 
   -- what is there once an object was read, or wasn't
   abbrev pub read_on : StoreState D → StoreState D → StoreState D
@@ -116,34 +100,34 @@ module _ {D : Type 0} where
 
   pub read_staging : {T E : Type 0} (r : Result T E) (s t : StoreState D) (n : ℕ) → OnOk r (t ≡ with_cached n (read_on s t)) → OnErr r (t ≡ read_on s t) →
       t.staging ≡ s.staging
-  read_staging (Ok x) s t n ok err = ap (λ (x : StoreState D). x.staging) ok
-  read_staging (Err e) s t n ok err = ap (λ (x : StoreState D). x.staging) err
+  read_staging (Ok x) s t n ok err = ap (λ x. x.staging) ok
+  read_staging (Err e) s t n ok err = ap (λ x. x.staging) err
 
   pub read_first : (s t : StoreState D) (n k : ℕ) → t ≡ with_cached n (read_on s t) → IsFetchedIn t n → 0 < k → IsRecentIn t k n
-  read_first s t n k is there some = (there, ap (λ (x : StoreState D). is_member (take k x.order) n) is ∙ front_first n k s.order some)
+  read_first s t n k is there some = (there, ap (λ x. is_member (take k x.order) n) is ∙ front_first n k s.order some)
 
   pub read_recent : (s t : StoreState D) (n j k m : ℕ) → t ≡ with_cached n (read_on s t) → j < k → IsRecentIn s j m → IsRecentIn t k m
   read_recent s t n j k m is below recent = (
     record {
-      header = omega (arith, recent.0.header, ap (λ (x : StoreState D). length x.headers) is);
-      content = omega (arith, recent.0.content, ap (λ (x : StoreState D). length x.contents) is);
-      cached = ap (λ (x : StoreState D). cached_at x.cached m) is ∙ still_cached s.cached n m recent.0.cached;
+      header = omega (arith, recent.0.header, ap (λ x. length x.headers) is);
+      content = omega (arith, recent.0.content, ap (λ x. length x.contents) is);
+      cached = ap (λ x. cached_at x.cached m) is ∙ still_set s.cached n m recent.0.cached;
     },
-    ap (λ (x : StoreState D). is_member (take k x.order) m) is ∙ front_pushed n m j k s.order below recent.1,
+    ap (λ x. is_member (take k x.order) m) is ∙ front_pushed n m j k s.order below recent.1,
   )
 
 cached_count : (es : List (Option Entry)) → length (cached_in es) ≡ length es
 unfolding cached_in
 cached_count es = length-map es is_some
 
-module _ {D : Type 0} (disk : D → Disk) (d : DurableState D) (m : Memory) (left count : ℕ) (order : List ℕ) (most_entries : ℕ) (s : StoreState D)
+module _ {D : Type 0} (disk : D → Disk) {d : DurableState D} {m : Memory} {left count : ℕ} {order : List ℕ} {most_entries : ℕ} {s : StoreState D}
     (view : cache_of disk d m left order most_entries ≡ s) (is : IsCache (stored_of disk d) m left count) (n : ℕ) (known : n < length s.headers) where
   known_cached : n < length s.cached
   known_cached = omega (
     arith,
     known,
-    ap (λ (t : StoreState D). length t.headers) view,
-    ap (λ (t : StoreState D). length t.cached) view,
+    ap (λ t. length t.headers) view,
+    ap (λ t. length t.cached) view,
     cached_count m.entries,
     is.headers,
     is.entries,
@@ -155,32 +139,113 @@ module _ {D : Type 0} (disk : D → Disk) (d : DurableState D) (m : Memory) (lef
     content = omega (
       arith,
       known,
-      ap (λ (t : StoreState D). length t.headers) view,
-      ap (λ (t : StoreState D). length t.contents) view,
+      ap (λ t. length t.headers) view,
+      ap (λ t. length t.contents) view,
       contents_count (stored_of disk d) m,
     );
     cached = get_or-set_same s.cached n true false known_cached;
   }
 
-module _ {D : Type 0} (disk : D → Disk) where
-  -- what can be kept can be kept once other things are in memory
-  pub keepable_on : (s t : StoreState D) → t ≡ on_device_with s t → GoesOnIn disk s t →
-      AreKeepable (parts_of disk s).geometry most (frames_of (parts_of disk s)) →
-      AreKeepable (parts_of disk t).geometry most (frames_of (parts_of disk t))
-  keepable_on s t rest continues keepable =
-      subst (λ (h : Geometry). AreKeepable h most (frames_of (parts_of disk t)))
-      (sym (ap (λ (a : Snapshots FrozenFrames). a.saved.geometry) continues.snapshots))
-      (subst (λ (x : StoreState D). AreKeepable (parts_of disk s).geometry most (frames_of (parts_of disk x))) (sym rest) keepable)
-
 -- ---- the objects of a list
-
-pub all_listed : (P : ℕ → Type 0) (ns : List ℕ) (i : ℕ) → length ns ≤ i → ((k : ℕ) → k < i → P (slice_index_or ns k 0)) → (n : ℕ) → Contains ns n → P n
-all_listed P ns i done each n has = subst P (get_or_default ns has.0 0 n has.1 ∙ has.2) (each has.0 (omega (arith, has.1, done)))
 
 pub recent_on : {D : Type 0} (t u : StoreState D) (ns : List ℕ) (i : ℕ) → i ≤ 7 → ((j k n : ℕ) → j ≤ 7 → j < k → IsRecentIn t j n → IsRecentIn u k n) →
     ((k : ℕ) → 0 < k → IsRecentIn u k (slice_index_or ns i 0)) → ((k : ℕ) → k < i → IsRecentIn t i (slice_index_or ns k 0)) →
     (k : ℕ) → k < i + 1 → IsRecentIn u (i + 1) (slice_index_or ns k 0)
 recent_on t u ns i few recent first before k below = elim (cases_lt k i) [
   | inl earlier ↦ recent i (i + 1) (slice_index_or ns k 0) few (omega arith) (before k earlier)
-  | inr now ↦ subst (λ (j : ℕ). IsRecentIn u (i + 1) (slice_index_or ns j 0)) (omega (arith, now, below)) (first (i + 1) (omega arith))
+  | inr now ↦ subst (λ j. IsRecentIn u (i + 1) (slice_index_or ns j 0)) (omega (arith, now, below)) (first (i + 1) (omega arith))
 ]
+
+-- ---- which entries go: a cache keeps the numbers used last, as many as its capacity
+
+-- the front of a front, whichever is shorter
+front_least : (j k : ℕ) (xs : List ℕ) → k ≤ j → take j (take k xs) ≡ take k xs
+front_least j k xs few = take_all j (take k xs) (omega (arith, few, length-take {A = ℕ} k xs))
+
+front_less : (k n : ℕ) (xs : List ℕ) → take k (without n (take (suc k) xs)) ≡ take k (without n xs)
+front_less k n [] = refl
+front_less zero n (m ∷ ms) = refl
+front_less (suc k) n (m ∷ ms) = elim (cases_eq n m) [
+  | inl same ↦
+      ap (take (suc k)) (without_here n m (take (suc k) ms) same)
+      ∙ front_least (suc k) (suc k) ms (omega arith) ∙ sym (ap (take (suc k)) (without_here n m ms same))
+  | inr other ↦
+      ap (take (suc k)) (without_tail n m (take (suc k) ms) other) ∙ ap (λ ys. m ∷ ys) (front_less k n ms) ∙ sym (ap (take (suc k)) (without_tail n m ms other))
+]
+
+-- a use keeps the front, whether or not what lies behind it went before
+use_keeps_front : (most n : ℕ) (xs : List ℕ) → take most (n ∷ without n (take most xs)) ≡ take most (n ∷ without n xs)
+use_keeps_front zero n xs = refl
+use_keeps_front (suc k) n xs = ap (λ ys. n ∷ ys) (front_less k n xs)
+
+pub pushed_to_front : (most n : ℕ) (xs : List ℕ) → 0 < most → n ∷ take (most - 1) xs ≡ take most (n ∷ xs)
+pushed_to_front zero n xs some = absurd (omega (arith, some))
+pushed_to_front (suc k) n xs some = ap (λ j. n ∷ take j xs) (let one : suc k - 1 ≡ k = omega arith in one)
+
+pub same_front : (j : ℕ) (xs ys : List ℕ) → ys ≡ xs → length xs ≤ j → ys ≡ take j xs
+same_front j xs ys same few = same ∙ sym (take_all j xs few)
+
+-- ---- a number is used
+
+-- one that has an entry
+pub used_order : {D : Type 0} (s : StoreState D) (n : ℕ) → IsBounded s → IsFetchedIn s n →
+    n ∷ without n s.order ≡ take s.capacity (n ∷ without n s.order)
+used_order s n bounded there = same_front s.capacity (n ∷ without n s.order) (n ∷ without n s.order) refl
+    (omega (arith, length_without n s.order (bounded.listed n ∙ there.cached), bounded.few))
+
+-- one that has none
+pub brought_order : {D : Type 0} (s : StoreState D) (n : ℕ) (os : List ℕ) → IsBounded s → cached_at s.cached n ≡ false → os ≡ take s.capacity (n ∷ s.order) →
+    os ≡ take s.capacity (n ∷ without n s.order)
+brought_order s n os bounded none is = is ∙ ap (λ ns. take s.capacity (n ∷ ns)) (sym (without_absent n s.order (bounded.listed n ∙ none)))
+
+-- ---- numbers are used in turn
+
+pub used_more : (most i : ℕ) (ns s t u : List ℕ) → i < length ns → t ≡ take most (used_in_turn (take i ns) s) →
+    u ≡ take most (slice_index_or ns i 0 ∷ without (slice_index_or ns i 0) t) → u ≡ take most (used_in_turn (take (i + 1) ns) s)
+used_more most i ns s t u below before is =
+    is ∙ ap (λ ks. take most (slice_index_or ns i 0 ∷ without (slice_index_or ns i 0) ks)) before
+    ∙ use_keeps_front most (slice_index_or ns i 0) (used_in_turn (take i ns) s) ∙ ap (take most) (one_more s (used_in_turn (take i ns) s) ns i below refl)
+
+pub stopped_at : (most i j : ℕ) (ns s t u : List ℕ) → t ≡ take most (used_in_turn (take i ns) s) → most ≤ j + 1 → u ≡ take j t → UsesSome most ns s u
+stopped_at most i j ns s t u before enough is = elim (cases_lt j most) [
+  | inl less ↦ record {
+    used = take i ns;
+    listed = in_front i ns;
+    count = j;
+    enough = enough;
+    order = is ∙ ap (take j) before ∙ take-take j most (used_in_turn (take i ns) s) (omega (arith, less));
+  }
+  | inr more ↦ record {
+    used = take i ns;
+    listed = in_front i ns;
+    count = most;
+    enough = omega arith;
+    order = is ∙ ap (take j) before ∙ front_least j most (used_in_turn (take i ns) s) more;
+  }
+]
+
+-- none was used, and none went
+pub uses_none : (most : ℕ) (ns s u : List ℕ) → u ≡ s → UsesSome most ns s u
+uses_none most ns s u same = record {
+  used = [];
+  listed = λ n is. absurd (true≢false (sym is));
+  count = length s + most;
+  enough = omega arith;
+  order = same_front (length s + most) s u same (omega arith);
+}
+
+-- the first of them were used before
+pub used_then : (most k : ℕ) (ns s t u : List ℕ) → t ≡ used_in_turn (take k ns) s → u ≡ take most (used_in_turn ns t) → u ≡ take most (used_in_turn ns s)
+used_then most k ns s t u first is = is ∙ ap (λ ks. take most (used_in_turn ns ks)) first ∙ ap (take most) (used_anew ns (take k ns) s (in_front k ns))
+
+pub some_then : (most k : ℕ) (ns s t u : List ℕ) → t ≡ used_in_turn (take k ns) s → UsesSome most ns t u → UsesSome most ns s u
+some_then most k ns s t u first later = record {
+  used = take k ns ++ later.used;
+  listed = λ n has. elim (in_either (take k ns) later.used n has) [ inl front ↦ in_front k ns n front | inr there ↦ later.listed n there ];
+  count = later.count;
+  enough = later.enough;
+  order = later.order ∙ ap (λ ks. take later.count (used_in_turn later.used ks)) first ∙ ap (take later.count) (sym (used_front (take k ns) later.used s));
+}
+
+pub stops_none : (most : ℕ) (xs ys : List ℕ) → ys ≡ xs → (j : ℕ) × (most ≤ j + 1) × (ys ≡ take j xs)
+stops_none most xs ys same = (length xs + most, omega arith, same_front (length xs + most) xs ys same (omega arith))

@@ -1,16 +1,17 @@
 -- A number gets an entry, or has one no more: no object and no frozen frame is another.
 use Rattle.object_cache.proofs.Names.{inl, inr, ℕ, Bool, true, false, true≢false, cond, List, length, set, Option, Some, None, option_map, refl, sym, ap, subst}
 use Rattle.object_cache.proofs.Names.{arith, length-set, cases_eq, ne_eqb, get_or-set_same, get_or-set_other, map-set, get_or-map-range_with_len, none-some}
-use Rattle.object_cache.proofs.Names.{same_Some, Cap, Frame, Content, Role, header_at, held_at, AreKeepable, Disk, Put, Kept, put_at, most, DurableState}
-use Rattle.object_cache.proofs.Names.{FrozenPuts, Stored, below_at, stored_of, maps_same, map_set, Entry, Held, entry_at, new_entry, is_some, Memory}
-use Rattle.object_cache.proofs.Names.{FrozenState, Nothing, mark_at, masked, in_staging, put_body, present_body, content_at, present_at, newest_body}
-use Rattle.object_cache.proofs.Names.{below_body, apart_body, frozen_body, frozen_frame, frozen_at, frozen_state_of, frozen_state_body, frozen_state_in_memory}
-use Rattle.object_cache.proofs.Names.{contents_in, frozen_in, frozen_states_in, StoreState, IsCache, IsFetchedIn, cache_of, is_kept, frozen_state_by}
-use Rattle.object_cache.proofs.Names.{frozen_state_at, cached_at, cached_in, with_cached, without}
+use Rattle.object_cache.proofs.Names.{same_Some, Cap, Content, Role, header_at, held_at, AreKeepable, Disk, Kept, put_at, most, DurableState, Stored, below_at}
+use Rattle.object_cache.proofs.Names.{stored_of, maps_same, map_set, Entry, Held, entry_at, new_entry, is_some, Memory, FrozenState, Nothing, mark_at, masked}
+use Rattle.object_cache.proofs.Names.{in_staging, put_body, present_body, content_at, present_at, newest_body, below_body, apart_body, frozen_body}
+use Rattle.object_cache.proofs.Names.{frozen_frame, frozen_at, frozen_state_of, frozen_state_body, frozen_state_in_memory, contents_in, frozen_in}
+use Rattle.object_cache.proofs.Names.{frozen_states_in, StoreState, IsCache, IsFetchedIn, cache_of, is_kept, frozen_state_by, frozen_state_at, cached_at}
+use Rattle.object_cache.proofs.Names.{cached_in, with_cached, without}
 use Rattle.std.proofs.Common.{◌≡◌, ◌≢◌, ◌⊎◌, ◌<◌, ◌∷◌, ◌∙◌}
 use Rattle.model.specs.declared.object.Role.TheVariants as role
 use Rattle.object_cache.proofs.Changing.{with_objects}
-use Rattle.object_cache.proofs.Objects.{content_in, cached_entry, has_entry, some_of}
+use Rattle.object_cache.proofs.Leading.{IsSeenAs}
+use Rattle.object_cache.proofs.Objects.{content_in, cached_entry, entry_found}
 
 -- the entry of one number is another, with the same object and the same frozen frame
 pub record Recaches (s : Stored) (m : Memory) (es : List (Option Entry)) (n : ℕ) : Type 0 where
@@ -22,24 +23,24 @@ pub record Recaches (s : Stored) (m : Memory) (es : List (Option Entry)) (n : �
   pub freed : entry_at es n ≡ None → mark_at m.pending n ≡ true → (header_at m.frozen_headers n).role ≡ role.Free →
       (is_kept (put_at s.working n) ≡ true) ⊎ ((header_at m.headers n).role ≡ role.Free)
 
-module _ (s : Stored) (m : Memory) (es : List (Option Entry)) (n : ℕ) (change : Recaches s m es n) where
+module _ {s : Stored} {m : Memory} {es : List (Option Entry)} {n : ℕ} (change : Recaches s m es n) where
   abbrev cached : Memory
   cached = with_objects m m.headers es
 
   content_stays : (k : ℕ) → content_at s cached k ≡ content_at s m k
   content_stays k = elim (cases_eq k n) [
     | inl same ↦ ap (content_at s cached) same ∙ change.content ∙ ap (content_at s m) (sym same)
-    | inr other ↦ ap (λ (o : Option Entry). present_body o (header_at m.headers k).role (newest_body s m k)) (change.entries k other)
+    | inr other ↦ ap (λ o. present_body o (header_at m.headers k).role (newest_body s m k)) (change.entries k other)
   ]
 
   present_stays : (k : ℕ) → present_at s cached k ≡ present_at s m k
-  present_stays k = ap (λ (c : Content Cap). record { header = header_at m.headers k; content = c }) (content_stays k)
+  present_stays k = ap (λ c. record { header = header_at m.headers k; content = c }) (content_stays k)
 
   frozen_stays : (k : ℕ) → frozen_at s cached k ≡ frozen_at s m k
   frozen_stays k = elim (cases_eq k n) [
     | inl same ↦ ap (frozen_at s cached) same ∙ change.frozen ∙ ap (frozen_at s m) (sym same)
     | inr other ↦
-        ap (λ (o : Option Entry). frozen_frame (mark_at m.pending k) (header_at m.frozen_headers k) (frozen_body o (mark_at m.touched k) (below_body s m k))
+        ap (λ o. frozen_frame (mark_at m.pending k) (header_at m.frozen_headers k) (frozen_body o (mark_at m.touched k) (below_body s m k))
         (below_at s k)) (change.entries k other)
   ]
 
@@ -56,17 +57,17 @@ module _ (s : Stored) (m : Memory) (es : List (Option Entry)) (n : ℕ) (change 
   unfolding frozen_states_in
   frozen_state_changed x within here =
       map_set (frozen_state_in_memory m) (frozen_state_in_memory cached) (length m.headers) n x within here
-      (λ k below other. ap (λ (o : Option Entry). frozen_state_of o (mark_at m.pending k) (mark_at m.touched k)) (change.entries k other))
+      (λ k below other. ap (λ o. frozen_state_of o (mark_at m.pending k) (mark_at m.touched k)) (change.entries k other))
 
   pub frozen_state_stay : frozen_state_in_memory cached n ≡ frozen_state_in_memory m n → frozen_states_in cached ≡ frozen_states_in m
   unfolding frozen_states_in
   frozen_state_stay here = maps_same (frozen_state_in_memory cached) (frozen_state_in_memory m) (length m.headers) (λ k below. elim (cases_eq k n) [
     | inl same ↦ ap (frozen_state_in_memory cached) same ∙ here ∙ ap (frozen_state_in_memory m) (sym same)
-    | inr other ↦ ap (λ (o : Option Entry). frozen_state_of o (mark_at m.pending k) (mark_at m.touched k)) (change.entries k other)
+    | inr other ↦ ap (λ o. frozen_state_of o (mark_at m.pending k) (mark_at m.touched k)) (change.entries k other)
   ])
 
-  pub cached_cache : (left count : ℕ) → IsCache s m left count → IsCache s cached left count
-  cached_cache left count is = record {
+  pub cached_cache : {left count : ℕ} → IsCache s m left count → IsCache s cached left count
+  cached_cache is = record {
     headers = is.headers;
     frozen_headers = is.frozen_headers;
     marks = is.marks;
@@ -94,9 +95,9 @@ module _ (s : Stored) (m : Memory) (es : List (Option Entry)) (n : ℕ) (change 
     ];
     freed = λ k none pending free. elim (cases_eq k n) [
       | inl same ↦ elim (change.freed (ap (entry_at es) (sym same) ∙ none) (ap (mark_at m.pending) (sym same) ∙ pending)
-          (ap (λ (i : ℕ). (header_at m.frozen_headers i).role) (sym same) ∙ free)) [
-            | inl put ↦ inl (ap (λ (i : ℕ). is_kept (put_at s.working i)) same ∙ put)
-            | inr was_free ↦ inr (ap (λ (i : ℕ). (header_at m.headers i).role) same ∙ was_free)
+          (ap (λ i. (header_at m.frozen_headers i).role) (sym same) ∙ free)) [
+            | inl put ↦ inl (ap (λ i. is_kept (put_at s.working i)) same ∙ put)
+            | inr was_free ↦ inr (ap (λ i. (header_at m.headers i).role) same ∙ was_free)
           ]
       | inr other ↦ is.freed k (sym (change.entries k other) ∙ none) pending free
     ];
@@ -120,9 +121,9 @@ pub no_staging : (staging : Option Held) (pending : List Bool) → ((h : Held) �
     mark_at pending n ≡ false → in_staging staging n c ≡ c
 no_staging None pending held n c not_pending = refl
 no_staging (Some h) pending held n c not_pending =
-    ap (λ (t : Bool). cond t h.content c) (ne_eqb h.number n (λ same. true≢false (sym (held h refl) ∙ ap (mark_at pending) same ∙ not_pending)))
+    ap (λ t. cond t h.content c) (ne_eqb h.number n (λ same. true≢false (sym (held h refl) ∙ ap (mark_at pending) same ∙ not_pending)))
 
-module _ (s : Stored) (m : Memory) (left count : ℕ) (is : IsCache s m left count) (n : ℕ) (within : n < length m.headers) (e : Entry)
+module _ {s : Stored} {m : Memory} {left count : ℕ} (is : IsCache s m left count) (n : ℕ) (within : n < length m.headers) (e : Entry)
     (at : entry_at m.entries n ≡ Some e)
     (clean : mark_at m.dirty n ≡ false) (frozen_state : frozen_state_in_memory m n ≡ Nothing)
     (masks : masked (header_at m.headers n).role (content_at s m n) ≡ content_at s m n) where
@@ -136,36 +137,35 @@ module _ (s : Stored) (m : Memory) (left count : ℕ) (is : IsCache s m left cou
   none_now = get_or-set_same m.entries n None None entry_within
 
   frozen_state_here : frozen_state_of (Some e) (mark_at m.pending n) (mark_at m.touched n) ≡ Nothing
-  frozen_state_here = ap (λ (o : Option Entry). frozen_state_of o (mark_at m.pending n) (mark_at m.touched n)) (sym at) ∙ frozen_state
+  frozen_state_here = ap (λ o. frozen_state_of o (mark_at m.pending n) (mark_at m.touched n)) (sym at) ∙ frozen_state
 
   -- the newest body without the entry is the one in it
   newest_is : (t : Bool) → mark_at m.touched n ≡ t → newest_body s m n ≡ content_at s m n
-  newest_is true touched = ap (λ (p : Put). put_body p (below_body s m n)) (is.clean n clean touched)
+  newest_is true touched = ap (λ p. put_body p (below_body s m n)) (is.clean n clean touched)
   newest_is false untouched =
       let not_pending : mark_at m.pending n ≡ false = (elim (nothing_frozen_state e (mark_at m.pending n) (mark_at m.touched n) frozen_state_here) [
         | inl none ↦ none
         | inr wanted ↦ absurd (true≢false (sym wanted.1 ∙ untouched))
       ]) in
-      ap (λ (p : Put). put_body p (below_body s m n)) (is.unput n untouched)
+      ap (λ p. put_body p (below_body s m n)) (is.unput n untouched)
       ∙ no_staging m.staging m.pending is.held n (below_at s n).content not_pending
-      ∙ sym (ap (λ (f : Frame). f.content) (is.unwritten n within untouched
-      ∙ ap (λ (p : Bool). frozen_frame p (header_at m.frozen_headers n) (frozen_body (entry_at m.entries n) (mark_at m.touched n) (below_body s m n))
+      ∙ sym (ap (λ f. f.content) (is.unwritten n within untouched
+      ∙ ap (λ p. frozen_frame p (header_at m.frozen_headers n) (frozen_body (entry_at m.entries n) (mark_at m.touched n) (below_body s m n))
       (below_at s n)) not_pending))
 
   frozen_is : frozen_at s (with_objects m m.headers dropped) n ≡ frozen_at s m n
   frozen_is =
-      ap (λ (o : Option Entry). frozen_frame (mark_at m.pending n) (header_at m.frozen_headers n) (frozen_body o (mark_at m.touched n) (below_body s m n))
+      ap (λ o. frozen_frame (mark_at m.pending n) (header_at m.frozen_headers n) (frozen_body o (mark_at m.touched n) (below_body s m n))
       (below_at s n)) none_now
       ∙ (elim (nothing_frozen_state e (mark_at m.pending n) (mark_at m.touched n) frozen_state_here) [
         | inl not_pending ↦
-            ap (λ (p : Bool). frozen_frame p (header_at m.frozen_headers n) (below_body s m n) (below_at s n)) not_pending
-            ∙ sym (ap (λ (p : Bool). frozen_frame p (header_at m.frozen_headers n) (frozen_body (entry_at m.entries n) (mark_at m.touched n) (below_body s m n))
+            ap (λ p. frozen_frame p (header_at m.frozen_headers n) (below_body s m n) (below_at s n)) not_pending
+            ∙ sym (ap (λ p. frozen_frame p (header_at m.frozen_headers n) (frozen_body (entry_at m.entries n) (mark_at m.touched n) (below_body s m n))
             (below_at s n)) not_pending)
         | inr wanted ↦
-            ap (λ (c : Content Cap). frozen_frame (mark_at m.pending n) (header_at m.frozen_headers n) c (below_at s n))
-            (sym (ap (λ (o : Option Entry). frozen_body o (mark_at m.touched n) (below_body s m n)) at
-            ∙ ap (λ (t : Bool). apart_body e.kept t e.present (below_body s m n)) wanted.1
-            ∙ ap (λ (k : Option (Content Cap)). apart_body k true e.present (below_body s m n)) wanted.2))
+            ap (λ c. frozen_frame (mark_at m.pending n) (header_at m.frozen_headers n) c (below_at s n))
+            (sym (ap (λ o. frozen_body o (mark_at m.touched n) (below_body s m n)) at
+            ∙ ap (λ t. apart_body e.kept t e.present (below_body s m n)) wanted.1 ∙ ap (λ k. apart_body k true e.present (below_body s m n)) wanted.2))
       ])
 
   pub drops : Recaches s m dropped n
@@ -173,7 +173,7 @@ module _ (s : Stored) (m : Memory) (left count : ℕ) (is : IsCache s m left cou
     count = length-set m.entries n None;
     entries = λ k other. get_or-set_other m.entries n k None None other;
     content =
-        ap (λ (o : Option Entry). present_body o (header_at m.headers n).role (newest_body s m n)) none_now
+        ap (λ o. present_body o (header_at m.headers n).role (newest_body s m n)) none_now
         ∙ ap (masked (header_at m.headers n).role) (newest_is (mark_at m.touched n) refl) ∙ masks;
     frozen = frozen_is;
     apart = λ f here. absurd (none-some f (sym none_now ∙ here));
@@ -184,26 +184,20 @@ module _ (s : Stored) (m : Memory) (left count : ℕ) (is : IsCache s m left cou
   }
 
   pub frozen_state_dropped : frozen_state_in_memory (with_objects m m.headers dropped) n ≡ frozen_state_in_memory m n
-  frozen_state_dropped = ap (λ (o : Option Entry). frozen_state_of o (mark_at m.pending n) (mark_at m.touched n)) none_now ∙ sym frozen_state
+  frozen_state_dropped = ap (λ o. frozen_state_of o (mark_at m.pending n) (mark_at m.touched n)) none_now ∙ sym frozen_state
 
-module _ {D : Type 0} (disk : D → Disk) (d : DurableState D) (m : Memory) (left : ℕ) (order : List ℕ) (most_entries : ℕ) (es : List (Option Entry)) (n : ℕ)
+module _ {D : Type 0} (disk : D → Disk) (d : DurableState D) {m : Memory} (left : ℕ) (order : List ℕ) (most_entries : ℕ) {es : List (Option Entry)} {n : ℕ}
     (change : Recaches (stored_of disk d) m es n) where
   -- all that is seen but for which numbers have entries and what entries have of the frozen frames
-  pub seen_cached : (x : List FrozenState) → frozen_states_in (with_objects m m.headers es) ≡ x →
+  pub seen_cached : {rs : List Bool} {x : List FrozenState} → cached_in es ≡ rs → frozen_states_in (with_objects m m.headers es) ≡ x →
       cache_of disk d (with_objects m m.headers es) left order most_entries ≡ record
-      (cache_of disk d m left order most_entries) { cached = cached_in es; frozen_state = x }
-  seen_cached x frozen_state =
-      let s = stored_of disk d in
-      let t = with_objects m m.headers es in
-      let old = cache_of disk d m left order most_entries in
-      ap (λ (fs : List Frame). record old {
-        contents = contents_in s t;
-        cached = cached_in es;
-        frozen_state = frozen_states_in t;
-        frozen = option_map (λ (f : FrozenPuts). record { frames = fs; size = f.size; left = left }) s.frozen;
-      }) (frozen_stay s m es n change)
-      ∙ ap (λ (cs : List (Content Cap)). record old { contents = cs; cached = cached_in es; frozen_state = frozen_states_in t }) (contents_stay s m es n change)
-      ∙ ap (λ (os : List FrozenState). record old { cached = cached_in es; frozen_state = os }) frozen_state
+      (cache_of disk d m left order most_entries) { cached = rs; frozen_state = x }
+  seen_cached cached frozen_state = λ k. record (cache_of disk d m left order most_entries) {
+    contents = contents_stay change k;
+    cached = cached k;
+    frozen_state = frozen_state k;
+    frozen = option_map (λ f. record { frames = frozen_stay change k; size = f.size; left = left }) (stored_of disk d).frozen;
+  }
 
 pub cached_set : (es : List (Option Entry)) (n : ℕ) (o : Option Entry) → cached_in (set es n o) ≡ set (cached_in es) n (is_some o)
 unfolding cached_in
@@ -214,55 +208,49 @@ unfolding frozen_states_in
 frozen_state_entry m n within = get_or-map-range_with_len (frozen_state_in_memory m) 0 (length m.headers) n n Nothing within (omega arith)
 
 -- the same by what is seen
-module _ {D : Type 0} (disk : D → Disk) (d : DurableState D) (m : Memory) (left count : ℕ) (order : List ℕ) (most_entries : ℕ) (s : StoreState D)
+module _ {D : Type 0} (disk : D → Disk) {d : DurableState D} {m : Memory} {left count : ℕ} {order : List ℕ} {most_entries : ℕ} {s : StoreState D}
     (view : cache_of disk d m left order most_entries ≡ s) (is : IsCache (stored_of disk d) m left count) (n : ℕ) (fetched : IsFetchedIn s n)
     (clean : mark_at s.dirty n ≡ false)
     (frozen_state : frozen_state_at s.frozen_state n ≡ Nothing) (masks : masked (header_at s.headers n).role (held_at s.contents n) ≡ held_at s.contents n)
   where
     in_table : n < length m.headers
-    in_table = omega (arith, fetched.header, ap (λ (t : StoreState D). length t.headers) view)
+    in_table = omega (arith, fetched.header, ap (λ t. length t.headers) view)
 
     holds : content_at (stored_of disk d) m n ≡ held_at s.contents n
-    holds = sym (content_in (stored_of disk d) m n in_table) ∙ ap (λ (t : StoreState D). held_at t.contents n) view
+    holds = sym (content_in (stored_of disk d) m n in_table) ∙ ap (λ t. held_at t.contents n) view
 
     masks_here : masked (header_at m.headers n).role (content_at (stored_of disk d) m n) ≡ content_at (stored_of disk d) m n
-    masks_here =
-        ap (masked (header_at m.headers n).role) holds
-        ∙ ap (λ (t : StoreState D). masked (header_at t.headers n).role (held_at s.contents n)) view
-        ∙ masks ∙ sym holds
+    masks_here = ap (masked (header_at m.headers n).role) holds ∙ ap (λ t. masked (header_at t.headers n).role (held_at s.contents n)) view ∙ masks ∙ sym holds
 
     entry_here : (e : Entry) × (entry_at m.entries n ≡ Some e)
-    entry_here = some_of (entry_at m.entries n) (has_entry disk d m left order most_entries s view n fetched)
+    entry_here = entry_found disk view is n fetched
+
+    clean_here : mark_at m.dirty n ≡ false
+    clean_here = ap (λ t. mark_at t.dirty n) view ∙ clean
+
+    state_here : frozen_state_in_memory m n ≡ Nothing
+    state_here = sym (frozen_state_entry m n in_table) ∙ ap (λ t. frozen_state_at t.frozen_state n) view ∙ frozen_state
 
     drops_here : Recaches (stored_of disk d) m (set m.entries n None) n
-    drops_here = drops (stored_of disk d) m left count is n in_table entry_here.0 entry_here.1 (ap (λ (t : StoreState D). mark_at t.dirty n) view ∙ clean)
-        (sym (frozen_state_entry m n in_table) ∙ ap (λ (t : StoreState D). frozen_state_at t.frozen_state n) view ∙ frozen_state) masks_here
+    drops_here = drops is n in_table entry_here.0 entry_here.1 clean_here state_here masks_here
 
-    pub dropped_stands : IsCache (stored_of disk d) (with_objects m m.headers (set m.entries n None)) left count
-    dropped_stands = cached_cache (stored_of disk d) m (set m.entries n None) n drops_here left count is
-
-    pub dropped_seen : cache_of disk d (with_objects m m.headers (set m.entries n None)) left (without n order) most_entries ≡ record
-        s { cached = set s.cached n false; order = without n s.order }
-    dropped_seen =
-        seen_cached disk d m left (without n order) most_entries (set m.entries n None) n drops_here (frozen_states_in m)
-        (frozen_state_stay (stored_of disk d) m (set m.entries n None) n drops_here
-        (frozen_state_dropped (stored_of disk d) m left count is n in_table entry_here.0 entry_here.1
-        (ap (λ (t : StoreState D). mark_at t.dirty n) view ∙ clean)
-        (sym (frozen_state_entry m n in_table) ∙ ap (λ (t : StoreState D). frozen_state_at t.frozen_state n) view ∙ frozen_state) masks_here))
-        ∙ ap (λ (rs : List Bool). record (cache_of disk d m left (without n order) most_entries) { cached = rs }) (cached_set m.entries n None)
-        ∙ ap (λ (t : StoreState D). record t { cached = set t.cached n false; order = without n t.order }) view
+    pub dropped_next : IsSeenAs disk d (with_objects m m.headers (set m.entries n None)) left count (without n order) most_entries
+        (record s { cached = set s.cached n false; order = without n s.order })
+    dropped_next = record {
+      is = cached_cache drops_here is;
+      view =
+          seen_cached disk d left (without n order) most_entries drops_here (cached_set m.entries n None) (frozen_state_stay drops_here
+          (frozen_state_dropped is n in_table entry_here.0 entry_here.1 clean_here
+          state_here masks_here)) ∙ ap (λ (t : StoreState D). record t { cached = set t.cached n false; order = without n t.order }) view;
+    }
 
 -- ---- a number gets an entry
 
 masked_twice : (r : Role) (c : Content Cap) → masked r (masked r c) ≡ masked r c
 masked_twice role.Free c = refl
-masked_twice role.Page c = refl
-masked_twice role.Node c = refl
-masked_twice role.Root c = refl
-masked_twice role.Annex c = refl
-masked_twice role.Bank c = refl
+masked_twice other c = refl
 
-module _ (s : Stored) (m : Memory) (left count : ℕ) (is : IsCache s m left count) (number : ℕ) (c : Content Cap) (within : number < length m.headers)
+module _ {s : Stored} {m : Memory} {left count : ℕ} (is : IsCache s m left count) (number : ℕ) (c : Content Cap) (within : number < length m.headers)
     (none : entry_at m.entries number ≡ None)
     (present : c ≡ content_at s m number) where
   abbrev e : Entry
@@ -278,11 +266,11 @@ module _ (s : Stored) (m : Memory) (left count : ℕ) (is : IsCache s m left cou
   as_frozen : mark_at m.pending number ≡ true → mark_at m.touched number ≡ false → c ≡ masked (header_at m.frozen_headers number).role (below_body s m number)
   as_frozen pending untouched =
       present
-      ∙ ap (λ (f : Frame). f.content) (is.unwritten number within untouched)
-      ∙ ap (λ (f : Frame). f.content)
-      (ap (λ (p : Bool). frozen_frame p (header_at m.frozen_headers number)
+      ∙ ap (λ f. f.content) (is.unwritten number within untouched)
+      ∙ ap (λ f. f.content)
+      (ap (λ p. frozen_frame p (header_at m.frozen_headers number)
       (frozen_body (entry_at m.entries number) (mark_at m.touched number) (below_body s m number)) (below_at s number)) pending
-      ∙ ap (λ (o : Option Entry). frozen_frame true (header_at m.frozen_headers number) (frozen_body o (mark_at m.touched number) (below_body s m number))
+      ∙ ap (λ o. frozen_frame true (header_at m.frozen_headers number) (frozen_body o (mark_at m.touched number) (below_body s m number))
       (below_at s number)) none)
 
   -- the frozen frame by the new entry
@@ -293,60 +281,54 @@ module _ (s : Stored) (m : Memory) (left count : ℕ) (is : IsCache s m left cou
   frozen_by true true pending touched = refl
   frozen_by true false pending touched =
       let h = header_at m.frozen_headers number in
-      ap (λ (c : Content Cap). record { header = h; content = c })
+      ap (λ c. record { header = h; content = c })
       (ap (masked h.role) (as_frozen pending touched) ∙ masked_twice h.role (below_body s m number))
 
   pub cached_new : Recaches s m more number
   cached_new = record {
     count = length-set m.entries number (Some e);
     entries = λ k other. get_or-set_other m.entries number k (Some e) None other;
-    content =
-        ap (λ (o : Option Entry). present_body o (header_at m.headers number).role (newest_body s m number)) some_now ∙ present;
+    content = ap (λ o. present_body o (header_at m.headers number).role (newest_body s m number)) some_now ∙ present;
     frozen =
-        ap (λ (o : Option Entry). frozen_frame (mark_at m.pending number) (header_at m.frozen_headers number)
+        ap (λ o. frozen_frame (mark_at m.pending number) (header_at m.frozen_headers number)
         (frozen_body o (mark_at m.touched number) (below_body s m number)) (below_at s number)) some_now
         ∙ frozen_by (mark_at m.pending number) (mark_at m.touched number) refl refl
-        ∙ sym (ap (λ (o : Option Entry). frozen_frame (mark_at m.pending number) (header_at m.frozen_headers number)
+        ∙ sym (ap (λ o. frozen_frame (mark_at m.pending number) (header_at m.frozen_headers number)
         (frozen_body o (mark_at m.touched number) (below_body s m number)) (below_at s number)) none);
-    apart = λ f here. inl (ap (λ (g : Entry). g.kept) (same_Some f e (sym here ∙ some_now)));
+    apart = λ f here. inl (ap (λ g. g.kept) (same_Some f e (sym here ∙ some_now)));
     freed = λ gone pending free. absurd (none-some e (sym gone ∙ some_now));
   }
 
   pub frozen_state_new : frozen_state_in_memory (with_objects m m.headers more) number ≡ frozen_state_by (mark_at m.pending number) false
       (mark_at m.touched number)
-  frozen_state_new = ap (λ (o : Option Entry). frozen_state_of o (mark_at m.pending number) (mark_at m.touched number)) some_now
+  frozen_state_new = ap (λ o. frozen_state_of o (mark_at m.pending number) (mark_at m.touched number)) some_now
 
 no_entry_by : (o : Option Entry) → is_some o ≡ false → o ≡ None
 no_entry_by None is = refl
 no_entry_by (Some e) is = absurd (true≢false is)
 
 -- the same by what is seen
-module _ {D : Type 0} (disk : D → Disk) (d : DurableState D) (m : Memory) (left count : ℕ) (order : List ℕ) (most_entries : ℕ) (s : StoreState D)
+module _ {D : Type 0} (disk : D → Disk) {d : DurableState D} {m : Memory} {left count : ℕ} {order : List ℕ} {most_entries : ℕ} {s : StoreState D}
     (view : cache_of disk d m left order most_entries ≡ s) (is : IsCache (stored_of disk d) m left count) where
   -- a number that isn't cached has no entry
   pub no_entry : (n : ℕ) → cached_at s.cached n ≡ false → entry_at m.entries n ≡ None
-  no_entry n uncached = no_entry_by (entry_at m.entries n) (sym (cached_entry m.entries n) ∙ ap (λ (t : StoreState D). cached_at t.cached n) view ∙ uncached)
+  no_entry n uncached = no_entry_by (entry_at m.entries n) (sym (cached_entry m.entries n) ∙ ap (λ t. cached_at t.cached n) view ∙ uncached)
 
   module _ (n : ℕ) (c : Content Cap) (known : n < length s.headers) (uncached : cached_at s.cached n ≡ false) (read : c ≡ held_at s.contents n) where
     there : n < length m.headers
-    there = omega (arith, known, ap (λ (t : StoreState D). length t.headers) view)
+    there = omega (arith, known, ap (λ t. length t.headers) view)
 
     present_there : c ≡ content_at (stored_of disk d) m n
-    present_there = read ∙ ap (λ (t : StoreState D). held_at t.contents n) (sym view) ∙ content_in (stored_of disk d) m n there
+    present_there = read ∙ ap (λ t. held_at t.contents n) (sym view) ∙ content_in (stored_of disk d) m n there
 
     new_here : Recaches (stored_of disk d) m (set m.entries n (Some (new_entry c))) n
-    new_here = cached_new (stored_of disk d) m left count is n c there (no_entry n uncached) present_there
+    new_here = cached_new is n c there (no_entry n uncached) present_there
 
-    pub cached_stands : IsCache (stored_of disk d) (with_objects m m.headers (set m.entries n (Some (new_entry c)))) left count
-    cached_stands = cached_cache (stored_of disk d) m (set m.entries n (Some (new_entry c))) n new_here left count is
-
-    pub cached_seen : cache_of disk d (with_objects m m.headers (set m.entries n (Some (new_entry c)))) left (n ∷ order) most_entries ≡ with_cached n s
-    cached_seen =
-        let es = set m.entries n (Some (new_entry c)) in
-        let x = frozen_state_by (mark_at m.pending n) false (mark_at m.touched n) in
-        seen_cached disk d m left (n ∷ order) most_entries es n new_here (set (frozen_states_in m) n x)
-        (frozen_state_changed (stored_of disk d) m es n new_here x there (frozen_state_new (stored_of disk d) m left count is n c there (no_entry n uncached)
-        present_there))
-        ∙ ap (λ (rs : List Bool). record (cache_of disk d m left (n ∷ order) most_entries) { cached = rs; frozen_state = set (frozen_states_in m) n x })
-        (cached_set m.entries n (Some (new_entry c)))
-        ∙ ap (with_cached n) view
+    pub cached_next : IsSeenAs disk d (with_objects m m.headers (set m.entries n (Some (new_entry c)))) left count (n ∷ order) most_entries (with_cached n s)
+    cached_next = record {
+      is = cached_cache new_here is;
+      view =
+          seen_cached disk d left (n ∷ order) most_entries new_here (cached_set m.entries n (Some (new_entry c)))
+          (frozen_state_changed new_here (frozen_state_by (mark_at m.pending n) false (mark_at m.touched n)) there
+          (frozen_state_new is n c there (no_entry n uncached) present_there)) ∙ ap (with_cached n) view;
+    }

@@ -28,7 +28,7 @@ by_kept (Some e) None below same = absurd (none-some e.kept (sym same))
 by_kept (Some e) (Some f) below same = kept_alone e.kept f.kept (same_Some e.kept f.kept same)
   where
     kept_alone : (a b : Option (Content Cap)) → a ≡ b → apart_body a true e.present below ≡ apart_body b true f.present below
-    kept_alone a b is = ap (λ (o : Option (Content Cap)). apart_body o true e.present below) is ∙ touched_body b
+    kept_alone a b is = ap (λ o. apart_body o true e.present below) is ∙ touched_body b
       where
         touched_body : (o : Option (Content Cap)) → apart_body o true e.present below ≡ apart_body o true f.present below
         touched_body None = refl
@@ -40,33 +40,33 @@ frozen_state_by_kept None None pending same = refl
 frozen_state_by_kept None (Some f) pending same = absurd (none-some f.kept same)
 frozen_state_by_kept (Some e) None pending same = absurd (none-some e.kept (sym same))
 frozen_state_by_kept (Some e) (Some f) false same = refl
-frozen_state_by_kept (Some e) (Some f) true same = ap (λ (o : Option (Content Cap)). frozen_state_body (is_some o) true) (same_Some e.kept f.kept same)
+frozen_state_by_kept (Some e) (Some f) true same = ap (λ o. frozen_state_body (is_some o) true) (same_Some e.kept f.kept same)
 
-module _ (s : Stored) (m : Memory) (hs : List ObjectHeader) (es : List (Option Entry)) (n : ℕ) (change : Changes m hs es n) where
+module _ (s : Stored) {m : Memory} {hs : List ObjectHeader} {es : List (Option Entry)} {n : ℕ} (change : Changes m hs es n) where
   abbrev changed : Memory
   changed = with_objects m hs es
 
   pub content_elsewhere : (k : ℕ) → k ≢ n → content_at s changed k ≡ content_at s m k
   content_elsewhere k other =
-      ap (λ (o : Option Entry). present_body o (header_at hs k).role (newest_body s m k)) (change.entries k other)
-      ∙ ap (λ (h : ObjectHeader). present_body (entry_at m.entries k) h.role (newest_body s m k)) (change.headers k other)
+      ap (λ o. present_body o (header_at hs k).role (newest_body s m k)) (change.entries k other)
+      ∙ ap (λ h. present_body (entry_at m.entries k) h.role (newest_body s m k)) (change.headers k other)
 
   present_elsewhere : (k : ℕ) → k ≢ n → present_at s changed k ≡ present_at s m k
   present_elsewhere k other =
-      ap (λ (h : ObjectHeader). record { header = h; content = content_at s changed k }) (change.headers k other)
-      ∙ ap (λ (c : Content Cap). record { header = header_at m.headers k; content = c }) (content_elsewhere k other)
+      ap (λ h. record { header = h; content = content_at s changed k }) (change.headers k other)
+      ∙ ap (λ c. record { header = header_at m.headers k; content = c }) (content_elsewhere k other)
 
   -- what all objects hold, by what the changed one does
   pub contents_changed : (c : Content Cap) → n < length m.headers → content_at s changed n ≡ c → contents_in s changed ≡ set (contents_in s m) n c
   unfolding contents_in
   contents_changed c within here =
-      ap (λ (k : ℕ). map (content_at s changed) (range_with_len 0 k)) change.header_count
+      ap (λ k. map (content_at s changed) (range_with_len 0 k)) change.header_count
       ∙ map_set (content_at s m) (content_at s changed) (length m.headers) n c within here (λ k below other. content_elsewhere k other)
 
   pub contents_same : content_at s changed n ≡ content_at s m n → contents_in s changed ≡ contents_in s m
   unfolding contents_in
   contents_same here =
-      ap (λ (k : ℕ). map (content_at s changed) (range_with_len 0 k)) change.header_count
+      ap (λ k. map (content_at s changed) (range_with_len 0 k)) change.header_count
       ∙ maps_same (content_at s changed) (content_at s m) (length m.headers) (λ k below. elim (cases_eq k n) [
         | inl same ↦ ap (content_at s changed) same ∙ here ∙ ap (content_at s m) (sym same)
         | inr other ↦ content_elsewhere k other
@@ -75,23 +75,23 @@ module _ (s : Stored) (m : Memory) (hs : List ObjectHeader) (es : List (Option E
   module _ (touched : mark_at m.touched n ≡ true) where
     frozen_here : frozen_at s changed n ≡ frozen_at s m n
     frozen_here =
-        ap (λ (c : Content Cap). frozen_frame (mark_at m.pending n) (header_at m.frozen_headers n) c (below_at s n))
-        (ap (λ (t : Bool). frozen_body (entry_at es n) t (below_body s m n)) touched
+        ap (λ c. frozen_frame (mark_at m.pending n) (header_at m.frozen_headers n) c (below_at s n))
+        (ap (λ t. frozen_body (entry_at es n) t (below_body s m n)) touched
         ∙ by_kept (entry_at es n) (entry_at m.entries n) (below_body s m n) change.kept
-        ∙ ap (λ (t : Bool). frozen_body (entry_at m.entries n) t (below_body s m n)) (sym touched))
+        ∙ ap (λ t. frozen_body (entry_at m.entries n) t (below_body s m n)) (sym touched))
 
     frozen_stays : (k : ℕ) → frozen_at s changed k ≡ frozen_at s m k
     frozen_stays k = elim (cases_eq k n) [
       | inl same ↦ ap (frozen_at s changed) same ∙ frozen_here ∙ ap (frozen_at s m) (sym same)
       | inr other ↦
-          ap (λ (o : Option Entry). frozen_frame (mark_at m.pending k) (header_at m.frozen_headers k) (frozen_body o (mark_at m.touched k) (below_body s m k))
+          ap (λ o. frozen_frame (mark_at m.pending k) (header_at m.frozen_headers k) (frozen_body o (mark_at m.touched k) (below_body s m k))
           (below_at s k)) (change.entries k other)
     ]
 
     pub frozen_same : frozen_in s changed ≡ frozen_in s m
     unfolding frozen_in
     frozen_same =
-        ap (λ (k : ℕ). map (frozen_at s changed) (range_with_len 0 k)) change.header_count
+        ap (λ k. map (frozen_at s changed) (range_with_len 0 k)) change.header_count
         ∙ maps_same (frozen_at s changed) (frozen_at s m) (length m.headers) (λ k below. frozen_stays k)
 
     frozen_state_stays : (k : ℕ) → frozen_state_in_memory changed k ≡ frozen_state_in_memory m k
@@ -100,18 +100,17 @@ module _ (s : Stored) (m : Memory) (hs : List ObjectHeader) (es : List (Option E
           ap (frozen_state_in_memory changed) same
           ∙ ap (frozen_state_of (entry_at es n) (mark_at m.pending n)) touched
           ∙ frozen_state_by_kept (entry_at es n) (entry_at m.entries n) (mark_at m.pending n) change.kept
-          ∙ ap (frozen_state_of (entry_at m.entries n) (mark_at m.pending n)) (sym touched)
-          ∙ ap (frozen_state_in_memory m) (sym same)
-      | inr other ↦ ap (λ (o : Option Entry). frozen_state_of o (mark_at m.pending k) (mark_at m.touched k)) (change.entries k other)
+          ∙ ap (frozen_state_of (entry_at m.entries n) (mark_at m.pending n)) (sym touched) ∙ ap (frozen_state_in_memory m) (sym same)
+      | inr other ↦ ap (λ o. frozen_state_of o (mark_at m.pending k) (mark_at m.touched k)) (change.entries k other)
     ]
 
     pub frozen_state_same : frozen_states_in changed ≡ frozen_states_in m
     unfolding frozen_states_in
     frozen_state_same =
-        ap (λ (k : ℕ). map (frozen_state_in_memory changed) (range_with_len 0 k)) change.header_count
+        ap (λ k. map (frozen_state_in_memory changed) (range_with_len 0 k)) change.header_count
         ∙ maps_same (frozen_state_in_memory changed) (frozen_state_in_memory m) (length m.headers) (λ k below. frozen_state_stays k)
 
-  module _ (left count : ℕ) (is : IsCache s m left count) (dirty : mark_at m.dirty n ≡ true) where
+  module _ {left count : ℕ} (is : IsCache s m left count) (dirty : mark_at m.dirty n ≡ true) where
     touched_here : mark_at m.touched n ≡ true
     touched_here = is.marked n dirty
 
@@ -172,13 +171,13 @@ module _ (s : Stored) (m : Memory) (hs : List ObjectHeader) (es : List (Option E
               | inl put ↦ inl put
               | inr was_free ↦ elim (change.role none_n) [
                 | inl same_role ↦ inr
-                    (ap (λ (i : ℕ). (header_at hs i).role) same ∙ same_role ∙ ap (λ (i : ℕ). (header_at m.headers i).role) (sym same) ∙ was_free)
-                | inr free_now ↦ inr (ap (λ (i : ℕ). (header_at hs i).role) same ∙ free_now)
+                    (ap (λ i. (header_at hs i).role) same ∙ same_role ∙ ap (λ i. (header_at m.headers i).role) (sym same) ∙ was_free)
+                | inr free_now ↦ inr (ap (λ i. (header_at hs i).role) same ∙ free_now)
               ]
             ]
         | inr other ↦ elim (is.freed k (sym (change.entries k other) ∙ none) pending free) [
           | inl put ↦ inl put
-          | inr was_free ↦ inr (ap (λ (h : ObjectHeader). h.role) (change.headers k other) ∙ was_free)
+          | inr was_free ↦ inr (ap (λ h. h.role) (change.headers k other) ∙ was_free)
         ]
       ];
     }

@@ -1,47 +1,35 @@
 -- A checkpoint begins: all objects are frozen as they are.
 use Rattle.object_cache.proofs.Names.{inl, inr, ℕ, zero, suc, Bool, true, false, true≢false, cond, List, [], length, map, replicate, Option, Some, None}
-use Rattle.object_cache.proofs.Names.{option_map, refl, sym, ap, subst, arith, count_by, slice_index_or, range_with_len, cases_lt, length-replicate}
-use Rattle.object_cache.proofs.Names.{get_or-replicate, get_or_past, same_lists, ext_get_or, length-map-range_with_len, get_or-map-range_with_len, sum_by-cons}
-use Rattle.object_cache.proofs.Names.{none-some, same_Some, Cap, Frame, ObjectHeader, Content, Role, blank_frame, frame_at, frames_in, header_at, AreKeepable}
-use Rattle.object_cache.proofs.Names.{touched_count, untouched, object_count, Disk, role_of, Put, Absent, Broken, freezing, all_frozen, freezing_puts, Kept}
-use Rattle.object_cache.proofs.Names.{put_at, put_or, held_slot, sum_of, most, DurableState, FrozenPuts, Stored, below_at, frozen_put, stored_of, maps_same}
-use Rattle.object_cache.proofs.Names.{frame_in, length_in, Entry, entry_at, Memory, mark_at, masked, in_staging, put_body, present_body, content_at, present_at}
-use Rattle.object_cache.proofs.Names.{newest_body, below_body, apart_body, frozen_body, frozen_frame, frozen_at, contents_in, frozen_in, StoreState, IsCache}
-use Rattle.object_cache.proofs.Names.{AreFrozen, snapshots_of, cache_of, frozen_seen, is_kept}
+use Rattle.object_cache.proofs.Names.{option_map, refl, sym, ap, subst, arith, count_by, range_with_len, length-replicate, same_lists, ext_get_or}
+use Rattle.object_cache.proofs.Names.{length-map-range_with_len, get_or-map-range_with_len, sum_by-cons, none-some, same_Some, Cap, Frame, ObjectHeader}
+use Rattle.object_cache.proofs.Names.{Content, Role, blank_frame, frame_at, frames_in, header_at, AreKeepable, touched_count, untouched, object_count, Disk}
+use Rattle.object_cache.proofs.Names.{role_of, Put, Absent, Broken, freezing, all_frozen, freezing_puts, Kept, put_at, put_or, held_slot, sum_of, most}
+use Rattle.object_cache.proofs.Names.{DurableState, Stored, below_at, frozen_put, stored_of, maps_same, frame_in, length_in, Entry, entry_at, Memory, mark_at}
+use Rattle.object_cache.proofs.Names.{masked, in_staging, put_body, present_body, content_at, present_at, newest_body, below_body, apart_body, frozen_body}
+use Rattle.object_cache.proofs.Names.{frozen_frame, frozen_at, contents_in, frozen_in, StoreState, IsCache, AreFrozen, snapshots_of, cache_of, frozen_seen}
+use Rattle.object_cache.proofs.Names.{is_kept, left_of, sum_by-replicate, get_or_default}
 use Rattle.std.proofs.Common.{◌≡◌, ◌<◌, ◌≤◌, ◌||◌, ◌∷◌, ◌∙◌}
 use Rattle.model.specs.declared.object.Content.TheVariants as content
+use Rattle.object_cache.proofs.Marking.{alike}
 use Rattle.object_cache.proofs.Objects.{content_in}
 use Rattle.object_cache.proofs.Puts.{held_touched}
 use Rattle.object_cache.proofs.Caching.{no_staging}
 
 -- what has the role of its header is what the mask leaves of it
 pub masked_same : (r : Role) (c : Content Cap) → r ≡ role_of c → masked r c ≡ c
-masked_same r content.Free is = ap (λ (x : Role). masked x content.Free) is
-masked_same r (content.Page words) is = ap (λ (x : Role). masked x (content.Page words)) is
-masked_same r (content.Node slots) is = ap (λ (x : Role). masked x (content.Node slots)) is
-masked_same r (content.Root root) is = ap (λ (x : Role). masked x (content.Root root)) is
-masked_same r (content.Annex registers) is = ap (λ (x : Role). masked x (content.Annex registers)) is
-masked_same r (content.Bank limit) is = ap (λ (x : Role). masked x (content.Bank limit)) is
+masked_same r content.Free is = ap (λ x. masked x content.Free) is
+masked_same r (content.Page words) is = ap (λ x. masked x (content.Page words)) is
+masked_same r (content.Node slots) is = ap (λ x. masked x (content.Node slots)) is
+masked_same r (content.Root root) is = ap (λ x. masked x (content.Root root)) is
+masked_same r (content.Annex registers) is = ap (λ x. masked x (content.Annex registers)) is
+masked_same r (content.Bank limit) is = ap (λ x. masked x (content.Bank limit)) is
 
 pub none_of : {A B : Type 0} (f : A → B) (o : Option A) → option_map f o ≡ None → o ≡ None
 none_of f None is = refl
 none_of f (Some x) is = absurd (none-some (f x) (sym is))
 
-pub none_marked : (n k : ℕ) → mark_at (replicate n false) k ≡ false
-none_marked n k = elim (cases_lt k n) [
-  | inl lt ↦ get_or-replicate n k false false lt
-  | inr past ↦ get_or_past (replicate n false) k false (let size = length-replicate {A = Bool} n false in omega (arith, size, past))
-]
-
 pub none_counted : (n : ℕ) → touched_count (replicate n false) ≡ 0
-none_counted zero = refl
-none_counted (suc n) = let total = sum_by-cons (λ b. cond b 1 0) false (replicate n false) in let rest = none_counted n in omega (arith, total, rest)
-
-pub none_put : (n k : ℕ) → put_at (replicate n Absent) k ≡ Absent
-none_put n k = elim (cases_lt k n) [
-  | inl lt ↦ get_or-replicate n k Absent Absent lt
-  | inr past ↦ get_or_past (replicate n Absent) k Absent (let size = length-replicate {A = Put} n Absent in omega (arith, size, past))
-]
+none_counted n = omega (arith, sum_by-replicate (λ b. cond b 1 0) n false)
 
 -- fewer are marked where each that is is marked there too
 pub fewer_of : (ds ts : List Bool) → ((k : ℕ) → mark_at ds k ≡ true → mark_at ts k ≡ true) → count_by (λ b. b) ds ≤ count_by (λ b. b) ts
@@ -65,14 +53,13 @@ fewer_of (true ∷ ds) (false ∷ ts) each = absurd (true≢false (sym (each zer
 
 pub put_or_body : (p : Put) (f : Frame) → (put_or p f).content ≡ put_body p f.content
 put_or_body Absent f = refl
-put_or_body Broken f = refl
-put_or_body (Kept g) f = refl
+put_or_body other f = refl
 
 abbrev pub frozen_memory : List ObjectHeader → Memory → Memory
 frozen_memory fh m = record
     m { frozen_headers = fh; touched = replicate (length m.touched) false; dirty = replicate (length m.pending) false; pending = m.dirty }
 
-module _ (s : Stored) (m : Memory) (left count : ℕ) (is : IsCache s m left count) (none : s.frozen ≡ None)
+module _ {s : Stored} {m : Memory} {left count : ℕ} (is : IsCache s m left count) (none : s.frozen ≡ None)
     (fh : List ObjectHeader) (fh_count : length fh ≡ length m.frozen_headers)
     (same_headers : (n : ℕ) → mark_at m.dirty n ≡ true → header_at fh n ≡ header_at m.headers n)
     (keepable : AreKeepable s.saved.geometry most (frames_in m.headers (contents_in s m))) where
@@ -86,23 +73,23 @@ module _ (s : Stored) (m : Memory) (left count : ℕ) (is : IsCache s m left cou
   staging_none n c = no_staging m.staging m.pending is.held n c (is.idle none n)
 
   below_was : (n : ℕ) → below_at s n ≡ frame_at s.saved.frames n
-  below_was n = ap (λ (o : Option FrozenPuts). put_or (frozen_put o n) (frame_at s.saved.frames n)) none
+  below_was n = ap (λ o. put_or (frozen_put o n) (frame_at s.saved.frames n)) none
 
   -- what lies below now is the newest there was
   below_now : (n : ℕ) → below_body begun now n ≡ newest_body s m n
   below_now n =
       staging_none n (put_or (put_at s.working n) (frame_at s.saved.frames n)).content
       ∙ put_or_body (put_at s.working n) (frame_at s.saved.frames n)
-      ∙ sym (ap (put_body (put_at s.working n)) (staging_none n (below_at s n).content ∙ ap (λ (f : Frame). f.content) (below_was n)))
+      ∙ sym (ap (put_body (put_at s.working n)) (staging_none n (below_at s n).content ∙ ap (λ f. f.content) (below_was n)))
 
   newest_same : (n : ℕ) → newest_body begun now n ≡ newest_body s m n
-  newest_same n = ap (λ (p : Put). put_body p (below_body begun now n)) (none_put (length s.working) n) ∙ below_now n
+  newest_same n = ap (λ p. put_body p (below_body begun now n)) (alike (length s.working) n Absent) ∙ below_now n
 
   content_same : (n : ℕ) → content_at begun now n ≡ content_at s m n
   content_same n = ap (present_body (entry_at m.entries n) (header_at m.headers n).role) (newest_same n)
 
   present_same : (n : ℕ) → present_at begun now n ≡ present_at s m n
-  present_same n = ap (λ (c : Content Cap). record { header = header_at m.headers n; content = c }) (content_same n)
+  present_same n = ap (λ c. record { header = header_at m.headers n; content = c }) (content_same n)
 
   pub begun_contents : contents_in begun now ≡ contents_in s m
   unfolding contents_in
@@ -113,19 +100,18 @@ module _ (s : Stored) (m : Memory) (left count : ℕ) (is : IsCache s m left cou
       let kept = keepable.each n (omega (arith, within, is.headers)) in
       let at = frame_in m.headers (contents_in s m) n within in
       masked_same (header_at m.headers n).role (content_at s m n)
-      (ap (λ (f : Frame). f.header.role) (sym at) ∙ kept.kept.role ∙ ap (λ (f : Frame). role_of f.content) at ∙ ap role_of (content_in s m n within))
+      (ap (λ f. f.header.role) (sym at) ∙ kept.kept.role ∙ ap (λ f. role_of f.content) at ∙ ap role_of (content_in s m n within))
 
   -- the frozen body of an object that wasn't put since it was written
   body_now : (n : ℕ) → n < length m.headers → (o : Option Entry) → entry_at m.entries n ≡ o →
       masked (header_at m.headers n).role (frozen_body o false (below_body begun now n)) ≡ content_at s m n
   body_now n within None at =
-      ap (masked (header_at m.headers n).role) (below_now n)
-      ∙ sym (ap (λ (o : Option Entry). present_body o (header_at m.headers n).role (newest_body s m n)) at)
+      ap (masked (header_at m.headers n).role) (below_now n) ∙ sym (ap (λ o. present_body o (header_at m.headers n).role (newest_body s m n)) at)
   body_now n within (Some e) at =
-      let held : content_at s m n ≡ e.present = ap (λ (o : Option Entry). present_body o (header_at m.headers n).role (newest_body s m n)) at in
+      let held : content_at s m n ≡ e.present = ap (λ o. present_body o (header_at m.headers n).role (newest_body s m n)) at in
       elim (is.apart n e at) [
         | inl alone ↦
-            ap (λ (k : Option (Content Cap)). masked (header_at m.headers n).role (apart_body k false e.present (below_body begun now n))) alone
+            ap (λ k. masked (header_at m.headers n).role (apart_body k false e.present (below_body begun now n))) alone
             ∙ ap (masked (header_at m.headers n).role) (sym held) ∙ masked_here n within
         | inr pending ↦ absurd (true≢false (sym pending ∙ is.idle none n))
       ]
@@ -133,22 +119,19 @@ module _ (s : Stored) (m : Memory) (left count : ℕ) (is : IsCache s m left cou
   frozen_by : (n : ℕ) → n < length m.headers → (b t : Bool) → mark_at m.dirty n ≡ b → mark_at m.touched n ≡ t →
       frozen_frame b (header_at fh n) (frozen_body (entry_at m.entries n) false (below_body begun now n)) (below_at begun n) ≡ present_at s m n
   frozen_by n within true t dirty touched =
-      ap (λ (h : ObjectHeader). record { header = h; content = masked h.role (frozen_body (entry_at m.entries n) false (below_body begun now n)) })
-      (same_headers n dirty)
-      ∙ ap (λ (c : Content Cap). record { header = header_at m.headers n; content = c }) (body_now n within (entry_at m.entries n) refl)
-  frozen_by n within false true clean touched = ap (λ (p : Put). put_or p (frame_at s.saved.frames n)) (is.clean n clean touched)
+      ap (λ h. record { header = h; content = masked h.role (frozen_body (entry_at m.entries n) false (below_body begun now n)) })
+      (same_headers n dirty) ∙ ap (λ c. record { header = header_at m.headers n; content = c }) (body_now n within (entry_at m.entries n) refl)
+  frozen_by n within false true clean touched = ap (λ p. put_or p (frame_at s.saved.frames n)) (is.clean n clean touched)
   frozen_by n within false false clean untouched =
-      ap (λ (p : Put). put_or p (frame_at s.saved.frames n)) (is.unput n untouched)
+      ap (λ p. put_or p (frame_at s.saved.frames n)) (is.unput n untouched)
       ∙ sym (is.unwritten n within untouched
-      ∙ ap (λ (p : Bool). frozen_frame p (header_at m.frozen_headers n) (frozen_body (entry_at m.entries n) (mark_at m.touched n) (below_body s m n))
-      (below_at s n)) (is.idle none n)
-      ∙ below_was n)
+      ∙ ap (λ p. frozen_frame p (header_at m.frozen_headers n) (frozen_body (entry_at m.entries n) (mark_at m.touched n) (below_body s m n))
+      (below_at s n)) (is.idle none n) ∙ below_was n)
 
   frozen_now : (n : ℕ) → n < length m.headers → frozen_at begun now n ≡ present_at s m n
   frozen_now n within =
-      ap (λ (t : Bool). frozen_frame (mark_at m.dirty n) (header_at fh n) (frozen_body (entry_at m.entries n) t (below_body begun now n)) (below_at begun n))
-      (none_marked (length m.touched) n)
-      ∙ frozen_by n within (mark_at m.dirty n) (mark_at m.touched n) refl refl
+      ap (λ t. frozen_frame (mark_at m.dirty n) (header_at fh n) (frozen_body (entry_at m.entries n) t (below_body begun now n)) (below_at begun n))
+      (alike (length m.touched) n false) ∙ frozen_by n within (mark_at m.dirty n) (mark_at m.touched n) refl refl
 
   -- the frozen frames are the present ones
   pub begun_frozen : frozen_in begun now ≡ frames_in m.headers (contents_in s m)
@@ -160,7 +143,7 @@ module _ (s : Stored) (m : Memory) (left count : ℕ) (is : IsCache s m left cou
       let within : n < length m.headers = omega (arith, lt, length-map-range_with_len (frozen_at begun now) 0 (length m.headers)) in
       get_or-map-range_with_len (frozen_at begun now) 0 (length m.headers) n n blank_frame within (omega arith)
       ∙ frozen_now n within
-      ∙ sym (frame_in m.headers (contents_in s m) n within ∙ ap (λ (c : Content Cap). record { header = header_at m.headers n; content = c })
+      ∙ sym (frame_in m.headers (contents_in s m) n within ∙ ap (λ c. record { header = header_at m.headers n; content = c })
       (content_in s m n within)))
 
   -- a number is touched if it is dirty or has a working slot
@@ -192,17 +175,11 @@ module _ (s : Stored) (m : Memory) (left count : ℕ) (is : IsCache s m left cou
         (arith, lt, length-map-range_with_len (λ n. mark_at m.dirty n || is_kept (put_at s.working n)) 0 (length m.dirty)) in
         get_or-map-range_with_len (λ n. mark_at m.dirty n || is_kept (put_at s.working n)) 0 (length m.dirty) i i b within (omega arith)
         ∙ written_by i (mark_at m.dirty i) (mark_at m.touched i) refl refl
-        ∙ default_free m.touched i false b (omega (arith, within, is.dirty_marks, is.marks))))
-        ∙ sym is.counted;
+        ∙ get_or_default m.touched i false b (omega (arith, within, is.dirty_marks, is.marks)))) ∙ sym is.counted;
     torn = λ n broken. torn_by n (mark_at m.dirty n) (mark_at m.touched n) refl refl broken;
     few = let fewer = fewer_of m.dirty m.touched is.marked in omega (arith, fewer, is.counted);
     within = omega arith;
   }
-    where
-      default_free : (ts : List Bool) (i : ℕ) (a b : Bool) → i < length ts → slice_index_or ts i a ≡ slice_index_or ts i b
-      default_free [] i a b within = absurd (omega (arith, within))
-      default_free (t ∷ ts) zero a b within = refl
-      default_free (t ∷ ts) (suc i) a b within = default_free ts i a b (omega (arith, within))
 
   pub begun_cache : IsCache begun now count 0
   begun_cache = record {
@@ -216,64 +193,55 @@ module _ (s : Stored) (m : Memory) (left count : ℕ) (is : IsCache s m left cou
     puts = length-replicate {A = Put} (length s.working) Absent ∙ is.puts;
     counted = sym (none_counted (length m.touched));
     within = omega arith;
-    marked = λ n dirty. absurd (true≢false (sym dirty ∙ none_marked (length m.pending) n));
-    clean = λ n clean touched. absurd (true≢false (sym touched ∙ none_marked (length m.touched) n));
-    unput = λ n untouched. none_put (length s.working) n;
+    marked = λ n dirty. absurd (true≢false (sym dirty ∙ alike (length m.pending) n false));
+    clean = λ n clean touched. absurd (true≢false (sym touched ∙ alike (length m.touched) n false));
+    unput = λ n untouched. alike (length s.working) n Absent;
     unwritten = λ n within untouched. present_same n ∙ sym (frozen_now n within);
     idle = λ gone. absurd (none-some (record { put = s.working; size = count }) (sym gone));
-    running = λ f f_is. subst (λ (g : FrozenPuts). AreFrozen g m.dirty count) (same_Some (record { put = s.working; size = count }) f f_is) begun_are;
+    running = λ f f_is. subst (λ g. AreFrozen g m.dirty count) (same_Some (record { put = s.working; size = count }) f f_is) begun_are;
     keepable = λ f f_is. subst (AreKeepable s.saved.geometry most) (sym begun_frozen) keepable;
     held = λ h h_is. absurd (true≢false (sym (is.held h h_is) ∙ is.idle none h.number));
     apart = λ n e at. elim (is.apart n e at) [
       | inl alone ↦ inl alone
       | inr pending ↦ absurd (true≢false (sym pending ∙ is.idle none n))
     ];
-    freed = λ n gone dirty free. inr (ap (λ (h : ObjectHeader). h.role) (sym (same_headers n dirty)) ∙ free);
+    freed = λ n gone dirty free. inr (ap (λ h. h.role) (sym (same_headers n dirty)) ∙ free);
   }
 
 -- the same by what is seen
-module _ {D : Type 0} (disk : D → Disk) (d : DurableState D) (m : Memory) (left count : ℕ) (order : List ℕ) (most_entries : ℕ) (s : StoreState D)
+module _ {D : Type 0} (disk : D → Disk) {d : DurableState D} {m : Memory} {left count : ℕ} {order : List ℕ} {most_entries : ℕ} {s : StoreState D}
     (view : cache_of disk d m left order most_entries ≡ s) (is : IsCache (stored_of disk d) m left count) where
   -- as many slots are held as were written since
   pub freeze_enough : sum_of held_slot (stored_of disk d).working ≤ count
   freeze_enough = let few = held_touched (stored_of disk d).working m.touched (is.puts ∙ sym is.marks) is.unput in omega (arith, few, is.counted)
 
-  module _ (new : DurableState D) (none : (stored_of disk d).frozen ≡ None) (begun : stored_of disk new ≡ freezing_puts count (stored_of disk d))
+  module _ (new : DurableState D) (is_none : option_map left_of (stored_of disk d).frozen ≡ None)
+      (begun : stored_of disk new ≡ freezing_puts count (stored_of disk d))
       (fh : List ObjectHeader) (fh_count : length fh ≡ length m.frozen_headers)
       (same_headers : (n : ℕ) → mark_at m.dirty n ≡ true → header_at fh n ≡ header_at m.headers n)
       (keepable : AreKeepable (stored_of disk s.durable).saved.geometry most (frames_in s.headers s.contents)) where
+    none : (stored_of disk d).frozen ≡ None
+    none = none_of left_of (stored_of disk d).frozen is_none
+
     kept : AreKeepable (stored_of disk d).saved.geometry most (frames_in m.headers (contents_in (stored_of disk d) m))
-    kept = subst (λ (t : StoreState D). AreKeepable (stored_of disk t.durable).saved.geometry most (frames_in t.headers t.contents)) (sym view) keepable
+    kept = subst (λ t. AreKeepable (stored_of disk t.durable).saved.geometry most (frames_in t.headers t.contents)) (sym view) keepable
 
     pub freeze_stands : IsCache (stored_of disk new) (frozen_memory fh m) count 0
-    freeze_stands = subst (λ (t : Stored). IsCache t (frozen_memory fh m) count 0) (sym begun)
-        (begun_cache (stored_of disk d) m left count is none fh fh_count same_headers kept)
+    freeze_stands = subst (λ t. IsCache t (frozen_memory fh m) count 0) (sym begun) (begun_cache is none fh fh_count same_headers kept)
 
     pub freeze_contents : contents_in (stored_of disk new) (frozen_memory fh m) ≡ s.contents
-    freeze_contents =
-        ap (λ (t : Stored). contents_in t (frozen_memory fh m)) begun
-        ∙ begun_contents (stored_of disk d) m left count is none fh fh_count same_headers kept
-        ∙ ap (λ (t : StoreState D). t.contents) view
+    freeze_contents = ap (λ t. contents_in t (frozen_memory fh m)) begun ∙ begun_contents is none fh fh_count same_headers kept ∙ ap (λ t. t.contents) view
 
     pub freeze_touched : replicate (length m.touched) false ≡ untouched (stored_of disk s.durable).saved.geometry
     unfolding untouched
-    freeze_touched = ap (λ (k : ℕ). replicate k false) is.marks ∙
-        ap (λ (t : StoreState D). replicate (object_count (stored_of disk t.durable).saved.geometry) false) view
+    freeze_touched = ap (λ k. replicate k false) is.marks ∙ ap (λ t. replicate (object_count (stored_of disk t.durable).saved.geometry) false) view
 
     pub freeze_snapshots : snapshots_of disk (cache_of disk new (frozen_memory fh m) count order most_entries) ≡ freezing
         (all_frozen (frames_in s.headers s.contents) (touched_count s.touched)) (snapshots_of disk s)
     freeze_snapshots =
-        ap (λ (t : Stored). record { frozen = frozen_seen t (frozen_memory fh m) count; saved = t.saved; to_move = t.to_move }) begun
-        ∙ ap (λ (fs : List Frame).
-        record {
-          frozen = Some (record { frames = fs; size = count; left = count });
+        ap (λ t. record { frozen = frozen_seen t (frozen_memory fh m) count; saved = t.saved; to_move = t.to_move }) begun
+        ∙ (λ k. record {
+          frozen = Some (record { frames = begun_frozen is none fh fh_count same_headers kept k; size = is.counted k; left = is.counted k });
           saved = (stored_of disk d).saved;
           to_move = (stored_of disk d).to_move;
-        })
-        (begun_frozen (stored_of disk d) m left count is none fh fh_count same_headers kept)
-        ∙ ap (λ (k : ℕ). record {
-          frozen = Some (record { frames = frames_in m.headers (contents_in (stored_of disk d) m); size = k; left = k });
-          saved = (stored_of disk d).saved;
-          to_move = (stored_of disk d).to_move;
-        }) is.counted
-        ∙ ap (λ (t : StoreState D). freezing (all_frozen (frames_in t.headers t.contents) (touched_count t.touched)) (snapshots_of disk t)) view
+        }) ∙ ap (λ t. freezing (all_frozen (frames_in t.headers t.contents) (touched_count t.touched)) (snapshots_of disk t)) view

@@ -1,11 +1,12 @@
 -- What entries have of unwritten frozen frames, and which numbers have one, by the state.
 use Rattle.object_cache.proofs.Names.{inl, inr, ℕ, zero, suc, Bool, true, false, true≢false, List, [], length, set, take, Option, Some, None, IsSome, is_some}
-use Rattle.object_cache.proofs.Names.{option_map, refl, sym, ap, arith, length-set, slice_get, get_or_past, get_or-set_same, get_or-set_other}
-use Rattle.object_cache.proofs.Names.{length-map-range_with_len, cases_eq, cases_lt, none-some, same_Some, Cap, Content, is_member, Disk, DurableState}
-use Rattle.object_cache.proofs.Names.{stored_of, Entry, entry_at, kept_of, frozen_state_by, Memory, FrozenState, Nothing, Shared, Apart, mark_at, has_frozen}
-use Rattle.object_cache.proofs.Names.{is_shared, frozen_state_of, content_at, contents_in, AreOrdered, used_longest_ago, without, StoreState, IsCache}
-use Rattle.object_cache.proofs.Names.{IsFetchedIn, cache_of, frozen_state_at, cached_at, take_all, length_without, front_apart, front_stays, listed_member}
-use Rattle.std.proofs.Common.{◌≡◌, ◌≢◌, ◌-◌, ◌<◌, ◌≤◌, ◌∷◌, ◌∙◌}
+use Rattle.object_cache.proofs.Names.{option_map, refl, sym, ap, arith, slice_get, get_or_past, get_or-set_other, length-map-range_with_len, cases_eq, cases_lt}
+use Rattle.object_cache.proofs.Names.{none-some, same_Some, Cap, Content, is_member, Disk, DurableState, stored_of, Entry, entry_at, kept_of, frozen_state_by}
+use Rattle.object_cache.proofs.Names.{Memory, FrozenState, Nothing, Shared, Apart, mark_at, has_frozen, is_shared, frozen_state_of, content_at, contents_in}
+use Rattle.object_cache.proofs.Names.{AreOrdered, used_longest_ago, without, StoreState, IsCache, IsFetchedIn, cache_of, frozen_state_at, cached_at, take_all}
+use Rattle.object_cache.proofs.Names.{length_without, front_apart, front_stays, listed_member, on_device, without_cached, Result, Ok, Err, OnOk, OnErr, subst}
+use Rattle.std.proofs.Common.{◌≡◌, ◌≢◌, ◌+◌, ◌-◌, ◌<◌, ◌≤◌, ◌∷◌, ◌∙◌}
+use Rattle.object_cache.proofs.Marking.{set_there}
 use Rattle.object_cache.proofs.Objects.{cached_entry}
 use Rattle.object_cache.proofs.Caching.{frozen_state_entry}
 
@@ -31,15 +32,9 @@ nothing_apart o none same = nothing_shared (sym none ∙ same)
     nothing_shared : Nothing ≡ Shared → ⊥
     nothing_shared x = cc
 
-pub cached_gone : (ss : List Bool) (n : ℕ) → cached_at (set ss n false) n ≡ false
-cached_gone ss n = elim (cases_lt n (length ss)) [
-  | inl within ↦ get_or-set_same ss n false false within
-  | inr past ↦ get_or_past (set ss n false) n false (let size = length-set ss n false in omega (arith, size, past))
-]
-
 pub still_uncached : (ss : List Bool) (n k : ℕ) → cached_at ss k ≡ false → cached_at (set ss n false) k ≡ false
 still_uncached ss n k none = elim (cases_eq k n) [
-  | inl same ↦ ap (cached_at (set ss n false)) same ∙ cached_gone ss n
+  | inl same ↦ ap (cached_at (set ss n false)) same ∙ set_there ss n false
   | inr other ↦ get_or-set_other ss n k false false other ∙ none
 ]
 
@@ -47,14 +42,14 @@ pub same_some : {A B : Type 0} (f : A → B) (o : Option A) → is_some (option_
 same_some f None = refl
 same_some f (Some a) = refl
 
-module _ {D : Type 0} (disk : D → Disk) (d : DurableState D) (m : Memory) (left count : ℕ) (order : List ℕ) (most_entries : ℕ) (s : StoreState D)
+module _ {D : Type 0} (disk : D → Disk) {d : DurableState D} {m : Memory} {left count : ℕ} {order : List ℕ} {most_entries : ℕ} {s : StoreState D}
     (view : cache_of disk d m left order most_entries ≡ s) (is : IsCache (stored_of disk d) m left count) (n : ℕ) where
   module _ (known : n < length s.headers) where
     pub known_there : n < length m.headers
-    known_there = omega (arith, known, ap (λ (t : StoreState D). length t.headers) view)
+    known_there = omega (arith, known, ap (λ t. length t.headers) view)
 
     frozen_state_is : frozen_state_of (entry_at m.entries n) (mark_at m.pending n) (mark_at m.touched n) ≡ frozen_state_at s.frozen_state n
-    frozen_state_is = sym (frozen_state_entry m n known_there) ∙ ap (λ (t : StoreState D). frozen_state_at t.frozen_state n) view
+    frozen_state_is = sym (frozen_state_entry m n known_there) ∙ ap (λ t. frozen_state_at t.frozen_state n) view
 
     -- by whether its entry keeps a body apart
     pub frozen_state_with : (k : Option (Content Cap)) → option_map kept_of (entry_at m.entries n) ≡ Some k → (p b t : Bool) → p ≡ mark_at m.pending n →
@@ -62,17 +57,14 @@ module _ {D : Type 0} (disk : D → Disk) (d : DurableState D) (m : Memory) (lef
         t ≡ mark_at m.touched n →
         frozen_state_by p b t ≡ frozen_state_at s.frozen_state n
     frozen_state_with k kept p b t p_is b_is t_is =
-        ap (λ (x : Bool). frozen_state_by x b t) p_is
-        ∙ ap (λ (x : Bool). frozen_state_by (mark_at m.pending n) x t) b_is
-        ∙ ap (λ (x : Bool). frozen_state_by (mark_at m.pending n) (is_some k) x) t_is
-        ∙ go (entry_at m.entries n) kept
-        ∙ frozen_state_is
+        ap (λ x. frozen_state_by x b t) p_is
+        ∙ ap (λ x. frozen_state_by (mark_at m.pending n) x t) b_is
+        ∙ ap (λ x. frozen_state_by (mark_at m.pending n) (is_some k) x) t_is ∙ go (entry_at m.entries n) kept ∙ frozen_state_is
       where
         go : (o : Option Entry) → option_map kept_of o ≡ Some k → frozen_state_by (mark_at m.pending n) (is_some k) (mark_at m.touched n) ≡ frozen_state_of o
             (mark_at m.pending n) (mark_at m.touched n)
         go None is = absurd (none-some k is)
-        go (Some e) is = ap (λ (x : Option (Content Cap)). frozen_state_by (mark_at m.pending n) (is_some x) (mark_at m.touched n))
-            (sym (same_Some e.kept k is))
+        go (Some e) is = ap (λ x. frozen_state_by (mark_at m.pending n) (is_some x) (mark_at m.touched n)) (sym (same_Some e.kept k is))
 
     pub frozen_state_without : is_some (entry_at m.entries n) ≡ false → frozen_state_at s.frozen_state n ≡ Nothing
     frozen_state_without none = sym frozen_state_is ∙ go (entry_at m.entries n) none
@@ -88,12 +80,12 @@ module _ {D : Type 0} (disk : D → Disk) (d : DurableState D) (m : Memory) (lef
     pub fetched_by : IsSome (entry_at m.entries n) → IsFetchedIn s n
     fetched_by some = record {
       header = known;
-      content = omega (arith, known_there, contents_count, ap (λ (t : StoreState D). length t.contents) view);
-      cached = ap (λ (t : StoreState D). cached_at t.cached n) (sym view) ∙ cached_entry m.entries n ∙ some;
+      content = omega (arith, known_there, contents_count, ap (λ t. length t.contents) view);
+      cached = ap (λ t. cached_at t.cached n) (sym view) ∙ cached_entry m.entries n ∙ some;
     }
 
   pub uncached_by : is_some (entry_at m.entries n) ≡ false → cached_at s.cached n ≡ false
-  uncached_by none = ap (λ (t : StoreState D). cached_at t.cached n) (sym view) ∙ cached_entry m.entries n ∙ none
+  uncached_by none = ap (λ t. cached_at t.cached n) (sym view) ∙ cached_entry m.entries n ∙ none
 
 some_within : (es : List (Option Entry)) (n : ℕ) → IsSome (entry_at es n) → n < length es
 some_within es n is = elim (cases_lt n (length es)) [
@@ -101,12 +93,20 @@ some_within es n is = elim (cases_lt n (length es)) [
   | inr past ↦ absurd (true≢false (sym (sym (ap is_some (get_or_past es n None past)) ∙ is)))
 ]
 
--- the entry that was used longest ago
-module _ {D : Type 0} (disk : D → Disk) (d : DurableState D) (m : Memory) (left count : ℕ) (order : List ℕ) (most_entries : ℕ) (s : StoreState D)
+-- the entry that was used longest ago: the other entries stay without it
+pub record IsLeast {D : Type 0} (s : StoreState D) (n : ℕ) : Type 0 where
+  pub known : n < length s.headers
+  pub fetched : IsFetchedIn s n
+  pub room : length (without n s.order) < s.capacity
+  pub order : take 7 (without n s.order) ≡ take 7 s.order
+  pub rest : without n s.order ≡ take (s.capacity - 1) s.order
+  pub others : (k : ℕ) → is_member (take 7 s.order) k ≡ true → cached_at (set s.cached n false) k ≡ cached_at s.cached k
+
+module _ {D : Type 0} (disk : D → Disk) {d : DurableState D} {m : Memory} {left count : ℕ} {order : List ℕ} {most_entries : ℕ} {s : StoreState D}
     (view : cache_of disk d m left order most_entries ≡ s) (is : IsCache (stored_of disk d) m left count) (least : 8 ≤ most_entries)
     (ordered : AreOrdered (record { at = m.entries; order = order; most = most_entries })) (full : s.capacity ≤ length s.order) where
   long : 8 ≤ length order
-  long = omega (arith, least, full, ap (λ (t : StoreState D). t.capacity) view, ap (λ (t : StoreState D). length t.order) view)
+  long = omega (arith, least, full, ap (λ t. t.capacity) view, ap (λ t. length t.order) view)
 
   no_end : (ns : List ℕ) (i : ℕ) → i < length ns → slice_get ns i ≡ None → ⊥
   no_end [] i within none = omega (arith, within)
@@ -123,40 +123,56 @@ module _ {D : Type 0} (disk : D → Disk) (d : DurableState D) (m : Memory) (lef
     has_entry : IsSome (entry_at m.entries n)
     has_entry = sym (ordered.listed n) ∙ listed
 
-    pub least_known : n < length s.headers
-    least_known = omega (arith, some_within m.entries n has_entry, is.headers, is.entries, ap (λ (t : StoreState D). length t.headers) view)
-
-    pub least_fetched : IsFetchedIn s n
-    least_fetched = fetched_by disk d m left count order most_entries s view is n least_known has_entry
+    known : n < length s.headers
+    known = omega (arith, some_within m.entries n has_entry, is.headers, is.entries, ap (λ t. length t.headers) view)
 
     seen : s.order ≡ order
-    seen = ap (λ (t : StoreState D). t.order) (sym view)
+    seen = ap (λ t. t.order) (sym view)
 
-    pub least_room : length (without n s.order) < s.capacity
-    least_room = omega (
-      arith,
-      ap (λ (ns : List ℕ). length (without n ns)) seen,
-      length_without n order listed,
-      ordered.few,
-      ap (λ (t : StoreState D). t.capacity) view,
-    )
+    pub is_least : IsLeast s n
+    is_least =
+        let last : length order - 1 + 1 ≡ length order = omega (arith, long) in
+        let seven : 7 < length order = omega (arith, long) in
+        record {
+          known = known;
+          fetched = fetched_by disk view is n known has_entry;
+          room = omega (
+            arith,
+            ap (λ ns. length (without n ns)) seen,
+            length_without n order listed,
+            ordered.few,
+            ap (λ t. t.capacity) view,
+          );
+          order = ap (λ ns. take 7 (without n ns)) seen ∙ front_stays n order (length order - 1) 7 last ordered.once (sym at) seven ∙ ap (take 7) (sym seen);
+          rest =
+              ap (without n) seen
+              ∙ sym (take_all (length order - 1) (without n order) (omega (arith, length_without n order listed)))
+              ∙ front_stays n order (length order - 1) (length order - 1) last ordered.once (sym at) (omega arith)
+              ∙ ap (λ k. take k order) (omega (arith, full, ordered.few, ap (λ t. t.capacity) view, ap (λ ns. length ns) seen))
+              ∙ ap (take (s.capacity - 1)) (sym seen);
+          others = λ k recent. get_or-set_other s.cached n k false false
+              (front_apart n order (length order - 1) 7 k last ordered.once (sym at) seven (ap (λ ns. is_member (take 7 ns) k) (sym seen) ∙ recent));
+        }
 
-    pub least_order : take 7 (without n s.order) ≡ take 7 s.order
-    least_order =
-        ap (λ (ns : List ℕ). take 7 (without n ns)) seen
-        ∙ front_stays n order (length order - 1) 7 (omega (arith, long)) ordered.once (sym at) (omega (arith, long))
-        ∙ ap (take 7) (sym seen)
-
-    -- without it the rest stay, in their order
-    pub least_rest : without n s.order ≡ take (s.capacity - 1) s.order
-    least_rest =
-        ap (without n) seen
-        ∙ sym (take_all (length order - 1) (without n order) (omega (arith, length_without n order listed)))
-        ∙ front_stays n order (length order - 1) (length order - 1) (omega (arith, long)) ordered.once (sym at) (omega (arith, long))
-        ∙ ap (λ (k : ℕ). take k order) (omega (arith, full, ordered.few, ap (λ (t : StoreState D). t.capacity) view, ap (λ (ns : List ℕ). length ns) seen))
-        ∙ ap (take (s.capacity - 1)) (sym seen)
-
-    pub least_others : (k : ℕ) → is_member (take 7 s.order) k ≡ true → cached_at (set s.cached n false) k ≡ cached_at s.cached k
-    least_others k recent = get_or-set_other s.cached n k false false
-        (front_apart n order (length order - 1) 7 k (omega (arith, long)) ordered.once (sym at) (omega (arith, long))
-        (ap (λ (ns : List ℕ). is_member (take 7 ns) k) (sym seen) ∙ recent))
+-- and what is there once it was evicted, or wasn't
+pub evicted : {D T E : Type 0} (r : Result T E) (s u : StoreState D) (n : ℕ) → IsLeast s n → OnOk r (u ≡ without_cached n (on_device s u)) →
+    OnErr r (u ≡ on_device s u) →
+    OnOk r (length u.order < u.capacity) × ((k : ℕ) → cached_at s.cached k ≡ false → cached_at u.cached k ≡ false) ×
+    ((k : ℕ) → is_member (take 7 s.order) k ≡ true → cached_at u.cached k ≡ cached_at s.cached k) × (take 7 u.order ≡ take 7 s.order) ×
+    OnOk r (u.order ≡ take (s.capacity - 1) s.order) × OnErr r (u.order ≡ s.order)
+evicted {D} (Ok x) s u n least away stays = (
+  subst (λ t. length t.order < t.capacity) (sym away) least.room,
+  λ k none. ap (λ t. cached_at t.cached k) away ∙ still_uncached s.cached n k none,
+  λ k recent. ap (λ t. cached_at t.cached k) away ∙ least.others k recent,
+  ap (λ t. take 7 t.order) away ∙ least.order,
+  ap (λ t. t.order) away ∙ least.rest,
+  tt,
+)
+evicted {D} (Err e) s u n least away stays = (
+  tt,
+  λ k none. ap (λ t. cached_at t.cached k) stays ∙ none,
+  λ k recent. ap (λ t. cached_at t.cached k) stays,
+  ap (λ t. take 7 t.order) stays,
+  tt,
+  ap (λ t. t.order) stays,
+)

@@ -1,15 +1,16 @@
 -- What is saved goes home, or what is frozen is saved: no object changes.
-use Rattle.object_cache.proofs.Names.{inl, inr, ℕ, zero, suc, Bool, true, false, cond, List, [], length, map, Option, Some, None, option_map, Result, Ok, Err}
-use Rattle.object_cache.proofs.Names.{refl, sym, ap, subst, arith, count_by, slice_index_or, range_with_len, cases_lt, length-map, same_lists, get_or_past}
-use Rattle.object_cache.proofs.Names.{length-map-range_with_len, get_or-map-range_with_len, sum_by-cons, none-some, same_Some, Cap, Frame, Content, blank_frame}
-use Rattle.object_cache.proofs.Names.{frame_at, header_at, AreKeepable, Disk, Put, Absent, Broken, Kept, put_at, put_or, overlaid, kept_count, sum_of}
-use Rattle.object_cache.proofs.Names.{SavedFrames, LeavesEither, LeavesOneOf, home_saved, DurableState, MayCommit, committed, moved, next_saved, whole}
-use Rattle.object_cache.proofs.Names.{on_snapshots, puts, FrozenPuts, Stored, below_at, frozen_put, left_of, stored_of, maps_same, FrozenFrames, entry_at}
-use Rattle.object_cache.proofs.Names.{Memory, mark_at, in_staging, put_body, present_body, content_at, present_at, frozen_body, frozen_frame, frozen_at}
-use Rattle.object_cache.proofs.Names.{contents_in, frozen_in, StoreState, IsCache, snapshots_of, cache_of, frozen_seen, is_kept}
+use Rattle.object_cache.proofs.Names.{inl, inr, ℕ, Bool, true, false, cond, List, [], length, map, Option, Some, None, option_map, Result, Ok, Err, refl, sym}
+use Rattle.object_cache.proofs.Names.{ap, subst, arith, count_by, range_with_len, cases_lt, length-map, same_lists, get_or_past, length-map-range_with_len}
+use Rattle.object_cache.proofs.Names.{get_or-map-range_with_len, sum_by-cons, none-some, same_Some, blank_frame, frame_at, header_at, AreKeepable, Disk, Put}
+use Rattle.object_cache.proofs.Names.{Absent, Broken, Kept, put_at, put_or, overlaid, kept_count, sum_of, SavedFrames, LeavesEither, LeavesOneOf, home_saved}
+use Rattle.object_cache.proofs.Names.{DurableState, MayCommit, committed, moved, next_saved, whole, on_snapshots, puts, FrozenPuts, Stored, below_at}
+use Rattle.object_cache.proofs.Names.{frozen_put, left_of, stored_of, maps_same, FrozenFrames, entry_at, Memory, mark_at, in_staging, put_body, present_body}
+use Rattle.object_cache.proofs.Names.{content_at, present_at, frozen_body, frozen_frame, frozen_at, get_or-map, get_or_default, contents_in, frozen_in}
+use Rattle.object_cache.proofs.Names.{StoreState, IsCache, snapshots_of, cache_of, frozen_seen, is_kept}
 use Rattle.std.proofs.Common.{◌≡◌, ◌+◌, ◌-◌, ◌≤◌, ◌<◌, ◌||◌, ◌∷◌, ◌∙◌, OnOk, OnErr}
 use Rattle.std.specs.Prelude.{◌==◌}
-use Rattle.object_cache.proofs.Puts.{some_touched}
+use Rattle.object_cache.proofs.Leading.{IsSeenAs}
+use Rattle.object_cache.proofs.Marking.{one_fewer}
 
 -- ---- what is saved goes home
 
@@ -68,48 +69,34 @@ module _ (s : Stored) (m : Memory) where
   home_stands left count false k is = numbered_stands left count s.saved.generation s.saved.entries s.saved.age k is
 
 -- the same by what is seen
-module _ {D : Type 0} (disk : D → Disk) (d : DurableState D) (m : Memory) (left count : ℕ) (order : List ℕ) (most_entries : ℕ) (s : StoreState D)
-    (view : cache_of disk d m left order most_entries ≡ s) (is : IsCache (stored_of disk d) m left count) (new : DurableState D) where
-  home_seen : (b : Bool) (k : ℕ) → stored_of disk new ≡ stored_with (stored_of disk d) b k →
-      cache_of disk new m left order most_entries ≡ record s { durable = new }
-  home_seen b k put =
-      let old = cache_of disk d m left order most_entries in
-      ap (λ (t : Stored). record old { durable = new; contents = contents_in t m; frozen = frozen_seen t m left }) put
-      ∙ ap (λ (cs : List (Content Cap)). record old { durable = new; contents = cs; frozen = frozen_seen (stored_with (stored_of disk d) b k) m left })
-      (contents_home (stored_of disk d) m b k)
-      ∙ ap (λ (fs : List Frame). record
-      old { durable = new; frozen = option_map (λ (f : FrozenPuts). record { frames = fs; size = f.size; left = left }) (stored_of disk d).frozen })
-      (frozen_home (stored_of disk d) m b k)
-      ∙ ap (λ (t : StoreState D). record t { durable = new }) view
+module _ {D : Type 0} (disk : D → Disk) {d : DurableState D} {m : Memory} {left count : ℕ} {order : List ℕ} {most_entries : ℕ} {s : StoreState D}
+    (view : cache_of disk d m left order most_entries ≡ s) (is : IsCache (stored_of disk d) m left count) (new : DurableState D) (amount : ℕ) where
+  home_next : (b : Bool) (k : ℕ) → stored_of disk new ≡ stored_with (stored_of disk d) b k →
+      IsSeenAs disk new m left count order most_entries (record s { durable = new })
+  home_next b k put = record {
+    is = subst (λ t. IsCache t m left count) (sym put) (home_stands (stored_of disk d) m left count b k is);
+    view =
+        ap (λ t. record (cache_of disk d m left order most_entries) { durable = new; contents = contents_in t m; frozen = frozen_seen t m left }) put
+        ∙ (λ i. record (cache_of disk d m left order most_entries) {
+          durable = new;
+          contents = contents_home (stored_of disk d) m b k i;
+          frozen = option_map (λ f. record { frames = frozen_home (stored_of disk d) m b k i; size = f.size; left = left }) (stored_of disk d).frozen;
+        }) ∙ ap (λ (t : StoreState D). record t { durable = new }) view;
+  }
 
-  module _ (amount : ℕ) where
-    pub moved_stands : {T E : Type 0} (r : Result T E) → OnOk r (stored_of disk new ≡ on_snapshots (moved amount) (stored_of disk d)) →
-        OnErr r ((k : ℕ) × (k ≤ (stored_of disk d).to_move) × (stored_of disk new ≡ record (stored_of disk d) { to_move = k })) →
-        IsCache (stored_of disk new) m left count
-    moved_stands (Ok x) done left_over = subst (λ (t : Stored). IsCache t m left count) (sym done)
-        (home_stands (stored_of disk d) m left count ((stored_of disk d).to_move - amount == 0) ((stored_of disk d).to_move - amount) is)
-    moved_stands (Err e) done left_over = subst (λ (t : Stored). IsCache t m left count) (sym left_over.2)
-        (home_stands (stored_of disk d) m left count false left_over.0 is)
-
-    pub moved_seen : {T E : Type 0} (r : Result T E) → OnOk r (stored_of disk new ≡ on_snapshots (moved amount) (stored_of disk d)) →
-        OnErr r ((k : ℕ) × (k ≤ (stored_of disk d).to_move) × (stored_of disk new ≡ record (stored_of disk d) { to_move = k })) →
-        cache_of disk new m left order most_entries ≡ record s { durable = new }
-    moved_seen (Ok x) done left_over = home_seen ((stored_of disk d).to_move - amount == 0) ((stored_of disk d).to_move - amount) done
-    moved_seen (Err e) done left_over = home_seen false left_over.0 left_over.2
-
-    pub moved_snapshots : {T E : Type 0} (r : Result T E) → OnOk r (stored_of disk new ≡ on_snapshots (moved amount) (stored_of disk d)) →
-        OnOk r (snapshots_of disk (record s { durable = new }) ≡ moved amount (snapshots_of disk s))
-    moved_snapshots (Ok x) done =
-        ap (λ (t : Stored). record { frozen = s.frozen; saved = t.saved; to_move = t.to_move }) done
-        ∙ ap (λ (t : StoreState D). moved amount
-        (record { frozen = s.frozen; saved = (stored_of disk t.durable).saved; to_move = (stored_of disk t.durable).to_move })) view
-    moved_snapshots (Err e) done = tt
-
-    pub moved_then : {T E : Type 0} (r : Result T E) → OnOk r (stored_of disk new ≡ on_snapshots (moved amount) (stored_of disk d)) →
-        OnErr r ((k : ℕ) × (k ≤ (stored_of disk d).to_move) × (stored_of disk new ≡ record (stored_of disk d) { to_move = k })) →
-        OnOk r (snapshots_of disk (cache_of disk new m left order most_entries) ≡ moved amount (snapshots_of disk s))
-    moved_then r done left_over = subst (λ (t : StoreState D). OnOk r (snapshots_of disk t ≡ moved amount (snapshots_of disk s)))
-        (sym (moved_seen r done left_over)) (moved_snapshots r done)
+  pub moved_next : {T E : Type 0} (r : Result T E) → OnOk r (stored_of disk new ≡ on_snapshots (moved amount) (stored_of disk d)) →
+      OnErr r ((k : ℕ) × (k ≤ (stored_of disk d).to_move) × (stored_of disk new ≡ record (stored_of disk d) { to_move = k })) →
+      IsSeenAs disk new m left count order most_entries (record s { durable = new }) ×
+      OnOk r (snapshots_of disk (cache_of disk new m left order most_entries) ≡ moved amount (snapshots_of disk s))
+  moved_next (Ok x) done left_over =
+      let now = home_next ((stored_of disk d).to_move - amount == 0) ((stored_of disk d).to_move - amount) done in (
+        now,
+        ap (snapshots_of disk) now.view
+            ∙ ap (λ t. record { frozen = s.frozen; saved = t.saved; to_move = t.to_move }) done
+            ∙ ap (λ t. moved amount
+            (record { frozen = s.frozen; saved = (stored_of disk t.durable).saved; to_move = (stored_of disk t.durable).to_move })) view,
+      )
+  moved_next (Err e) done left_over = (home_next false left_over.0 left_over.2, tt)
 
 -- ---- what is frozen is saved
 
@@ -124,10 +111,10 @@ not_marked : (ts : List Bool) (n : ℕ) → count_by (λ b. b) ts ≡ 0 → mark
 not_marked ts n none = go (mark_at ts n) refl
   where
     go : (b : Bool) → mark_at ts n ≡ b → b ≡ false
-    go true at = let some = some_touched ts n at in absurd (omega (arith, none, some))
+    go true at = let some = one_fewer ts n at in absurd (omega (arith, none, some))
     go false at = refl
 
-module _ (s : Stored) (m : Memory) (count : ℕ) (is : IsCache s m 0 count) (f : FrozenPuts) (f_is : s.frozen ≡ Some f) where
+module _ {s : Stored} {m : Memory} {count : ℕ} (is : IsCache s m 0 count) (f : FrozenPuts) (f_is : s.frozen ≡ Some f) where
   pub none_pending : (n : ℕ) → mark_at m.pending n ≡ false
   none_pending n = let few = (is.running f f_is).few in not_marked m.pending n (omega (arith, few))
 
@@ -141,25 +128,21 @@ module _ (s : Stored) (m : Memory) (count : ℕ) (is : IsCache s m 0 count) (f :
       let inside : i < length m.pending = omega
       (arith, lt, length-map-range_with_len (λ n. mark_at m.pending n || is_kept (put_at f.put n)) 0 (length m.pending)) in
       get_or-map-range_with_len (λ n. mark_at m.pending n || is_kept (put_at f.put n)) 0 (length m.pending) i i b inside (omega arith)
-      ∙ ap (λ (p : Bool). p || is_kept (put_at f.put i)) (none_pending i)
-      ∙ sym (kept_get f.put i b (omega (arith, inside, are.each)))) in
+      ∙ ap (λ p. p || is_kept (put_at f.put i)) (none_pending i)
+      ∙ sym (get_or_default (map is_kept f.put) i b false (omega (arith, inside, are.each, length-map f.put is_kept))
+      ∙ get_or-map is_kept f.put i Absent)) in
       let counted = sym (ap (count_by (λ b. b)) same) ∙ are.size in
       omega (arith, counted, kept_marks f.put)
-    where
-      kept_get : (ps : List Put) (i : ℕ) (b : Bool) → i < length ps → slice_index_or (map is_kept ps) i b ≡ is_kept (put_at ps i)
-      kept_get [] i b within = absurd (omega (arith, within))
-      kept_get (p ∷ ps) zero b within = refl
-      kept_get (p ∷ ps) (suc i) b within = kept_get ps i b (omega (arith, within))
 
   -- what is frozen is what was put, over what is saved
   pub frozen_overlaid : frozen_in s m ≡ overlaid f.put s.saved.frames
   unfolding frozen_in overlaid
   frozen_overlaid =
-      ap (λ (k : ℕ). map (frozen_at s m) (range_with_len 0 k)) (is.headers ∙ sym is.frames)
+      ap (λ k. map (frozen_at s m) (range_with_len 0 k)) (is.headers ∙ sym is.frames)
       ∙ maps_same (frozen_at s m) (λ n. put_or (put_at f.put n) (frame_at s.saved.frames n)) (length s.saved.frames) (λ n below.
-      ap (λ (p : Bool). frozen_frame p (header_at m.frozen_headers n)
+      ap (λ p. frozen_frame p (header_at m.frozen_headers n)
       (frozen_body (entry_at m.entries n) (mark_at m.touched n) (in_staging m.staging n (below_at s n).content)) (below_at s n)) (none_pending n)
-      ∙ ap (λ (o : Option FrozenPuts). put_or (frozen_put o n) (frame_at s.saved.frames n)) f_is)
+      ∙ ap (λ o. put_or (frozen_put o n) (frame_at s.saved.frames n)) f_is)
 
   module _ (age : ℕ) where
     abbrev after : Stored
@@ -174,24 +157,24 @@ module _ (s : Stored) (m : Memory) (count : ℕ) (is : IsCache s m 0 count) (f :
     below_stays n = elim (cases_lt n (length s.saved.frames)) [
       | inl lt ↦
           get_or-map-range_with_len (λ i. put_or (put_at f.put i) (frame_at s.saved.frames i)) 0 (length s.saved.frames) n n blank_frame lt (omega arith)
-          ∙ sym (ap (λ (o : Option FrozenPuts). put_or (frozen_put o n) (frame_at s.saved.frames n)) f_is)
+          ∙ sym (ap (λ o. put_or (frozen_put o n) (frame_at s.saved.frames n)) f_is)
       | inr past ↦
           get_or_past (overlaid f.put s.saved.frames) n blank_frame (omega (arith, past, length_over))
-          ∙ sym (ap (λ (o : Option FrozenPuts). put_or (frozen_put o n) (frame_at s.saved.frames n)) f_is
-          ∙ ap (λ (p : Put). put_or p (frame_at s.saved.frames n))
+          ∙ sym (ap (λ o. put_or (frozen_put o n) (frame_at s.saved.frames n)) f_is
+          ∙ ap (λ p. put_or p (frame_at s.saved.frames n))
           (get_or_past f.put n Absent (omega (arith, past, is.frames, is.pending_marks, (is.running f f_is).each)))
           ∙ get_or_past s.saved.frames n blank_frame past)
     ]
 
     content_stays : (n : ℕ) → content_at after m n ≡ content_at s m n
-    content_stays n = ap (λ (g : Frame). present_body (entry_at m.entries n) (header_at m.headers n).role
+    content_stays n = ap (λ g. present_body (entry_at m.entries n) (header_at m.headers n).role
         (put_body (put_at s.working n) (in_staging m.staging n g.content))) (below_stays n)
 
     present_stays : (n : ℕ) → present_at after m n ≡ present_at s m n
-    present_stays n = ap (λ (c : Content Cap). record { header = header_at m.headers n; content = c }) (content_stays n)
+    present_stays n = ap (λ c. record { header = header_at m.headers n; content = c }) (content_stays n)
 
     frozen_stays : (n : ℕ) → frozen_at after m n ≡ frozen_at s m n
-    frozen_stays n = ap (λ (g : Frame). frozen_frame (mark_at m.pending n) (header_at m.frozen_headers n)
+    frozen_stays n = ap (λ g. frozen_frame (mark_at m.pending n) (header_at m.frozen_headers n)
         (frozen_body (entry_at m.entries n) (mark_at m.touched n) (in_staging m.staging n g.content)) g) (below_stays n)
 
     pub contents_saved : contents_in after m ≡ contents_in s m
@@ -223,38 +206,38 @@ module _ (s : Stored) (m : Memory) (count : ℕ) (is : IsCache s m 0 count) (f :
     }
 
 -- the same by what is seen
-module _ {D : Type 0} (disk : D → Disk) (d : DurableState D) (m : Memory) (left count : ℕ) (order : List ℕ) (most_entries : ℕ) (s : StoreState D)
+module _ {D : Type 0} (disk : D → Disk) {d : DurableState D} {m : Memory} {left count : ℕ} {order : List ℕ} {most_entries : ℕ} {s : StoreState D}
     (view : cache_of disk d m left order most_entries ≡ s) (is : IsCache (stored_of disk d) m left count) (f : FrozenFrames) (running : s.frozen ≡ Some f)
     (stable : f.left ≡ 0) where
   found : (h : FrozenPuts) × ((stored_of disk d).frozen ≡ Some h) × (record { frames = frozen_in (stored_of disk d) m; size = h.size; left = left } ≡ f)
-  found = go (stored_of disk d).frozen refl (ap (λ (t : StoreState D). t.frozen) view ∙ running)
+  found = go (stored_of disk d).frozen refl (ap (λ t. t.frozen) view ∙ running)
     where
       go : (o : Option FrozenPuts) → (stored_of disk d).frozen ≡ o →
-          option_map (λ (h : FrozenPuts). record { frames = frozen_in (stored_of disk d) m; size = h.size; left = left }) o ≡ Some f →
+          option_map (λ h. record { frames = frozen_in (stored_of disk d) m; size = h.size; left = left }) o ≡ Some f →
           (h : FrozenPuts) × ((stored_of disk d).frozen ≡ Some h) × (record { frames = frozen_in (stored_of disk d) m; size = h.size; left = left } ≡ f)
       go None at some = absurd (none-some f some)
       go (Some h) at some = (h, at, same_Some (record { frames = frozen_in (stored_of disk d) m; size = h.size; left = left }) f some)
 
   none_left : left ≡ 0
-  none_left = ap (λ (g : FrozenFrames). g.left) found.2 ∙ stable
+  none_left = ap (λ g. g.left) found.2 ∙ stable
 
   stands_here : IsCache (stored_of disk d) m 0 count
-  stands_here = subst (λ (k : ℕ). IsCache (stored_of disk d) m k count) none_left is
+  stands_here = subst (λ k. IsCache (stored_of disk d) m k count) none_left is
 
   frames_are : frozen_in (stored_of disk d) m ≡ f.frames
-  frames_are = ap (λ (g : FrozenFrames). g.frames) found.2
+  frames_are = ap (λ g. g.frames) found.2
 
   the_same : (h : FrozenPuts) → (stored_of disk d).frozen ≡ Some h → found.0 ≡ h
   the_same h at = same_Some found.0 h (sym found.1 ∙ at)
 
   overlaid_are : (h : FrozenPuts) → (stored_of disk d).frozen ≡ Some h → overlaid h.put (stored_of disk d).saved.frames ≡ f.frames
-  overlaid_are h at = sym (frozen_overlaid (stored_of disk d) m count stands_here h at) ∙ frames_are
+  overlaid_are h at = sym (frozen_overlaid stands_here h at) ∙ frames_are
 
   saved_here : (stored_of disk d).saved ≡ (stored_of disk s.durable).saved
-  saved_here = ap (λ (t : StoreState D). (stored_of disk t.durable).saved) view
+  saved_here = ap (λ t. (stored_of disk t.durable).saved) view
 
   pub save_left : option_map left_of (stored_of disk d).frozen ≡ Some 0
-  save_left = ap (option_map left_of) found.1 ∙ ap Some (all_put (stored_of disk d) m count stands_here found.0 found.1)
+  save_left = ap (option_map left_of) found.1 ∙ ap Some (all_put stands_here found.0 found.1)
 
   module _ (age : ℕ) where
     pub save_ready : MayCommit whole age f (stored_of disk s.durable).saved → (h : FrozenPuts) → (stored_of disk d).frozen ≡ Some h →
@@ -270,71 +253,52 @@ module _ {D : Type 0} (disk : D → Disk) (d : DurableState D) (m : Memory) (lef
     next_are : (h : FrozenPuts) → (stored_of disk d).frozen ≡ Some h → next_saved puts age h (stored_of disk d).saved ≡ next_saved whole age f
         (stored_of disk s.durable).saved
     next_are h at =
-        ap (λ (fs : List Frame).
-        record {
+        let size = ap (λ g. g.size) (sym (the_same h at)) ∙ ap (λ g. g.size) found.2 in
+        (λ k. record {
           geometry = (stored_of disk d).saved.geometry;
-          frames = fs;
+          frames = overlaid_are h at k;
           generation = (stored_of disk d).saved.generation + 1;
-          entries = h.size;
+          entries = size k;
           age = age;
-        }) (overlaid_are h at)
-        ∙ ap (λ (k : ℕ). record {
-          geometry = (stored_of disk d).saved.geometry;
-          frames = f.frames;
-          generation = (stored_of disk d).saved.generation + 1;
-          entries = k;
-          age = age;
-        })
-        (ap (λ (g : FrozenPuts). g.size) (sym (the_same h at)) ∙ ap (λ (g : FrozenFrames). g.size) found.2)
-        ∙ ap (next_saved whole age f) saved_here
+        }) ∙ ap (next_saved whole age f) saved_here
 
     pub save_moments : (old new : Disk) →
-        LeavesOneOf old new (stored_of disk d).saved (option_map (λ (h : FrozenPuts). next_saved puts age h (stored_of disk d).saved) (stored_of disk d).frozen)
+        LeavesOneOf old new (stored_of disk d).saved (option_map (λ h. next_saved puts age h (stored_of disk d).saved) (stored_of disk d).frozen)
         →
         LeavesEither old new (stored_of disk s.durable).saved (next_saved whole age f (stored_of disk s.durable).saved)
     save_moments old new moments =
-        subst (λ (next : SavedFrames). LeavesEither old new (stored_of disk s.durable).saved next) (next_are found.0 found.1)
-        (subst (λ (saved : SavedFrames). LeavesEither old new saved (next_saved puts age found.0 (stored_of disk d).saved)) saved_here
-        (subst (λ (o : Option FrozenPuts). LeavesOneOf old new (stored_of disk d).saved
-        (option_map (λ (h : FrozenPuts). next_saved puts age h (stored_of disk d).saved) o)) found.1 moments))
+        subst (λ next. LeavesEither old new (stored_of disk s.durable).saved next) (next_are found.0 found.1)
+        (subst (λ saved. LeavesEither old new saved (next_saved puts age found.0 (stored_of disk d).saved)) saved_here
+        (subst (λ o. LeavesOneOf old new (stored_of disk d).saved (option_map (λ h. next_saved puts age h (stored_of disk d).saved) o)) found.1 moments))
 
-    module _ (new : DurableState D) where
-      pub save_stands : {T E : Type 0} (r : Result T E) →
-          ((h : FrozenPuts) → (stored_of disk d).frozen ≡ Some h → OnOk r (stored_of disk new ≡ on_snapshots (committed puts age h) (stored_of disk d))) →
-          OnErr r (stored_of disk new ≡ stored_of disk d) → IsCache (stored_of disk new) m left count
-      save_stands (Ok x) done undone = subst (λ (t : Stored). IsCache t m left count) (sym (done found.0 found.1))
-          (subst (λ (k : ℕ). IsCache (on_snapshots (committed puts age found.0) (stored_of disk d)) m k count) (sym none_left)
-          (saved_stands (stored_of disk d) m count stands_here found.0 found.1 age))
-      save_stands (Err e) done undone = subst (λ (t : Stored). IsCache t m left count) (sym undone) is
-
-      pub save_contents : {T E : Type 0} (r : Result T E) →
-          ((h : FrozenPuts) → (stored_of disk d).frozen ≡ Some h → OnOk r (stored_of disk new ≡ on_snapshots (committed puts age h) (stored_of disk d))) →
-          OnErr r (stored_of disk new ≡ stored_of disk d) → contents_in (stored_of disk new) m ≡ s.contents
-      save_contents (Ok x) done undone =
-          ap (λ (t : Stored). contents_in t m) (done found.0 found.1)
-          ∙ contents_saved (stored_of disk d) m count stands_here found.0 found.1 age
-          ∙ ap (λ (t : StoreState D). t.contents) view
-      save_contents (Err e) done undone = ap (λ (t : Stored). contents_in t m) undone ∙ ap (λ (t : StoreState D). t.contents) view
-
-      pub save_rest : contents_in (stored_of disk new) m ≡ s.contents →
-          cache_of disk new m left order most_entries ≡ record s { durable = new; frozen = frozen_seen (stored_of disk new) m left }
-      save_rest contents =
-          let old = cache_of disk d m left order most_entries in
-          ap (λ (cs : List (Content Cap)). record old { durable = new; contents = cs; frozen = frozen_seen (stored_of disk new) m left }) contents
-          ∙ ap (λ (t : StoreState D). record t { durable = new; contents = s.contents; frozen = frozen_seen (stored_of disk new) m left }) view
-
-      pub save_snapshots : {T E : Type 0} (r : Result T E) →
-          ((h : FrozenPuts) → (stored_of disk d).frozen ≡ Some h → OnOk r (stored_of disk new ≡ on_snapshots (committed puts age h) (stored_of disk d))) →
-          OnOk r (snapshots_of disk (cache_of disk new m left order most_entries) ≡ committed whole age f (snapshots_of disk s))
-      save_snapshots (Ok x) done =
-          ap (λ (t : Stored). record { frozen = frozen_seen t m left; saved = t.saved; to_move = t.to_move }) (done found.0 found.1)
-          ∙ ap (λ (saved : SavedFrames). record { frozen = None; saved = saved; to_move = found.0.size }) (next_are found.0 found.1)
-          ∙ ap (λ (g : FrozenFrames). record { frozen = None; saved = next_saved whole age f (stored_of disk s.durable).saved; to_move = g.size }) found.2
-      save_snapshots (Err e) done = tt
+    pub save_next : (new : DurableState D) {T E : Type 0} (r : Result T E) →
+        ((h : FrozenPuts) → (stored_of disk d).frozen ≡ Some h → OnOk r (stored_of disk new ≡ on_snapshots (committed puts age h) (stored_of disk d))) →
+        OnErr r (stored_of disk new ≡ stored_of disk d) →
+        IsSeenAs disk new m left count order most_entries (record s { durable = new; frozen = frozen_seen (stored_of disk new) m left }) ×
+        OnOk r (snapshots_of disk (cache_of disk new m left order most_entries) ≡ committed whole age f (snapshots_of disk s))
+    save_next new (Ok x) done undone =
+        let now = done found.0 found.1 in
+        let contents = ap (λ t. contents_in t m) now ∙ contents_saved stands_here found.0 found.1 age ∙ ap (λ t. t.contents) view in (
+          record {
+            is = subst (λ t. IsCache t m left count) (sym now)
+                (subst (λ k. IsCache (on_snapshots (committed puts age found.0) (stored_of disk d)) m k count) (sym none_left)
+                (saved_stands stands_here found.0 found.1 age));
+            view = λ k. record (view k) { durable = new; contents = contents k; frozen = frozen_seen (stored_of disk new) m left };
+          },
+          ap (λ t. record { frozen = frozen_seen t m left; saved = t.saved; to_move = t.to_move }) now
+              ∙ (λ k. record { frozen = None; saved = next_are found.0 found.1 k; to_move = (found.2 k).size }),
+        )
+    save_next new (Err e) done undone =
+        let contents = ap (λ t. contents_in t m) undone ∙ ap (λ t. t.contents) view in (
+          record {
+            is = subst (λ t. IsCache t m left count) (sym undone) is;
+            view = λ k. record (view k) { durable = new; contents = contents k; frozen = frozen_seen (stored_of disk new) m left };
+          },
+          tt,
+        )
 
 -- a checkpoint with no frame left to write may be committed where each may be
-pub ready_of : (o : Option FrozenFrames) (saved : SavedFrames) (age k : ℕ) → option_map (λ (f : FrozenFrames). f.left) o ≡ Some k → k ≡ 0 →
-    ((f : FrozenFrames) → o ≡ Some f → MayCommit whole age f saved) →
-    (f : FrozenFrames) × (o ≡ Some f) × (f.left ≡ 0) × MayCommit whole age f saved
+pub ready_of : (o : Option FrozenFrames) (saved : SavedFrames) (age k : ℕ) → option_map (λ f. f.left) o ≡ Some k → k ≡ 0 →
+    ((f : FrozenFrames) → o ≡ Some f → MayCommit whole age f saved) → (f : FrozenFrames) × (o ≡ Some f) × (f.left ≡ 0) × MayCommit whole age f saved
 ready_of None saved age k is none may = absurd (none-some k is)
 ready_of (Some f) saved age k is none may = (f, refl, same_Some f.left k is ∙ none, may f refl)

@@ -1,9 +1,9 @@
 -- A page is journaled: no object changes, and what is saved of the page has the words that it has now.
 use Rattle.object_cache.proofs.Names.{inl, inr, ℕ, Bool, true, false, List, length, set, length-set, Option, Some, None, option_map, Result, Ok, Err, refl, sym}
-use Rattle.object_cache.proofs.Names.{ap, subst, arith, cases_eq, get_or-set_same, get_or-set_other, none-some, Cap, Frame, ObjectHeader, Content, Role}
-use Rattle.object_cache.proofs.Names.{blank_frame, frame_at, frames_in, header_at, held_at, AreKeepable, is_page, role_of, words_in, object_count, Image, Disk}
-use Rattle.object_cache.proofs.Names.{LeavesOnly, leaves_on, leaves_weaker, Body, Scratch, content_of, frame_of, Put, Absent, Broken, Kept, put_at, put_or}
-use Rattle.object_cache.proofs.Names.{most, SavedFrames, Holds, LeavesEither, LeavesOneOf, journaled_saved, with_words, Snapshots, journaled, on_snapshots}
+use Rattle.object_cache.proofs.Names.{ap, subst, arith, cases_eq, get_or-set_same, get_or-set_other, none-some, Cap, Frame, ObjectHeader, Content, blank_frame}
+use Rattle.object_cache.proofs.Names.{frame_at, frames_in, header_at, held_at, AreKeepable, is_page, role_of, words_in, object_count, Image, Disk, LeavesOnly}
+use Rattle.object_cache.proofs.Names.{leaves_on, leaves_weaker, Body, Scratch, content_of, frame_of, Put, Absent, Broken, Kept, put_at, put_or, most}
+use Rattle.object_cache.proofs.Names.{SavedFrames, Holds, LeavesEither, LeavesOneOf, journaled_saved, with_words, Snapshots, journaled, on_snapshots}
 use Rattle.object_cache.proofs.Names.{DurableState, FrozenPuts, Stored, below_at, ReadsStore, frozen_put, is_sound, left_of, stored_of, maps_same, frame_in}
 use Rattle.object_cache.proofs.Names.{is_page_role, next_journaled, FrozenFrames, page_is, role_is_page, content_is_page, known_page, next_same, Entry}
 use Rattle.object_cache.proofs.Names.{entry_at, entry_body, held_now, Memory, mark_at, masked, in_staging, put_body, newest_body, below_body, present_body}
@@ -16,6 +16,7 @@ use Rattle.layout.specs.declared.body.Body.TheVariants as body
 use Rattle.model.specs.declared.answer.Refusal.TheVariants as refusal
 use Rattle.object_store.specs.Journal as journal
 use Rattle.object_cache.proofs.Freezing.{none_of, put_or_body}
+use Rattle.object_cache.proofs.Leading.{IsSeenAs}
 use Rattle.object_cache.proofs.Objects.{content_in}
 use Rattle.object_cache.proofs.Caching.{no_staging}
 
@@ -23,7 +24,7 @@ as_page : (o : Option Entry) (c : Content Cap) → present_body o role.Page c �
 as_page None c = refl
 as_page (Some e) c = refl
 
-module _ (s : Stored) (m : Memory) (left count : ℕ) (is : IsCache s m left count) (none : s.frozen ≡ None) (n : ℕ)
+module _ {s : Stored} {m : Memory} {left count : ℕ} (is : IsCache s m left count) (none : s.frozen ≡ None) (n : ℕ)
     (role_is : (header_at m.headers n).role ≡ role.Page) where
   staging_none : (k : ℕ) (c : Content Cap) → in_staging m.staging k c ≡ c
   staging_none k c = no_staging m.staging m.pending is.held k c (is.idle none k)
@@ -31,9 +32,9 @@ module _ (s : Stored) (m : Memory) (left count : ℕ) (is : IsCache s m left cou
   -- what it holds now
   pub page_held : content_at s m n ≡ held_now m.entries s n
   page_held =
-      ap (λ (r : Role). present_body (entry_at m.entries n) r (newest_body s m n)) role_is
+      ap (λ r. present_body (entry_at m.entries n) r (newest_body s m n)) role_is
       ∙ as_page (entry_at m.entries n) (newest_body s m n)
-      ∙ ap (λ (c : Content Cap). entry_body (entry_at m.entries n) (put_body (put_at s.working n) c)) (staging_none n (below_at s n).content)
+      ∙ ap (λ c. entry_body (entry_at m.entries n) (put_body (put_at s.working n) c)) (staging_none n (below_at s n).content)
       ∙ ap (entry_body (entry_at m.entries n)) (sym (put_or_body (put_at s.working n) (below_at s n)))
 
   module _ (age : ℕ) (holds : is_page (content_at s m n) ≡ true) where
@@ -50,10 +51,10 @@ module _ (s : Stored) (m : Memory) (left count : ℕ) (is : IsCache s m left cou
     within = let known = known_page m.headers n role_is in omega (arith, known, is.headers, is.frames)
 
     below_was : (k : ℕ) → below_at s k ≡ frame_at s.saved.frames k
-    below_was k = ap (λ (o : Option FrozenPuts). put_or (frozen_put o k) (frame_at s.saved.frames k)) none
+    below_was k = ap (λ o. put_or (frozen_put o k) (frame_at s.saved.frames k)) none
 
     below_now : (k : ℕ) → below_at after k ≡ frame_at (set s.saved.frames n page) k
-    below_now k = ap (λ (o : Option FrozenPuts). put_or (frozen_put o k) (frame_at (set s.saved.frames n page) k)) none
+    below_now k = ap (λ o. put_or (frozen_put o k) (frame_at (set s.saved.frames n page) k)) none
 
     below_other : (k : ℕ) → k ≢ n → below_at after k ≡ below_at s k
     below_other k other = below_now k ∙ get_or-set_other s.saved.frames n k page blank_frame other ∙ sym (below_was k)
@@ -63,25 +64,24 @@ module _ (s : Stored) (m : Memory) (left count : ℕ) (is : IsCache s m left cou
 
     -- the body that lies below is that of the page now
     body_here : in_staging m.staging n (below_at after n).content ≡ content_at s m n
-    body_here = staging_none n (below_at after n).content ∙ ap (λ (f : Frame). f.content) below_here ∙ sym (page_is (content_at s m n) holds)
+    body_here = staging_none n (below_at after n).content ∙ ap (λ f. f.content) below_here ∙ sym (page_is (content_at s m n) holds)
 
     masked_here : masked (header_at m.headers n).role (content_at s m n) ≡ content_at s m n
-    masked_here = ap (λ (r : Role). masked r (content_at s m n)) role_is
+    masked_here = ap (λ r. masked r (content_at s m n)) role_is
 
     fresh : (p : Put) → entry_at m.entries n ≡ None → put_at s.working n ≡ p → ((c : Content Cap) → put_body p c ≡ c) → content_at after m n ≡ content_at s m n
     fresh p at put bare =
-        ap (λ (o : Option Entry). present_body o (header_at m.headers n).role (newest_body after m n)) at
-        ∙ ap (λ (q : Put). masked (header_at m.headers n).role (put_body q (below_body after m n))) put
-        ∙ ap (masked (header_at m.headers n).role) (bare (below_body after m n) ∙ body_here)
-        ∙ masked_here
+        ap (λ o. present_body o (header_at m.headers n).role (newest_body after m n)) at
+        ∙ ap (λ q. masked (header_at m.headers n).role (put_body q (below_body after m n))) put
+        ∙ ap (masked (header_at m.headers n).role) (bare (below_body after m n) ∙ body_here) ∙ masked_here
 
     here_by : (o : Option Entry) (p : Put) → entry_at m.entries n ≡ o → put_at s.working n ≡ p → content_at after m n ≡ content_at s m n
     here_by (Some e) p at put =
-        ap (λ (o : Option Entry). present_body o (header_at m.headers n).role (newest_body after m n)) at
-        ∙ sym (ap (λ (o : Option Entry). present_body o (header_at m.headers n).role (newest_body s m n)) at)
+        ap (λ o. present_body o (header_at m.headers n).role (newest_body after m n)) at
+        ∙ sym (ap (λ o. present_body o (header_at m.headers n).role (newest_body s m n)) at)
     here_by None (Kept f) at put =
-        ap (λ (q : Put). present_body (entry_at m.entries n) (header_at m.headers n).role (put_body q (below_body after m n))) put
-        ∙ sym (ap (λ (q : Put). present_body (entry_at m.entries n) (header_at m.headers n).role (put_body q (below_body s m n))) put)
+        ap (λ q. present_body (entry_at m.entries n) (header_at m.headers n).role (put_body q (below_body after m n))) put
+        ∙ sym (ap (λ q. present_body (entry_at m.entries n) (header_at m.headers n).role (put_body q (below_body s m n))) put)
     here_by None Absent at put = fresh Absent at put (λ c. refl)
     here_by None Broken at put = fresh Broken at put (λ c. refl)
 
@@ -91,12 +91,12 @@ module _ (s : Stored) (m : Memory) (left count : ℕ) (is : IsCache s m left cou
     content_same : (k : ℕ) → content_at after m k ≡ content_at s m k
     content_same k = elim (cases_eq k n) [
       | inl same ↦ ap (content_at after m) same ∙ content_here ∙ sym (ap (content_at s m) same)
-      | inr other ↦ ap (λ (f : Frame). present_body (entry_at m.entries k) (header_at m.headers k).role
+      | inr other ↦ ap (λ f. present_body (entry_at m.entries k) (header_at m.headers k).role
           (put_body (put_at s.working k) (in_staging m.staging k f.content))) (below_other k other)
     ]
 
     present_same : (k : ℕ) → present_at after m k ≡ present_at s m k
-    present_same k = ap (λ (c : Content Cap). record { header = header_at m.headers k; content = c }) (content_same k)
+    present_same k = ap (λ c. record { header = header_at m.headers k; content = c }) (content_same k)
 
     pub journal_contents : contents_in (on_snapshots (journaled age n (words_in (content_at s m n))) s) m ≡ contents_in s m
     unfolding contents_in
@@ -104,22 +104,20 @@ module _ (s : Stored) (m : Memory) (left count : ℕ) (is : IsCache s m left cou
 
     -- frozen frames are the saved ones
     frozen_was : (k : ℕ) → frozen_at s m k ≡ below_at s k
-    frozen_was k = ap (λ (p : Bool). frozen_frame p (header_at m.frozen_headers k) (frozen_body (entry_at m.entries k) (mark_at m.touched k) (below_body s m k))
+    frozen_was k = ap (λ p. frozen_frame p (header_at m.frozen_headers k) (frozen_body (entry_at m.entries k) (mark_at m.touched k) (below_body s m k))
         (below_at s k)) (is.idle none k)
 
     frozen_now : (k : ℕ) → frozen_at after m k ≡ below_at after k
-    frozen_now k = ap (λ (p : Bool). frozen_frame p (header_at m.frozen_headers k)
+    frozen_now k = ap (λ p. frozen_frame p (header_at m.frozen_headers k)
         (frozen_body (entry_at m.entries k) (mark_at m.touched k) (below_body after m k)) (below_at after k)) (is.idle none k)
 
     -- of a page that wasn't written since, the frame that is saved was that of the page now
     unwritten_here : n < length m.headers → mark_at m.touched n ≡ false → below_at s n ≡ below_at after n
     unwritten_here inside untouched =
-        let was : content_at s m n ≡ (frame_at s.saved.frames n).content = ap (λ (f : Frame). f.content)
-        (is.unwritten n inside untouched ∙ frozen_was n ∙ below_was n) in
+        let was : content_at s m n ≡ (frame_at s.saved.frames n).content = ap (λ f. f.content) (is.unwritten n inside untouched ∙ frozen_was n ∙ below_was n) in
         below_was n
-        ∙ ap (λ (c : Content Cap). let f : Frame = record { header = (frame_at s.saved.frames n).header; content = c } in f)
-        (sym was ∙ page_is (content_at s m n) holds)
-        ∙ sym below_here
+        ∙ ap (λ c. let f : Frame = record { header = (frame_at s.saved.frames n).header; content = c } in f)
+        (sym was ∙ page_is (content_at s m n) holds) ∙ sym below_here
 
     pub journal_stands : IsCache (on_snapshots (journaled age n (words_in (content_at s m n))) s) m left count
     journal_stands = record {
@@ -139,11 +137,10 @@ module _ (s : Stored) (m : Memory) (left count : ℕ) (is : IsCache s m left cou
       unwritten = λ k inside untouched.
           present_same k ∙ is.unwritten k inside untouched ∙ frozen_was k
           ∙ elim (cases_eq k n) [
-            | inl same ↦ ap (below_at s) same ∙ unwritten_here (subst (λ (i : ℕ). i < length m.headers) same inside)
-                (subst (λ (i : ℕ). mark_at m.touched i ≡ false) same untouched) ∙ sym (ap (below_at after) same)
+            | inl same ↦ ap (below_at s) same ∙ unwritten_here (subst (λ i. i < length m.headers) same inside)
+                (subst (λ i. mark_at m.touched i ≡ false) same untouched) ∙ sym (ap (below_at after) same)
             | inr other ↦ sym (below_other k other)
-          ]
-          ∙ sym (frozen_now k);
+          ] ∙ sym (frozen_now k);
       idle = is.idle;
       running = λ f some. absurd (none-some f (sym none ∙ some));
       keepable = λ f some. absurd (none-some f (sym none ∙ some));
@@ -155,8 +152,8 @@ module _ (s : Stored) (m : Memory) (left count : ℕ) (is : IsCache s m left cou
     -- none is seen before and after
     pub journal_frozen : frozen_seen (on_snapshots (journaled age n (words_in (content_at s m n))) s) m left ≡ frozen_seen s m left
     journal_frozen =
-        ap (option_map (λ (f : FrozenPuts). record { frames = frozen_in after m; size = f.size; left = left })) none
-        ∙ sym (ap (option_map (λ (f : FrozenPuts). record { frames = frozen_in s m; size = f.size; left = left })) none)
+        ap (option_map (λ f. record { frames = frozen_in after m; size = f.size; left = left })) none
+        ∙ sym (ap (option_map (λ f. record { frames = frozen_in s m; size = f.size; left = left })) none)
 
 -- an answer depends on whether a checkpoint is on its way, and on nothing else of it
 pub answer_same : {F : Type 0} (f g : F → ℕ) (o : Option F) (old new : Disk) (saved : SavedFrames) (is_known is_page is_saved : Bool) (r : Result ℕ Refusal) →
@@ -174,12 +171,12 @@ answer_same f g (Some x) old new saved is_known is_page is_saved (Err why) repor
 -- its words matter only if it is a page
 next_words : {F : Type 0} (age n : ℕ) (ws vs : List ℕ) (o : Option F) (saved : SavedFrames) (is_page is_saved : Bool) → (o ≡ None → is_page ≡ true → ws ≡ vs) →
     next_journaled {F = F} age n ws o saved is_page is_saved ≡ next_journaled {F = F} age n vs o saved is_page is_saved
-next_words age n ws vs None saved true is_saved same = ap (λ (xs : List ℕ). journal.saved_next age n xs saved true is_saved) (same refl refl)
+next_words age n ws vs None saved true is_saved same = ap (λ xs. journal.saved_next age n xs saved true is_saved) (same refl refl)
 next_words age n ws vs None saved false is_saved same = refl
 next_words age n ws vs (Some f) saved is_page is_saved same = refl
 
 -- the same by what is seen
-module _ {D : Type 0} (disk : D → Disk) (d : DurableState D) (m : Memory) (left count : ℕ) (order : List ℕ) (most_entries : ℕ) (s : StoreState D)
+module _ {D : Type 0} (disk : D → Disk) {d : DurableState D} {m : Memory} {left count : ℕ} {order : List ℕ} {most_entries : ℕ} {s : StoreState D}
     (view : cache_of disk d m left order most_entries ≡ s) (is : IsCache (stored_of disk d) m left count) (n : ℕ)
     (keepable : AreKeepable (stored_of disk s.durable).saved.geometry most (frames_in s.headers s.contents)) where
   abbrev st : Stored
@@ -201,24 +198,23 @@ module _ {D : Type 0} (disk : D → Disk) (d : DurableState D) (m : Memory) (lef
   content_page page =
       let within = known page in
       let own : AreKeepable st.saved.geometry most (frames_in m.headers (contents_in st m)) =
-      subst (λ (t : StoreState D). AreKeepable (stored_of disk t.durable).saved.geometry most (frames_in t.headers t.contents)) (sym view) keepable in
+      subst (λ t. AreKeepable (stored_of disk t.durable).saved.geometry most (frames_in t.headers t.contents)) (sym view) keepable in
       let at = frame_in m.headers (contents_in st m) n within in
       let kept = (own.each n (omega (arith, within, is.headers))).kept.role in
       content_is_page (content_at st m n)
-      (sym (ap (λ (f : Frame). role_of f.content) at ∙ ap role_of (content_in st m n within)) ∙ sym kept ∙ ap (λ (f : Frame). f.header.role) at ∙
+      (sym (ap (λ f. role_of f.content) at ∙ ap role_of (content_in st m n within)) ∙ sym kept ∙ ap (λ f. f.header.role) at ∙
       role_is_page header.role page)
 
   pub journal_page : (stored_of disk d).frozen ≡ None → is_page_role (header_at m.headers n).role ≡ true →
       is_page (held_now m.entries (stored_of disk d) n) ≡ true
-  journal_page none page = subst (λ (c : Content Cap). is_page c ≡ true) (page_held st m left count is none n (role_is_page header.role page))
-      (content_page page)
+  journal_page none page = subst (λ c. is_page c ≡ true) (page_held is none n (role_is_page header.role page)) (content_page page)
 
   -- the words are those that are seen
   held_seen : is_page_role header.role ≡ true → content_at st m n ≡ held_at s.contents n
-  held_seen page = sym (content_in st m n (known page)) ∙ ap (λ (t : StoreState D). held_at t.contents n) view
+  held_seen page = sym (content_in st m n (known page)) ∙ ap (λ t. held_at t.contents n) view
 
   words_seen : st.frozen ≡ None → is_page_role header.role ≡ true → words_in (held_now m.entries st n) ≡ words_in (held_at s.contents n)
-  words_seen none page = ap words_in (sym (page_held st m left count is none n (role_is_page header.role page)) ∙ held_seen page)
+  words_seen none page = ap words_in (sym (page_held is none n (role_is_page header.role page)) ∙ held_seen page)
 
   module _ (new : DurableState D) (age : ℕ) where
     abbrev IsThere : Type 0
@@ -230,57 +226,50 @@ module _ {D : Type 0} (disk : D → Disk) (d : DurableState D) (m : Memory) (lef
     -- the store is another by a page with the words of now
     done_is : IsThere → IsDone → stored_of disk new ≡ on_snapshots (journaled age n (words_in (content_at st m n))) st
     done_is there done =
-        done ∙ ap (λ (c : Content Cap). on_snapshots (journaled age n (words_in c)) st)
-        (sym (page_held st m left count is (none_of left_of st.frozen there.0) n (role_is_page header.role there.1)))
+        done ∙ ap (λ c. on_snapshots (journaled age n (words_in c)) st)
+        (sym (page_held is (none_of left_of st.frozen there.0) n (role_is_page header.role there.1)))
 
-    pub stands_after : {T E : Type 0} (r : Result T E) → OnOk r IsThere → OnOk r IsDone → OnErr r (stored_of disk new ≡ st) →
-        IsCache (stored_of disk new) m left count
-    stands_after (Ok x) there done undone = subst (λ (t : Stored). IsCache t m left count) (sym (done_is there done))
-        (journal_stands st m left count is (none_of left_of st.frozen there.0) n (role_is_page header.role there.1) age (content_page there.1))
-    stands_after (Err e) there done undone = subst (λ (t : Stored). IsCache t m left count) (sym undone) is
-
-    pub seen_after : {T E : Type 0} (r : Result T E) → OnOk r IsThere → OnOk r IsDone → OnErr r (stored_of disk new ≡ st) →
-        cache_of disk new m left order most_entries ≡ record s { durable = new }
-    seen_after (Ok x) there done undone =
-        let old = cache_of disk d m left order most_entries in
+    pub journal_next : {T E : Type 0} (r : Result T E) → OnOk r IsThere → OnOk r IsDone → OnErr r (stored_of disk new ≡ st) →
+        IsSeenAs disk new m left count order most_entries (record s { durable = new }) ×
+        OnOk r (snapshots_of disk (cache_of disk new m left order most_entries) ≡ journaled age n (words_in (held_at s.contents n)) (snapshots_of disk s)) ×
+        OnErr r (snapshots_of disk (cache_of disk new m left order most_entries) ≡ snapshots_of disk s)
+    journal_next (Ok x) there done undone =
         let none = none_of left_of st.frozen there.0 in
         let page = role_is_page header.role there.1 in
-        ap (λ (t : Stored). record old { durable = new; contents = contents_in t m; frozen = frozen_seen t m left }) (done_is there done)
-        ∙ ap (λ (cs : List (Content Cap)). record
-        old { durable = new; contents = cs; frozen = frozen_seen (on_snapshots (journaled age n (words_in (content_at st m n))) st) m left })
-        (journal_contents st m left count is none n page age (content_page there.1))
-        ∙ ap (λ (o : Option FrozenFrames). record old { durable = new; frozen = o }) (journal_frozen st m left count is none n page age (content_page there.1))
-        ∙ ap (λ (t : StoreState D). record t { durable = new }) view
-    seen_after (Err e) there done undone =
-        let old = cache_of disk d m left order most_entries in
-        ap (λ (t : Stored). record old { durable = new; contents = contents_in t m; frozen = frozen_seen t m left }) undone
-        ∙ ap (λ (t : StoreState D). record t { durable = new }) view
-
-    snapshots_own : {T E : Type 0} (r : Result T E) → OnOk r IsThere → OnOk r IsDone →
-        OnOk r (snapshots_of disk (record s { durable = new }) ≡ journaled age n (words_in (held_at s.contents n)) (snapshots_of disk s))
-    snapshots_own (Ok x) there done =
-        ap (λ (t : Stored). let a : Snapshots FrozenFrames = record { frozen = s.frozen; saved = t.saved; to_move = t.to_move } in a) done
-        ∙ ap (λ (ws : List ℕ). journaled age n ws (record { frozen = s.frozen; saved = st.saved; to_move = st.to_move }))
-        (words_seen (none_of left_of st.frozen there.0) there.1)
-        ∙ ap (λ (t : StoreState D). journaled age n (words_in (held_at s.contents n))
-        (record { frozen = s.frozen; saved = (stored_of disk t.durable).saved; to_move = (stored_of disk t.durable).to_move })) view
-    snapshots_own (Err e) there done = tt
-
-    pub snapshots_after : {T E : Type 0} (r : Result T E) → OnOk r IsThere → OnOk r IsDone → OnErr r (stored_of disk new ≡ st) →
-        OnOk r (snapshots_of disk (cache_of disk new m left order most_entries) ≡ journaled age n (words_in (held_at s.contents n)) (snapshots_of disk s))
-    snapshots_after r there done undone = subst
-        (λ (t : StoreState D). OnOk r (snapshots_of disk t ≡ journaled age n (words_in (held_at s.contents n)) (snapshots_of disk s)))
-        (sym (seen_after r there done undone)) (snapshots_own r there done)
-
-    pub snapshots_stays : {T E : Type 0} (r : Result T E) → OnErr r (stored_of disk new ≡ stored_of disk d) →
-        OnErr r (snapshots_of disk (cache_of disk new m left order most_entries) ≡ snapshots_of disk s)
-    snapshots_stays (Ok x) undone = tt
-    snapshots_stays (Err e) undone =
-        ap (λ (t : Stored). let a : Snapshots FrozenFrames = record { frozen = frozen_seen t m left; saved = t.saved; to_move = t.to_move } in a) undone
-        ∙ ap (λ (t : StoreState D). snapshots_of disk t) view
+        let now = done_is there done in
+        let seen : cache_of disk new m left order most_entries ≡ record s { durable = new } =
+        ap (λ t. record (cache_of disk d m left order most_entries) { durable = new; contents = contents_in t m; frozen = frozen_seen t m left }) now
+        ∙ (λ k. record (cache_of disk d m left order most_entries) {
+          durable = new;
+          contents = journal_contents is none n page age (content_page there.1) k;
+          frozen = journal_frozen is none n page age (content_page there.1) k;
+        })
+        ∙ ap (λ (t : StoreState D). record t { durable = new }) view in (
+          record {
+            is = subst (λ t. IsCache t m left count) (sym now) (journal_stands is none n page age (content_page there.1));
+            view = seen;
+          },
+          ap (snapshots_of disk) seen
+              ∙ ap (λ t. let a : Snapshots FrozenFrames = record { frozen = s.frozen; saved = t.saved; to_move = t.to_move } in a) done
+              ∙ ap (λ ws. journaled age n ws (record { frozen = s.frozen; saved = st.saved; to_move = st.to_move })) (words_seen none there.1)
+              ∙ ap (λ t. journaled age n (words_in (held_at s.contents n))
+              (record { frozen = s.frozen; saved = (stored_of disk t.durable).saved; to_move = (stored_of disk t.durable).to_move })) view,
+          tt,
+        )
+    journal_next (Err e) there done undone = (
+      record {
+        is = subst (λ t. IsCache t m left count) (sym undone) is;
+        view =
+            ap (λ t. record (cache_of disk d m left order most_entries) { durable = new; contents = contents_in t m; frozen = frozen_seen t m left })
+            undone ∙ ap (λ (t : StoreState D). record t { durable = new }) view;
+      },
+      tt,
+      ap (λ t. let a : Snapshots FrozenFrames = record { frozen = frozen_seen t m left; saved = t.saved; to_move = t.to_move } in a) undone
+          ∙ ap (λ t. snapshots_of disk t) view,
+    )
 
     abbrev answer_of : StoreState D → Result ℕ Refusal → Type 0
-    answer_of t r = IsJournalAnswer (disk t.durable.beneath) (disk new.beneath) (option_map (λ (f : FrozenFrames). f.left) t.frozen)
+    answer_of t r = IsJournalAnswer (disk t.durable.beneath) (disk new.beneath) (option_map (λ f. f.left) t.frozen)
         (stored_of disk t.durable).saved
         (nat_lt n (length t.headers)) (is_page_role (header_at t.headers n).role)
         (journal.is_same_page (header_at t.headers n).allocations (frame_at (stored_of disk t.durable).saved.frames n)) r
@@ -288,7 +277,7 @@ module _ {D : Type 0} (disk : D → Disk) (d : DurableState D) (m : Memory) (lef
     -- how many are left of a checkpoint on its way
     left_seen : (o : Option FrozenPuts) →
         option_map (λ (f : FrozenFrames). f.left) (option_map (λ (f : FrozenPuts). record { frames = frozen_in st m; size = f.size; left = left }) o) ≡
-        option_map (λ (f : FrozenPuts). left) o
+        option_map (λ f. left) o
     left_seen None = refl
     left_seen (Some f) = refl
 
@@ -296,16 +285,16 @@ module _ {D : Type 0} (disk : D → Disk) (d : DurableState D) (m : Memory) (lef
         (stored_of disk d).saved
         (nat_lt n (length m.headers)) (is_page_role (header_at m.headers n).role)
         (journal.is_same_page (header_at m.headers n).allocations (frame_at (stored_of disk d).saved.frames n)) r →
-        IsJournalAnswer (disk s.durable.beneath) (disk new.beneath) (option_map (λ (f : FrozenFrames). f.left) s.frozen) (stored_of disk s.durable).saved
+        IsJournalAnswer (disk s.durable.beneath) (disk new.beneath) (option_map (λ f. f.left) s.frozen) (stored_of disk s.durable).saved
         (nat_lt n (length s.headers)) (is_page_role (header_at s.headers n).role)
         (journal.is_same_page (header_at s.headers n).allocations (frame_at (stored_of disk s.durable).saved.frames n)) r
     answer_seen r reported =
         let is_known = nat_lt n (length m.headers) in
         let is_page = is_page_role header.role in
         let is_saved = journal.is_same_page header.allocations (frame_at st.saved.frames n) in
-        subst (λ (t : StoreState D). answer_of t r) view
-        (subst (λ (o : Option ℕ). IsJournalAnswer (disk d.beneath) (disk new.beneath) o st.saved is_known is_page is_saved r) (sym (left_seen st.frozen))
-        (answer_same left_of (λ (f : FrozenPuts). left) st.frozen (disk d.beneath) (disk new.beneath) st.saved is_known is_page is_saved r reported))
+        subst (λ t. answer_of t r) view
+        (subst (λ o. IsJournalAnswer (disk d.beneath) (disk new.beneath) o st.saved is_known is_page is_saved r) (sym (left_seen st.frozen))
+        (answer_same left_of (λ f. left) st.frozen (disk d.beneath) (disk new.beneath) st.saved is_known is_page is_saved r reported))
 
     abbrev moments_of : StoreState D → List ℕ → Type 0
     moments_of t ws = LeavesOneOf (disk t.durable.beneath) (disk new.beneath) (stored_of disk t.durable).saved
@@ -324,25 +313,21 @@ module _ {D : Type 0} (disk : D → Disk) (d : DurableState D) (m : Memory) (lef
         let is_page = is_page_role header.role in
         let is_saved = journal.is_same_page header.allocations (frame_at st.saved.frames n) in
         let seen : FrozenPuts → FrozenFrames = λ (f : FrozenPuts). record { frames = frozen_in st m; size = f.size; left = left } in
-        subst (λ (t : StoreState D). moments_of t (words_in (held_at s.contents n))) view
-        (subst (λ (o : Option SavedFrames). LeavesOneOf (disk d.beneath) (disk new.beneath) st.saved o)
+        subst (λ t. moments_of t (words_in (held_at s.contents n))) view
+        (subst (λ o. LeavesOneOf (disk d.beneath) (disk new.beneath) st.saved o)
         (next_words age n (words_in (held_now m.entries st n)) (words_in (held_at s.contents n)) st.frozen st.saved is_page is_saved words_seen
         ∙ sym (next_same age n seen (words_in (held_at s.contents n)) st.frozen st.saved is_page is_saved)) moments)
 
 -- ---- a page that is read first
 
 words_read : (b : Body) (slots : List Cap) (ws : List ℕ) → is_page (content_of b slots ws) ≡ true → ws ≡ words_in (content_of b slots ws)
-words_read body.Free slots ws page = absurd cc
 words_read body.Page slots ws page = refl
-words_read body.Node slots ws page = absurd cc
-words_read (body.Root root) slots ws page = absurd cc
-words_read body.Annex slots ws page = absurd cc
-words_read (body.Bank limit) slots ws page = absurd cc
+words_read other slots ws page = absurd cc
 
 pub read_words : (read : ObjectHeader × Body) (room : Scratch) (f : Frame) → frame_of read room ≡ f → is_page f.content ≡ true → room.words ≡ words_in f.content
 read_words read room f found page =
-    let same : content_of read.1 room.slots room.words ≡ f.content = ap (λ (g : Frame). g.content) found in
-    words_read read.1 room.slots room.words (subst (λ (c : Content Cap). is_page c ≡ true) (sym same) page) ∙ ap words_in same
+    let same : content_of read.1 room.slots room.words ≡ f.content = ap (λ g. g.content) found in
+    words_read read.1 room.slots room.words (subst (λ c. is_page c ≡ true) (sym same) page) ∙ ap words_in same
 
 -- what a crash leaves while it is read, and then is saved
 pub read_first : {D : Type 0} (disk : D → Disk) (a b : DurableState D) (new : Disk) (age n : ℕ) (vs ws : List ℕ) → ReadsStore disk a b → is_sound disk a →
@@ -354,12 +339,12 @@ read_first disk a b new age n vs ws reads sound same moments =
     let saved = (stored_of disk a).saved in
     let next = journaled_saved age n ws saved in
     let after : LeavesEither (disk b.beneath) new saved next =
-    subst (λ (t : Stored). LeavesEither (disk b.beneath) new t.saved (journaled_saved age n ws t.saved)) reads.stored
-    (subst (λ (xs : List ℕ). LeavesEither (disk b.beneath) new (stored_of disk b).saved (journaled_saved age n xs (stored_of disk b).saved)) same moments) in
+    subst (λ t. LeavesEither (disk b.beneath) new t.saved (journaled_saved age n ws t.saved)) reads.stored
+    (subst (λ xs. LeavesEither (disk b.beneath) new (stored_of disk b).saved (journaled_saved age n xs (stored_of disk b).saved)) same moments) in
     leaves_on {old = disk a.beneath} {mid = disk b.beneath} {new = new} {P = λ (c : Image). Holds size c saved ⊎ Holds size c next}
-    (leaves_weaker {old = disk a.beneath} {new = disk b.beneath} {P = λ (c : Image). Holds size c saved} (λ (c : Image). Holds size c saved ⊎ Holds size c next)
+    (leaves_weaker {old = disk a.beneath} {new = disk b.beneath} {P = λ (c : Image). Holds size c saved} (λ c. Holds size c saved ⊎ Holds size c next)
     (λ c holds. inl holds) (reads.goes_on.any_moment sound))
-    (subst (λ (k : ℕ). LeavesOnly (disk b.beneath) new (λ (c : Image). Holds k c saved ⊎ Holds k c next)) reads.goes_on.size after)
+    (subst (λ k. LeavesOnly (disk b.beneath) new (λ c. Holds k c saved ⊎ Holds k c next)) reads.goes_on.size after)
 
 -- what a page holds now, by whether it has an entry
 pub held_is : (es : List (Option Entry)) (s : Stored) (n : ℕ) (c : Content Cap) → option_map present_of (entry_at es n) ≡ Some c → held_now es s n ≡ c

@@ -1,6 +1,7 @@
 -- What marking a list of numbers does to the marks and to their count.
-use Rattle.object_cache.proofs.Names.{ℕ, Bool, true, false, cond, List, [], length, set, take, refl, ap, sym, arith, set-get_or, touching, touched_count, eqb}
-use Rattle.object_cache.proofs.Names.{get_or, eqb-true, eqb-false, take_more, sum_by-set, list_any, length-set}
+use Rattle.object_cache.proofs.Names.{inl, inr, ℕ, Bool, true, false, cond, List, [], length, set, take, refl, ap, sym, arith, set-get_or, touching}
+use Rattle.object_cache.proofs.Names.{touched_count, eqb, get_or, eqb-true, eqb-false, take_more, sum_by-set, list_any, length-set, cases_eq, cases_lt}
+use Rattle.object_cache.proofs.Names.{count_by, get_or-replicate, get_or_past, length-replicate, replicate, true≢false}
 use Rattle.std.proofs.Common.{◌≡◌, ◌+◌, ◌<◌, ◌||◌, ◌∷◌, ◌++◌, ◌∙◌, get_or-set_same, get_or-set_other}
 
 pub length-touching : (t : List Bool) (ns : List ℕ) → length (touching t ns) ≡ length t
@@ -10,6 +11,32 @@ length-touching t (n ∷ ns) = length-touching (set t n true) ns ∙ length-set 
 touching-append : (t : List Bool) (ms ns : List ℕ) → touching t (ms ++ ns) ≡ touching (touching t ms) ns
 touching-append t [] ns = refl
 touching-append t (m ∷ ms) ns = touching-append (set t m true) ms ns
+
+-- an item that is set to its default, or never was another
+pub set_there : {X : Type 0} (xs : List X) (n : ℕ) (d : X) → get_or (set xs n d) n d ≡ d
+set_there xs n d = elim (cases_lt n (length xs)) [
+  | inl within ↦ get_or-set_same xs n d d within
+  | inr past ↦ get_or_past (set xs n d) n d (omega (arith, past, length-set xs n d))
+]
+
+pub alike : {X : Type 0} (n k : ℕ) (d : X) → get_or (replicate n d) k d ≡ d
+alike {X} n k d = elim (cases_lt k n) [
+  | inl within ↦ get_or-replicate n k d d within
+  | inr past ↦ get_or_past (replicate n d) k d (omega (arith, past, length-replicate {A = X} n d))
+]
+
+pub marked_within : (t : List Bool) (n : ℕ) → get_or t n false ≡ true → n < length t
+marked_within t n marked = elim (cases_lt n (length t)) [
+  | inl within ↦ within
+  | inr past ↦ absurd (true≢false (sym marked ∙ get_or_past t n false past))
+]
+
+-- one mark less
+pub one_fewer : (t : List Bool) (n : ℕ) → get_or t n false ≡ true → count_by (λ b. b) (set t n false) < count_by (λ b. b) t
+one_fewer t n marked =
+    let h = sum_by-set (λ b. cond b 1 0) t n false false (marked_within t n marked) in
+    let k = rw marked at h in
+    omega (arith, k)
 
 -- a mark that is set for the first time is one more
 touched_count-set : (t : List Bool) (n : ℕ) → n < length t → get_or t n false ≡ false → touched_count (set t n true) ≡ touched_count t + 1
@@ -23,43 +50,38 @@ pub set-marked : (t : List Bool) (n : ℕ) → get_or t n false ≡ true → set
 set-marked t n marked = ap (λ b. set t n b) (sym marked) ∙ set-get_or t n false
 
 -- what is marked stays marked
-marked_after_set : (t : List Bool) (m n : ℕ) (b : Bool) → eqb m n ≡ b → n < length t → get_or t n false ≡ true → get_or (set t m true) n false ≡ true
-marked_after_set t m n true same inside marked = rw (eqb-true m n same) (get_or-set_same t n true false inside)
-marked_after_set t m n false other inside marked =
-    get_or-set_other t m n true false (λ e. eqb-false m n other (sym e)) ∙ marked
+pub still_set : (t : List Bool) (m n : ℕ) → get_or t n false ≡ true → get_or (set t m true) n false ≡ true
+still_set t m n marked = elim (cases_eq n m) [
+  | inl same ↦ ap (λ k. get_or (set t k true) n false) (sym same) ∙ get_or-set_same t n true false (marked_within t n marked)
+  | inr other ↦ get_or-set_other t m n true false other ∙ marked
+]
 
-pub marked_stays : (t : List Bool) (ns : List ℕ) (n : ℕ) → n < length t → get_or t n false ≡ true → get_or (touching t ns) n false ≡ true
-marked_stays t [] n inside marked = marked
-marked_stays t (m ∷ ns) n inside marked =
-    let inside' : n < length (set t m true) = rw length-set inside in
-    marked_stays (set t m true) ns n inside' (marked_after_set t m n (eqb m n) refl inside marked)
+pub still_marked : (t : List Bool) (ns : List ℕ) (n : ℕ) → get_or t n false ≡ true → get_or (touching t ns) n false ≡ true
+still_marked t [] n marked = marked
+still_marked t (m ∷ ns) n marked = still_marked (set t m true) ns n (still_set t m n marked)
 
 -- what is listed is marked
 first_listed : (t : List Bool) (m : ℕ) (ns : List ℕ) (n : ℕ) (b : Bool) → eqb m n ≡ b → n < length t →
     (list_any (λ y. eqb y n) ns ≡ true → get_or (touching (set t m true) ns) n false ≡ true) →
     (b || list_any (λ y. eqb y n) ns) ≡ true → get_or (touching (set t m true) ns) n false ≡ true
-first_listed t m ns n true same inside later listed =
-    marked_stays (set t m true) ns n (rw length-set inside) (rw (eqb-true m n same) (get_or-set_same t n true false inside))
+first_listed t m ns n true same inside later listed = still_marked (set t m true) ns n (rw (eqb-true m n same) (get_or-set_same t n true false inside))
 first_listed t m ns n false other inside later listed = later listed
 
 listed_marked : (t : List Bool) (ns : List ℕ) (n : ℕ) → n < length t → list_any (λ y. eqb y n) ns ≡ true → get_or (touching t ns) n false ≡ true
 listed_marked t [] n inside listed = cc
-listed_marked t (m ∷ ns) n inside listed =
-    first_listed t m ns n (eqb m n) refl inside (listed_marked (set t m true) ns n (rw length-set inside)) listed
+listed_marked t (m ∷ ns) n inside listed = first_listed t m ns n (eqb m n) refl inside (listed_marked (set t m true) ns n (rw length-set inside)) listed
 
 -- what is neither marked nor listed isn't marked
 first_unlisted : (t : List Bool) (m : ℕ) (ns : List ℕ) (n : ℕ) (b : Bool) → eqb m n ≡ b → get_or t n false ≡ false →
     (get_or (set t m true) n false ≡ false → list_any (λ y. eqb y n) ns ≡ false → get_or (touching (set t m true) ns) n false ≡ false) →
     (b || list_any (λ y. eqb y n) ns) ≡ false → get_or (touching (set t m true) ns) n false ≡ false
 first_unlisted t m ns n true same unmarked later unlisted = cc
-first_unlisted t m ns n false other unmarked later unlisted =
-    later (get_or-set_other t m n true false (λ e. eqb-false m n other (sym e)) ∙ unmarked) unlisted
+first_unlisted t m ns n false other unmarked later unlisted = later (get_or-set_other t m n true false (λ e. eqb-false m n other (sym e)) ∙ unmarked) unlisted
 
 unlisted_unmarked : (t : List Bool) (ns : List ℕ) (n : ℕ) → get_or t n false ≡ false → list_any (λ y. eqb y n) ns ≡ false →
     get_or (touching t ns) n false ≡ false
 unlisted_unmarked t [] n unmarked unlisted = unmarked
-unlisted_unmarked t (m ∷ ns) n unmarked unlisted =
-    first_unlisted t m ns n (eqb m n) refl unmarked (unlisted_unmarked (set t m true) ns n) unlisted
+unlisted_unmarked t (m ∷ ns) n unmarked unlisted = first_unlisted t m ns n (eqb m n) refl unmarked (unlisted_unmarked (set t m true) ns n) unlisted
 
 -- the next number of a list: new, listed before, or marked at first
 pub touched_count_new : (t : List Bool) (ns : List ℕ) (i : ℕ) → i < length ns → get_or ns i 0 < length t →
@@ -67,8 +89,7 @@ pub touched_count_new : (t : List Bool) (ns : List ℕ) (i : ℕ) → i < length
     touched_count (touching t (take (i + 1) ns)) ≡ touched_count (touching t (take i ns)) + 1
 touched_count_new t ns i inside known unmarked unlisted =
     rw (take_more ns i 0 inside, touching-append t (take i ns) (get_or ns i 0 ∷ []))
-    (touched_count-set (touching t (take i ns)) (get_or ns i 0) (rw length-touching known)
-    (unlisted_unmarked t (take i ns) (get_or ns i 0) unmarked unlisted))
+    (touched_count-set (touching t (take i ns)) (get_or ns i 0) (rw length-touching known) (unlisted_unmarked t (take i ns) (get_or ns i 0) unmarked unlisted))
 
 pub touched_count_listed : (t : List Bool) (ns : List ℕ) (i : ℕ) → i < length ns → get_or ns i 0 < length t →
     list_any (λ y. eqb y (get_or ns i 0)) (take i ns) ≡ true →
@@ -82,7 +103,7 @@ pub touched_count_marked : (t : List Bool) (ns : List ℕ) (i : ℕ) → i < len
     touched_count (touching t (take (i + 1) ns)) ≡ touched_count (touching t (take i ns))
 touched_count_marked t ns i inside known marked =
     rw (take_more ns i 0 inside, touching-append t (take i ns) (get_or ns i 0 ∷ []))
-    (ap touched_count (set-marked (touching t (take i ns)) (get_or ns i 0) (marked_stays t (take i ns) (get_or ns i 0) known marked)))
+    (ap touched_count (set-marked (touching t (take i ns)) (get_or ns i 0) (still_marked t (take i ns) (get_or ns i 0) marked)))
 
 -- one number more is marked after the others
 pub touching_more : (t : List Bool) (ns : List ℕ) (i : ℕ) → i < length ns → touching t (take (i + 1) ns) ≡ set (touching t (take i ns)) (get_or ns i 0) true

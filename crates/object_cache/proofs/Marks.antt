@@ -1,12 +1,13 @@
 -- Numbers are marked that are to be written: no object and no frozen frame is another.
 use Rattle.object_cache.proofs.Names.{inl, inr, ℕ, zero, suc, Bool, true, false, true≢false, List, [], length, set, Option, Some, None, option_map, refl, sym}
-use Rattle.object_cache.proofs.Names.{ap, subst, arith, length-set, slice_index_or, Contains, cases_eq, get_or-set_other, get_or_past, Cap, Frame, ObjectHeader}
-use Rattle.object_cache.proofs.Names.{Content, header_at, AreKeepable, touched_count, touching, Disk, most, DurableState, FrozenPuts, Stored, below_at}
-use Rattle.object_cache.proofs.Names.{stored_of, maps_same, Entry, entry_at, Memory, FrozenState, Shared, mark_at, apart_body, below_body, frozen_body}
-use Rattle.object_cache.proofs.Names.{frozen_frame, frozen_at, frozen_state_of, frozen_state_body, frozen_state_in_memory, contents_in, frozen_in}
-use Rattle.object_cache.proofs.Names.{frozen_states_in, StoreState, IsCache, cache_of, frozen_state_at, is_some}
+use Rattle.object_cache.proofs.Names.{ap, subst, arith, length-set, slice_index_or, Contains, cases_eq, get_or-set_other, get_or-set_same, Cap, Frame}
+use Rattle.object_cache.proofs.Names.{ObjectHeader, Content, header_at, AreKeepable, touched_count, touching, Disk, most, DurableState, Stored, below_at}
+use Rattle.object_cache.proofs.Names.{stored_of, maps_same, Entry, entry_at, Memory, Shared, mark_at, apart_body, below_body, frozen_body, frozen_frame}
+use Rattle.object_cache.proofs.Names.{frozen_at, frozen_state_of, frozen_state_body, frozen_state_in_memory, contents_in, frozen_in, frozen_states_in}
+use Rattle.object_cache.proofs.Names.{StoreState, IsCache, cache_of, frozen_state_at, is_some, length-map-range_with_len, Image, peeks_started, goes_none}
+use Rattle.object_cache.proofs.Names.{content_at, IsAnnouncedIn, GoesOnIn}
 use Rattle.std.proofs.Common.{◌≡◌, ◌≢◌, ◌⊎◌, ◌<◌, ◌≤◌, ◌∷◌, ◌∙◌}
-use Rattle.object_cache.proofs.Marking.{length-touching, set-marked}
+use Rattle.object_cache.proofs.Marking.{length-touching, set-marked, still_marked}
 use Rattle.object_cache.proofs.Caching.{frozen_state_entry}
 
 -- a mark is as it was, or is of a number that was listed
@@ -20,31 +21,11 @@ marked_or ts (n ∷ ns) k = elim (cases_eq k n) [
   ]
 ]
 
--- and what was marked still is
-still_marked : (ts : List Bool) (ns : List ℕ) (k : ℕ) → mark_at ts k ≡ true → mark_at (touching ts ns) k ≡ true
-still_marked ts [] k marked = marked
-still_marked ts (n ∷ ns) k marked = still_marked (set ts n true) ns k (elim (cases_eq k n) [
-  | inl same ↦ here ts n k same marked
-  | inr other ↦ get_or-set_other ts n k true false other ∙ marked
-])
-  where
-    here : (ts : List Bool) (n k : ℕ) → k ≡ n → mark_at ts k ≡ true → mark_at (set ts n true) k ≡ true
-    here [] n k same marked = absurd (true≢false (sym marked ∙ get_or_past [] k false (omega arith)))
-    here (t ∷ ts) zero zero same marked = refl
-    here (t ∷ ts) zero (suc k) same marked = absurd (omega (arith, same))
-    here (t ∷ ts) (suc n) zero same marked = absurd (omega (arith, same))
-    here (t ∷ ts) (suc n) (suc k) same marked = here ts n k (omega (arith, same)) marked
-
 -- what is listed is marked
-listed_first : (ts : List Bool) (n : ℕ) → n < length ts → mark_at (set ts n true) n ≡ true
-listed_first [] n within = absurd (omega (arith, within))
-listed_first (t ∷ ts) zero within = refl
-listed_first (t ∷ ts) (suc n) within = listed_first ts n (omega (arith, within))
-
 listed_by : (ts : List Bool) (ns : List ℕ) (i k : ℕ) → i < length ns → slice_index_or ns i k ≡ k → k < length ts → mark_at (touching ts ns) k ≡ true
 listed_by ts [] i k lt is within = absurd (omega (arith, lt))
 listed_by ts (n ∷ ns) zero k lt is within = still_marked (set ts n true) ns k
-    (subst (λ (j : ℕ). mark_at (set ts n true) j ≡ true) is (listed_first ts n (omega (arith, within, is))))
+    (subst (λ j. mark_at (set ts n true) j ≡ true) is (get_or-set_same ts n true false (omega (arith, within, is))))
 listed_by ts (n ∷ ns) (suc i) k lt is within = listed_by (set ts n true) ns i k (omega (arith, lt)) is (omega (arith, within, length-set ts n true))
 
 pub listed_is_marked : (ts : List Bool) (ns : List ℕ) (k : ℕ) → Contains ns k → k < length ts → mark_at (touching ts ns) k ≡ true
@@ -55,8 +36,7 @@ pub all_marked : (ts : List Bool) (ns : List ℕ) → ((k : ℕ) → Contains ns
 all_marked ts [] marked = refl
 all_marked ts (n ∷ ns) marked =
     let here = set-marked ts n (marked n (0, omega arith, refl)) in
-    ap (λ (us : List Bool). touching us ns) here
-    ∙ all_marked ts ns (λ k has. marked k (suc has.0, omega (arith, has.1), has.2))
+    ap (λ us. touching us ns) here ∙ all_marked ts ns (λ k has. marked k (suc has.0, omega (arith, has.1), has.2))
 
 -- the frozen frame of an object doesn't change with its mark, unless its frozen body is the present one as well
 frozen_marked : (o : Option Entry) (pending touched : Bool) (h : ObjectHeader) (below : Content Cap) (under : Frame) →
@@ -68,8 +48,7 @@ frozen_marked (Some e) true true h below under frozen_state = refl
 frozen_marked (Some e) true false h below under frozen_state = go e.kept frozen_state
   where
     go : (o : Option (Content Cap)) → frozen_state_body (is_some o) false ≢ Shared →
-        frozen_frame true h (apart_body o true e.present below) under ≡ frozen_frame true h
-        (apart_body o false e.present below) under
+        frozen_frame true h (apart_body o true e.present below) under ≡ frozen_frame true h (apart_body o false e.present below) under
     go (Some c) frozen_state = refl
     go None frozen_state = absurd (frozen_state refl)
 
@@ -87,7 +66,7 @@ frozen_state_marked (Some e) true false frozen_state = go e.kept frozen_state
 abbrev pub marking : List ℕ → Memory → Memory
 marking ns m = record m { touched = touching m.touched ns; dirty = touching m.dirty ns }
 
-module _ (s : Stored) (m : Memory) (left count : ℕ) (is : IsCache s m left count) (ns : List ℕ) (known : (n : ℕ) → Contains ns n → n < length m.headers)
+module _ {s : Stored} {m : Memory} {left count : ℕ} (is : IsCache s m left count) (ns : List ℕ) (known : (n : ℕ) → Contains ns n → n < length m.headers)
     (apart : (n : ℕ) → Contains ns n → frozen_state_in_memory m n ≢ Shared) where
   touched_here : (k : ℕ) → Contains ns k → mark_at (touching m.touched ns) k ≡ true
   touched_here k has = listed_is_marked m.touched ns k has (let there = known k has in omega (arith, there, is.headers, is.marks))
@@ -97,10 +76,10 @@ module _ (s : Stored) (m : Memory) (left count : ℕ) (is : IsCache s m left cou
 
   frozen_stays : (k : ℕ) → frozen_at s (marking ns m) k ≡ frozen_at s m k
   frozen_stays k = elim (marked_or m.touched ns k) [
-    | inl as_it_was ↦ ap (λ (t : Bool). frozen_frame (mark_at m.pending k) (header_at m.frozen_headers k)
+    | inl as_it_was ↦ ap (λ t. frozen_frame (mark_at m.pending k) (header_at m.frozen_headers k)
         (frozen_body (entry_at m.entries k) t (below_body s m k)) (below_at s k)) as_it_was
     | inr has ↦
-        ap (λ (t : Bool). frozen_frame (mark_at m.pending k) (header_at m.frozen_headers k) (frozen_body (entry_at m.entries k) t (below_body s m k))
+        ap (λ t. frozen_frame (mark_at m.pending k) (header_at m.frozen_headers k) (frozen_body (entry_at m.entries k) t (below_body s m k))
         (below_at s k)) (touched_here k has)
         ∙ frozen_marked (entry_at m.entries k) (mark_at m.pending k) (mark_at m.touched k) (header_at m.frozen_headers k) (below_body s m k) (below_at s k)
         (apart k has)
@@ -158,31 +137,74 @@ module _ (s : Stored) (m : Memory) (left count : ℕ) (is : IsCache s m left cou
   }
 
 -- the same by what is seen
-module _ {D : Type 0} (disk : D → Disk) (d : DurableState D) (m : Memory) (left count : ℕ) (order : List ℕ) (most_entries : ℕ) (s : StoreState D)
+module _ {D : Type 0} (disk : D → Disk) {d : DurableState D} {m : Memory} {left count : ℕ} {order : List ℕ} {most_entries : ℕ} {s : StoreState D}
     (view : cache_of disk d m left order most_entries ≡ s) (is : IsCache (stored_of disk d) m left count) (ns : List ℕ)
     (known : (n : ℕ) → Contains ns n → n < length s.headers)
     (apart : (n : ℕ) → Contains ns n → frozen_state_at s.frozen_state n ≢ Shared) where
   known_here : (n : ℕ) → Contains ns n → n < length m.headers
-  known_here n has = let there = known n has in omega (arith, there, ap (λ (t : StoreState D). length t.headers) view)
+  known_here n has = let there = known n has in omega (arith, there, ap (λ t. length t.headers) view)
 
   apart_here : (n : ℕ) → Contains ns n → frozen_state_in_memory m n ≢ Shared
-  apart_here n has shared = apart n has (ap (λ (t : StoreState D). frozen_state_at t.frozen_state n) (sym view) ∙ frozen_state_entry m n (known_here n has)
-      ∙ shared)
+  apart_here n has shared = apart n has (ap (λ t. frozen_state_at t.frozen_state n) (sym view) ∙ frozen_state_entry m n (known_here n has) ∙ shared)
 
   pub mark_stands : (total : ℕ) → total ≡ touched_count (touching m.touched ns) → total ≤ (stored_of disk d).saved.geometry.log →
       IsCache (stored_of disk d) (marking ns m) left total
-  mark_stands = marked_cache (stored_of disk d) m left count is ns known_here apart_here
+  mark_stands = marked_cache is ns known_here apart_here
 
   pub mark_seen : cache_of disk d (marking ns m) left order most_entries ≡ record s { touched = touching s.touched ns; dirty = touching s.dirty ns }
   unfolding contents_in
   mark_seen =
-      let old = cache_of disk d m left order most_entries in
-      ap (λ (fs : List Frame). record old {
+      (λ k. record (cache_of disk d m left order most_entries) {
         touched = touching m.touched ns;
         dirty = touching m.dirty ns;
-        frozen_state = frozen_states_in (marking ns m);
-        frozen = option_map (λ (f : FrozenPuts). record { frames = fs; size = f.size; left = left }) (stored_of disk d).frozen;
-      }) (marked_frozen (stored_of disk d) m left count is ns known_here apart_here)
-      ∙ ap (λ (os : List FrozenState). record old { touched = touching m.touched ns; dirty = touching m.dirty ns; frozen_state = os })
-      (marked_frozen_state (stored_of disk d) m left count is ns known_here apart_here)
-      ∙ ap (λ (t : StoreState D). record t { touched = touching t.touched ns; dirty = touching t.dirty ns }) view
+        frozen_state = marked_frozen_state is ns known_here apart_here k;
+        frozen = option_map (λ f. record { frames = marked_frozen is ns known_here apart_here k; size = f.size; left = left }) (stored_of disk d).frozen;
+      }) ∙ ap (λ (t : StoreState D). record t { touched = touching t.touched ns; dirty = touching t.dirty ns }) view
+
+-- ---- numbers are made ready to be written: first copies of frozen bodies, and marks last
+
+module _ {D : Type 0} (disk : D → Disk) where
+  module _ (only_now : (d : D) (c : Image) → (disk d).left_since (disk d).moment c → (disk d).may_leave c) where
+    pub mark_continues : (s : StoreState D) (ts ds : List Bool) → touched_count s.touched ≤ touched_count ts →
+        GoesOnIn disk s (record s { touched = ts; dirty = ds })
+    mark_continues s ts ds grows = record {
+      goes_on = goes_none (disk s.durable.beneath) s.durable.books (only_now s.durable.beneath);
+      snapshots = refl;
+      later = omega arith;
+      grows = grows;
+      capacity = refl;
+      only_reads = λ none idle. peeks_started (disk s.durable.beneath) (only_now s.durable.beneath);
+    }
+
+module _ {D : Type 0} (disk : D → Disk) {d : DurableState D} {m : Memory} {left count : ℕ} {order : List ℕ} {most_entries : ℕ} {s : StoreState D}
+    (view : cache_of disk d m left order most_entries ≡ s) (is : IsCache (stored_of disk d) m left count) where
+  contents_count : length (contents_in (stored_of disk d) m) ≡ length m.headers
+  unfolding contents_in
+  contents_count = length-map-range_with_len (content_at (stored_of disk d) m) 0 (length m.headers)
+
+  -- what is marked may be written
+  pub marked_announced : (ns : List ℕ) (n : ℕ) → n < length s.headers → Contains ns n →
+      IsAnnouncedIn (record s { touched = touching s.touched ns; dirty = touching s.dirty ns }) n
+  marked_announced ns n known has = record {
+    header = known;
+    content = omega (arith, known, contents_count, ap (λ t. length t.headers) view, ap (λ t. length t.contents) view);
+    dirty = listed_is_marked s.dirty ns n has
+        (omega (arith, known, is.headers, is.dirty_marks, ap (λ t. length t.headers) view, ap (λ t. length t.dirty) view));
+  }
+
+  -- what is to be put already may be written
+  module _ (ns : List ℕ) (known : (n : ℕ) → Contains ns n → n < length s.headers) (same : touching m.dirty ns ≡ m.dirty) where
+    dirty_already : (n : ℕ) → Contains ns n → mark_at m.dirty n ≡ true
+    dirty_already n has =
+        ap (λ ts. mark_at ts n) (sym same)
+        ∙ listed_is_marked m.dirty ns n has (let there = known n has in omega (arith, there, is.headers, is.dirty_marks, ap (λ t. length t.headers) view))
+
+    pub ready_touched : touching s.touched ns ≡ s.touched
+    ready_touched = subst (λ t. touching t.touched ns ≡ t.touched) view (all_marked m.touched ns (λ n has. is.marked n (dirty_already n has)))
+
+    pub ready_announced : (n : ℕ) → Contains ns n → IsAnnouncedIn s n
+    ready_announced n has = record {
+      header = known n has;
+      content = let there = known n has in omega (arith, there, contents_count, ap (λ t. length t.headers) view, ap (λ t. length t.contents) view);
+      dirty = ap (λ t. mark_at t.dirty n) (sym view) ∙ dirty_already n has;
+    }

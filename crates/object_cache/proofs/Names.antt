@@ -6,8 +6,8 @@ pub use Rattle.cache_entries.specs.Entries.{Entry, changing, entry_at, kept_of, 
 pub use Rattle.cache_entries.specs.Order.{AreOrdered, EntriesState, used_in_turn, used_longest_ago, used_now, with_new, without}
 pub use Rattle.capability.proofs.FrameLists.{frame_in, length_in}
 pub use Rattle.capability.proofs.Keeping.{keepable_at}
-pub use Rattle.capability.specs.Objects.{with_root_in, with_slots_in}
-pub use Rattle.capability.specs.Parts.{Becomes, HaveTheirRoles, frames_of, fresh_content}
+pub use Rattle.capability.specs.Objects.{changed_root, with_root_in, with_slots_in}
+pub use Rattle.capability.specs.Parts.{Becomes, HaveTheirRoles, fresh_content}
 pub use Rattle.checkpoint.proofs.Lists.{maps_same}
 pub use Rattle.checkpoint.specs.Opened.{OnlyReads}
 pub use Rattle.checkpoint.specs.Refused.{IsCommitAnswer, IsJournalAnswer}
@@ -42,24 +42,26 @@ pub use Rattle.model.specs.declared.answer.Unjournaled.TheVariants.{NotPage, Ren
 pub use Rattle.model.specs.declared.capability.Cap.{Cap}
 pub use Rattle.model.specs.declared.frame.Frame.{Frame}
 pub use Rattle.model.specs.declared.frame.ObjectHeader.{ObjectHeader}
-pub use Rattle.model.specs.declared.geometry.Geometry.{Geometry}
 pub use Rattle.model.specs.declared.object.Content.{Content}
 pub use Rattle.model.specs.declared.object.Role.{Role}
-pub use Rattle.number_set.specs.Marks.{HasNoneMarked, IsNextMarked}
+pub use Rattle.number_set.specs.Marks.{HasNoneMarked}
 pub use Rattle.object_store.proofs.Journaling.{content_is_page, journal_there, known_page, next_same, page_is, role_is_page}
 pub use Rattle.object_store.specs.Journal.{is_page_role, next_journaled}
 pub use Rattle.object_store.specs.Store.{FrozenFrames, OpensStore, all_frozen, stabilized, whole}
 pub use Rattle.std.proofs.Common.{Bool, Err, IsSome, List, None, Ok, Option, Result, Some, [], ap, arith, cond, eqb, false, get_or, inl, inr, is_some, length}
 pub use Rattle.std.proofs.Common.{length-set, map, nat_eq, nat_lt, option_map, refl, replicate, rules, set, subst, suc, sym, take, true, true≢false, zero, ℕ}
 pub use Rattle.std.proofs.Math.ListN.{get_or-map}
+pub use Rattle.std.proofs.Math.Seq.{map-set_same}
 pub use Rattle.std.proofs.lemmas.Bool.{cases_eq, cases_lt, eq-eqb, eqb-false, eqb-true, ne_eqb}
 pub use Rattle.std.proofs.lemmas.List.{ext_get_or, get_or-replicate, get_or-set_other, get_or-set_same, get_or_append_left, get_or_at, get_or_default}
-pub use Rattle.std.proofs.lemmas.List.{get_or_past, length-append, length-map, length-replicate, map-set, same_lists, set-get_or, take_all, take_more}
+pub use Rattle.std.proofs.lemmas.List.{get_or_past, length-append, length-map, length-replicate, length-take, map-set, same_lists, set-get_or, take-take}
+pub use Rattle.std.proofs.lemmas.List.{take_all, take_more}
 pub use Rattle.std.proofs.lemmas.List.Elements.{All-contains}
+pub use Rattle.std.proofs.lemmas.List.Folds.{sum_by-replicate}
 pub use Rattle.std.proofs.lemmas.List.FromFn.{get_or-map-range_with_len, length-map-range_with_len}
 pub use Rattle.std.proofs.lemmas.List.Sums.{sum_by-cons, sum_by-set}
 pub use Rattle.std.proofs.lemmas.Option.{none-some, same_Some}
-pub use Rattle.std.specs.List.{All, Contains, list_any, range_with_len, slice_get}
+pub use Rattle.std.specs.List.{Contains, list_any, range_with_len, slice_get}
 pub use Rattle.std.specs.Prelude.{OnErr, OnOk, count_by, slice_index_or}
 pub use Rattle.object_cache.specs.Journaled.{entry_body, held_now}
 pub use Rattle.object_cache.specs.Memory.{Apart, FrozenState, Held, Memory, Nothing, Shared, apart_body, below_body, content_at, frozen_at, frozen_body}
@@ -67,10 +69,10 @@ pub use Rattle.object_cache.specs.Memory.{frozen_frame, frozen_state_body, froze
 pub use Rattle.object_cache.specs.Memory.{in_staging, is_shared, mark_at, masked, memory_of, newest_body, own_body, own_body_of, own_frame, present_at}
 pub use Rattle.object_cache.specs.Memory.{present_body, put_body, released}
 unfoldable pub use Rattle.object_cache.specs.Memory.{contents_in, frozen_in, frozen_states_in}
-pub use Rattle.object_cache.specs.Prepared.{IsRecentIn, UsesSome, on_device_with, readied}
+pub use Rattle.object_cache.specs.Prepared.{IsRecentIn, UsesSome, on_device_with}
 pub use Rattle.object_cache.specs.PresentLaws.{continues_same, goes_on_same, goes_on_twice}
 pub use Rattle.object_cache.specs.StoreState.{AreAll, AreFrozen, AreTaken, ContinuesIn, GoesOnIn, HaveRoom, HaveSpace, HoldBodies, IsAnnouncedIn, IsBounded}
-pub use Rattle.object_cache.specs.StoreState.{IsCache, IsFetchedIn, IsJustOpened, IsOpenOver, IsWhole, PutsBy, StoreState, TakenState, all_of, bodies_of}
-pub use Rattle.object_cache.specs.StoreState.{cache_of, cached_at, frozen_seen, frozen_state_at, is_kept, on_device, on_device_frozen, parts_of, pending_count}
-pub use Rattle.object_cache.specs.StoreState.{snapshots_of, view_of, with_cached, with_content_in, without_cached}
+pub use Rattle.object_cache.specs.StoreState.{IsCache, IsFetchedIn, IsJustOpened, IsOpenOver, IsWhole, MayPutFrozen, PutsBy, StoreState, TakenState, all_of}
+pub use Rattle.object_cache.specs.StoreState.{bodies_of, cache_of, cached_at, frozen_seen, frozen_state_at, is_kept, on_device, on_device_frozen, parts_of}
+pub use Rattle.object_cache.specs.StoreState.{pending_count, snapshots_of, view_of, with_cached, with_content_in, without_cached}
 unfoldable pub use Rattle.object_cache.specs.StoreState.{cached_in}

@@ -23,7 +23,7 @@ module _ {D : Type 0} (hs : StoreState D → List ObjectHeader) (cs : StoreState
   }
 
   whole_after : (s t : StoreState D) → t ≡ record s { headers = hs s; contents = cs s } → IsWhole s → IsWhole t
-  whole_after s t is whole = subst (λ (x : StoreState D). IsWhole x) (sym is) (λ n within. fetched_after s n (whole n (omega (arith, within, header_count s))))
+  whole_after s t is whole = subst (λ x. IsWhole x) (sym is) (λ n within. fetched_after s n (whole n (omega (arith, within, header_count s))))
 
   module _ (all : Bool) (disk : D → Disk) (only_now : (d : D) (c : Image) → (disk d).left_since (disk d).moment c → (disk d).may_leave c) where
     continues_after : (s : StoreState D) → ContinuesIn all disk s (edited s)
@@ -42,9 +42,9 @@ module _ {D : Type 0} (hs : StoreState D → List ObjectHeader) (cs : StoreState
     becomes : (i s t : StoreState D) → i ≡ s → t ≡ record i { headers = hs i; contents = cs i } →
         Becomes (parts_of disk) IsFetchedIn IsAnnouncedIn (ContinuesIn all disk) s t (record (parts_of disk s) { headers = hs s; contents = cs s })
     becomes i s t view is =
-        subst (λ (x : StoreState D). Becomes (parts_of disk) IsFetchedIn IsAnnouncedIn (ContinuesIn all disk) x t
+        subst (λ x. Becomes (parts_of disk) IsFetchedIn IsAnnouncedIn (ContinuesIn all disk) x t
         (record (parts_of disk x) { headers = hs x; contents = cs x })) view
-        (subst (λ (x : StoreState D). Becomes (parts_of disk) IsFetchedIn IsAnnouncedIn (ContinuesIn all disk) i x
+        (subst (λ x. Becomes (parts_of disk) IsFetchedIn IsAnnouncedIn (ContinuesIn all disk) i x
         (record (parts_of disk i) { headers = hs i; contents = cs i })) (sym is) (record {
           parts_are = refl;
           fetched = fetched_after i;

@@ -1,12 +1,14 @@
 -- The present body of an object in an entry is put, or was to be.
-use Rattle.object_cache.proofs.Names.{inl, inr, ℕ, zero, suc, Bool, true, false, true≢false, cond, List, [], length, set, Option, Some, option_map, refl, sym}
-use Rattle.object_cache.proofs.Names.{ap, subst, arith, length-set, cases_eq, get_or-set_same, get_or-set_other, get_or_past, sum_by-cons, none-some, Cap}
-use Rattle.object_cache.proofs.Names.{Frame, ObjectHeader, Content, header_at, held_at, IsKeepable, touched_count, Disk, Put, Absent, Broken, Kept, put_at}
-use Rattle.object_cache.proofs.Names.{held_slot, sum_of, HasFreeSlot, most, DurableState, Stored, GoesOn, stored_of, with_working, maps_same, Entry, entry_at}
-use Rattle.object_cache.proofs.Names.{present_of, Memory, mark_at, put_body, present_body, content_at, present_at, newest_body, below_body, contents_in}
-use Rattle.object_cache.proofs.Names.{frozen_in, frozen_states_in, StoreState, IsCache, IsFetchedIn, GoesOnIn, cache_of, is_kept, frozen_seen}
+use Rattle.object_cache.proofs.Names.{inl, inr, ℕ, zero, suc, Bool, true, false, true≢false, cond, List, [], length, set, Some, option_map, refl, sym, ap}
+use Rattle.object_cache.proofs.Names.{subst, arith, length-set, cases_eq, get_or-set_same, get_or-set_other, sum_by-cons, none-some, Cap, ObjectHeader, Content}
+use Rattle.object_cache.proofs.Names.{header_at, held_at, IsKeepable, touched_count, Disk, Put, Absent, Broken, Kept, put_at, held_slot, sum_of, HasFreeSlot}
+use Rattle.object_cache.proofs.Names.{most, DurableState, Stored, GoesOn, stored_of, with_working, maps_same, Entry, entry_at, present_of, Memory, mark_at}
+use Rattle.object_cache.proofs.Names.{put_body, present_body, content_at, present_at, newest_body, below_body, contents_in, frozen_in, frozen_states_in}
+use Rattle.object_cache.proofs.Names.{StoreState, IsCache, IsFetchedIn, GoesOnIn, cache_of, is_kept, frozen_seen}
 use Rattle.std.proofs.Common.{◌≡◌, ◌≢◌, ◌⊎◌, ◌<◌, ◌≤◌, ◌∷◌, ◌∙◌}
-use Rattle.object_cache.proofs.Objects.{some_of, has_entry, fetched_known, content_in, present_is}
+use Rattle.object_cache.proofs.Leading.{IsNext, next_as}
+use Rattle.object_cache.proofs.Marking.{one_fewer}
+use Rattle.object_cache.proofs.Objects.{entry_found, fetched_known, content_in, present_is}
 
 -- ---- slots
 
@@ -23,8 +25,7 @@ held_touched (p ∷ ps) (true ∷ ts) count each =
   where
     one_slot : (q : Put) → held_slot q ≤ 1
     one_slot Absent = omega arith
-    one_slot Broken = omega arith
-    one_slot (Kept f) = omega arith
+    one_slot other = omega arith
 held_touched (p ∷ ps) (false ∷ ts) count each =
     let total = sum_by-cons (λ b. cond b 1 0) false ts in
     let rest = held_touched ps ts (omega (arith, count)) (λ k. each (suc k)) in
@@ -34,29 +35,13 @@ held_touched (p ∷ ps) (false ∷ ts) count each =
 -- and fewer, where one that was written has none
 held_short : (ps : List Put) (ts : List Bool) (n : ℕ) → length ps ≡ length ts → ((k : ℕ) → mark_at ts k ≡ false → put_at ps k ≡ Absent) → mark_at ts n ≡ true →
     put_at ps n ≡ Absent → sum_of held_slot ps < touched_count ts
-unfolding sum_of
-held_short ps [] n count each marked none = absurd (true≢false (sym marked ∙ get_or_past [] n false (omega arith)))
-held_short [] (t ∷ ts) n count each marked none = absurd (omega (arith, count))
-held_short (p ∷ ps) (true ∷ ts) zero count each marked none =
-    let total = sum_by-cons (λ b. cond b 1 0) true ts in
-    let rest = held_touched ps ts (omega (arith, count)) (λ k. each (suc k)) in
-    let no_slot : held_slot p ≡ 0 = ap held_slot none in
-    omega (arith, total, rest, no_slot)
-held_short (p ∷ ps) (false ∷ ts) zero count each marked none = absurd (true≢false (sym marked))
-held_short (p ∷ ps) (true ∷ ts) (suc n) count each marked none =
-    let total = sum_by-cons (λ b. cond b 1 0) true ts in
-    let rest = held_short ps ts n (omega (arith, count)) (λ k. each (suc k)) marked none in
-    omega (arith, total, rest, one_slot p)
-  where
-    one_slot : (q : Put) → held_slot q ≤ 1
-    one_slot Absent = omega arith
-    one_slot Broken = omega arith
-    one_slot (Kept f) = omega arith
-held_short (p ∷ ps) (false ∷ ts) (suc n) count each marked none =
-    let total = sum_by-cons (λ b. cond b 1 0) false ts in
-    let rest = held_short ps ts n (omega (arith, count)) (λ k. each (suc k)) marked none in
-    let no_slot : held_slot p ≡ 0 = ap held_slot (each zero refl) in
-    omega (arith, total, rest, no_slot)
+held_short ps ts n count each marked none =
+    let less = one_fewer ts n marked in
+    let few = held_touched ps (set ts n false) (count ∙ sym (length-set ts n false)) (λ k unmarked. elim (cases_eq k n) [
+      | inl same ↦ ap (put_at ps) same ∙ none
+      | inr other ↦ each k (sym (get_or-set_other ts n k false false other) ∙ unmarked)
+    ]) in
+    omega (arith, less, few)
 
 pub has_free_slot : (room : ℕ) (ps : List Put) (ts : List Bool) (n : ℕ) → length ps ≡ length ts → ((k : ℕ) → mark_at ts k ≡ false → put_at ps k ≡ Absent) →
     mark_at ts n ≡ true → touched_count ts ≤ room → HasFreeSlot room ps n
@@ -73,22 +58,13 @@ has_free_slot room ps ts n count each marked within = go (put_at ps n) refl
         kept_absent : Kept f ≡ Absent → ⊥
         kept_absent e = cc
 
-pub some_touched : (ts : List Bool) (n : ℕ) → mark_at ts n ≡ true → 0 < touched_count ts
-some_touched [] n marked = absurd (true≢false (sym marked ∙ get_or_past [] n false (omega arith)))
-some_touched (true ∷ ts) n marked = let total = sum_by-cons (λ b. cond b 1 0) true ts in omega (arith, total)
-some_touched (false ∷ ts) zero marked = absurd (true≢false (sym marked))
-some_touched (false ∷ ts) (suc n) marked =
-    let total = sum_by-cons (λ b. cond b 1 0) false ts in
-    let rest = some_touched ts n marked in
-    omega (arith, total, rest)
-
 -- ---- a working frame
 
 -- with other numbers that are to be put
 abbrev pub with_dirty : Memory → List Bool → Memory
 with_dirty m ds = record m { dirty = ds }
 
-module _ (s : Stored) (m : Memory) (left count : ℕ) (is : IsCache s m left count) (n : ℕ) (within : n < length m.headers) (e : Entry)
+module _ {s : Stored} {m : Memory} {left count : ℕ} (is : IsCache s m left count) (n : ℕ) (within : n < length m.headers) (e : Entry)
     (at : entry_at m.entries n ≡ Some e) (dirty : mark_at m.dirty n ≡ true)
     (p : Put) (ds : List Bool) (size : length ds ≡ length m.dirty) (others : (k : ℕ) → k ≢ n → mark_at ds k ≡ mark_at m.dirty k)
     (here : (mark_at ds n ≡ true) ⊎ (p ≡ Kept (present_at s m n))) where
@@ -108,14 +84,13 @@ module _ (s : Stored) (m : Memory) (left count : ℕ) (is : IsCache s m left cou
   content_stays k = elim (cases_eq k n) [
     | inl same ↦
         ap (content_at after (with_dirty m ds)) same
-        ∙ ap (λ (o : Option Entry). present_body o (header_at m.headers n).role (newest_body after m n)) at
-        ∙ sym (ap (λ (o : Option Entry). present_body o (header_at m.headers n).role (newest_body s m n)) at)
-        ∙ ap (content_at s m) (sym same)
-    | inr other ↦ ap (λ (q : Put). present_body (entry_at m.entries k) (header_at m.headers k).role (put_body q (below_body s m k))) (put_elsewhere k other)
+        ∙ ap (λ o. present_body o (header_at m.headers n).role (newest_body after m n)) at
+        ∙ sym (ap (λ o. present_body o (header_at m.headers n).role (newest_body s m n)) at) ∙ ap (content_at s m) (sym same)
+    | inr other ↦ ap (λ q. present_body (entry_at m.entries k) (header_at m.headers k).role (put_body q (below_body s m k))) (put_elsewhere k other)
   ]
 
   present_stays : (k : ℕ) → present_at after (with_dirty m ds) k ≡ present_at s m k
-  present_stays k = ap (λ (c : Content Cap). record { header = header_at m.headers k; content = c }) (content_stays k)
+  present_stays k = ap (λ c. record { header = header_at m.headers k; content = c }) (content_stays k)
 
   pub contents_put : contents_in after (with_dirty m ds) ≡ contents_in s m
   unfolding contents_in
@@ -159,38 +134,19 @@ module _ (s : Stored) (m : Memory) (left count : ℕ) (is : IsCache s m left cou
     ];
   }
 
-  -- what is seen of it, over the durable store that was left
-  module _ {D : Type 0} (disk : D → Disk) (old new : DurableState D) (order : List ℕ) (most_entries : ℕ) (was : stored_of disk old ≡ s)
-      (put : stored_of disk new ≡ after) where
-    pub seen_put : cache_of disk new (with_dirty m ds) left order most_entries ≡ record
-        (cache_of disk old m left order most_entries) { durable = new; dirty = ds }
-    unfolding frozen_in frozen_states_in
-    seen_put =
-        ap (λ (t : Stored). record
-        (cache_of disk old m left order most_entries) {
-          durable = new;
-          dirty = ds;
-          contents = contents_in t (with_dirty m ds);
-          frozen = frozen_seen t (with_dirty m ds) left;
-        }) put
-        ∙ ap (λ (cs : List (Content Cap)). record
-        (cache_of disk old m left order most_entries) { durable = new; dirty = ds; contents = cs; frozen = frozen_seen s m left }) contents_put
-        ∙ ap (λ (t : Stored). record
-        (cache_of disk old m left order most_entries) { durable = new; dirty = ds; contents = contents_in t m; frozen = frozen_seen t m left }) (sym was)
-
 -- ---- the same by what is seen
 
-module _ {D : Type 0} (disk : D → Disk) (d : DurableState D) (m : Memory) (left count : ℕ) (order : List ℕ) (most_entries : ℕ) (s : StoreState D)
+module _ {D : Type 0} (disk : D → Disk) {d : DurableState D} {m : Memory} {left count : ℕ} {order : List ℕ} {most_entries : ℕ} {s : StoreState D}
     (view : cache_of disk d m left order most_entries ≡ s) (is : IsCache (stored_of disk d) m left count) (n : ℕ) (fetched : IsFetchedIn s n)
     (dirty : mark_at s.dirty n ≡ true) where
   known_here : n < length m.headers
-  known_here = fetched_known disk d m left order most_entries s view n fetched
+  known_here = fetched_known disk view is n fetched
 
   entry_here : (e : Entry) × (entry_at m.entries n ≡ Some e)
-  entry_here = some_of (entry_at m.entries n) (has_entry disk d m left order most_entries s view n fetched)
+  entry_here = entry_found disk view is n fetched
 
   dirty_here : mark_at m.dirty n ≡ true
-  dirty_here = ap (λ (t : StoreState D). mark_at t.dirty n) view ∙ dirty
+  dirty_here = ap (λ t. mark_at t.dirty n) view ∙ dirty
 
   touched_here : mark_at m.touched n ≡ true
   touched_here = is.marked n dirty_here
@@ -199,86 +155,70 @@ module _ {D : Type 0} (disk : D → Disk) (d : DurableState D) (m : Memory) (lef
   room_here = has_free_slot (stored_of disk d).saved.geometry.log (stored_of disk d).working m.touched n (is.puts ∙ sym is.marks) is.unput touched_here
       (omega (arith, is.within, is.counted))
 
-  module _ (header : ObjectHeader) (x : Content Cap) (header_is : header ≡ header_at m.headers n) (x_is : option_map present_of (entry_at m.entries n) ≡ Some x)
-    where
-      abbrev frame : Frame
-      frame = record { header = header; content = x }
+  -- its slot was written
+  module _ {new : DurableState D} {p : Put} {ds : List Bool} (size : length ds ≡ length m.dirty)
+      (others : (k : ℕ) → k ≢ n → mark_at ds k ≡ mark_at m.dirty k)
+      (here : (mark_at ds n ≡ true) ⊎ (p ≡ Kept (present_at (stored_of disk d) m n))) (put : stored_of disk new ≡ with_working n p (stored_of disk d))
+      (goes : GoesOn disk d new) (later : (disk d.beneath).failures ≤ (disk new.beneath).failures) where
+    seen_put : cache_of disk new (with_dirty m ds) left order most_entries ≡ record s { durable = new; dirty = ds }
+    unfolding frozen_in frozen_states_in
+    seen_put =
+        ap (λ t. record (cache_of disk d m left order most_entries) {
+          durable = new;
+          dirty = ds;
+          contents = contents_in t (with_dirty m ds);
+          frozen = frozen_seen t (with_dirty m ds) left;
+        }) put
+        ∙ (λ k. record (view k) {
+          durable = new;
+          dirty = ds;
+          contents = (contents_put is n known_here entry_here.0 entry_here.1 dirty_here p ds size others here ∙ ap (λ t. t.contents) view) k;
+        })
 
-      frame_is : frame ≡ present_at (stored_of disk d) m n
-      frame_is =
-          ap (λ (h : ObjectHeader). record { header = h; content = x }) header_is
-          ∙ ap (λ (c : Content Cap). record { header = header_at m.headers n; content = c })
-          (sym (present_is (entry_at m.entries n) x (header_at m.headers n).role (newest_body (stored_of disk d) m n) x_is))
+    put_next : IsNext disk s new (with_dirty m ds) left count order most_entries (record s { durable = new; dirty = ds })
+    put_next = record {
+      is = subst (λ t. IsCache t (with_dirty m ds) left count) (sym put) (put_cache is n known_here entry_here.0 entry_here.1 dirty_here p ds size others here);
+      view = seen_put;
+      continues = subst (GoesOnIn disk s) (sym seen_put) (record {
+        goes_on = subst (λ t. GoesOn disk t.durable new) view goes;
+        snapshots =
+            ap (λ u. record { frozen = s.frozen; saved = u.saved; to_move = u.to_move }) put
+            ∙ ap (λ t. record { frozen = s.frozen; saved = (stored_of disk t.durable).saved; to_move = (stored_of disk t.durable).to_move })
+            view;
+        later = subst (λ t. (disk t.durable.beneath).failures ≤ (disk new.beneath).failures) view later;
+        grows = omega arith;
+        capacity = refl;
+        only_reads = λ none idle. absurd (omega (arith, none, one_fewer s.touched n (ap (λ t. mark_at t.touched n) (sym view) ∙ touched_here)));
+      });
+    }
 
-      pub keepable_here : IsKeepable (stored_of disk s.durable).saved.geometry most n
-          (record { header = header_at s.headers n; content = held_at s.contents n })
-          → IsKeepable (stored_of disk d).saved.geometry most n frame
-      keepable_here keepable =
-          let seen : IsKeepable (stored_of disk d).saved.geometry most n
-          (record { header = header_at m.headers n; content = held_at (contents_in (stored_of disk d) m) n }) =
-          subst (λ (t : StoreState D). IsKeepable (stored_of disk t.durable).saved.geometry most n
-          (record { header = header_at t.headers n; content = held_at t.contents n })) (sym view) keepable in
-          subst (IsKeepable (stored_of disk d).saved.geometry most n)
-          (ap (λ (c : Content Cap). record { header = header_at m.headers n; content = c }) (content_in (stored_of disk d) m n known_here) ∙ sym frame_is) seen
+  -- its slot may hold any bytes
+  pub unput_next : {new : DurableState D} → stored_of disk new ≡ with_working n Broken (stored_of disk d) → GoesOn disk d new →
+      (disk d.beneath).failures ≤ (disk new.beneath).failures → IsNext disk s new m left count order most_entries (record s { durable = new })
+  unput_next {new = new} put goes later = next_as (put_next refl (λ k other. refl) (inl dirty_here) put goes later)
+      (ap (λ t. record s { durable = new; dirty = t.dirty }) view)
 
-      module _ (new : DurableState D) where
-        module _ (p : Put) (ds : List Bool) (size : length ds ≡ length m.dirty) (others : (k : ℕ) → k ≢ n → mark_at ds k ≡ mark_at m.dirty k)
-            (here : (mark_at ds n ≡ true) ⊎ (p ≡ Kept (present_at (stored_of disk d) m n))) (put : stored_of disk new ≡ with_working n p (stored_of disk d))
-          where
-            stands_put : IsCache (stored_of disk new) (with_dirty m ds) left count
-            stands_put = subst (λ (t : Stored). IsCache t (with_dirty m ds) left count) (sym put)
-                (put_cache (stored_of disk d) m left count is n known_here entry_here.0 entry_here.1 dirty_here p ds size others here)
+  module _ {header : ObjectHeader} {x : Content Cap} (header_is : header ≡ header_at m.headers n)
+      (x_is : option_map present_of (entry_at m.entries n) ≡ Some x) where
+    frame_is : record { header = header; content = x } ≡ present_at (stored_of disk d) m n
+    frame_is = λ k. record {
+      header = header_is k;
+      content = sym (present_is (entry_at m.entries n) x (header_at m.headers n).role (newest_body (stored_of disk d) m n) x_is) k;
+    }
 
-            seen_then : cache_of disk new (with_dirty m ds) left order most_entries ≡ record s { durable = new; dirty = ds }
-            seen_then =
-                seen_put (stored_of disk d) m left count is n known_here entry_here.0 entry_here.1 dirty_here p ds size others here disk d new order
-                most_entries
-                refl put
-                ∙ ap (λ (t : StoreState D). record t { durable = new; dirty = ds }) view
+    pub keepable_here : IsKeepable (stored_of disk s.durable).saved.geometry most n
+        (record { header = header_at s.headers n; content = held_at s.contents n })
+        → IsKeepable (stored_of disk d).saved.geometry most n (record { header = header; content = x })
+    keepable_here keepable =
+        subst (IsKeepable (stored_of disk d).saved.geometry most n)
+        (ap (λ c. record { header = header_at m.headers n; content = c }) (content_in (stored_of disk d) m n known_here) ∙ sym frame_is)
+        (subst (λ t. IsKeepable (stored_of disk t.durable).saved.geometry most n
+        (record { header = header_at t.headers n; content = held_at t.contents n })) (sym view) keepable)
 
-            continues_then : GoesOn disk d new → (disk d.beneath).failures ≤ (disk new.beneath).failures →
-                GoesOnIn disk s (cache_of disk new (with_dirty m ds) left order most_entries)
-            continues_then goes later = subst (GoesOnIn disk s) (sym seen_then) (record {
-              goes_on = subst (λ (t : StoreState D). GoesOn disk t.durable new) view goes;
-              snapshots =
-                  ap (λ (u : Stored). record { frozen = s.frozen; saved = u.saved; to_move = u.to_move }) put
-                  ∙ ap (λ (t : StoreState D).
-                  record { frozen = s.frozen; saved = (stored_of disk t.durable).saved; to_move = (stored_of disk t.durable).to_move })
-                  view;
-              later = subst (λ (t : StoreState D). (disk t.durable.beneath).failures ≤ (disk new.beneath).failures) view later;
-              grows = omega arith;
-              capacity = refl;
-              only_reads = λ none idle. absurd
-                  (omega (arith, none, some_touched s.touched n (ap (λ (t : StoreState D). mark_at t.touched n) (sym view) ∙ touched_here)));
-            })
-
-        -- it is put
-        module _ (put : stored_of disk new ≡ with_working n (Kept frame) (stored_of disk d)) where
-          others_stay : (k : ℕ) → k ≢ n → mark_at (set m.dirty n false) k ≡ mark_at m.dirty k
-          others_stay k other = get_or-set_other m.dirty n k false false other
-
-          pub ok_stands : IsCache (stored_of disk new) (with_dirty m (set m.dirty n false)) left count
-          ok_stands = stands_put (Kept frame) (set m.dirty n false) (length-set m.dirty n false) others_stay (inr (ap Kept frame_is)) put
-
-          pub ok_seen : cache_of disk new (with_dirty m (set m.dirty n false)) left order most_entries ≡ record s { durable = new; dirty = set s.dirty n false }
-          ok_seen =
-              seen_then (Kept frame) (set m.dirty n false) (length-set m.dirty n false) others_stay (inr (ap Kept frame_is)) put
-              ∙ ap (λ (t : StoreState D). record s { durable = new; dirty = set t.dirty n false }) view
-
-          pub ok_continues : GoesOn disk d new → (disk d.beneath).failures ≤ (disk new.beneath).failures →
-              GoesOnIn disk s (cache_of disk new (with_dirty m (set m.dirty n false)) left order most_entries)
-          ok_continues = continues_then (Kept frame) (set m.dirty n false) (length-set m.dirty n false) others_stay (inr (ap Kept frame_is)) put
-
-        -- or its slot may hold any bytes
-        module _ (put : stored_of disk new ≡ with_working n Broken (stored_of disk d)) where
-          pub err_stands : IsCache (stored_of disk new) m left count
-          err_stands = stands_put Broken m.dirty refl (λ k other. refl) (inl dirty_here) put
-
-          pub err_seen : cache_of disk new m left order most_entries ≡ record s { durable = new }
-          err_seen = seen_then Broken m.dirty refl (λ k other. refl) (inl dirty_here) put ∙
-              ap (λ (t : StoreState D). record s { durable = new; dirty = t.dirty })
-              view
-
-          pub err_continues : GoesOn disk d new → (disk d.beneath).failures ≤ (disk new.beneath).failures →
-              GoesOnIn disk s (cache_of disk new m left order most_entries)
-          err_continues = continues_then Broken m.dirty refl (λ k other. refl) (inl dirty_here) put
+    -- it is put
+    pub kept_next : {new : DurableState D} → stored_of disk new ≡ with_working n (Kept (record { header = header; content = x })) (stored_of disk d) →
+        GoesOn disk d new → (disk d.beneath).failures ≤ (disk new.beneath).failures →
+        IsNext disk s new (with_dirty m (set m.dirty n false)) left count order most_entries (record s { durable = new; dirty = set s.dirty n false })
+    kept_next {new = new} put goes later = next_as
+        (put_next (length-set m.dirty n false) (λ k other. get_or-set_other m.dirty n k false false other) (inr (ap Kept frame_is)) put goes later)
+        (ap (λ t. record s { durable = new; dirty = set t.dirty n false }) view)

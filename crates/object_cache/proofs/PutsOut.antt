@@ -1,20 +1,23 @@
--- The frozen frame of an object is put, or was to be, from the frozen body in its entry.
+-- The frozen frame of an object is put, or was to be, from its entry or from the staging buffer.
 use Rattle.object_cache.proofs.Names.{inl, inr, ℕ, Bool, true, false, true≢false, cond, List, length, map, set, Option, Some, None, option_map, refl, sym, ap}
 use Rattle.object_cache.proofs.Names.{subst, arith, length-set, count_by, range_with_len, cases_eq, cases_lt, eq-eqb, ne_eqb, get_or-set_same, get_or-set_other}
 use Rattle.object_cache.proofs.Names.{get_or_past, length-map-range_with_len, get_or-map-range_with_len, none-some, same_Some, Cap, Frame, ObjectHeader}
-use Rattle.object_cache.proofs.Names.{Content, blank_frame, header_at, IsKeepable, Disk, Put, Absent, Broken, Kept, put_at, HasFreeSlot, most, DurableState}
-use Rattle.object_cache.proofs.Names.{FrozenPuts, Stored, GoesOn, below_at, stored_of, with_frozen, FrozenFrames, Entry, Held, entry_at, with_entry, is_some}
-use Rattle.object_cache.proofs.Names.{own_body_of, Memory, FrozenState, Nothing, mark_at, in_staging, masked, released, own_body, own_frame, present_body}
-use Rattle.object_cache.proofs.Names.{content_at, newest_body, below_body, apart_body, frozen_body, frozen_frame, frozen_at, frozen_state_of, frozen_state_body}
-use Rattle.object_cache.proofs.Names.{frozen_state_in_memory, contents_in, frozen_in, frozen_states_in, StoreState, IsCache, IsFetchedIn, GoesOnIn, cache_of}
-use Rattle.object_cache.proofs.Names.{frozen_seen, is_kept, frozen_state_at, cached_in}
-use Rattle.std.proofs.Common.{◌≡◌, ◌≢◌, ◌<◌, ◌≤◌, ◌||◌, ◌∙◌}
-use Rattle.object_cache.proofs.FrozenPuts.{Releases, one_fewer, with_frame, without_pending, frozen_put_cache, contents_same, frozen_seen_same}
-use Rattle.object_cache.proofs.FrozenPuts.{frozen_state_now}
-use Rattle.object_cache.proofs.FrozenTorn.{torn_cache, torn_contents_same, torn_seen_same}
-use Rattle.object_cache.proofs.Objects.{fetched_known, has_entry, some_of, cached_stay}
+use Rattle.object_cache.proofs.Names.{Content, Role, blank_frame, header_at, IsKeepable, Disk, Put, Absent, Broken, Kept, put_at, HasFreeSlot, most}
+use Rattle.object_cache.proofs.Names.{DurableState, FrozenPuts, Stored, GoesOn, below_at, stored_of, with_frozen, Entry, Held, entry_at, with_entry, is_some}
+use Rattle.object_cache.proofs.Names.{put_body, own_body_of, Memory, FrozenState, Nothing, mark_at, in_staging, masked, released, own_body, own_frame}
+use Rattle.object_cache.proofs.Names.{present_body, content_at, newest_body, below_body, apart_body, frozen_body, frozen_frame, frozen_at, frozen_state_of}
+use Rattle.object_cache.proofs.Names.{frozen_state_body, frozen_state_in_memory, contents_in, frozen_in, frozen_states_in, StoreState, IsCache, IsFetchedIn}
+use Rattle.object_cache.proofs.Names.{GoesOnIn, cache_of, frozen_seen, is_kept, frozen_state_at, cached_in, MayPutFrozen}
+use Rattle.std.proofs.Common.{◌≡◌, ◌≢◌, ◌⊎◌, ◌<◌, ◌≤◌, ◌||◌, ◌∙◌}
+use Rattle.model.specs.declared.object.Content.TheVariants as content
+use Rattle.model.specs.declared.object.Role.TheVariants as role
+use Rattle.object_cache.proofs.FrozenPuts.{Releases, with_pending, put_releases, torn_releases, frozen_below, released_cache, contents_same, frozen_seen_same}
+use Rattle.object_cache.proofs.FrozenPuts.{state_put}
+use Rattle.object_cache.proofs.Leading.{IsNext, next_as}
+use Rattle.object_cache.proofs.Objects.{fetched_known, entry_found, cached_stay}
+use Rattle.object_cache.proofs.Marking.{marked_within, one_fewer}
 use Rattle.object_cache.proofs.Puts.{has_free_slot}
-use Rattle.object_cache.proofs.Caching.{frozen_state_entry}
+use Rattle.object_cache.proofs.Caching.{nothing_frozen_state, frozen_state_entry}
 
 -- ---- what is in the staging buffer, once it has released a number's body
 
@@ -22,18 +25,18 @@ pub released_others : (staging : Option Held) (n k : ℕ) (c : Content Cap) → 
 released_others None n k c other = refl
 released_others (Some h) n k c other = elim (cases_eq h.number n) [
   | inl same ↦
-      ap (λ (b : Bool). in_staging (cond b None (Some h)) k c) (eq-eqb h.number n same)
-      ∙ sym (ap (λ (b : Bool). cond b h.content c) (ne_eqb h.number k (λ is. other (sym is ∙ same))))
-  | inr differs ↦ ap (λ (b : Bool). in_staging (cond b None (Some h)) k c) (ne_eqb h.number n differs)
+      ap (λ b. in_staging (cond b None (Some h)) k c) (eq-eqb h.number n same)
+      ∙ sym (ap (λ b. cond b h.content c) (ne_eqb h.number k (λ is. other (sym is ∙ same))))
+  | inr differs ↦ ap (λ b. in_staging (cond b None (Some h)) k c) (ne_eqb h.number n differs)
 ]
 
 pub released_of : (staging : Option Held) (n : ℕ) (h : Held) → released n staging ≡ Some h → (h.number ≢ n) × (staging ≡ Some h)
 released_of None n h is = absurd (none-some h is)
 released_of (Some g) n h is = elim (cases_eq g.number n) [
-  | inl same ↦ absurd (none-some h (sym (ap (λ (b : Bool). cond b None (Some g)) (eq-eqb g.number n same)) ∙ is))
+  | inl same ↦ absurd (none-some h (sym (ap (λ b. cond b None (Some g)) (eq-eqb g.number n same)) ∙ is))
   | inr differs ↦
-      let one : Some g ≡ Some h = sym (ap (λ (b : Bool). cond b None (Some g)) (ne_eqb g.number n differs)) ∙ is in
-      ((λ there. differs (ap (λ (x : Held). x.number) (same_Some g h one) ∙ there)), one)
+      let one : Some g ≡ Some h = sym (ap (λ b. cond b None (Some g)) (ne_eqb g.number n differs)) ∙ is in
+      ((λ there. differs (ap (λ x. x.number) (same_Some g h one) ∙ there)), one)
 ]
 
 -- nothing is kept apart any more
@@ -49,8 +52,8 @@ no_put false Broken none torn = absurd (true≢false (sym (torn refl)))
 no_put true (Kept f) none torn = absurd (true≢false none)
 no_put false (Kept f) none torn = absurd (true≢false none)
 
-module _ {D : Type 0} (disk : D → Disk) (d : DurableState D) (m : Memory) (left count : ℕ) (order : List ℕ) (most_entries : ℕ) (s : StoreState D)
-    (view : cache_of disk d m left order most_entries ≡ s) (is : IsCache (stored_of disk d) m left count) (n : ℕ) (known : n < length m.headers)
+module _ {D : Type 0} (disk : D → Disk) {d : DurableState D} {m : Memory} {left count : ℕ} {order : List ℕ} {most_entries : ℕ} {s : StoreState D}
+    (view : cache_of disk d m left order most_entries ≡ s) (is : IsCache (stored_of disk d) m left count) {n : ℕ} (known : n < length m.headers)
     (pending : mark_at m.pending n ≡ true) where
   pub running_here : (f : FrozenPuts) × ((stored_of disk d).frozen ≡ Some f)
   running_here = go (stored_of disk d).frozen refl
@@ -59,30 +62,30 @@ module _ {D : Type 0} (disk : D → Disk) (d : DurableState D) (m : Memory) (lef
       go None none = absurd (true≢false (sym pending ∙ is.idle none n))
       go (Some f) some = (f, some)
 
-  pub frozen_room : (f : FrozenPuts) → (stored_of disk d).frozen ≡ Some f → HasFreeSlot f.size f.put n
+  frozen_room : (f : FrozenPuts) → (stored_of disk d).frozen ≡ Some f → HasFreeSlot f.size f.put n
   frozen_room f f_is =
       let are = is.running f f_is in
       let written : ℕ → Bool = (λ k. mark_at m.pending k || is_kept (put_at f.put k)) in
-      let marks = map (λ k. mark_at m.pending k || is_kept (put_at f.put k)) (range_with_len 0 (length m.pending)) in
-      let there : n < length m.pending = omega (arith, known, is.headers, is.pending_marks) in
-      has_free_slot f.size f.put marks n
-      (are.each ∙ sym (length-map-range_with_len (λ k. mark_at m.pending k || is_kept (put_at f.put k)) 0 (length m.pending)))
+      let at : (k : ℕ) → k < length m.pending → mark_at (map written (range_with_len 0 (length m.pending))) k ≡ written k = (λ k below.
+      get_or-map-range_with_len written 0 (length m.pending) k k false below (omega arith)) in
+      has_free_slot f.size f.put (map written (range_with_len 0 (length m.pending))) n
+      (are.each ∙ sym (length-map-range_with_len written 0 (length m.pending)))
       (λ k none. elim (cases_lt k (length m.pending)) [
-        | inl below ↦ no_put (mark_at m.pending k) (put_at f.put k)
-            (sym (get_or-map-range_with_len (λ i. mark_at m.pending i || is_kept (put_at f.put i)) 0 (length m.pending) k k false below (omega arith)) ∙ none)
-            (are.torn k)
+        | inl below ↦ no_put (mark_at m.pending k) (put_at f.put k) (sym (at k below) ∙ none) (are.torn k)
         | inr past ↦ get_or_past f.put k Absent (omega (arith, past, are.each))
-      ])
-      (get_or-map-range_with_len (λ i. mark_at m.pending i || is_kept (put_at f.put i)) 0 (length m.pending) n n false there (omega arith)
-      ∙ ap (λ (b : Bool). b || is_kept (put_at f.put n)) pending)
-      (omega (arith, are.size))
+      ]) (at n (omega (arith, known, is.headers, is.pending_marks)) ∙ ap (λ b. b || is_kept (put_at f.put n)) pending) (omega (arith, are.size))
 
-  pub frozen_keepable : IsKeepable (stored_of disk d).saved.geometry most n (frozen_at (stored_of disk d) m n)
+  pub frozen_ready : {g : Frame} → g ≡ frozen_at (stored_of disk d) m n → MayPutFrozen disk d n g
   unfolding frozen_in
-  frozen_keepable =
-      subst (IsKeepable (stored_of disk d).saved.geometry most n)
-      (get_or-map-range_with_len (frozen_at (stored_of disk d) m) 0 (length m.headers) n n blank_frame known (omega arith))
-      ((is.keepable running_here.0 running_here.1).each n (omega (arith, known, is.headers)))
+  frozen_ready {g = g} g_is = record {
+    running = running_here;
+    object = omega (arith, known, is.headers);
+    keepable =
+        subst (IsKeepable (stored_of disk d).saved.geometry most n)
+        (get_or-map-range_with_len (frozen_at (stored_of disk d) m) 0 (length m.headers) n n blank_frame known (omega arith) ∙ sym g_is)
+        ((is.keepable running_here.0 running_here.1).each n (omega (arith, known, is.headers)));
+    room = frozen_room;
+  }
 
   -- the store goes on while the frozen frame is put
   pub put_continues : (new : DurableState D) (p : Put) → stored_of disk new ≡ with_frozen n p (stored_of disk d) → GoesOn disk d new →
@@ -90,17 +93,70 @@ module _ {D : Type 0} (disk : D → Disk) (d : DurableState D) (m : Memory) (lef
       (ps : List Bool) (os : List FrozenState) (staging : Option Held) → GoesOnIn disk s
       (record s { durable = new; pending = ps; frozen_state = os; staging = staging })
   put_continues new p put goes later ps os staging = record {
-    goes_on = subst (λ (t : StoreState D). GoesOn disk t.durable new) view goes;
+    goes_on = subst (λ t. GoesOn disk t.durable new) view goes;
     snapshots =
-        ap (λ (u : Stored). record { frozen = s.frozen; saved = u.saved; to_move = u.to_move }) put
-        ∙ ap (λ (t : StoreState D). record { frozen = s.frozen; saved = (stored_of disk t.durable).saved; to_move = (stored_of disk t.durable).to_move }) view;
-    later = subst (λ (t : StoreState D). (disk t.durable.beneath).failures ≤ (disk new.beneath).failures) view later;
+        ap (λ u. record { frozen = s.frozen; saved = u.saved; to_move = u.to_move }) put
+        ∙ ap (λ t. record { frozen = s.frozen; saved = (stored_of disk t.durable).saved; to_move = (stored_of disk t.durable).to_move }) view;
+    later = subst (λ t. (disk t.durable.beneath).failures ≤ (disk new.beneath).failures) view later;
     grows = omega arith;
     capacity = refl;
     only_reads = λ none idle. absurd (none-some (record { frames = frozen_in (stored_of disk d) m; size = running_here.0.size; left = left })
-        (sym (sym (ap (option_map (λ (f : FrozenPuts). record { frames = frozen_in (stored_of disk d) m; size = f.size; left = left })) running_here.1) ∙
-        ap (λ (t : StoreState D). t.frozen) view ∙ idle)));
+        (sym (sym (ap (option_map (λ f. record { frames = frozen_in (stored_of disk d) m; size = f.size; left = left })) running_here.1) ∙
+        ap (λ t. t.frozen) view ∙ idle)));
   }
+
+  pub fewer_here : count_by (λ b. b) (set m.pending n false) < count_by (λ b. b) s.pending
+  fewer_here = omega (arith, one_fewer m.pending n pending, ap (λ t. count_by (λ b. b) t.pending) view)
+
+  -- its slot was written
+  module _ {new : DurableState D} {p : Put} {ps : List Bool} {es : List (Option Entry)} {staging : Option Held} {os : List FrozenState}
+      (put : stored_of disk new ≡ with_frozen n p (stored_of disk d)) (goes : GoesOn disk d new)
+      (later : (disk d.beneath).failures ≤ (disk new.beneath).failures) (rest : Releases (stored_of disk d) m n p ps es staging)
+      (cached : cached_in es ≡ cached_in m.entries) (states : frozen_states_in (with_pending m ps es staging) ≡ os) where
+    abbrev then : Memory
+    then = with_pending m ps es staging
+
+    released_seen : cache_of disk new (with_pending m ps es staging) left order most_entries ≡ record
+        s { durable = new; pending = ps; frozen_state = os; staging = staging }
+    released_seen =
+        let contents = ap (λ t. contents_in t then) put ∙ contents_same is known running_here.1 pending rest in
+        let frozen = ap (λ t. frozen_seen t then left) put ∙ frozen_seen_same is known running_here.1 pending rest in
+        (λ k. record (cache_of disk d m left order most_entries) {
+          durable = new;
+          contents = contents k;
+          pending = ps;
+          cached = cached k;
+          frozen_state = states k;
+          frozen = frozen k;
+          staging = staging;
+        }) ∙ ap (λ (t : StoreState D). record t { durable = new; pending = ps; frozen_state = os; staging = staging }) view
+
+    released_next : IsNext disk s new (with_pending m ps es staging) left count order most_entries
+        (record s { durable = new; pending = ps; frozen_state = os; staging = staging })
+    released_next = record {
+      is = subst (λ t. IsCache t then left count) (sym put) (released_cache is known running_here.1 pending rest);
+      view = released_seen;
+      continues = subst (GoesOnIn disk s) (sym released_seen) (put_continues new p put goes later ps os staging);
+    }
+
+    -- and it is pending no more
+    pub put_next : ps ≡ set m.pending n false → os ≡ set (frozen_states_in m) n Nothing →
+        IsNext disk s new (with_pending m ps es staging) left count order most_entries
+        (record s { durable = new; pending = set s.pending n false; frozen_state = set s.frozen_state n Nothing; staging = staging })
+    put_next ps_is os_is = next_as released_next
+        ((λ k. record s { durable = new; pending = ps_is k; frozen_state = os_is k; staging = staging })
+        ∙ ap (λ t. record s { durable = new; pending = set t.pending n false; frozen_state = set t.frozen_state n Nothing; staging = staging })
+        view)
+
+  -- it was torn
+  pub torn_next : {new : DurableState D} → stored_of disk new ≡ with_frozen n Broken (stored_of disk d) → GoesOn disk d new →
+      (disk d.beneath).failures ≤ (disk new.beneath).failures →
+      content_at (with_frozen n Broken (stored_of disk d)) m n ≡ content_at (stored_of disk d) m n →
+      frozen_at (with_frozen n Broken (stored_of disk d)) m n ≡ frozen_at (stored_of disk d) m n →
+      IsNext disk s new m left count order most_entries (record s { durable = new })
+  torn_next {new = new} put goes later content frozen = next_as
+      (released_next put goes later (torn_releases is pending content frozen) refl refl)
+      (ap (λ t. record s { durable = new; pending = t.pending; frozen_state = t.frozen_state; staging = t.staging }) view)
 
 -- ---- the body is in an entry
 
@@ -116,188 +172,211 @@ has_frozen_body e true touched frozen_state = (refl, go e.kept touched frozen_st
     go None true frozen_state below = absurd (frozen_state refl)
     go None false frozen_state below = refl
 
-module _ (s : Stored) (m : Memory) (left count : ℕ) (is : IsCache s m left count) (n : ℕ) (within : n < length m.headers) (e : Entry)
+module _ {s : Stored} {m : Memory} {left count : ℕ} (is : IsCache s m left count) (n : ℕ) (within : n < length m.headers) (e : Entry)
     (at : entry_at m.entries n ≡ Some e) (frozen_state : frozen_state_in_memory m n ≢ Nothing) where
   pub frozen_state_pending : (mark_at m.pending n ≡ true) ×
       ((below : Content Cap) → apart_body e.kept (mark_at m.touched n) e.present below ≡ own_body e.kept e.present)
   frozen_state_pending = has_frozen_body e (mark_at m.pending n) (mark_at m.touched n)
-      (λ none. frozen_state (ap (λ (o : Option Entry). frozen_state_of o (mark_at m.pending n) (mark_at m.touched n)) at ∙ none))
+      (λ none. frozen_state (ap (λ o. frozen_state_of o (mark_at m.pending n) (mark_at m.touched n)) at ∙ none))
 
   -- the frozen frame, whatever lies below
   pub frozen_is_own : (t : Stored) → frozen_at t m n ≡ own_frame (header_at m.frozen_headers n) e
   frozen_is_own t =
-      ap (λ (o : Option Entry). frozen_frame (mark_at m.pending n) (header_at m.frozen_headers n) (frozen_body o (mark_at m.touched n) (below_body t m n))
+      ap (λ o. frozen_frame (mark_at m.pending n) (header_at m.frozen_headers n) (frozen_body o (mark_at m.touched n) (below_body t m n))
       (below_at t n)) at
-      ∙ ap (λ (p : Bool). frozen_frame p (header_at m.frozen_headers n) (apart_body e.kept (mark_at m.touched n) e.present (below_body t m n)) (below_at t n))
-      frozen_state_pending.0
-      ∙ ap (λ (c : Content Cap). frozen_frame true (header_at m.frozen_headers n) c (below_at t n)) (frozen_state_pending.1 (below_body t m n))
+      ∙ ap (λ p. frozen_frame p (header_at m.frozen_headers n) (apart_body e.kept (mark_at m.touched n) e.present (below_body t m n)) (below_at t n))
+      frozen_state_pending.0 ∙ ap (λ c. frozen_frame true (header_at m.frozen_headers n) c (below_at t n)) (frozen_state_pending.1 (below_body t m n))
 
-  in_entries : n < length m.entries
-  in_entries = omega (arith, within, is.headers, is.entries)
-
-  entry_now : entry_at (with_entry dropping n m.entries) n ≡ Some (dropping e)
-  entry_now = get_or-set_same m.entries n (option_map dropping (entry_at m.entries n)) None in_entries ∙ ap (option_map dropping) at
-
-  pub releases : Releases s m n (with_entry dropping n m.entries) (released n m.staging)
-  releases = record {
-    count = length-set m.entries n (option_map dropping (entry_at m.entries n));
-    entries = λ k other. get_or-set_other m.entries n k (option_map dropping (entry_at m.entries n)) None other;
-    kept = λ g g_is. ap (λ (x : Entry). x.kept) (same_Some g (dropping e) (sym g_is ∙ entry_now));
-    others = λ k c other. released_others m.staging n k c other;
-    released = λ h h_is. let was = released_of m.staging n h h_is in (was.0, is.held h was.1);
-    content =
-        ap (λ (o : Option Entry). present_body o (header_at m.headers n).role
-        (newest_body (with_frame n s m) (without_pending n (with_entry dropping n m.entries) (released n m.staging) m) n)) entry_now
-        ∙ sym (ap (λ (o : Option Entry). present_body o (header_at m.headers n).role (newest_body s m n)) at);
-  }
+  own_content : (t : Stored) → content_at t m n ≡ e.present
+  own_content t = ap (λ o. present_body o (header_at m.headers n).role (newest_body t m n)) at
 
 -- the same by what is seen
-module _ {D : Type 0} (disk : D → Disk) (d : DurableState D) (m : Memory) (left count : ℕ) (order : List ℕ) (most_entries : ℕ) (s : StoreState D)
+module _ {D : Type 0} (disk : D → Disk) {d : DurableState D} {m : Memory} {left count : ℕ} {order : List ℕ} {most_entries : ℕ} {s : StoreState D}
     (view : cache_of disk d m left order most_entries ≡ s) (is : IsCache (stored_of disk d) m left count) (n : ℕ) (fetched : IsFetchedIn s n)
-    (frozen_state : frozen_state_at s.frozen_state n ≢ Nothing)
-    (x : Content Cap) (own : option_map own_body_of (entry_at m.entries n) ≡ Some x) (header : ObjectHeader) (header_is : header ≡ header_at m.frozen_headers n)
-  where
+    (frozen_state : frozen_state_at s.frozen_state n ≢ Nothing) where
+  entry_here : (e : Entry) × (entry_at m.entries n ≡ Some e)
+  entry_here = entry_found disk view is n fetched
+
+  pub own_known : n < length m.headers
+  own_known = fetched_known disk view is n fetched
+
+  state_here : frozen_state_in_memory m n ≢ Nothing
+  state_here none = frozen_state (ap (λ t. frozen_state_at t.frozen_state n) (sym view) ∙ frozen_state_entry m n own_known ∙ none)
+
+  pub own_pending : mark_at m.pending n ≡ true
+  own_pending = (frozen_state_pending is n own_known entry_here.0 entry_here.1 state_here).0
+
+  own_is : (t : Stored) → frozen_at t m n ≡ own_frame (header_at m.frozen_headers n) entry_here.0
+  own_is = frozen_is_own is n own_known entry_here.0 entry_here.1 state_here
+
+  pub own_fewer : count_by (λ b. b) (set m.pending n false) < count_by (λ b. b) s.pending
+  own_fewer = fewer_here disk view is own_known own_pending
+
+  pub own_torn : {new : DurableState D} → GoesOn disk d new → (disk d.beneath).failures ≤ (disk new.beneath).failures →
+      stored_of disk new ≡ with_frozen n Broken (stored_of disk d) →
+      IsNext disk s new m left count order most_entries (record s { durable = new })
+  own_torn goes later put =
+      let content = own_content is n own_known entry_here.0 entry_here.1 state_here in
+      let torn = with_frozen n Broken (stored_of disk d) in
+      torn_next disk view is own_known own_pending put goes later (content torn ∙ sym (content (stored_of disk d)))
+      (own_is torn ∙ sym (own_is (stored_of disk d)))
+
+  module _ {x : Content Cap} (own : option_map own_body_of (entry_at m.entries n) ≡ Some x) {header : ObjectHeader}
+      (header_is : header ≡ header_at m.frozen_headers n) where
     abbrev frame : Frame
     frame = record { header = header; content = masked header.role x }
 
-    entry_here : (e : Entry) × (entry_at m.entries n ≡ Some e)
-    entry_here = some_of (entry_at m.entries n) (has_entry disk d m left order most_entries s view n fetched)
+    own_frame_is : record { header = header; content = masked header.role x } ≡ frozen_at (stored_of disk d) m n
+    own_frame_is =
+        (let body = same_Some (own_body_of entry_here.0) x (ap (option_map own_body_of) (sym entry_here.1) ∙ own) in
+        λ k. record { header = header_is k; content = masked (header_is k).role (sym body k) })
+        ∙ sym (own_is (stored_of disk d))
 
-    known_here : n < length m.headers
-    known_here = fetched_known disk d m left order most_entries s view n fetched
+    pub own_ready : MayPutFrozen disk d n (record { header = header; content = masked header.role x })
+    own_ready = frozen_ready disk view is own_known own_pending own_frame_is
 
-    frozen_state_here : frozen_state_in_memory m n ≢ Nothing
-    frozen_state_here none = frozen_state (ap (λ (t : StoreState D). frozen_state_at t.frozen_state n) (sym view) ∙ frozen_state_entry m n known_here ∙ none)
+    module _ {new : DurableState D} (goes : GoesOn disk d new) (later : (disk d.beneath).failures ≤ (disk new.beneath).failures) where
+      pub out_next : stored_of disk new ≡ with_frozen n (Kept (record { header = header; content = masked header.role x })) (stored_of disk d) →
+          IsNext disk s new (with_pending m (set m.pending n false) (with_entry dropping n m.entries) (released n m.staging)) left count order most_entries
+          (record s { durable = new; pending = set s.pending n false; frozen_state = set s.frozen_state n Nothing; staging = released n s.staging })
+      out_next put =
+          let here = running_here disk view is own_known own_pending in
+          let in_entries : n < length m.entries = omega (arith, own_known, is.headers, is.entries) in
+          let in_pending : n < length m.pending = omega (arith, own_known, is.headers, is.pending_marks) in
+          let e = option_map dropping (entry_at m.entries n) in
+          let others : (k : ℕ) → k ≢ n → entry_at (with_entry dropping n m.entries) k ≡ entry_at m.entries k = (λ k other.
+          get_or-set_other m.entries n k e None other) in
+          let now : entry_at (with_entry dropping n m.entries) n ≡ Some (dropping entry_here.0) = get_or-set_same m.entries n e None in_entries
+          ∙ ap (option_map dropping) entry_here.1 in
+          next_as (put_next disk view is own_known own_pending put goes later
+          (put_releases is own_pending here.1 own_known frame own_frame_is (with_entry dropping n m.entries) (length-set m.entries n e) others
+          (λ g g_is. ap (λ y. y.kept) (same_Some g (dropping entry_here.0) (sym g_is ∙ now)))
+          (released n m.staging) (λ k c other. released_others m.staging n k c other)
+          (λ h h_is. let was = released_of m.staging n h h_is in (was.0, is.held h was.1))
+          (ap (λ o. present_body o (header_at m.headers n).role
+          (newest_body (with_frozen n (Kept frame) (stored_of disk d))
+          (with_pending m (set m.pending n false) (with_entry dropping n m.entries) (released n m.staging)) n)) now
+          ∙ sym (own_content is n own_known entry_here.0 entry_here.1 state_here (stored_of disk d))))
+          (cached_stay dropping n m.entries) (state_put m n (with_entry dropping n m.entries) (released n m.staging) own_known in_pending others) refl refl)
+          (ap (λ t.
+          record s { durable = new; pending = set s.pending n false; frozen_state = set s.frozen_state n Nothing; staging = released n t.staging }) view)
 
-    st : Stored
-    st = stored_of disk d
+-- ---- the body is in the staging buffer
 
-    pending_here : mark_at m.pending n ≡ true
-    pending_here = (frozen_state_pending (stored_of disk d) m left count is n known_here entry_here.0 entry_here.1 frozen_state_here).0
+-- a body that was frozen as free doesn't matter, or the object is free
+mask_under : (fr r : Role) (c : Content Cap) → (fr ≡ role.Free → r ≡ role.Free) → masked r (masked fr c) ≡ masked r c
+mask_under role.Free r c free = ap (λ x. masked x content.Free) (free refl) ∙ sym (ap (λ x. masked x c) (free refl))
+mask_under other r c free = refl
 
-    body_is : own_body_of entry_here.0 ≡ x
-    body_is = same_Some (own_body_of entry_here.0) x (ap (option_map own_body_of) (sym entry_here.1) ∙ own)
+put_under : (p : Put) (fr r : Role) (c : Content Cap) → (fr ≡ role.Free → (is_kept p ≡ true) ⊎ (r ≡ role.Free)) →
+    masked r (put_body p (masked fr c)) ≡ masked r (put_body p c)
+put_under Absent fr r c freed = mask_under fr r c (λ free. elim (freed free) [ inl kept ↦ absurd (true≢false (sym kept)) | inr now ↦ now ])
+put_under Broken fr r c freed = mask_under fr r c (λ free. elim (freed free) [ inl kept ↦ absurd (true≢false (sym kept)) | inr now ↦ now ])
+put_under (Kept f) fr r c freed = refl
 
-    frame_is : frame ≡ frozen_at (stored_of disk d) m n
-    frame_is =
-        ap (λ (c : Content Cap). record { header = header; content = masked header.role c }) (sym body_is)
-        ∙ ap (λ (h : ObjectHeader). own_frame h entry_here.0) header_is ∙
-        sym (frozen_is_own (stored_of disk d) m left count is n known_here entry_here.0 entry_here.1 frozen_state_here (stored_of disk d))
+module _ {s : Stored} {m : Memory} {left count : ℕ} (is : IsCache s m left count) (h : Held) (staging : m.staging ≡ Some h)
+    (frozen_state : frozen_state_in_memory m h.number ≡ Nothing) where
+  pub held_pending : mark_at m.pending h.number ≡ true
+  held_pending = is.held h staging
 
-    pub own_running : (f : FrozenPuts) × ((stored_of disk d).frozen ≡ Some f)
-    own_running = running_here disk d m left count order most_entries s view is n known_here pending_here
+  pub held_within : h.number < length m.headers
+  held_within = omega (arith, marked_within m.pending h.number held_pending, is.headers, is.pending_marks)
 
-    pub own_fewer : count_by (λ b. b) (set m.pending n false) < count_by (λ b. b) s.pending
-    own_fewer = omega (arith, one_fewer m.pending n pending_here, ap (λ (t : StoreState D). count_by (λ b. b) t.pending) view)
+  below_is : (t : Stored) → below_body t m h.number ≡ h.content
+  below_is t =
+      ap (λ o. in_staging o h.number (below_at t h.number).content) staging
+      ∙ ap (λ b. cond b h.content (below_at t h.number).content) (eq-eqb h.number h.number refl)
 
-    pub own_room : (f : FrozenPuts) → (stored_of disk d).frozen ≡ Some f → HasFreeSlot f.size f.put n
-    own_room = frozen_room disk d m left count order most_entries s view is n known_here pending_here
+  -- an entry has nothing of it
+  bare : (e : Entry) → entry_at m.entries h.number ≡ Some e → (mark_at m.touched h.number ≡ true) × (e.kept ≡ None)
+  bare e at = elim (nothing_frozen_state e (mark_at m.pending h.number) (mark_at m.touched h.number)
+      (ap (λ o. frozen_state_of o (mark_at m.pending h.number) (mark_at m.touched h.number)) (sym at) ∙ frozen_state)) [
+        | inl done ↦ absurd (true≢false (sym held_pending ∙ done))
+        | inr wanted ↦ (wanted.1, wanted.2)
+      ]
 
-    pub own_keepable : IsKeepable (stored_of disk d).saved.geometry most n (record { header = header; content = masked header.role x })
-    own_keepable = subst (IsKeepable (stored_of disk d).saved.geometry most n) (sym frame_is)
-        (frozen_keepable disk d m left count order most_entries s view is n known_here pending_here)
+  body_is : (t : Stored) (o : Option Entry) → entry_at m.entries h.number ≡ o → frozen_body o (mark_at m.touched h.number) (below_body t m h.number) ≡ h.content
+  body_is t None at = below_is t
+  body_is t (Some e) at =
+      ap (λ b. apart_body e.kept b e.present (below_body t m h.number)) (bare e at).0
+      ∙ ap (λ k. apart_body k true e.present (below_body t m h.number)) (bare e at).1 ∙ below_is t
 
-    module _ (new : DurableState D) where
-      module _ (put : stored_of disk new ≡ with_frozen n (Kept (record { header = header; content = masked header.role x })) (stored_of disk d)) where
-        abbrev es : List (Option Entry)
-        es = with_entry dropping n m.entries
+  frozen_is_held : (t : Stored) → frozen_at t m h.number ≡ record
+      { header = header_at m.frozen_headers h.number; content = masked (header_at m.frozen_headers h.number).role h.content }
+  frozen_is_held t = λ k. frozen_frame (held_pending k) (header_at m.frozen_headers h.number) (body_is t (entry_at m.entries h.number) refl k)
+      (below_at t h.number)
 
-        abbrev then : Memory
-        then = without_pending n (with_entry dropping n m.entries) (released n m.staging) m
+  content_put : {f : FrozenPuts} → s.frozen ≡ Some f → (g : Frame) → g ≡ frozen_at s m h.number → (o : Option Entry) → entry_at m.entries h.number ≡ o →
+      present_body o (header_at m.headers h.number).role
+      (newest_body (with_frozen h.number (Kept g) s) (with_pending m (set m.pending h.number false) m.entries None) h.number) ≡
+      present_body o (header_at m.headers h.number).role (newest_body s m h.number)
+  content_put f_is g g_is None at =
+      ap (λ x. masked (header_at m.headers h.number).role (put_body (put_at s.working h.number) x.content))
+      (frozen_below is held_pending f_is held_within g ∙ g_is ∙ frozen_is_held s)
+      ∙ put_under (put_at s.working h.number) (header_at m.frozen_headers h.number).role (header_at m.headers h.number).role h.content
+      (is.freed h.number at held_pending) ∙ sym (ap (λ c. masked (header_at m.headers h.number).role (put_body (put_at s.working h.number) c)) (below_is s))
+  content_put f_is g g_is (Some e) at = refl
 
-        rest : Releases (stored_of disk d) m n (with_entry dropping n m.entries) (released n m.staging)
-        rest = releases (stored_of disk d) m left count is n known_here entry_here.0 entry_here.1 frozen_state_here
+  pub held_releases : {f : FrozenPuts} → s.frozen ≡ Some f → (g : Frame) → g ≡ frozen_at s m h.number →
+      Releases s m h.number (Kept g) (set m.pending h.number false) m.entries None
+  held_releases f_is g g_is = put_releases is held_pending f_is held_within g g_is m.entries refl (λ k other. refl) (λ e at. (bare e at).1) None
+      (λ k c other. sym (ap (λ o. in_staging o k c) staging
+      ∙ ap (λ b. cond b h.content c) (ne_eqb h.number k (λ same. other (sym same))))) (λ g gone. absurd (none-some g gone))
+      (content_put f_is g g_is (entry_at m.entries h.number) refl)
 
-        after_is : stored_of disk new ≡ with_frame n (stored_of disk d) m
-        after_is = put ∙ ap (λ (g : Frame). with_frozen n (Kept g) (stored_of disk d)) frame_is
+-- the number of the body in the staging buffer is known
+module _ {D : Type 0} (disk : D → Disk) {d : DurableState D} {m : Memory} {left count : ℕ} {order : List ℕ} {most_entries : ℕ} {s : StoreState D}
+    (view : cache_of disk d m left order most_entries ≡ s) (is : IsCache (stored_of disk d) m left count) (h : Held) (staging : m.staging ≡ Some h) where
+  pub held_frozen : h.number < length m.frozen_headers
+  held_frozen = omega (arith, marked_within m.pending h.number (is.held h staging), is.frozen_headers, is.pending_marks)
 
-        pub out_stands : IsCache (stored_of disk new) (without_pending n (with_entry dropping n m.entries) (released n m.staging) m) left count
-        out_stands = subst (λ (t : Stored). IsCache t then left count) (sym after_is)
-            (frozen_put_cache (stored_of disk d) m left count is n known_here own_running.0 own_running.1 pending_here es (released n m.staging) rest)
+  pub held_number : h.number < length s.headers
+  held_number = omega (arith, held_frozen, is.headers, is.frozen_headers, ap (λ t. length t.headers) view)
 
-        pub out_seen : cache_of disk new (without_pending n (with_entry dropping n m.entries) (released n m.staging) m) left order most_entries ≡ record
-            s { durable = new; pending = set s.pending n false; frozen_state = set s.frozen_state n Nothing; staging = released n s.staging }
-        out_seen =
-            let old = cache_of disk d m left order most_entries in
-            let ps = set m.pending n false in
-            ap (λ (t : Stored). record
-            old {
-              durable = new;
-              contents = contents_in t then;
-              pending = ps;
-              cached = cached_in es;
-              frozen_state = frozen_states_in then;
-              frozen = frozen_seen t then left;
-              staging = released n m.staging;
-            }) after_is
-            ∙ ap (λ (cs : List (Content Cap)). record
-            old {
-              durable = new;
-              contents = cs;
-              pending = ps;
-              cached = cached_in es;
-              frozen_state = frozen_states_in then;
-              frozen = frozen_seen (with_frame n (stored_of disk d) m) then left;
-              staging = released n m.staging;
-            })
-            (contents_same (stored_of disk d) m left count is n known_here own_running.0 own_running.1 pending_here es (released n m.staging) rest)
-            ∙ ap (λ (fs : Option FrozenFrames). record
-            old { durable = new; pending = ps; cached = cached_in es; frozen_state = frozen_states_in then; frozen = fs; staging = released n m.staging })
-            (frozen_seen_same (stored_of disk d) m left count is n known_here own_running.0 own_running.1 pending_here es (released n m.staging) rest)
-            ∙ ap (λ (rs : List Bool). record old {
-              durable = new;
-              pending = ps;
-              cached = rs;
-              frozen_state = frozen_states_in then;
-              staging =
-                  released n m.staging;
-            })
-            (cached_stay dropping n m.entries)
-            ∙ ap (λ (os : List FrozenState). record old { durable = new; pending = ps; frozen_state = os; staging = released n m.staging })
-            (frozen_state_now (stored_of disk d) m left count is n known_here own_running.0 own_running.1 pending_here es (released n m.staging) rest)
-            ∙ ap (λ (t : StoreState D). record t {
-              durable = new;
-              pending = set t.pending n false;
-              frozen_state = set t.frozen_state n Nothing;
-              staging =
-                  released n t.staging;
-            })
-            view
+-- the same by what is seen
+module _ {D : Type 0} (disk : D → Disk) {d : DurableState D} {m : Memory} {left count : ℕ} {order : List ℕ} {most_entries : ℕ} {s : StoreState D}
+    (view : cache_of disk d m left order most_entries ≡ s) (is : IsCache (stored_of disk d) m left count) (h : Held) (staging : m.staging ≡ Some h) where
+  pub held_marked : mark_at m.pending h.number ≡ true
+  held_marked = is.held h staging
 
-        pub out_continues : GoesOn disk d new → (disk d.beneath).failures ≤ (disk new.beneath).failures →
-            GoesOnIn disk s (cache_of disk new (without_pending n (with_entry dropping n m.entries) (released n m.staging) m) left order most_entries)
-        out_continues goes later = subst (GoesOnIn disk s) (sym out_seen)
-            (put_continues disk d m left count order most_entries s view is n known_here pending_here new (Kept frame) put goes later (set s.pending n false)
-            (set s.frozen_state n Nothing) (released n s.staging))
+  pub held_known : h.number < length m.headers
+  held_known = omega (arith, marked_within m.pending h.number held_marked, is.headers, is.pending_marks)
 
-      module _ (put : stored_of disk new ≡ with_frozen n Broken (stored_of disk d)) where
-        content_torn : content_at (with_frozen n Broken (stored_of disk d)) m n ≡ content_at (stored_of disk d) m n
-        content_torn =
-            ap (λ (o : Option Entry). present_body o (header_at m.headers n).role (newest_body (with_frozen n Broken (stored_of disk d)) m n)) entry_here.1
-            ∙ sym (ap (λ (o : Option Entry). present_body o (header_at m.headers n).role (newest_body (stored_of disk d) m n)) entry_here.1)
+  pub held_fewer : count_by (λ b. b) (set m.pending h.number false) < count_by (λ b. b) s.pending
+  held_fewer = fewer_here disk view is held_known held_marked
 
-        frozen_torn : frozen_at (with_frozen n Broken (stored_of disk d)) m n ≡ frozen_at (stored_of disk d) m n
-        frozen_torn =
-            frozen_is_own (stored_of disk d) m left count is n known_here entry_here.0 entry_here.1 frozen_state_here (with_frozen n Broken (stored_of disk d))
-            ∙ sym (frozen_is_own (stored_of disk d) m left count is n known_here entry_here.0 entry_here.1 frozen_state_here (stored_of disk d))
+  module _ (bare : (g : Held) × (s.staging ≡ Some g) × (frozen_state_at s.frozen_state g.number ≡ Nothing)) where
+    state_there : frozen_state_in_memory m h.number ≡ Nothing
+    state_there =
+        sym (frozen_state_entry m h.number held_known) ∙ ap (λ t. frozen_state_at t.frozen_state h.number) view
+        ∙ subst (λ x. frozen_state_at s.frozen_state x.number ≡ Nothing) (same_Some bare.0 h (sym bare.1 ∙ ap (λ t. t.staging) (sym view) ∙ staging)) bare.2
 
-        pub torn_stands : IsCache (stored_of disk new) m left count
-        torn_stands = subst (λ (t : Stored). IsCache t m left count) (sym put)
-            (torn_cache (stored_of disk d) m left count is n known_here own_running.0 own_running.1 pending_here content_torn frozen_torn)
+    held_frame_is : {header : ObjectHeader} → header ≡ header_at m.frozen_headers h.number →
+        record { header = header; content = masked header.role h.content } ≡ frozen_at (stored_of disk d) m h.number
+    held_frame_is header_is = (λ k. record { header = header_is k; content = masked (header_is k).role h.content })
+        ∙ sym (frozen_is_held is h staging state_there (stored_of disk d))
 
-        pub torn_seen : cache_of disk new m left order most_entries ≡ record s { durable = new }
-        torn_seen =
-            let old = cache_of disk d m left order most_entries in
-            ap (λ (t : Stored). record old { durable = new; contents = contents_in t m; frozen = frozen_seen t m left }) put
-            ∙ ap (λ (cs : List (Content Cap)). record
-            old { durable = new; contents = cs; frozen = frozen_seen (with_frozen n Broken (stored_of disk d)) m left })
-            (torn_contents_same (stored_of disk d) m left count is n known_here own_running.0 own_running.1 pending_here content_torn frozen_torn)
-            ∙ ap (λ (fs : Option FrozenFrames). record old { durable = new; frozen = fs })
-            (torn_seen_same (stored_of disk d) m left count is n known_here own_running.0 own_running.1 pending_here content_torn frozen_torn)
-            ∙ ap (λ (t : StoreState D). record t { durable = new }) view
+    pub held_ready : {header : ObjectHeader} → header ≡ header_at m.frozen_headers h.number →
+        MayPutFrozen disk d h.number (record { header = header; content = masked header.role h.content })
+    held_ready header_is = frozen_ready disk view is held_known held_marked (held_frame_is header_is)
 
-        pub torn_continues : GoesOn disk d new → (disk d.beneath).failures ≤ (disk new.beneath).failures →
-            GoesOnIn disk s (cache_of disk new m left order most_entries)
-        torn_continues goes later = subst (GoesOnIn disk s) (sym torn_seen)
-            (put_continues disk d m left count order most_entries s view is n known_here pending_here new Broken put goes later s.pending s.frozen_state
-            s.staging)
+    module _ {new : DurableState D} (goes : GoesOn disk d new) (later : (disk d.beneath).failures ≤ (disk new.beneath).failures) where
+      pub settled_next : {header : ObjectHeader} → header ≡ header_at m.frozen_headers h.number →
+          stored_of disk new ≡ with_frozen h.number (Kept (record { header = header; content = masked header.role h.content })) (stored_of disk d) →
+          IsNext disk s new (with_pending m (set m.pending h.number false) m.entries None) left count order most_entries
+          (record s { durable = new; pending = set s.pending h.number false; frozen_state = set s.frozen_state h.number Nothing; staging = None })
+      settled_next {header = header} header_is put =
+          let here = running_here disk view is held_known held_marked in
+          put_next disk view is held_known held_marked put goes later
+          (held_releases is h staging state_there here.1 (record { header = header; content = masked header.role h.content }) (held_frame_is header_is))
+          refl (state_put m h.number m.entries None held_known (marked_within m.pending h.number held_marked) (λ k other. refl)) refl refl
+
+      pub held_torn : stored_of disk new ≡ with_frozen h.number Broken (stored_of disk d) →
+          IsNext disk s new m left count order most_entries (record s { durable = new })
+      held_torn put =
+          let torn = with_frozen h.number Broken (stored_of disk d) in
+          torn_next disk view is held_known held_marked put goes later
+          (ap (λ c. present_body (entry_at m.entries h.number) (header_at m.headers h.number).role
+          (put_body (put_at (stored_of disk d).working h.number) c))
+          (below_is is h staging state_there torn ∙ sym (below_is is h staging state_there (stored_of disk d))))
+          (frozen_is_held is h staging state_there torn ∙ sym (frozen_is_held is h staging state_there (stored_of disk d)))

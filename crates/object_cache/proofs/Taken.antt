@@ -1,9 +1,9 @@
 -- What is taken of the saved objects when a device is opened, frame by frame.
 use Rattle.object_cache.proofs.Names.{inl, inr, ℕ, List, [], length, Option, Some, None, option_map, refl, sym, ap, subst, arith, cases_lt, length-set}
 use Rattle.object_cache.proofs.Names.{length-append, get_or-set_same, get_or-set_other, get_or_append_left, get_or_at, get_or_past, length-map, none-some}
-use Rattle.object_cache.proofs.Names.{same_Some, Frame, ObjectHeader, Content, Cap, blank_frame, frame_at, headers, EntriesState, entry_at, new_entry, with_new}
-use Rattle.object_cache.proofs.Names.{AreTaken, HaveRoom, HoldBodies, TakenState, HaveSpace, IsSome, is_some, replicate, get_or-replicate, length-replicate}
-use Rattle.object_cache.proofs.Names.{Entry, all_of, AreAll}
+use Rattle.object_cache.proofs.Names.{same_Some, Frame, Content, Cap, blank_frame, frame_at, headers, EntriesState, entry_at, new_entry, with_new, AreTaken}
+use Rattle.object_cache.proofs.Names.{HaveRoom, HoldBodies, TakenState, HaveSpace, is_some, replicate, get_or-replicate, length-replicate, Entry, all_of}
+use Rattle.object_cache.proofs.Names.{AreAll}
 use Rattle.std.proofs.Common.{◌≡◌, ◌<◌, ◌≤◌, ◌+◌, ◌∷◌, ◌++◌, ◌∙◌}
 
 pub none_entered : (k n : ℕ) → entry_at (replicate k None) n ≡ None
@@ -15,7 +15,7 @@ none_entered k n = elim (cases_lt n k) [
 -- no entries
 pub blank_room : (count : ℕ) (e : EntriesState) → e ≡ record { at = replicate count None; order = []; most = all_of count } → 8 ≤ all_of count →
     count ≤ all_of count → HaveRoom e 0 count
-blank_room count e is least whole = subst (λ (x : EntriesState). HaveRoom x 0 count) (sym is) (record {
+blank_room count e is least whole = subst (λ x. HaveRoom x 0 count) (sym is) (record {
   each = length-replicate {A = Option Entry} count None;
   used = refl;
   most = refl;
@@ -49,13 +49,12 @@ module _ (e : EntriesState) (taken count : ℕ) (room : HaveRoom e taken count) 
   one_body fs f many is before n within = elim (cases_lt n (length fs)) [
     | inl earlier ↦
         get_or-set_other e.at taken n (Some (new_entry c)) None (λ same. omega (arith, earlier, many, same)) ∙ before n earlier
-        ∙ ap (λ (g : Frame). Some (new_entry g.content)) (sym (get_or_append_left fs (f ∷ []) blank_frame n earlier))
+        ∙ ap (λ g. Some (new_entry g.content)) (sym (get_or_append_left fs (f ∷ []) blank_frame n earlier))
     | inr last ↦
         let same : taken ≡ n = omega (arith, last, within, many, length-append fs (f ∷ [])) in
-        subst (λ (i : ℕ). entry_at (with_new taken c e).at i ≡ Some (new_entry (frame_at (fs ++ f ∷ []) i).content)) same
+        subst (λ i. entry_at (with_new taken c e).at i ≡ Some (new_entry (frame_at (fs ++ f ∷ []) i).content)) same
         (get_or-set_same e.at taken (Some (new_entry c)) None (omega (arith, below, room.each))
-        ∙ ap (λ (x : Content Cap). Some (new_entry x)) (sym is)
-        ∙ ap (λ (g : Frame). Some (new_entry g.content)) (sym (get_or_at fs f [] blank_frame taken many)))
+        ∙ ap (λ x. Some (new_entry x)) (sym is) ∙ ap (λ g. Some (new_entry g.content)) (sym (get_or_at fs f [] blank_frame taken many)))
   ]
 
 module _ (o : Option EntriesState) (taken count : ℕ) (below : taken < count) (rooms : (e : EntriesState) → o ≡ Some e → HaveRoom e taken count) where
@@ -71,29 +70,28 @@ module _ (o : Option EntriesState) (taken count : ℕ) (below : taken < count) (
     where
       go : (p : Option EntriesState) → o ≡ p → option_map (with_new taken c) p ≡ Some e → HaveRoom e (taken + 1) count
       go None at gone = absurd (none-some e gone)
-      go (Some x) at some = subst (λ (y : EntriesState). HaveRoom y (taken + 1) count) (same_Some (with_new taken c x) e some)
-          (one_room x taken count (rooms x at) below c)
+      go (Some x) at some = subst (λ y. HaveRoom y (taken + 1) count) (same_Some (with_new taken c x) e some) (one_room x taken count (rooms x at) below c)
 
 headers_more : (fs : List Frame) (f : Frame) → headers (fs ++ f ∷ []) ≡ headers fs ++ f.header ∷ []
 headers_more [] f = refl
-headers_more (g ∷ gs) f = ap (λ (hs : List ObjectHeader). g.header ∷ hs) (headers_more gs f)
+headers_more (g ∷ gs) f = ap (λ hs. g.header ∷ hs) (headers_more gs f)
 
 pub taken_more : (s : TakenState) (fs : List Frame) (f : Frame) → length s.headers < s.count →
     ((e : EntriesState) → s.entries ≡ Some e → HaveRoom e (length s.headers) s.count) → AreTaken s fs →
     AreTaken (record { headers = s.headers ++ f.header ∷ []; entries = option_map (with_new (length s.headers) f.content) s.entries; count = s.count })
     (fs ++ f ∷ [])
 taken_more s fs f below rooms took = record {
-  headers_are = ap (λ (hs : List ObjectHeader). hs ++ f.header ∷ []) took.headers_are ∙ sym (headers_more fs f);
+  headers_are = ap (λ hs. hs ++ f.header ∷ []) took.headers_are ∙ sym (headers_more fs f);
   bodies = λ e is. go s.entries refl e is;
 } where
   many : length fs ≡ length s.headers
-  many = omega (arith, ap length took.headers_are, length-map fs (λ (f : Frame). f.header))
+  many = omega (arith, ap length took.headers_are, length-map fs (λ f. f.header))
 
   go : (p : Option EntriesState) → s.entries ≡ p → (e : EntriesState) → option_map (with_new (length s.headers) f.content) p ≡ Some e →
       (n : ℕ) → n < length (fs ++ f ∷ []) → entry_at e.at n ≡ Some (new_entry (frame_at (fs ++ f ∷ []) n).content)
   go None at e gone = absurd (none-some e gone)
   go (Some x) at e some =
-      subst (λ (y : EntriesState). (n : ℕ) → n < length (fs ++ f ∷ []) → entry_at y.at n ≡ Some (new_entry (frame_at (fs ++ f ∷ []) n).content))
+      subst (λ y. (n : ℕ) → n < length (fs ++ f ∷ []) → entry_at y.at n ≡ Some (new_entry (frame_at (fs ++ f ∷ []) n).content))
       (same_Some (with_new (length s.headers) f.content x) e some)
       (one_body x (length s.headers) s.count (rooms x at) below f.content fs f many refl (took.bodies x at))
 
@@ -101,7 +99,7 @@ taken_more s fs f below rooms took = record {
 module _ (s : TakenState) (fs : List Frame) (took : AreTaken s fs) (e : EntriesState) (at : s.entries ≡ Some e) (room : HaveRoom e (length s.headers) s.count)
     (all : length s.headers ≡ s.count) where
   frames_count : length fs ≡ length e.at
-  frames_count = omega (arith, ap length took.headers_are, length-map fs (λ (f : Frame). f.header), room.each, all)
+  frames_count = omega (arith, ap length took.headers_are, length-map fs (λ f. f.header), room.each, all)
 
   pub taken_hold : HoldBodies e fs
   taken_hold = record {
@@ -118,5 +116,4 @@ module _ (s : TakenState) (fs : List Frame) (took : AreTaken s fs) (e : EntriesS
 
 -- there is memory for one more of the frames
 pub taken_below : (s : TakenState) (fs : List Frame) → AreTaken s fs → length fs < s.count → length s.headers < s.count
-taken_below s fs took few = let size = ap (λ (hs : List ObjectHeader). length hs) took.headers_are ∙
-    length-map fs (λ (f : Frame). f.header) in omega (arith, size, few)
+taken_below s fs took few = let size = ap (λ hs. length hs) took.headers_are ∙ length-map fs (λ f. f.header) in omega (arith, size, few)

@@ -1,41 +1,34 @@
 -- Frozen frames are put in turn, and as many fewer are said to be left.
 use Rattle.object_cache.proofs.Names.{ℕ, Bool, true≢false, List, [], Option, Some, None, option_map, is_some, refl, sym, ap, arith, count_by, none-some}
-use Rattle.object_cache.proofs.Names.{same_Some, HasNoneMarked, Frame, Image, Disk, DurableState, FrozenPuts, stored_of, Snapshots, goes_trans, FrozenFrames}
-use Rattle.object_cache.proofs.Names.{stabilized, Memory, frozen_in, StoreState, IsCache, AreFrozen, GoesOnIn, PutsBy, snapshots_of, cache_of, on_device}
-use Rattle.object_cache.proofs.Names.{on_device_frozen, pending_count, goes_on_same}
+use Rattle.object_cache.proofs.Names.{same_Some, HasNoneMarked, Frame, Disk, DurableState, FrozenPuts, stored_of, goes_trans, FrozenFrames, stabilized, Memory}
+use Rattle.object_cache.proofs.Names.{frozen_in, StoreState, IsCache, AreFrozen, PutsBy, snapshots_of, cache_of, on_device_frozen, pending_count}
 use Rattle.std.proofs.Common.{◌≡◌, ◌+◌, ◌-◌, ◌<◌, ◌≤◌, ◌∙◌}
 use Rattle.object_cache.proofs.Freezing.{fewer_of}
 
 pub none_marked : (ts : List Bool) → HasNoneMarked ts 0 → count_by (λ b. b) ts ≤ 0
 none_marked ts none = fewer_of ts [] (λ k marked. absurd (true≢false (sym marked ∙ none k (omega arith))))
 
--- so many may be put where so many are left
-pub requested_by : (o : Option FrozenFrames) (k n : ℕ) → option_map (λ (f : FrozenFrames). f.left) o ≡ Some k → n ≤ k →
-    (f : FrozenFrames) × (o ≡ Some f) × (n ≤ f.left)
-requested_by None k n reported within = absurd (none-some k reported)
-requested_by (Some f) k n reported within = (f, refl, omega (arith, within, same_Some f.left k reported))
-
 running_in : (fs : List Frame) (left : ℕ) (o : Option FrozenPuts) (f : FrozenFrames) →
-    option_map (λ (h : FrozenPuts). record { frames = fs; size = h.size; left = left }) o ≡ Some f →
+    option_map (λ h. record { frames = fs; size = h.size; left = left }) o ≡ Some f →
     (h : FrozenPuts) × (o ≡ Some h) × (record { frames = fs; size = h.size; left = left } ≡ f)
 running_in fs left None f is = absurd (none-some f is)
 running_in fs left (Some h) f is = (h, refl, same_Some (record { frames = fs; size = h.size; left = left }) f is)
 
 module _ {D : Type 0} (disk : D → Disk) where
-  module _ (d : DurableState D) (m : Memory) (left count : ℕ) (order : List ℕ) (most_entries : ℕ) (s : StoreState D)
+  module _ {d : DurableState D} {m : Memory} {left count : ℕ} {order : List ℕ} {most_entries : ℕ} {s : StoreState D}
       (view : cache_of disk d m left order most_entries ≡ s) (is : IsCache (stored_of disk d) m left count) (f : FrozenFrames) (f_is : s.frozen ≡ Some f) where
     found : (h : FrozenPuts) × ((stored_of disk d).frozen ≡ Some h) × (record { frames = frozen_in (stored_of disk d) m; size = h.size; left = left } ≡ f)
-    found = running_in (frozen_in (stored_of disk d) m) left (stored_of disk d).frozen f (ap (λ (t : StoreState D). t.frozen) view ∙ f_is)
+    found = running_in (frozen_in (stored_of disk d) m) left (stored_of disk d).frozen f (ap (λ t. t.frozen) view ∙ f_is)
 
     pub left_is : left ≡ f.left
-    left_is = ap (λ (h : FrozenFrames). h.left) found.2
+    left_is = ap (λ h. h.left) found.2
 
     pub few_left : pending_count s ≤ f.left
-    few_left = omega (arith, (is.running found.0 found.1).few, left_is, ap (λ (t : StoreState D). count_by (λ b. b) t.pending) view)
+    few_left = omega (arith, (is.running found.0 found.1).few, left_is, ap (λ t. count_by (λ b. b) t.pending) view)
 
     module _ (fewer : pending_count s ≤ f.left - 1) where
       few_now : count_by (λ b. b) m.pending ≤ left - 1
-      few_now = omega (arith, fewer, left_is, ap (λ (t : StoreState D). count_by (λ b. b) t.pending) view)
+      few_now = omega (arith, fewer, left_is, ap (λ t. count_by (λ b. b) t.pending) view)
 
       fewer_frozen : (h : FrozenPuts) → (stored_of disk d).frozen ≡ Some h → AreFrozen h m.pending (left - 1)
       fewer_frozen h h_is =
@@ -66,38 +59,21 @@ module _ {D : Type 0} (disk : D → Disk) where
         freed = is.freed;
       }
 
-  -- none was put
-  pub unturned_puts : (s0 s : StoreState D) → s ≡ on_device s0 s → GoesOnIn disk s0 s → PutsBy disk s0 s 0
-  unturned_puts s0 s put goes = record {
-    snapshots = λ g g_is.
-        goes.snapshots
-        ∙ ap (λ (o : Option FrozenFrames). record { frozen = o; saved = (snapshots_of disk s0).saved; to_move = (snapshots_of disk s0).to_move }) g_is
-        ∙ ap (λ (k : ℕ). record {
-          frozen = Some (record { frames = g.frames; size = g.size; left = k });
-          saved = (snapshots_of disk s0).saved;
-          to_move = (snapshots_of disk s0).to_move;
-        }) (same g.left);
-    rest = put ∙ ap (λ (o : Option FrozenFrames). record (on_device s0 s) { frozen = o }) (sym (ap (λ (t : StoreState D). t.frozen) put));
-    goes_on = goes.goes_on;
-  } where
-    same : (k : ℕ) → k ≡ k - 0
-    same k = omega arith
-
   pub puts_more : (a b c : StoreState D) (f : FrozenFrames) (i k : ℕ) → a.frozen ≡ Some f → PutsBy disk a b i → PutsBy disk b c k → PutsBy disk a c (i + k)
   puts_more a b c f i k is_some first second = record {
     snapshots = λ g is_g.
         let mid : FrozenFrames = record { frames = g.frames; size = g.size; left = g.left - i } in
         let one = first.snapshots g is_g in
-        second.snapshots mid (ap (λ (x : Snapshots FrozenFrames). x.frozen) one)
-        ∙ ap (λ (x : Snapshots FrozenFrames). stabilized k mid x) one
-        ∙ ap (λ (n : ℕ). record {
+        second.snapshots mid (ap (λ x. x.frozen) one)
+        ∙ ap (λ x. stabilized k mid x) one
+        ∙ ap (λ n. record {
           frozen = Some (record { frames = g.frames; size = g.size; left = n });
           saved = (snapshots_of disk a).saved;
           to_move = (snapshots_of disk a).to_move;
         }) (total g);
-    rest = second.rest ∙ ap (λ (x : StoreState D). on_device_frozen x c) first.rest;
+    rest = second.rest ∙ ap (λ x. on_device_frozen x c) first.rest;
     goes_on = goes_trans (disk a.durable.beneath) (disk b.durable.beneath) (disk c.durable.beneath) a.durable.books b.durable.books c.durable.books
-        (ap (λ (x : Snapshots FrozenFrames). x.saved) (first.snapshots f is_some)) first.goes_on second.goes_on;
+        (ap (λ x. x.saved) (first.snapshots f is_some)) first.goes_on second.goes_on;
   } where
     total : (g : FrozenFrames) → g.left - i - k ≡ g.left - (i + k)
     total g = omega arith
@@ -107,6 +83,6 @@ module _ {D : Type 0} (disk : D → Disk) where
       (f : FrozenFrames) × (b.frozen ≡ Some f) × (0 < f.left)
   next_requested a b count i requested so_far lt = (
     record { frames = requested.0.frames; size = requested.0.size; left = requested.0.left - i },
-    ap (λ (x : Snapshots FrozenFrames). x.frozen) (so_far.snapshots requested.0 requested.1),
+    ap (λ x. x.frozen) (so_far.snapshots requested.0 requested.1),
     omega (arith, requested.2, lt),
   )

@@ -1,7 +1,7 @@
 -- The names of other crates that the definitions here cite.
 pub use Rattle.cache_entries.specs.Entries.{Entry, entry_at, new_entry}
 pub use Rattle.cache_entries.specs.Order.{AllDiffer, EntriesState, used_in_turn, without}
-pub use Rattle.capability.specs.Parts.{HaveTheirRoles, Parts}
+pub use Rattle.capability.specs.Parts.{HaveTheirRoles, Parts, frames_of}
 pub use Rattle.checkpoint.specs.Saved.{Holds, most}
 pub use Rattle.checkpoint.specs.Snapshots.{Snapshots}
 pub use Rattle.device.proofs.Moments.{ends, leaves_on, leaves_weaker, peeks_started}
@@ -14,9 +14,9 @@ pub use Rattle.layout.specs.declared.body.Scratch.{Scratch}
 pub use Rattle.migrator.proofs.Moving.{goes_none, goes_trans}
 pub use Rattle.migrator.specs.Durable.{DurableState, FrozenPuts, GoesOn, Stored, below_at, is_sound, newest}
 pub use Rattle.migrator.specs.Durable.{saved_state, seen_of, stored_of}
-pub use Rattle.migrator.specs.Put.{Absent, Broken, Kept, Put, put_at}
-pub use Rattle.model.specs.Frame.{content_behind, frame_at, header_at, headers}
-pub use Rattle.model.specs.Keepable.{AreKeepable}
+pub use Rattle.migrator.specs.Put.{Absent, Broken, HasFreeSlot, Kept, Put, put_at}
+pub use Rattle.model.specs.Frame.{content_behind, frame_at, header_at, headers, held_at}
+pub use Rattle.model.specs.Keepable.{AreKeepable, IsKeepable}
 pub use Rattle.model.specs.Machine.{touched_count}
 unfoldable pub use Rattle.model.specs.Machine.{untouched}
 pub use Rattle.model.specs.Revoke.{is_member}

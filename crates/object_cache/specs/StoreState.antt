@@ -6,7 +6,7 @@ use Rattle.object_cache.specs.Names.{touched_count, untouched, is_member, object
 use Rattle.object_cache.specs.Names.{Broken, Kept, put_at, most, DurableState, FrozenPuts, Stored, GoesOn, saved_state}
 use Rattle.object_cache.specs.Names.{seen_of, stored_of, is_sound, SavedState, Parts, HaveTheirRoles, Snapshots}
 use Rattle.object_cache.specs.Names.{FrozenFrames, View, stabilized, Entry, EntriesState, entry_at, new_entry}
-use Rattle.object_cache.specs.Names.{AllDiffer, without, nat_le}
+use Rattle.object_cache.specs.Names.{AllDiffer, without, nat_le, IsKeepable, HasFreeSlot, held_at, frames_of}
 use Rattle.std.specs.Prelude.{◌≡◌, ◌⊎◌, ◌<◌, ◌∷◌, ◌||◌, ◌≤◌, if◌then◌else◌}
 use Rattle.model.specs.declared.object.Role.TheVariants as role
 use Rattle.object_cache.specs.declared.all_objects.AllObjects.{AllObjects}
@@ -129,6 +129,25 @@ pub record PutsBy {D : Type 0} (disk : D → Disk) (s t : StoreState D) (k : ℕ
   pub snapshots : (f : FrozenFrames) → s.frozen ≡ Some f → snapshots_of disk t ≡ stabilized k f (snapshots_of disk s)
   pub rest : t ≡ on_device_frozen s t
   pub goes_on : GoesOn disk s.durable t.durable
+
+-- what it holds can be kept, of one object and of all
+abbrev pub IsKeepableIn : {D : Type 0} → (D → Disk) → StoreState D → ℕ → Type 0
+IsKeepableIn disk s n = IsKeepable (stored_of disk s.durable).saved.geometry most n
+    (record { header = header_at s.headers n; content = held_at s.contents n })
+
+abbrev pub AreKeepableIn : {D : Type 0} → (D → Disk) → StoreState D → Type 0
+AreKeepableIn disk s = AreKeepable (parts_of disk s).geometry most (frames_of (parts_of disk s))
+
+-- no more numbers are touched than half of the log holds
+abbrev pub IsWithinLog : {D : Type 0} → (D → Disk) → StoreState D → Type 0
+IsWithinLog disk s = touched_count s.touched ≤ (stored_of disk s.durable).saved.geometry.log
+
+-- a frozen frame may be put
+pub record MayPutFrozen {D : Type 0} (disk : D → Disk) (d : DurableState D) (n : ℕ) (f : Frame) : Type 0 where
+  pub running : (puts : FrozenPuts) × ((stored_of disk d).frozen ≡ Some puts)
+  pub object : n < object_count d.books.plan.geometry
+  pub keepable : IsKeepable d.books.plan.geometry most n f
+  pub room : (puts : FrozenPuts) → (stored_of disk d).frozen ≡ Some puts → HasFreeSlot puts.size puts.put n
 
 -- without the entry of a number
 abbrev pub without_cached : {D : Type 0} → ℕ → StoreState D → StoreState D

@@ -4,13 +4,10 @@ ghost use Rattle.std.specs.Prelude.{OnErr};
 ghost use Rattle.model.specs.declared.object.Content.TheVariants as content;
 ghost use Rattle.model.specs.Frame.{content_behind, header_at, held_at, given_up, owned_by, called, claimed, void_held};
 ghost use Rattle.model.specs.Object.{role_of, with_slot_in, with_word_in};
-ghost use Rattle.capability.specs.Objects.{with_root_in, with_slots_in};
-ghost use Rattle.capability.specs.Parts.{frames_of, fresh_content};
-ghost use Rattle.model.specs.Keepable.{AreKeepable, IsKeepable};
+ghost use Rattle.capability.specs.Objects.{changed_root, with_root_in, with_slots_in};
+ghost use Rattle.capability.specs.Parts.{fresh_content};
 ghost use Rattle.model.specs.Revoke.{is_member};
 ghost use Rattle.device.specs.Calls.{Counts};
-ghost use Rattle.checkpoint.specs.Saved.{most};
-ghost use Rattle.model.specs.Machine.{touched_count};
 ghost use Rattle.migrator.specs.Durable.{stored_of};
 
 use crate::frozen::{own_body, put_body};
@@ -18,11 +15,11 @@ use crate::frozen_state::has_frozen;
 use crate::headers::Headers;
 use crate::staging::Staging;
 use cache_entries::Entries;
-use capability::{Fresh, ObjectTable};
+use capability::{Fresh, ObjectTable, RootChange};
 use device::{Device, Failed};
 use layout::Scratch;
 use migrator::Durable;
-use model::{Cap, ContentRef, Geometry, Role, Root};
+use model::{Cap, ContentRef, Geometry, Role};
 use number_set::NumberSet;
 use std::marker::Model;
 
@@ -92,16 +89,15 @@ impl<D: Device> Model for Cache<D> {
 impl<D: Device> Cache<D> {
     ghost use Rattle.object_cache.specs.Memory.{Nothing, Shared, Apart, released, mark_at, masked};
     ghost use Rattle.object_cache.specs.StoreState.{GoesOnIn, IsBounded, IsFetchedIn, IsAnnouncedIn, on_device};
-    ghost use Rattle.object_cache.specs.StoreState.{frozen_state_at, parts_of, pending_count, cached_at};
-    ghost use Rattle.object_cache.specs.StoreState.{with_content_in};
-    ghost use Rattle.object_cache.specs.StoreState.{with_cached, without_cached};
+    ghost use Rattle.object_cache.specs.StoreState.{AreKeepableIn, IsKeepableIn, IsWithinLog, frozen_state_at};
+    ghost use Rattle.object_cache.specs.StoreState.{cached_at, pending_count, with_content_in, without_cached};
+    ghost use Rattle.object_cache.specs.Prepared.{on_device_with};
     ghost use Rattle.cache_entries.specs.Order.{without};
-    ghost use Rattle.object_cache.specs.contracts.cache.Cache.{the_row};
 
     /// The counts of nodes, pages and log slots. By `within`, no more than `log` numbers are touched.
     pub fn geometry(&self) -> Geometry
         ensures geometry { result ≡ (stored_of D.disk self.now.durable).saved.geometry }
-        ensures within { touched_count self.now.touched ≤ (stored_of D.disk self.now.durable).saved.geometry.log }
+        ensures within { IsWithinLog D.disk self.now }
     {
         self.durable.geometry()
     }
@@ -161,14 +157,15 @@ impl<D: Device> Cache<D> {
         self.entries.set_last_slots(number, held);
     }
 
-    /// Replaces the root of a process. Changes nothing if the object isn't a root.
-    pub fn set_root(&mut self, number: u64, root: Root<Cap>)
+    /// Changes the root of a process. Changes nothing if the object isn't a root.
+    #[inline(always)]
+    pub fn change_root(&mut self, number: u64, change: RootChange)
         requires fetched { IsFetchedIn self.old number }
         requires announced { IsAnnouncedIn self.old number }
         ensures { self.new ≡ with_content_in self.old number
-            (with_root_in (λ r. root) (held_at self.old.contents number)) }
+            (with_root_in (changed_root change) (held_at self.old.contents number)) }
     {
-        self.entries.set_root(number, root);
+        self.entries.change_root(number, change);
     }
 
     /// Sets the owner of an object.
@@ -264,8 +261,7 @@ impl<D: Device> Cache<D> {
     pub(crate) fn put_present(&mut self, number: u64) -> Result<(), Failed>
         requires fetched { IsFetchedIn self.old number }
         requires dirty { mark_at self.old.dirty number ≡ true }
-        requires keepable { IsKeepable (stored_of D.disk self.old.durable).saved.geometry most number
-            (record { header = header_at self.old.headers number; content = held_at self.old.contents number }) }
+        requires keepable { IsKeepableIn D.disk self.old number }
         ensures put { OnOk result (self.new ≡ record self.old {
           durable = self.new.durable;
           dirty = slice_set self.old.dirty number false;
@@ -338,8 +334,7 @@ impl<D: Device> Cache<D> {
     // Writes the present frame of an object and clears its mark, if it is dirty.
     fn write_back(&mut self, number: u64) -> Result<(), Failed>
         requires fetched { IsFetchedIn self.old number }
-        requires keepable { IsKeepable (stored_of D.disk self.old.durable).saved.geometry most number
-            (record { header = header_at self.old.headers number; content = held_at self.old.contents number }) }
+        requires keepable { IsKeepableIn D.disk self.old number }
         ensures clean { OnOk result (mark_at self.new.dirty number ≡ false) }
         ensures frozen_state { self.new.frozen_state ≡ self.old.frozen_state }
         ensures put { self.new ≡ on_device self.old self.new }
@@ -356,8 +351,7 @@ impl<D: Device> Cache<D> {
     // Writes what the log lacks of an entry, and evicts it. After `Failed` it stays.
     pub(crate) fn write_and_evict(&mut self, number: u64) -> Result<(), Failed>
         requires fetched { IsFetchedIn self.old number }
-        requires keepable { IsKeepable (stored_of D.disk self.old.durable).saved.geometry most number
-            (record { header = header_at self.old.headers number; content = held_at self.old.contents number }) }
+        requires keepable { IsKeepableIn D.disk self.old number }
         ensures away { OnOk result (self.new ≡ without_cached number (on_device self.old self.new)) }
         ensures stays { OnErr result (self.new ≡ on_device self.old self.new) }
         ensures empty { self.old.staging ≡ None → self.new.staging ≡ None }
@@ -372,8 +366,7 @@ impl<D: Device> Cache<D> {
 
     // If the cache is full, evicts the entry used longest ago. After `Failed` it stays.
     pub(crate) fn make_room(&mut self) -> Result<(), Failed>
-        requires keepable { AreKeepable (parts_of D.disk self.old).geometry most
-            (frames_of (parts_of D.disk self.old)) }
+        requires keepable { AreKeepableIn D.disk self.old }
         ensures room { OnOk result (length self.new.order < self.new.capacity) }
         ensures uncached { (n : ℕ) → cached_at self.old.cached n ≡ false
             → cached_at self.new.cached n ≡ false }
@@ -383,58 +376,27 @@ impl<D: Device> Cache<D> {
         ensures least { OnOk result (self.new.order ≡ take (self.old.capacity - 1) self.old.order) }
         ensures stays { OnErr result (self.new.order ≡ self.old.order) }
         ensures unchanged { length self.old.order < self.old.capacity → self.new ≡ self.old }
-        ensures rest { self.new ≡ record (on_device self.old self.new) {
-          cached = self.new.cached;
-          order = self.new.order;
-        } }
+        ensures rest { self.new ≡ on_device_with self.old self.new }
         ensures empty { self.old.staging ≡ None → self.new.staging ≡ None }
         ensures continues { GoesOnIn D.disk self.old self.new }
         ensures cause { Counts (D.disk self.old.durable.beneath) (D.disk self.new.durable.beneath) result }
     {
         if self.entries.is_full() {
-            return self.evict_oldest();
+            let Some(oldest) = self.entries.least() else {
+                unreachable!()
+            };
+            return self.write_and_evict(oldest);
         }
         Ok(())
-    }
-
-    // Evicts the entry used longest ago of a full cache. After `Failed` it stays.
-    fn evict_oldest(&mut self) -> Result<(), Failed>
-        requires full { self.old.capacity ≤ length self.old.order }
-        requires keepable { AreKeepable (parts_of D.disk self.old).geometry most
-            (frames_of (parts_of D.disk self.old)) }
-        ensures room { OnOk result (length self.new.order < self.new.capacity) }
-        ensures uncached { (n : ℕ) → cached_at self.old.cached n ≡ false
-            → cached_at self.new.cached n ≡ false }
-        ensures others { (n : ℕ) → is_member (take 7 self.old.order) n ≡ true
-            → cached_at self.new.cached n ≡ cached_at self.old.cached n }
-        ensures order { take 7 self.new.order ≡ take 7 self.old.order }
-        ensures least { OnOk result (self.new.order ≡ take (self.old.capacity - 1) self.old.order) }
-        ensures stays { OnErr result (self.new.order ≡ self.old.order) }
-        ensures rest { self.new ≡ record (on_device self.old self.new) {
-          cached = self.new.cached;
-          order = self.new.order;
-        } }
-        ensures empty { self.old.staging ≡ None → self.new.staging ≡ None }
-        ensures continues { GoesOnIn D.disk self.old self.new }
-        ensures cause { Counts (D.disk self.old.durable.beneath) (D.disk self.new.durable.beneath) result }
-    {
-        let Some(number) = self.entries.least() else {
-            unreachable!()
-        };
-        self.write_and_evict(number)
     }
 
     /// Removes an object's entry. First writes what the log lacks of it. `Ok` also if it has no entry. Fails exactly if
     /// the device fails; the entry then stays.
     pub fn evict(&mut self, number: u64) -> Result<(), Failed>
         requires known { number < length self.old.headers }
-        requires keepable { AreKeepable (parts_of D.disk self.old).geometry most
-            (frames_of (parts_of D.disk self.old)) }
+        requires keepable { AreKeepableIn D.disk self.old }
         ensures gone { OnOk result (cached_at self.new.cached number ≡ false) }
-        ensures rest { self.new ≡ record (on_device self.old self.new) {
-          cached = self.new.cached;
-          order = self.new.order;
-        } }
+        ensures rest { self.new ≡ on_device_with self.old self.new }
         ensures away { OnOk result (cached_at self.old.cached number ≡ true
             → self.new ≡ without_cached number (on_device self.old self.new)) }
         ensures none { cached_at self.old.cached number ≡ false → self.new ≡ self.old }

@@ -1,14 +1,12 @@
 // Writing frozen frames.
-ghost use Rattle.std.specs.Prelude.{◌≡◌, ◌<◌, Some, option_map, IsSome, OnOk, OnErr};
+ghost use Rattle.std.specs.Prelude.{◌≡◌, Some, option_map, IsSome, OnOk, OnErr};
 ghost use Rattle.model.specs.Frame.{content_behind};
-ghost use Rattle.model.specs.Keepable.{IsKeepable};
 ghost use Rattle.device.specs.Calls.{Counts};
-ghost use Rattle.model.specs.Sound.{object_count};
-ghost use Rattle.migrator.specs.Put.{Broken, Kept, HasFreeSlot};
-ghost use Rattle.checkpoint.specs.Saved.{most};
-ghost use Rattle.migrator.specs.Durable.{FrozenPuts, stored_of, with_frozen, GoesOn};
+ghost use Rattle.migrator.specs.Put.{Broken, Kept};
+ghost use Rattle.migrator.specs.Durable.{stored_of, with_frozen, GoesOn};
 ghost use Rattle.cache_entries.specs.Entries.{entry_at};
 ghost use Rattle.object_cache.specs.Memory.{masked, own_body_of};
+ghost use Rattle.object_cache.specs.StoreState.{MayPutFrozen};
 
 use cache_entries::Entries;
 use device::{Device, Failed};
@@ -43,12 +41,8 @@ pub(crate) fn put_body<D: Device>(
     header: ObjectHeader,
     content: ContentRef<'_>,
 ) -> Result<(), Failed>
-    requires running { (f : FrozenPuts) × ((stored_of D.disk durable.old).frozen ≡ Some f) }
-    requires object { number < object_count durable.old.books.plan.geometry }
-    requires keepable { IsKeepable durable.old.books.plan.geometry most number
+    requires { MayPutFrozen D.disk durable.old number
         (record { header = header; content = masked header.role (content_behind content) }) }
-    requires room { (f : FrozenPuts) → (stored_of D.disk durable.old).frozen ≡ Some f
-        → HasFreeSlot f.size f.put number }
     ensures put { OnOk result (stored_of D.disk durable.new ≡ with_frozen number
         (Kept (record { header = header; content = masked header.role (content_behind content.entry) }))
         (stored_of D.disk durable.old)) }

@@ -28,12 +28,8 @@ role_is_page role.Page is = refl
 role_is_page r is = cc
 
 pub content_is_page : (c : Content Cap) → role_of c ≡ role.Page → is_page c ≡ true
-content_is_page content.Free is = absurd cc
 content_is_page (content.Page words) is = refl
-content_is_page (content.Node slots) is = absurd cc
-content_is_page (content.Root root) is = absurd cc
-content_is_page (content.Annex slots) is = absurd cc
-content_is_page (content.Bank limit) is = absurd cc
+content_is_page other is = absurd cc
 
 -- only an object is a page, and what it holds is that of one
 pub known_page : (hs : List ObjectHeader) (n : ℕ) → (header_at hs n).role ≡ role.Page → n < length hs

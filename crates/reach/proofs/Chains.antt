@@ -12,8 +12,6 @@ use Rattle.reach.proofs.Growing.{named_inside}
 
 -- a capability stays inside a set where all that it conveys is in it
 stays_inside : (inside : ℕ → Bool) (c : Capability) → ((m : ℕ) → Conveys c m → IsTrue (inside m)) → StaysInside inside c
-stays_inside inside Void conveyed = inl tt
-stays_inside inside (Number n) conveyed = inl tt
 stays_inside inside (Page o a) conveyed = elim (cases_eq a.0 3) [ inl weak ↦ inl weak | inr strong ↦ inr (conveyed o (strong, refl)) ]
 stays_inside inside (Node o a) conveyed = elim (cases_eq a.0 3) [ inl weak ↦ inl weak | inr strong ↦ inr (conveyed o (strong, refl)) ]
 stays_inside inside (Space o h a) conveyed = elim (cases_eq a.0 3) [ inl weak ↦ inl weak | inr strong ↦ inr (conveyed o (strong, refl)) ]
@@ -21,7 +19,7 @@ stays_inside inside (Process p) conveyed = inr (conveyed p (λ weak. weak, refl)
 stays_inside inside (Start p key) conveyed = inr (conveyed p (λ weak. weak, refl))
 stays_inside inside (Resume p) conveyed = inr (conveyed p (λ weak. weak, refl))
 stays_inside inside (Bank b) conveyed = inr (conveyed b (λ weak. weak, refl))
-stays_inside inside Discrim conveyed = inl tt
+stays_inside inside other conveyed = inl tt
 
 -- the slots of an object
 slots_inside : (os : List Object) (inside : ℕ → Bool) (n i : ℕ) (x : Content Capability) → ((w : Way) (m : ℕ) → IsWay os n x w m → IsTrue (inside m)) →

@@ -18,8 +18,6 @@ processes_known os ns all k d lt = known os (slice_index_or ns k d) is_root refl
 
 -- so what a capability names is there
 pub names_within : (os : List Object) (c : Capability) → NamesItsKind os c → NamesWithin (length os) c
-names_within os Void names = tt
-names_within os (Number n) names = tt
 names_within os (Page o a) names = known os o is_page refl names
 names_within os (Node o a) names = known os o is_node refl names
 names_within os (Space o h a) names = known os o is_node refl names
@@ -27,7 +25,7 @@ names_within os (Process p) names = known os p is_root refl names
 names_within os (Start p key) names = known os p is_root refl names
 names_within os (Resume p) names = known os p is_root refl names.0
 names_within os (Bank b) names = known os b is_bank refl names
-names_within os Discrim names = tt
+names_within os other names = tt
 
 -- an object of a slice, by its content
 pub content_is : (os : List Object) (n : ℕ) (o : Object) (x : Content Capability) → n < length os → (slice_index_or os n o).content ≡ x → content_at os n ≡ x

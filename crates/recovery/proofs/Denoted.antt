@@ -52,8 +52,7 @@ contains_more s t ss there = (suc there.0, omega (arith, there.1), there.2)
 pub one_denoted : (g : Geometry) (size : ℕ) (c : Image) (ss : List Saved) (fs : SavedFrames) → DenotesOne g size ss c → Holds size c fs →
     Contains ss (saved_of fs) × IsSoundSaved g fs
 one_denoted g size c [] fs denoted held = absurd denoted
-one_denoted g size c (s ∷ ss) fs denoted held = ⊎_elim
-    (λ here. let is = denotes_held g size c s fs here held in
+one_denoted g size c (s ∷ ss) fs denoted held = ⊎_elim (λ here. let is = denotes_held g size c s fs here held in
     (subst (λ (x : Saved). Contains (x ∷ ss) (saved_of fs)) is.0 (contains_here (saved_of fs) ss), is.1))
     (λ there. let is = one_denoted g size c ss fs there held in (contains_more s (saved_of fs) ss is.0, is.1))
     denoted
@@ -65,11 +64,8 @@ denoted_one_of g h size c ss t one denoted =
 
 -- what denotes a saved part is refused for no reason
 pub denoted_not_bad : DenotedIsNotBad
-denoted_not_bad g size c s reason denoted why = ⊎_elim
-    (λ first. frames_not_bad c size denoted.holds.0 denoted.holds.1 reason first)
-    (λ last.
-    let is = denotes_held g size c s last.0 denoted last.1 in
-    inconsistent_is_unsound g last.0.age last.0.frames reason last.2 is.1.sound)
+denoted_not_bad g size c s reason denoted why = ⊎_elim (λ first. frames_not_bad c size denoted.holds.0 denoted.holds.1 reason first) (λ last.
+    inconsistent_is_unsound g last.0.age last.0.frames reason last.2 (denotes_held g size c s last.0 denoted last.1).1.sound)
     why
 
 pub one_not_bad : (g : Geometry) (size : ℕ) (c : Image) (ss : List Saved) (reason : BadImage) → DenotesOne g size ss c → IsBad size c reason → ⊥

@@ -1,8 +1,7 @@
 -- A device that was opened, and one that was refused.
-use Rattle.std.proofs.Common.{◌≡◌, ◌↔◌, ℕ, ◌<◌, ◌≤◌, Bool, Option, None, Some, List, refl, sym, ap, ◌∙◌, subst, ⊎_elim}
+use Rattle.std.proofs.Common.{◌≡◌, ◌↔◌, ℕ, ◌<◌, ◌≤◌, Bool, Option, None, Some, List, refl, sym, ap, ◌∙◌, subst}
 use Rattle.std.proofs.Common.{inr, arith}
 use Rattle.std.specs.Prelude.{Result, Ok, Err, IsErrOf}
-use Rattle.std.proofs.lemmas.Bool.{cases_lt}
 use Rattle.model.specs.declared.frame.Frame.{Frame}
 use Rattle.model.specs.declared.frame.ObjectHeader.{ObjectHeader}
 use Rattle.model.specs.declared.geometry.Geometry.{Geometry}
@@ -23,6 +22,7 @@ use Rattle.capability.specs.Parts.{OnlyFetches, Parts, frames_of, objects_in}
 use Rattle.capability.proofs.Untouched.{untouched_count}
 use Rattle.checkpoint.specs.Snapshots.{Snapshots}
 use Rattle.object_store.specs.Store.{FrozenFrames, Continues, OpensStore, View}
+use Rattle.space_bank.proofs.Renewing.{unrisen}
 use Rattle.space_bank.specs.Banks.{AreCounted, BanksState}
 use Rattle.consistency.specs.Consistency.{IsInconsistent}
 use Rattle.recovery.specs.declared.live.Live.{Live}
@@ -31,10 +31,6 @@ use Rattle.recovery.specs.Recovered.{IsWhy, Recovers, RefusesToOpen}
 use Rattle.recovery.specs.Live.{AreSoundTogether, base_of, frozen_of, renewed_since, running}
 use Rattle.recovery.proofs.Denoted.{leaves_saved}
 use Rattle.recovery.proofs.Renewed.{allocations_at, base_saved, none_renewed}
-
--- a count that neither fell nor rose is the same
-unfailed : (m n : ℕ) → m ≤ n → (m < n → ⊥) → n ≡ m
-unfailed m n later stayed = ⊎_elim (λ (rose : m < n). absurd (stayed rose)) (λ (within : n ≤ m). omega arith) (cases_lt m n)
 
 -- a machine whose parts are those of an opened one
 opened_by : (g : Geometry) (at : Saved) (now : World) (touched renewed : List Bool) (frozen : Option Frozen) (to_move : ℕ) → now ≡ at.world →
@@ -63,10 +59,8 @@ durable_on mid new durable peeks counts_now seen_left c left i =
 
 module _ {D S : Type 0} (disk : D → Disk) (view : S → View D) (parts : S → Parts)
     (counts_now : (d : D) (t : ℕ) (c : Image) → t ≤ (disk d).moment → (disk d).may_leave c → (disk d).left_since t c)
-    (seen_left : (d : D) → (disk d).may_leave (disk d).seen)
-    (sound_holds : (s : S) (c : Image) → (view s).is_sound → (disk (view s).beneath).may_leave c →
-    Holds (disk (view s).beneath).sectors c (view s).snapshots.saved)
-    (geometry_is : (s : S) → (parts s).geometry ≡ (view s).snapshots.saved.geometry)
+    (seen_left : (d : D) → (disk d).may_leave (disk d).seen) (sound_holds : (s : S) (c : Image) → (view s).is_sound → (disk (view s).beneath).may_leave c →
+    Holds (disk (view s).beneath).sectors c (view s).snapshots.saved) (geometry_is : (s : S) → (parts s).geometry ≡ (view s).snapshots.saved.geometry)
     (device : D) (s t : S) (opens : OpensStore disk device (parts s) (view s)) {Goes : S → S → Type 0} (same : OnlyFetches parts Goes s t)
     (continues : Continues disk (view s) (view t))
     (peeks : touched_count (parts t).touched ≡ 0 → (view s).snapshots.frozen ≡ None → Peeks (disk (view s).beneath) (disk (view t).beneath)) where
@@ -78,8 +72,7 @@ module _ {D S : Type 0} (disk : D → Disk) (view : S → View D) (parts : S →
 
   looked : OnlyReads (disk device) (disk (view t).beneath)
   looked = only_reads_on (disk device) (disk (view s).beneath) (disk (view t).beneath) opens.only_reads opens.durable continues.size
-      (peeks still_untouched opens.frozen)
-      (counts_now (view t).beneath) (seen_left (view t).beneath)
+      (peeks still_untouched opens.frozen) (counts_now (view t).beneath) (seen_left (view t).beneath)
 
   -- it was refused
   pub refuses : (why : OpenFault) → (disk (view s).beneath).failures ≤ (disk (view t).beneath).failures →
@@ -92,7 +85,7 @@ module _ {D S : Type 0} (disk : D → Disk) (view : S → View D) (parts : S →
       stayed : (why : OpenFault) → (why ≡ fault.Failed → ⊥) → (disk (view s).beneath).failures ≤ (disk (view t).beneath).failures →
           ((why ≡ fault.Failed) ↔ ((disk (view s).beneath).failures < (disk (view t).beneath).failures)) →
           (disk (view t).beneath).failures ≡ (disk device).failures
-      stayed why other later cause = unfailed (disk (view s).beneath).failures (disk (view t).beneath).failures later (λ rose. other (cause.1 rose)) ∙
+      stayed why other later cause = unrisen (disk (view s).beneath).failures (disk (view t).beneath).failures later (λ rose. other (cause.1 rose)) ∙
           opens.failures
 
       reported : (why : OpenFault) → (disk (view s).beneath).failures ≤ (disk (view t).beneath).failures →
@@ -125,15 +118,12 @@ module _ {D S : Type 0} (disk : D → Disk) (view : S → View D) (parts : S →
     frozen = ap (λ (a : Snapshots FrozenFrames). a.frozen) continues.snapshots ∙ opens.frozen
 
     now_sound : IsSoundFrames (view t).snapshots.saved.geometry age (frames_of (parts t))
-    now_sound =
-        subst (λ (g : Geometry). IsSoundFrames g age (frames_of (parts t))) geometry
-        (subst (λ (fs : List Frame). IsSoundFrames (parts s).geometry age fs) (sym same_frames) sound)
+    now_sound = subst (λ (X : Type 0). X) (λ k. IsSoundFrames (geometry k) age (sym same_frames k)) sound
 
     saved_sound : IsSoundSaved (view t).snapshots.saved.geometry (view t).snapshots.saved
     saved_sound = record {
       geometry = refl;
-      sound = subst (λ (n : ℕ). IsSoundFrames (view t).snapshots.saved.geometry n (view t).snapshots.saved.frames) age_saved
-          (subst (λ (fs : List Frame). IsSoundFrames (view t).snapshots.saved.geometry age fs) frames now_sound);
+      sound = subst (λ (X : Type 0). X) (λ k. IsSoundFrames (view t).snapshots.saved.geometry (age_saved k) (frames k)) now_sound;
     }
 
     base_is : base_of (view t).snapshots ≡ frames_of (parts t)
@@ -143,16 +133,12 @@ module _ {D S : Type 0} (disk : D → Disk) (view : S → View D) (parts : S →
     is_sound = record {
       geometry = geometry_is t;
       now = now_sound;
-      counted = subst (λ (g : Geometry). AreCounted g (objects_in (parts t)) banks) geometry
-          (subst (λ (fs : List Frame). AreCounted (parts s).geometry (objects_of fs) banks) (sym same_frames) counted);
-      frozen = λ f is. absurd (never f (sym frozen ∙ is));
+      counted = subst (λ (X : Type 0). X) (λ k. AreCounted (geometry k) (objects_of (sym same_frames k)) banks) counted;
+      frozen = λ f is. absurd (let never : None ≡ Some f = sym frozen ∙ is in cc);
       saved = saved_sound;
       order = omega (arith, age_saved);
       risen = λ n. subst (λ (fs : List Frame). allocations_at fs n ≤ allocations_at (frames_of (parts t)) n) (sym base_is) (omega arith);
     }
-      where
-        never : (f : FrozenFrames) → None ≡ Some f → ⊥
-        never f e = cc
 
     at_saved : running disk view parts live ≡ opened (view t).snapshots.saved.geometry (saved_of (view t).snapshots.saved)
     unfolding live
@@ -160,12 +146,10 @@ module _ {D S : Type 0} (disk : D → Disk) (view : S → View D) (parts : S →
         let a = (view t).snapshots in
         let g = a.saved.geometry in
         opened_by g (saved_of a.saved) (world_at age (frames_of (parts t))) (parts t).touched (renewed_since (base_of a) (frames_of (parts t)))
-        (frozen_of age a.frozen) a.to_move
-        (ap (λ (n : ℕ). world_at n (frames_of (parts t))) age_saved ∙ ap (world_at a.saved.age) frames)
+        (frozen_of age a.frozen) a.to_move (ap (λ (n : ℕ). world_at n (frames_of (parts t))) age_saved ∙ ap (world_at a.saved.age) frames)
         (same.touched ∙ opens.touched ∙ ap (λ (x : Snapshots FrozenFrames). untouched x.saved.geometry) (sym continues.snapshots))
         (ap (λ (fs : List Frame). renewed_since fs (frames_of (parts t))) base_is ∙ none_renewed g (frames_of (parts t)) now_sound.keepable.count)
-        (ap (frozen_of age) frozen)
-        (ap (λ (x : Snapshots FrozenFrames). x.to_move) continues.snapshots ∙ opens.to_move ∙
+        (ap (frozen_of age) frozen) (ap (λ (x : Snapshots FrozenFrames). x.to_move) continues.snapshots ∙ opens.to_move ∙
         ap (λ (x : Snapshots FrozenFrames). x.saved.entries) (sym continues.snapshots))
 
     pub recovers : Recovers disk view parts device (record { store = t; banks = banks; age = age; frozen_age = age })
@@ -194,7 +178,7 @@ module _ (p q : Parts) (old new : Disk) (before : p.failures ≡ old.failures) (
 
   pub found_still : {T : Type 0} (found : T) → p.failures ≤ q.failures →
       ((let r : Result T OpenFault = Ok found in IsErrOf r fault.Failed) ↔ (p.failures < q.failures)) → new.failures ≡ old.failures
-  found_still found later cause = sym after ∙ unfailed p.failures q.failures later (λ rose. let never = cause.1 rose in cc) ∙ before
+  found_still found later cause = sym after ∙ unrisen p.failures q.failures later (λ rose. let never = cause.1 rose in cc) ∙ before
 
   pub refused_cause : {T : Type 0} (why : OpenFault) → ((let r : Result T OpenFault = Err why in IsErrOf r fault.Failed) ↔ (p.failures < q.failures)) →
       (why ≡ fault.Failed) ↔ (old.failures < new.failures)

@@ -22,16 +22,10 @@ restricted word words a = ap (λ (t : List ℕ). spaced (word ∷ words) ++ t) (
 -- the text is the words, with one space between each two
 text_is : (c : Capability) → capability_text c ≡ spaced (capability_words c)
 unfolding capability_text capability_words
-text_is capability.Void = refl
-text_is (capability.Number n) = refl
 text_is (capability.Page o a) = restricted (codes "page") (decimal o ∷ []) a
 text_is (capability.Node o a) = restricted (codes "node") (decimal o ∷ []) a
 text_is (capability.Space o h a) = restricted (codes "space") (decimal o ∷ decimal h ∷ []) a
-text_is (capability.Process p) = refl
-text_is (capability.Start p key) = refl
-text_is (capability.Resume p) = refl
-text_is (capability.Bank b) = refl
-text_is capability.Discrim = refl
+text_is other = refl
 
 -- ---- no word has a space
 
@@ -78,15 +72,7 @@ words_are capability.Discrim has = alone (codes "discrim") (name_is (codes "disc
 some_words : (c : Capability) → 0 < length (capability_words c)
 unfolding capability_words
 some_words capability.Void = omega arith
-some_words (capability.Number n) = omega arith
-some_words (capability.Page o a) = omega arith
-some_words (capability.Node o a) = omega arith
-some_words (capability.Space o h a) = omega arith
-some_words (capability.Process p) = omega arith
-some_words (capability.Start p key) = omega arith
-some_words (capability.Resume p) = omega arith
-some_words (capability.Bank b) = omega arith
-some_words capability.Discrim = omega arith
+some_words other = omega arith
 
 -- ---- texts and pieces
 

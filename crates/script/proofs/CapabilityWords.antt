@@ -199,15 +199,7 @@ kind_at word =
 kind_at_name : (k : Kind) → kind_at (kind_name k) ≡ Some k
 unfolding kind_at
 kind_at_name kind.Void = refl
-kind_at_name kind.Number = refl
-kind_at_name kind.Page = refl
-kind_at_name kind.Node = refl
-kind_at_name kind.Space = refl
-kind_at_name kind.Process = refl
-kind_at_name kind.Start = refl
-kind_at_name kind.Resume = refl
-kind_at_name kind.Bank = refl
-kind_at_name kind.Discrim = refl
+kind_at_name other = refl
 
 one_kind : (j k : Kind) → kind_name j ≡ kind_name k → j ≡ k
 one_kind j k same = some_is j k (sym (kind_at_name j) ∙ ap kind_at same ∙ kind_at_name k)

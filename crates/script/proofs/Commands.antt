@@ -289,19 +289,7 @@ keyword_at word =
 keyword_at_name : (k : Keyword) → keyword_at (keyword_name k) ≡ Some k
 unfolding keyword_at
 keyword_at_name (keyword.Invoke Call) = refl
-keyword_at_name (keyword.Invoke Return) = refl
-keyword_at_name (keyword.Invoke Send) = refl
-keyword_at_name keyword.Load = refl
-keyword_at_name keyword.Store = refl
-keyword_at_name keyword.Show = refl
-keyword_at_name keyword.Evict = refl
-keyword_at_name keyword.Checkpoint = refl
-keyword_at_name keyword.Stabilize = refl
-keyword_at_name keyword.Commit = refl
-keyword_at_name keyword.Migrate = refl
-keyword_at_name keyword.Journal = refl
-keyword_at_name keyword.Restart = refl
-keyword_at_name keyword.Cut = refl
+keyword_at_name other = refl
 
 one_keyword : (j k : Keyword) → keyword_name j ≡ keyword_name k → j ≡ k
 one_keyword j k same = some_is j k (sym (keyword_at_name j) ∙ ap keyword_at same ∙ keyword_at_name k)

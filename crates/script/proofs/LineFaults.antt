@@ -142,11 +142,7 @@ word_is_fault k all left rest count place word why lt taken is at faulty line na
     is.2,
   )
   go fault.Long is = absurd is
-  go fault.CarriageReturn is = absurd is
-  go fault.Tab is = absurd is
-  go fault.NoCommand is = absurd is
-  go (fault.FewWords n) is = absurd is
-  go (fault.ManyWords n) is = absurd is
+  go other is = absurd is
 
 -- no word is wanting
 module _ (k : Keyword) (all left : Words) (count : ℕ) (end : length (are_registers k) ≤ count) (taken : Taken (are_registers k) all count left) where

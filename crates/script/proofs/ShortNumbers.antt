@@ -120,6 +120,27 @@ three_digits text at one two three n within first some second third space is =
     (values_three text at one two three (omega (arith, within)) first second third)
     (λ zero. absurd (some zero)) (omega (arith, first, second, third))))
 
+-- a number of any length
+pub any_digits : (text rest : List ℕ) (at size n : ℕ) → rest ≡ drop at text → size ≡ first_end rest → at + size < length text → n < 2 ^ 64 →
+    first_word rest ≡ decimal n → number_at (words_of (drop at text)) ≡ Some (n, words_of (drop (at + size + 1) text))
+any_digits text rest at size n same ends within small is =
+    let long = ap length same ∙ length-drop at text in
+    let behind : drop (size + 1) rest ≡ drop (at + size + 1) text =
+    ap (drop (size + 1)) same ∙ drop-drop (size + 1) at text ∙ ap (λ (k : ℕ). drop k text) (omega arith) in
+    let left : take (length rest - (size + 1)) (drop (size + 1) rest) ≡ drop (at + size + 1) text =
+    take_all (length rest - (size + 1)) (drop (size + 1) rest) (omega (arith, length-drop (size + 1) rest)) ∙ behind in
+    subst (λ (r : List ℕ). number_at (words_of r) ≡ Some (n, words_of (drop (at + size + 1) text))) same
+    (subst (λ (r : List ℕ). number_at (words_of rest) ≡ Some (n, words_of r)) left
+    (number_gives (Some n) (first_word rest) (words_of rest) (words_of (take (length rest - (size + 1)) (drop (size + 1) rest)))
+    (word_and_more rest size ends (omega (arith, within, long))) (small, is) tt))
+
+pub any_alone : (text rest : List ℕ) (at size n : ℕ) → rest ≡ drop at text → size ≡ first_end rest → length text ≤ at + size → n < 2 ^ 64 →
+    first_word rest ≡ decimal n → number_at (words_of (drop at text)) ≡ Some (n, [])
+any_alone text rest at size n same ends past small is =
+    subst (λ (r : List ℕ). number_at (words_of r) ≡ Some (n, [])) same
+    (number_gives (Some n) (first_word rest) (words_of rest) [] (word_alone rest size ends (omega (arith, past, ap length same, length-drop at text)))
+    (small, is) tt)
+
 pub last_one : (text : List ℕ) (at n : ℕ) → length text ≡ at + 1 → IsDigit text at n → number_at (words_of (drop at text)) ≡ Some (n, [])
 last_one text at n whole first =
     digits_alone (drop at text) 1 n

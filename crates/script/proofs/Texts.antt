@@ -47,15 +47,7 @@ module _ {A : Type 0} (line : ℕ × A → List ℕ) (xs : List A) where
 pub capability_has_line : (name : List ℕ) (index : ℕ) (capability : Capability) → capability ≢ Void
     → line_of (spaced (name ∷ decimal index ∷ capability_text capability ∷ [])) ≡ capability_line name (index, capability)
 capability_has_line name index Void some = absurd (some refl)
-capability_has_line name index (Number n) some = refl
-capability_has_line name index (Page o a) some = refl
-capability_has_line name index (Node o a) some = refl
-capability_has_line name index (Space o h a) some = refl
-capability_has_line name index (Process p) some = refl
-capability_has_line name index (Start p key) some = refl
-capability_has_line name index (Resume p) some = refl
-capability_has_line name index (Bank b) some = refl
-capability_has_line name index Discrim some = refl
+capability_has_line name index other some = refl
 
 -- the words of a line, each with a space before it but the first
 pub spaced_is : (word : List ℕ) (words : List (List ℕ)) → spaced (word ∷ words) ≡ word ++ flat_map (λ w. 32 ∷ w) words

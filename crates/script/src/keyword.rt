@@ -19,8 +19,8 @@ const SEND: u64 = 0x646e_6573;
 
 const RETURN: u64 = 0x7574_6572;
 
-/// The length of the shortest line that says an invocation.
-pub const SHORTEST_INVOCATION: usize = 24;
+// The length of the shortest line that says an invocation.
+const SHORTEST_INVOCATION: usize = 24;
 
 /// What the first word of a command says.
 #[derive(Clone, Copy)]

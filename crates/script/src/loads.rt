@@ -1,5 +1,4 @@
-// Loads and stores of short numbers, read in one pass over a line. Where `None` is answered, the
-// line may still say one.
+// Loads and stores, read in one pass over a line. After `None` the line may still say one.
 ghost use Rattle.std.specs.Prelude.{◌≡◌, ◌<◌, [], Some, IfSome, length, drop};
 ghost use Rattle.model.specs.Text.{Fits, command_words};
 ghost use Rattle.script.specs.declared.keyword.Keyword.TheVariants as keyword;
@@ -8,11 +7,6 @@ ghost use Rattle.script.specs.Reading.{arguments_at, words_of};
 use crate::keyword::{is_load, is_store};
 use crate::short::{last_number, number_before};
 use model::Command;
-
-// The lengths of a load and of a store whose numbers have three digits.
-const LONGEST_LOAD: usize = 12;
-
-const LONGEST_STORE: usize = 17;
 
 // The load whose numbers begin at the sixth byte.
 #[inline(always)]
@@ -48,15 +42,15 @@ fn store_in(line: &[u8]) -> Option<Command>
     })
 }
 
-/// The load or the store that a line says, where its numbers are short.
+/// The load or the store that a line says, or `None`; then the line may still say one.
 #[inline(always)]
 pub fn load_or_store(line: &[u8]) -> Option<Command>
     ensures { IfSome result (λ c. Fits c × (words_of line.now ≡ command_words c)) }
 {
-    if line.len() <= LONGEST_LOAD && is_load(line) {
+    if is_load(line) {
         return load_in(line);
     }
-    if line.len() <= LONGEST_STORE && is_store(line) {
+    if is_store(line) {
         return store_in(line);
     }
     None

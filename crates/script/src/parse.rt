@@ -6,7 +6,7 @@ ghost use Rattle.model.specs.declared.command.Command.{Command};
 ghost use Rattle.model.specs.Text.{Says, Fits, IsSkipped, spelling, command_words};
 ghost use Rattle.script.specs.Reading.{Gives, invocation_at, arguments_at, words_of};
 
-use crate::keyword::{Keyword, SHORTEST_INVOCATION, keyword_of};
+use crate::keyword::{Keyword, keyword_of};
 use crate::loads::load_or_store;
 use crate::short::short_invocation;
 use crate::words::Words;
@@ -113,12 +113,11 @@ pub fn parse_line(line: &[u8]) -> Line
     // A command's spelling is read as that command.
     ensures reads { (c : Command) → Fits c → line.now ≡ spelling c → result ≡ Line.Command c }
 {
-    if line.len() < SHORTEST_INVOCATION {
-        if let Some(command) = load_or_store(line) {
-            return Line::Command(command);
-        }
-    } else if let Some(invocation) = short_invocation(line) {
+    if let Some(invocation) = short_invocation(line) {
         return Line::Command(Command::Invoke(invocation));
+    }
+    if let Some(command) = load_or_store(line) {
+        return Line::Command(command);
     }
     if line.len() > LONGEST_LINE {
         return Line::Bad;

@@ -1,11 +1,12 @@
-// Short numbers, each read at a place of a line. They are what most invocations have; where `None`
-// is answered, the line may still say one.
+// Numbers, each read at a place of a line. Most invocations have short ones and are read so. After
+// `None` the line may still say one.
 ghost use Rattle.std.specs.Prelude.{◌≡◌, ◌+◌, ◌<◌, ◌≤◌, [], Some, IfSome, length, drop};
 ghost use Rattle.model.specs.declared.command.Command.{Command};
 ghost use Rattle.model.specs.Text.{Fits, command_words};
 ghost use Rattle.script.specs.Reading.{words_of, number_at, register_at, registers_at};
 
 use crate::keyword::{four_at, operation_in};
+use crate::number::number_in_front;
 use crate::words::register_of;
 use model::{Invocation, Register};
 
@@ -14,14 +15,33 @@ const VOID_BEGIN: u64 = 0x2030_2030;
 
 const VOID_END: u64 = 0x3020_3020;
 
-/// A number of a text, and where the word behind it begins.
+/// A number of a text, and where the word after it begins.
 #[derive(Clone, Copy)]
 pub struct Short {
     pub number: u64,
     pub next: usize,
 }
 
-// The number at a place, where it has two or three digits and a space follows it.
+// The number at a place, if a space follows it.
+#[inline(never)]
+fn long_before(text: &[u8], at: usize, behind: usize) -> Option<Short>
+    requires room { at + behind < length text.now }
+    requires more { 2 ≤ behind }
+    ensures reads { IfSome result (λ s. number_at (words_of (drop at text.now))
+        ≡ Some (s.number, words_of (drop s.next text.now))) }
+    ensures room { IfSome result (λ s. s.next + behind < length text.now + 2) }
+{
+    let front = number_in_front(&text[at..])?;
+    if front.size >= text.len() - at - behind + 1 {
+        return None;
+    }
+    Some(Short {
+        number: front.number,
+        next: at + front.size + 1,
+    })
+}
+
+// The number at a place, if it has two or more digits and a space follows it.
 #[inline(always)]
 fn longer_before(text: &[u8], at: usize, behind: usize) -> Option<Short>
     requires room { at + behind < length text.now }
@@ -49,7 +69,7 @@ fn longer_before(text: &[u8], at: usize, behind: usize) -> Option<Short>
         return None;
     }
     if !third.is_ascii_digit() || text[at + 3] != b' ' {
-        return None;
+        return long_before(text, at, behind);
     }
     Some(Short {
         number: number * 10 + u64::from(third - b'0'),
@@ -57,8 +77,8 @@ fn longer_before(text: &[u8], at: usize, behind: usize) -> Option<Short>
     })
 }
 
-/// The number at a place, where it has at most three digits and a space follows it. At least
-/// `behind` bytes follow its first, and two fewer the first of the next word.
+/// The number at a place, if a space follows it. At least `behind` bytes follow its first byte, and
+/// two fewer the first of the next word.
 #[inline(always)]
 pub fn number_before(text: &[u8], at: usize, behind: usize) -> Option<Short>
     requires room { at + behind < length text.now }
@@ -87,7 +107,7 @@ struct ShortRegister {
     next: usize,
 }
 
-// The register at a place, where it is such a number.
+// The register at a place, if a space follows its number.
 #[inline(always)]
 fn register_before(text: &[u8], at: usize, behind: usize) -> Option<ShortRegister>
     requires room { at + behind < length text.now }
@@ -103,7 +123,20 @@ fn register_before(text: &[u8], at: usize, behind: usize) -> Option<ShortRegiste
     })
 }
 
-// The number at a place, where it has two or three digits and is the last word.
+// The number at a place, if it is the last word.
+#[inline(never)]
+fn last_long(text: &[u8], at: usize) -> Option<u64>
+    requires { at < length text.now }
+    ensures { IfSome result (λ n. number_at (words_of (drop at text.now)) ≡ Some (n, [])) }
+{
+    let front = number_in_front(&text[at..])?;
+    if front.size < text.len() - at {
+        return None;
+    }
+    Some(front.number)
+}
+
+// The number at a place, if it has two or more digits and is the last word.
 #[inline(always)]
 fn last_longer(text: &[u8], at: usize) -> Option<u64>
     requires { at + 1 < length text.now }
@@ -120,12 +153,12 @@ fn last_longer(text: &[u8], at: usize) -> Option<u64>
     }
     let third = text[at + 2];
     if text.len() != at + 3 || !third.is_ascii_digit() {
-        return None;
+        return last_long(text, at);
     }
     Some(number * 10 + u64::from(third - b'0'))
 }
 
-/// The number at a place, where it has at most three digits and is the last word.
+/// The number at a place, if it is the last word.
 #[inline(always)]
 pub fn last_number(text: &[u8], at: usize) -> Option<u64>
     requires { at < length text.now }
@@ -141,7 +174,7 @@ pub fn last_number(text: &[u8], at: usize) -> Option<u64>
     Some(u64::from(digit - b'0'))
 }
 
-// The register at a place, where it is the last word.
+// The register at a place, if it is the last word.
 #[inline(always)]
 fn last_register(text: &[u8], at: usize) -> Option<Register>
     requires { at < length text.now }
@@ -170,7 +203,7 @@ fn last_registers(text: &[u8], at: usize) -> Option<[Register; 4]>
     Some([first.register, second.register, third.register, fourth])
 }
 
-/// The invocation that a line says, where its numbers are short.
+/// The invocation that a line says, or `None`; then the line may still say one.
 #[inline(always)]
 pub fn short_invocation(line: &[u8]) -> Option<Invocation>
     ensures { IfSome result (λ i. Fits (Command.Invoke i)

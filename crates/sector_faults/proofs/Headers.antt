@@ -18,12 +18,7 @@ module _ (log : ℕ) (first first_gate second second_gate : List ℕ) (slot : �
   where
     refused_in : (f : SectorFault) → RefusesHeader (1 + 2 * slot) log (picked slot first second) f → HasNoneIn log first first_gate second second_gate f
     refused_in (fault.Header at part) is = (slot, lt, wins, is)
-    refused_in (fault.Small sectors needed) is = absurd is
-    refused_in (fault.Superblock part) is = absurd is
-    refused_in (fault.Geometry part) is = absurd is
-    refused_in (fault.NoHeader one other) is = absurd is
-    refused_in (fault.Directory at part) is = absurd is
-    refused_in (fault.Frame number is_page part) is = absurd is
+    refused_in other is = absurd is
 
     pub none_in : (r : Result CheckpointHeader SectorFault) → IfErr r (RefusesHeader (1 + 2 * slot) log (picked slot first second)) →
         IfErr r (HasNoneIn log first first_gate second second_gate)
@@ -74,10 +69,7 @@ module _ (image : Image) (size log : ℕ) (p : Plan) (same : log ≡ p.geometry.
         ),
       )
   no_header (fault.Small sectors needed) plan is = absurd is.3
-  no_header (fault.Superblock part) plan is = absurd is.3
-  no_header (fault.Geometry part) plan is = absurd is.3
-  no_header (fault.Directory at part) plan is = absurd is.3
-  no_header (fault.Frame number is_page part) plan is = absurd is.3
+  no_header other plan is = absurd is.3
 
   -- the bytes that were read are those of the image
   module _ (a b c d : List ℕ) (ea : a ≡ image 1) (eb : b ≡ image 2) (ec : c ≡ image 3) (ed : d ≡ image 4) where

@@ -128,5 +128,4 @@ module _ (size : ℕ) (image : Image) where
       let frame = whole x.6.0 x.6.1 in
       x.6.2 frame.0 frame.1
   whole_not_bad bad.BadCapability w x = absurd x
-  whole_not_bad bad.BadProcess w x = absurd x
-  whole_not_bad bad.BadBank w x = absurd x
+  whole_not_bad other w x = absurd x

@@ -33,11 +33,7 @@ module _ (size : ℕ) (image : Image) (sector : List ℕ) (is : sector ≡ image
     no_superblock : (f : SectorFault) → BreaksSector (image 0) f → IsFault size image f
     no_superblock (fault.Superblock part) broken = ((large_enough, broken.0), broken.1)
     no_superblock (fault.Geometry part) broken = ((large_enough, broken.0, broken.1), broken.2)
-    no_superblock (fault.Small sectors needed) broken = absurd broken
-    no_superblock (fault.NoHeader one other) broken = absurd broken
-    no_superblock (fault.Header at part) broken = absurd broken
-    no_superblock (fault.Directory at part) broken = absurd broken
-    no_superblock (fault.Frame number is_page part) broken = absurd broken
+    no_superblock other broken = absurd broken
 
     pub plan_refused : (r : Result Plan SectorFault) → IfErr r (BreaksSector sector) → IfErr r (IsFault size image)
     plan_refused (Ok p) broken = tt

@@ -1,8 +1,8 @@
 -- A walk along the chain of a bank, from owner to owner.
-use Rattle.space_bank.proofs.Names.{inl, inr, ℕ, true, false, List, [], length, refl, sym, ap, subst, arith, IsTrue, slice_index, slice_set, cases_eq}
+use Rattle.space_bank.proofs.Names.{inl, inr, ℕ, Bool, true, false, List, [], length, refl, sym, ap, subst, arith, IsTrue, slice_index, slice_set, cases_eq}
 use Rattle.space_bank.proofs.Names.{get_or-set_other, get_or-set_same, length-set, Object, is_bank, content_at, owner_at, chain, is_member, IsTree}
 use Rattle.space_bank.proofs.Names.{chain_itself, chain_length, chain_longer, chain_nonempty, chain_once, chain_unfolds, chain_zero, member_tail, owner_bank}
-use Rattle.space_bank.proofs.Names.{IsRaised}
+use Rattle.space_bank.proofs.Names.{IsRaised, IsShifted, MayShift}
 use Rattle.std.proofs.Common.{◌≡◌, ◌≢◌, ◌+◌, ◌-◌, ◌<◌, ◌≤◌, ◌∙◌}
 use Rattle.std.specs.Prelude.{if◌then◌else◌}
 
@@ -16,19 +16,19 @@ pub record Climbs (os : List Object) (b i c : ℕ) : Type 0 where
   pub short : length (chain os c) + i ≤ 16
   pub within : (x : ℕ) → is_member (chain os c) x ≡ true → is_member (chain os b) x ≡ true
 
--- So many more is added at the banks of b's chain that aren't in that of c.
-pub record IsRaising (os : List Object) (b c count : ℕ) (old now : List ℕ) : Type 0 where
+-- `more` is added, and `less` subtracted, at the banks of b's chain that aren't in that of c.
+pub record IsShifting (os : List Object) (b c more less : ℕ) (old now : List ℕ) : Type 0 where
   pub size : length now ≡ length old
-  pub each : (x : ℕ) → slice_index now x + share os c count x ≡ slice_index old x + share os b count x
+  pub each : (x : ℕ) → slice_index now x + share os b less x + share os c more x ≡ slice_index old x + share os b more x + share os c less x
 
-pub climb_starts : (os : List Object) (b : ℕ) → IsTrue (is_bank (content_at os b)) → Climbs os b 0 b
-climb_starts os b is = record { bank = is; short = omega (arith, chain_length os b); within = λ x member. member }
+pub climb_starts : {os : List Object} {b : ℕ} → IsTrue (is_bank (content_at os b)) → Climbs os b 0 b
+climb_starts {os} {b} is = record { bank = is; short = omega (arith, chain_length os b); within = λ x member. member }
 
-pub raising_starts : (os : List Object) (b count : ℕ) (old : List ℕ) → IsRaising os b b count old old
-raising_starts os b count old = record { size = refl; each = λ x. refl }
+pub shifting_starts : {os : List Object} {b more less : ℕ} {old : List ℕ} → IsShifting os b b more less old old
+shifting_starts = record { size = refl; each = λ x. omega arith }
 
-module _ (os : List Object) (t : IsTree os) (b i c : ℕ) (at : Climbs os b i c) where
-  pub climb_itself : is_member (chain os b) c ≡ true
+module _ {os : List Object} (t : IsTree os) {b i c : ℕ} (at : Climbs os b i c) where
+  climb_itself : is_member (chain os b) c ≡ true
   climb_itself = at.within c (chain_itself os t c at.bank)
 
   pub climb_ended : 16 ≤ i → ⊥
@@ -48,6 +48,9 @@ module _ (os : List Object) (t : IsTree os) (b i c : ℕ) (at : Climbs os b i c)
   share_here : (count : ℕ) → share os c count c ≡ count
   share_here count = rw (chain_itself os t c at.bank) refl
 
+  share_first : (count : ℕ) → share os b count c ≡ count
+  share_first count = rw climb_itself refl
+
   share_owner : (count : ℕ) → c ≢ 0 → share os (owner_at os c) count c ≡ 0
   share_owner count on = rw (chain_once os t c at.bank on) refl
 
@@ -62,50 +65,48 @@ module _ (os : List Object) (t : IsTree os) (b i c : ℕ) (at : Climbs os b i c)
       let none : is_member (chain os c) x ≡ false = ap (λ xs. is_member xs x) (chain_zero os c end) ∙ member_tail x c [] differ in
       rw none refl
 
-  module _ (count : ℕ) (old now : List ℕ) (inside : c < length now) where
-    -- what a bank accounts for before its turn comes
-    pub raising_here : IsRaising os b c count old now → slice_index now c ≡ slice_index old c
-    raising_here r = omega (arith, r.each c, share_here count, ap (λ m. if m then count else 0) climb_itself)
+  module _ {more less : ℕ} {old now : List ℕ} (each : (x : ℕ) → IsTrue (is_bank (content_at os x)) → x < length old)
+      (fits : (x : ℕ) → is_member (chain os b) x ≡ true → MayShift more less (slice_index old x)) (r : IsShifting os b c more less old now) where
+    inside : c < length now
+    inside = omega (arith, each c at.bank, r.size)
 
-    pub raises_on : c ≢ 0 → IsRaising os b c count old now → IsRaising os b (owner_at os c) count old (slice_set now c (slice_index now c + count))
-    raises_on on r = record {
-      size = length-set now c (slice_index now c + count) ∙ r.size;
+    -- the usage of a bank before its turn comes
+    same_here : slice_index now c ≡ slice_index old c
+    same_here = omega (arith, r.each c, share_here more, share_here less, share_first more, share_first less)
+
+    pub still_fits : MayShift more less (slice_index now c)
+    still_fits = subst (λ (n : ℕ). MayShift more less n) (sym same_here) (fits c climb_itself)
+
+    pub shifts_on : c ≢ 0 → IsShifting os b (owner_at os c) more less old (slice_set now c (slice_index now c + more - less))
+    shifts_on on = record {
+      size = length-set now c (slice_index now c + more - less) ∙ r.size;
       each = λ x. elim (cases_eq x c) [
-        | inl e ↦ rw (e, get_or-set_same now c (slice_index now c + count) 0 inside) (omega (arith, r.each c, share_here count, share_owner count on))
-        | inr differ ↦ rw (get_or-set_other now c x (slice_index now c + count) 0 differ) (omega (arith, r.each x, share_other count x on differ))
+        | inl e ↦ rw (e, get_or-set_same now c (slice_index now c + more - less) 0 inside)
+            (omega (arith, still_fits.enough, same_here, share_first more, share_first less, share_owner more on, share_owner less on))
+        | inr differ ↦ rw (get_or-set_other now c x (slice_index now c + more - less) 0 differ)
+            (omega (arith, r.each x, share_other more x on differ, share_other less x on differ))
       ];
     }
 
-    pub raised_last : c ≡ 0 → IsRaising os b c count old now → IsRaised (chain os b) count old (slice_set now c (slice_index now c + count))
-    raised_last end r = record {
-      size = length-set now c (slice_index now c + count) ∙ r.size;
+    pub shifted_last : c ≡ 0 → IsShifted (chain os b) more less old (slice_set now c (slice_index now c + more - less))
+    shifted_last end = record {
+      size = length-set now c (slice_index now c + more - less) ∙ r.size;
       each = λ x. elim (cases_eq x c) [
-        | inl e ↦ rw (e, get_or-set_same now c (slice_index now c + count) 0 inside) (omega (arith, r.each c, share_here count))
-        | inr differ ↦ rw (get_or-set_other now c x (slice_index now c + count) 0 differ) (omega (arith, r.each x, share_prime count x end differ))
+        | inl e ↦ rw (e, get_or-set_same now c (slice_index now c + more - less) 0 inside)
+            (omega (arith, still_fits.enough, same_here, share_first more, share_first less))
+        | inr differ ↦ rw (get_or-set_other now c x (slice_index now c + more - less) 0 differ)
+            (omega (arith, r.each x, share_prime more x end differ, share_prime less x end differ))
       ];
     }
 
-    -- and the same of what is taken
-    pub lowering_here : IsRaising os b c count now old → slice_index now c ≡ slice_index old c
-    lowering_here r = omega (arith, r.each c, share_here count, ap (λ m. if m then count else 0) climb_itself)
+-- a usage is only added, or only subtracted
+nothing : (is : Bool) → ◌≡◌ {A = ℕ} (if is then 0 else 0) 0
+nothing true = refl
+nothing false = refl
 
-    pub lowers_on : c ≢ 0 → count ≤ slice_index old c → IsRaising os b c count now old →
-        IsRaising os b (owner_at os c) count (slice_set now c (slice_index now c - count)) old
-    lowers_on on enough r = record {
-      size = sym (length-set now c (slice_index now c - count) ∙ sym r.size);
-      each = λ x. elim (cases_eq x c) [
-        | inl e ↦ rw (e, get_or-set_same now c (slice_index now c - count) 0 inside)
-            (omega (arith, r.each c, share_here count, share_owner count on, lowering_here r))
-        | inr differ ↦ rw (get_or-set_other now c x (slice_index now c - count) 0 differ) (omega (arith, r.each x, share_other count x on differ))
-      ];
-    }
+module _ {banks : List ℕ} {count : ℕ} {old new : List ℕ} where
+  pub raised_of : IsShifted banks count 0 old new → IsRaised banks count old new
+  raised_of s = record { size = s.size; each = λ b. omega (arith, s.each b, nothing (is_member banks b)) }
 
-    pub lowered_last : c ≡ 0 → count ≤ slice_index old c → IsRaising os b c count now old →
-        IsRaised (chain os b) count (slice_set now c (slice_index now c - count)) old
-    lowered_last end enough r = record {
-      size = sym (length-set now c (slice_index now c - count) ∙ sym r.size);
-      each = λ x. elim (cases_eq x c) [
-        | inl e ↦ rw (e, get_or-set_same now c (slice_index now c - count) 0 inside) (omega (arith, r.each c, share_here count, lowering_here r))
-        | inr differ ↦ rw (get_or-set_other now c x (slice_index now c - count) 0 differ) (omega (arith, r.each x, share_prime count x end differ))
-      ];
-    }
+  pub lowered_of : IsShifted banks 0 count old new → IsRaised banks count new old
+  lowered_of s = record { size = sym s.size; each = λ b. omega (arith, s.each b, nothing (is_member banks b)) }

@@ -1,9 +1,9 @@
 -- What is counted, a number at a time.
-use Rattle.space_bank.proofs.Names.{ℕ, List, [], length, map, inl, inr, refl, sym, ap, subst, zero-add, arith, IsTrue, slice_index, SomeIff, range_with_len}
-use Rattle.space_bank.proofs.Names.{cases_lt, get_or-map-range_with_len, length-map-range_with_len, map-range_with_len_more, Cap, Capability, Frame}
-use Rattle.space_bank.proofs.Names.{ObjectHeader, Geometry, Content, Object, usage, conveyed, frames_in, held_at, objects_of, Role, is_bank, is_free, is_root}
-use Rattle.space_bank.proofs.Names.{limit_in, role_of, object_count, content_at, Parts, objects_in, content_there, mapped, AreCounted, BanksState, AreKept}
-use Rattle.space_bank.proofs.Names.{AreMarked, kept_number, ContentRef, content_behind}
+use Rattle.space_bank.proofs.Names.{ℕ, List, [], length, map, refl, sym, ap, subst, zero-add, arith, IsTrue, slice_index, SomeIff, range_with_len}
+use Rattle.space_bank.proofs.Names.{get_or-map-range_with_len, length-map-range_with_len, map-range_with_len_more, Cap, Capability, Frame, ObjectHeader}
+use Rattle.space_bank.proofs.Names.{Geometry, Content, Object, usage, conveyed, frames_in, held_at, objects_of, Role, is_bank, is_free, is_root, limit_in}
+use Rattle.space_bank.proofs.Names.{role_of, object_count, content_at, Parts, objects_in, content_there, mapped, AreCounted, BanksState, AreKept, AreMarked}
+use Rattle.space_bank.proofs.Names.{kept_number, ContentRef, content_behind}
 use Rattle.std.proofs.Common.{◌≡◌, ◌+◌, ◌<◌, ◌≤◌, ◌^◌, ◌++◌, ◌∙◌, ◌∷◌}
 use Rattle.std.specs.Prelude.{Some}
 use Rattle.model.specs.declared.object.Content.TheVariants as content
@@ -12,30 +12,13 @@ use Rattle.model.specs.declared.object.Role.TheVariants as role
 
 -- no number is kept of an object with another role
 pub kept_other : (r : Role) (c : Content Capability) → (role_of c ≡ r → ⊥) → kept_number r c ≡ 0
-kept_other role.Free c other = refl
-kept_other role.Page c other = refl
-kept_other role.Node c other = refl
-kept_other role.Annex c other = refl
-kept_other role.Root content.Free other = refl
-kept_other role.Root (content.Page words) other = refl
-kept_other role.Root (content.Node slots) other = refl
 kept_other role.Root (content.Root r) other = absurd (other refl)
-kept_other role.Root (content.Annex registers) other = refl
-kept_other role.Root (content.Bank limit) other = refl
-kept_other role.Bank content.Free other = refl
-kept_other role.Bank (content.Page words) other = refl
-kept_other role.Bank (content.Node slots) other = refl
-kept_other role.Bank (content.Root r) other = refl
-kept_other role.Bank (content.Annex registers) other = refl
 kept_other role.Bank (content.Bank limit) other = absurd (other refl)
+kept_other r c other = refl
 
 pub no_limit : (r : ContentRef) → ((x : ℕ) → r ≡ content_ref.Bank x → ⊥) → limit_in (content_behind r) ≡ 0
-no_limit content_ref.Free bank = refl
-no_limit (content_ref.Page words) bank = refl
-no_limit (content_ref.Node slots) bank = refl
-no_limit (content_ref.Root root) bank = refl
-no_limit (content_ref.Annex registers) bank = refl
 no_limit (content_ref.Bank limit) bank = absurd (bank limit refl)
+no_limit c bank = refl
 
 -- the limit of what is held at a number
 pub limit_held : (p : Parts) (n : ℕ) (c : Content Cap) → n < length p.headers → c ≡ held_at p.contents n →
@@ -46,15 +29,7 @@ limit_held p n c known is =
 -- a read-only call leaves the objects
 pub objects_looked : (old now : Parts) → now.headers ≡ old.headers → now.contents ≡ old.contents → objects_in now ≡ objects_in old
 objects_looked old now headers contents =
-    ap (λ (fs : List Frame). objects_of fs)
-    (ap (λ (hs : List ObjectHeader). frames_in hs now.contents) headers ∙ ap (frames_in old.headers) contents)
-
--- a read-only call that didn't fail leaves the count of failures
-pub never_failed : (old mid now : ℕ) → mid ≡ old → mid ≤ now → (mid < now → ⊥) → now ≡ old
-never_failed old mid now so later never = elim (cases_lt mid now) [
-  | inl more ↦ absurd (never more)
-  | inr same ↦ omega arith
-]
+    ap (λ (fs : List Frame). objects_of fs) (ap (λ (hs : List ObjectHeader). frames_in hs now.contents) headers ∙ ap (frames_in old.headers) contents)
 
 -- one number more, read after a read-only call
 pub numbers_more : (old now : Parts) (r : Role) (n one : ℕ) (kept new : List ℕ) → now.headers ≡ old.headers → now.contents ≡ old.contents →
@@ -64,9 +39,7 @@ pub numbers_more : (old now : Parts) (r : Role) (n one : ℕ) (kept new : List �
 numbers_more old now r n one kept new headers contents is so more =
     let f : ℕ → ℕ = λ m. kept_number r (content_at (objects_in old) m) in
     let here : one ≡ f n = is ∙ ap (λ (os : List Object). kept_number r (content_at os n)) (objects_looked old now headers contents) in
-    more
-    ∙ ap (λ (xs : List ℕ). xs ++ one ∷ []) so
-    ∙ ap (λ (m : ℕ). map f (range_with_len 0 n) ++ m ∷ []) here
+    more ∙ ap (λ (xs : List ℕ). xs ++ one ∷ []) so ∙ ap (λ (m : ℕ). map f (range_with_len 0 n) ++ m ∷ []) here
     ∙ sym (map-range_with_len_more f 0 n n (zero-add n))
 
 -- numbers of nodes and pages fit, since there is a header for each
@@ -107,5 +80,4 @@ module _ (g : Geometry) (os : List Object) (s : BanksState) (below : (b : ℕ) �
       AreKept os g.nodes s.limits s.annexes → object_count g + 2 ≤ s.room → AreCounted g os s
   counted_from h is nodes pages size =
       counted_parts (subst (λ (k : Geometry). AreMarked os 0 k.nodes s.free_nodes) is nodes)
-      (subst (λ (k : Geometry). AreMarked os k.nodes k.pages s.free_pages) is pages)
-      (size ∙ ap (λ (k : Geometry). k.nodes) is)
+      (subst (λ (k : Geometry). AreMarked os k.nodes k.pages s.free_pages) is pages) (size ∙ ap (λ (k : Geometry). k.nodes) is)

@@ -20,8 +20,7 @@ module _ (os : List Object) (base : ℕ) (marks : List Bool) (same : (n : ℕ) �
   next_by zero from n is next =
       let here : from ≡ n = omega arith in
       let inside : from < length marks = omega (arith, next.inside) in
-      free_one from inside
-      ∙ ap (λ (b : Bool). cond b ((base + from) ∷ free_from (from + 1)) (free_from (from + 1))) (ap (is_marked marks) here ∙ next.marked)
+      free_one from inside ∙ ap (λ (b : Bool). cond b ((base + from) ∷ free_from (from + 1)) (free_from (from + 1))) (ap (is_marked marks) here ∙ next.marked)
       ∙ ap (λ (m : ℕ). (base + m) ∷ free_from (m + 1)) here
   next_by (suc k) from n is next =
       let inside : from < length marks = omega (arith, next.inside) in
@@ -44,15 +43,12 @@ module _ (os : List Object) (base : ℕ) (marks : List Bool) (same : (n : ℕ) �
       rw k refl
   none_by (suc k) from is none =
       let inside : from < length marks = omega arith in
-      free_one from inside
-      ∙ ap (λ (b : Bool). cond b ((base + from) ∷ free_from (from + 1)) (free_from (from + 1))) (none from (omega arith))
+      free_one from inside ∙ ap (λ (b : Bool). cond b ((base + from) ∷ free_from (from + 1)) (free_from (from + 1))) (none from (omega arith))
       ∙ none_by k (from + 1) (omega arith) (λ m late. none m (omega arith))
 
   pub none_free : (from : ℕ) → HasNoneMarked marks from → free_from from ≡ []
-  none_free from none = ⊎_elim
-      (λ (past : length marks < from). let k : length marks - from ≡ 0 = omega arith in rw k refl)
-      (λ (inside : from ≤ length marks). none_by (length marks - from) from (omega arith) none)
-      (cases_lt (length marks) from)
+  none_free from none = ⊎_elim (λ (past : length marks < from). let k : length marks - from ≡ 0 = omega arith in rw k refl)
+      (λ (inside : from ≤ length marks). none_by (length marks - from) from (omega arith) none) (cases_lt (length marks) from)
 
   whole : are_free os (range_with_len base (length marks)) ≡ free_from 0
   whole =
@@ -81,33 +77,27 @@ module _ (os : List Object) (marks : List Bool) (same : (n : ℕ) → n < length
   pub process_found : (m : ℕ) → IsNextMarked marks 0 n → IsNextMarked marks (n + 1) m →
       Some (MakeProcess n m b) ≡ process_at b (are_free os (range_with_len 0 (length marks)))
   process_found m first second =
-      ap (λ (r : ℕ). Some (MakeProcess r m b)) (sym (zero-add n))
-      ∙ ap (λ (a : ℕ). Some (MakeProcess (0 + n) a b)) (sym (zero-add m))
+      ap (λ (r : ℕ). Some (MakeProcess r m b)) (sym (zero-add n)) ∙ ap (λ (a : ℕ). Some (MakeProcess (0 + n) a b)) (sym (zero-add m))
       ∙ ap (process_at b) (sym (found_two os 0 marks same n m first second))
 
--- the marks that are read are those that are counted
-module _ (g : Geometry) (os : List Object) (s : BanksState) (h : AreCounted g os s) (marks : List Bool) where
-  pub nodes_marked : marks ≡ s.free_nodes → AreMarked os 0 (length marks) marks
-  nodes_marked are = subst (λ (m : List Bool). AreMarked os 0 (length m) m) (sym are) (record {
-    size = refl;
-    each = λ n inside. h.node n (omega (arith, inside, h.nodes)) ∙ ap (λ (m : ℕ). is_free (content_at os m)) (sym (zero-add n));
-  })
-
-  pub nodes_are : marks ≡ s.free_nodes → free_nodes g os ≡ are_free os (range_with_len 0 (length marks))
+-- the marks that are read are those that are counted, so what is made of the numbers that they mark is made of those that are free
+module _ {g : Geometry} {os : List Object} {s : BanksState} (h : AreCounted g os s) {marks : List Bool} {X : Type 0} (make : List ℕ → X) {x : X} where
+  pub made_of_nodes : marks ≡ s.free_nodes →
+      ((us : List Object) → AreMarked us 0 (length marks) marks → x ≡ make (are_free us (range_with_len 0 (length marks)))) → x ≡ make (free_nodes g os)
   unfolding free_nodes
-  nodes_are are =
+  made_of_nodes are made =
       let all : g.nodes ≡ length marks = omega (arith, h.nodes, ap (λ (m : List Bool). length m) are) in
-      ap (λ (k : ℕ). are_free os (range_with_len 0 k)) all
+      made os (subst (λ (m : List Bool). AreMarked os 0 (length m) m) (sym are) (record {
+        size = refl;
+        each = λ n inside. h.node n (omega (arith, inside, h.nodes)) ∙ ap (λ (m : ℕ). is_free (content_at os m)) (sym (zero-add n));
+      })) ∙ ap (λ (k : ℕ). make (are_free os (range_with_len 0 k))) (sym all)
 
-  pub pages_marked : marks ≡ s.free_pages → (first : ℕ) → first ≡ g.nodes → AreMarked os first (length marks) marks
-  pages_marked are first is = subst (λ (n : ℕ). AreMarked os n (length marks) marks) (sym is)
-      (subst (λ (m : List Bool). AreMarked os g.nodes (length m) m) (sym are) (record {
+  pub made_of_pages : marks ≡ s.free_pages → (first : ℕ) → first ≡ g.nodes →
+      ((us : List Object) → AreMarked us first (length marks) marks → x ≡ make (are_free us (range_with_len first (length marks)))) → x ≡ make (free_pages g os)
+  unfolding free_pages
+  made_of_pages are first is made =
+      let all : g.pages ≡ length marks = omega (arith, h.pages, ap (λ (m : List Bool). length m) are) in
+      made os (subst (λ (n : ℕ). AreMarked os n (length marks) marks) (sym is) (subst (λ (m : List Bool). AreMarked os g.nodes (length m) m) (sym are) (record {
         size = refl;
         each = λ n inside. h.page n (omega (arith, inside, h.pages));
-      }))
-
-  pub pages_are : marks ≡ s.free_pages → (first : ℕ) → first ≡ g.nodes → free_pages g os ≡ are_free os (range_with_len first (length marks))
-  unfolding free_pages
-  pages_are are first is =
-      let all : g.pages ≡ length marks = omega (arith, h.pages, ap (λ (m : List Bool). length m) are) in
-      ap (λ (k : ℕ). are_free os (range_with_len g.nodes k)) all ∙ ap (λ (n : ℕ). are_free os (range_with_len n (length marks))) (sym is)
+      }))) ∙ (λ k. make (are_free os (range_with_len (is k) (sym all k))))

@@ -4,10 +4,8 @@ mod Climbs
 mod Counts
 pub mod Ending
 mod Found
-mod Giving
-mod Lists
 mod Making
-mod Missing
+pub mod Missing
 mod Owners
 pub mod Plans
 pub mod Renewing

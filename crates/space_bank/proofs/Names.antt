@@ -29,7 +29,7 @@ pub use Rattle.model.specs.World.{content_at, object_at, owner_at}
 pub use Rattle.model.specs.contracts.object.Role.{the_type}
 pub use Rattle.model.specs.declared.capability.Cap.{Cap}
 pub use Rattle.model.specs.declared.capability.Capability.{Capability}
-pub use Rattle.model.specs.declared.capability.Capability.TheVariants.{Bank, Discrim, Node, Number, Page, Process, Resume, Space, Start, Void}
+pub use Rattle.model.specs.declared.capability.Capability.TheVariants.{Node, Page, Process, Void}
 pub use Rattle.model.specs.declared.frame.Frame.{Frame}
 pub use Rattle.model.specs.declared.frame.ObjectHeader.{ObjectHeader}
 pub use Rattle.model.specs.declared.geometry.Geometry.{Geometry}
@@ -74,10 +74,10 @@ pub use Rattle.std.specs.Option.{SomeIff}
 pub use Rattle.std.specs.Prelude.{IsTrue, nat_le, nat_lt, slice_index, slice_index_or, slice_set}
 pub use Rattle.std.specs.Vec.{vec_capacity}
 pub use Rattle.space_bank.specs.Allocating.{allocated_by, allocating, count_of, given_by, given_for, is_deep, made_for, new_at, new_of, numbers_of, process_at}
-pub use Rattle.space_bank.specs.Banks.{AreCounted, BanksState, KeepsObjects, MayAsk}
-pub use Rattle.space_bank.specs.Carrying.{AreTransferred, CarriesOut, GivesUp, IsAlone, IsMadeUnder, IsPlanned, MayGiveUp, MayMake, MayServe, PlansAs}
+pub use Rattle.space_bank.specs.Banks.{AreCounted, BanksState, KeepsObjects, MayServe}
+pub use Rattle.space_bank.specs.Carrying.{AreTransferred, CarriesOut, GivesUp, IsMade, IsMadeUnder, IsPlanned, MakesOne, MakesTwo, MayGiveUp, MayMake, PlansAs}
 pub use Rattle.space_bank.specs.Carrying.{Transfers, marks_of}
-pub use Rattle.space_bank.specs.Chains.{IsRaised}
+pub use Rattle.space_bank.specs.Chains.{IsRaised, IsShifted, MayShift}
 pub use Rattle.space_bank.specs.Counting.{AreKept, AreMarked, kept_number}
-pub use Rattle.space_bank.specs.Planning.{AreFree, HasNoneUsed, IsBankOf, IsNextUsed, annex_among, annex_of}
+pub use Rattle.space_bank.specs.Planning.{AreFree, HasLeft, HasNoneUsed, IsNextUsed, annex_among, annex_of, is_listed, listed_by}
 pub use Rattle.space_bank.specs.declared.planning_new.New.{New}

@@ -1,13 +1,12 @@
 -- The plan of an order is its effect.
-use Rattle.space_bank.proofs.Names.{ℕ, Bool, true, false, List, [], None, Some, length, refl, sym, ap, subst, arith, IsTrue, nat_lt, eq-eqb, ne_eqb, append-nil}
-use Rattle.space_bank.proofs.Names.{length-append, Capability, Void, Number, Page, Node, Space, Process, Start, Resume, Bank, Discrim, Geometry, Content}
-use Rattle.space_bank.proofs.Names.{Object, Arguments, BankOrder, ResultCode, chain, usage, allocated, bank_allocated, free_nodes, free_pages, freed, freed_by}
-use Rattle.space_bank.proofs.Names.{has_quota, inherited, on_bank, owned_by, process_allocated, remaining, under, with_new, full, OrderOutcome, made, refused}
-use Rattle.space_bank.proofs.Names.{replying_three, is_bank, is_root, limit_in, rescind, MayBeHeld, content_at, owner_at, BankChange, OrderPlan, Fresh}
-use Rattle.space_bank.proofs.Names.{bank_changed, reply_of_code, HaveTheirRoles, Parts, frames_of, fresh_content, objects_in, freed_alike, nodes_alike}
-use Rattle.space_bank.proofs.Names.{owned_alike, pages_alike, remaining_alike, room_alike, under_alike, IsNow, SameFrame, chain_same, frame_refl, usage_same}
-use Rattle.space_bank.proofs.Names.{keepable_count, keepable_roles, root_number, New, allocated_by, allocating, count_of, given_by, given_for, is_deep}
-use Rattle.space_bank.proofs.Names.{made_for, new_at, new_of, numbers_of, process_at, BanksState, MayAsk, IsPlanned, MayMake, PlansAs, IsBankOf, annex_among}
+use Rattle.space_bank.proofs.Names.{ℕ, Bool, true, false, List, [], Some, length, refl, sym, ap, subst, arith, IsTrue, nat_lt, eq-eqb, ne_eqb, append-nil}
+use Rattle.space_bank.proofs.Names.{length-append, Capability, Void, Page, Node, Process, Geometry, Content, Object, Arguments, BankOrder, ResultCode, chain}
+use Rattle.space_bank.proofs.Names.{usage, allocated, bank_allocated, free_nodes, free_pages, freed, freed_by, has_quota, inherited, on_bank, owned_by}
+use Rattle.space_bank.proofs.Names.{process_allocated, remaining, under, with_new, full, OrderOutcome, made, refused, replying_three, is_bank, is_root}
+use Rattle.space_bank.proofs.Names.{limit_in, rescind, MayBeHeld, content_at, owner_at, BankChange, OrderPlan, Fresh, bank_changed, reply_of_code, Parts}
+use Rattle.space_bank.proofs.Names.{fresh_content, objects_in, freed_alike, nodes_alike, owned_alike, pages_alike, remaining_alike, room_alike, under_alike}
+use Rattle.space_bank.proofs.Names.{IsNow, SameFrame, chain_same, frame_refl, usage_same, keepable_count, root_number, New, allocated_by, allocating, count_of}
+use Rattle.space_bank.proofs.Names.{given_for, is_deep, made_for, new_at, new_of, process_at, BanksState, IsPlanned, MayMake, MayServe, PlansAs, annex_among}
 use Rattle.space_bank.proofs.Names.{annex_of}
 use Rattle.std.proofs.Common.{◌≡◌, ◌+◌, ◌<◌, ◌≤◌, ◌++◌, ◌∙◌, ◌∷◌}
 use Rattle.std.specs.Prelude.{if◌then◌else◌, not}
@@ -29,23 +28,8 @@ making c made = record { reply = record { code = code.Done; words = 0 ∷ 0 ∷ 
 abbrev pub answer : List ℕ → OrderPlan
 answer words = record { reply = record { code = code.Done; words = words; capability = Void }; change = change.Nothing }
 
-module _ (g : Geometry) (os : List Object) (b : ℕ) (order : BankOrder) (args : Arguments) (plan : OrderPlan) where
-  pub refused_as : (why : ResultCode) → ((us : List Object) → SameFrame os us → on_bank g us b order args ≡ refused us why) → plan ≡ refusal why →
-      PlansAs g os b order args [] plan
-  refused_as why is plans = subst (λ (q : OrderPlan). PlansAs g os b order args [] q) (sym plans) (record { outcome = is; may = λ us frame now. refl })
-
-  pub made_as : (list : List ℕ) (c : Capability) (x : BankChange) →
-      ((us : List Object) → SameFrame os us → on_bank g us b order args ≡ made (bank_changed us list x) list c)
-      → ((us : List Object) → SameFrame os us → IsNow g us → MayMake g us list x) → plan ≡ making c x → PlansAs g os b order args list plan
-  made_as list c x is may plans = subst (λ (q : OrderPlan). PlansAs g os b order args list q) (sym plans) (record { outcome = is; may = may })
-
-  pub replying_as : (x y z : ℕ) → ((us : List Object) → SameFrame os us → on_bank g us b order args ≡ replying_three us x y z) →
-      plan ≡ answer (x ∷ y ∷ z ∷ []) → PlansAs g os b order args [] plan
-  replying_as x y z is plans = subst (λ (q : OrderPlan). PlansAs g os b order args [] q) (sym plans) (record { outcome = is; may = λ us frame now. refl })
-
--- what is planned as a list of numbers, and listed
-module _ (p : Parts) (b : ℕ) (order : BankOrder) (args : Arguments) (first list : List ℕ) (plan : OrderPlan) where
-  pub planned_as : (written : List ℕ) → PlansAs p.geometry (objects_in p) b order args written plan → list ≡ first ++ written →
+module _ {p : Parts} {b : ℕ} {order : BankOrder} {args : Arguments} {first : List ℕ} {plan : OrderPlan} where
+  planned_as : {list : List ℕ} (written : List ℕ) → PlansAs p.geometry (objects_in p) b order args written plan → list ≡ first ++ written →
       IsPlanned p b order args first plan list
   planned_as written plans is =
       let same : (on_bank p.geometry (objects_in p) b order args).written ≡ written =
@@ -55,8 +39,24 @@ module _ (p : Parts) (b : ℕ) (order : BankOrder) (args : Arguments) (first lis
         listed = is ∙ ap (λ (ns : List ℕ). first ++ ns) (sym same);
       }
 
-  pub planned_none : PlansAs p.geometry (objects_in p) b order args [] plan → list ≡ first → IsPlanned p b order args first plan list
-  planned_none plans is = planned_as [] plans (is ∙ sym (append-nil first))
+  pub planned_refused : (why : ResultCode) → ((us : List Object) → SameFrame (objects_in p) us → on_bank p.geometry us b order args ≡ refused us why) →
+      plan ≡ refusal why → IsPlanned p b order args first plan first
+  planned_refused why is plans = planned_as []
+      (subst (λ (q : OrderPlan). PlansAs p.geometry (objects_in p) b order args [] q) (sym plans) (record { outcome = is; may = λ us frame now. refl }))
+      (sym (append-nil first))
+
+  pub planned_replying : (x y z : ℕ) → ((us : List Object) → SameFrame (objects_in p) us → on_bank p.geometry us b order args ≡ replying_three us x y z) →
+      plan ≡ answer (x ∷ y ∷ z ∷ []) → IsPlanned p b order args first plan first
+  planned_replying x y z is plans = planned_as []
+      (subst (λ (q : OrderPlan). PlansAs p.geometry (objects_in p) b order args [] q) (sym plans) (record { outcome = is; may = λ us frame now. refl }))
+      (sym (append-nil first))
+
+  pub planned_made : {list : List ℕ} (written : List ℕ) (c : Capability) (x : BankChange) →
+      ((us : List Object) → SameFrame (objects_in p) us → on_bank p.geometry us b order args ≡ made (bank_changed us written x) written c) →
+      ((us : List Object) → SameFrame (objects_in p) us → IsNow p.geometry us → MayMake p.geometry us written x) → plan ≡ making c x →
+      list ≡ first ++ written → IsPlanned p b order args first plan list
+  planned_made written c x is may plans = planned_as written
+      (subst (λ (q : OrderPlan). PlansAs p.geometry (objects_in p) b order args written q) (sym plans) (record { outcome = is; may = may }))
 
 -- the effect of an order that allocates
 one_allocated : (os : List Object) (b : ℕ) (f : Fresh) (named : ℕ → Capability) → ((n : ℕ) → named n ≡ given_for n f) → (ns : List ℕ)
@@ -83,26 +83,19 @@ pub allocating_is : (g : Geometry) (os : List Object) (b : ℕ) (order : BankOrd
 unfolding on_bank
 allocating_is g os b bank.NewPage args kind is =
     let e : new.Page ≡ kind = cc in
-    subst (λ (k : New). on_bank g os b bank.NewPage args ≡ allocating g os b k) e
-    (ap (λ (o : OrderOutcome). if has_quota os b 1 then o else refused os code.Limit)
-    (one_allocated os b fresh.Page (λ n. Page n full) (λ n. refl) (free_pages g os)))
+    (λ k. if has_quota os b 1 then one_allocated os b fresh.Page (λ n. Page n full) (λ n. refl) (free_pages g os) k else refused os code.Limit)
+    ∙ ap (allocating g os b) e
 allocating_is g os b bank.NewNode args kind is =
     let e : new.Node ≡ kind = cc in
-    subst (λ (k : New). on_bank g os b bank.NewNode args ≡ allocating g os b k) e
-    (ap (λ (o : OrderOutcome). if has_quota os b 1 then o else refused os code.Limit)
-    (one_allocated os b fresh.Node (λ n. Node n full) (λ n. refl) (free_nodes g os)))
+    (λ k. if has_quota os b 1 then one_allocated os b fresh.Node (λ n. Node n full) (λ n. refl) (free_nodes g os) k else refused os code.Limit)
+    ∙ ap (allocating g os b) e
 allocating_is g os b bank.NewProcess args kind is =
     let e : new.Process ≡ kind = cc in
-    subst (λ (k : New). on_bank g os b bank.NewProcess args ≡ allocating g os b k) e
-    (ap (λ (o : OrderOutcome). if has_quota os b 2 then o else refused os code.Limit) (two_allocated os b (free_nodes g os)))
+    (λ k. if has_quota os b 2 then two_allocated os b (free_nodes g os) k else refused os code.Limit) ∙ ap (allocating g os b) e
 allocating_is g os b bank.NewBank args kind is =
     let e : new.Bank args.first ≡ kind = cc in
-    subst (λ (k : New). on_bank g os b bank.NewBank args ≡ allocating g os b k) e
-    (ap (λ (o : OrderOutcome). if has_quota os b 1 then o else refused os code.Limit) (deep_allocated os b args.first (free_nodes g os)))
-allocating_is g os b bank.Free args kind is = cc
-allocating_is g os b bank.Destroy args kind is = cc
-allocating_is g os b bank.ReturnToParent args kind is = cc
-allocating_is g os b bank.Remaining args kind is = cc
+    (λ k. if has_quota os b 1 then deep_allocated os b args.first (free_nodes g os) k else refused os code.Limit) ∙ ap (allocating g os b) e
+allocating_is g os b c args kind is = cc
 
 -- where the frame is the same, the same is made
 module _ (os us : List Object) (frame : SameFrame os us) (g : Geometry) (b : ℕ) where
@@ -113,31 +106,16 @@ module _ (os us : List Object) (frame : SameFrame os us) (g : Geometry) (b : ℕ
   made_alike (new.Bank limit) = ap (new_at b (fresh.Bank limit)) (nodes_alike os us frame g)
 
   pub deep_alike : (kind : New) → is_deep us b kind ≡ is_deep os b kind
-  deep_alike new.Page = refl
-  deep_alike new.Node = refl
-  deep_alike new.Process = refl
   deep_alike (new.Bank limit) = ap (λ (xs : List ℕ). not (nat_lt (length xs) 16)) (chain_same os us frame b)
+  deep_alike c = refl
 
 -- by the tests that the code makes
-module _ (g : Geometry) (os : List Object) (b : ℕ) (order : BankOrder) (args : Arguments) (kind : New) (is : new_of order args ≡ Some kind) (us : List Object)
-    (frame : SameFrame os us) where
-  pub new_limit : has_quota os b (count_of kind) ≡ false → on_bank g us b order args ≡ refused us code.Limit
-  new_limit full = allocating_is g us b order args kind is ∙ rw (room_alike os us frame b (count_of kind), full) refl
-
-  pub new_none : has_quota os b (count_of kind) ≡ true → made_for g os b kind ≡ None → on_bank g us b order args ≡ refused us code.NoFrame
-  new_none room none = allocating_is g us b order args kind is ∙ rw (room_alike os us frame b (count_of kind), room, made_alike os us frame g b kind, none) refl
-
-  pub new_deep : (c : BankChange) → has_quota os b (count_of kind) ≡ true → made_for g os b kind ≡ Some c → is_deep os b kind ≡ true →
-      on_bank g us b order args ≡ refused us code.TooDeep
-  new_deep c room some deep =
-      allocating_is g us b order args kind is
-      ∙ rw (room_alike os us frame b (count_of kind), room, made_alike os us frame g b kind, some, deep_alike os us frame g b kind, deep) refl
-
-  pub new_made : (c : BankChange) → has_quota os b (count_of kind) ≡ true → made_for g os b kind ≡ Some c → is_deep os b kind ≡ false
-      → on_bank g us b order args ≡ made (bank_changed us (numbers_of c) c) (numbers_of c) (given_by c)
-  new_made c room some short =
-      allocating_is g us b order args kind is
-      ∙ rw (room_alike os us frame b (count_of kind), room, made_alike os us frame g b kind, some, deep_alike os us frame g b kind, short) refl
+pub new_is : (g : Geometry) (os : List Object) (b : ℕ) (order : BankOrder) (args : Arguments) (kind : New) → new_of order args ≡ Some kind →
+    (us : List Object) → SameFrame os us → on_bank g us b order args ≡
+    (if has_quota os b (count_of kind) then allocated_by us (is_deep os b kind) (made_for g os b kind) else refused us code.Limit)
+new_is g os b order args kind is us frame =
+    allocating_is g us b order args kind is ∙ rw (room_alike os us frame b (count_of kind), made_alike os us frame g b kind, deep_alike os us frame g b kind)
+    refl
 
 -- the effect of orders that give up
 module _ (g : Geometry) (os : List Object) (b : ℕ) (args : Arguments) where
@@ -149,17 +127,13 @@ module _ (g : Geometry) (os : List Object) (b : ℕ) (args : Arguments) where
       on_bank g os b bank.Free args ≡ refused os code.NotFromThisBank
   unfolding on_bank
   frees_other c n ns is some other =
-      ap (λ (d : Capability). freed os b (freed_by os d)) is
-      ∙ ap (freed os b) some
-      ∙ rw (ne_eqb (owner_at os n) b other) refl
+      ap (λ (d : Capability). freed os b (freed_by os d)) is ∙ ap (freed os b) some ∙ rw (ne_eqb (owner_at os n) b other) refl
 
   pub frees_own : (c : Capability) (n : ℕ) (ns : List ℕ) → args.capability ≡ c → freed_by os c ≡ n ∷ ns → owner_at os n ≡ b →
       on_bank g os b bank.Free args ≡ made (rescind (n ∷ ns) os) (n ∷ ns) Void
   unfolding on_bank
   frees_own c n ns is some own =
-      ap (λ (d : Capability). freed os b (freed_by os d)) is
-      ∙ ap (freed os b) some
-      ∙ rw (eq-eqb (owner_at os n) b own) refl
+      ap (λ (d : Capability). freed os b (freed_by os d)) is ∙ ap (freed os b) some ∙ rw (eq-eqb (owner_at os n) b own) refl
 
   pub destroy_prime : b ≡ 0 → on_bank g os b bank.Destroy args ≡ refused os code.PrimeBank
   unfolding on_bank
@@ -203,33 +177,25 @@ module _ (g : Geometry) (os : List Object) (b : ℕ) (args : Arguments) (us : Li
   pub remaining_there : on_bank g us b bank.Remaining args ≡ replying_three us (remaining os b) (usage os b) (limit_in (content_at os b))
   remaining_there = remaining_replying g us b args ∙ rw (remaining_alike os us frame b, usage_same os us frame b, (frame.alike b).limit) refl
 
--- the capacity that is left for a bank's order, and what the bank's frames are
-module _ (p : Parts) (s : BanksState) (b : ℕ) (h : IsBankOf p s b) where
-  pub bank_roles : HaveTheirRoles (frames_of p)
-  bank_roles = keepable_roles p.geometry h.sound.0 (frames_of p) h.sound.1.keepable
-
-  pub bank_room : (n : ℕ) → n ≤ 2 → n + length p.headers ≤ s.room
-  bank_room n few = omega (arith, keepable_count p.geometry h.sound.0 p h.sound.1.keepable, h.counted.room)
+-- the capacity that is left for a bank's order
+pub bank_room : {p : Parts} {s : BanksState} {b : ℕ} → MayServe p s b → (n : ℕ) → n ≤ 2 → n + length p.headers ≤ s.room
+bank_room {p} h n few = omega (arith, keepable_count p.geometry h.sound.0 p h.sound.1.keepable, h.counted.room)
 
 root_not_bank : (c : Content Capability) → IsTrue (is_root c) → IsTrue (is_bank c) → ⊥
 root_not_bank (content.Root r) root is = cc
-root_not_bank content.Free root is = cc
-root_not_bank (content.Page words) root is = cc
-root_not_bank (content.Node slots) root is = cc
-root_not_bank (content.Annex registers) root is = cc
-root_not_bank (content.Bank limit) root is = cc
+root_not_bank c root is = cc
 
 -- beside a bank and a process four more numbers fit
-pub process_room : (p : Parts) (s t : BanksState) (b : ℕ) (c : Capability) (q n : ℕ) → IsBankOf p s b → MayBeHeld (objects_in p) c → c ≡ Process q →
+pub process_room : {p : Parts} {s t : BanksState} {b : ℕ} (c : Capability) (q n : ℕ) → MayServe p s b → MayBeHeld (objects_in p) c → c ≡ Process q →
     length s.listed ≤ 2 → t ≡ record s { listed = s.listed ++ n ∷ [] } → length t.listed < t.room
-process_room p s t b c q n h sent is few listed =
+process_room {p} {s} {t} {b} c q n h sent is few listed =
     let os = objects_in p in
     let process : IsTrue (is_root (content_at os q)) = (subst (λ (d : Capability). MayBeHeld os d) is sent).1 in
     let known : q < p.geometry.nodes = root_number p.geometry q (content_at os q) (h.sound.1.sound.kinds q) process in
     let other : q ≡ b → ⊥ = λ e. root_not_bank (content_at os b) (subst (λ (m : ℕ). IsTrue (is_root (content_at os m))) e process) h.bank in
     omega (
       arith,
-      node_of_bank p s b h,
+      node_of_bank h,
       h.counted.room,
       ap (λ (u : BanksState). length u.listed) listed,
       length-append s.listed (n ∷ []),
@@ -237,19 +203,7 @@ process_room p s t b c q n h sent is few listed =
     )
 
 -- the annex of a process that may be sent is kept
-pub annex_kept : (p : Parts) (s : BanksState) (b : ℕ) (c : Capability) → IsBankOf p s b → MayBeHeld (objects_in p) c →
+pub annex_kept : {p : Parts} {s : BanksState} {b : ℕ} (c : Capability) → MayServe p s b → MayBeHeld (objects_in p) c →
     annex_among s.annexes c ≡ annex_of (objects_in p) c
-annex_kept p s b (Process q) h sent = ap (λ (n : ℕ). n ∷ []) (h.counted.annex q sent.1)
-annex_kept p s b Void h sent = refl
-annex_kept p s b (Number n) h sent = refl
-annex_kept p s b (Page o a) h sent = refl
-annex_kept p s b (Node o a) h sent = refl
-annex_kept p s b (Space o l a) h sent = refl
-annex_kept p s b (Start q key) h sent = refl
-annex_kept p s b (Resume q) h sent = refl
-annex_kept p s b (Bank m) h sent = refl
-annex_kept p s b Discrim h sent = refl
-
--- if an order of a bank may be planned, it is a bank
-pub bank_requested : (p : Parts) (s : BanksState) (b : ℕ) (args : Arguments) → MayAsk p s b args → IsBankOf p s b
-bank_requested p s b args h = record { sound = h.sound; counted = h.counted; bank = h.bank }
+annex_kept (Process q) h sent = ap (λ (n : ℕ). n ∷ []) (h.counted.annex q sent.1)
+annex_kept c h sent = refl

@@ -1,9 +1,13 @@
 -- Counts of allocations where objects are given up, and where none is.
 use Rattle.space_bank.proofs.Names.{ℕ, Bool, true, false, not, List, sym, ap, arith, Capability, ObjectHeader, Content, Object, with_new, given_up, header_at}
 use Rattle.space_bank.proofs.Names.{is_free, is_given_up, is_member, rescind, content_at, new_used, none_given_up, rescinded_given_up, AreGivenUp, Parts}
-use Rattle.space_bank.proofs.Names.{Renews, objects_in}
-use Rattle.std.proofs.Common.{◌≡◌, ◌+◌, ◌&&◌, ◌∙◌}
+use Rattle.space_bank.proofs.Names.{Renews, objects_in, ⊎_elim, cases_lt}
+use Rattle.std.proofs.Common.{◌≡◌, ◌+◌, ◌<◌, ◌≤◌, ◌&&◌, ◌∙◌}
 use Rattle.std.specs.Prelude.{if◌then◌else◌}
+
+-- a count that neither fell nor rose is the same
+pub unrisen : (m n : ℕ) → m ≤ n → (m < n → ⊥) → n ≡ m
+unrisen m n later stayed = ⊎_elim (λ (rose : m < n). absurd (stayed rose)) (λ (within : n ≤ m). omega arith) (cases_lt m n)
 
 -- the same counts of allocations, and the same numbers free
 abbrev pub SameAllocations : Parts → Parts → Type 0
@@ -44,16 +48,14 @@ renews_rescinded p q set given objects used = record {
 pub renews_after : (o p q : Parts) → SameAllocations o p → SameFree o p → Renews p q → Renews o q
 renews_after o p q same free renews = record {
   each = λ n.
-      renews.each n
-      ∙ (ap (λ (a : ℕ). a + (if is_given_up (objects_in p) (objects_in q) n then 1 else 0)) (same n)
+      renews.each n ∙ (ap (λ (a : ℕ). a + (if is_given_up (objects_in p) (objects_in q) n then 1 else 0)) (same n)
       ∙ ap (λ (was : Bool). (header_at o.headers n).allocations + (if not was && is_free (content_at (objects_in q) n) then 1 else 0)) (free n));
 }
 
 pub renews_then : (o p q : Parts) → Renews o p → SameAllocations p q → SameFree p q → Renews o q
 renews_then o p q renews same free = record {
   each = λ n.
-      same n
-      ∙ (renews.each n
+      same n ∙ (renews.each n
       ∙ ap (λ (now : Bool). (header_at o.headers n).allocations + (if not (is_free (content_at (objects_in o) n)) && now then 1 else 0)) (sym (free n)));
 }
 

@@ -33,8 +33,7 @@ rest_all P n ns all k d inside = all (suc k) d (omega arith)
 pub mark_one : (before now : List Bool) (n : ℕ) → n < length before → now ≡ slice_set before n true
     → (m : ℕ) → is_marked now m ≡ (if is_member (n ∷ []) m then true else is_marked before m)
 mark_one before now n inside is m =
-    ap (λ (bs : List Bool). is_marked bs m) is
-    ∙ elim (cases_eq m n) [
+    ap (λ (bs : List Bool). is_marked bs m) is ∙ elim (cases_eq m n) [
       | inl e ↦
           ap (λ (k : ℕ). is_marked (slice_set before n true) k) e
           ∙ (get_or-set_same before n true false inside ∙ sym (ap (λ b. if b then true else is_marked before m) (member_head m n [] e)))
@@ -64,45 +63,41 @@ pub inherited_by : (os us : List Object) (b : ℕ) → AreTransferred (owned_by 
 unfolding inherited
 inherited_by os us b are =
     let change : Object → Object = transferred b (owner_at os b) in
-    ext_get_or free us (inherited os b) (are.size ∙ sym (length-map os (transferred b (owner_at os b))))
-    (λ n inside.
+    ext_get_or free us (inherited os b) (are.size ∙ sym (length-map os (transferred b (owner_at os b)))) (λ n inside.
     are.each n
     ∙ (ap (λ t. if t then record { owner = owner_at os b; content = content_at os n } else object_at os n) (owned_member os b n (omega (arith, are.size)))
     ∙ sym (at_map (transferred b (owner_at os b)) os n free refl)))
 
-module _ (p : Parts) (s : BanksState) (b : ℕ) (asks : MayServe p s b) (on : b ≢ 0) where
+module _ {p : Parts} {s : BanksState} {b : ℕ} (asks : MayServe p s b) (on : b ≢ 0) where
   abbrev before : List Object
   before = objects_in p
 
   -- each bank above accounts for the bank
   pub one_enough : (x : ℕ) → is_member (chain before (owner_at before b)) x ≡ true → 1 ≤ slice_index s.usages x
   one_enough x member =
-      let t = serve_tree p s b asks in
+      let t = serve_tree asks in
       let bank = chain_banks before t (owner_at before b) x (owner_bank before t b asks.bank) member in
       let differ : x ≢ b = λ e. false≢true
       (sym (chain_once before t b asks.bank on) ∙ (ap (λ (m : ℕ). is_member (chain before (owner_at before b)) m) (sym e) ∙ member)) in
       let all = ap {B = ℕ} (λ t. if t then 1 else 0) member in
-      omega (arith, asks.counted.usage x bank, returned_fits p.geometry before b (serve_now p s b asks) asks.bank on x differ, all)
+      omega (arith, asks.counted.usage x bank, returned_fits p.geometry before b (serve_now asks) asks.bank on x differ, all)
 
   -- what is left once the bank is gone
-  pub returned_carried : (q : Parts) (t : BanksState) (us : List Object) → AreTransferred (owned_by before b) (owner_at before b) before us
+  pub returned_carried : {q : Parts} {t : BanksState} {us : List Object} → AreTransferred (owned_by before b) (owner_at before b) before us
       → IsReleased (chain before (owner_at before b)) 1 s t (b ∷ []) → objects_in q ≡ rescind (b ∷ []) us → AreCurrent (frames_of q)
       → ((age : ℕ) → age + 1 < 2 ^ 64 → AreKeepable p.geometry age (frames_of p) → AreKeepable p.geometry (age + 1) (frames_of q)) → CarriesOut p q t
-  returned_carried q t us are released objects current keepable =
-      let is = inherited_by before us b are in
+  returned_carried {q} {t} {us} are released objects current keepable =
       record {
-        counted = subst (λ (vs : List Object). AreCounted p.geometry vs t) (sym objects)
-            (counted_gone p.geometry before us s t (b ∷ []) (chain before (owner_at before b)) 1 asks.counted
-            (transferred_same (owned_by before b) (owner_at before b) before us are) released
-            (λ x bank stays.
+        counted = subst (λ (vs : List Object). AreCounted p.geometry vs t) (sym objects) (counted_gone us asks.counted
+            (transferred_same (owned_by before b) (owner_at before b) before us are) released (λ x bank stays.
             let differ : x ≢ b = λ e. false≢true (sym stays ∙ member_head x b [] e) in
             let after : usage (rescind (b ∷ []) us) x ≡ usage (rescind (b ∷ []) (inherited before b)) x = ap
-            (λ (vs : List Object). usage (rescind (b ∷ []) vs) x) is in
+            (λ (vs : List Object). usage (rescind (b ∷ []) vs) x) (inherited_by before us b are) in
             omega (
               arith,
               after,
-              usage_returned p.geometry before b (serve_now p s b asks) asks.bank on x differ,
-              returned_fits p.geometry before b (serve_now p s b asks) asks.bank on x differ,
+              usage_returned p.geometry before b (serve_now asks) asks.bank on x differ,
+              returned_fits p.geometry before b (serve_now asks) asks.bank on x differ,
             )));
         current = current;
         keepable = keepable;

@@ -1,12 +1,12 @@
 -- What is counted, where objects come and go.
 use Rattle.space_bank.proofs.Names.{inl, inr, ℕ, Bool, true, false, List, take, length, refl, sym, ap, subst, arith, IsTrue, slice_index, slice_index_or}
-use Rattle.space_bank.proofs.Names.{slice_set, cases_eq, cases_lt, eq-eqb, ne_eqb, get_or-append_right, get_or_append_left, get_or-set_other, get_or-set_same}
-use Rattle.space_bank.proofs.Names.{length-append, length-set, list_any_more, Capability, Geometry, Content, Object, chain, usage, new_annex, new_root}
-use Rattle.space_bank.proofs.Names.{with_new, is_bank, is_free, is_root, limit_in, root_in, is_member, object_count, content_at, IsTree, at_new, at_other}
-use Rattle.space_bank.proofs.Names.{chain_new, length_new, new_bank_kept, tree_new, usage_new, usage_new_bank, AreCounted, BanksState, marks_of, IsRaised}
-use Rattle.space_bank.proofs.Names.{is_marked}
+use Rattle.space_bank.proofs.Names.{slice_set, cases_eq, cases_lt, get_or-append_right, get_or_append_left, get_or-set_other, get_or-set_same, length-append}
+use Rattle.space_bank.proofs.Names.{length-set, Capability, Geometry, Content, Object, chain, usage, new_annex, new_root, with_new, is_bank, is_free, is_root}
+use Rattle.space_bank.proofs.Names.{limit_in, root_in, is_member, object_count, content_at, IsTree, at_new, at_other, chain_new, length_new, new_bank_kept}
+use Rattle.space_bank.proofs.Names.{tree_new, usage_new, usage_new_bank, AreCounted, BanksState, marks_of, IsRaised, is_marked}
 use Rattle.std.proofs.Common.{◌≡◌, ◌≢◌, ◌+◌, ◌-◌, ◌<◌, ◌||◌, ◌∙◌}
-use Rattle.std.specs.Prelude.{if◌then◌else◌, nat_eq}
+use Rattle.std.specs.Prelude.{if◌then◌else◌}
+use Rattle.space_bank.proofs.Owners.{taken_before, taken_here}
 use Rattle.model.specs.declared.object.Content.TheVariants as content
 
 -- one more of a list was marked as free
@@ -16,33 +16,17 @@ pub marked_more : (before now next : List Bool) (list : List ℕ) (i : ℕ) → 
     → (n : ℕ) → slice_index_or next n false ≡ (if is_member (take (i + 1) list) n then true else slice_index_or before n false)
 marked_more before now next list i inside known is marks n =
     let m = slice_index list i in
-    let more : is_member (take (i + 1) list) n ≡ (is_member (take i list) n || nat_eq n m) = list_any_more (nat_eq n) list i 0 inside in
-    elim (cases_eq n m) [
-      | inl e ↦
-          let here : slice_index_or next n false ≡ true =
-          ap (λ (bs : List Bool). slice_index_or bs n false) is ∙
-          (ap (λ k. slice_index_or (slice_set now m true) k false) e ∙ get_or-set_same now m true false known) in
-          here ∙ sym (rw (more, eq-eqb n m e) (either (is_member (take i list) n) (slice_index_or before n false)))
-      | inr differ ↦
-          let other : slice_index_or next n false ≡ slice_index_or now n false =
-          ap (λ (bs : List Bool). slice_index_or bs n false) is ∙ get_or-set_other now m n true false differ in
-          other ∙ (marks n ∙ sym (rw (more, ne_eqb n m differ) (same (is_member (take i list) n) (slice_index_or before n false))))
+    ap (λ (bs : List Bool). slice_index_or bs n false) is ∙ elim (cases_eq n m) [
+      | inl e ↦ rw (taken_here list i n inside e) (ap (λ k. slice_index_or (slice_set now m true) k false) e ∙ get_or-set_same now m true false known)
+      | inr differ ↦ rw (taken_before list i n inside differ) (get_or-set_other now m n true false differ ∙ marks n)
     ]
-  where
-    either : (b d : Bool) → (if (b || true) then true else d) ≡ true
-    either true d = refl
-    either false d = refl
-
-    same : (b d : Bool) → (if (b || false) then true else d) ≡ (if b then true else d)
-    same true d = refl
-    same false d = refl
 
 -- each number is marked as what it is
 abbrev pub AreMarked : Geometry → List Object → List Bool → Type 0
 AreMarked g os marks = (n : ℕ) → n < object_count g → is_marked marks n ≡ is_free (content_at os n)
 
-pub marks_counted : (g : Geometry) (os : List Object) (s : BanksState) → AreCounted g os s → AreMarked g os (marks_of s)
-marks_counted g os s counted n known = elim (cases_lt n g.nodes) [
+pub marks_counted : {g : Geometry} {os : List Object} {s : BanksState} → AreCounted g os s → AreMarked g os (marks_of s)
+marks_counted {g} {os} {s} counted n known = elim (cases_lt n g.nodes) [
   | inl inside ↦ get_or_append_left s.free_nodes s.free_pages false n (omega (arith, counted.nodes)) ∙ counted.node n inside
   | inr past ↦
       let at : g.nodes + (n - g.nodes) ≡ n = omega arith in
@@ -66,10 +50,10 @@ HasEach passes number os xs = (x : ℕ) → IsTrue (passes (content_at os x)) �
 abbrev pub annex_in : Content Capability → ℕ
 annex_in c = (root_in c).annex
 
-pub counted_from : (g : Geometry) (os us : List Object) (s t : BanksState) → AreCounted g os s → IsAsWide s t → AreMarked g us (marks_of t)
-    → ((x : ℕ) → IsTrue (is_bank (content_at us x)) → slice_index t.usages x ≡ usage us x)
+pub counted_from : {g : Geometry} {os : List Object} (us : List Object) {s : BanksState} (t : BanksState) → AreCounted g os s → IsAsWide s t →
+    AreMarked g us (marks_of t) → ((x : ℕ) → IsTrue (is_bank (content_at us x)) → slice_index t.usages x ≡ usage us x)
     → HasEach is_bank limit_in us t.limits → HasEach is_root annex_in us t.annexes → AreCounted g us t
-counted_from g os us s t counted wide marks usages limits annexes = record {
+counted_from {g} us {s} t counted wide marks usages limits annexes = record {
   nodes = wide.nodes ∙ counted.nodes;
   pages = wide.pages ∙ counted.pages;
   node = λ n inside.
@@ -87,8 +71,8 @@ counted_from g os us s t counted wide marks usages limits annexes = record {
   room = omega (arith, counted.room, wide.room);
 }
 
-marks_length : (g : Geometry) (os : List Object) (s : BanksState) → AreCounted g os s → length (marks_of s) ≡ object_count g
-marks_length g os s counted = omega (arith, length-append s.free_nodes s.free_pages, counted.nodes, counted.pages)
+marks_length : {g : Geometry} {os : List Object} {s : BanksState} → AreCounted g os s → length (marks_of s) ≡ object_count g
+marks_length {g} {os} {s} counted = omega (arith, length-append s.free_nodes s.free_pages, counted.nodes, counted.pages)
 
 -- a new object's number is marked as taken
 marked_new : (g : Geometry) (os : List Object) (marks : List Bool) (n b : ℕ) (c : Content Capability) → n < length os → n < length marks → is_free c ≡ false
@@ -110,8 +94,8 @@ pub record IsTaken (banks : List ℕ) (count : ℕ) (s t : BanksState) (marks : 
   pub room : t.room ≡ s.room
   pub marks_are : marks_of t ≡ marks
 
-taken_wide : (banks : List ℕ) (count : ℕ) (s t : BanksState) (marks : List Bool) → IsTaken banks count s t marks → IsAsWide s t
-taken_wide banks count s t marks taken = record {
+taken_wide : {banks : List ℕ} {count : ℕ} {s t : BanksState} {marks : List Bool} → IsTaken banks count s t marks → IsAsWide s t
+taken_wide taken = record {
   nodes = taken.nodes;
   pages = taken.pages;
   usages = taken.usages.size;
@@ -153,91 +137,81 @@ module _ (os : List Object) (n b : ℕ) (inside : n < length os) (c : Content Ca
 no_bank_short : (c : Content Capability) (P : Type 0) → is_bank c ≡ false → IsTrue (is_bank c) → P
 no_bank_short c P plain is = cc
 
-module _ (g : Geometry) (os : List Object) (size : length os ≡ object_count g) (t : IsTree os) (s : BanksState) (counted : AreCounted g os s)
-    (b : ℕ) (bank : IsTrue (is_bank (content_at os b))) (n : ℕ) (inside : n < length os) (unused : IsTrue (is_free (content_at os n))) where
+module _ {g : Geometry} {os : List Object} (size : length os ≡ object_count g) (t : IsTree os) {s : BanksState} (counted : AreCounted g os s) (b : ℕ)
+    (bank : IsTrue (is_bank (content_at os b))) (n : ℕ) (inside : n < length os) (unused : IsTrue (is_free (content_at os n))) where
   known_mark : n < length (marks_of s)
-  known_mark = omega (arith, marks_length g os s counted, size)
+  known_mark = omega (arith, marks_length counted, size)
 
   -- one object that is neither a bank nor a process
-  pub counted_alone : (c : Content Capability) (u : BanksState) → is_free c ≡ false → is_bank c ≡ false → is_root c ≡ false
+  pub counted_alone : (c : Content Capability) {u : BanksState} → is_free c ≡ false → is_bank c ≡ false → is_root c ≡ false
       → IsTaken (chain os b) 1 s u (slice_set (marks_of s) n false) → AreCounted g (with_new os n b c) u
-  counted_alone c u used plain other taken =
-      counted_from g os (with_new os n b c) s u counted (taken_wide (chain os b) 1 s u (slice_set (marks_of s) n false) taken)
-      (subst (λ (marks : List Bool). AreMarked g (with_new os n b c) marks) (sym taken.marks_are)
-      (marked_new g os (marks_of s) n b c inside known_mark used (marks_counted g os s counted)))
-      (λ x is.
+  counted_alone c {u} used plain other taken =
+      counted_from (with_new os n b c) u counted (taken_wide taken) (subst (λ (marks : List Bool). AreMarked g (with_new os n b c) marks) (sym taken.marks_are)
+      (marked_new g os (marks_of s) n b c inside known_mark used (marks_counted counted))) (λ x is.
       let was = other_one os n b inside c is_bank x (old_one os n b inside c is_bank plain x is) is in
       omega (
         arith,
         taken.usages.each x,
         counted.usage x was,
         usage_new os n b c t bank inside unused used (no_bank_short c (length (chain os b) < 16) plain) x was,
-      ))
-      (subst (HasEach is_bank limit_in (with_new os n b c)) (sym taken.limits) (each_kept os n b inside c is_bank limit_in s.limits counted.limit plain))
+      )) (subst (HasEach is_bank limit_in (with_new os n b c)) (sym taken.limits) (each_kept os n b inside c is_bank limit_in s.limits counted.limit plain))
       (subst (HasEach is_root annex_in (with_new os n b c)) (sym taken.annexes) (each_kept os n b inside c is_root annex_in s.annexes counted.annex other))
 
   -- a bank that isn't counted yet
-  pub counted_bank : (limit : ℕ) (u v : BanksState) → length (chain os b) < 16 → n < g.nodes → IsTaken (chain os b) 1 s u (slice_set (marks_of s) n false)
+  pub counted_bank : (limit : ℕ) {u : BanksState} (v : BanksState) → length (chain os b) < 16 → n < g.nodes →
+      IsTaken (chain os b) 1 s u (slice_set (marks_of s) n false)
       → v ≡ record u { usages = slice_set u.usages n 0; limits = slice_set u.limits n limit } → AreCounted g (with_new os n b (content.Bank limit)) v
-  counted_bank limit u v short place taken is =
+  counted_bank limit {u} v short place taken is =
       let c : Content Capability = content.Bank limit in
-      let wide = taken_wide (chain os b) 1 s u (slice_set (marks_of s) n false) taken in
+      let wide = taken_wide taken in
       let within : n < length u.usages = omega (arith, wide.usages, counted.usage_each) in
       let within_limits : n < length s.limits = omega (arith, counted.limit_each) in
       subst (λ (w : BanksState). AreCounted g (with_new os n b c) w) (sym is)
-      (counted_from g os (with_new os n b c) s (record u { usages = slice_set u.usages n 0; limits = slice_set u.limits n limit }) counted
-      (record {
+      (counted_from (with_new os n b c) (record u { usages = slice_set u.usages n 0; limits = slice_set u.limits n limit }) counted (record {
         nodes = wide.nodes;
         pages = wide.pages;
         usages = length-set u.usages n 0 ∙ wide.usages;
         limits = length-set u.limits n limit ∙ wide.limits;
         annexes = wide.annexes;
         room = wide.room;
-      })
-      (subst (λ (marks : List Bool). AreMarked g (with_new os n b c) marks) (sym taken.marks_are)
-      (marked_new g os (marks_of s) n b c inside known_mark refl (marks_counted g os s counted)))
-      (λ x here. elim (cases_eq x n) [
+      }) (subst (λ (marks : List Bool). AreMarked g (with_new os n b c) marks) (sym taken.marks_are)
+      (marked_new g os (marks_of s) n b c inside known_mark refl (marks_counted counted))) (λ x here. elim (cases_eq x n) [
         | inl e ↦ rw (e, get_or-set_same u.usages n 0 0 within) (sym (usage_new_bank os n b c t bank inside unused refl (λ is_one. short) refl))
         | inr differ ↦
             let was = other_one os n b inside c is_bank x differ here in
             rw (get_or-set_other u.usages n x 0 0 differ)
             (omega (arith, taken.usages.each x, counted.usage x was, usage_new os n b c t bank inside unused refl (λ is_one. short) x was))
-      ])
-      (subst (λ (xs : List ℕ). HasEach is_bank limit_in (with_new os n b c) (slice_set xs n limit)) (sym taken.limits)
+      ]) (subst (λ (xs : List ℕ). HasEach is_bank limit_in (with_new os n b c) (slice_set xs n limit)) (sym taken.limits)
       (each_set os n b inside c is_bank limit_in s.limits counted.limit limit refl within_limits))
       (subst (HasEach is_root annex_in (with_new os n b c)) (sym taken.annexes) (each_kept os n b inside c is_root annex_in s.annexes counted.annex refl)))
 
   -- a process: two objects, neither a bank
-  pub counted_process : (m : ℕ) (u v : BanksState) → m < length os → m ≢ n → n < g.nodes → IsTrue (is_free (content_at os m))
+  pub counted_process : (m : ℕ) {u : BanksState} (v : BanksState) → m < length os → m ≢ n → n < g.nodes → IsTrue (is_free (content_at os m))
       → IsTaken (chain os b) 2 s u (slice_set (slice_set (marks_of s) n false) m false) → v ≡ record u { annexes = slice_set u.annexes n m }
       → AreCounted g (with_new (with_new os n b (new_root m)) m b new_annex) v
-  counted_process m u v within two place unused_too taken is =
+  counted_process m {u} v within two place unused_too taken is =
       let c = new_root m in
       let d = new_annex in
       let vs = with_new os n b c in
       let short = no_bank_short c (length (chain os b) < 16) refl in
       let grown = tree_new os n b c t bank inside unused refl short in
       let kept = new_bank_kept os n b c t bank inside unused refl short b bank in
-      let chain_kept = chain_new os n b c t bank inside unused refl short b bank in
       let within_grown : m < length vs = omega (arith, length_new os n b c) in
       let unused_grown : IsTrue (is_free (content_at vs m)) = ap (λ (e : Content Capability). is_free e) (other_content os n b inside c m two) ∙ unused_too in
-      let known : m < length (slice_set (marks_of s) n false) = omega (arith, length-set (marks_of s) n false, marks_length g os s counted, size) in
-      let wide = taken_wide (chain os b) 2 s u (slice_set (slice_set (marks_of s) n false) m false) taken in
+      let known : m < length (slice_set (marks_of s) n false) = omega (arith, length-set (marks_of s) n false, marks_length counted, size) in
+      let wide = taken_wide taken in
       let annexes = each_set os n b inside c is_root annex_in s.annexes counted.annex m refl (omega (arith, counted.annex_each)) in
       subst (λ (w : BanksState). AreCounted g (with_new vs m b d) w) (sym is)
-      (counted_from g os (with_new vs m b d) s (record u { annexes = slice_set u.annexes n m }) counted
-      (record {
+      (counted_from (with_new vs m b d) (record u { annexes = slice_set u.annexes n m }) counted (record {
         nodes = wide.nodes;
         pages = wide.pages;
         usages = wide.usages;
         limits = wide.limits;
         annexes = length-set u.annexes n m ∙ wide.annexes;
         room = wide.room;
-      })
-      (subst (λ (marks : List Bool). AreMarked g (with_new vs m b d) marks) (sym taken.marks_are)
+      }) (subst (λ (marks : List Bool). AreMarked g (with_new vs m b d) marks) (sym taken.marks_are)
       (marked_new g vs (slice_set (marks_of s) n false) m b d within_grown known refl
-      (marked_new g os (marks_of s) n b c inside known_mark refl (marks_counted g os s counted))))
-      (λ x is.
+      (marked_new g os (marks_of s) n b c inside known_mark refl (marks_counted counted)))) (λ x is.
       let first = other_one vs m b within_grown d is_bank x (old_one vs m b within_grown d is_bank refl x is) is in
       let was = other_one os n b inside c is_bank x (old_one os n b inside c is_bank refl x first) first in
       omega (
@@ -246,10 +220,9 @@ module _ (g : Geometry) (os : List Object) (size : length os ≡ object_count g)
         counted.usage x was,
         usage_new os n b c t bank inside unused refl short x was,
         usage_new vs m b d grown kept within_grown unused_grown refl (no_bank_short d (length (chain vs b) < 16) refl) x first,
-        ap {B = ℕ} (λ (xs : List ℕ). if is_member xs x then 1 else 0) chain_kept,
+        ap {B = ℕ} (λ (xs : List ℕ). if is_member xs x then 1 else 0) (chain_new os n b c t bank inside unused refl short b bank),
         twice (is_member (chain os b) x),
-      ))
-      (subst (HasEach is_bank limit_in (with_new vs m b d)) (sym taken.limits)
+      )) (subst (HasEach is_bank limit_in (with_new vs m b d)) (sym taken.limits)
       (each_kept vs m b within_grown d is_bank limit_in s.limits (each_kept os n b inside c is_bank limit_in s.limits counted.limit refl) refl))
       (subst (λ (xs : List ℕ). HasEach is_root annex_in (with_new vs m b d) (slice_set xs n m)) (sym taken.annexes)
       (each_kept vs m b within_grown d is_root annex_in (slice_set s.annexes n m) annexes refl)))

@@ -5,6 +5,7 @@ use Rattle.space_bank.proofs.Names.{length-enumerate_from, get_or-enumerate_from
 use Rattle.space_bank.proofs.Names.{is_under, usage, free, is_bank, is_free, is_member, content_at, object_at, owner_at, IsTree, chain_once, chain_prime}
 use Rattle.space_bank.proofs.Names.{IsRaised}
 use Rattle.std.proofs.Common.{◌≡◌, ◌+◌, ◌<◌, ◌≤◌, ◌^◌, ◌∙◌, ◌==◌, ◌&&◌, slice_index}
+use Rattle.space_bank.proofs.Missing.{and_false}
 
 -- how many of the objects below a number a bank accounts for
 abbrev pub is_used : List Object → ℕ → ℕ × Object → Bool
@@ -37,18 +38,13 @@ used_whole os b n whole = ap (count_by (is_used os b)) (sym (take_all n (enumera
 pub used_few : (os : List Object) (b n : ℕ) → used_below os b n ≤ n
 used_few os b n = omega (arith, count_by-le-length (is_used os b) (take n (enumerate_from 0 os)), length-take n (enumerate_from 0 os))
 
-and_false : (a : Bool) → (a && false) ≡ false
-and_false true = refl
-and_false false = refl
-
 -- number 0 is accounted for by none
 not_empty : (os : List Object) → IsTree os → 0 < length os
 not_empty os t = elim (cases_lt 0 (length os)) [
   | inl some ↦ some
   | inr none ↦
       let past : is_bank (content_at os 0) ≡ false = ap (λ (o : Object). is_bank o.content) (get_or_past os 0 free none) in
-      let prime = t.prime.0 in
-      absurd (let wrong : true ≡ false = sym prime ∙ past in cc)
+      absurd (let wrong : true ≡ false = sym t.prime.0 ∙ past in cc)
 ]
 
 pub used_first : (os : List Object) → IsTree os → (b : ℕ) → used_below os b 1 ≡ 0
@@ -56,9 +52,7 @@ used_first os t b = used_same os b 0 (not_empty os t) (elim (cases_eq 0 b) [
   | inl e ↦ rw (eq-eqb 0 b e) refl
   | inr other ↦
       let none : list_any (nat_eq b) (chain os (owner_at os 0)) ≡ false =
-      ap (λ (m : ℕ). list_any (nat_eq b) (chain os m)) t.prime.1
-      ∙ ap (list_any (nat_eq b)) (chain_prime os)
-      ∙ rw (ne_eqb b 0 (λ e. other (sym e))) refl in
+      ap (λ (m : ℕ). list_any (nat_eq b) (chain os m)) t.prime.1 ∙ ap (list_any (nat_eq b)) (chain_prime os) ∙ rw (ne_eqb b 0 (λ e. other (sym e))) refl in
       rw (none, and_false (not (is_free (content_at os 0))), and_false (not (0 == b))) refl
 ])
 
@@ -70,8 +64,7 @@ used_under : (os : List Object) → IsTree os → (b n : ℕ) → IsTrue (is_ban
     is_used os b (n, object_at os n) ≡ is_member (chain os (owner_at os n)) b
 used_under os t b n bank later used = elim (cases_eq n b) [
   | inl e ↦
-      rw (eq-eqb n b e)
-      (sym (ap (λ (m : ℕ). is_member (chain os (owner_at os m)) b) e ∙ chain_once os t b bank (λ zero. omega (arith, e, zero))))
+      rw (eq-eqb n b e) (sym (ap (λ (m : ℕ). is_member (chain os (owner_at os m)) b) e ∙ chain_once os t b bank (λ zero. omega (arith, e, zero))))
   | inr other ↦ rw (ne_eqb n b other, used) refl
 ]
 
@@ -79,17 +72,15 @@ pub used_raised : (os : List Object) → IsTree os → (b n owner : ℕ) (old ne
     is_free (content_at os n) ≡ false → owner ≡ owner_at os n → IsRaised (chain os owner) 1 old new → slice_index old b ≡ used_below os b n →
     slice_index new b ≡ used_below os b (n + 1)
 used_raised os t b n owner old new bank inside later used is raised so =
-    let adds = is_member (chain os (owner_at os n)) b in
     let more : slice_index new b ≡ slice_index old b + cond (is_member (chain os (owner_at os n)) b) 1 0 =
     raised.each b ∙ ap (λ (m : ℕ). slice_index old b + cond (is_member (chain os m) b) 1 0) is in
-    let counted = used_by os b n inside adds (used_under os t b n bank later used) in
+    let counted = used_by os b n inside (is_member (chain os (owner_at os n)) b) (used_under os t b n bank later used) in
     more ∙ ap (λ (k : ℕ). k + cond (is_member (chain os (owner_at os n)) b) 1 0) so ∙ sym counted
 
 pub owner_of_used : (os : List Object) → IsTree os → (n owner : ℕ) → is_free (content_at os n) ≡ false → owner ≡ owner_at os n →
     IsTrue (is_bank (content_at os owner))
 owner_of_used os t n owner used is =
-    subst (λ (m : ℕ). IsTrue (is_bank (content_at os m))) (sym is)
-    (t.owners n (λ none. let wrong : false ≡ true = sym used ∙ none in cc))
+    subst (λ (m : ℕ). IsTrue (is_bank (content_at os m))) (sym is) (t.owners n (λ none. let wrong : false ≡ true = sym used ∙ none in cc))
 
 pub raise_fits : (os : List Object) (b n count usage : ℕ) → usage ≡ used_below os b n → n < count → count < 2 ^ 64 → usage + 1 < 2 ^ 64
 raise_fits os b n count usage so inside fits = omega (arith, used_few os b n)

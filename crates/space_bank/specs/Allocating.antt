@@ -17,17 +17,12 @@ new_of order.NewPage args = Some new.Page
 new_of order.NewNode args = Some new.Node
 new_of order.NewProcess args = Some new.Process
 new_of order.NewBank args = Some (new.Bank args.first)
-new_of order.Free args = None
-new_of order.Destroy args = None
-new_of order.ReturnToParent args = None
-new_of order.Remaining args = None
+new_of _ args = None
 
 -- how many numbers it takes
 abbrev pub count_of : New → ℕ
-count_of new.Page = 1
-count_of new.Node = 1
 count_of new.Process = 2
-count_of (new.Bank limit) = 1
+count_of _ = 1
 
 -- what a bank makes of the first free numbers, if there are enough
 abbrev pub new_at : ℕ → Fresh → List ℕ → Option BankChange
@@ -49,28 +44,23 @@ made_for g os b (new.Bank limit) = new_at b (fresh.Bank limit) (free_nodes g os)
 abbrev pub numbers_of : BankChange → List ℕ
 numbers_of (bank.Make n f b) = n ∷ []
 numbers_of (bank.MakeProcess r a b) = r ∷ a ∷ []
-numbers_of (bank.GiveUp above) = []
-numbers_of (bank.Transfer b) = []
+numbers_of _ = []
 
 abbrev pub given_for : ℕ → Fresh → Capability
 given_for n fresh.Page = Page n full
 given_for n fresh.Node = Node n full
 given_for n (fresh.Bank limit) = Bank n
-given_for n (fresh.Root annex) = Void
-given_for n fresh.Annex = Void
+given_for n _ = Void
 
 abbrev pub given_by : BankChange → Capability
 given_by (bank.Make n f b) = given_for n f
 given_by (bank.MakeProcess r a b) = Process r
-given_by (bank.GiveUp above) = Void
-given_by (bank.Transfer b) = Void
+given_by _ = Void
 
 -- whether it is a bank under a chain of 16 banks
 abbrev pub is_deep : List Object → ℕ → New → Bool
-is_deep os b new.Page = false
-is_deep os b new.Node = false
-is_deep os b new.Process = false
 is_deep os b (new.Bank limit) = not (nat_lt (length (chain os b)) 16)
+is_deep os b _ = false
 
 -- the outcome of an order that allocates: over a limit, no free number, too deep, or done
 abbrev pub allocated_by : List Object → Bool → Option BankChange → OrderOutcome

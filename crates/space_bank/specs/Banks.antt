@@ -30,11 +30,15 @@ pub record AreCounted (g : Geometry) (os : List Object) (s : BanksState) : Type 
   pub annex : (p : ℕ) → IsTrue (is_process os p) → slice_index s.annexes p ≡ annex_at os p
   pub room : object_count g + 2 ≤ s.room
 
--- a bank's order may be planned: the frames are sound and counted, and what is sent may be held
-pub record MayAsk (p : Parts) (s : BanksState) (b : ℕ) (args : Arguments) : Type 0 where
+-- a bank may be served: the frames are sound and counted
+pub record MayServe (p : Parts) (s : BanksState) (b : ℕ) : Type 0 where
   pub sound : AreSound p
   pub counted : AreCounted p.geometry (objects_in p) s
   pub bank : IsTrue (is_bank (content_at (objects_in p) b))
+
+-- a bank's order may be planned: what is sent may be held
+pub record MayAsk (p : Parts) (s : BanksState) (b : ℕ) (args : Arguments) : Type 0 where
+  pub serves : MayServe p s b
   pub sent : MayBeHeld (objects_in p) args.capability
 
 -- What lies beside the objects goes on as it was, counts of allocations rise where objects are given up, and what

@@ -2,8 +2,8 @@
 use Rattle.space_bank.specs.Names.{[], ℕ, Bool, true, false, List, length, IsTrue, Geometry, Object, Arguments}
 use Rattle.space_bank.specs.Names.{BankOrder, chain, usage, has_quota, on_bank, owned_by, AreCurrent, AreKeepable}
 use Rattle.space_bank.specs.Names.{is_bank, is_free, is_member, rescind, content_at, object_at, IsNow, SameFrame}
-use Rattle.space_bank.specs.Names.{BankChange, Change, OrderPlan, Fresh, outcome_by, AreSound, IsFreshAt, IsOnce, Parts}
-use Rattle.space_bank.specs.Names.{frames_of, objects_in}
+use Rattle.space_bank.specs.Names.{BankChange, Change, OrderPlan, Fresh, outcome_by, IsFreshAt, IsOnce, Parts}
+use Rattle.space_bank.specs.Names.{frames_of, objects_in, slice_set}
 use Rattle.std.specs.Prelude.{◌≡◌, ◌≢◌, ◌∷◌, ◌+◌, ◌^◌, ◌<◌, ◌++◌, if◌then◌else◌}
 use Rattle.capability.specs.declared.order.BankChange.TheVariants as bank
 use Rattle.capability.specs.declared.order.Change.TheVariants as change
@@ -14,11 +14,12 @@ use Rattle.space_bank.specs.Banks.{AreCounted, BanksState}
 abbrev pub marks_of : BanksState → List Bool
 marks_of s = s.free_nodes ++ s.free_pages
 
--- a bank may be served: the frames are sound and counted
-pub record MayServe (p : Parts) (s : BanksState) (b : ℕ) : Type 0 where
-  pub sound : AreSound p
-  pub counted : AreCounted p.geometry (objects_in p) s
-  pub bank : IsTrue (is_bank (content_at (objects_in p) b))
+-- a number is marked as taken, and nothing else is another
+pub record IsMade (s t : BanksState) (n : ℕ) : Type 0 where
+  pub nodes : length t.free_nodes ≡ length s.free_nodes
+  pub pages : length t.free_pages ≡ length s.free_pages
+  pub marks : marks_of t ≡ slice_set (marks_of s) n false
+  pub kept : t ≡ record s { free_nodes = t.free_nodes; free_pages = t.free_pages }
 
 -- what is counted is what there is, and the frames can be kept at the next age
 pub record CarriesOut (old new : Parts) (s : BanksState) : Type 0 where
@@ -26,12 +27,6 @@ pub record CarriesOut (old new : Parts) (s : BanksState) : Type 0 where
   pub current : AreCurrent (frames_of new)
   pub keepable : (age : ℕ) → age + 1 < 2 ^ 64 → AreKeepable old.geometry age (frames_of old) →
       AreKeepable old.geometry (age + 1) (frames_of new)
-
--- a new object that is one frame and no bank
-abbrev pub IsAlone : Fresh → Type 0
-IsAlone fresh.Page = Unit {0}
-IsAlone fresh.Node = Unit {0}
-IsAlone _ = ⊥
 
 -- A list can be given up: it has no number twice, each number has an object, and no bank of the chain of above is in
 -- it. A bank outside the list accounted for the whole list if it is in that chain, and for nothing of it if it isn't.
@@ -50,11 +45,10 @@ pub record AreTransferred (list : List ℕ) (b : ℕ) (old new : List Object) : 
 
 -- a new object that is a page, a node, or a bank under a chain that isn't as long as it may be
 abbrev pub IsMadeUnder : List Object → ℕ → Fresh → Type 0
-IsMadeUnder os b fresh.Page = Unit {0}
-IsMadeUnder os b fresh.Node = Unit {0}
 IsMadeUnder os b (fresh.Bank limit) = length (chain os b) < 16
 IsMadeUnder os b (fresh.Root annex) = ⊥
 IsMadeUnder os b fresh.Annex = ⊥
+IsMadeUnder os b _ = Unit {0}
 
 -- what a bank may make: one new object, a process, or the end of objects
 pub record MakesOne (g : Geometry) (os : List Object) (list : List ℕ) (n : ℕ) (f : Fresh) (b : ℕ) : Type 0 where

@@ -5,8 +5,9 @@ pub use Rattle.capability.specs.declared.order.BankChange.{BankChange}
 pub use Rattle.capability.specs.declared.order.Change.{Change}
 pub use Rattle.capability.specs.declared.order.OrderPlan.{OrderPlan}
 pub use Rattle.capability.specs.declared.present.Fresh.{Fresh}
+pub use Rattle.model.specs.Bank.{is_under}
 unfoldable pub use Rattle.model.specs.Bank.{chain, usage}
-unfoldable pub use Rattle.model.specs.Banking.{free_nodes, free_pages, has_quota, on_bank, owned_by}
+unfoldable pub use Rattle.model.specs.Banking.{free_nodes, free_pages, has_quota, on_bank, owned_by, under}
 pub use Rattle.model.specs.Capability.{full}
 pub use Rattle.model.specs.Keepable.{AreCurrent, AreKeepable}
 pub use Rattle.model.specs.Object.{is_bank, is_free, limit_in, root_in}
@@ -14,7 +15,7 @@ pub use Rattle.model.specs.OrderOutcome.{OrderOutcome, made, refused}
 pub use Rattle.model.specs.Revoke.{is_member}
 unfoldable pub use Rattle.model.specs.Revoke.{rescind}
 pub use Rattle.model.specs.Sound.{MayBeHeld, object_count}
-pub use Rattle.model.specs.World.{annex_at, content_at, is_process, object_at}
+pub use Rattle.model.specs.World.{annex_at, content_at, is_process, object_at, owner_at}
 pub use Rattle.model.specs.declared.capability.Capability.{Capability}
 pub use Rattle.model.specs.declared.capability.Capability.TheVariants.{Bank, Node, Page, Process, Void}
 pub use Rattle.model.specs.declared.command.Operation.{Operation}
@@ -30,4 +31,4 @@ pub use Rattle.model_laws.proofs.Usage.{SameFrame}
 pub use Rattle.number_set.specs.Marks.{is_marked}
 pub use Rattle.std.specs.List.{range_with_len}
 pub use Rattle.std.specs.Prelude.{Bool, IsTrue, List, None, Option, Some, [], false, length, map, nat_lt, not}
-pub use Rattle.std.specs.Prelude.{slice_index, true, ℕ}
+pub use Rattle.std.specs.Prelude.{slice_index, slice_set, true, ℕ}

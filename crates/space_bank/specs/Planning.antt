@@ -1,15 +1,9 @@
 -- What planning reads of a bank.
-use Rattle.space_bank.specs.Names.{ℕ, Bool, true, false, IsTrue, List, [], length, slice_index, Capability, Process}
-use Rattle.space_bank.specs.Names.{Operation, Call, Return, Send, Object, is_bank, is_free, annex_at, content_at}
-use Rattle.space_bank.specs.Names.{AreSound, Parts, objects_in, is_marked}
-use Rattle.std.specs.Prelude.{◌≡◌, ◌+◌, ◌<◌, ◌≤◌, ◌++◌, ◌∷◌}
-use Rattle.space_bank.specs.Banks.{AreCounted, BanksState}
-
--- a bank of frames that are sound and counted
-pub record IsBankOf (p : Parts) (s : BanksState) (b : ℕ) : Type 0 where
-  pub sound : AreSound p
-  pub counted : AreCounted p.geometry (objects_in p) s
-  pub bank : IsTrue (is_bank (content_at (objects_in p) b))
+use Rattle.space_bank.specs.Names.{ℕ, Bool, true, false, List, [], length, slice_index, Capability, Process, Operation}
+use Rattle.space_bank.specs.Names.{Call, Return, Send, Object, is_free, annex_at, content_at, is_marked, is_under}
+use Rattle.space_bank.specs.Names.{owned_by, under, object_at, owner_at, not}
+use Rattle.std.specs.Prelude.{◌≡◌, ◌+◌, ◌<◌, ◌≤◌, ◌++◌, ◌∷◌, ◌==◌, ◌&&◌, ◌||◌, if◌then◌else◌}
+use Rattle.space_bank.specs.Banks.{BanksState}
 
 -- the annex of the process that a capability names, if it names one
 abbrev pub annex_of : List Object → Capability → List ℕ
@@ -20,6 +14,20 @@ annex_of os _ = []
 abbrev pub annex_among : List ℕ → Capability → List ℕ
 annex_among annexes (Process p) = slice_index annexes p ∷ []
 annex_among annexes _ = []
+
+-- whether a number is listed: all of a bank's if it is deep, itself and what is under it, else what it owns itself
+abbrev pub is_listed : List Object → ℕ → Bool → ℕ → Bool
+is_listed os b deep n = if deep then (n == b) || is_under os b (object_at os n) else
+    not (is_free (content_at os n)) && (owner_at os n == b)
+
+abbrev pub listed_by : List Object → ℕ → Bool → List ℕ
+listed_by os b deep = if deep then under os b else owned_by os b
+
+-- a bank has something left to count, below its limit
+pub record HasLeft (s : BanksState) (b : ℕ) : Type 0 where
+  pub usage : b < length s.usages
+  pub limit : b < length s.limits
+  pub within : slice_index s.usages b ≤ slice_index s.limits b
 
 -- what is marked, nodes first, is what is free
 pub record AreFree (os : List Object) (nodes pages : List Bool) : Type 0 where

@@ -1,13 +1,11 @@
 // New objects of a bank.
-ghost use Rattle.std.specs.Prelude.{◌≡◌, ◌≢◌, ℕ, ◌+◌, ◌<◌, false, length, slice_set, IsTrue};
-ghost use Rattle.model.specs.Bank.{chain};
-ghost use Rattle.model.specs.Banking.{has_quota, new_annex, new_root, with_new};
+ghost use Rattle.std.specs.Prelude.{◌≡◌, ℕ, ◌+◌, ◌<◌, ◌^◌, [], ◌∷◌, length, slice_set};
+ghost use Rattle.model.specs.Banking.{new_annex, new_root, with_new};
 ghost use Rattle.model.specs.Frame.{header_at};
 ghost use Rattle.model.specs.Keepable.{AreCurrent, AreKeepable};
-ghost use Rattle.model.specs.Object.{is_free};
-ghost use Rattle.model.specs.World.{content_at};
 ghost use Rattle.capability.specs.Parts.{FreshFits, IsFreshAt, KeepsRest, frames_of, fresh_content, objects_in};
-ghost use Rattle.space_bank.specs.Carrying.{CarriesOut, IsAlone, MayServe, marks_of};
+ghost use Rattle.space_bank.specs.Banks.{MayServe};
+ghost use Rattle.space_bank.specs.Carrying.{CarriesOut, IsMade, MakesOne, MakesTwo};
 
 use crate::banks::Banks;
 use crate::marking::mark;
@@ -16,8 +14,7 @@ use capability::{Fresh, PresentFrames};
 use model::{Capability, Content, Role};
 
 impl Banks {
-    /// Makes a free number, fetched and announced, a page or a node of a bank in whose chain no
-    /// limit is reached.
+    /// Makes a free number, fetched and announced, a page, a node or a bank of a bank.
     pub fn allocate<F: PresentFrames>(
         &mut self,
         store: &mut F,
@@ -26,11 +23,8 @@ impl Banks {
         bank: u64,
     )
         requires asks { MayServe (F.parts store.old) self.old bank }
-        requires room { IsTrue (has_quota (objects_in (F.parts store.old)) bank 1) }
-        requires free { IsTrue
-            (is_free (content_at (objects_in (F.parts store.old)) number)) }
-        requires alone { IsAlone fresh }
-        requires place { IsFreshAt (F.parts store.old).geometry number fresh }
+        requires may { MakesOne (F.parts store.old).geometry (objects_in (F.parts store.old))
+            (number ∷ []) number fresh bank }
         requires fetched { F.IsFetched store.old number }
         requires announced { F.IsAnnounced store.old number }
         ensures objects { objects_in (F.parts store.new)
@@ -41,10 +35,27 @@ impl Banks {
     {
         self.account(store, bank, 1);
         self.make(store, number, fresh, bank);
+        match fresh {
+            Fresh::Bank { limit } => self.keep_limit(number, limit),
+            _ => {}
+        }
     }
 
-    /// Makes two free numbers, fetched and announced, the root and the annex of a process of a bank
-    /// in whose chain each limit leaves two.
+    // Keeps the limit of a new bank, whose usage is 0.
+    fn keep_limit(&mut self, number: u64, limit: u64)
+        requires usage { number < length self.old.usages }
+        requires limit { number < length self.old.limits }
+        ensures fits { limit < 2 ^ 64 }
+        ensures kept { self.new ≡ record self.old {
+          usages = slice_set self.old.usages number 0;
+          limits = slice_set self.old.limits number limit;
+        } }
+    {
+        self.usages[number as usize] = 0;
+        self.limits[number as usize] = limit;
+    }
+
+    // Makes two free numbers, fetched and announced, the root and the annex of a process of a bank.
     pub(crate) fn new_process<F: PresentFrames>(
         &mut self,
         store: &mut F,
@@ -53,14 +64,8 @@ impl Banks {
         bank: u64,
     )
         requires asks { MayServe (F.parts store.old) self.old bank }
-        requires room { IsTrue (has_quota (objects_in (F.parts store.old)) bank 2) }
-        requires free { IsTrue
-            (is_free (content_at (objects_in (F.parts store.old)) root)) }
-        requires annex_free { IsTrue
-            (is_free (content_at (objects_in (F.parts store.old)) annex)) }
-        requires two { annex ≢ root }
-        requires place { root < (F.parts store.old).geometry.nodes }
-        requires annex_place { annex < (F.parts store.old).geometry.nodes }
+        requires may { MakesTwo (F.parts store.old).geometry (objects_in (F.parts store.old))
+            (root ∷ annex ∷ []) root annex bank }
         requires fetched { F.IsFetched store.old root }
         requires annex_fetched { F.IsFetched store.old annex }
         requires announced { F.IsAnnounced store.old root }
@@ -76,29 +81,6 @@ impl Banks {
         self.make(store, root, Fresh::Root { annex }, bank);
         self.make(store, annex, Fresh::Annex, bank);
         self.annexes[root as usize] = annex;
-    }
-
-    /// Makes a free number, fetched and announced, a bank of a bank in whose chain no limit is
-    /// reached, and that has fewer than 16 banks.
-    pub fn sub_bank<F: PresentFrames>(&mut self, store: &mut F, number: u64, bank: u64, limit: u64)
-        requires asks { MayServe (F.parts store.old) self.old bank }
-        requires room { IsTrue (has_quota (objects_in (F.parts store.old)) bank 1) }
-        requires short { length (chain (objects_in (F.parts store.old)) bank) < 16 }
-        requires free { IsTrue
-            (is_free (content_at (objects_in (F.parts store.old)) number)) }
-        requires place { number < (F.parts store.old).geometry.nodes }
-        requires fetched { F.IsFetched store.old number }
-        requires announced { F.IsAnnounced store.old number }
-        ensures objects { objects_in (F.parts store.new)
-            ≡ with_new (objects_in (F.parts store.old)) number bank
-            (Content.Bank limit) }
-        ensures carried { CarriesOut (F.parts store.old) (F.parts store.new) self.new }
-        ensures snapshots { KeepsRest F.parts F.IsFetched F.IsAnnounced F.ContinuesTo store.old store.new }
-    {
-        self.account(store, bank, 1);
-        self.make(store, number, Fresh::Bank { limit }, bank);
-        self.usages[number as usize] = 0;
-        self.limits[number as usize] = limit;
     }
 
     // Makes a free number a new object, and marks it as taken. What banks account for stays.
@@ -118,13 +100,7 @@ impl Banks {
             → AreKeepable (F.parts store.old).geometry age (frames_of (F.parts store.old))
             → AreKeepable (F.parts store.old).geometry age (frames_of (F.parts store.new)) }
         ensures snapshots { KeepsRest F.parts F.IsFetched F.IsAnnounced F.ContinuesTo store.old store.new }
-        ensures nodes { length self.new.free_nodes ≡ length self.old.free_nodes }
-        ensures pages { length self.new.free_pages ≡ length self.old.free_pages }
-        ensures marks { marks_of self.new ≡ slice_set (marks_of self.old) number false }
-        ensures kept { self.new ≡ record self.old {
-          free_nodes = self.new.free_nodes;
-          free_pages = self.new.free_pages;
-        } }
+        ensures made { IsMade self.old self.new number }
     {
         let first_page = self.limits.len();
         mark(&mut self.nodes, &mut self.pages, first_page, number, false);

@@ -12,7 +12,7 @@ ghost use Rattle.space_bank.specs.Banks.{AreCounted};
 ghost use Rattle.space_bank.specs.Counting.{AreKept, AreMarked, kept_number};
 
 use crate::banks::Banks;
-use crate::chains::raise;
+use crate::chains::shift;
 use crate::walking::{is_free, owner};
 use capability::{Frames, ReadFault, objects, roots};
 use device::Failed;
@@ -142,7 +142,7 @@ fn add_usages<F: Frames>(store: &F, usages: &mut [u64])
 {
     for number in 1..store.table().count() {
         if !is_free(store, number) {
-            raise(usages, store, owner(store, number), 1);
+            shift(usages, store, owner(store, number), 1, 0);
         }
     }
 }

@@ -1,17 +1,39 @@
 // The end of a bank's objects.
-ghost use Rattle.std.specs.Prelude.{◌≡◌, ◌≢◌, ◌≤◌, ◌∷◌, [], drop, length};
+ghost use Rattle.std.specs.Prelude.{◌≡◌, ◌≢◌, ℕ, ◌≤◌, ◌∷◌, [], drop, false, length};
 ghost use Rattle.std.specs.List.{All};
 ghost use Rattle.model.specs.Banking.{inherited, owned_by};
+ghost use Rattle.model.specs.Keepable.{AreCurrent, AreKeepable};
+ghost use Rattle.model.specs.Object.{is_free};
 ghost use Rattle.model.specs.Revoke.{rescind as rescinded};
-ghost use Rattle.capability.specs.Parts.{objects_in};
-ghost use Rattle.space_bank.specs.Banks.{KeepsObjects};
-ghost use Rattle.space_bank.specs.Carrying.{CarriesOut, MayGiveUp, MayServe};
+ghost use Rattle.model.specs.World.{content_at};
+ghost use Rattle.capability.specs.Parts.{KeepsRest, frames_of, objects_in};
+ghost use Rattle.space_bank.specs.Banks.{KeepsObjects, MayServe};
+ghost use Rattle.space_bank.specs.Carrying.{AreTransferred, CarriesOut, MayGiveUp};
 
 use crate::banks::Banks;
 use crate::marking::{mark, mark_free};
-use crate::transferring::transfer;
 use capability::PresentFrames;
-use capability::objects::rescind;
+use capability::objects::{rescind, set_owner};
+
+// Gives objects, announced, to a bank.
+fn transfer<F: PresentFrames>(store: &mut F, numbers: &[u64], bank: u64)
+    requires announced { All (F.IsAnnounced store.old) numbers.now }
+    requires used { All
+        (λ n. is_free (content_at (objects_in (F.parts store.old)) n) ≡ false)
+        numbers.now }
+    ensures objects { AreTransferred numbers.now bank (objects_in (F.parts store.old))
+        (objects_in (F.parts store.new)) }
+    ensures current { AreCurrent (frames_of (F.parts store.old))
+        → AreCurrent (frames_of (F.parts store.new)) }
+    ensures keepable { (age : ℕ)
+        → AreKeepable (F.parts store.old).geometry age (frames_of (F.parts store.old))
+        → AreKeepable (F.parts store.old).geometry age (frames_of (F.parts store.new)) }
+    ensures snapshots { KeepsRest F.parts F.IsFetched F.IsAnnounced F.ContinuesTo store.old store.new }
+{
+    for number in numbers {
+        set_owner(store, *number, bank);
+    }
+}
 
 impl Banks {
     /// Gives up a bank other than the prime bank, and transfers what it owns to its own bank. The

@@ -2,7 +2,6 @@
 //! allocate and give up.
 #![tactic(auto)]
 
-mod accounts;
 mod allocating;
 mod banks;
 mod carrying;
@@ -13,7 +12,6 @@ mod listing;
 mod marking;
 mod planning;
 mod planning_new;
-mod transferring;
 mod walking;
 
 pub use banks::Banks;

@@ -2,56 +2,44 @@
 // capacity.
 ghost use Rattle.std.specs.Prelude.{◌≡◌, ◌≢◌, ◌+◌, ◌<◌, ◌≤◌, ◌++◌, [], ◌∷◌, false, length, vec_len};
 ghost use Rattle.std.specs.Vec.{vec_capacity};
-ghost use Rattle.model.specs.Banking.{owned_by, under};
-ghost use Rattle.model.specs.Object.{is_free};
+ghost use Rattle.model.specs.Object.{is_free as counts_as_free};
 ghost use Rattle.model.specs.World.{content_at, owner_at};
 ghost use Rattle.capability.specs.Parts.{HaveTheirRoles, frames_of, objects_in};
-ghost use Rattle.space_bank.specs.Planning.{AreFree, IsBankOf, writers};
+ghost use Rattle.space_bank.specs.Banks.{MayServe};
+ghost use Rattle.space_bank.specs.Planning.{AreFree, is_listed, listed_by, writers};
 
 use crate::banks::Banks;
 use crate::marking::next_used;
-use crate::walking::{is_under, owner};
+use crate::walking::{is_free, is_under, owner};
 use capability::{Caller, Frames};
 use model::Operation;
 use number_set::NumberSet;
 
-// Lists a bank and all that is under it, by number. Goes over the numbers that aren't free.
-fn list_under<F: Frames>(
-    store: &F,
-    nodes: &NumberSet,
-    pages: &NumberSet,
-    bank: u64,
-    listed: &mut Vec<u64>,
-)
-    requires roles { HaveTheirRoles (frames_of (F.parts store.now)) }
-    requires bank { is_free (content_at (objects_in (F.parts store.now)) bank) ≡ false }
-    requires nodes { length nodes.now ≡ (F.parts store.now).geometry.nodes }
-    requires free { AreFree (objects_in (F.parts store.now)) nodes.now pages.now }
-    requires room { vec_len listed.old + length (F.parts store.now).headers
-        ≤ vec_capacity listed.old }
-    ensures listed { listed.new.items
-        ≡ listed.old.items ++ under (objects_in (F.parts store.now)) bank }
-    ensures room { vec_capacity listed.new ≡ vec_capacity listed.old }
+// Whether a number is listed: all of a bank's if it is deep, itself and what is under it, else what
+// the bank itself owns.
+fn is_listed<F: Frames>(store: &F, bank: u64, deep: bool, number: u64) -> bool
+    requires { HaveTheirRoles (frames_of (F.parts store.now)) }
+    ensures { result ≡ is_listed (objects_in (F.parts store.now)) bank deep number }
 {
-    let first_page = store.geometry().nodes;
-    let mut from = 0;
-    while let Some(number) = next_used(nodes, pages, first_page, from) {
-        if number == bank || is_under(store, bank, number) {
-            listed.push_reserved(number);
-        }
-        from = number + 1;
+    if deep {
+        number == bank || is_under(store, bank, number)
+    } else {
+        !is_free(store, number) && owner(store, number) == bank
     }
 }
 
-// Lists what a bank itself owns, by number. Number 0 isn't among it. Goes over the numbers that
-// aren't free.
-fn list_owned<F: Frames>(
+// Lists the numbers of a bank other than the prime bank, least first. Number 0 isn't among them.
+// Goes over the numbers that aren't free.
+fn list_all<F: Frames>(
     store: &F,
     nodes: &NumberSet,
     pages: &NumberSet,
     bank: u64,
+    deep: bool,
     listed: &mut Vec<u64>,
 )
+    requires roles { HaveTheirRoles (frames_of (F.parts store.now)) }
+    requires bank { counts_as_free (content_at (objects_in (F.parts store.now)) bank) ≡ false }
     requires nodes { length nodes.now ≡ (F.parts store.now).geometry.nodes }
     requires free { AreFree (objects_in (F.parts store.now)) nodes.now pages.now }
     requires prime { owner_at (objects_in (F.parts store.now)) 0 ≡ 0 }
@@ -59,13 +47,13 @@ fn list_owned<F: Frames>(
     requires room { vec_len listed.old + length (F.parts store.now).headers
         ≤ vec_capacity listed.old + 1 }
     ensures listed { listed.new.items
-        ≡ listed.old.items ++ owned_by (objects_in (F.parts store.now)) bank }
+        ≡ listed.old.items ++ listed_by (objects_in (F.parts store.now)) bank deep }
     ensures room { vec_capacity listed.new ≡ vec_capacity listed.old }
 {
     let first_page = store.geometry().nodes;
     let mut from = 0;
     while let Some(number) = next_used(nodes, pages, first_page, from) {
-        if owner(store, number) == bank {
+        if is_listed(store, bank, deep, number) {
             listed.push_reserved(number);
         }
         from = number + 1;
@@ -100,26 +88,22 @@ impl Banks {
         self.listed.push_reserved(number);
     }
 
-    // Lists a bank and all that is under it behind those that are listed.
-    pub(crate) fn list_under<F: Frames>(&mut self, store: &F, bank: u64)
-        requires bank { IsBankOf (F.parts store.now) self.old bank }
-        requires room { length self.old.listed + length (F.parts store.now).headers
-            ≤ self.old.room }
-        ensures { let objects = objects_in (F.parts store.now) in
-            self.new ≡ record self.old { listed = self.old.listed ++ under objects bank } }
-    {
-        list_under(store, &self.nodes, &self.pages, bank, &mut self.listed);
-    }
-
-    // Lists what a bank itself owns behind those that are listed.
-    pub(crate) fn list_owned<F: Frames>(&mut self, store: &F, bank: u64)
-        requires bank { IsBankOf (F.parts store.now) self.old bank }
+    // Lists the numbers of a bank behind those that are listed.
+    pub(crate) fn list_all<F: Frames>(&mut self, store: &F, bank: u64, deep: bool)
+        requires bank { MayServe (F.parts store.now) self.old bank }
         requires other { bank ≢ 0 }
         requires room { length self.old.listed + length (F.parts store.now).headers
             ≤ self.old.room + 1 }
         ensures { let objects = objects_in (F.parts store.now) in
-            self.new ≡ record self.old { listed = self.old.listed ++ owned_by objects bank } }
+            self.new ≡ record self.old { listed = self.old.listed ++ listed_by objects bank deep } }
     {
-        list_owned(store, &self.nodes, &self.pages, bank, &mut self.listed);
+        list_all(
+            store,
+            &self.nodes,
+            &self.pages,
+            bank,
+            deep,
+            &mut self.listed,
+        );
     }
 }

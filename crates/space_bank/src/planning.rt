@@ -8,9 +8,9 @@ ghost use Rattle.model.specs.Object.{limit_in};
 ghost use Rattle.model.specs.Sound.{MayBeHeld};
 ghost use Rattle.model.specs.World.{content_at};
 ghost use Rattle.capability.specs.Parts.{objects_in};
-ghost use Rattle.space_bank.specs.Banks.{MayAsk};
+ghost use Rattle.space_bank.specs.Banks.{MayAsk, MayServe};
 ghost use Rattle.space_bank.specs.Carrying.{IsPlanned};
-ghost use Rattle.space_bank.specs.Planning.{IsBankOf, annex_among, annex_of};
+ghost use Rattle.space_bank.specs.Planning.{annex_among, annex_of};
 
 use crate::banks::Banks;
 use crate::planning_new::New;
@@ -41,7 +41,6 @@ impl Banks {
     ///
     /// Changes nothing else and takes no memory. A new object is planned at the least number that
     /// is free. If more than one code applies, the plan has the least.
-    #[tactic(auto, using(crate::proofs::Plans::bank_requested))]
     pub fn plan<F: Frames>(
         &mut self,
         store: &F,
@@ -73,7 +72,7 @@ impl Banks {
     /// How many more objects a bank may account for, by its own limit and all above it; how many it
     /// accounts for; and its own limit.
     pub fn remaining<F: Frames>(&self, store: &F, bank: u64) -> [u64; 3]
-        requires { IsBankOf (F.parts store.now) self.now bank }
+        requires { MayServe (F.parts store.now) self.now bank }
         ensures { let objects = objects_in (F.parts store.now) in result
             ≡ left_in_chain objects bank ∷ usage_of objects bank
             ∷ limit_in (content_at objects bank) ∷ [] }
@@ -88,7 +87,7 @@ impl Banks {
 
     // What a capability frees, where the bank owns it.
     fn plan_free<F: Frames>(&mut self, store: &F, bank: u64, capability: Capability) -> OrderPlan
-        requires bank { IsBankOf (F.parts store.now) self.old bank }
+        requires bank { MayServe (F.parts store.now) self.old bank }
         requires few { length self.old.listed ≤ 2 }
         requires sent { MayBeHeld (objects_in (F.parts store.now)) capability }
         ensures planned { (args : Arguments) → args.capability ≡ capability
@@ -124,7 +123,7 @@ impl Banks {
 
     // A bank and all that is under it are destroyed.
     fn plan_destroy<F: Frames>(&mut self, store: &F, bank: u64) -> OrderPlan
-        requires bank { IsBankOf (F.parts store.now) self.old bank }
+        requires bank { MayServe (F.parts store.now) self.old bank }
         requires few { length self.old.listed ≤ 2 }
         ensures planned { (args : Arguments) → IsPlanned (F.parts store.now) bank
             BankOrder.Destroy args self.old.listed result self.new.listed }
@@ -134,13 +133,13 @@ impl Banks {
             return OrderPlan::refused(ResultCode::PrimeBank);
         }
         let above = owner(store, bank);
-        self.list_under(store, bank);
+        self.list_all(store, bank, true);
         OrderPlan::changed(Change::Bank(BankChange::GiveUp { above }))
     }
 
     // A bank is destroyed, and what it owns goes to its own owner.
     fn plan_return<F: Frames>(&mut self, store: &F, bank: u64) -> OrderPlan
-        requires bank { IsBankOf (F.parts store.now) self.old bank }
+        requires bank { MayServe (F.parts store.now) self.old bank }
         requires few { length self.old.listed ≤ 2 }
         ensures planned { (args : Arguments) → IsPlanned (F.parts store.now) bank
             BankOrder.ReturnToParent args self.old.listed result self.new.listed }
@@ -150,7 +149,7 @@ impl Banks {
             return OrderPlan::refused(ResultCode::PrimeBank);
         }
         self.list(bank);
-        self.list_owned(store, bank);
+        self.list_all(store, bank, false);
         OrderPlan::changed(Change::Bank(BankChange::Transfer { bank }))
     }
 }

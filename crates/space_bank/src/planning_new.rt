@@ -9,9 +9,9 @@ ghost use Rattle.model.specs.Sound.{object_count};
 ghost use Rattle.capability.specs.Parts.{objects_in};
 ghost use Rattle.space_bank.specs.Allocating.{count_of, given_by, given_for, is_deep, made_for, new_at, new_of};
 ghost use Rattle.space_bank.specs.Allocating.{numbers_of, process_at};
+ghost use Rattle.space_bank.specs.Banks.{MayServe};
 ghost use Rattle.space_bank.specs.Carrying.{IsPlanned};
 ghost use Rattle.space_bank.specs.Counting.{AreMarked};
-ghost use Rattle.space_bank.specs.Planning.{IsBankOf};
 
 use crate::banks::Banks;
 use crate::walking::{MAX_CHAIN, chain_length};
@@ -114,7 +114,7 @@ fn is_deep<F: Frames>(store: &F, bank: u64, new: New) -> bool
 impl Banks {
     // What is made of the least free numbers, if enough are free.
     fn next_free<F: Frames>(&self, store: &F, bank: u64, new: New) -> Option<BankChange>
-        requires { IsBankOf (F.parts store.now) self.now bank }
+        requires { MayServe (F.parts store.now) self.now bank }
         ensures made { result ≡ made_for (F.parts store.now).geometry
             (objects_in (F.parts store.now)) bank new }
         ensures few { IfSome result
@@ -146,7 +146,7 @@ impl Banks {
     // A new object, at the least free number of its kind. A process takes two, its root and its
     // annex, and a bank a chain that isn't as long as it may be.
     pub(crate) fn plan_new<F: Frames>(&mut self, store: &F, bank: u64, new: New) -> OrderPlan
-        requires bank { IsBankOf (F.parts store.now) self.old bank }
+        requires bank { MayServe (F.parts store.now) self.old bank }
         requires few { length self.old.listed ≤ 2 }
         ensures planned { (order : BankOrder) (args : Arguments) → new_of order args ≡ Some new
             → IsPlanned (F.parts store.now) bank order args self.old.listed result self.new.listed }

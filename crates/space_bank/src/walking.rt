@@ -1,12 +1,13 @@
 // Walks along chains of banks, from owner to owner in the table of headers.
-ghost use Rattle.std.specs.Prelude.{◌≡◌, ◌-◌, ◌<◌, ◌≤◌, length, nat_eq, slice_index};
+ghost use Rattle.std.specs.Prelude.{◌≡◌, ◌-◌, length, nat_eq, slice_index};
 ghost use Rattle.std.specs.List.{list_any};
 ghost use Rattle.model.specs.Bank.{chain, is_under as lies_under};
 ghost use Rattle.model.specs.Banking.{has_quota as is_room, remaining};
 ghost use Rattle.model.specs.Object.{is_free as counts_as_free};
 ghost use Rattle.model.specs.World.{content_at, object_at, owner_at};
 ghost use Rattle.capability.specs.Parts.{HaveTheirRoles, frames_of, objects_in};
-ghost use Rattle.space_bank.specs.Planning.{IsBankOf};
+ghost use Rattle.space_bank.specs.Banks.{MayServe};
+ghost use Rattle.space_bank.specs.Planning.{HasLeft};
 
 use crate::banks::Banks;
 use capability::Frames;
@@ -76,9 +77,7 @@ pub(crate) fn chain_length<F: Frames>(store: &F, bank: u64) -> usize
 impl Banks {
     // How many more objects a bank may account for.
     fn left(&self, bank: u64) -> u64
-        requires usage { bank < length self.now.usages }
-        requires limit { bank < length self.now.limits }
-        requires within { slice_index self.now.usages bank ≤ slice_index self.now.limits bank }
+        requires { HasLeft self.now bank }
         ensures { result ≡ slice_index self.now.limits bank - slice_index self.now.usages bank }
     {
         self.limits[bank as usize] - self.usages[bank as usize]
@@ -86,25 +85,15 @@ impl Banks {
 
     // Whether `count` more objects of a bank pass the limit of no bank in its chain.
     pub(crate) fn has_quota<F: Frames>(&self, store: &F, bank: u64, count: u64) -> bool
-        requires { IsBankOf (F.parts store.now) self.now bank }
+        requires { MayServe (F.parts store.now) self.now bank }
         ensures { result ≡ is_room (objects_in (F.parts store.now)) bank count }
     {
-        let mut current = bank;
-        for _step in 0..MAX_CHAIN {
-            if self.left(current) < count {
-                return false;
-            }
-            if current == 0 {
-                return true;
-            }
-            current = owner(store, current);
-        }
-        true
+        count <= self.least_left(store, bank)
     }
 
     // How many more objects of a bank pass the limit of no bank in its chain.
     pub(crate) fn least_left<F: Frames>(&self, store: &F, bank: u64) -> u64
-        requires { IsBankOf (F.parts store.now) self.now bank }
+        requires { MayServe (F.parts store.now) self.now bank }
         ensures { result ≡ remaining (objects_in (F.parts store.now)) bank }
     {
         let mut least = self.left(bank);

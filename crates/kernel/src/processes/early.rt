@@ -1,5 +1,5 @@
-// Why a process can't act.
-ghost use Rattle.std.specs.Prelude.{◌≡◌, ◌↔◌, ◌<◌, ◌≤◌, IfOk, IfSome, IsErr};
+// Why a process can't act, and why it isn't served.
+ghost use Rattle.std.specs.Prelude.{◌≡◌, ◌↔◌, ◌<◌, ◌≤◌, ◌^◌, IfOk, IfSome, IsErr, false, true};
 ghost use Rattle.model.specs.Keepable.{IsSoundFrames};
 ghost use Rattle.capability.specs.Parts.{OnlyFetches, frames_of, objects_in};
 ghost use Rattle.kernel.specs.Machine.{IsEarly, NeedsNoLook};
@@ -8,6 +8,7 @@ ghost use Rattle.kernel.specs.Prepared.{refusal_by};
 use capability::{Frames, roots};
 use device::Failed;
 use gate::InvokeFault;
+use model::{MAX_AGE, Refusal};
 
 /// Why a process can't act: `NoProcess` or `NotRunning`, or `None` if it runs. `NoProcess` leaves the
 /// store untouched. Fails exactly if the device fails.
@@ -33,4 +34,26 @@ pub fn early<F: Frames>(
         return Ok(None);
     }
     Ok(Some(InvokeFault::NotRunning))
+}
+
+/// Whether an age is the greatest. Then a command that would raise it is refused with `Worn`.
+pub fn is_worn(age: u64) -> bool
+    ensures worn { result ≡ true → 2 ^ 62 ≤ age }
+    ensures young { result ≡ false → age < 2 ^ 62 }
+{
+    age >= MAX_AGE
+}
+
+/// The refusal that a fault is answered by.
+pub fn refusal_by(fault: InvokeFault) -> Refusal
+    ensures { result ≡ refusal_by fault }
+{
+    match fault {
+        InvokeFault::NoProcess => Refusal::NoProcess,
+        InvokeFault::NotRunning => Refusal::NotRunning,
+        InvokeFault::Worn => Refusal::Worn,
+        InvokeFault::Stalled => Refusal::Stalled,
+        InvokeFault::LogFull => Refusal::LogFull,
+        InvokeFault::Failed => Refusal::Fault,
+    }
 }

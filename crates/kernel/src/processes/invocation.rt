@@ -8,8 +8,7 @@ ghost use Rattle.space_bank.specs.Banks.{AreCounted};
 ghost use Rattle.kernel.specs.Prepared.{refusal_by};
 ghost use Rattle.kernel.specs.Machine.{IsUnlooked, NeedsNoLook, Performs, answer_with, code_with};
 
-use crate::processes::age::is_worn;
-use crate::processes::early::early;
+use crate::processes::early::{early, is_worn};
 use capability::{Frames, PresentFrames, roots};
 use device::Failed;
 use gate::InvokeFault;

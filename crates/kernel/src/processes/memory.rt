@@ -6,8 +6,7 @@ ghost use Rattle.capability.specs.Parts.{OnlyFetches, frames_of, objects_in};
 ghost use Rattle.space_bank.specs.Banks.{AreCounted, BanksState};
 ghost use Rattle.kernel.specs.Machine.{IsReportedOnce, IsUnlooked, Performs, answer_of};
 
-use crate::processes::early::early;
-use crate::processes::refusal::refusal_by;
+use crate::processes::early::{early, refusal_by};
 use capability::{Frames, PrepareFault, PresentFrames};
 use device::Failed;
 use model::{Answer, Refusal};

@@ -1,8 +1,6 @@
 // The one way to go on from another header.
 ghost use Rattle.std.specs.Prelude.{◌≡◌, OnOk, OnErr};
-ghost use Rattle.device.specs.Calls.{Counts};
-ghost use Rattle.checkpoint.specs.Saved.{LeavesEither};
-ghost use Rattle.migrator.specs.Durable.{IsDurable, IsSoundOn, stored_on};
+ghost use Rattle.migrator.specs.Durable.{Publishes, stored_on};
 ghost use Rattle.migrator.specs.Saving.{MayAdopt, adopted};
 
 use crate::books::Books;
@@ -22,20 +20,10 @@ impl Books {
         entries: &mut Directory,
     ) -> Result<(), Failed>
         requires { MayAdopt (D.disk device.old) self.old next entries.old }
-        ensures stands { IsDurable (D.disk device.new) self.new }
+        ensures publishes { Publishes (D.disk device.old) (D.disk device.new) self.old self.new
+            (stored_on (D.disk device.old) (adopted next entries.old self.old)) result }
         ensures adopted { OnOk result (self.new ≡ adopted next entries.old self.old) }
         ensures unchanged { OnErr result (self.new ≡ self.old) }
-        ensures stored { OnOk result (stored_on (D.disk device.new) self.new
-            ≡ stored_on (D.disk device.old) (adopted next entries.old self.old)) }
-        ensures kept { OnErr result (stored_on (D.disk device.new) self.new
-            ≡ stored_on (D.disk device.old) self.old) }
-        ensures plan { self.new.plan ≡ self.old.plan }
-        ensures sound { OnOk result (IsSoundOn (D.disk device.new) self.new) }
-        ensures size { (D.disk device.new).sectors ≡ (D.disk device.old).sectors }
-        ensures any_moment { LeavesEither (D.disk device.old) (D.disk device.new)
-            (stored_on (D.disk device.old) self.old).saved
-            (stored_on (D.disk device.old) (adopted next entries.old self.old)).saved }
-        ensures cause { Counts (D.disk device.old) (D.disk device.new) result }
     {
         let log = Log::new(&self.plan);
         log.write_directory(device, next.generation, entries.as_slice())?;

@@ -1,5 +1,5 @@
 // One page is saved beside the checkpoints.
-ghost use Rattle.std.specs.Prelude.{◌≡◌, ℕ, ◌≤◌, ◌<◌, ◌^◌, None, length, IfOk, OnOk, OnErr};
+ghost use Rattle.std.specs.Prelude.{◌≡◌, ℕ, ◌≤◌, length, IfOk, OnOk};
 ghost use Rattle.device.specs.Calls.{Counts};
 ghost use Rattle.layout.specs.Frame.{IsFrameOf};
 ghost use Rattle.layout.specs.Header.{IsHeader};
@@ -7,10 +7,11 @@ ghost use Rattle.model.specs.Frame.{frame_at};
 ghost use Rattle.model.specs.declared.object.Role.TheVariants as role;
 ghost use Rattle.frame_io.specs.Calls.{ReadsOnly};
 ghost use Rattle.frame_io.specs.Frames.{IsObject};
-ghost use Rattle.checkpoint.specs.Saved.{LeavesEither, journaled_saved, replaced_saved, with_words};
+ghost use Rattle.checkpoint.specs.Saved.{with_words};
 ghost use Rattle.checkpoint.specs.Snapshots.{journaled, replaced};
-ghost use Rattle.migrator.specs.Durable.{GoesOnDisk, IsDurable, IsSoundOn, MayJournal, first_bytes, first_frame};
-ghost use Rattle.migrator.specs.Durable.{replaced_header, stored_on, on_snapshots};
+ghost use Rattle.migrator.specs.Durable.{IsDurable, MayJournal, Publishes, Stays, first_bytes, first_frame};
+ghost use Rattle.migrator.specs.Durable.{on_snapshots, replaced_header, stored_on};
+ghost use Rattle.migrator.specs.Saving.{IsIdle, MayReplace};
 
 use crate::books::Books;
 use crate::directory::Directory;
@@ -51,21 +52,17 @@ impl Books {
         header: ObjectHeader,
         words: &[u64],
     ) -> Result<(), Failed>
-        requires stands { IsDurable (D.disk device.old) self.now }
-        requires free { self.now.size ≡ None }
-        requires home { self.now.header.entries ≡ 0 }
+        requires idle { IsIdle (D.disk device.old) self.now }
         requires page { (frame_at (stored_on (D.disk device.old) self.now).saved.frames number).header.role
             ≡ role.Page }
         requires header { header
             ≡ (frame_at (stored_on (D.disk device.old) self.now).saved.frames number).header }
         requires words { length words.now ≡ 512 }
-        ensures stands { IsDurable (D.disk device.new) self.now }
+        ensures stays { Stays (D.disk device.old) (D.disk device.new) self.now self.now }
         ensures spelt { OnOk result ((age : ℕ) → self.now.header.age ≤ age
             → IsFrameOf self.now.plan.geometry age number
             (first_bytes (D.disk device.new).seen self.now number)
             (with_words words.now (frame_at (stored_on (D.disk device.old) self.now).saved.frames number))) }
-        ensures stored { stored_on (D.disk device.new) self.now ≡ stored_on (D.disk device.old) self.now }
-        ensures goes_on { GoesOnDisk (D.disk device.old) (D.disk device.new) self.now self.now }
         ensures cause { Counts (D.disk device.old) (D.disk device.new) result }
     {
         let log = Log::new(&self.plan);
@@ -93,31 +90,10 @@ impl Books {
         number: u64,
         age: u64,
     ) -> Result<(), Failed>
-        requires stands { IsDurable (D.disk device.old) self.old }
-        requires free { self.old.size ≡ None }
-        requires home { self.old.header.entries ≡ 0 }
-        requires object { IsObject self.old.plan.geometry number }
-        requires page { self.old.plan.geometry.nodes ≤ number }
-        requires spelt { IsFrameOf self.old.plan.geometry age number
-            (first_bytes (D.disk device.old).seen self.old number)
-            (first_frame (D.disk device.old).seen self.old number) }
-        requires sound { IsSoundOn (D.disk device.old) self.old }
-        requires later { self.old.header.age < age }
-        requires most { age ≤ 2 ^ 62 }
-        ensures stands { IsDurable (D.disk device.new) self.new }
-        ensures saved { OnOk result (stored_on (D.disk device.new) self.new ≡ on_snapshots (replaced age number
-            (first_frame (D.disk device.old).seen self.old number))
-            (stored_on (D.disk device.old) self.old)) }
-        ensures unchanged { OnErr result (stored_on (D.disk device.new) self.new
-            ≡ stored_on (D.disk device.old) self.old) }
-        ensures plan { self.new.plan ≡ self.old.plan }
-        ensures sound { OnOk result (IsSoundOn (D.disk device.new) self.new) }
-        ensures size { (D.disk device.new).sectors ≡ (D.disk device.old).sectors }
-        ensures any_moment { LeavesEither (D.disk device.old) (D.disk device.new)
-            (stored_on (D.disk device.old) self.old).saved (replaced_saved age number
-            (first_frame (D.disk device.old).seen self.old number)
-            (stored_on (D.disk device.old) self.old).saved) }
-        ensures cause { Counts (D.disk device.old) (D.disk device.new) result }
+        requires { MayReplace (D.disk device.old) self.old number age }
+        ensures { Publishes (D.disk device.old) (D.disk device.new) self.old self.new (on_snapshots
+            (replaced age number (first_frame (D.disk device.old).seen self.old number))
+            (stored_on (D.disk device.old) self.old)) result }
     {
         let header = self.replaced_header(age);
         spare.put_one(Entry {
@@ -138,26 +114,13 @@ impl Books {
         words: &[u64],
         age: u64,
     ) -> Result<(), Failed>
-        requires stands { IsDurable (D.disk device.old) self.old }
-        requires free { self.old.size ≡ None }
-        requires home { self.old.header.entries ≡ 0 }
+        requires idle { IsIdle (D.disk device.old) self.old }
         requires may { MayJournal age number (stored_on (D.disk device.old) self.old).saved }
         requires header { header
             ≡ (frame_at (stored_on (D.disk device.old) self.old).saved.frames number).header }
         requires words { length words.now ≡ 512 }
-        requires sound { IsSoundOn (D.disk device.old) self.old }
-        ensures stands { IsDurable (D.disk device.new) self.new }
-        ensures journaled { OnOk result (stored_on (D.disk device.new) self.new
-            ≡ on_snapshots (journaled age number words.now) (stored_on (D.disk device.old) self.old)) }
-        ensures unchanged { OnErr result (stored_on (D.disk device.new) self.new
-            ≡ stored_on (D.disk device.old) self.old) }
-        ensures plan { self.new.plan ≡ self.old.plan }
-        ensures sound { OnOk result (IsSoundOn (D.disk device.new) self.new) }
-        ensures size { (D.disk device.new).sectors ≡ (D.disk device.old).sectors }
-        ensures any_moment { LeavesEither (D.disk device.old) (D.disk device.new)
-            (stored_on (D.disk device.old) self.old).saved
-            (journaled_saved age number words.now (stored_on (D.disk device.old) self.old).saved) }
-        ensures cause { Counts (D.disk device.old) (D.disk device.new) result }
+        ensures { Publishes (D.disk device.old) (D.disk device.new) self.old self.new
+            (on_snapshots (journaled age number words.now) (stored_on (D.disk device.old) self.old)) result }
     {
         self.put_page(device, number, header, words)?;
         self.save_first(device, spare, number, age)
@@ -172,24 +135,11 @@ impl Books {
         words: &[u64],
         age: u64,
     ) -> Result<(), Failed>
-        requires stands { IsDurable (D.disk device.old) self.old }
-        requires free { self.old.size ≡ None }
-        requires home { self.old.header.entries ≡ 0 }
+        requires idle { IsIdle (D.disk device.old) self.old }
         requires may { MayJournal age number (stored_on (D.disk device.old) self.old).saved }
         requires words { length words.now ≡ 512 }
-        requires sound { IsSoundOn (D.disk device.old) self.old }
-        ensures stands { IsDurable (D.disk device.new) self.new }
-        ensures journaled { OnOk result (stored_on (D.disk device.new) self.new
-            ≡ on_snapshots (journaled age number words.now) (stored_on (D.disk device.old) self.old)) }
-        ensures unchanged { OnErr result (stored_on (D.disk device.new) self.new
-            ≡ stored_on (D.disk device.old) self.old) }
-        ensures plan { self.new.plan ≡ self.old.plan }
-        ensures sound { OnOk result (IsSoundOn (D.disk device.new) self.new) }
-        ensures size { (D.disk device.new).sectors ≡ (D.disk device.old).sectors }
-        ensures any_moment { LeavesEither (D.disk device.old) (D.disk device.new)
-            (stored_on (D.disk device.old) self.old).saved
-            (journaled_saved age number words.now (stored_on (D.disk device.old) self.old).saved) }
-        ensures cause { Counts (D.disk device.old) (D.disk device.new) result }
+        ensures { Publishes (D.disk device.old) (D.disk device.new) self.old self.new
+            (on_snapshots (journaled age number words.now) (stored_on (D.disk device.old) self.old)) result }
     {
         let header = self.saved_header(device, number)?;
         self.save_page(device, spare, number, header, words, age)

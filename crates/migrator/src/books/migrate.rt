@@ -1,10 +1,10 @@
 // What is saved goes home.
 ghost use Rattle.std.specs.Prelude.{◌≡◌, ◌⊎◌, ℕ, ◌+◌, ◌-◌, ◌<◌, ◌≤◌, true, false, IfOk, OnOk, OnErr};
 ghost use Rattle.device.specs.Calls.{Counts};
-ghost use Rattle.checkpoint.specs.Saved.{LeavesEither, home_saved};
-ghost use Rattle.checkpoint.specs.Snapshots.{all_moved, moved_saved, moved};
-ghost use Rattle.migrator.specs.Durable.{IsDurable, IsLesser, IsSoundOn, MovedBy, stored_on, on_snapshots};
-ghost use Rattle.migrator.specs.Durable.{snapshots_in};
+ghost use Rattle.checkpoint.specs.Snapshots.{all_moved};
+ghost use Rattle.migrator.specs.Durable.{IsDurable, IsLesser, IsSoundOn, Migrates, MovedBy, Publishes};
+ghost use Rattle.migrator.specs.Durable.{on_snapshots, stored_on};
+ghost use Rattle.migrator.specs.Saving.{MayFinish};
 
 use crate::books::Books;
 use crate::copy::copy_home;
@@ -38,22 +38,9 @@ impl Books {
 
     // Publishes that all that is saved is home.
     fn finish<D: Device>(&mut self, device: &mut D, spare: &mut Directory) -> Result<(), Failed>
-        requires stands { IsDurable (D.disk device.old) self.old }
-        requires some { 0 < self.old.header.entries }
-        requires all { self.old.moved ≡ self.old.header.entries }
-        requires sound { IsSoundOn (D.disk device.old) self.old }
-        ensures stands { IsDurable (D.disk device.new) self.new }
-        ensures finished { OnOk result (stored_on (D.disk device.new) self.new
-            ≡ on_snapshots all_moved (stored_on (D.disk device.old) self.old)) }
-        ensures unchanged { OnErr result (stored_on (D.disk device.new) self.new
-            ≡ stored_on (D.disk device.old) self.old) }
-        ensures plan { self.new.plan ≡ self.old.plan }
-        ensures sound { OnOk result (IsSoundOn (D.disk device.new) self.new) }
-        ensures size { (D.disk device.new).sectors ≡ (D.disk device.old).sectors }
-        ensures any_moment { LeavesEither (D.disk device.old) (D.disk device.new)
-            (stored_on (D.disk device.old) self.old).saved
-            (home_saved (stored_on (D.disk device.old) self.old).saved) }
-        ensures cause { Counts (D.disk device.old) (D.disk device.new) result }
+        requires { MayFinish (D.disk device.old) self.old }
+        ensures { Publishes (D.disk device.old) (D.disk device.new) self.old self.new
+            (on_snapshots all_moved (stored_on (D.disk device.old) self.old)) result }
     {
         let header = CheckpointHeader {
             sequence: self.header.sequence + 1,
@@ -117,22 +104,10 @@ impl Books {
     ) -> Result<u64, Failed>
         requires stands { IsDurable (D.disk device.old) self.old }
         requires sound { IsSoundOn (D.disk device.old) self.old }
-        ensures stands { IsDurable (D.disk device.new) self.new }
         ensures left { IfOk result (λ n. n ≡ (stored_on (D.disk device.old) self.old).to_move - count) }
-        ensures moved { OnOk result (stored_on (D.disk device.new) self.new
-            ≡ on_snapshots (moved count) (stored_on (D.disk device.old) self.old)) }
-        ensures unmoved { OnErr result ((k : ℕ) × (k ≤ (stored_on (D.disk device.old) self.old).to_move)
-            × (stored_on (D.disk device.new) self.new
-            ≡ record (stored_on (D.disk device.old) self.old) { to_move = k })) }
+        ensures migrates { Migrates (D.disk device.old) (D.disk device.new) self.old self.new count result }
         ensures untouched { self.old.header.entries ≡ 0
             → (self.new ≡ self.old) × (device.new ≡ device.old) }
-        ensures plan { self.new.plan ≡ self.old.plan }
-        ensures sound { OnOk result (IsSoundOn (D.disk device.new) self.new) }
-        ensures size { (D.disk device.new).sectors ≡ (D.disk device.old).sectors }
-        ensures any_moment { LeavesEither (D.disk device.old) (D.disk device.new)
-            (stored_on (D.disk device.old) self.old).saved
-            (moved_saved count (snapshots_in (stored_on (D.disk device.old) self.old))) }
-        ensures cause { Counts (D.disk device.old) (D.disk device.new) result }
     {
         let (some, left) = self.share(count);
         self.move_some(device, some)?;

@@ -2,16 +2,13 @@
 ghost use Rattle.std.specs.Prelude.{◌≡◌, ℕ, ◌<◌, ◌≤◌, ◌+◌, ◌∷◌, None, false, true, length, take, OnOk, OnErr};
 ghost use Rattle.std.specs.List.{All, Contains};
 ghost use Rattle.device.specs.Calls.{Counts};
-ghost use Rattle.model.specs.Keepable.{AreKeepable};
-ghost use Rattle.model.specs.Machine.{touched_count};
-ghost use Rattle.migrator.specs.Durable.{stored_of};
 ghost use Rattle.cache_entries.specs.Entries.{entry_at};
 ghost use Rattle.cache_entries.specs.Order.{used_in_turn, with_new, without};
 ghost use Rattle.layout.specs.Frame.{content_of};
 ghost use Rattle.object_cache.specs.Memory.{masked};
-ghost use Rattle.capability.specs.Parts.{frames_of};
 ghost use Rattle.checkpoint.specs.Saved.{most};
-ghost use Rattle.object_cache.specs.StoreState.{GoesOnIn, IsFetchedIn, parts_of, cached_at, with_cached};
+ghost use Rattle.object_cache.specs.StoreState.{GoesOnIn, IsFetchedIn, cached_at, with_cached};
+ghost use Rattle.object_cache.specs.StoreState.{AreKeepableIn, IsWithinLog};
 ghost use Rattle.object_cache.specs.Prepared.{IsRecentIn, UsesSome, on_device_with};
 
 use crate::cache::Cache;
@@ -66,8 +63,7 @@ impl<D: Device> Cache<D> {
         requires known { number < length self.old.headers }
         requires uncached { cached_at self.old.cached number ≡ false }
         requires empty { self.old.staging ≡ None }
-        requires keepable { AreKeepable (parts_of D.disk self.old).geometry most
-            (frames_of (parts_of D.disk self.old)) }
+        requires keepable { AreKeepableIn D.disk self.old }
         ensures first { OnOk result ((k : ℕ) → 0 < k → IsRecentIn self.new k number) }
         ensures recent { OnOk result ((j k n : ℕ) → j ≤ 7 → j < k → IsRecentIn self.old j n
             → IsRecentIn self.new k n) }
@@ -87,8 +83,7 @@ impl<D: Device> Cache<D> {
     fn fetch_one(&mut self, number: u64) -> Result<(), Failed>
         requires known { number < length self.old.headers }
         requires empty { self.old.staging ≡ None }
-        requires keepable { AreKeepable (parts_of D.disk self.old).geometry most
-            (frames_of (parts_of D.disk self.old)) }
+        requires keepable { AreKeepableIn D.disk self.old }
         ensures first { OnOk result ((k : ℕ) → 0 < k → IsRecentIn self.new k number) }
         ensures recent { OnOk result ((j k n : ℕ) → j ≤ 7 → j < k → IsRecentIn self.old j n
             → IsRecentIn self.new k n) }
@@ -113,8 +108,7 @@ impl<D: Device> Cache<D> {
         requires known { All (λ n. n < length self.old.headers) fetched.now }
         requires empty { self.old.staging ≡ None }
         requires bounded { length self.old.order ≤ self.old.capacity }
-        requires keepable { AreKeepable (parts_of D.disk self.old).geometry most
-            (frames_of (parts_of D.disk self.old)) }
+        requires keepable { AreKeepableIn D.disk self.old }
         ensures fetched { OnOk result ((n : ℕ) → Contains fetched.now n → IsFetchedIn self.new n) }
         ensures order { OnOk result (self.new.order
             ≡ take self.old.capacity (used_in_turn fetched.now self.old.order)) }
@@ -138,8 +132,7 @@ impl<D: Device> Cache<D> {
         ensures prefix { (k : ℕ) × (self.new.order ≡ used_in_turn (take k numbers.now) self.old.order) }
         ensures few { length self.new.order ≤ self.new.capacity }
         ensures rest { self.new ≡ record self.old { order = self.new.order } }
-        ensures within { touched_count self.old.touched
-            ≤ (stored_of D.disk self.old.durable).saved.geometry.log }
+        ensures within { IsWithinLog D.disk self.old }
         ensures continues { GoesOnIn D.disk self.old self.new }
     {
         self.entries.use_again(numbers)
@@ -150,8 +143,7 @@ impl<D: Device> Cache<D> {
         requires few { length fetched.now ≤ MAX_FETCHED }
         requires known { All (λ n. n < length self.old.headers) fetched.now }
         requires bounded { length self.old.order ≤ self.old.capacity }
-        requires keepable { AreKeepable (parts_of D.disk self.old).geometry most
-            (frames_of (parts_of D.disk self.old)) }
+        requires keepable { AreKeepableIn D.disk self.old }
         ensures fetched { OnOk result ((n : ℕ) → Contains fetched.now n → IsFetchedIn self.new n) }
         ensures order { OnOk result (self.new.order
             ≡ take self.old.capacity (used_in_turn fetched.now self.old.order)) }
@@ -169,11 +161,9 @@ impl<D: Device> Cache<D> {
     pub fn fetch(&mut self, fetched: &[u64]) -> Result<(), Failed>
         requires few { length fetched.now ≤ MAX_FETCHED }
         requires known { All (λ n. n < length self.old.headers) fetched.now }
-        requires keepable { AreKeepable (parts_of D.disk self.old).geometry most
-            (frames_of (parts_of D.disk self.old)) }
+        requires keepable { AreKeepableIn D.disk self.old }
         ensures fetched { OnOk result ((n : ℕ) → Contains fetched.now n → IsFetchedIn self.new n) }
-        ensures within { touched_count self.old.touched
-            ≤ (stored_of D.disk self.old.durable).saved.geometry.log }
+        ensures within { IsWithinLog D.disk self.old }
         ensures order { OnOk result (self.new.order
             ≡ take self.old.capacity (used_in_turn fetched.now self.old.order)) }
         ensures stopped { OnErr result (UsesSome self.old.capacity fetched.now self.old.order self.new.order) }

@@ -1,13 +1,11 @@
 // Fetching bodies and announcing numbers, before a step reads or changes them.
 ghost use Rattle.std.specs.Prelude.{◌≡◌, ◌≢◌, ◌↔◌, ℕ, ◌<◌, ◌≤◌, false, true, length, take, OnOk, OnErr, IsErrOf};
 ghost use Rattle.std.specs.List.{All, Contains};
-ghost use Rattle.model.specs.Keepable.{AreKeepable};
 ghost use Rattle.model.specs.Machine.{touching, touched_count};
-ghost use Rattle.capability.specs.Parts.{frames_of};
-ghost use Rattle.checkpoint.specs.Saved.{most};
 ghost use Rattle.migrator.specs.Durable.{stored_of};
 ghost use Rattle.object_cache.specs.Memory.{Shared};
-ghost use Rattle.object_cache.specs.StoreState.{GoesOnIn, IsAnnouncedIn, IsFetchedIn, frozen_state_at, parts_of};
+ghost use Rattle.object_cache.specs.StoreState.{GoesOnIn, IsAnnouncedIn, IsFetchedIn, frozen_state_at};
+ghost use Rattle.object_cache.specs.StoreState.{AreKeepableIn, IsWithinLog};
 ghost use Rattle.object_cache.specs.Prepared.{UsesSome, on_device_with, readied};
 ghost use Rattle.cache_entries.specs.Order.{used_in_turn};
 
@@ -24,8 +22,7 @@ impl<D: Device> Cache<D> {
         ensures touched { result ≡ true → touching self.now.touched written.now ≡ self.now.touched }
         ensures dirty { result ≡ true → touching self.now.dirty written.now ≡ self.now.dirty }
         ensures announced { result ≡ true → (n : ℕ) → Contains written.now n → IsAnnouncedIn self.now n }
-        ensures within { touched_count self.now.touched
-            ≤ (stored_of D.disk self.now.durable).saved.geometry.log }
+        ensures within { IsWithinLog D.disk self.now }
     {
         are_ready(&self.dirty, written)
     }
@@ -43,8 +40,7 @@ impl<D: Device> Cache<D> {
         ensures unchanged { OnErr result (self.new ≡ self.old) }
         ensures announced { OnOk result ((n : ℕ) → Contains written.now n → IsAnnouncedIn self.new n) }
         ensures fetched { (n : ℕ) → IsFetchedIn self.old n → IsFetchedIn self.new n }
-        ensures within { touched_count self.new.touched
-            ≤ (stored_of D.disk self.new.durable).saved.geometry.log }
+        ensures within { IsWithinLog D.disk self.new }
         ensures continues { GoesOnIn D.disk self.old self.new }
         ensures full { IsErrOf result PrepareFault.LogFull
             ↔ ((stored_of D.disk self.old.durable).saved.geometry.log
@@ -104,16 +100,15 @@ impl<D: Device> Cache<D> {
     ///
     /// `LogFull` exactly if more numbers would be touched than half of the log holds; then none is announced. There is
     /// no other error.
+    #[inline(always)]
     pub(crate) fn make_writable(&mut self, written: &[u64]) -> Result<(), PrepareFault>
         requires { All (λ n. n < length self.old.headers) written.now }
         ensures announced { OnOk result ((n : ℕ) → Contains written.now n → IsAnnouncedIn self.new n) }
         ensures touched { OnOk result (self.new.touched ≡ touching self.old.touched written.now) }
         ensures dirty { OnOk result (self.new.dirty ≡ touching self.old.dirty written.now) }
         ensures untouched { OnErr result (self.new.touched ≡ self.old.touched) }
-        ensures within { touched_count self.new.touched
-            ≤ (stored_of D.disk self.new.durable).saved.geometry.log }
-        ensures before { touched_count self.old.touched
-            ≤ (stored_of D.disk self.old.durable).saved.geometry.log }
+        ensures within { IsWithinLog D.disk self.new }
+        ensures before { IsWithinLog D.disk self.old }
         ensures fetched { (n : ℕ) → IsFetchedIn self.old n → IsFetchedIn self.new n }
         ensures rest { self.new ≡ readied self.old self.new }
         ensures continues { GoesOnIn D.disk self.old self.new }
@@ -137,16 +132,13 @@ impl<D: Device> Cache<D> {
         requires few { length fetched.now ≤ MAX_FETCHED }
         requires known { All (λ n. n < length self.old.headers) fetched.now }
         requires announced { All (λ n. n < length self.old.headers) written.now }
-        requires keepable { AreKeepable (parts_of D.disk self.old).geometry most
-            (frames_of (parts_of D.disk self.old)) }
+        requires keepable { AreKeepableIn D.disk self.old }
         ensures fetched { OnOk result ((n : ℕ) → Contains fetched.now n → IsFetchedIn self.new n) }
         ensures announced { OnOk result ((n : ℕ) → Contains written.now n → IsAnnouncedIn self.new n) }
         ensures touched { OnOk result (self.new.touched ≡ touching self.old.touched written.now) }
         ensures untouched { OnErr result (self.new.touched ≡ self.old.touched) }
-        ensures within { touched_count self.new.touched
-            ≤ (stored_of D.disk self.new.durable).saved.geometry.log }
-        ensures before { touched_count self.old.touched
-            ≤ (stored_of D.disk self.old.durable).saved.geometry.log }
+        ensures within { IsWithinLog D.disk self.new }
+        ensures before { IsWithinLog D.disk self.old }
         ensures order { OnOk result (self.new.order
             ≡ take self.old.capacity (used_in_turn fetched.now self.old.order)) }
         ensures stopped { OnErr result (UsesSome self.old.capacity fetched.now self.old.order self.new.order) }

@@ -1,5 +1,5 @@
 // Writing frozen frames to the log, in turn.
-ghost use Rattle.std.specs.Prelude.{◌≡◌, ◌≢◌, ◌⊎◌, ℕ, ◌-◌, ◌<◌, ◌≤◌, None, Some, true, IfErr, OnOk, OnErr};
+ghost use Rattle.std.specs.Prelude.{◌≡◌, ℕ, ◌-◌, ◌<◌, ◌≤◌, None, Some, true, IfErr, OnOk, OnErr};
 ghost use Rattle.device.specs.Calls.{Counts};
 ghost use Rattle.migrator.specs.Durable.{is_sound};
 ghost use Rattle.checkpoint.specs.Refused.{IsRefused};
@@ -8,8 +8,7 @@ ghost use Rattle.checkpoint.specs.Snapshots.{left_in};
 ghost use Rattle.object_store.specs.Store.{whole, FrozenFrames, IsStabilizeAnswer, stabilized};
 ghost use Rattle.object_cache.specs.Memory.{Held, Nothing, mark_at};
 ghost use Rattle.object_cache.specs.StoreState.{GoesOnIn, PutsBy, on_device, on_device_frozen, frozen_state_at};
-ghost use Rattle.object_cache.specs.StoreState.{parts_of};
-ghost use Rattle.object_cache.specs.StoreState.{pending_count, view_of};
+ghost use Rattle.object_cache.specs.StoreState.{parts_of, pending_count, view_of};
 
 use crate::cache::Cache;
 use device::{Device, Failed};

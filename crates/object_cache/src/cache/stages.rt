@@ -1,15 +1,14 @@
 // The stages of a checkpoint.
 ghost use Rattle.std.specs.Prelude.{◌≡◌, ◌-◌, Some, IfOk, OnOk, OnErr};
-ghost use Rattle.model.specs.Keepable.{AreKeepable};
 ghost use Rattle.model.specs.Machine.{touched_count, untouched};
 ghost use Rattle.device.specs.Calls.{Counts};
 ghost use Rattle.capability.specs.Parts.{frames_of};
-ghost use Rattle.checkpoint.specs.Saved.{most, LeavesEither};
+ghost use Rattle.checkpoint.specs.Saved.{LeavesEither};
 ghost use Rattle.migrator.specs.Durable.{stored_of, is_sound};
 ghost use Rattle.checkpoint.specs.Refused.{IsCommitAnswer, IsFreezeAnswer, IsRefused};
 ghost use Rattle.checkpoint.specs.Snapshots.{MayCommit, committed, freezing, left_in, moved, moved_saved, next_saved};
 ghost use Rattle.object_store.specs.Store.{all_frozen, whole, FrozenFrames};
-ghost use Rattle.object_cache.specs.StoreState.{AreObjectsOf, IsWhole, parts_of, view_of};
+ghost use Rattle.object_cache.specs.StoreState.{AreKeepableIn, AreObjectsOf, IsWhole, parts_of, view_of};
 
 use crate::all_objects::{AllObjects, copy_bodies};
 use crate::cache::Cache;
@@ -147,8 +146,7 @@ impl<D: Device> Cache<D> {
     /// device. It is refused by `CheckpointRunning` exactly if one is frozen, else by `MigrationPending` exactly if a
     /// saved frame isn't home. A refusal changes nothing.
     pub fn freeze(&mut self) -> Result<u64, Refusal>
-        requires keepable { AreKeepable (parts_of D.disk self.old).geometry most
-            (frames_of (parts_of D.disk self.old)) }
+        requires keepable { AreKeepableIn D.disk self.old }
         ensures answer { IsFreezeAnswer (left_in whole (view_of D.disk self.old).snapshots)
             (view_of D.disk self.old).snapshots.saved.entries result }
         ensures unchanged { OnErr result (self.new ≡ self.old) }

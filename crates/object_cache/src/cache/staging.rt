@@ -1,10 +1,8 @@
 // Use of the staging buffer.
-ghost use Rattle.std.specs.Prelude.{◌≡◌, ◌≢◌, ◌<◌, ◌≤◌, None, Some, OnOk};
-ghost use Rattle.model.specs.Machine.{touched_count};
-ghost use Rattle.migrator.specs.Durable.{stored_of};
+ghost use Rattle.std.specs.Prelude.{◌≡◌, ◌≢◌, ◌<◌, None, Some, OnOk};
 ghost use Rattle.device.specs.Calls.{Counts};
 ghost use Rattle.object_cache.specs.Memory.{Held, Nothing};
-ghost use Rattle.object_cache.specs.StoreState.{GoesOnIn, on_device, frozen_state_at, pending_count};
+ghost use Rattle.object_cache.specs.StoreState.{GoesOnIn, on_device, frozen_state_at, pending_count, IsWithinLog};
 
 use crate::cache::Cache;
 use crate::frozen::put_body;
@@ -37,8 +35,7 @@ impl<D: Device> Cache<D> {
     pub(crate) fn empty_staging(&mut self) -> Result<(), Failed>
         ensures empty { OnOk result (self.new.staging ≡ None) }
         ensures fewer { OnOk result (self.old.staging ≢ None → pending_count self.new < pending_count self.old) }
-        ensures within { touched_count self.old.touched
-            ≤ (stored_of D.disk self.old.durable).saved.geometry.log }
+        ensures within { IsWithinLog D.disk self.old }
         ensures put { self.new ≡ on_device self.old self.new }
         ensures continues { GoesOnIn D.disk self.old self.new }
         ensures cause { Counts (D.disk self.old.durable.beneath) (D.disk self.new.durable.beneath) result }

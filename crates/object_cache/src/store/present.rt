@@ -10,9 +10,11 @@ ghost use Rattle.object_cache.specs.StoreState.{ContinuesIn, IsAnnouncedIn, IsFe
 
 use crate::policy::Policy;
 use crate::store::Store;
-use capability::{Frames, Fresh, MAX_FETCHED, ObjectTable, PrepareFault, PresentFrames};
+use capability::{
+    Frames, Fresh, MAX_FETCHED, ObjectTable, PrepareFault, PresentFrames, RootChange,
+};
 use device::{Device, Failed};
-use model::{Cap, ContentRef, Geometry, Root};
+use model::{Cap, ContentRef, Geometry};
 
 impl<D: Device, P: Policy> Frames for Store<D, P> {
     ghost parts = { parts_of D.disk };
@@ -117,8 +119,9 @@ impl<D: Device, P: Policy> PresentFrames for Store<D, P> {
         self.cache.set_last_slots(number, held);
     }
 
-    fn set_root(&mut self, process: u64, root: Root<Cap>) {
-        self.cache.set_root(process, root);
+    #[inline(always)]
+    fn change_root(&mut self, process: u64, change: RootChange) {
+        self.cache.change_root(process, change);
     }
 
     fn claim(&mut self, number: u64, fresh: Fresh, owner: u64) {

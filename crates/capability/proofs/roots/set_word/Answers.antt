@@ -1,6 +1,7 @@
-use Rattle.capability.proofs.Names.{refl, Cap, Capability, Root, slice_set, with_root_word}
+use Rattle.capability.proofs.Names.{refl, Capability, Root, changed_root, with_root_word}
 use Rattle.capability.proofs.Edited.{edited, root_edit}
-use Rattle.capability.proofs.RootEdits.{root_put, word_kept}
+use Rattle.capability.proofs.RootEdits.{word_kept}
+use Rattle.capability.specs.declared.present.RootChange.TheVariants as change
 use Rattle.capability.proofs.roots.set_word.Goals as goal
 
 pub returns : goal.returns
@@ -9,10 +10,9 @@ returns g c =
     let s = c.args.store.now in
     let n = c.args.process in
     let at = g.met.F.PresentFrames.known_announced s n c.requires.announced in
-    edited F.parts F.IsFetched g.F.PresentFrames.IsAnnounced F.ContinuesTo s _ n _ _ _ c.set_root.ensures
-    (root_edit (F.parts s) _ n at.0 at.1 (λ (r : Root Cap). record r { words = slice_set r.words c.args.index c.args.word })
+    edited F.parts F.IsFetched g.F.PresentFrames.IsAnnounced F.ContinuesTo s _ n _ _ _ c.change_root.ensures
+    (root_edit (F.parts s) _ n at.0 at.1 (changed_root (change.Word c.args.index c.args.word))
     (λ (r : Root Capability). with_root_word r c.args.index c.args.word) (λ age. Unit {0})
     (λ r. refl) (λ r current. current)
     (λ age may r k. (word_kept c.args.index c.args.word r.words c.ranges.word.fits k.0, k.1, k.2, k.3, k.4)) c.requires.process
-    (root_put (F.parts s) _ n _ (λ (r : Root Cap). record r { words = slice_set r.words c.args.index c.args.word }) c.set_root.ensures.parts_are
-    c.root-root.ensures))
+    c.change_root.ensures.parts_are)

@@ -9,20 +9,15 @@ returns-clause-committed g c =
     let place = gate_is c.args.header c.of.result c.of.ensures.value c.gate-at.ensures.value in
     let elsewhere = rw place at c.put_sector.ensures.elsewhere in
     let written = rw place at c.put_sector.ensures.written in
-    on_ok c.put_sector.result
-    (λ gate. opened_new c.args.header (g.D.Device.disk c.args.device.now).seen (g.D.Device.disk c.put_sector.new.device).seen c.of.ensures.fits c.requires.next
-    c.requires.written elsewhere (gate ∙ c.encode_gate.ensures))
-    written
+    on_ok c.put_sector.result (λ gate. opened_new c.of.ensures.fits c.requires.next c.requires.written elsewhere (gate ∙ c.encode_gate.ensures)) written
 
 pub returns-clause-seen : goal.returns-clause-seen
 returns-clause-seen g c =
     let place = gate_is c.args.header c.of.result c.of.ensures.value c.gate-at.ensures.value in
     let elsewhere = rw place at c.put_sector.ensures.elsewhere in
-    opening c.args.header (g.D.Device.disk c.args.device.now).seen (g.D.Device.disk c.put_sector.new.device).seen c.of.ensures.fits c.requires.next
-    c.requires.written elsewhere
+    opening c.of.ensures.fits c.requires.next c.requires.written elsewhere
 
 pub returns-clause-any_moment : goal.returns-clause-any_moment
 returns-clause-any_moment g c =
-    opening_run c.args.header c.gate-at.result (g.D.Device.disk c.args.device.now).seen
-    (gate_is c.args.header c.of.result c.of.ensures.value c.gate-at.ensures.value) c.of.ensures.fits c.requires.next c.requires.written
+    opening_run (gate_is c.args.header c.of.result c.of.ensures.value c.gate-at.ensures.value) c.of.ensures.fits c.requires.next c.requires.written
     c.put_sector.ensures.any_moment

@@ -17,7 +17,6 @@ returns-clause-written g c =
 
 pub returns-clause-alone : goal.returns-clause-alone
 returns-clause-alone g c =
-    alone_there c.write_sectors.result (g.D.Device.disk c.write_sectors.new.device).seen c.args.at c.args.rank c.blank_behind.new.cluster
-    c.write_sectors.ensures.written
+    alone_there c.write_sectors.result (g.D.Device.disk c.write_sectors.new.device).seen c.args.at c.write_sectors.ensures.written
     (packed_alone c.args.rank c.pack_node.new.cluster c.blank_behind.new.cluster c.pack_node.ensures.others c.blank_behind.ensures.places
     c.blank_behind.ensures.blank)

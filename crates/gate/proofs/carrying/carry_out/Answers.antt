@@ -29,8 +29,7 @@ change-requires g c =
     (c.leave.ensures.current c.requires.sound.1.current) (c.leave.ensures.keepable c.requires.sound.0 c.requires.sound.1.keepable) in
     let may = before_may old mid banks c.requires.sound c.requires.counted caller.operation caller.process c.requires.running c.leave.ensures.objects same
     c.args.invocation.now caller c.args.plan banks.listed c.requires.planned sound in
-    let counts = c.writer_count.ensures in
-    rw counts (record {
+    rw c.writer_count.ensures (record {
       sound = sound;
       counted = before_counted old mid banks c.requires.sound c.requires.counted caller.operation caller.process c.requires.running c.leave.ensures.objects
           same;
@@ -44,12 +43,10 @@ change-requires g c =
 
 pub answer-requires-clause-roles : goal.answer-requires-clause-roles
 answer-requires-clause-roles g c =
-    let mid = g.F.Frames.parts c.leave.new.store in
     let sound = c.requires.sound in
     let same = c.leave.ensures.snapshots.geometry in
-    keepable_roles mid.geometry (sound.0 + 1) (frames_of (g.F.Frames.parts c.change.new.store))
-    (c.change.ensures.keepable sound.0 (omega (arith, sound.1.sound.age))
-    (in_geometry mid.geometry (g.F.Frames.parts c.args.store.now).geometry sound.0 (frames_of mid) same (c.leave.ensures.keepable sound.0 sound.1.keepable)))
+    keepable_roles (g.F.Frames.parts c.leave.new.store).geometry (sound.0 + 1) (frames_of (g.F.Frames.parts c.change.new.store))
+    (c.change.ensures.keepable sound.0 (omega (arith, sound.1.sound.age)) (in_geometry same (c.leave.ensures.keepable sound.0 sound.1.keepable)))
 
 pub answer-requires-clause-root : goal.answer-requires-clause-root
 answer-requires-clause-root g c call is =
@@ -64,8 +61,7 @@ answer-requires-clause-root g c call is =
 
 pub answer-requires-clause-annex : goal.answer-requires-clause-annex
 answer-requires-clause-annex g c call is =
-    let old = g.F.Frames.parts c.args.store.now in
-    let os = objects_in old in
+    let os = objects_in (g.F.Frames.parts c.args.store.now) in
     let new = objects_in (g.F.Frames.parts c.change.new.store) in
     let caller = c.args.caller in
     let plan = c.args.plan in
@@ -96,13 +92,11 @@ answer-requires-clause-annex g c call is =
 
 pub returns-clause-objects : goal.returns-clause-objects
 returns-clause-objects g c =
-    let mid = objects_in (g.F.Frames.parts c.leave.new.store) in
     let caller = c.args.caller in
     let plan = c.args.plan in
     let listed = c.args.banks.now.listed in
-    c.answer.ensures.objects
-    ∙ ap (λ (us : List Object). answered caller.operation caller.process us plan.reply)
-    (c.change.ensures.objects ∙ ap (λ (k : ℕ). changed mid (drop k listed) plan.change) c.writer_count.ensures
+    c.answer.ensures.objects ∙ ap (λ (us : List Object). answered caller.operation caller.process us plan.reply)
+    (c.change.ensures.objects ∙ ap (λ (k : ℕ). changed (objects_in (g.F.Frames.parts c.leave.new.store)) (drop k listed) plan.change) c.writer_count.ensures
     ∙ ap (λ (us : List Object). changed us (drop (writer_count caller.operation) listed) plan.change) c.leave.ensures.objects)
 
 pub returns-clause-current : goal.returns-clause-current
@@ -112,24 +106,18 @@ pub returns-clause-counted : goal.returns-clause-counted
 returns-clause-counted g c =
     let us = objects_in (g.F.Frames.parts c.change.new.store) in
     let caller = c.args.caller in
-    let old = g.F.Frames.parts c.args.store.now in
     subst (λ (h : Geometry). AreCounted h (objects_in (g.F.Frames.parts c.answer.new.store)) c.change.new.banks) c.leave.ensures.snapshots.geometry
     (subst (λ (vs : List Object). AreCounted (g.F.Frames.parts c.leave.new.store).geometry vs c.change.new.banks) (sym c.answer.ensures.objects)
-    (counted_on (g.F.Frames.parts c.leave.new.store).geometry us _ c.change.new.banks (answered_frame caller.operation us caller.process c.args.plan.reply)
+    (counted_on (answered_frame caller.operation us caller.process c.args.plan.reply)
     c.change.ensures.counted))
 
 pub returns-clause-keepable : goal.returns-clause-keepable
 returns-clause-keepable g c age young fits k =
-    let old = g.F.Frames.parts c.args.store.now in
-    let mid = g.F.Frames.parts c.leave.new.store in
-    let then = g.F.Frames.parts c.change.new.store in
-    let new = g.F.Frames.parts c.answer.new.store in
     let first = c.leave.ensures.snapshots.geometry in
     let second = c.change.ensures.snapshots.geometry in
-    in_geometry old.geometry then.geometry (age + 1) (frames_of new) (sym (second ∙ first))
-    (c.answer.ensures.keepable (age + 1) (subst (λ (h : Geometry). FitsCap h c.args.plan.reply.capability) (sym (second ∙ first)) fits)
-    (in_geometry then.geometry mid.geometry (age + 1) (frames_of then) second
-    (c.change.ensures.keepable age young (in_geometry mid.geometry old.geometry age (frames_of mid) first (c.leave.ensures.keepable age k)))))
+    in_geometry (sym (second ∙ first))
+    (c.answer.ensures.keepable (age + 1) (subst (λ (h : Geometry). FitsCap h c.args.plan.reply.capability) (sym (second ∙ first)) fits) (in_geometry second
+    (c.change.ensures.keepable age young (in_geometry first (c.leave.ensures.keepable age k)))))
 
 pub returns-clause-beside : goal.returns-clause-beside
 returns-clause-beside g c =

@@ -22,11 +22,8 @@ returns-in-Bank-clause-objects g c = rw c.in-Bank.is c.carry_out.ensures.objects
 pub make-requires : goal.make-requires
 make-requires g c =
     let p = g.F.Frames.parts c.args.store.now in
-    let list = drop c.args.skip c.args.banks.now.listed in
     let x = c.args.change in
-    let edit : MayEdit p.geometry (objects_in p) list x = change_edit p.geometry (objects_in p) list x c.in_default.not-Bank c.requires.may in
-    let fetched = target_all (g.F.Frames.IsFetched c.args.store.now) (target_of x)
-    (subst (λ (ns : List ℕ). All (g.F.Frames.IsFetched c.args.store.now) ns) (edit_fetched x c.in_default.not-Bank) c.requires.fetched) in
+    let edit : MayEdit p.geometry (objects_in p) (drop c.args.skip c.args.banks.now.listed) x = change_edit _ _ _ x c.in_default.not-Bank c.requires.may in
     let announced = target_all (g.F.PresentFrames.IsAnnounced c.args.store.now) (target_of x)
     (subst (λ (ns : List ℕ). All (g.F.PresentFrames.IsAnnounced c.args.store.now) ns) edit.listed c.requires.announced) in
     record {
@@ -34,42 +31,23 @@ make-requires g c =
       process = edit.process;
       calls = λ n is. calls_below p c.requires.sound n (g.met.F.PresentFrames.known_announced c.args.store.now n (announced n is)).0;
       current = c.requires.sound.1.current;
-      fetched = fetched;
+      fetched = target_all (g.F.Frames.IsFetched c.args.store.now) (target_of x)
+          (subst (λ (ns : List ℕ). All (g.F.Frames.IsFetched c.args.store.now) ns) (edit_fetched x c.in_default.not-Bank) c.requires.fetched);
       announced = announced;
     }
 
-pub returns-in_default-clause-objects : goal.returns-in_default-clause-objects
-returns-in_default-clause-objects g c =
+pub returns-in_default : goal.returns-in_default
+returns-in_default g c =
     let p = g.F.Frames.parts c.args.store.now in
     let list = drop c.args.skip c.args.banks.now.listed in
-    let edit : MayEdit p.geometry (objects_in p) list c.args.change = change_edit p.geometry (objects_in p) list c.args.change c.in_default.not-Bank
-    c.requires.may in
-    c.make.ensures.objects ∙ changed_any (objects_in p) list c.args.change edit.within
-
-pub returns-in_default-clause-counted : goal.returns-in_default-clause-counted
-returns-in_default-clause-counted g c =
-    let p = g.F.Frames.parts c.args.store.now in
-    let list = drop c.args.skip c.args.banks.now.listed in
-    let edit : MayEdit p.geometry (objects_in p) list c.args.change = change_edit p.geometry (objects_in p) list c.args.change c.in_default.not-Bank
-    c.requires.may in
-    subst (λ (us : List Object). AreCounted p.geometry us c.args.banks.now) (sym c.make.ensures.objects)
-    (counted_on p.geometry (objects_in p) _ c.args.banks.now (changed_frame (objects_in p) c.args.change edit.within edit.process) c.requires.counted)
-
-pub returns-in_default-clause-keepable : goal.returns-in_default-clause-keepable
-returns-in_default-clause-keepable g c age young k =
-    let p = g.F.Frames.parts c.args.store.now in
-    let list = drop c.args.skip c.args.banks.now.listed in
-    let edit : MayEdit p.geometry (objects_in p) list c.args.change = change_edit p.geometry (objects_in p) list c.args.change c.in_default.not-Bank
-    c.requires.may in
-    c.make.ensures.keepable age young edit.holds k
-
-pub returns-in_default-clause-snapshots : goal.returns-in_default-clause-snapshots
-returns-in_default-clause-snapshots g c =
-    let p = g.F.Frames.parts c.args.store.now in
-    let list = drop c.args.skip c.args.banks.now.listed in
-    let edit : MayEdit p.geometry (objects_in p) list c.args.change = change_edit p.geometry (objects_in p) list c.args.change c.in_default.not-Bank
-    c.requires.may in
+    let edit : MayEdit p.geometry (objects_in p) list c.args.change = change_edit _ _ _ c.args.change c.in_default.not-Bank c.requires.may in
     let frame = changed_frame (objects_in p) c.args.change edit.within edit.process in
-    snapshots_alone g.F.Frames.parts g.F.Frames.IsFetched g.F.PresentFrames.IsAnnounced g.F.Frames.ContinuesTo c.args.store.now c.make.new.store
-    c.make.ensures.snapshots
-    (λ n used. ap (λ (us : List Object). is_free (content_at us n)) c.make.ensures.objects ∙ (tests_at (objects_in p) _ frame n).free ∙ used)
+    record {
+      objects = c.make.ensures.objects ∙ changed_any (objects_in p) list c.args.change edit.within;
+      counted = subst (λ (us : List Object). AreCounted p.geometry us c.args.banks.now) (sym c.make.ensures.objects) (counted_on frame c.requires.counted);
+      current = c.make.ensures.current;
+      keepable = λ age young k. c.make.ensures.keepable age young edit.holds k;
+      snapshots = snapshots_alone g.F.Frames.parts g.F.Frames.IsFetched g.F.PresentFrames.IsAnnounced g.F.Frames.ContinuesTo c.args.store.now c.make.new.store
+          c.make.ensures.snapshots
+          (λ n used. ap (λ (us : List Object). is_free (content_at us n)) c.make.ensures.objects ∙ (tests_at (objects_in p) _ frame n).free ∙ used);
+    }

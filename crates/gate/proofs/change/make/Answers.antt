@@ -12,8 +12,7 @@ pub returns-in-Slot-clause-keepable : goal.returns-in-Slot-clause-keepable
 returns-in-Slot-clause-keepable g c age young held k =
     let old = g.F.Frames.parts c.args.store.now in
     let here = subst (MayHold old.geometry (objects_in old)) c.in-Slot.is held in
-    keepable_later old.geometry age (age + 1) (frames_of (g.F.Frames.parts c.set_slot.new.store)) (omega arith)
-    (c.set_slot.ensures.keepable age
+    keepable_later old.geometry age (age + 1) (frames_of (g.F.Frames.parts c.set_slot.new.store)) (omega arith) (c.set_slot.ensures.keepable age
     (fits_kept old.geometry age old k c.in-Slot.capability here.0, λ annex zeroth. absurd (node_is_no_annex old c.in-Slot.node here.1 annex)) k)
 
 pub returns-in-Register-clause-keepable : goal.returns-in-Register-clause-keepable
@@ -32,11 +31,8 @@ returns-in-RootWord-clause-keepable g c age young held k =
 
 pub returns-in-SetState-clause-keepable : goal.returns-in-SetState-clause-keepable
 returns-in-SetState-clause-keepable g c age young held k =
-    let old = g.F.Frames.parts c.args.store.now in
-    let mid = g.F.Frames.parts c.set_state.new.store in
-    in_geometry old.geometry mid.geometry (age + 1) (frames_of (g.F.Frames.parts c.consume.new.store)) (sym c.set_state.ensures.snapshots.geometry)
-    (c.consume.ensures.keepable age young
-    (in_geometry mid.geometry old.geometry age (frames_of mid) c.set_state.ensures.snapshots.geometry (c.set_state.ensures.keepable age tt k)))
+    in_geometry (sym c.set_state.ensures.snapshots.geometry) (c.consume.ensures.keepable age young
+    (in_geometry c.set_state.ensures.snapshots.geometry (c.set_state.ensures.keepable age tt k)))
 
 pub returns-in-Space-clause-keepable : goal.returns-in-Space-clause-keepable
 returns-in-Space-clause-keepable g c age young held k =

@@ -1,29 +1,30 @@
-use Rattle.gate.proofs.Names.{get_or, subst, sym, ap, ℕ, List, Object, Geometry, FitsCap, with_slots_from, frames_of, keeps_twice, objects_in, with_message}
-use Rattle.std.proofs.Common.{◌∙◌}
+use Rattle.gate.proofs.Names.{get_or, subst, sym, ap, ℕ, List, Object, Geometry, FitsCap, with_slots_from, keeps_twice, objects_in, with_message, refl, Message}
+use Rattle.gate.proofs.Names.{deliver, annex_at}
+use Rattle.std.proofs.Common.{◌∙◌, ◌≡◌}
 use Rattle.gate.proofs.Fits.{fits_kept, in_geometry}
-use Rattle.gate.proofs.Messages.{deliver_by_parts}
 use Rattle.gate.proofs.delivery.deliver.Goals as goal
+
+-- a message is delivered to the root, and then to the registers
+deliver_by_parts : (os : List Object) (p : ℕ) (m : Message) → deliver os p m ≡ with_slots_from (with_message os p m.words m.key) (annex_at os p) 28
+    m.capabilities
+unfolding deliver
+deliver_by_parts os p m = refl
 
 pub returns-clause-objects : goal.returns-clause-objects
 returns-clause-objects g c =
     let m = c.args.message in
     let before = objects_in (g.F.Frames.parts c.args.store.now) in
     let caps = m.capabilities in
-    c.set_last_slots.ensures.objects
-    ∙ ap (λ (os : List Object). with_slots_from os c.annex-annex.result 28 caps) c.set_message.ensures.objects
+    c.set_last_slots.ensures.objects ∙ ap (λ (os : List Object). with_slots_from os c.annex-annex.result 28 caps) c.set_message.ensures.objects
     ∙ ap (λ (annex : ℕ). with_slots_from (with_message before c.args.process m.words m.key) annex 28 caps) c.annex-annex.ensures
     ∙ sym (deliver_by_parts before c.args.process m)
 
 pub returns-clause-keepable : goal.returns-clause-keepable
 returns-clause-keepable g c = λ age fits keepable.
-    let F = g.F.Frames in
-    let old = F.parts c.args.store.now in
-    let mid = F.parts c.set_message.new.store in
+    let mid = g.F.Frames.parts c.set_message.new.store in
     let same = c.set_message.ensures.snapshots.geometry in
-    let now = in_geometry mid.geometry old.geometry age (frames_of mid) same (c.set_message.ensures.keepable age tt keepable) in
-    in_geometry old.geometry mid.geometry age (frames_of (F.parts c.set_last_slots.new.store)) (sym same)
-    (c.set_last_slots.ensures.keepable age
-    (λ k d within. fits_kept mid.geometry age mid now _
+    let now = in_geometry same (c.set_message.ensures.keepable age tt keepable) in
+    in_geometry (sym same) (c.set_last_slots.ensures.keepable age (λ k d within. fits_kept mid.geometry age mid now _
     (subst (λ (h : Geometry). FitsCap h (get_or c.args.message.capabilities k d)) (sym same) (fits k d within)))
     now)
 

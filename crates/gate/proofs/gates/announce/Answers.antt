@@ -19,8 +19,7 @@ returns-clause-announced g c =
 pub returns-clause-prepares : goal.returns-clause-prepares
 returns-clause-prepares g c =
     subst (λ (ns : List ℕ). Prepares g.F.Frames.parts g.F.Frames.ContinuesTo c.args.store.now c.prepare.new.self ns c.prepare.result)
-    (c.as_slice.ensures ∙ c.through-written.ensures)
-    (record {
+    (c.as_slice.ensures ∙ c.through-written.ensures) (record {
       touched = c.prepare.ensures.touched;
       within = c.prepare.ensures.within;
       headers = c.prepare.ensures.headers;

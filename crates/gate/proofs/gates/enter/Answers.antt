@@ -7,9 +7,8 @@ use Rattle.gate.proofs.gates.enter.Goals as goal
 
 pub deliver-requires-clause-process : goal.deliver-requires-clause-process
 deliver-requires-clause-process g c =
-    let old = objects_in (g.F.Frames.parts c.args.store.now) in
     ap (λ (os : List Object). is_process os c.args.gate.process) c.leave.ensures.objects
-    ∙ after_process old c.args.invocation.now c.requires.process c.args.gate.process ∙ c.requires.receiver
+    ∙ after_process (objects_in (g.F.Frames.parts c.args.store.now)) c.args.invocation.now c.requires.process c.args.gate.process ∙ c.requires.receiver
 
 pub deliver-requires-clause-annex_fetched : goal.deliver-requires-clause-annex_fetched
 deliver-requires-clause-annex_fetched g c =
@@ -32,24 +31,16 @@ consume-requires-clause-calls g c =
 
 pub returns-then-gate-clause-keepable : goal.returns-then-gate-clause-keepable
 returns-then-gate-clause-keepable g c age young fits k =
-    let old = g.F.Frames.parts c.args.store.now in
-    let mid = g.F.Frames.parts c.leave.new.store in
-    let now = g.F.Frames.parts c.deliver.new.store in
-    let first = in_geometry mid.geometry old.geometry age (frames_of mid) c.leave.ensures.snapshots.geometry (c.leave.ensures.keepable age k) in
-    let all = subst (λ (cs : List Capability). All (FitsCap mid.geometry) cs) (sym c.message-message.ensures.capabilities)
+    let first = in_geometry c.leave.ensures.snapshots.geometry (c.leave.ensures.keepable age k) in
+    let all = subst (λ (cs : List Capability). All (FitsCap (g.F.Frames.parts c.leave.new.store).geometry) cs) (sym c.message-message.ensures.capabilities)
     (rw c.leave.ensures.snapshots.geometry fits) in
-    let second = in_geometry now.geometry mid.geometry age (frames_of now) c.deliver.ensures.snapshots.geometry (c.deliver.ensures.keepable age all first) in
-    in_geometry old.geometry now.geometry (age + 1) (frames_of (g.F.Frames.parts c.consume.new.store))
-    (sym (c.deliver.ensures.snapshots.geometry ∙ c.leave.ensures.snapshots.geometry))
-    (c.consume.ensures.keepable age young second)
+    let second = in_geometry c.deliver.ensures.snapshots.geometry (c.deliver.ensures.keepable age all first) in
+    in_geometry (sym (c.deliver.ensures.snapshots.geometry ∙ c.leave.ensures.snapshots.geometry)) (c.consume.ensures.keepable age young second)
 
 pub returns-else-gate-clause-keepable : goal.returns-else-gate-clause-keepable
 returns-else-gate-clause-keepable g c age young fits k =
-    let old = g.F.Frames.parts c.args.store.now in
-    let mid = g.F.Frames.parts c.leave.new.store in
-    let now = g.F.Frames.parts c.deliver.new.store in
-    let first = in_geometry mid.geometry old.geometry age (frames_of mid) c.leave.ensures.snapshots.geometry (c.leave.ensures.keepable age k) in
-    let all = subst (λ (cs : List Capability). All (FitsCap mid.geometry) cs) (sym c.message-message.ensures.capabilities)
+    let first = in_geometry c.leave.ensures.snapshots.geometry (c.leave.ensures.keepable age k) in
+    let all = subst (λ (cs : List Capability). All (FitsCap (g.F.Frames.parts c.leave.new.store).geometry) cs) (sym c.message-message.ensures.capabilities)
     (rw c.leave.ensures.snapshots.geometry fits) in
-    keepable_later old.geometry age (age + 1) (frames_of now) (omega arith)
-    (in_geometry old.geometry mid.geometry age (frames_of now) (sym c.leave.ensures.snapshots.geometry) (c.deliver.ensures.keepable age all first))
+    keepable_later (g.F.Frames.parts c.args.store.now).geometry age (age + 1) (frames_of (g.F.Frames.parts c.deliver.new.store)) (omega arith)
+    (in_geometry (sym c.leave.ensures.snapshots.geometry) (c.deliver.ensures.keepable age all first))

@@ -14,136 +14,94 @@ look_at_process-requires-clause-keepable g c = keepable_most (g.F.Frames.parts c
 
 pub look_at_process-requires-clause-process : goal.look_at_process-requires-clause-process
 look_at_process-requires-clause-process g c =
-    let old = g.F.Frames.parts c.args.store.now in
-    gate_process old c.requires.sound c.args.invocation.now c.args.caller c.args.gate c.requires.requested c.requires.gate
+    gate_process (g.F.Frames.parts c.args.store.now) c.requires.sound c.args.gate c.requires.requested c.requires.gate
 
 pub look_at_process-requires-clause-annex : goal.look_at_process-requires-clause-annex
 look_at_process-requires-clause-annex g c =
-    let old = g.F.Frames.parts c.args.store.now in
-    annex_there old c.requires.sound c.args.gate.process
-    (gate_process old c.requires.sound c.args.invocation.now c.args.caller c.args.gate c.requires.requested c.requires.gate)
+    annex_there (g.F.Frames.parts c.args.store.now) c.requires.sound c.args.gate.process
+    (gate_process (g.F.Frames.parts c.args.store.now) c.requires.sound c.args.gate c.requires.requested c.requires.gate)
 
 pub can_enter-requires-clause-process : goal.can_enter-requires-clause-process
 can_enter-requires-clause-process g c =
-    let old = g.F.Frames.parts c.args.store.now in
-    let now = g.F.Frames.parts c.look_at_process.new.store in
-    let only_reads : ReadsAs old now = looked_as c.in_ok-annex.ensures.fetches.snapshots in
-    subst (λ (us : List Object). is_process us c.args.gate.process ≡ true) (sym (looked_objects old now only_reads))
-    (gate_process old c.requires.sound c.args.invocation.now c.args.caller c.args.gate c.requires.requested c.requires.gate)
+    subst (λ (us : List Object). is_process us c.args.gate.process ≡ true) (sym (looked_objects (looked_as c.in_ok-annex.ensures.fetches.snapshots)))
+    (gate_process (g.F.Frames.parts c.args.store.now) c.requires.sound c.args.gate c.requires.requested c.requires.gate)
 
-pub announce-requires-clause-receiver : goal.announce-requires-clause-receiver
-announce-requires-clause-receiver g c =
+pub announce-requires : goal.announce-requires
+announce-requires g c =
     let old = g.F.Frames.parts c.args.store.now in
-    let now = g.F.Frames.parts c.look_at_process.new.store in
-    let only_reads : ReadsAs old now = looked_as c.in_ok-annex.ensures.fetches.snapshots in
-    looked_number old now only_reads c.args.gate.process (process_known old c.args.gate.process
-    (gate_process old c.requires.sound c.args.invocation.now c.args.caller c.args.gate c.requires.requested c.requires.gate))
-
-pub announce-requires-clause-annex : goal.announce-requires-clause-annex
-announce-requires-clause-annex g c =
-    let old = g.F.Frames.parts c.args.store.now in
-    let now = g.F.Frames.parts c.look_at_process.new.store in
-    let only_reads : ReadsAs old now = looked_as c.in_ok-annex.ensures.fetches.snapshots in
-    looked_number old now only_reads c.in_ok-annex.annex (requested_annex old c.requires.sound c.args.gate.process c.in_ok-annex.annex
-    (gate_process old c.requires.sound c.args.invocation.now c.args.caller c.args.gate c.requires.requested c.requires.gate)
-    c.in_ok-annex.ensures.annex.0)
-
-pub announce-requires-clause-keepable : goal.announce-requires-clause-keepable
-announce-requires-clause-keepable g c =
-    let old = g.F.Frames.parts c.args.store.now in
-    let now = g.F.Frames.parts c.look_at_process.new.store in
-    let only_reads : ReadsAs old now = looked_as c.in_ok-annex.ensures.fetches.snapshots in
-    keepable_most now (looked_sound old now only_reads c.requires.sound)
-
-pub announce-requires-clause-process : goal.announce-requires-clause-process
-announce-requires-clause-process g c =
-    let old = g.F.Frames.parts c.args.store.now in
-    let now = g.F.Frames.parts c.look_at_process.new.store in
-    let only_reads : ReadsAs old now = looked_as c.in_ok-annex.ensures.fetches.snapshots in
-    looked_number old now only_reads c.args.invocation.now.process
-    (process_known old c.args.invocation.now.process (running_process (objects_in old) c.args.invocation.now.process c.requires.running))
+    let there : ReadsAs old (g.F.Frames.parts c.look_at_process.new.store) = looked_as c.in_ok-annex.ensures.fetches.snapshots in
+    let process = gate_process old c.requires.sound c.args.gate c.requires.requested c.requires.gate in
+    let i = c.args.invocation.now in
+    record {
+      keepable = keepable_most (g.F.Frames.parts c.look_at_process.new.store) (looked_sound there c.requires.sound);
+      process = looked_number there i.process (process_known old i.process (running_process (objects_in old) i.process c.requires.running));
+      receiver = looked_number there c.args.gate.process (process_known old c.args.gate.process process);
+      annex = looked_number there c.in_ok-annex.annex
+          (requested_annex old c.requires.sound c.args.gate.process c.in_ok-annex.annex process c.in_ok-annex.ensures.annex.0);
+    }
 
 pub enter-requires-clause-receiver : goal.enter-requires-clause-receiver
 enter-requires-clause-receiver g c =
-    let old = g.F.Frames.parts c.args.store.now in
-    let now = g.F.Frames.parts c.look_at_process.new.store in
-    let mid = g.F.Frames.parts c.announce.new.store in
-    let there : ReadsAs old mid = only_reads_again old now mid (looked_as c.in_ok-annex.ensures.fetches.snapshots)
-    (prepared_as c.in_ok-announce.ensures.prepares) in
-    subst (λ (us : List Object). is_process us c.args.gate.process ≡ true) (sym (looked_objects old mid there))
-    (gate_process old c.requires.sound c.args.invocation.now c.args.caller c.args.gate c.requires.requested c.requires.gate)
+    subst (λ (us : List Object). is_process us c.args.gate.process ≡ true)
+    (sym (looked_objects (only_reads_again (looked_as c.in_ok-annex.ensures.fetches.snapshots) (prepared_as c.in_ok-announce.ensures.prepares))))
+    (gate_process (g.F.Frames.parts c.args.store.now) c.requires.sound c.args.gate c.requires.requested c.requires.gate)
 
 pub enter-requires-clause-calls : goal.enter-requires-clause-calls
 enter-requires-clause-calls g c =
     let old = g.F.Frames.parts c.args.store.now in
-    let now = g.F.Frames.parts c.look_at_process.new.store in
-    let mid = g.F.Frames.parts c.announce.new.store in
-    let there : ReadsAs old mid = only_reads_again old now mid (looked_as c.in_ok-annex.ensures.fetches.snapshots)
+    let there : ReadsAs old (g.F.Frames.parts c.announce.new.store) = only_reads_again (looked_as c.in_ok-annex.ensures.fetches.snapshots)
     (prepared_as c.in_ok-announce.ensures.prepares) in
-    calls_below mid (looked_sound old mid there c.requires.sound) c.args.gate.process
-    (looked_number old mid there c.args.gate.process (process_known old c.args.gate.process
-    (gate_process old c.requires.sound c.args.invocation.now c.args.caller c.args.gate c.requires.requested c.requires.gate)))
+    calls_below (g.F.Frames.parts c.announce.new.store) (looked_sound there c.requires.sound) c.args.gate.process
+    (looked_number there c.args.gate.process (process_known old c.args.gate.process
+    (gate_process old c.requires.sound c.args.gate c.requires.requested c.requires.gate)))
 
 pub enter-requires-clause-current : goal.enter-requires-clause-current
 enter-requires-clause-current g c =
-    let old = g.F.Frames.parts c.args.store.now in
-    let now = g.F.Frames.parts c.look_at_process.new.store in
-    let mid = g.F.Frames.parts c.announce.new.store in
-    let there : ReadsAs old mid = only_reads_again old now mid (looked_as c.in_ok-annex.ensures.fetches.snapshots)
-    (prepared_as c.in_ok-announce.ensures.prepares) in
-    (looked_sound old mid there c.requires.sound).1.current
+    (looked_sound (only_reads_again (looked_as c.in_ok-annex.ensures.fetches.snapshots) (prepared_as c.in_ok-announce.ensures.prepares))
+    c.requires.sound).1.current
 
 pub returns-then-not-can_enter : goal.returns-then-not-can_enter
 returns-then-not-can_enter g c =
     let old = g.F.Frames.parts c.args.store.now in
-    let now = g.F.Frames.parts c.look_at_process.new.store in
-    let only_reads : ReadsAs old now = looked_as c.in_ok-annex.ensures.fetches.snapshots in
     let i = c.args.invocation.now in
-    found_stalled g.F.Frames.parts g.F.Frames.ContinuesTo i g.met.F.Frames.continues_twice c.args.store.now c.look_at_process.new.store
-    c.look_at_process.new.store c.in_ok-annex.annex c.in_ok-annex.ensures.fetches
+    found_stalled i g.met.F.Frames.continues_twice c.look_at_process.new.store c.in_ok-annex.ensures.fetches
     (gate_stalled old.geometry (objects_in old) i c.args.caller c.args.gate c.requires.requested c.requires.gate
     (sym (c.if-not-can_enter.ensures ∙ ap (λ (us : List Object). c.args.gate.is_resume || can_start us i c.args.gate.process)
-    (looked_objects old now only_reads))))
+    (looked_objects (looked_as c.in_ok-annex.ensures.fetches.snapshots)))))
 
 pub returns-in_err-announce : goal.returns-in_err-announce
 returns-in_err-announce g c =
     let old = g.F.Frames.parts c.args.store.now in
-    let now = g.F.Frames.parts c.look_at_process.new.store in
-    let only_reads : ReadsAs old now = looked_as c.in_ok-annex.ensures.fetches.snapshots in
     let i = c.args.invocation.now in
     let os = objects_in old in
     let can = sym (c.if-not-can_enter.ensures ∙ ap (λ (us : List Object). c.args.gate.is_resume || can_start us i c.args.gate.process)
-    (looked_objects old now only_reads)) in
+    (looked_objects (looked_as c.in_ok-annex.ensures.fetches.snapshots))) in
     let p = err_from_is_err_and c.from_residual-in_err-announce.result c.from_residual-in_err-announce.ensures.1 in
-    rw (p.1, p.2)
-    (unannounced g.F.Frames.parts g.F.Frames.ContinuesTo i g.met.F.Frames.continues_twice c.args.store.now c.look_at_process.new.store c.announce.new.store
-    c.in_ok-annex.annex c.in_ok-annex.ensures.fetches
+    rw (p.1, p.2) (unannounced i g.met.F.Frames.continues_twice c.announce.new.store c.in_ok-annex.ensures.fetches
     _ (effect_through os i c.args.gate) (gate_invoked old.geometry os i c.args.caller c.args.gate c.requires.requested c.requires.gate c.requires.key can)
     (ap (written_through i.operation i.process c.args.gate.process) c.in_ok-annex.ensures.annex.0) _ c.in_err-announce.ensures.prepares)
 
 pub returns : goal.returns
 returns g c =
     let old = g.F.Frames.parts c.args.store.now in
-    let now = g.F.Frames.parts c.look_at_process.new.store in
-    let only_reads : ReadsAs old now = looked_as c.in_ok-annex.ensures.fetches.snapshots in
+    let only_reads : ReadsAs old (g.F.Frames.parts c.look_at_process.new.store) = looked_as c.in_ok-annex.ensures.fetches.snapshots in
     let mid = g.F.Frames.parts c.announce.new.store in
-    let there : ReadsAs old mid = only_reads_again old now mid only_reads (prepared_as c.in_ok-announce.ensures.prepares) in
+    let there : ReadsAs old mid = only_reads_again only_reads (prepared_as c.in_ok-announce.ensures.prepares) in
     let i = c.args.invocation.now in
     let os = objects_in old in
     let can = sym (c.if-not-can_enter.ensures ∙ ap (λ (us : List Object). c.args.gate.is_resume || can_start us i c.args.gate.process)
-    (looked_objects old now only_reads)) in
+    (looked_objects only_reads)) in
     let invoked = gate_invoked old.geometry os i c.args.caller c.args.gate c.requires.requested c.requires.gate c.requires.key can in
     let effect = effect_through os i c.args.gate in
     let snapshots = c.enter.ensures.snapshots in
-    let objects = c.enter.ensures.objects ∙ ap (λ (us : List Object). entered us i c.args.gate c.all_sent-sent.result) (looked_objects old mid there)
+    let objects = c.enter.ensures.objects ∙ ap (λ (us : List Object). entered us i c.args.gate c.all_sent-sent.result) (looked_objects there)
     ∙ ap (λ (cs : List Capability). entered os i c.args.gate cs) c.all_sent-sent.ensures in
     let fits = subst (λ (h : Geometry). All (FitsCap h) (received i c.all_sent-sent.result)) (sym there.geometry)
     (received_fits old.geometry os i c.all_sent-sent.result (now_sound old c.requires.sound) (few_objects old c.requires.sound c.requires.few)
     (running_process os i.process c.requires.running) c.all_sent-sent.ensures) in
     let other = subst (λ (k : Capability). IsNoBankOrder k (slice_index i.words 0)) (sym c.requires.gate ∙ c.requires.requested.invoked)
     (gate_no_bank c.args.gate (slice_index i.words 0)) in
-    carried_out g.F.Frames.parts g.F.Frames.ContinuesTo i g.met.F.Frames.continues_twice c.args.store.now c.look_at_process.new.store c.enter.new.store
-    c.in_ok-annex.annex c.in_ok-annex.ensures.fetches
+    carried_out i g.met.F.Frames.continues_twice c.enter.new.store c.in_ok-annex.ensures.fetches
     _ effect invoked (ap (written_through i.operation i.process c.args.gate.process) c.in_ok-annex.ensures.annex.0) c.announce.new.store tt
     c.in_ok-announce.ensures.prepares
     snapshots.failures snapshots.touched snapshots.geometry snapshots.continues objects c.requires.fits c.requires.running c.enter.ensures.current

@@ -12,25 +12,21 @@ ask-requires-clause-keepable g c = keepable_most (g.F.Frames.parts c.args.store.
 pub returns-in-Some-clause-counted : goal.returns-in-Some-clause-counted
 returns-in-Some-clause-counted g c =
     let old = g.F.Frames.parts c.args.store.now in
-    let mid = g.F.Frames.parts c.ask.new.store in
     let new = g.F.Frames.parts c.invoke_gate.new.store in
-    let only_reads : ReadsAs old mid = looked_as c.in_ok-caller.ensures.fetches.snapshots in
+    let only_reads : ReadsAs old (g.F.Frames.parts c.ask.new.store) = looked_as c.in_ok-caller.ensures.fetches.snapshots in
     let i = c.args.invocation.now in
-    counted_after old mid new i c.args.banks.now c.requires.sound only_reads c.can_be_spelt.ensures
-    (subst (λ (us : List Object). is_running_process us i.process ≡ true) (looked_objects old mid only_reads)
-    (sym c.is_running.ensures ∙ c.if-not-is_running.false))
+    counted_after old (g.F.Frames.parts c.ask.new.store) new i c.args.banks.now c.requires.sound only_reads c.can_be_spelt.ensures
+    (subst (λ (us : List Object). is_running_process us i.process ≡ true) (looked_objects only_reads) (sym c.is_running.ensures ∙ c.if-not-is_running.false))
     (subst (λ (k : Capability). IsNoBankOrder k (slice_index i.words 0)) (sym c.in-Some.ensures.gate ∙ c.in_ok-caller.ensures.requested.invoked)
     (gate_no_bank c.in-Some.gate (slice_index i.words 0)))
     c.requires.counted c.invoke_gate.ensures.geometry c.invoke_gate.result c.invoke_gate.ensures.done c.invoke_gate.ensures.unchanged
 
 pub returns-in-Some-clause-invoked : goal.returns-in-Some-clause-invoked
 returns-in-Some-clause-invoked g c =
-    invoked_looked g.F.Frames.parts g.F.Frames.ContinuesTo c.args.invocation.now g.met.F.Frames.continues_twice c.args.store.now c.ask.new.store
-    c.invoke_gate.new.store c.in_ok-caller.caller c.in_ok-caller.ensures.fetches
-    c.invoke_gate.result c.invoke_gate.ensures
+    invoked_looked c.args.invocation.now g.met.F.Frames.continues_twice c.invoke_gate.new.store c.in_ok-caller.ensures.fetches c.invoke_gate.result
+    c.invoke_gate.ensures
 
 pub returns-in-None-clause-invoked : goal.returns-in-None-clause-invoked
 returns-in-None-clause-invoked g c =
-    invoked_looked g.F.Frames.parts g.F.Frames.ContinuesTo c.args.invocation.now g.met.F.Frames.continues_twice c.args.store.now c.ask.new.store
-    c.invoke_order.new.store c.in_ok-caller.caller c.in_ok-caller.ensures.fetches
-    c.invoke_order.result c.invoke_order.ensures.invoked
+    invoked_looked c.args.invocation.now g.met.F.Frames.continues_twice c.invoke_order.new.store c.in_ok-caller.ensures.fetches c.invoke_order.result
+    c.invoke_order.ensures.invoked

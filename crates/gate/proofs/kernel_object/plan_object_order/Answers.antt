@@ -15,12 +15,10 @@ look_at_named-requires-clause-kind g c =
 pub plan-plan-requires-clause-process : goal.plan-plan-requires-clause-process
 plan-plan-requires-clause-process g c p is =
     let old = g.F.Frames.parts c.args.store.now in
-    let now = g.F.Frames.parts c.look_at_named.new.store in
-    let only_reads : ReadsAs old now = looked_as c.in_ok-look_at_named.ensures.fetches.snapshots in
+    let only_reads : ReadsAs old (g.F.Frames.parts c.look_at_named.new.store) = looked_as c.in_ok-look_at_named.ensures.fetches.snapshots in
     let kind = register_kind old c.requires.sound c.args.invocation.now.process c.args.invocation.now.register c.args.caller.invoked
     c.requires.requested.invoked in
-    subst (λ (us : List Object). is_process us p ≡ true) (sym (looked_objects old now only_reads))
-    (process_there (objects_in old) c.args.caller.invoked kind p is)
+    subst (λ (us : List Object). is_process us p ≡ true) (sym (looked_objects only_reads)) (process_there (objects_in old) c.args.caller.invoked kind p is)
 
 pub returns-clause-planned : goal.returns-clause-planned
 returns-clause-planned g c =
@@ -29,7 +27,6 @@ returns-clause-planned g c =
     let only_reads : ReadsAs old now = looked_as c.in_ok-look_at_named.ensures.fetches.snapshots in
     object_planned old.geometry (objects_in old) (objects_in now) c.args.invocation.now c.args.caller c.plan-plan.result c.args.arguments
     c.args.banks.now.listed c.list_target.new.banks.listed
-    (looked_objects old now only_reads) (now_sound old c.requires.sound) (few_objects old c.requires.sound c.requires.few) c.requires.fits c.requires.requested
-    c.requires.arguments c.requires.listed
-    (ap (λ (s : BanksState). s.listed) c.list_target.ensures)
+    (looked_objects only_reads) (now_sound old c.requires.sound) (few_objects old c.requires.sound c.requires.few) c.requires.fits c.requires.requested
+    c.requires.arguments c.requires.listed (ap (λ (s : BanksState). s.listed) c.list_target.ensures)
     c.plan-plan.ensures.only (c.plan-plan.ensures.outcome old.geometry) (c.plan-plan.ensures.change old.geometry)

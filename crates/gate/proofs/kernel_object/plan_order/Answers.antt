@@ -1,5 +1,5 @@
-use Rattle.gate.proofs.Names.{ap, objects_in, BanksState}
-use Rattle.gate.proofs.BankStates.{bank_may_ask, counted_listed}
+use Rattle.gate.proofs.Names.{ap, objects_in, BanksState, counted_listed}
+use Rattle.gate.proofs.BankStates.{bank_may_ask}
 use Rattle.gate.proofs.Plans.{bank_planned}
 use Rattle.gate.proofs.Standing.{now_sound}
 use Rattle.gate.proofs.kernel_object.plan_order.Goals as goal
@@ -8,7 +8,7 @@ pub plan-requires-clause-asks : goal.plan-requires-clause-asks
 plan-requires-clause-asks g c =
     let p = g.F.Frames.parts c.args.store.now in
     bank_may_ask p c.list_writers.new.self c.args.invocation.now c.args.caller c.in-Some.bank c.order_arguments-arguments.result c.requires.sound
-    (counted_listed p.geometry (objects_in p) c.args.banks.now c.list_writers.new.self _ c.list_writers.ensures c.requires.counted)
+    (counted_listed c.list_writers.ensures c.requires.counted)
     c.requires.fits c.requires.requested c.order_arguments-arguments.ensures c.in-Some.ensures.bank
 
 pub returns-in-Some-clause-planned : goal.returns-in-Some-clause-planned

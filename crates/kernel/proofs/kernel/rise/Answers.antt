@@ -14,6 +14,5 @@ returns-in-Ok-clause-reopened g c h saved leaves =
 
 pub returns-in-Err-clause-reopened : goal.returns-in-Err-clause-reopened
 returns-in-Err-clause-reopened g c h saved leaves =
-    rw (c.refusal.ensures.why, c.requires.down)
-    (stays_down g.D.Device.disk g.S.ObjectStore.view g.S.Frames.parts c.args.opened
+    rw (c.refusal.ensures.why, c.requires.down) (stays_down g.D.Device.disk g.S.ObjectStore.view g.S.Frames.parts c.args.opened
     (g.met.D.Device.seen_left _) h saved leaves c.in-Err.refused.fault c.in-Err.refused.device c.in-Err.ensures.refused)

@@ -1,23 +1,13 @@
-use Rattle.migrator.proofs.Names.{refl, sym, subst, arith, Image, agrees_is, Packed, sectors_from, shaped_at, begins}
+use Rattle.migrator.proofs.Names.{refl, sym, subst, Image, agrees_is, Packed, sectors_from, shaped_at, begins}
 use Rattle.std.proofs.Common.{◌≡◌, ◌∙◌, ◌-◌}
 use Rattle.migrator.proofs.Completing.{filled, filled_on}
 use Rattle.migrator.proofs.Gathering.{packed_end, zeros_at}
 use Rattle.migrator.proofs.cluster_buffer.fill.Goals as goal
 
-pub gather-requires-clause-shape : goal.gather-requires-clause-shape
-gather-requires-clause-shape g c = (begins c.args.plan.now c.args.entry.object c.args.rank c.requires.plan c.requires.object c.requires.shape).first
-
 pub pack_node-requires-clause-end : goal.pack_node-requires-clause-end
 pack_node-requires-clause-end g c =
-    packed_end (sectors_from (g.D.Device.disk c.read_packed.new.device).seen c.slot_sector.result 8) c.read_packed.new.node (Packed c.args.rank) c.args.rank
+    packed_end (sectors_from (g.D.Device.disk c.read_packed.new.device).seen c.slot_sector.result 8)
     refl (sym c.in_ok-read_packed.ensures.found) c.read_packed.ensures.length
-
-pub blank_rest-requires-clause-object : goal.blank_rest-requires-clause-object
-blank_rest-requires-clause-object g c = rw c.new-home.ensures (omega (arith, c.requires.object))
-
-pub blank_rest-requires-clause-shape : goal.blank_rest-requires-clause-shape
-blank_rest-requires-clause-shape g c = rw c.new-home.ensures
-    (begins c.args.plan.now c.args.entry.object c.args.rank c.requires.plan c.requires.object c.requires.shape).first
 
 pub returns-clause-filled : goal.returns-clause-filled
 returns-clause-filled g c =
@@ -27,15 +17,20 @@ returns-clause-filled g c =
     c.in_ok-read_packed.ensures.found in
     let there = rw (c.slot_sector.ensures.value, c.new-log.ensures) at read in
     let start = begins c.args.plan.now c.args.entry.object c.args.rank c.requires.plan c.requires.object c.requires.shape in
-    rw c.copy_from_slice.ensures.after
-    (filled_on (g.D.Device.disk c.args.device.now).seen c.args.plan.now c.args.generation (c.args.entry.object - c.args.rank) c.args.entry
-    c.pack_node.new.cluster c.blank_rest.new.cluster start.home c.requires.object
+    rw c.copy_from_slice.ensures.after (filled_on (c.args.entry.object - c.args.rank) start.home c.requires.object
     (rw c.new-home.ensures at c.blank_rest.ensures.frames)
-    (filled (g.D.Device.disk c.args.device.now).seen c.args.plan.now c.args.generation c.args.rank c.args.entry c.read_packed.new.node c.gather.new.cluster
+    (filled (g.D.Device.disk c.args.device.now).seen c.args.generation c.args.rank c.args.entry c.read_packed.new.node c.gather.new.cluster
     c.pack_node.new.cluster
     c.requires.plan c.requires.object c.requires.shape c.in_ok-gather.ensures.gathered there c.pack_node.ensures.packed c.pack_node.ensures.others))
 
 pub returns-clause-zeros : goal.returns-clause-zeros
 returns-clause-zeros g c =
     rw c.copy_from_slice.ensures.after
-    (zeros_at c.args.plan.now c.args.entry.object c.args.rank c.blank_rest.new.cluster c.requires.shape (rw c.new-home.ensures at c.blank_rest.ensures.rest))
+    (zeros_at c.args.entry.object c.blank_rest.new.cluster c.requires.shape (rw c.new-home.ensures at c.blank_rest.ensures.rest))
+
+pub gather-requires-clause-shape : goal.gather-requires-clause-shape
+gather-requires-clause-shape g c = (begins c.args.plan.now c.args.entry.object c.args.rank c.requires.plan c.requires.object c.requires.shape).first
+
+pub blank_rest-requires-clause-shape : goal.blank_rest-requires-clause-shape
+blank_rest-requires-clause-shape g c = rw c.new-home.ensures
+    (begins c.args.plan.now c.args.entry.object c.args.rank c.requires.plan c.requires.object c.requires.shape).first

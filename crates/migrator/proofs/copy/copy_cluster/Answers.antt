@@ -1,13 +1,7 @@
-use Rattle.migrator.proofs.Names.{rules, zeros_home}
+use Rattle.migrator.proofs.Names.{rules}
 use Rattle.std.proofs.Common.{◌≡◌}
 use Rattle.migrator.proofs.Gathering.{copied_blank, counts_on, cluster_touched}
 use Rattle.migrator.proofs.copy.copy_cluster.Goals as goal
-
-pub blank_rest-requires-clause-object : goal.blank_rest-requires-clause-object
-blank_rest-requires-clause-object g c = rw c.new-home.ensures c.requires.object
-
-pub blank_rest-requires-clause-shape : goal.blank_rest-requires-clause-shape
-blank_rest-requires-clause-shape g c = rw c.new-home.ensures c.requires.shape
 
 pub returns-clause-copied : goal.returns-clause-copied
 returns-clause-copied g c =
@@ -16,19 +10,10 @@ returns-clause-copied g c =
     c.gather.new.cluster c.blank_rest.new.cluster c.in_ok-gather.ensures.gathered (rw c.new-home.ensures at c.blank_rest.ensures.frames)
     (rw c.new-home.ensures at c.write_frame.ensures.written)
 
-pub returns-clause-zeros : goal.returns-clause-zeros
-returns-clause-zeros g c =
-    zeros_home c.write_frame.result c.args.plan.now c.args.first (g.D.Device.disk c.write_frame.new.device).seen c.blank_rest.new.cluster c.requires.shape
-    (rw c.new-home.ensures at c.write_frame.ensures.bytes) (rw c.new-home.ensures at c.blank_rest.ensures.rest)
-
 pub returns-clause-touches : goal.returns-clause-touches
-returns-clause-touches g c =
-    cluster_touched (g.D.Device.disk c.args.device.now) (g.D.Device.disk c.gather.new.device) (g.D.Device.disk c.write_frame.new.device) c.args.plan.now
-    c.new-home.result c.args.first c.new-home.ensures c.requires.shape
-    c.gather.ensures.reads c.write_frame.ensures.writes
+returns-clause-touches g c = cluster_touched c.args.first c.new-home.ensures c.requires.shape c.gather.ensures.reads c.write_frame.ensures.writes
 
 pub returns-clause-cause : goal.returns-clause-cause
 returns-clause-cause g c =
     let same : (g.D.Device.disk c.gather.new.device).failures ≡ (g.D.Device.disk c.args.device.now).failures = search rules in
-    counts_on (g.D.Device.disk c.args.device.now) (g.D.Device.disk c.gather.new.device) (g.D.Device.disk c.write_frame.new.device) c.write_frame.result same
-    c.write_frame.ensures.cause
+    counts_on same c.write_frame.ensures.cause

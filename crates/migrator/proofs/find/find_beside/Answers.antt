@@ -6,7 +6,7 @@ use Rattle.migrator.proofs.find.find_beside.Goals.{else-at-entries-via-then-at-e
 
 pub returns-in_default : goal.returns-in_default
 returns-in_default c =
-    sym (alone_beside c.args.plan.now c.args.entries.now c.args.number c.shape.ensures.plan c.requires.directory c.requires.object
+    sym (alone_beside c.shape.ensures.plan c.requires.directory c.requires.object
     (own_of (shape_of c.args.plan.now c.args.number) (λ rank is. c.in_default.not-Packed rank (c.shape.ensures.value ∙ is))) c.requires.none)
 
 pub returns-then-place : goal.returns-then-place

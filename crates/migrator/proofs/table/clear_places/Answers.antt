@@ -10,7 +10,7 @@ unreachable-requires c =
 
 pub loop-preserved : goal.loop-preserved
 loop-preserved c =
-    let less = one_less c.loop.places c.in-Some.number (rw c.loop.invariant.held at c.in-Some.ensures.some) in
+    let less = one_less c.loop.places (rw c.loop.invariant.held at c.in-Some.ensures.some) in
     record {
       held = rw (c.set.ensures, c.loop.invariant.held) (sym (map-set is_held c.loop.places c.in-Some.number Nowhere));
       count = omega (arith, less);

@@ -6,5 +6,4 @@ pub returns-clause-yes : goal.returns-clause-yes
 returns-clause-yes c tested =
     let there = rw c.new-home.ensures at c.place.ensures.value in
     let before = rw c.new-home.ensures at c.place-2.ensures.value in
-    first_of c.args.plan.now c.args.entries.now c.args.index (rw c.new-home.ensures at c.place.ensures.plan) c.requires.directory c.requires.within
-    (λ some same. not_same c.place.result c.place-2.result tested (there ∙ same ∙ sym before))
+    first_of (rw c.new-home.ensures at c.place.ensures.plan) c.requires.directory c.requires.within (λ some same. not_same tested (there ∙ same ∙ sym before))

@@ -1,6 +1,6 @@
 use Rattle.object_cache.proofs.Names.{[], Some, ap, sym, length-append}
 use Rattle.std.proofs.Common.{◌∷◌, ◌+◌, ◌∙◌}
-use Rattle.object_cache.proofs.Emptying.{one_copied}
+use Rattle.object_cache.proofs.Objects.{one_copied}
 use Rattle.object_cache.proofs.all_objects.copy_bodies.Goals as goal
 
 pub loop-number-preserved : goal.loop-number-preserved

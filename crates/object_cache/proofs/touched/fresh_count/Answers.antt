@@ -2,8 +2,7 @@ use Rattle.std.proofs.Common.{arith, sym, ◌∙◌}
 use Rattle.object_cache.proofs.Marking.{touched_count_new, touched_count_listed, touched_count_marked}
 use Rattle.object_cache.proofs.touched.fresh_count.Goals as goal
 use Rattle.object_cache.proofs.touched.fresh_count.Goals.{then-not-contains+then-not-contains-2, else-not-contains}
-use Rattle.object_cache.proofs.touched.fresh_count.Goals.{else-not-contains-via-then-not-contains+else-not-contains-2}
-use Rattle.object_cache.proofs.touched.fresh_count.Goals.{else-not-contains-via-else-not-contains}
+use Rattle.object_cache.proofs.touched.fresh_count.Goals.{else-not-contains-via-then-not-contains+else-not-contains-2, else-not-contains-via-else-not-contains}
 
 pub loop-i-preserved : goal.loop-i-preserved
 loop-i-preserved c =

@@ -11,27 +11,27 @@ pub returns-then-is_skipped-clause-reads : goal.returns-then-is_skipped-clause-r
 returns-then-is_skipped-clause-reads c = λ d fits spelt. let skipped : IsSkipped c.args.line.now = grind arith in absurd
     (spelling_said d fits (subst IsSkipped spelt skipped))
 
-pub returns-in-Some-short_invocation-clause-says : goal.returns-in-Some-short_invocation-clause-says
-returns-in-Some-short_invocation-clause-says c = (
-  c.in-Some-short_invocation.ensures.0,
-  spelling_from_words c.args.line.now (command.Invoke c.in-Some-short_invocation.invocation)
-      c.in-Some-short_invocation.ensures.1,
-)
-
-pub returns-in-Some-short_invocation-clause-reads : goal.returns-in-Some-short_invocation-clause-reads
-returns-in-Some-short_invocation-clause-reads c = λ d fits spelt.
-    ap (λ e. line.Command e)
-    (one_spelling c.args.line.now (command.Invoke c.in-Some-short_invocation.invocation) d c.in-Some-short_invocation.ensures.0 fits
-    c.in-Some-short_invocation.ensures.1 spelt)
-
 pub returns-in-Some-clause-says : goal.returns-in-Some-clause-says
-returns-in-Some-clause-says c =
-    (c.in-Some.ensures.0, spelling_from_words c.args.line.now c.in-Some.command c.in-Some.ensures.1)
+returns-in-Some-clause-says c = (
+  c.in-Some.ensures.0,
+  spelling_from_words c.args.line.now (command.Invoke c.in-Some.invocation)
+      c.in-Some.ensures.1,
+)
 
 pub returns-in-Some-clause-reads : goal.returns-in-Some-clause-reads
 returns-in-Some-clause-reads c = λ d fits spelt.
     ap (λ e. line.Command e)
-    (one_spelling c.args.line.now c.in-Some.command d c.in-Some.ensures.0 fits c.in-Some.ensures.1 spelt)
+    (one_spelling c.args.line.now (command.Invoke c.in-Some.invocation) d c.in-Some.ensures.0 fits
+    c.in-Some.ensures.1 spelt)
+
+pub returns-in-Some-load_or_store-clause-says : goal.returns-in-Some-load_or_store-clause-says
+returns-in-Some-load_or_store-clause-says c =
+    (c.in-Some-load_or_store.ensures.0, spelling_from_words c.args.line.now c.in-Some-load_or_store.command c.in-Some-load_or_store.ensures.1)
+
+pub returns-in-Some-load_or_store-clause-reads : goal.returns-in-Some-load_or_store-clause-reads
+returns-in-Some-load_or_store-clause-reads c = λ d fits spelt.
+    ap (λ e. line.Command e)
+    (one_spelling c.args.line.now c.in-Some-load_or_store.command d c.in-Some-load_or_store.ensures.0 fits c.in-Some-load_or_store.ensures.1 spelt)
 
 pub returns-in-Some-command_in-clause-says : goal.returns-in-Some-command_in-clause-says
 returns-in-Some-command_in-clause-says c =

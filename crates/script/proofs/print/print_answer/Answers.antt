@@ -8,10 +8,7 @@ use Rattle.script.proofs.print.print_answer.Goals as goal
 -- the numbers of the enum are those that are printed
 fault_number_is : (f : MemoryFault) → tag_of the_type f + 1 ≡ fault_number f
 fault_number_is fault.NoSpace = refl
-fault_number_is fault.Beyond = refl
-fault_number_is fault.Hole = refl
-fault_number_is fault.Malformed = refl
-fault_number_is fault.ReadOnly = refl
+fault_number_is other = refl
 
 pub returns-in-MemoryFault : goal.returns-in-MemoryFault
 unfolding printed

@@ -1,5 +1,7 @@
 use Rattle.space_bank.proofs.Names.{arith, only_reads_twice}
-use Rattle.space_bank.proofs.Counts.{never_failed, numbers_more}
+use Rattle.std.proofs.Common.{◌∙◌}
+use Rattle.space_bank.proofs.Counts.{numbers_more}
+use Rattle.space_bank.proofs.Renewing.{unrisen}
 use Rattle.space_bank.proofs.counting.read_numbers.Goals as goal
 
 pub loop-number-preserved : goal.loop-number-preserved
@@ -13,8 +15,8 @@ loop-number-preserved g c =
           inv.snapshots.headers inv.snapshots.contents ok.kept inv.kept c.push_reserved.ensures.items;
       size = omega (arith, inv.size, c.push_reserved.ensures.len);
       room = omega (arith, inv.room, c.push_reserved.ensures.capacity);
-      failures = never_failed (parts c.args.store.now).failures (parts c.loop-number.store).failures (parts c.read_number.new.store).failures inv.failures
-          ok.later (λ more. let wrong = ok.cause.1 more in cc);
+      failures = unrisen (parts c.loop-number.store).failures (parts c.read_number.new.store).failures ok.later (λ more. let wrong = ok.cause.1 more in cc)
+          ∙ inv.failures;
       snapshots = only_reads_twice parts g.F.Frames.ContinuesTo g.met.F.Frames.continues_twice c.args.store.now c.loop-number.store c.read_number.new.store
           inv.snapshots ok.snapshots;
     }

@@ -15,12 +15,10 @@ loop-passed-preserved g c =
     let os = objects_in (g.F.Frames.parts c.args.store.now) in
     omega (
       arith,
-      ap length
-          (chain_next os c.loop-passed.passed c.loop-passed.current c.owner-current.result c.loop-passed-test.true c.if-current-eq0.false
+      ap length (chain_next os c.loop-passed.passed c.loop-passed.current c.owner-current.result c.loop-passed-test.true c.if-current-eq0.false
           c.owner-current.ensures),
     )
 
 pub returns : goal.returns
 returns g c =
-    let os = objects_in (g.F.Frames.parts c.args.store.now) in
-    omega (arith, ap length (chain_past os c.loop-passed.passed c.loop-passed.current c.loop-passed-test.false))
+    omega (arith, ap length (chain_past (objects_in (g.F.Frames.parts c.args.store.now)) c.loop-passed.passed c.loop-passed.current c.loop-passed-test.false))

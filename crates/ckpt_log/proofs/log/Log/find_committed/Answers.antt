@@ -11,8 +11,7 @@ returns-in_err-read_directory-clause-refused g c =
     let first = agrees_is (g.D.Device.disk c.find_header.new.device).seen (g.D.Device.disk c.args.device.now).seen c.in_ok-header.ensures.reads.seen in
     let second = agrees_is (g.D.Device.disk c.read_directory.new.device).seen (g.D.Device.disk c.find_header.new.device).seen
     c.in_err-read_directory.ensures.reads.seen in
-    rw (p.1, p.2) (bad_directory (g.D.Device.disk c.args.device.now).seen (g.D.Device.disk c.read_directory.new.device).seen c.args.self.now h _ _
-    (second ∙ first)
+    rw (p.1, p.2) (bad_directory _ (second ∙ first)
     (length-take-le h.entries c.args.directory.now (omega (arith, has.fits.entries, c.requires.room))) has c.in_err-read_directory.ensures.refused)
 
 pub returns-clause-found : goal.returns-clause-found
@@ -22,7 +21,6 @@ returns-clause-found g c =
     let first = agrees_is (g.D.Device.disk c.find_header.new.device).seen (g.D.Device.disk c.args.device.now).seen c.in_ok-header.ensures.reads.seen in
     let second = agrees_is (g.D.Device.disk c.read_directory.new.device).seen (g.D.Device.disk c.find_header.new.device).seen
     c.in_ok-read_directory.ensures.reads.seen in
-    has_committed (g.D.Device.disk c.args.device.now).seen (g.D.Device.disk c.read_directory.new.device).seen c.args.self.now h _ c.read_directory.new.into _
-    (second ∙ first)
+    has_committed _ (second ∙ first)
     (length-take-le h.entries c.args.directory.now (omega (arith, has.fits.entries, c.requires.room))) c.read_directory.auto.into has
     c.in_ok-read_directory.ensures.found.0 c.in_ok-read_directory.ensures.found.1

@@ -4,36 +4,18 @@ use Rattle.ckpt_log.proofs.Runs.{sync_run, commit_run, sync_order, commit_order,
 use Rattle.ckpt_log.proofs.Sectors.{on_ok}
 use Rattle.ckpt_log.proofs.log.Log.publish.Goals as goal
 
-pub returns-in_err-sync-clause-elsewhere : goal.returns-in_err-sync-clause-elsewhere
-returns-in_err-sync-clause-elsewhere g c =
-    elsewhere_same (header_sector c.args.header) 2 (g.D.Device.disk c.args.device.now).seen (g.D.Device.disk c.sync.new.self).seen c.sync.ensures.seen
-
 pub returns-in_err-sync-clause-any_moment : goal.returns-in_err-sync-clause-any_moment
-returns-in_err-sync-clause-any_moment g c =
-    sync_run c.args.header c.requires.one (g.met.D.Device.only_now c.args.device.now) c.sync.ensures.time c.sync.ensures.crash
+returns-in_err-sync-clause-any_moment g c = sync_run c.requires.one (g.met.D.Device.only_now c.args.device.now) c.sync.ensures.time c.sync.ensures.crash
 
 pub returns-in_err-sync-clause-in_order : goal.returns-in_err-sync-clause-in_order
 returns-in_err-sync-clause-in_order g c =
     sync_order c.args.header (g.met.D.Device.only_now c.args.device.now) c.sync.ensures.time c.sync.ensures.crash
 
-pub prepare-requires-clause-next : goal.prepare-requires-clause-next
-prepare-requires-clause-next g c =
-    subst (λ (image : Image). Precedes image c.args.header)
-    (sym (agrees_is (g.D.Device.disk c.sync.new.self).seen (g.D.Device.disk c.args.device.now).seen c.sync.ensures.seen)) c.requires.next
-
-pub returns-in_err-prepare-clause-elsewhere : goal.returns-in_err-prepare-clause-elsewhere
-returns-in_err-prepare-clause-elsewhere g c =
-    let old = (g.D.Device.disk c.args.device.now).seen in
-    let mid = (g.D.Device.disk c.sync.new.self).seen in
-    elsewhere_on (header_sector c.args.header) 2 old mid (g.D.Device.disk c.prepare.new.device).seen
-    (elsewhere_same (header_sector c.args.header) 2 old mid c.sync.ensures.seen) c.prepare.ensures.keeps.elsewhere
-
 pub returns-in_err-prepare-clause-any_moment : goal.returns-in_err-prepare-clause-any_moment
 returns-in_err-prepare-clause-any_moment g c =
-    let first = sync_run c.args.header c.requires.one (g.met.D.Device.only_now c.args.device.now) c.sync.ensures.time c.sync.ensures.crash in
-    commit_run c.args.header (g.met.D.Device.seen_left c.args.device.now) c.sync.ensures.seen first
-    (preparing_run c.args.header (g.D.Device.disk c.sync.new.self).seen {old = g.D.Device.disk c.sync.new.self} {new = g.D.Device.disk c.prepare.new.device}
-    c.prepare.ensures.any_moment)
+    let first = sync_run c.requires.one (g.met.D.Device.only_now c.args.device.now) c.sync.ensures.time c.sync.ensures.crash in
+    commit_run (g.met.D.Device.seen_left c.args.device.now) c.sync.ensures.seen first
+    (preparing_run {old = g.D.Device.disk c.sync.new.self} {new = g.D.Device.disk c.prepare.new.device} c.prepare.ensures.any_moment)
 
 pub returns-in_err-prepare-clause-in_order : goal.returns-in_err-prepare-clause-in_order
 returns-in_err-prepare-clause-in_order g c =
@@ -45,16 +27,15 @@ open_gate-requires-clause-next g c =
     let mid = (g.D.Device.disk c.sync.new.self).seen in
     let next = subst (λ (image : Image). Precedes image c.args.header) (sym (agrees_is mid (g.D.Device.disk c.args.device.now).seen c.sync.ensures.seen))
     c.requires.next in
-    precedes_on c.args.header mid (g.D.Device.disk c.prepare.new.device).seen next c.prepare.ensures.keeps
+    precedes_on next c.prepare.ensures.keeps
 
 pub returns-clause-committed : goal.returns-clause-committed
 returns-clause-committed g c =
     let mid = (g.D.Device.disk c.sync.new.self).seen in
     let new = (g.D.Device.disk c.open_gate.new.device).seen in
     let same = agrees_is mid (g.D.Device.disk c.args.device.now).seen c.sync.ensures.seen in
-    on_ok c.open_gate.result
-    (λ has. subst (λ (image : Image). HasNew c.args.header image new) same
-    (new_on c.args.header mid (g.D.Device.disk c.prepare.new.device).seen new c.prepare.ensures.keeps has)) c.open_gate.ensures.committed
+    on_ok c.open_gate.result (λ has. subst (λ (image : Image). HasNew c.args.header image new) same
+    (new_on c.prepare.ensures.keeps has)) c.open_gate.ensures.committed
 
 pub returns-clause-elsewhere : goal.returns-clause-elsewhere
 returns-clause-elsewhere g c =
@@ -62,17 +43,14 @@ returns-clause-elsewhere g c =
     let mid = (g.D.Device.disk c.sync.new.self).seen in
     let new = (g.D.Device.disk c.open_gate.new.device).seen in
     elsewhere_on (header_sector c.args.header) 2 old mid new (elsewhere_same (header_sector c.args.header) 2 old mid c.sync.ensures.seen)
-    (either_elsewhere c.args.header mid new
-    (either_on c.args.header mid (g.D.Device.disk c.prepare.new.device).seen new c.prepare.ensures.keeps c.open_gate.ensures.seen))
+    (either_elsewhere (either_on c.prepare.ensures.keeps c.open_gate.ensures.seen))
 
 pub returns-clause-any_moment : goal.returns-clause-any_moment
 returns-clause-any_moment g c =
     let mid = (g.D.Device.disk c.sync.new.self).seen in
-    let first = sync_run c.args.header c.requires.one (g.met.D.Device.only_now c.args.device.now) c.sync.ensures.time c.sync.ensures.crash in
-    commit_run c.args.header (g.met.D.Device.seen_left c.args.device.now) c.sync.ensures.seen first
-    (publishing_run c.args.header mid
-    (g.D.Device.disk c.prepare.new.device).seen {old = g.D.Device.disk c.sync.new.self} {mid = g.D.Device.disk c.prepare.new.device} {new = g.D.Device.disk
-    c.open_gate.new.device}
+    let first = sync_run c.requires.one (g.met.D.Device.only_now c.args.device.now) c.sync.ensures.time c.sync.ensures.crash in
+    commit_run (g.met.D.Device.seen_left c.args.device.now) c.sync.ensures.seen first
+    (publishing_run {old = g.D.Device.disk c.sync.new.self} {mid = g.D.Device.disk c.prepare.new.device} {new = g.D.Device.disk c.open_gate.new.device}
     c.prepare.ensures.keeps c.prepare.ensures.any_moment c.open_gate.ensures.any_moment)
 
 pub returns-clause-in_order : goal.returns-clause-in_order

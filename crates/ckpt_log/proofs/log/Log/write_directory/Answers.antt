@@ -12,13 +12,11 @@ returns-then-is_empty-clause-written g c =
 pub returns-then-is_empty-clause-rest : goal.returns-then-is_empty-clause-rest
 returns-then-is_empty-clause-rest g c =
     let none : length c.args.entries.now ≡ 0 = search rules in
-    none_behind (g.D.Device.disk c.args.device.now).seen (directory_sector c.args.self.now c.args.generation) (length c.args.entries.now) none
+    none_behind (g.D.Device.disk c.args.device.now).seen (directory_sector c.args.self.now c.args.generation) none
 
 pub returns-clause-rest : goal.returns-clause-rest
 returns-clause-rest g c =
     let few : length c.args.entries.now ≤ 4096 = search rules in
     on_ok c.write_sectors.result
-    (λ written. zeros_behind (g.D.Device.disk c.write_sectors.new.device).seen (directory_sector c.args.self.now c.args.generation) (length c.args.entries.now)
-    c.put_entries.new.into few
-    (rw c.directory_sector-at.ensures.value at written) c.put_entries.ensures.rest)
-    c.write_sectors.ensures.written
+    (λ written. zeros_behind (g.D.Device.disk c.write_sectors.new.device).seen (directory_sector c.args.self.now c.args.generation) few
+    (rw c.directory_sector-at.ensures.value at written) c.put_entries.ensures.rest) c.write_sectors.ensures.written

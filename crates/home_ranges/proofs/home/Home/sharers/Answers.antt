@@ -3,18 +3,13 @@ use Rattle.home_ranges.proofs.home.Home.sharers.Goals as goal
 
 pub returns-in-Packed-clause-all : goal.returns-in-Packed-clause-all
 returns-in-Packed-clause-all c =
-    cluster_reported c.self.inside.superblock.now c.args.self.now c.args.number c.in-Packed.rank c.min.result c.in-Some.range
-    c.self.view_is c.range_with.ensures.fits c.requires.object c.in-Some.ensures.value c.in-Packed.ensures.value c.min.ensures
+    cluster_reported c.self.view_is c.range_with.ensures.fits c.requires.object c.in-Some.ensures.value c.in-Packed.ensures.value c.min.ensures
 
 pub returns-in-Node-clause-all : goal.returns-in-Node-clause-all
-returns-in-Node-clause-all c = own_reported c.self.inside.superblock.now c.args.self.now c.args.number _ c.self.view_is c.range_with.ensures.fits
-    c.requires.object tt c.in-Node.ensures.value
+returns-in-Node-clause-all c = own_reported c.self.view_is c.range_with.ensures.fits c.requires.object tt c.in-Node.ensures.value
 
 pub returns-in-Page-clause-all : goal.returns-in-Page-clause-all
-returns-in-Page-clause-all c = own_reported c.self.inside.superblock.now c.args.self.now c.args.number _ c.self.view_is c.range_with.ensures.fits
-    c.requires.object tt c.in-Page.ensures.value
+returns-in-Page-clause-all c = own_reported c.self.view_is c.range_with.ensures.fits c.requires.object tt c.in-Page.ensures.value
 
 pub returns-in-None-clause-all : goal.returns-in-None-clause-all
-returns-in-None-clause-all c =
-    absurd (no_range_reported c.self.inside.superblock.now c.args.self.now c.args.number c.self.view_is c.range_with.ensures.fits c.requires.object
-    c.in-None.ensures.value)
+returns-in-None-clause-all c = absurd (no_range_reported c.self.view_is c.range_with.ensures.fits c.requires.object c.in-None.ensures.value)

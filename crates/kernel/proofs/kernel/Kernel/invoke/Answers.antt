@@ -4,13 +4,13 @@ use Rattle.model.specs.declared.answer.Answer.TheVariants as answer
 use Rattle.model.specs.declared.answer.Refusal.TheVariants as refusal
 use Rattle.model.specs.declared.command.Command.TheVariants as command
 use Rattle.kernel.specs.Power as power
-use Rattle.kernel.proofs.Codes.{refused_code}
+use Rattle.kernel.proofs.Machines.{refused_code}
 use Rattle.kernel.proofs.Machines.{requested_up, goes_down, some_after, some_up, stays_up}
 use Rattle.kernel.proofs.kernel.Kernel.invoke.Goals as goal
 
 pub invoke-requires : goal.invoke-requires
 invoke-requires g c =
-    requested_up g.D.Device.disk g.S.ObjectStore.view g.S.Frames.parts c.self.inside.live c.self.inside.device c.in-Some.live c.in-Some.is c.self.invariant
+    requested_up _ _ _ c.self.inside.live c.self.inside.device c.in-Some.live c.in-Some.is c.self.invariant
 
 pub invariant_of-self : goal.invariant_of-self
 invariant_of-self g c =
@@ -24,8 +24,7 @@ invariant_of-self g c =
 
 pub returns-in-Ok-clause-serves : goal.returns-in-Ok-clause-serves
 returns-in-Ok-clause-serves g c =
-    rw (← c.self.view_is, c.in-Some.is)
-    (stays_up g.D.Device.disk g.S.ObjectStore.view g.S.Frames.parts c.in-Some.live c.invoke.new.live (command.Invoke c.args.invocation.now) answer.Done
+    rw (← c.self.view_is, c.in-Some.is) (stays_up _ _ _ c.in-Some.live c.invoke.new.live (command.Invoke c.args.invocation.now) answer.Done
     (λ e. cc) c.in-Ok.ensures.serves)
 
 pub invariant_of-self-in-Fault : goal.invariant_of-self-in-Fault
@@ -39,8 +38,7 @@ invariant_of-self-in-Fault g c =
     rw c.take_device-device.ensures.down
     (some_after disk view parts (power.Up c.in-Some.live) (power.Down c.take_device-device.result) did (answer.Refused refusal.Fault)
     (goes_down disk view parts c.in-Some.live c.invoke.new.live did c.take_device-device.result (g.met.D.Device.counts_now _) serves
-    c.take_device-device.ensures.is)
-    (some_up disk view parts c.self.inside.live c.self.inside.device c.in-Some.live c.in-Some.is c.self.invariant))
+    c.take_device-device.ensures.is) (some_up disk view parts c.self.inside.live c.self.inside.device c.in-Some.live c.in-Some.is c.self.invariant))
 
 pub returns-in-Fault-clause-serves : goal.returns-in-Fault-clause-serves
 returns-in-Fault-clause-serves g c =
@@ -71,11 +69,8 @@ returns-in_default g c =
     let disk = g.D.Device.disk in
     let view = g.S.ObjectStore.view in
     let parts = g.S.Frames.parts in
-    let did = command.Invoke c.args.invocation.now in
-    let told = answer.Refused (refusal_by c.in-Err.why) in
-    rw (c.from-in_default.ensures, c.refusal_by.ensures, ← c.self.view_is, c.in-Some.is)
-    (record {
-      serves = stays_up disk view parts c.in-Some.live c.invoke.new.live did told
+    rw (c.from-in_default.ensures, c.refusal_by.ensures, ← c.self.view_is, c.in-Some.is) (record {
+      serves = stays_up disk view parts c.in-Some.live c.invoke.new.live (command.Invoke c.args.invocation.now) (answer.Refused (refusal_by c.in-Err.why))
           (λ e. let is : refusal_by c.in-Err.why ≡ refusal.Fault = cc in c.in_default.not-Fault (c.refusal_by.ensures ∙ is)) c.in-Err.ensures.serves;
       untouched = c.in-Err.ensures.untouched;
       cause = c.in-Err.ensures.cause;

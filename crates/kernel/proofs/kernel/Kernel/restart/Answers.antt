@@ -21,8 +21,7 @@ returns-clause-cause g c =
 
 pub invariant_of-self : goal.invariant_of-self
 invariant_of-self g c =
-    risen_some g.D.Device.disk g.S.ObjectStore.view g.S.Frames.parts
-    (power_of c.rise.new.live c.rise.new.device) c.take_device-device.result c.rise.result
+    risen_some g.D.Device.disk g.S.ObjectStore.view g.S.Frames.parts (power_of c.rise.new.live c.rise.new.device) c.take_device-device.result c.rise.result
     (some_down g.D.Device.disk g.S.ObjectStore.view g.S.Frames.parts c.args.self.now c.take_device-device.result
     (rw (← c.self.view_is) c.self.invariant) (rw (← c.self.view_is) c.take_device-device.ensures.is))
     c.rise.ensures.reopened

@@ -4,13 +4,11 @@ use Rattle.kernel.proofs.kernel.Kernel.step_with_code.Goals as goal
 
 pub returns-in-Invoke-clause-memory : goal.returns-in-Invoke-clause-memory
 returns-in-Invoke-clause-memory g c =
-    rw c.in-Invoke.is
-    (memory_taken g.D.Device.disk g.S.ObjectStore.view g.S.Frames.parts c.args.self.now c.invoke.new.self (command.Invoke c.in-Invoke.invocation)
+    rw c.in-Invoke.is (memory_taken _ _ _ c.args.self.now c.invoke.new.self (command.Invoke c.in-Invoke.invocation)
     c.invoke.result.answer
     c.invoke.ensures.serves (rw (← c.self.view_is) c.self.invariant))
 
 pub returns-in_default-clause-memory : goal.returns-in_default-clause-memory
 returns-in_default-clause-memory g c =
-    rw c.from-in_default.ensures
-    (memory_taken g.D.Device.disk g.S.ObjectStore.view g.S.Frames.parts c.args.self.now c.go_on.new.self c.args.command.now c.go_on.result
+    rw c.from-in_default.ensures (memory_taken _ _ _ c.args.self.now c.go_on.new.self c.args.command.now c.go_on.result
     c.go_on.ensures.serves (rw (← c.self.view_is) c.self.invariant))

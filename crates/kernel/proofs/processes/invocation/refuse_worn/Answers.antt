@@ -8,30 +8,23 @@ use Rattle.kernel.proofs.processes.invocation.refuse_worn.Goals as goal
 
 pub returns-in-Some-clause-serves : goal.returns-in-Some-clause-serves
 returns-in-Some-clause-serves g c =
-    let F = g.F.Frames in
-    let old = F.parts c.args.store.now in
+    let old = g.F.Frames.parts c.args.store.now in
     let i = c.args.invocation.now in
     let early = subst (IsEarly (objects_in old) i.process) c.in-Some.is c.in-Ok.ensures.why in
-    refused_serves c.args.age old (F.parts c.early.new.store) (command.Invoke i) (refusal_by c.in-Some.fault)
-    (looked_same F.parts F.ContinuesTo c.args.store.now c.early.new.store c.early.ensures.snapshots) c.requires.sound c.early.ensures.later
+    refused_serves (looked_same c.early.ensures.snapshots) c.requires.sound c.early.ensures.later
     (reported_cause (refusal_by c.in-Some.fault) (early_fine (objects_in old) i.process c.in-Some.fault early) (ok_stayed c.in-Ok.why c.in-Ok.ensures.cause))
     (λ renewed frozen saved to_move other. early_step old.geometry _ i c.in-Some.fault early)
 
 pub returns-in-None-clause-serves : goal.returns-in-None-clause-serves
 returns-in-None-clause-serves g c =
-    let F = g.F.Frames in
-    let old = F.parts c.args.store.now in
+    let old = g.F.Frames.parts c.args.store.now in
     let i = c.args.invocation.now in
     let runs = subst (IsEarly (objects_in old) i.process) c.in-None.is c.in-Ok.ensures.why in
-    refused_serves c.args.age old (F.parts c.early.new.store) (command.Invoke i) refusal.Worn
-    (looked_same F.parts F.ContinuesTo c.args.store.now c.early.new.store c.early.ensures.snapshots) c.requires.sound c.early.ensures.later
+    refused_serves (looked_same c.early.ensures.snapshots) c.requires.sound c.early.ensures.later
     (reported_cause refusal.Worn (λ e. cc) (ok_stayed c.in-Ok.why c.in-Ok.ensures.cause))
     (λ renewed frozen saved to_move other. worn_step old.geometry _ i runs.0 runs.1 c.requires.worn)
 
 pub returns-in-Err-clause-serves : goal.returns-in-Err-clause-serves
 returns-in-Err-clause-serves g c =
-    let F = g.F.Frames in
-    let rose = c.in-Err.ensures.cause.0 refl in
-    refused_serves c.args.age (F.parts c.args.store.now) (F.parts c.early.new.store) (command.Invoke c.args.invocation.now) refusal.Fault
-    (looked_same F.parts F.ContinuesTo c.args.store.now c.early.new.store c.early.ensures.snapshots) c.requires.sound c.early.ensures.later
-    (λ e. rose, λ r. refl) (λ renewed frozen saved to_move other. absurd (other refl))
+    refused_serves (looked_same c.early.ensures.snapshots) c.requires.sound c.early.ensures.later
+    (λ e. (c.in-Err.ensures.cause.0 refl), λ r. refl) (λ renewed frozen saved to_move other. absurd (other refl))

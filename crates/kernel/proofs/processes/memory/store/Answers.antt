@@ -1,5 +1,5 @@
-use Rattle.kernel.proofs.Names.{Ok, Err, subst, ReadsAs, looked_as, objects_in, IsEarly}
-use Rattle.kernel.proofs.Counted.{looked_counted, stored_counted}
+use Rattle.kernel.proofs.Names.{Ok, Err, subst, counted_looked, looked_as, objects_in, IsEarly}
+use Rattle.kernel.proofs.MemoryServing.{stored_counted}
 use Rattle.kernel.proofs.Performing.{ok_stayed}
 use Rattle.kernel.proofs.ProcessSteps.{early_none}
 use Rattle.kernel.proofs.MemoryServing.{early_store, store_answers, store_full}
@@ -7,18 +7,15 @@ use Rattle.kernel.proofs.processes.memory.store.Goals as goal
 
 pub returns-in-Some-clause-serves : goal.returns-in-Some-clause-serves
 returns-in-Some-clause-serves g c =
-    rw c.refusal_by.ensures
-    (early_store g.F.Frames.parts g.F.Frames.ContinuesTo c.args.age c.args.store.now c.early.new.store c.args.process c.args.address c.in-Some.why
-    c.requires
-    (subst (IsEarly (objects_in (g.F.Frames.parts c.args.store.now)) c.args.process) c.in-Some.is c.in_ok-why.ensures.why)
+    rw c.refusal_by.ensures (early_store c.args.process c.args.address c.in-Some.why
+    c.requires (subst (IsEarly (objects_in (g.F.Frames.parts c.args.store.now)) c.args.process) c.in-Some.is c.in_ok-why.ensures.why)
     c.early.ensures.snapshots c.early.ensures.later (ok_stayed c.in_ok-why.field-0 c.in_ok-why.ensures.cause) c.args.word)
 
 pub returns-in-Ok-Ok-clause-serves : goal.returns-in-Ok-Ok-clause-serves
 returns-in-Ok-Ok-clause-serves g c =
     let said = c.in-Ok-Ok.ensures in
-    store_answers g.F.Frames.parts g.F.Frames.ContinuesTo c.args.age c.args.store.now c.early.new.store c.store.new.frames c.args.process c.args.address
-    c.requires
-    (early_none (objects_in (g.F.Frames.parts c.args.store.now)) c.args.process c.in_ok-why.field-0 c.in_default.not-Some c.in_ok-why.ensures.why)
+    store_answers c.store.new.frames c.args.process c.args.address
+    c.requires (early_none (objects_in (g.F.Frames.parts c.args.store.now)) c.args.process c.in_ok-why.field-0 c.in_default.not-Some c.in_ok-why.ensures.why)
     c.early.ensures.snapshots c.early.ensures.later (ok_stayed c.in_ok-why.field-0 c.in_ok-why.ensures.cause) c.args.word said.writes.geometry
     said.writes.headers said.writes.later
     c.in-Ok-Ok.field-0 (Ok tt) c.in-Ok-Ok.field-0-is said.stored said.writes.sound said.writes.cause
@@ -26,9 +23,8 @@ returns-in-Ok-Ok-clause-serves g c =
 pub returns-in-Ok-Err-clause-serves : goal.returns-in-Ok-Err-clause-serves
 returns-in-Ok-Err-clause-serves g c =
     let said = c.in-Ok-Err.ensures in
-    store_answers g.F.Frames.parts g.F.Frames.ContinuesTo c.args.age c.args.store.now c.early.new.store c.store.new.frames c.args.process c.args.address
-    c.requires
-    (early_none (objects_in (g.F.Frames.parts c.args.store.now)) c.args.process c.in_ok-why.field-0 c.in_default.not-Some c.in_ok-why.ensures.why)
+    store_answers c.store.new.frames c.args.process c.args.address
+    c.requires (early_none (objects_in (g.F.Frames.parts c.args.store.now)) c.args.process c.in_ok-why.field-0 c.in_default.not-Some c.in_ok-why.ensures.why)
     c.early.ensures.snapshots c.early.ensures.later (ok_stayed c.in_ok-why.field-0 c.in_ok-why.ensures.cause) c.args.word said.writes.geometry
     said.writes.headers said.writes.later
     c.in-Ok-Err.field-0 (Err c.in-Ok-Err.fault) c.in-Ok-Err.field-0-is said.stored said.writes.sound said.writes.cause
@@ -36,40 +32,24 @@ returns-in-Ok-Err-clause-serves g c =
 pub returns-in-Err-LogFull-clause-serves : goal.returns-in-Err-LogFull-clause-serves
 returns-in-Err-LogFull-clause-serves g c =
     let said = c.in-Err-LogFull.ensures in
-    store_full g.F.Frames.parts g.F.Frames.ContinuesTo c.args.age c.args.store.now c.early.new.store c.store.new.frames c.args.process c.args.address
-    c.requires
-    (early_none (objects_in (g.F.Frames.parts c.args.store.now)) c.args.process c.in_ok-why.field-0 c.in_default.not-Some c.in_ok-why.ensures.why)
+    store_full c.store.new.frames c.args.process c.args.address
+    c.requires (early_none (objects_in (g.F.Frames.parts c.args.store.now)) c.args.process c.in_ok-why.field-0 c.in_default.not-Some c.in_ok-why.ensures.why)
     c.early.ensures.snapshots c.early.ensures.later (ok_stayed c.in_ok-why.field-0 c.in_ok-why.ensures.cause) c.args.word said.writes.geometry
     said.writes.headers said.writes.later
     c.in-Err-LogFull.field-0 c.in-Err-LogFull.field-0-is said.writes.unchanged said.writes.cause said.full
 
 pub returns-in-Some-clause-counted : goal.returns-in-Some-clause-counted
-returns-in-Some-clause-counted g c banks counted =
-    let old = g.F.Frames.parts c.args.store.now in
-    let mid = g.F.Frames.parts c.early.new.store in
-    let snapshots = c.early.ensures.snapshots in
-    let only_reads : ReadsAs old mid = looked_as snapshots in
-    let here = looked_counted old mid banks only_reads counted in
-    here
+returns-in-Some-clause-counted g c banks counted = counted_looked (looked_as c.early.ensures.snapshots) counted
 
 pub returns-in-Ok-Ok-clause-counted : goal.returns-in-Ok-Ok-clause-counted
 returns-in-Ok-Ok-clause-counted g c banks counted =
-    let old = g.F.Frames.parts c.args.store.now in
-    let mid = g.F.Frames.parts c.early.new.store in
-    let snapshots = c.early.ensures.snapshots in
-    let only_reads : ReadsAs old mid = looked_as snapshots in
-    let here = looked_counted old mid banks only_reads counted in
     let said = c.in-Ok-Ok.ensures in
-    stored_counted mid (g.F.Frames.parts c.store.new.frames) banks c.args.process c.args.address c.args.word c.in-Ok-Ok.field-0 said.writes.geometry said.stored
-    here
+    stored_counted (g.F.Frames.parts c.early.new.store) (g.F.Frames.parts c.store.new.frames) banks c.args.process c.args.address c.args.word c.in-Ok-Ok.field-0
+    said.writes.geometry said.stored (counted_looked (looked_as c.early.ensures.snapshots) counted)
 
 pub returns-in-Ok-Err-clause-counted : goal.returns-in-Ok-Err-clause-counted
 returns-in-Ok-Err-clause-counted g c banks counted =
-    let old = g.F.Frames.parts c.args.store.now in
-    let mid = g.F.Frames.parts c.early.new.store in
-    let snapshots = c.early.ensures.snapshots in
-    let only_reads : ReadsAs old mid = looked_as snapshots in
-    let here = looked_counted old mid banks only_reads counted in
     let said = c.in-Ok-Err.ensures in
-    stored_counted mid (g.F.Frames.parts c.store.new.frames) banks c.args.process c.args.address c.args.word c.in-Ok-Err.field-0 said.writes.geometry
-    said.stored here
+    stored_counted (g.F.Frames.parts c.early.new.store) (g.F.Frames.parts c.store.new.frames) banks c.args.process c.args.address c.args.word
+    c.in-Ok-Err.field-0
+    said.writes.geometry said.stored (counted_looked (looked_as c.early.ensures.snapshots) counted)

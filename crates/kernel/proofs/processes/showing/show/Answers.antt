@@ -29,8 +29,7 @@ returns-in-Ok-clause-serves g c =
 
 pub returns-in-Ok-clause-reported_once : goal.returns-in-Ok-clause-reported_once
 returns-in-Ok-clause-reported_once g c =
-    let old = g.F.Frames.parts c.args.store.now in
-    shown_fine (objects_in old) c.args.number c.in-Ok.answer c.in-Ok.ensures.answer
+    shown_fine (objects_in (g.F.Frames.parts c.args.store.now)) c.args.number c.in-Ok.answer c.in-Ok.ensures.answer
 
 pub returns-in-Err-NoMemory-clause-serves : goal.returns-in-Err-NoMemory-clause-serves
 returns-in-Err-NoMemory-clause-serves g c =

@@ -1,4 +1,4 @@
-use Rattle.migrator.proofs.Names.{ℕ, List, ap, sym, subst, IsFrameOf, frame_from, most, Nowhere, Torn, Whole, seen_by, working_generation}
+use Rattle.migrator.proofs.Names.{ℕ, List, ap, sym, subst, IsFrameOf, frame_from, most, seen_by}
 use Rattle.std.proofs.Common.{◌∙◌}
 use Rattle.migrator.proofs.Buffered.{working_again}
 use Rattle.migrator.proofs.Fetching.{newest_by, ok_weaker, whole_low}
@@ -7,17 +7,14 @@ use Rattle.migrator.proofs.books.Books.fetch.Goals as goal
 pub read_put-requires-clause-slot : goal.read_put-requires-clause-slot
 read_put-requires-clause-slot g c =
     let b = c.args.self.now in
-    whole_low (seen_by (g.D.Device.disk c.args.device.now).seen b) b.plan (working_generation b) b.working c.args.number c.in-Whole.slot c.place.result
-    c.requires.stands.kept.working c.place.ensures c.in-Whole.is
+    whole_low c.args.number c.requires.stands.kept.working c.place.ensures c.in-Whole.is
 
 pub read_put-requires-clause-spelt : goal.read_put-requires-clause-spelt
 read_put-requires-clause-spelt g c =
     let disk = g.D.Device.disk c.args.device.now in
     let b = c.args.self.now in
-    let low = whole_low (seen_by disk.seen b) b.plan (working_generation b) b.working c.args.number c.in-Whole.slot c.place.result
-    c.requires.stands.kept.working c.place.ensures c.in-Whole.is in
-    let raw = working_again disk.sectors disk.seen b disk.seen b.unwritten c.requires.stands.kept c.requires.stands.unwritten c.in-Whole.slot c.args.number low
-    in
+    let low = whole_low c.args.number c.requires.stands.kept.working c.place.ensures c.in-Whole.is in
+    let raw = working_again disk.sectors disk.seen b disk.seen b.unwritten c.requires.stands.kept c.requires.stands.unwritten c.args.number low in
     rw c.working_generation-generation.ensures
     (subst (λ (bytes : List ℕ). IsFrameOf b.plan.geometry most c.args.number bytes (frame_from b.plan.geometry c.args.number bytes)) raw
     (c.requires.stands.kept.working.spelt c.args.number c.in-Whole.slot c.requires.object (sym c.place.ensures ∙ c.in-Whole.is)))
@@ -26,30 +23,21 @@ pub returns-in-Whole-clause-found : goal.returns-in-Whole-clause-found
 returns-in-Whole-clause-found g c =
     let disk = g.D.Device.disk c.args.device.now in
     let b = c.args.self.now in
-    let low = whole_low (seen_by disk.seen b) b.plan (working_generation b) b.working c.args.number c.in-Whole.slot c.place.result
-    c.requires.stands.kept.working c.place.ensures c.in-Whole.is in
-    let raw = working_again disk.sectors disk.seen b disk.seen b.unwritten c.requires.stands.kept c.requires.stands.unwritten c.in-Whole.slot c.args.number low
-    in
-    ok_weaker c.read_put.result
-    (λ read e. e ∙ ap (frame_from b.plan.geometry c.args.number) (sym raw) ∙ newest_by (seen_by disk.seen b) b c.args.number (Whole c.in-Whole.slot)
-    c.requires.object (sym c.place.ensures ∙ c.in-Whole.is))
-    (rw c.working_generation-generation.ensures at c.read_put.ensures.found)
+    let low = whole_low c.args.number c.requires.stands.kept.working c.place.ensures c.in-Whole.is in
+    let raw = working_again disk.sectors disk.seen b disk.seen b.unwritten c.requires.stands.kept c.requires.stands.unwritten c.args.number low in
+    ok_weaker c.read_put.result (λ read e. e ∙ ap (frame_from b.plan.geometry c.args.number) (sym raw) ∙ newest_by (seen_by disk.seen b) b
+    c.requires.object (sym c.place.ensures ∙ c.in-Whole.is)) (rw c.working_generation-generation.ensures at c.read_put.ensures.found)
 
 pub returns-in-Torn-clause-found : goal.returns-in-Torn-clause-found
 returns-in-Torn-clause-found g c =
     let disk = g.D.Device.disk c.args.device.now in
     let b = c.args.self.now in
-    ok_weaker c.fetch_below.result
-    (λ read e. e ∙ newest_by (seen_by disk.seen b) b c.args.number (Torn c.in-Torn.field-0) c.requires.object (sym c.place.ensures ∙ c.in-Torn.is))
+    ok_weaker c.fetch_below.result (λ read e. e ∙ newest_by (seen_by disk.seen b) b c.requires.object (sym c.place.ensures ∙ c.in-Torn.is))
     c.fetch_below.ensures.found
 
 pub returns-in-Nowhere-clause-found : goal.returns-in-Nowhere-clause-found
 returns-in-Nowhere-clause-found g c =
     let disk = g.D.Device.disk c.args.device.now in
     let b = c.args.self.now in
-    ok_weaker c.fetch_below-in-Nowhere.result
-    (λ read e. e ∙ newest_by (seen_by disk.seen b) b c.args.number Nowhere c.requires.object (sym c.place.ensures ∙ c.in-Nowhere.is))
+    ok_weaker c.fetch_below-in-Nowhere.result (λ read e. e ∙ newest_by (seen_by disk.seen b) b c.requires.object (sym c.place.ensures ∙ c.in-Nowhere.is))
     c.fetch_below-in-Nowhere.ensures.found
-
-pub working_generation-generation-requires : goal.working_generation-generation-requires
-working_generation-generation-requires g c = c.requires.stands.kept.header

@@ -4,38 +4,37 @@ use Rattle.migrator.proofs.Moves.{moved_on}
 use Rattle.migrator.proofs.Saving.{on_err}
 use Rattle.migrator.proofs.books.Books.move_next.Goals as goal
 
-pub copy_home-requires-clause-entry : goal.copy_home-requires-clause-entry
-copy_home-requires-clause-entry g c =
-    let b = c.args.self.now in
-    rw c.as_slice-entries.ensures
-    (own_slot b.directory b.moved c.requires.stands.kept.directory.rising (omega (arith, c.requires.some, c.requires.stands.kept.count)))
-
 pub returns-then-not-is_first-clause-stands : goal.returns-then-not-is_first-clause-stands
 returns-then-not-is_first-clause-stands g c =
     let follows = rw c.as_slice-entries.ensures at (c.is_first.ensures.no c.if-not-is_first.true) in
-    passed_durable (g.D.Device.disk c.args.device.now) (g.D.Device.disk c.args.device.now) c.args.self.now c.requires.stands c.requires.some follows.0 follows.1
+    passed_durable (g.D.Device.disk c.args.device.now) c.requires.stands c.requires.some follows.0 follows.1
 
 pub returns-then-not-is_first-clause-moved : goal.returns-then-not-is_first-clause-moved
-returns-then-not-is_first-clause-moved g c = moved_on (g.D.Device.disk c.args.device.now) c.args.self.now (g.met.D.Device.only_now c.args.device.now)
+returns-then-not-is_first-clause-moved g c = moved_on (g.met.D.Device.only_now c.args.device.now)
 
 pub returns-in_err-copy_home-clause-stands : goal.returns-in_err-copy_home-clause-stands
 returns-in_err-copy_home-clause-stands g c =
-    uncopied_durable (g.D.Device.disk c.args.device.now) (g.D.Device.disk c.copy_home.new.device) c.args.self.now c.requires.stands c.requires.some
+    uncopied_durable (g.D.Device.disk c.copy_home.new.device) c.requires.stands c.requires.some
     (rw c.as_slice-entries.ensures at (c.is_first.ensures.yes c.if-not-is_first.false)) (rw c.as_slice-entries.ensures at c.copy_home.ensures.touches)
 
 pub returns-in_err-copy_home-clause-unmoved : goal.returns-in_err-copy_home-clause-unmoved
 returns-in_err-copy_home-clause-unmoved g c =
-    on_err c.from_residual.result
-    (uncopied_moved (g.D.Device.disk c.args.device.now) (g.D.Device.disk c.copy_home.new.device) c.args.self.now c.requires.stands c.requires.some
+    on_err c.from_residual.result (uncopied_moved (g.D.Device.disk c.copy_home.new.device) c.requires.stands c.requires.some
     (rw c.as_slice-entries.ensures at (c.is_first.ensures.yes c.if-not-is_first.false)) (rw c.as_slice-entries.ensures at c.copy_home.ensures.touches))
 
 pub returns-clause-stands : goal.returns-clause-stands
 returns-clause-stands g c =
-    copied_durable (g.D.Device.disk c.args.device.now) (g.D.Device.disk c.copy_home.new.device) c.args.self.now c.requires.stands c.requires.some
+    copied_durable (g.D.Device.disk c.copy_home.new.device) c.requires.stands c.requires.some
     (rw c.as_slice-entries.ensures at (c.is_first.ensures.yes c.if-not-is_first.false)) (rw c.as_slice-entries.ensures at c.copy_home.ensures.touches)
     (rw c.as_slice-entries.ensures at c.in_ok-copy_home.ensures.copied)
 
 pub returns-clause-moved : goal.returns-clause-moved
 returns-clause-moved g c =
-    copied_moved (g.D.Device.disk c.args.device.now) (g.D.Device.disk c.copy_home.new.device) c.args.self.now c.requires.stands c.requires.some
+    copied_moved (g.D.Device.disk c.copy_home.new.device) c.requires.stands c.requires.some
     (rw c.as_slice-entries.ensures at (c.is_first.ensures.yes c.if-not-is_first.false)) (rw c.as_slice-entries.ensures at c.copy_home.ensures.touches)
+
+pub copy_home-requires-clause-entry : goal.copy_home-requires-clause-entry
+copy_home-requires-clause-entry g c =
+    let b = c.args.self.now in
+    rw c.as_slice-entries.ensures
+    (own_slot b.directory b.moved c.requires.stands.kept.directory.rising (omega (arith, c.requires.some, c.requires.stands.kept.count)))

@@ -7,32 +7,23 @@ use Rattle.migrator.proofs.books.Books.move_some.Goals as goal
 pub loop-init : goal.loop-init
 loop-init g c = (
   c.requires.stands,
-  moved_none (g.D.Device.disk c.args.device.now) c.args.self.now (g.met.D.Device.only_now c.args.device.now)
-      (omega (arith, c.requires.some)),
+  moved_none (g.met.D.Device.only_now c.args.device.now) (omega (arith, c.requires.some)),
   refl,
   λ none. (refl, refl),
 )
 
-pub move_next-requires-clause-stands : goal.move_next-requires-clause-stands
-move_next-requires-clause-stands g c = c.loop.invariant.0
-
 pub move_next-requires-clause-some : goal.move_next-requires-clause-some
 move_next-requires-clause-some g c =
     let lt : c.loop.counter < c.args.count = search rules in
-    next_low (g.D.Device.disk c.args.device.now) (g.D.Device.disk c.loop.device) c.args.self.now c.loop.self c.loop.counter c.args.count c.loop.invariant.1
-    c.requires.some lt
+    next_low c.loop.invariant.1 c.requires.some lt
 
 pub loop-preserved : goal.loop-preserved
 loop-preserved g c = (
   c.move_next.ensures.stands,
-  moved_more (g.D.Device.disk c.args.device.now) (g.D.Device.disk c.loop.device) (g.D.Device.disk c.move_next.new.device) c.args.self.now c.loop.self
-      c.move_next.new.self c.loop.counter 1 c.loop.invariant.1 c.in_ok-move_next.ensures.moved,
+  moved_more c.loop.invariant.1 c.in_ok-move_next.ensures.moved,
   counted_ok c.in_ok-move_next.ensures.cause ∙ c.loop.invariant.2,
   λ none. absurd (omega (arith, none)),
 )
-
-pub returns-in_err-move_next-clause-stands : goal.returns-in_err-move_next-clause-stands
-returns-in_err-move_next-clause-stands g c = c.move_next.ensures.stands
 
 pub returns-in_err-move_next-clause-unmoved : goal.returns-in_err-move_next-clause-unmoved
 returns-in_err-move_next-clause-unmoved g c =
@@ -40,9 +31,5 @@ returns-in_err-move_next-clause-unmoved g c =
     on_err c.from_residual.result (
       c.loop.counter + 0,
       omega (arith, lt),
-      moved_more (g.D.Device.disk c.args.device.now) (g.D.Device.disk c.loop.device) (g.D.Device.disk c.move_next.new.device) c.args.self.now c.loop.self
-          c.move_next.new.self c.loop.counter 0 c.loop.invariant.1 c.in_err-move_next.ensures.unmoved,
+      moved_more c.loop.invariant.1 c.in_err-move_next.ensures.unmoved,
     )
-
-pub returns-clause-stands : goal.returns-clause-stands
-returns-clause-stands g c = c.loop.invariant.0

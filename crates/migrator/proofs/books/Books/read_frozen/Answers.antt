@@ -1,4 +1,4 @@
-use Rattle.migrator.proofs.Names.{ℕ, List, refl, ap, sym, subst, IsFrameOf, frame_of, frame_from, most, place_at, frozen_generation, seen_by}
+use Rattle.migrator.proofs.Names.{ℕ, List, refl, ap, sym, subst, IsFrameOf, frame_from, most}
 use Rattle.std.proofs.Common.{◌∙◌}
 use Rattle.migrator.proofs.Buffered.{frozen_raw, own_frame, own_spelt}
 use Rattle.migrator.proofs.Fetching.{ok_weaker, whole_low}
@@ -9,9 +9,7 @@ slot_sector-sector-requires g c =
     let disk = g.D.Device.disk c.args.device.now in
     let b = c.args.self.now in
     record {
-      slot = rw c.new-log.ensures
-          (whole_low (seen_by disk.seen b) b.plan (frozen_generation b) b.frozen c.args.number c.args.slot (place_at b.frozen c.args.number)
-          c.requires.stands.kept.frozen refl c.requires.place);
+      slot = rw c.new-log.ensures (whole_low c.args.number c.requires.stands.kept.frozen refl c.requires.place);
     }
 
 pub read-requires : goal.read-requires
@@ -19,7 +17,7 @@ read-requires g c =
     let disk = g.D.Device.disk c.args.device.now in
     let b = c.args.self.now in
     let at = rw c.new-log.ensures at c.slot_sector-sector.ensures.value in
-    let own = own_spelt disk.sectors disk.seen b b.unwritten c.requires.stands.kept c.requires.stands.unwritten c.args.number c.args.slot c.requires.object
+    let own = own_spelt disk.sectors disk.seen b c.requires.stands.kept c.requires.stands.unwritten c.requires.object
     c.requires.place at (c.is_for.ensures.yes c.if-is_for.true) in
     record { spelt = rw (c.shape-shape.ensures.value, c.geometry.ensures.value) own }
 
@@ -28,25 +26,22 @@ returns-then-is_for-clause-found g c =
     let disk = g.D.Device.disk c.args.device.now in
     let b = c.args.self.now in
     let at = rw c.new-log.ensures at c.slot_sector-sector.ensures.value in
-    own_frame disk.sectors disk.seen b b.unwritten c.requires.stands.kept c.requires.stands.unwritten c.args.number c.args.slot
-    (frame_of c.read.result c.read.new.scratch) c.requires.place at (c.is_for.ensures.yes c.if-is_for.true)
-    (rw (c.shape-shape.ensures.value, c.geometry.ensures.value) at c.read.ensures)
+    own_frame disk.sectors disk.seen b c.requires.stands.kept c.requires.stands.unwritten c.args.number c.requires.place at
+    (c.is_for.ensures.yes c.if-is_for.true) (rw (c.shape-shape.ensures.value, c.geometry.ensures.value) at c.read.ensures)
 
 pub read_put-requires-clause-slot : goal.read_put-requires-clause-slot
 read_put-requires-clause-slot g c =
     let disk = g.D.Device.disk c.args.device.now in
     let b = c.args.self.now in
-    whole_low (seen_by disk.seen b) b.plan (frozen_generation b) b.frozen c.args.number c.args.slot (place_at b.frozen c.args.number)
-    c.requires.stands.kept.frozen refl c.requires.place
+    whole_low c.args.number c.requires.stands.kept.frozen refl c.requires.place
 
 pub read_put-requires-clause-spelt : goal.read_put-requires-clause-spelt
 read_put-requires-clause-spelt g c =
     let disk = g.D.Device.disk c.args.device.now in
     let b = c.args.self.now in
     let at = rw c.new-log.ensures at c.slot_sector-sector.ensures.value in
-    let low = whole_low (seen_by disk.seen b) b.plan (frozen_generation b) b.frozen c.args.number c.args.slot (place_at b.frozen c.args.number)
-    c.requires.stands.kept.frozen refl c.requires.place in
-    let raw = frozen_raw disk.sectors disk.seen b b.unwritten c.requires.stands.kept c.requires.stands.unwritten c.args.slot c.args.number low
+    let low = whole_low c.args.number c.requires.stands.kept.frozen refl c.requires.place in
+    let raw = frozen_raw disk.sectors disk.seen b b.unwritten c.requires.stands.kept c.requires.stands.unwritten c.args.number low
     (λ u some here. c.is_for.ensures.no c.if-is_for.false u some (here ∙ sym at)) in
     subst (λ (bytes : List ℕ). IsFrameOf b.plan.geometry most c.args.number bytes (frame_from b.plan.geometry c.args.number bytes)) raw
     (c.requires.stands.kept.frozen.spelt c.args.number c.args.slot c.requires.object c.requires.place)
@@ -56,8 +51,7 @@ returns-clause-found g c =
     let disk = g.D.Device.disk c.args.device.now in
     let b = c.args.self.now in
     let at = rw c.new-log.ensures at c.slot_sector-sector.ensures.value in
-    let low = whole_low (seen_by disk.seen b) b.plan (frozen_generation b) b.frozen c.args.number c.args.slot (place_at b.frozen c.args.number)
-    c.requires.stands.kept.frozen refl c.requires.place in
-    let raw = frozen_raw disk.sectors disk.seen b b.unwritten c.requires.stands.kept c.requires.stands.unwritten c.args.slot c.args.number low
+    let low = whole_low c.args.number c.requires.stands.kept.frozen refl c.requires.place in
+    let raw = frozen_raw disk.sectors disk.seen b b.unwritten c.requires.stands.kept c.requires.stands.unwritten c.args.number low
     (λ u some here. c.is_for.ensures.no c.if-is_for.false u some (here ∙ sym at)) in
     ok_weaker c.read_put.result (λ read e. e ∙ ap (frame_from b.plan.geometry c.args.number) (sym raw)) c.read_put.ensures.found

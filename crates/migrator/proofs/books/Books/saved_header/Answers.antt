@@ -1,4 +1,4 @@
-use Rattle.migrator.proofs.Names.{ap, Image, agrees_is, home_place, bytes_at, seen_by}
+use Rattle.migrator.proofs.Names.{ap, Image, agrees_is, home_place, bytes_at}
 use Rattle.std.proofs.Common.{◌∙◌}
 use Rattle.migrator.proofs.Buffered.{home_raw}
 use Rattle.migrator.proofs.Fetching.{ok_weaker}
@@ -13,8 +13,6 @@ returns-clause-found g c =
     let place = rw c.new-home.ensures at c.place-at.ensures.value in
     let same = ap (λ (image : Image). bytes_at image (home_place b.plan c.args.number) b.plan c.args.number)
     (agrees_is new.seen disk.seen c.read_header_of.ensures.reads.seen)
-    ∙ home_raw disk.sectors disk.seen b b.unwritten c.requires.stands.kept c.requires.stands.unwritten c.requires.home c.args.number c.requires.object in
-    ok_weaker c.read_header_of.result
-    (λ header is. header_read (seen_by disk.seen b) disk.sectors new.seen b c.requires.stands.kept c.requires.home c.args.number c.place-at.result
-    c.shape.result c.requires.object place c.shape.ensures.value c.shape.ensures.fits same header is)
-    c.read_header_of.ensures.found
+    ∙ home_raw disk.sectors disk.seen b b.unwritten c.requires.stands.kept c.requires.stands.unwritten c.requires.home c.requires.object in
+    ok_weaker c.read_header_of.result (λ header is. header_read new.seen c.requires.stands.kept c.requires.home c.requires.object place c.shape.ensures.value
+    c.shape.ensures.fits same is) c.read_header_of.ensures.found

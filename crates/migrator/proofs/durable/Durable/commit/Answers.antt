@@ -1,14 +1,20 @@
-use Rattle.migrator.proofs.Names.{MayCommit, rules, ap, sym, subst, refl, arith, ℕ, Some, option_map, Image, Books, FrozenPuts, IsRunning, puts}
-use Rattle.migrator.proofs.Names.{frozen_generation, frozen_of, is_sound, left_of, seen_by, stored_of}
+use Rattle.migrator.proofs.Names.{MayCommit, rules, ap, sym, subst, refl, arith, ℕ, Some, option_map, Disk, Books, FrozenPuts, IsDurable, IsRunning, puts}
+use Rattle.migrator.proofs.Names.{frozen_generation, frozen_of, is_sound, left_of, seen_by, stored_of, stored_on, whole_count}
 use Rattle.std.proofs.Common.{◌≡◌, ◌∙◌, ◌-◌, ◌<◌}
 use Rattle.migrator.proofs.Putting.{kept_whole}
 use Rattle.migrator.proofs.Tables.{whole_taken}
 use Rattle.migrator.proofs.durable.Durable.commit.Goals as goal
 
 -- what is left of the checkpoint on its way
-reported : (image : Image) (b : Books) (size left : ℕ) → b.size ≡ Some size → left ≡ left_of (frozen_of image b size) →
-    option_map left_of (option_map (frozen_of image b) b.size) ≡ Some left
-reported image b size left is same = ap (λ o. option_map left_of (option_map (frozen_of image b) o)) is ∙ ap Some (sym same)
+left_is : {disk : Disk} {b : Books} (size : ℕ) {whole : ℕ} → IsDurable disk b → whole ≡ whole_count b.frozen →
+    size - whole ≡ left_of (frozen_of (seen_by disk.seen b) b size)
+left_is {disk} {b} size stands whole =
+    ap (λ (n : ℕ). size - n) (whole ∙ sym (kept_whole (seen_by disk.seen b) b.plan (frozen_generation b) b.frozen stands.kept.frozen.count))
+
+reported : {disk : Disk} {b : Books} {size whole : ℕ} → IsDurable disk b → b.size ≡ Some size → whole ≡ whole_count b.frozen →
+    option_map left_of (stored_on disk b).frozen ≡ Some (size - whole)
+reported {disk} {b} {size} stands is whole =
+    ap (λ o. option_map left_of (option_map (frozen_of (seen_by disk.seen b) b) o)) is ∙ ap Some (sym (left_is size stands whole))
 
 pub overflow_sub-left : goal.overflow_sub-left
 overflow_sub-left g c =
@@ -19,86 +25,52 @@ overflow_sub-left g c =
 
 pub returns-then-left-ne0-clause-answer : goal.returns-then-left-ne0-clause-answer
 returns-then-left-ne0-clause-answer g c =
-    let disk = g.D.Device.disk c.self.inside.device in
-    let b = c.self.inside.books in
-    let some : 0 < c.in-Some.size - c.whole.result = search rules in
-    let left = ap (λ (n : ℕ). c.in-Some.size - n)
-    (c.whole.ensures ∙ sym (kept_whole (seen_by disk.seen b) b.plan (frozen_generation b) b.frozen c.self.invariant.kept.frozen.count)) in (
+    let some : 0 < c.in-Some.size - c.whole.result = search rules in (
       refl,
       subst (λ t. option_map left_of (stored_of g.D.Device.disk t).frozen ≡ Some (c.in-Some.size - c.whole.result)) c.self.view_is
-          (reported (seen_by disk.seen b) b c.in-Some.size (c.in-Some.size - c.whole.result) c.in-Some.is left),
+          (reported c.self.invariant c.in-Some.is c.whole.ensures),
       some,
     )
 
-pub commit-requires-clause-stands : goal.commit-requires-clause-stands
-commit-requires-clause-stands g c = c.self.invariant
-
-pub commit-requires-clause-stable : goal.commit-requires-clause-stable
-commit-requires-clause-stable g c =
+pub commit-requires : goal.commit-requires
+commit-requires g c =
+    let disk = g.D.Device.disk c.self.inside.device in
+    let b = c.self.inside.books in
     let none : c.in-Some.size - c.whole.result ≡ 0 = search rules in
-    omega (arith, none, c.whole.ensures)
-
-pub commit-requires-clause-sound : goal.commit-requires-clause-sound
-commit-requires-clause-sound g c = subst (λ t. is_sound g.D.Device.disk t) (sym c.self.view_is) c.requires.sound
-
-pub commit-requires-clause-later : goal.commit-requires-clause-later
-commit-requires-clause-later g c =
-    let disk = g.D.Device.disk c.self.inside.device in
-    let b = c.self.inside.books in
     let ready = subst (λ t. (f : FrozenPuts) → (stored_of g.D.Device.disk t).frozen ≡ Some f → MayCommit puts c.args.age f (stored_of g.D.Device.disk t).saved)
     (sym c.self.view_is) c.requires.ready in
     let may = ready (frozen_of (seen_by disk.seen b) b c.in-Some.size) (ap (option_map (frozen_of (seen_by disk.seen b) b)) c.in-Some.is) in
-    may.later
-
-pub commit-requires-clause-most : goal.commit-requires-clause-most
-commit-requires-clause-most g c =
-    let disk = g.D.Device.disk c.self.inside.device in
-    let b = c.self.inside.books in
-    let ready = subst (λ t. (f : FrozenPuts) → (stored_of g.D.Device.disk t).frozen ≡ Some f → MayCommit puts c.args.age f (stored_of g.D.Device.disk t).saved)
-    (sym c.self.view_is) c.requires.ready in
-    let may = ready (frozen_of (seen_by disk.seen b) b c.in-Some.size) (ap (option_map (frozen_of (seen_by disk.seen b) b)) c.in-Some.is) in
-    may.most
-
-pub commit-requires-clause-keepable : goal.commit-requires-clause-keepable
-commit-requires-clause-keepable g c =
-    let disk = g.D.Device.disk c.self.inside.device in
-    let b = c.self.inside.books in
-    let ready = subst (λ t. (f : FrozenPuts) → (stored_of g.D.Device.disk t).frozen ≡ Some f → MayCommit puts c.args.age f (stored_of g.D.Device.disk t).saved)
-    (sym c.self.view_is) c.requires.ready in
-    let may = ready (frozen_of (seen_by disk.seen b) b c.in-Some.size) (ap (option_map (frozen_of (seen_by disk.seen b) b)) c.in-Some.is) in
-    let none : c.in-Some.size - c.whole.result ≡ 0 = search rules in
-    let left = ap (λ (n : ℕ). c.in-Some.size - n)
-    (c.whole.ensures ∙ sym (kept_whole (seen_by disk.seen b) b.plan (frozen_generation b) b.frozen c.self.invariant.kept.frozen.count)) in
-    may.keepable (sym left ∙ none)
+    record {
+      stands = c.self.invariant;
+      running = c.in-Some.is;
+      stable = omega (arith, none, c.whole.ensures);
+      sound = subst (λ t. is_sound g.D.Device.disk t) (sym c.self.view_is) c.requires.sound;
+      later = may.later;
+      most = may.most;
+      keepable = may.keepable (sym (left_is c.in-Some.size c.self.invariant c.whole.ensures) ∙ none);
+    }
 
 pub returns-clause-stable : goal.returns-clause-stable
 returns-clause-stable g c =
-    let disk = g.D.Device.disk c.self.inside.device in
     let b = c.self.inside.books in
+    let image = seen_by (g.D.Device.disk c.self.inside.device).seen b in
     let none : c.in-Some.size - c.whole.result ≡ 0 = search rules in
-    let left = ap (λ (n : ℕ). c.in-Some.size - n)
-    (c.whole.ensures ∙ sym (kept_whole (seen_by disk.seen b) b.plan (frozen_generation b) b.frozen c.self.invariant.kept.frozen.count)) in
-    subst (λ t. (f : FrozenPuts) × ((stored_of g.D.Device.disk t).frozen ≡ Some f) × (left_of f ≡ 0)) c.self.view_is
-    (frozen_of (seen_by disk.seen b) b c.in-Some.size, ap (option_map (frozen_of (seen_by disk.seen b) b)) c.in-Some.is, sym left ∙ none)
+    subst (λ t. (f : FrozenPuts) × ((stored_of g.D.Device.disk t).frozen ≡ Some f) × (left_of f ≡ 0)) c.self.view_is (
+      frozen_of image b c.in-Some.size,
+      ap (option_map (frozen_of image b)) c.in-Some.is,
+      sym (left_is c.in-Some.size c.self.invariant c.whole.ensures) ∙ none,
+    )
 
 pub returns-clause-answer : goal.returns-clause-answer
 returns-clause-answer g c =
-    let disk = g.D.Device.disk c.self.inside.device in
-    let b = c.self.inside.books in
     let none : c.in-Some.size - c.whole.result ≡ 0 = search rules in
-    let left = ap (λ (n : ℕ). c.in-Some.size - n)
-    (c.whole.ensures ∙ sym (kept_whole (seen_by disk.seen b) b.plan (frozen_generation b) b.frozen c.self.invariant.kept.frozen.count)) in
     let over = subst (λ t. option_map left_of (stored_of g.D.Device.disk t).frozen ≡ Some 0) c.self.view_is
-    (reported (seen_by disk.seen b) b c.in-Some.size 0 c.in-Some.is (sym none ∙ left)) in
+    (reported c.self.invariant c.in-Some.is c.whole.ensures ∙ ap Some none) in
     (search rules, over, search rules)
 
 pub returns-in_default-commit-clause-answer : goal.returns-in_default-commit-clause-answer
 returns-in_default-commit-clause-answer g c =
-    let disk = g.D.Device.disk c.self.inside.device in
-    let b = c.self.inside.books in
     let none : c.in-Some.size - c.whole.result ≡ 0 = search rules in
-    let left = ap (λ (n : ℕ). c.in-Some.size - n)
-    (c.whole.ensures ∙ sym (kept_whole (seen_by disk.seen b) b.plan (frozen_generation b) b.frozen c.self.invariant.kept.frozen.count)) in
     let over = subst (λ t. option_map left_of (stored_of g.D.Device.disk t).frozen ≡ Some 0) c.self.view_is
-    (reported (seen_by disk.seen b) b c.in-Some.size 0 c.in-Some.is (sym none ∙ left)) in
+    (reported c.self.invariant c.in-Some.is c.whole.ensures ∙ ap Some none) in
     (search rules, over)

@@ -14,7 +14,7 @@ invariant_of-self g c =
     let few = subst (λ t. c.args.size ≤ t.books.plan.geometry.log) (sym c.self.view_is) c.requires.few in
     rw c.freeze.ensures (record {
       kept = freeze_kept disk.sectors (seen_by disk.seen b) b c.args.size none c.self.invariant.kept home enough few;
-      unwritten = without (frozen_books b c.args.size) b.unwritten (none_idle b b.unwritten c.self.invariant.unwritten none);
+      unwritten = without (frozen_books b c.args.size) (none_idle b b.unwritten c.self.invariant.unwritten none);
     })
 
 pub returns-clause-frozen : goal.returns-clause-frozen

@@ -1,5 +1,5 @@
-use Rattle.migrator.proofs.Names.{journaled_saved, stored_of}
-use Rattle.migrator.proofs.Journaling.{either_first}
+use Rattle.migrator.proofs.Names.{stored_of}
+use Rattle.migrator.proofs.Publishing.{either_first}
 use Rattle.migrator.proofs.Moving.{goes_none}
 use Rattle.migrator.proofs.durable.Durable.journal.Goals as goal
 
@@ -8,13 +8,11 @@ returns-then-is_some-clause-any_moment g c =
     let old = c.args.self.now in
     let disk = g.D.Device.disk old.beneath in
     let saved = (stored_of g.D.Device.disk old).saved in
-    either_first disk disk saved (journaled_saved c.args.age c.args.number c.args.words.now saved)
-    ((goes_none disk old.books (g.met.D.Device.only_now old.beneath)).any_moment c.requires.sound)
+    either_first ((goes_none disk old.books (g.met.D.Device.only_now old.beneath)).any_moment c.requires.sound)
 
 pub returns-then-self-ne0-clause-any_moment : goal.returns-then-self-ne0-clause-any_moment
 returns-then-self-ne0-clause-any_moment g c =
     let old = c.args.self.now in
     let disk = g.D.Device.disk old.beneath in
     let saved = (stored_of g.D.Device.disk old).saved in
-    either_first disk disk saved (journaled_saved c.args.age c.args.number c.args.words.now saved)
-    ((goes_none disk old.books (g.met.D.Device.only_now old.beneath)).any_moment c.requires.sound)
+    either_first ((goes_none disk old.books (g.met.D.Device.only_now old.beneath)).any_moment c.requires.sound)

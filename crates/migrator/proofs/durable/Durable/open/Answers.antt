@@ -6,27 +6,18 @@ pub invariant_of-store : goal.invariant_of-store
 invariant_of-store g c =
     let p = c.in-Ok.parts in
     let is = c.in-Ok.ensures in
-    rw (c.of.ensures, is.reserved.buffer)
-    (first_durable (g.D.Device.disk c.args.device) (g.D.Device.disk c.read_parts.new.device) p.plan p.header p.reserve.directories.saved.items
-    p.reserve.tables.frozen p.reserve.tables.working
-    is.only_reads is.plan is.read is.reserved.frozen is.reserved.working)
+    rw (c.of.ensures, is.reserved.buffer) (first_durable is.only_reads is.plan is.read is.reserved.frozen is.reserved.working)
 
 pub returns-in-Ok-clause-opened : goal.returns-in-Ok-clause-opened
 returns-in-Ok-clause-opened g c =
     let p = c.in-Ok.parts in
     let is = c.in-Ok.ensures in
     let same : (g.D.Device.disk c.read_parts.new.device).failures ≡ (g.D.Device.disk c.args.device).failures = search rules in
-    rw (c.of.ensures, is.reserved.buffer)
-    (first_opens g.D.Device.disk c.args.device c.read_parts.new.device p.plan p.header p.reserve.directories.saved.items p.reserve.tables.frozen
-    p.reserve.tables.working
-    is.only_reads is.plan is.read is.reserved.frozen is.reserved.working is.durable same)
+    rw (c.of.ensures, is.reserved.buffer) (first_opens is.only_reads is.plan is.read is.reserved.frozen is.reserved.working is.durable same)
 
 pub returns-in-Ok-clause-took : goal.returns-in-Ok-clause-took
 returns-in-Ok-clause-took g c =
     let p = c.in-Ok.parts in
     let is = c.in-Ok.ensures in
-    rw (c.of.ensures, is.reserved.buffer)
-    (subst (g.I.Intake.Took p.taken)
-    (first_frames (g.D.Device.disk c.args.device) (g.D.Device.disk c.read_parts.new.device) p.plan p.header p.reserve.directories.saved.items
-    p.reserve.tables.frozen p.reserve.tables.working
+    rw (c.of.ensures, is.reserved.buffer) (subst (g.I.Intake.Took p.taken) (first_frames
     is.only_reads is.plan is.read is.reserved.frozen is.reserved.working) is.took)

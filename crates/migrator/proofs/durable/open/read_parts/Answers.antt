@@ -2,9 +2,6 @@ use Rattle.migrator.proofs.Names.{sym, subst, take, ℕ, Image, agrees_is, frame
 use Rattle.migrator.proofs.Reading.{if_both, err_weaker}
 use Rattle.migrator.proofs.durable.open.read_parts.Goals as goal
 
-pub read_with_sink-requires-clause-reserved : goal.read_with_sink-requires-clause-reserved
-read_with_sink-requires-clause-reserved g c = c.in-Ok-new.ensures c.in-Ok.superblock (sym c.geometry.ensures.value)
-
 pub returns-in-Ok-new-clause-read : goal.returns-in-Ok-new-clause-read
 returns-in-Ok-new-clause-read g c =
     let seen = agrees_is (g.D.Device.disk c.read_plan.new.device).seen (g.D.Device.disk c.args.device.now).seen c.read_plan.ensures.only_reads.seen in
@@ -32,3 +29,6 @@ returns-in-Ok-new-clause-refused g c =
     (λ e bad. subst (λ (i : Image). IsBadFor i (g.D.Device.disk c.args.device.now).sectors e) seen
     (subst (λ (k : ℕ). IsBadFor (g.D.Device.disk c.read_plan.new.device).seen k e) c.read_plan.ensures.only_reads.size bad))
     c.read_with_sink.ensures.refused
+
+pub read_with_sink-requires-clause-reserved : goal.read_with_sink-requires-clause-reserved
+read_with_sink-requires-clause-reserved g c = c.in-Ok-new.ensures c.in-Ok.superblock (sym c.geometry.ensures.value)

@@ -6,6 +6,5 @@ use Rattle.migrator.proofs.table.Table.clear.Goals as goal
 pub invariant_of-self : goal.invariant_of-self
 invariant_of-self c =
     let size = c.clear_places.auto.places ∙ ap length c.deref_mut.ensures.value in
-    let all = rewritten c.self.inside.places.items c.clear_places.new.places c.self.inside.places.len size c.self.inside.places.ok.0 in
-    blank_is _ c.clear_places.new.held (length c.deref_mut.result.now) (all ∙ c.clear_places.ensures.places)
-    (c.clear_places.ensures.held ∙ sym (ap (map is_held) all))
+    let all = rewritten c.self.inside.places.items size c.self.inside.places.ok.0 in
+    blank_is (length c.deref_mut.result.now) (all ∙ c.clear_places.ensures.places) (c.clear_places.ensures.held ∙ sym (ap (map is_held) all))

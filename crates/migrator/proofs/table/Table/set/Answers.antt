@@ -1,4 +1,4 @@
-use Rattle.migrator.proofs.Names.{arith, rules, length, slot_for, has_slot, has_frame}
+use Rattle.migrator.proofs.Names.{arith, rules, length, has_slot, has_frame}
 use Rattle.std.proofs.Common.{◌<◌, ◌^◌, ◌∙◌}
 use Rattle.migrator.proofs.Tables.{taken_few, whole_taken, count_set, count_at, table_is, held_set}
 use Rattle.migrator.proofs.table.Table.set.Goals as goal
@@ -18,23 +18,18 @@ overflow_add-self-2 c =
 
 pub overflow_sub-self-2 : goal.overflow_sub-self-2
 overflow_sub-self-2 c =
-    let one = count_at has_frame c.self.inside.places.items c.args.self.now c.args.number c.place-old.result c.self.inside.whole c.frames-2.result
-    c.self.view_is c.requires.known c.place-old.ensures c.self.invariant.3 c.frames-2.ensures.count in
+    let one = count_at has_frame c.self.view_is c.requires.known c.place-old.ensures c.self.invariant.3 c.frames-2.ensures.count in
     omega (arith, one)
 
 pub overflow_sub-self : goal.overflow_sub-self
 overflow_sub-self c =
-    let one = count_at has_slot c.self.inside.places.items c.args.self.now c.args.number c.place-old.result c.self.inside.taken c.slots-2.result c.self.view_is
-    c.requires.known c.place-old.ensures c.self.invariant.2 c.slots-2.ensures.count in
+    let one = count_at has_slot c.self.view_is c.requires.known c.place-old.ensures c.self.invariant.2 c.slots-2.ensures.count in
     omega (arith, one)
 
 pub invariant_of-self : goal.invariant_of-self
 invariant_of-self c = (
-  table_is c.self.inside.places.items c.args.self.now c.args.number c.args.place c.self.view_is c.requires.known c.requires.slot c.self.invariant.0,
-  c.set.ensures ∙ held_set c.self.inside.places.items c.self.inside.held c.args.number (slot_for c.args.self.now c.args.number) c.args.place c.self.invariant.1
-      c.requires.slot,
-  count_set has_slot c.self.inside.places.items c.args.self.now c.args.number c.args.place c.place-old.result c.self.inside.taken c.slots.result
-      c.slots-2.result c.self.view_is c.requires.known c.place-old.ensures c.self.invariant.2 c.slots.ensures.count c.slots-2.ensures.count,
-  count_set has_frame c.self.inside.places.items c.args.self.now c.args.number c.args.place c.place-old.result c.self.inside.whole c.frames.result
-      c.frames-2.result c.self.view_is c.requires.known c.place-old.ensures c.self.invariant.3 c.frames.ensures.count c.frames-2.ensures.count,
+  table_is c.args.place c.self.view_is c.requires.known c.requires.slot c.self.invariant.0,
+  c.set.ensures ∙ held_set c.self.inside.places.items c.args.number c.args.place c.self.invariant.1 c.requires.slot,
+  count_set has_slot c.self.view_is c.requires.known c.place-old.ensures c.self.invariant.2 c.slots.ensures.count c.slots-2.ensures.count,
+  count_set has_frame c.self.view_is c.requires.known c.place-old.ensures c.self.invariant.3 c.frames.ensures.count c.frames-2.ensures.count,
 )

@@ -1,31 +1,8 @@
-use Rattle.object_cache.proofs.Preparing.{rest_used}
-use Rattle.object_cache.proofs.Names.{List, StoreState, UsesSome, ap, arith, length, subst, take, used_in_turn, ℕ}
+use Rattle.object_cache.proofs.Names.{UsesSome, ap, arith, length, subst, take, used_in_turn}
 use Rattle.std.proofs.Common.{◌∙◌}
-use Rattle.object_cache.proofs.Evicting.{same_front, some_then, used_then}
+use Rattle.object_cache.proofs.Bringing.{same_front, some_then, used_then}
 use Rattle.object_cache.proofs.Outcomes.{err_then, ok_then}
 use Rattle.object_cache.proofs.cache.Cache.fetch.Goals as goal
-
-pub returns-then-use_again-clause-fetched : goal.returns-then-use_again-clause-fetched
-returns-then-use_again-clause-fetched g c = c.use_again.ensures.fetched c.if-use_again.true
-
-pub returns-then-use_again-clause-within : goal.returns-then-use_again-clause-within
-returns-then-use_again-clause-within g c = c.use_again.ensures.within
-
-pub returns-then-use_again-clause-rest : goal.returns-then-use_again-clause-rest
-returns-then-use_again-clause-rest g c = rest_used c.args.self.now c.use_again.new.self c.use_again.ensures.rest
-
-pub returns-then-use_again-clause-continues : goal.returns-then-use_again-clause-continues
-returns-then-use_again-clause-continues g c = c.use_again.ensures.continues
-
-pub returns-then-use_again-clause-order : goal.returns-then-use_again-clause-order
-returns-then-use_again-clause-order g c =
-    let s = c.args.self.now in
-    let used = c.use_again.ensures.used c.if-use_again.true in
-    same_front s.capacity (used_in_turn c.args.fetched.now s.order) c.use_again.new.self.order used
-    (omega (arith, ap (λ (ns : List ℕ). length ns) used, c.use_again.ensures.few, ap (λ (t : StoreState g.row.D.Denot). t.capacity) c.use_again.ensures.rest))
-
-pub read_all_in-requires-clause-bounded : goal.read_all_in-requires-clause-bounded
-read_all_in-requires-clause-bounded g c = c.use_again.ensures.few
 
 pub returns-clause-order : goal.returns-clause-order
 returns-clause-order g c =
@@ -34,7 +11,7 @@ returns-clause-order g c =
     let first = c.use_again.ensures.prefix in
     ok_then c.read_all_in.result c.read_all_in.ensures.order (λ is.
     used_then s.capacity first.0 c.args.fetched.now s.order t.order c.read_all_in.new.self.order first.1
-    (is ∙ ap (λ (x : StoreState g.row.D.Denot). take x.capacity (used_in_turn c.args.fetched.now t.order)) c.use_again.ensures.rest))
+    (is ∙ ap (λ x. take x.capacity (used_in_turn c.args.fetched.now t.order)) c.use_again.ensures.rest))
 
 pub returns-clause-stopped : goal.returns-clause-stopped
 returns-clause-stopped g c =
@@ -44,4 +21,14 @@ returns-clause-stopped g c =
     let first = c.use_again.ensures.prefix in
     err_then c.read_all_in.result c.read_all_in.ensures.stopped (λ some.
     some_then s.capacity first.0 c.args.fetched.now s.order t.order u.order first.1
-    (subst (λ (x : StoreState g.row.D.Denot). UsesSome x.capacity c.args.fetched.now t.order u.order) c.use_again.ensures.rest some))
+    (subst (λ x. UsesSome x.capacity c.args.fetched.now t.order u.order) c.use_again.ensures.rest some))
+
+pub returns-then-use_again-clause-fetched : goal.returns-then-use_again-clause-fetched
+returns-then-use_again-clause-fetched g c = c.use_again.ensures.fetched c.if-use_again.true
+
+pub returns-then-use_again-clause-order : goal.returns-then-use_again-clause-order
+returns-then-use_again-clause-order g c =
+    let s = c.args.self.now in
+    let used = c.use_again.ensures.used c.if-use_again.true in
+    same_front s.capacity (used_in_turn c.args.fetched.now s.order) c.use_again.new.self.order used
+    (omega (arith, ap (λ ns. length ns) used, c.use_again.ensures.few, ap (λ t. t.capacity) c.use_again.ensures.rest))

@@ -1,8 +1,6 @@
-use Rattle.object_cache.proofs.Names.{refl, arith, counted_ok, IsFetchedIn, goes_on_same, goes_on_twice, ap, slice_index_or, sym, take, take_all, without, ℕ}
-use Rattle.object_cache.proofs.Names.{on_err}
+use Rattle.object_cache.proofs.Names.{arith, counted_ok, goes_on_twice, ap, slice_index_or, take, without, on_err}
 use Rattle.std.proofs.Common.{◌∙◌, ◌∷◌}
-use Rattle.object_cache.proofs.Bringing.{keepable_on, rest_on, all_listed, recent_on}
-use Rattle.object_cache.proofs.Evicting.{stopped_at, used_all, used_more}
+use Rattle.object_cache.proofs.Bringing.{rest_on, recent_on, stopped_at, used_more}
 use Rattle.object_cache.proofs.cache.Cache.fetch_all.Goals as goal
 
 pub returns-in_err-fetch_one-clause-continues : goal.returns-in_err-fetch_one-clause-continues
@@ -24,43 +22,9 @@ loop-number-preserved g c =
       goes_on_twice disk g.met.D.Device.counts_now s t u before.3 c.fetch_one.ensures.continues,
       counted_ok ok.cause ∙ before.4,
       used_more s.capacity c.loop-number.number-index c.args.fetched.now s.order t.order u.order c.loop-number-test.true before.5
-          (ok.order ∙ ap (λ (m : ℕ). take m (slice_index_or c.args.fetched.now c.loop-number.number-index 0 ∷
+          (ok.order ∙ ap (λ m. take m (slice_index_or c.args.fetched.now c.loop-number.number-index 0 ∷
           without (slice_index_or c.args.fetched.now c.loop-number.number-index 0) t.order)) before.3.capacity),
     )
-
-pub returns-clause-fetched : goal.returns-clause-fetched
-returns-clause-fetched g c =
-    all_listed (IsFetchedIn c.loop-number.self) c.args.fetched.now c.loop-number.number-index (omega (arith, c.loop-number-test.false))
-    (λ k below. (c.loop-number.invariant.0 k below).0)
-
-pub loop-number-init : goal.loop-number-init
-loop-number-init g c = (
-  (λ k below. absurd (omega (arith, below))),
-  refl,
-  c.requires.empty,
-  goes_on_same g.D.Device.disk g.met.D.Device.only_now c.args.self.now,
-  refl,
-  sym (take_all c.args.self.now.capacity c.args.self.now.order c.requires.bounded),
-)
-
-pub fetch_one-requires-clause-empty : goal.fetch_one-requires-clause-empty
-fetch_one-requires-clause-empty g c = c.loop-number.invariant.2
-
-pub fetch_one-requires-clause-keepable : goal.fetch_one-requires-clause-keepable
-fetch_one-requires-clause-keepable g c = keepable_on g.D.Device.disk c.args.self.now c.loop-number.self c.loop-number.invariant.1 c.loop-number.invariant.3
-    c.requires.keepable
-
-pub returns-clause-rest : goal.returns-clause-rest
-returns-clause-rest g c = c.loop-number.invariant.1
-
-pub returns-clause-continues : goal.returns-clause-continues
-returns-clause-continues g c = c.loop-number.invariant.3
-
-pub returns-clause-order : goal.returns-clause-order
-returns-clause-order g c =
-    let s = c.args.self.now in
-    used_all s.capacity c.loop-number.number-index c.args.fetched.now s.order c.loop-number.self.order (omega (arith, c.loop-number-test.false))
-    c.loop-number.invariant.5
 
 pub returns-in_err-fetch_one-clause-stopped : goal.returns-in_err-fetch_one-clause-stopped
 returns-in_err-fetch_one-clause-stopped g c =

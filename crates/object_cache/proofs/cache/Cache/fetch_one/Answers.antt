@@ -1,43 +1,40 @@
-use Rattle.object_cache.proofs.Names.{sym, ap, subst, without, StoreState, GoesOnIn, cached_at, IsRecentIn, goes_on_same, arith, take}
+use Rattle.object_cache.proofs.Names.{sym, ap, subst, without, GoesOnIn, IsRecentIn, goes_on_same, arith, take}
 use Rattle.std.proofs.Common.{◌∷◌, ◌∙◌}
-use Rattle.object_cache.proofs.Bringing.{use_first, use_recent}
-use Rattle.object_cache.proofs.Leading.{continues_cached}
-use Rattle.object_cache.proofs.Outcomes.{ok_then}
-use Rattle.object_cache.proofs.Evicting.{brought_order, used_order}
-use Rattle.object_cache.proofs.Outcomes.{err_then}
+use Rattle.object_cache.proofs.Bringing.{use_recent, brought_order, used_order}
+use Rattle.object_cache.proofs.Leading.{continues_with}
+use Rattle.object_cache.proofs.Outcomes.{ok_then, err_then}
 use Rattle.object_cache.proofs.cache.Cache.fetch_one.Goals as goal
-
-pub read_in-requires-clause-uncached : goal.read_in-requires-clause-uncached
-read_in-requires-clause-uncached g c =
-    ap (λ (t : StoreState g.row.D.Denot). cached_at t.cached c.args.number) (c.use_now.ensures.unchanged c.if-use_now.false)
-    ∙ c.use_now.ensures.uncached c.if-use_now.false
-
-pub returns-then-use_now-clause-first : goal.returns-then-use_now-clause-first
-returns-then-use_now-clause-first g c =
-    λ k some. subst (λ (t : StoreState g.row.D.Denot). IsRecentIn t k c.args.number) (sym (c.use_now.ensures.used c.if-use_now.true))
-    (use_first c.args.self.now c.args.number k (c.use_now.ensures.fetched c.if-use_now.true) some)
-
-pub returns-then-use_now-clause-recent : goal.returns-then-use_now-clause-recent
-returns-then-use_now-clause-recent g c =
-    λ j k n few below recent. subst (λ (t : StoreState g.row.D.Denot). IsRecentIn t k n) (sym (c.use_now.ensures.used c.if-use_now.true))
-    (use_recent c.args.self.now c.args.number j k n below recent)
 
 pub returns-then-use_now-clause-continues : goal.returns-then-use_now-clause-continues
 returns-then-use_now-clause-continues g c =
     let s = c.args.self.now in
     subst (GoesOnIn g.D.Device.disk s) (sym (c.use_now.ensures.used c.if-use_now.true))
-    (continues_cached g.D.Device.disk s s s.cached s.frozen_state (c.args.number ∷ without c.args.number s.order)
+    (continues_with g.D.Device.disk s.cached s.frozen_state (c.args.number ∷ without c.args.number s.order) s.staging
     (goes_on_same g.D.Device.disk g.met.D.Device.only_now s))
+
+pub returns-then-use_now-clause-order : goal.returns-then-use_now-clause-order
+returns-then-use_now-clause-order g c =
+    ap (λ t. t.order) (c.use_now.ensures.used c.if-use_now.true)
+    ∙ used_order c.args.self.now c.args.number c.use_now.ensures.bounded (c.use_now.ensures.fetched c.if-use_now.true)
 
 pub returns-clause-recent : goal.returns-clause-recent
 returns-clause-recent g c =
     ok_then c.read_in.result c.read_in.ensures.recent (λ brought j k n few below recent.
-    brought j k n few below (subst (λ (t : StoreState g.row.D.Denot). IsRecentIn t j n) (sym (c.use_now.ensures.unchanged c.if-use_now.false)) recent))
+    brought j k n few below (subst (λ t. IsRecentIn t j n) (sym (c.use_now.ensures.unchanged c.if-use_now.false)) recent))
 
-pub returns-then-use_now-clause-order : goal.returns-then-use_now-clause-order
-returns-then-use_now-clause-order g c =
-    ap (λ (t : StoreState g.row.D.Denot). t.order) (c.use_now.ensures.used c.if-use_now.true)
-    ∙ used_order c.args.self.now c.args.number c.use_now.ensures.bounded (c.use_now.ensures.fetched c.if-use_now.true)
+pub returns-clause-stopped : goal.returns-clause-stopped
+returns-clause-stopped g c =
+    let same = c.use_now.ensures.unchanged c.if-use_now.false in
+    err_then c.read_in.result c.read_in.ensures.stopped (λ stop. (
+      stop.0,
+      omega (arith, stop.1, ap (λ t. t.capacity) same),
+      stop.2 ∙ ap (λ t. take stop.0 t.order) same,
+    ))
+
+pub returns-then-use_now-clause-recent : goal.returns-then-use_now-clause-recent
+returns-then-use_now-clause-recent g c =
+    λ j k n few below recent. subst (λ t. IsRecentIn t k n) (sym (c.use_now.ensures.used c.if-use_now.true))
+    (use_recent c.args.self.now c.args.number j k n below recent)
 
 pub returns-clause-order : goal.returns-clause-order
 returns-clause-order g c =
@@ -45,13 +42,4 @@ returns-clause-order g c =
     let same = c.use_now.ensures.unchanged c.if-use_now.false in
     ok_then c.read_in.result c.read_in.ensures.order (λ is.
     brought_order s c.args.number c.read_in.new.self.order c.use_now.ensures.bounded (c.use_now.ensures.uncached c.if-use_now.false)
-    (is ∙ ap (λ (t : StoreState g.row.D.Denot). take t.capacity (c.args.number ∷ t.order)) same))
-
-pub returns-clause-stopped : goal.returns-clause-stopped
-returns-clause-stopped g c =
-    let same = c.use_now.ensures.unchanged c.if-use_now.false in
-    err_then c.read_in.result c.read_in.ensures.stopped (λ stop. (
-      stop.0,
-      omega (arith, stop.1, ap (λ (t : StoreState g.row.D.Denot). t.capacity) same),
-      stop.2 ∙ ap (λ (t : StoreState g.row.D.Denot). take stop.0 t.order) same,
-    ))
+    (is ∙ ap (λ t. take t.capacity (c.args.number ∷ t.order)) same))

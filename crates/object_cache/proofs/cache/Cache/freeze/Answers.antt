@@ -1,46 +1,35 @@
-use Rattle.object_cache.proofs.Names.{sym, subst, is_sound, left_of, stored_of, StoreState, memory_of}
-use Rattle.object_cache.proofs.Freezing.{none_of, freeze_enough, freeze_stands, freeze_contents, freeze_touched, freeze_snapshots}
+use Rattle.object_cache.proofs.Names.{sym, subst, is_sound}
+use Rattle.object_cache.proofs.Freezing.{freeze_enough, freeze_stands, freeze_contents, freeze_touched, freeze_snapshots}
 use Rattle.object_cache.proofs.cache.Cache.freeze.Goals as goal
 
 pub freeze-requires-clause-enough : goal.freeze-requires-clause-enough
-freeze-requires-clause-enough g c =
-    freeze_enough g.D.Device.disk _ _ _ _ _ _ _ c.self.view_is c.self.invariant.0
+freeze-requires-clause-enough g c = freeze_enough g.D.Device.disk c.self.view_is c.self.invariant.0
 
 pub invariant_of-self-2 : goal.invariant_of-self-2
 invariant_of-self-2 g c =
-    let i = c.self.inside in
     rw (c.clear.ensures, c.clear-2.ensures, c.swap.ensures.x_after, c.swap.ensures.y_after) (
-      freeze_stands g.D.Device.disk _ _ _ _ _ _ _ c.self.view_is c.self.invariant.0 c.freeze.new.self
-          (none_of left_of (stored_of g.D.Device.disk i.durable).frozen c.in_ok-freeze.ensures.answer.0) c.in_ok-freeze.ensures.frozen c.take_marked.new.self
-          c.take_marked.ensures.count c.take_marked.ensures.marked c.requires.keepable,
+      freeze_stands g.D.Device.disk c.self.view_is c.self.invariant.0 c.freeze.new.self c.in_ok-freeze.ensures.answer.0 c.in_ok-freeze.ensures.frozen
+          c.take_marked.new.self c.take_marked.ensures.count
+          c.take_marked.ensures.marked c.requires.keepable,
       c.self.invariant.1,
     )
 
 pub returns-clause-contents : goal.returns-clause-contents
 returns-clause-contents g c =
-    let i = c.self.inside in
     rw (c.clear.ensures, c.clear-2.ensures, c.swap.ensures.x_after, c.swap.ensures.y_after)
-    (freeze_contents g.D.Device.disk _ _ _ _ _ _ _ c.self.view_is c.self.invariant.0 c.freeze.new.self
-    (none_of left_of (stored_of g.D.Device.disk i.durable).frozen c.in_ok-freeze.ensures.answer.0) c.in_ok-freeze.ensures.frozen c.take_marked.new.self
-    c.take_marked.ensures.count c.take_marked.ensures.marked c.requires.keepable)
+    (freeze_contents g.D.Device.disk c.self.view_is c.self.invariant.0 c.freeze.new.self c.in_ok-freeze.ensures.answer.0 c.in_ok-freeze.ensures.frozen
+    c.take_marked.new.self c.take_marked.ensures.count c.take_marked.ensures.marked c.requires.keepable)
 
 pub returns-clause-touched : goal.returns-clause-touched
 returns-clause-touched g c =
-    let i = c.self.inside in
-    rw c.clear-2.ensures (freeze_touched g.D.Device.disk _ _ _ _ _ _ _ c.self.view_is c.self.invariant.0 c.freeze.new.self
-    (none_of left_of (stored_of g.D.Device.disk i.durable).frozen c.in_ok-freeze.ensures.answer.0) c.in_ok-freeze.ensures.frozen c.take_marked.new.self
-    c.take_marked.ensures.count c.take_marked.ensures.marked c.requires.keepable)
+    rw c.clear-2.ensures (freeze_touched g.D.Device.disk c.self.view_is c.self.invariant.0 c.freeze.new.self c.in_ok-freeze.ensures.answer.0
+    c.in_ok-freeze.ensures.frozen c.take_marked.new.self c.take_marked.ensures.count c.take_marked.ensures.marked c.requires.keepable)
 
 pub returns-clause-snapshots : goal.returns-clause-snapshots
 returns-clause-snapshots g c =
-    let i = c.self.inside in
     rw (c.clear.ensures, c.clear-2.ensures, c.swap.ensures.x_after, c.swap.ensures.y_after)
-    (freeze_snapshots g.D.Device.disk _ _ _ _ _ _ _ c.self.view_is c.self.invariant.0 c.freeze.new.self
-    (none_of left_of (stored_of g.D.Device.disk i.durable).frozen c.in_ok-freeze.ensures.answer.0) c.in_ok-freeze.ensures.frozen c.take_marked.new.self
-    c.take_marked.ensures.count c.take_marked.ensures.marked c.requires.keepable)
+    (freeze_snapshots g.D.Device.disk c.self.view_is c.self.invariant.0 c.freeze.new.self c.in_ok-freeze.ensures.answer.0 c.in_ok-freeze.ensures.frozen
+    c.take_marked.new.self c.take_marked.ensures.count c.take_marked.ensures.marked c.requires.keepable)
 
 pub returns-clause-sound : goal.returns-clause-sound
-returns-clause-sound g c =
-    let i = c.self.inside in
-    let m = memory_of i.table i.frozen_headers i.touched i.dirty i.pending i.entries.at i.staging in
-    λ sound. c.freeze.ensures.sound (subst (λ (t : StoreState g.row.D.Denot). is_sound g.D.Device.disk t.durable) (sym c.self.view_is) sound)
+returns-clause-sound g c = λ sound. c.freeze.ensures.sound (subst (λ t. is_sound g.D.Device.disk t.durable) (sym c.self.view_is) sound)

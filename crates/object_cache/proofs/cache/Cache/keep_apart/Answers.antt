@@ -1,21 +1,16 @@
-use Rattle.object_cache.proofs.Names.{memory_of}
-use Rattle.object_cache.proofs.Objects.{has_entry}
-use Rattle.object_cache.proofs.Apart.{apart_stands, apart_seen}
+use Rattle.object_cache.proofs.Objects.{entry_some}
+use Rattle.object_cache.proofs.Apart.{apart_next}
 use Rattle.object_cache.proofs.cache.Cache.keep_apart.Goals as goal
 
 pub keep_apart-requires : goal.keep_apart-requires
-keep_apart-requires g c =
-    let i = c.self.inside in
-    has_entry g.D.Device.disk i.durable (memory_of i.table i.frozen_headers i.touched i.dirty i.pending i.entries.at i.staging) i.left i.entries.order
-    i.entries.most c.args.self.now c.self.view_is c.args.number c.requires.fetched
+keep_apart-requires g c = entry_some g.D.Device.disk c.self.view_is c.self.invariant.0 c.args.number c.requires.fetched
 
 pub invariant_of-self : goal.invariant_of-self
 invariant_of-self g c =
     rw c.keep_apart.ensures (
-      apart_stands g.D.Device.disk _ _ _ _ _ _ _ c.self.view_is c.self.invariant.0 c.args.number c.requires.fetched c.requires.shared,
+      (apart_next g.D.Device.disk c.self.view_is c.self.invariant.0 c.args.number c.requires.fetched c.requires.shared).is,
       c.self.invariant.1,
     )
 
 pub returns : goal.returns
-returns g c =
-    rw c.keep_apart.ensures (apart_seen g.D.Device.disk _ _ _ _ _ _ _ c.self.view_is c.self.invariant.0 c.args.number c.requires.fetched c.requires.shared)
+returns g c = rw c.keep_apart.ensures (apart_next g.D.Device.disk c.self.view_is c.self.invariant.0 c.args.number c.requires.fetched c.requires.shared).view

@@ -1,23 +1,23 @@
-use Rattle.object_cache.proofs.Names.{sym, subst, is_sound, StoreState}
-use Rattle.object_cache.proofs.Homes.{moved_stands, moved_seen, moved_then}
+use Rattle.object_cache.proofs.Names.{sym, subst, is_sound}
+use Rattle.object_cache.proofs.Homes.{moved_next}
 use Rattle.object_cache.proofs.cache.Cache.migrate.Goals as goal
-
-pub migrate-requires : goal.migrate-requires
-migrate-requires g c = record { sound = subst (λ (t : StoreState g.row.D.Denot). is_sound g.D.Device.disk t.durable) (sym c.self.view_is) c.requires.sound }
 
 pub invariant_of-self : goal.invariant_of-self
 invariant_of-self g c = (
-  moved_stands g.D.Device.disk _ _ _ _ _ _ _ c.self.view_is c.self.invariant.0 c.migrate.new.self c.args.count c.migrate.result c.migrate.ensures.moved
-      c.migrate.ensures.unmoved,
+  (moved_next g.D.Device.disk c.self.view_is c.self.invariant.0 c.migrate.new.self c.args.count c.migrate.result c.migrate.ensures.moved
+      c.migrate.ensures.unmoved).0.is,
   c.self.invariant.1,
 )
 
 pub returns-clause-rest : goal.returns-clause-rest
 returns-clause-rest g c =
-    moved_seen g.D.Device.disk _ _ _ _ _ _ _ c.self.view_is c.self.invariant.0 c.migrate.new.self c.args.count c.migrate.result c.migrate.ensures.moved
-    c.migrate.ensures.unmoved
+    (moved_next g.D.Device.disk c.self.view_is c.self.invariant.0 c.migrate.new.self c.args.count c.migrate.result c.migrate.ensures.moved
+    c.migrate.ensures.unmoved).0.view
 
 pub returns-clause-snapshots : goal.returns-clause-snapshots
 returns-clause-snapshots g c =
-    moved_then g.D.Device.disk _ _ _ _ _ _ _ c.self.view_is c.self.invariant.0 c.migrate.new.self c.args.count c.migrate.result c.migrate.ensures.moved
-    c.migrate.ensures.unmoved
+    (moved_next g.D.Device.disk c.self.view_is c.self.invariant.0 c.migrate.new.self c.args.count c.migrate.result c.migrate.ensures.moved
+    c.migrate.ensures.unmoved).1
+
+pub migrate-requires : goal.migrate-requires
+migrate-requires g c = record { sound = subst (λ t. is_sound g.D.Device.disk t.durable) (sym c.self.view_is) c.requires.sound }

@@ -1,23 +1,18 @@
-use Rattle.object_cache.proofs.Names.{memory_of, with_slots_in}
-use Rattle.object_cache.proofs.Objects.{changed_seen, changed_stands, has_entry}
+use Rattle.object_cache.proofs.Names.{with_slots_in}
+use Rattle.object_cache.proofs.Objects.{content_becomes, entry_some}
 use Rattle.object_cache.proofs.cache.Cache.set_last_slots.Goals as goal
 
 pub set_last_slots-requires : goal.set_last_slots-requires
-set_last_slots-requires g c =
-    let i = c.self.inside in
-    has_entry g.D.Device.disk i.durable (memory_of i.table i.frozen_headers i.touched i.dirty i.pending i.entries.at i.staging) i.left i.entries.order
-    i.entries.most c.args.self.now c.self.view_is c.args.number c.requires.fetched
+set_last_slots-requires g c = entry_some g.D.Device.disk c.self.view_is c.self.invariant.0 c.args.number c.requires.fetched
 
 pub invariant_of-self : goal.invariant_of-self
 invariant_of-self g c =
-    rw c.set_last_slots.ensures (
-      changed_stands g.D.Device.disk _ _ _ _ _ _ _ c.self.view_is c.self.invariant.0 c.args.number c.requires.fetched c.requires.announced
-          (λ x. with_slots_in x 28 c.args.held),
-      c.self.invariant.1,
-    )
+    let now = content_becomes g.D.Device.disk c.self.view_is c.self.invariant.0 c.args.number c.requires.announced c.requires.fetched
+    (λ x. with_slots_in x 28 c.args.held) in
+    rw c.set_last_slots.ensures (now.is, c.self.invariant.1)
 
 pub returns : goal.returns
 returns g c =
-    rw c.set_last_slots.ensures
-    (changed_seen g.D.Device.disk _ _ _ _ _ _ _ c.self.view_is c.self.invariant.0 c.args.number c.requires.fetched c.requires.announced
-    (λ x. with_slots_in x 28 c.args.held))
+    let now = content_becomes g.D.Device.disk c.self.view_is c.self.invariant.0 c.args.number c.requires.announced c.requires.fetched
+    (λ x. with_slots_in x 28 c.args.held) in
+    rw c.set_last_slots.ensures now.view

@@ -9,5 +9,4 @@ returns-in-Ok-clause-any_moment g c =
     _
     c.fetch.ensures.reads c.requires.sound
     (c.as_array.ensures ∙ read_words c.in-Ok.field-0 c.fetch.new.scratch (newest (stored_of g.D.Device.disk c.args.durable.now) c.args.number)
-    c.in-Ok.ensures.found c.requires.page)
-    c.save_page.ensures.any_moment
+    c.in-Ok.ensures.found c.requires.page) c.save_page.ensures.any_moment

@@ -1,32 +1,30 @@
-use Rattle.space_bank.proofs.Names.{arith, ap, length, chain, objects_in, BanksState}
+use Rattle.space_bank.proofs.Names.{ap, arith, length, BanksState}
 use Rattle.std.proofs.Common.{◌≡◌}
-use Rattle.space_bank.proofs.Carried.{IsMade, alone_carried, taken_one}
+use Rattle.space_bank.proofs.Carried.{bank_carried, plain_carried, plain_under, taken_one}
 use Rattle.space_bank.proofs.Standing.{free_role, serve_count}
 use Rattle.space_bank.proofs.banks.Banks.allocate.Goals as goal
 
 pub make-requires-clause-known : goal.make-requires-clause-known
 make-requires-clause-known g c =
     let at = g.met.F.PresentFrames.known_announced c.args.store.now c.args.number c.requires.announced in
-    let count = serve_count (g.F.Frames.parts c.args.store.now) c.args.self.now c.args.bank c.requires.asks in
     let nodes : length c.account.new.self.free_nodes ≡ length c.args.self.now.free_nodes = ap (λ (s : BanksState). length s.free_nodes) c.account.ensures.kept
     in
     let pages : length c.account.new.self.free_pages ≡ length c.args.self.now.free_pages = ap (λ (s : BanksState). length s.free_pages) c.account.ensures.kept
     in
-    omega (arith, at.0, count, nodes, pages, c.requires.asks.counted.nodes, c.requires.asks.counted.pages)
+    omega (arith, at.0, serve_count c.requires.asks, nodes, pages, c.requires.asks.counted.nodes, c.requires.asks.counted.pages)
 
 pub make-requires-clause-free : goal.make-requires-clause-free
 make-requires-clause-free g c =
-    let at = g.met.F.PresentFrames.known_announced c.args.store.now c.args.number c.requires.announced in
-    free_role (g.F.Frames.parts c.args.store.now) c.args.self.now c.args.bank c.requires.asks c.args.number at.0 c.requires.free
+    free_role c.requires.asks c.args.number (g.met.F.PresentFrames.known_announced c.args.store.now c.args.number c.requires.announced).0 c.requires.may.unused
 
-pub returns-clause-carried : goal.returns-clause-carried
-returns-clause-carried g c =
-    let p = g.F.Frames.parts c.args.store.now in
-    let q = g.F.Frames.parts c.make.new.store in
-    let at = g.met.F.PresentFrames.known_announced c.args.store.now c.args.number c.requires.announced in
-    let made : IsMade c.account.new.self c.make.new.self c.args.number =
-    record { nodes = c.make.ensures.nodes; pages = c.make.ensures.pages; marks = c.make.ensures.marks; kept = c.make.ensures.kept } in
-    alone_carried p c.args.self.now c.args.bank c.requires.asks c.args.number at.0 c.requires.free q c.make.ensures.current c.args.fresh c.make.new.self
-    c.requires.alone c.make.ensures.objects c.make.ensures.keepable
-    (taken_one (chain (objects_in p) c.args.bank) 1 c.args.self.now c.account.new.self c.make.new.self c.args.number
-    c.account.ensures.usages c.account.ensures.kept made)
+pub returns-in-Bank-clause-carried : goal.returns-in-Bank-clause-carried
+returns-in-Bank-clause-carried g c =
+    bank_carried c.requires.asks c.make.ensures.current (g.met.F.PresentFrames.known_announced c.args.store.now c.args.number c.requires.announced).0
+    c.requires.may c.make.ensures.objects c.make.ensures.keepable (taken_one c.account.ensures.usages c.account.ensures.kept c.make.ensures.made)
+    c.in-Bank.limit _ c.in-Bank.is c.keep_limit.ensures.fits c.keep_limit.ensures.kept
+
+pub returns-in_default-clause-carried : goal.returns-in_default-clause-carried
+returns-in_default-clause-carried g c =
+    plain_carried c.requires.asks c.make.ensures.current (g.met.F.PresentFrames.known_announced c.args.store.now c.args.number c.requires.announced).0
+    c.requires.may c.make.ensures.objects c.make.ensures.keepable (taken_one c.account.ensures.usages c.account.ensures.kept c.make.ensures.made)
+    (plain_under _ c.args.bank c.args.fresh c.in_default.not-Bank c.requires.may.kind)

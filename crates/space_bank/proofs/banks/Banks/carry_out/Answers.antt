@@ -1,53 +1,42 @@
 use Rattle.space_bank.proofs.Names.{List, arith, drop, refl, subst, ℕ, All, Void, new_annex, new_root, with_new, BankChange, fresh_content, objects_in}
-use Rattle.space_bank.proofs.Names.{numbers_of, MayMake}
+use Rattle.space_bank.proofs.Names.{numbers_of, MayMake, MakesOne, MakesTwo}
 use Rattle.space_bank.proofs.Carried.{fresh_used}
 use Rattle.space_bank.proofs.Ending.{snapshots_alone}
 use Rattle.space_bank.proofs.Renewing.{new_stays}
 use Rattle.space_bank.proofs.banks.Banks.carry_out.Goals as goal
 
-pub make_one-requires : goal.make_one-requires
-make_one-requires g c =
+pub allocate-requires : goal.allocate-requires
+allocate-requires g c =
     let p = g.F.Frames.parts c.args.store.now in
-    let list = drop c.args.skip c.args.self.now.listed in
-    let m = subst (λ (x : BankChange). MayMake p.geometry (objects_in p) list x) c.in-Make.is c.requires.may in
-    let fetched = subst (λ (x : BankChange). All (g.F.Frames.IsFetched c.args.store.now) (numbers_of x)) c.in-Make.is c.requires.fetched in
+    let m = subst (λ (x : BankChange). MayMake p.geometry (objects_in p) (drop c.args.skip c.args.self.now.listed) x) c.in-Make.is c.requires.may in
     let announced = subst (λ (ns : List ℕ). All (g.F.PresentFrames.IsAnnounced c.args.store.now) ns) m.listed c.requires.announced in
     record {
       asks = record { sound = c.requires.sound; counted = c.requires.counted; bank = m.bank };
-      room = m.room;
-      free = m.unused;
-      place = m.place;
-      kind = m.kind;
-      fetched = fetched 0 0 (omega arith);
+      may = subst (λ (ns : List ℕ). MakesOne p.geometry (objects_in p) ns c.in-Make.number c.in-Make.fresh c.in-Make.bank) m.listed m;
+      fetched = (subst (λ (x : BankChange). All (g.F.Frames.IsFetched c.args.store.now) (numbers_of x)) c.in-Make.is c.requires.fetched) 0 0 (omega arith);
       announced = announced 0 0 (omega arith);
     }
 
 pub returns-in-Make-clause-objects : goal.returns-in-Make-clause-objects
-returns-in-Make-clause-objects g c = rw c.in-Make.is c.make_one.ensures.objects
+returns-in-Make-clause-objects g c = rw c.in-Make.is c.allocate.ensures.objects
 
 pub returns-in-Make-clause-snapshots : goal.returns-in-Make-clause-snapshots
 returns-in-Make-clause-snapshots g c =
     let os = objects_in (g.F.Frames.parts c.args.store.now) in
-    let us = objects_in (g.F.Frames.parts c.make_one.new.store) in
-    snapshots_alone g.F.Frames.parts g.F.Frames.IsFetched g.F.PresentFrames.IsAnnounced g.F.Frames.ContinuesTo c.args.store.now c.make_one.new.store
-    c.make_one.ensures.snapshots
-    (new_stays os us c.in-Make.number c.in-Make.bank (fresh_content Void c.in-Make.fresh) (fresh_used c.in-Make.fresh) c.make_one.ensures.objects)
+    let us = objects_in (g.F.Frames.parts c.allocate.new.store) in
+    snapshots_alone g.F.Frames.parts g.F.Frames.IsFetched g.F.PresentFrames.IsAnnounced g.F.Frames.ContinuesTo c.args.store.now c.allocate.new.store
+    c.allocate.ensures.snapshots
+    (new_stays os us c.in-Make.number c.in-Make.bank (fresh_content Void c.in-Make.fresh) (fresh_used c.in-Make.fresh) c.allocate.ensures.objects)
 
 pub new_process-requires : goal.new_process-requires
 new_process-requires g c =
     let p = g.F.Frames.parts c.args.store.now in
-    let list = drop c.args.skip c.args.self.now.listed in
-    let m = subst (λ (x : BankChange). MayMake p.geometry (objects_in p) list x) c.in-MakeProcess.is c.requires.may in
+    let m = subst (λ (x : BankChange). MayMake p.geometry (objects_in p) (drop c.args.skip c.args.self.now.listed) x) c.in-MakeProcess.is c.requires.may in
     let fetched = subst (λ (x : BankChange). All (g.F.Frames.IsFetched c.args.store.now) (numbers_of x)) c.in-MakeProcess.is c.requires.fetched in
     let announced = subst (λ (ns : List ℕ). All (g.F.PresentFrames.IsAnnounced c.args.store.now) ns) m.listed c.requires.announced in
     record {
       asks = record { sound = c.requires.sound; counted = c.requires.counted; bank = m.bank };
-      room = m.room;
-      free = m.unused;
-      annex_free = m.annex_unused;
-      two = m.two;
-      place = m.place;
-      annex_place = m.annex_place;
+      may = subst (λ (ns : List ℕ). MakesTwo p.geometry (objects_in p) ns c.in-MakeProcess.root c.in-MakeProcess.annex c.in-MakeProcess.bank) m.listed m;
       fetched = fetched 0 0 (omega arith);
       annex_fetched = fetched 1 0 (omega arith);
       announced = announced 0 0 (omega arith);

@@ -1,10 +1,15 @@
-use Rattle.space_bank.proofs.Names.{ℕ, List, ap, subst, sym, with_items_is, chain, objects_in, BanksState, IsRaised}
+use Rattle.space_bank.proofs.Names.{ap, with_items_is, BanksState}
 use Rattle.std.proofs.Common.{◌≡◌, ◌∙◌}
+use Rattle.space_bank.proofs.Climbs.{lowered_of}
+use Rattle.space_bank.proofs.Standing.{lowered_fits}
 use Rattle.space_bank.proofs.banks.Banks.release.Goals as goal
+
+pub shift-requires-clause-fits : goal.shift-requires-clause-fits
+shift-requires-clause-fits g c =
+    let before : c.deref_mut.result.now ≡ c.args.self.now.usages = c.deref_mut.ensures.value ∙ ap (λ (s : BanksState). s.usages) c.self.view_is in
+    rw before (lowered_fits c.requires.asks c.args.count c.requires.enough)
 
 pub returns-clause-usages : goal.returns-clause-usages
 returns-clause-usages g c =
-    let banks = chain (objects_in (g.F.Frames.parts c.args.store.now)) c.args.bank in
     let before : c.deref_mut.result.now ≡ c.args.self.now.usages = c.deref_mut.ensures.value ∙ ap (λ (s : BanksState). s.usages) c.self.view_is in
-    let after = with_items_is c.self.inside.usages c.lower.new.usages (sym c.lower.ensures.size ∙ c.deref_mut.ensures.len) in
-    rw after (subst (λ (us : List ℕ). IsRaised banks c.args.count c.lower.new.usages us) before c.lower.ensures)
+    rw (with_items_is c.self.inside.usages c.shift.new.usages (c.shift.ensures.size ∙ c.deref_mut.ensures.len)) (lowered_of (rw before at c.shift.ensures))

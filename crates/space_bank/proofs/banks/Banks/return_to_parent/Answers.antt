@@ -1,9 +1,9 @@
-use Rattle.space_bank.proofs.Names.{[], false, ℕ, List, ap, arith, drop, length, subst, sym, take, All, length-append, Capability, Geometry, Content, Object}
-use Rattle.space_bank.proofs.Names.{chain, owned_by, header_at, AreKeepable, is_free, rescind, content_at, owner_at, frames_of, objects_in, BanksState}
-use Rattle.space_bank.proofs.Names.{AreTransferred, IsRaised, owner_read}
+use Rattle.space_bank.proofs.Names.{[], ℕ, List, ap, arith, drop, length, subst, sym, take, length-append, Capability, Geometry, Content, Object, chain}
+use Rattle.space_bank.proofs.Names.{owned_by, header_at, AreKeepable, is_free, rescind, owner_at, frames_of, objects_in, BanksState, AreTransferred, IsRaised}
+use Rattle.space_bank.proofs.Names.{owner_read, rules}
 use Rattle.std.proofs.Common.{◌≡◌, ◌<◌, ◌+◌, ◌-◌, ◌^◌, ◌∙◌, ◌++◌, ◌∷◌}
-use Rattle.space_bank.proofs.Ending.{snapshots_then_ended, ended_snapshots, released_then, rest_is}
-use Rattle.space_bank.proofs.Giving.{serve_parent}
+use Rattle.space_bank.proofs.Ending.{snapshots_then_ended, ended_snapshots, listed_rest, released_then}
+use Rattle.space_bank.proofs.Walks.{owner_is_bank}
 use Rattle.space_bank.proofs.Owners.{transferred_same}
 use Rattle.space_bank.proofs.Renewing.{SameFree}
 use Rattle.space_bank.proofs.Returning.{drop_next, transferred_allocations, transferred_calls, inherited_by, mark_one, one_all, one_enough, only_used}
@@ -13,60 +13,37 @@ use Rattle.space_bank.proofs.banks.Banks.return_to_parent.Goals as goal
 
 pub release-requires-clause-asks : goal.release-requires-clause-asks
 release-requires-clause-asks g c =
-    let p = g.F.Frames.parts c.args.store.now in
-    serve_parent p c.args.self.now c.args.bank _ c.requires.asks (owner_read p c.table.result.now _ c.args.bank c.table.ensures c.header-parent.ensures)
+    owner_is_bank c.requires.asks (owner_read (g.F.Frames.parts c.args.store.now) c.table.result.now _ c.args.bank c.table.ensures c.header-parent.ensures)
 
 pub release-requires-clause-enough : goal.release-requires-clause-enough
 release-requires-clause-enough g c =
     let p = g.F.Frames.parts c.args.store.now in
-    rw (owner_read p c.table.result.now _ c.args.bank c.table.ensures c.header-parent.ensures)
-    (one_enough p c.args.self.now c.args.bank c.requires.asks c.requires.other)
+    rw (owner_read p c.table.result.now _ c.args.bank c.table.ensures c.header-parent.ensures) (one_enough c.requires.asks c.requires.other)
 
-pub transfer-requires-clause-announced : goal.transfer-requires-clause-announced
-transfer-requires-clause-announced g c =
-    let os = objects_in (g.F.Frames.parts c.args.store.now) in
+pub transfer-requires : goal.transfer-requires
+transfer-requires g c =
+    let own = owned_by (objects_in (g.F.Frames.parts c.args.store.now)) c.args.bank in
     let s = c.args.self.now in
-    let announced = g.F.PresentFrames.IsAnnounced c.args.store.now in
-    let part : take (length c.deref.result.now - (c.args.skip + 1)) (drop (c.args.skip + 1) c.deref.result.now) ≡ owned_by os c.args.bank =
-    rest_is c.deref.result.now s.listed (c.args.skip + 1)
-    (c.deref.ensures.value ∙ (ap (λ (k : BanksState). k.listed) c.self.view_is ∙ ap (λ (k : BanksState). k.listed) c.release.ensures.kept))
-    ∙ drop_next s.listed c.args.skip c.args.bank (owned_by os c.args.bank) c.requires.listed in
-    subst (λ (list : List ℕ). All announced list) (sym part)
-    (rest_all announced c.args.bank (owned_by os c.args.bank) (subst (λ (list : List ℕ). All announced list) c.requires.listed c.requires.announced))
+    rw (listed_rest s (c.args.skip + 1) c.deref.ensures.value c.self.view_is c.release.ensures.kept
+    ∙ drop_next s.listed c.args.skip c.args.bank own c.requires.listed) (record {
+      announced = rest_all (g.F.PresentFrames.IsAnnounced c.args.store.now) c.args.bank own (rw c.requires.listed at c.requires.announced);
+      used = owned_used (objects_in (g.F.Frames.parts c.args.store.now)) c.args.bank;
+    })
 
-pub transfer-requires-clause-used : goal.transfer-requires-clause-used
-transfer-requires-clause-used g c =
-    let os = objects_in (g.F.Frames.parts c.args.store.now) in
-    let s = c.args.self.now in
-    let part : take (length c.deref.result.now - (c.args.skip + 1)) (drop (c.args.skip + 1) c.deref.result.now) ≡ owned_by os c.args.bank =
-    rest_is c.deref.result.now s.listed (c.args.skip + 1)
-    (c.deref.ensures.value ∙ (ap (λ (k : BanksState). k.listed) c.self.view_is ∙ ap (λ (k : BanksState). k.listed) c.release.ensures.kept))
-    ∙ drop_next s.listed c.args.skip c.args.bank (owned_by os c.args.bank) c.requires.listed in
-    subst (λ (list : List ℕ). All (λ n. is_free (content_at os n) ≡ false) list) (sym part) (owned_used os c.args.bank)
-
-pub rescind-requires-clause-announced : goal.rescind-requires-clause-announced
-rescind-requires-clause-announced g c =
-    let os = objects_in (g.F.Frames.parts c.args.store.now) in
-    let first = subst (λ (list : List ℕ). All (g.F.PresentFrames.IsAnnounced c.args.store.now) list) c.requires.listed c.requires.announced 0 0 (omega arith) in
-    one_all (g.F.PresentFrames.IsAnnounced c.transfer.new.store) c.args.bank (c.transfer.ensures.snapshots.announced c.args.bank first)
-
-pub rescind-requires-clause-allocations : goal.rescind-requires-clause-allocations
-rescind-requires-clause-allocations g c =
-    let p = g.F.Frames.parts c.args.store.now in
+pub rescind-requires : goal.rescind-requires
+rescind-requires g c =
     let q = g.F.Frames.parts c.transfer.new.store in
-    let first = subst (λ (list : List ℕ). All (g.F.PresentFrames.IsAnnounced c.args.store.now) list) c.requires.listed c.requires.announced 0 0 (omega arith) in
-    let known = g.met.F.PresentFrames.known_announced c.transfer.new.store c.args.bank (c.transfer.ensures.snapshots.announced c.args.bank first) in
-    one_all (λ n. (header_at q.headers n).allocations < 2 ^ 64 - 1) c.args.bank
-    (transferred_allocations p c.args.self.now c.args.bank c.requires.asks c.requires.other q c.transfer.ensures.keepable known.0)
-
-pub rescind-requires-clause-calls : goal.rescind-requires-clause-calls
-rescind-requires-clause-calls g c =
-    let p = g.F.Frames.parts c.args.store.now in
-    let q = g.F.Frames.parts c.transfer.new.store in
-    let first = subst (λ (list : List ℕ). All (g.F.PresentFrames.IsAnnounced c.args.store.now) list) c.requires.listed c.requires.announced 0 0 (omega arith) in
-    let known = g.met.F.PresentFrames.known_announced c.transfer.new.store c.args.bank (c.transfer.ensures.snapshots.announced c.args.bank first) in
-    one_all (λ n. (header_at q.headers n).calls < 2 ^ 64 - 1) c.args.bank
-    (transferred_calls p c.args.self.now c.args.bank c.requires.asks c.requires.other q c.transfer.ensures.keepable known.0)
+    let announced = c.transfer.ensures.snapshots.announced c.args.bank ((rw c.requires.listed at c.requires.announced) 0 0 (omega arith)) in
+    let known = g.met.F.PresentFrames.known_announced c.transfer.new.store c.args.bank announced in
+    record {
+      announced = one_all (g.F.PresentFrames.IsAnnounced c.transfer.new.store) c.args.bank announced;
+      once = search rules;
+      allocations = one_all (λ n. (header_at q.headers n).allocations < 2 ^ 64 - 1) c.args.bank
+          (transferred_allocations c.requires.asks c.requires.other q c.transfer.ensures.keepable known.0);
+      calls = one_all (λ n. (header_at q.headers n).calls < 2 ^ 64 - 1) c.args.bank
+          (transferred_calls c.requires.asks c.requires.other q c.transfer.ensures.keepable known.0);
+      current = c.transfer.ensures.current c.requires.asks.sound.1.current;
+    }
 
 pub returns-clause-objects : goal.returns-clause-objects
 returns-clause-objects g c =
@@ -74,13 +51,10 @@ returns-clause-objects g c =
     let os = objects_in p in
     let us = objects_in (g.F.Frames.parts c.transfer.new.store) in
     let s = c.args.self.now in
-    let owner = owner_read p c.table.result.now _ c.args.bank c.table.ensures c.header-parent.ensures in
-    let part : take (length c.deref.result.now - (c.args.skip + 1)) (drop (c.args.skip + 1) c.deref.result.now) ≡ owned_by os c.args.bank =
-    rest_is c.deref.result.now s.listed (c.args.skip + 1)
-    (c.deref.ensures.value ∙ (ap (λ (k : BanksState). k.listed) c.self.view_is ∙ ap (λ (k : BanksState). k.listed) c.release.ensures.kept))
+    let part = listed_rest s (c.args.skip + 1) c.deref.ensures.value c.self.view_is c.release.ensures.kept
     ∙ drop_next s.listed c.args.skip c.args.bank (owned_by os c.args.bank) c.requires.listed in
     let transferred : AreTransferred (owned_by os c.args.bank) (owner_at os c.args.bank) os us =
-    subst (λ (n : ℕ). AreTransferred (owned_by os c.args.bank) n os us) owner
+    subst (λ (n : ℕ). AreTransferred (owned_by os c.args.bank) n os us) (owner_read p c.table.result.now _ c.args.bank c.table.ensures c.header-parent.ensures)
     (subst (λ (list : List ℕ). AreTransferred list c.header-parent.result.owner os us) part c.transfer.ensures.objects) in
     c.rescind.ensures.objects ∙ ap (λ (vs : List Object). rescind (c.args.bank ∷ []) vs) (inherited_by os us c.args.bank transferred)
 
@@ -93,18 +67,15 @@ returns-clause-carried g c =
     let us = objects_in q in
     let s = c.args.self.now in
     let b = c.args.bank in
-    let banks = chain os (owner_at os b) in
     let owner = owner_read p c.table.result.now _ b c.table.ensures c.header-parent.ensures in
-    let part : take (length c.deref.result.now - (c.args.skip + 1)) (drop (c.args.skip + 1) c.deref.result.now) ≡ owned_by os b =
-    rest_is c.deref.result.now s.listed (c.args.skip + 1)
-    (c.deref.ensures.value ∙ (ap (λ (k : BanksState). k.listed) c.self.view_is ∙ ap (λ (k : BanksState). k.listed) c.release.ensures.kept))
+    let part = listed_rest s (c.args.skip + 1) c.deref.ensures.value c.self.view_is c.release.ensures.kept
     ∙ drop_next s.listed c.args.skip b (owned_by os b) c.requires.listed in
     let transferred : AreTransferred (owned_by os b) (owner_at os b) os us =
     subst (λ (n : ℕ). AreTransferred (owned_by os b) n os us) owner
     (subst (λ (list : List ℕ). AreTransferred list c.header-parent.result.owner os us) part c.transfer.ensures.objects) in
-    let raised : IsRaised banks 1 c.release.new.self.usages s.usages =
+    let raised : IsRaised (chain os (owner_at os b)) 1 c.release.new.self.usages s.usages =
     subst (λ (n : ℕ). IsRaised (chain os n) 1 c.release.new.self.usages s.usages) owner c.release.ensures.usages in
-    let first = subst (λ (list : List ℕ). All (g.F.PresentFrames.IsAnnounced c.args.store.now) list) c.requires.listed c.requires.announced 0 0 (omega arith) in
+    let first = (rw c.requires.listed at c.requires.announced) 0 0 (omega arith) in
     let known = (g.met.F.PresentFrames.known_announced c.args.store.now b first).0 in
     let marks : length (c.self.inside.nodes ++ c.self.inside.pages) ≡ length (s.free_nodes ++ s.free_pages) =
     ap (λ (k : BanksState). length (k.free_nodes ++ k.free_pages)) c.self.view_is ∙
@@ -115,30 +86,26 @@ returns-clause-carried g c =
       known,
       marks,
       length-append s.free_nodes s.free_pages,
-      serve_count p s b c.requires.asks,
+      serve_count c.requires.asks,
       c.requires.asks.counted.nodes,
       c.requires.asks.counted.pages,
     ) in
-    returned_carried p s b c.requires.asks c.requires.other r _ us transferred
-    (released_then banks 1 s c.release.new.self _ c.mark.new.nodes c.mark.new.pages (b ∷ []) raised c.release.ensures.kept c.self.view_is
+    returned_carried c.requires.asks c.requires.other transferred (released_then (b ∷ []) raised c.release.ensures.kept c.self.view_is
     c.mark.ensures.nodes c.mark.ensures.pages
     (mark_one (c.self.inside.nodes ++ c.self.inside.pages) (c.mark.new.nodes ++ c.mark.new.pages) b inside c.mark.ensures.marks))
     c.rescind.ensures.objects c.rescind.ensures.current
-    (λ age few k. subst (λ (h : Geometry). AreKeepable h (age + 1) (frames_of r)) c.transfer.ensures.snapshots.geometry
-    (c.rescind.ensures.keepable age few
+    (λ age few k. subst (λ (h : Geometry). AreKeepable h (age + 1) (frames_of r)) c.transfer.ensures.snapshots.geometry (c.rescind.ensures.keepable age few
     (subst (λ (h : Geometry). AreKeepable h age (frames_of q)) (sym c.transfer.ensures.snapshots.geometry) (c.transfer.ensures.keepable age k))))
 
 pub returns-clause-snapshots : goal.returns-clause-snapshots
 returns-clause-snapshots g c =
     let q = g.F.Frames.parts c.transfer.new.store in
     let os = objects_in (g.F.Frames.parts c.args.store.now) in
-    let us = objects_in q in
     let list = take (length c.deref.result.now - (c.args.skip + 1)) (drop (c.args.skip + 1) c.deref.result.now) in
     let free : SameFree (g.F.Frames.parts c.args.store.now) q =
-    λ n. ap (λ (k : Content Capability). is_free k) (transferred_same list c.header-parent.result.owner os us c.transfer.ensures.objects n) in
+    λ n. ap (λ (k : Content Capability). is_free k) (transferred_same list c.header-parent.result.owner os (objects_in q) c.transfer.ensures.objects n) in
     snapshots_then_ended g.F.Frames.parts g.F.Frames.IsFetched g.F.PresentFrames.IsAnnounced g.F.Frames.ContinuesTo g.met.F.Frames.continues_twice
     c.args.store.now c.transfer.new.store c.rescind.new.store c.transfer.ensures.snapshots free
     (ended_snapshots g.F.Frames.parts g.F.Frames.IsFetched g.F.PresentFrames.IsAnnounced g.F.Frames.ContinuesTo c.transfer.new.store c.rescind.new.store
-    (c.args.bank ∷ []) c.rescind.ensures.given_up c.rescind.ensures.objects
-    (λ n member. free n ∙ only_used os c.args.bank c.requires.asks.bank n member)
+    (c.args.bank ∷ []) c.rescind.ensures.given_up c.rescind.ensures.objects (λ n member. free n ∙ only_used os c.args.bank c.requires.asks.bank n member)
     c.rescind.ensures.fetched c.rescind.ensures.announced c.rescind.ensures.continues)

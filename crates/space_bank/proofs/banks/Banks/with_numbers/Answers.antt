@@ -9,8 +9,7 @@ free_numbers-requires-2-clause-fits g c =
     let p = g.F.Frames.parts c.args.store.now in
     let sound = c.requires.sound in
     numbers_fit p c.table.result.now c.geometry-geometry.result c.count.result c.table.ensures c.count.ensures c.count.type_inv
-    c.geometry-geometry.ensures.geometry
-    (keepable_count p.geometry sound.0 p sound.1.keepable)
+    c.geometry-geometry.ensures.geometry (keepable_count p.geometry sound.0 p sound.1.keepable)
 
 pub count_usages-requires-clause-roles : goal.count_usages-requires-clause-roles
 count_usages-requires-clause-roles g c =
