@@ -1,5 +1,4 @@
-// Numbers, each read at a place of a line. Most invocations have short ones and are read so. After
-// `None` the line may still say one.
+// Invocations, each number read at a place of the line. After `None` the line may still say one.
 ghost use Rattle.std.specs.Prelude.{◌≡◌, ◌+◌, ◌<◌, ◌≤◌, [], Some, IfSome, length, drop};
 ghost use Rattle.model.specs.declared.command.Command.{Command};
 ghost use Rattle.model.specs.Text.{Fits, command_words};

@@ -14,7 +14,8 @@ use capability::{Fresh, PresentFrames};
 use model::{Capability, Content, Role};
 
 impl Banks {
-    /// Makes a free number, fetched and announced, a page, a node or a bank of a bank.
+    /// Makes a free number, fetched and announced, a page, a node or a bank that `bank` owns. No limit in the
+    /// chain of `bank` may be reached, and a new bank needs fewer than 16 banks in it.
     pub fn allocate<F: PresentFrames>(
         &mut self,
         store: &mut F,
