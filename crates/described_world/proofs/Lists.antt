@@ -2,7 +2,7 @@
 use Rattle.described_world.proofs.Names.{ℕ, zero, suc, inl, inr, List, [], map, length, replicate, Some, slice_get, drop, take, slice_index_or, slice_set, refl}
 use Rattle.described_world.proofs.Names.{sym, ap, subst, arith, All, Any, Contains, cases_eq, nat_tests, get_or-set_same, get_or-set_other, length-drop}
 use Rattle.described_world.proofs.Names.{length-set, drop_all, drop_more, take_all, All-head, All-set, All-tail, Contains-get_or, AreDistinct, first_named}
-use Rattle.described_world.proofs.Names.{set_each}
+use Rattle.described_world.proofs.Names.{set_each, is_marked, true, false, true≢false, Bool}
 use Rattle.std.proofs.Common.{◌≡◌, ◌≢◌, ◌⊎◌, ◌+◌, ◌<◌, ◌≤◌, ◌∷◌, ◌++◌, ◌-◌, ◌∙◌}
 use Rattle.std.specs.Prelude.{◌↔◌}
 
@@ -143,23 +143,59 @@ module _ {E V : Type 0} (index : E → ℕ) (value : E → V) where
 pub rest_is : {X : Type 0} → (xs : List X) (k : ℕ) → take (length xs - k) (drop k xs) ≡ drop k xs
 rest_is xs k = take_all (length xs - k) (drop k xs) (omega (arith, length-drop k xs))
 
--- The numbers from one on differ exactly where those behind it do and don't have it.
-pub number_twice : (ns : List ℕ) (i : ℕ) → i < length ns → (AreDistinct ns ↔ AreDistinct (drop i ns))
-    → Any (λ m. m ≡ slice_index_or ns i 0) (take (length ns - (i + 1)) (drop (i + 1) ns)) → AreDistinct ns → ⊥
-number_twice ns i lt was found distinct =
-    let there = subst (Any (λ m. m ≡ slice_index_or ns i 0)) (rest_is ns (i + 1)) found in
-    (subst AreDistinct (drop_more ns i 0 lt) (was.0 distinct)).0 (subst (Contains (drop (i + 1) ns)) there.4 (there.0, there.2, there.3))
+-- Numbers that are gone through in order, with those before marked.
 
-pub number_apart : (ns : List ℕ) (i : ℕ) → i < length ns → (AreDistinct ns ↔ AreDistinct (drop i ns))
-    → (Any (λ m. m ≡ slice_index_or ns i 0) (take (length ns - (i + 1)) (drop (i + 1) ns)) → ⊥) → AreDistinct ns ↔ AreDistinct (drop (i + 1) ns)
-number_apart ns i lt was apart = (
-  λ distinct. (subst AreDistinct (drop_more ns i 0 lt) (was.0 distinct)).1,
-  λ rest. was.1 (subst AreDistinct (sym (drop_more ns i 0 lt))
-      ((λ h. apart (subst (Any (λ m. m ≡ slice_index_or ns i 0)) (sym (rest_is ns (i + 1))) (h.0, slice_index_or ns i 0, h.1, h.2, refl))), rest)),
+none_marked : (count m : ℕ) → is_marked (replicate count false) m ≡ false
+none_marked zero m = refl
+none_marked (suc c) zero = refl
+none_marked (suc c) (suc m) = none_marked c m
+
+-- the numbers differ, and none is marked
+pub record AreNew (marks : List Bool) (ns : List ℕ) : Type 0 where
+  pub distinct : AreDistinct ns
+  pub unmarked : (m : ℕ) → Contains ns m → is_marked marks m ≡ false
+
+pub all_new : (ns : List ℕ) (count : ℕ) → AreDistinct ns ↔ AreNew (replicate count false) ns
+all_new ns count = (λ d. record { distinct = d; unmarked = λ m h. none_marked count m }, λ new. new.distinct)
+
+pub not_new : (ns : List ℕ) (marks : List Bool) (i : ℕ) → i < length ns → is_marked marks (slice_index_or ns i 0) ≡ true
+    → (AreDistinct ns ↔ AreNew marks (drop i ns)) → AreDistinct ns → ⊥
+not_new ns marks i lt marked was distinct =
+    let new : AreNew marks (slice_index_or ns i 0 ∷ drop (i + 1) ns) = subst (AreNew marks) (drop_more ns i 0 lt) (was.0 distinct) in
+    absurd (true≢false (sym marked ∙ new.unmarked (slice_index_or ns i 0) (contains_here (slice_index_or ns i 0) (drop (i + 1) ns))))
+
+-- one number more is marked
+next_new : (n : ℕ) (ns : List ℕ) (marks : List Bool) → n < length marks → is_marked marks n ≡ false
+    → AreNew marks (n ∷ ns) ↔ AreNew (slice_set marks n true) ns
+next_new n ns marks lt unmarked = (
+  λ new. record {
+    distinct = new.distinct.1;
+    unmarked = λ m h. get_or-set_other marks n m true false (λ (is : m ≡ n). new.distinct.0 (subst (Contains ns) is h))
+        ∙ new.unmarked m (contains_there m n ns h);
+  },
+  λ rest. record {
+    distinct = (λ h. true≢false (sym (get_or-set_same marks n true false lt) ∙ rest.unmarked n h), rest.distinct);
+    unmarked = λ m h. elim (contains_cases m n ns h) [
+      | inl is ↦ subst (λ (k : ℕ). is_marked marks k ≡ false) is unmarked
+      | inr r ↦ sym (get_or-set_other marks n m true false
+          (λ (is : m ≡ n). true≢false (sym (get_or-set_same marks n true false lt) ∙ rest.unmarked n (subst (Contains ns) is r))))
+          ∙ rest.unmarked m r
+    ];
+  },
 )
 
-pub numbers_done : (ns : List ℕ) (i : ℕ) → length ns ≤ i → (AreDistinct ns ↔ AreDistinct (drop i ns)) → AreDistinct ns
-numbers_done ns i done was = was.1 (subst AreDistinct (sym (drop_all i ns done)) tt)
+pub still_new : (ns : List ℕ) (marks : List Bool) (i : ℕ) → i < length ns → slice_index_or ns i 0 < length marks
+    → is_marked marks (slice_index_or ns i 0) ≡ false → (AreDistinct ns ↔ AreNew marks (drop i ns))
+    → AreDistinct ns ↔ AreNew (slice_set marks (slice_index_or ns i 0) true) (drop (i + 1) ns)
+still_new ns marks i lt within unmarked was =
+    let more = drop_more ns i 0 lt in let next = next_new (slice_index_or ns i 0) (drop (i + 1) ns) marks within unmarked in (
+      λ distinct. next.0 (subst (AreNew marks) more (was.0 distinct)),
+      λ new. was.1 (subst (AreNew marks) (sym more) (next.1 new)),
+    )
+
+pub ended_new : (ns : List ℕ) (marks : List Bool) (i : ℕ) → length ns ≤ i → (AreDistinct ns ↔ AreNew marks (drop i ns)) → AreDistinct ns
+ended_new ns marks i done was =
+    was.1 (subst (AreNew marks) (sym (drop_all i ns done)) (record { distinct = tt; unmarked = λ m h. absurd (contains_none m h) }))
 
 -- The same of the indexes of entries.
 module _ {E : Type 0} (index : E → ℕ) where

@@ -27,8 +27,9 @@ pub use Rattle.model.specs.declared.object.Content.{Content}
 pub use Rattle.model.specs.declared.object.Role.{Role}
 pub use Rattle.model.specs.declared.object.State.{State}
 pub use Rattle.model.specs.declared.object.State.TheVariants.{Available}
-pub use Rattle.std.proofs.Common.{List, None, Option, Some, [], ap, arith, drop, inl, inr, length, map, refl, replicate, rules, slice_get, slice_index_or}
-pub use Rattle.std.proofs.Common.{slice_set, subst, suc, sym, take, unwrap_or, vec_len, zero, ℕ}
+pub use Rattle.number_set.specs.Marks.{is_marked}
+pub use Rattle.std.proofs.Common.{Bool, List, None, Option, Some, [], ap, arith, drop, false, inl, inr, length, map, refl, replicate, rules, slice_get}
+pub use Rattle.std.proofs.Common.{slice_index_or, slice_set, subst, suc, sym, take, true, true≢false, unwrap_or, vec_len, zero, ℕ}
 pub use Rattle.std.proofs.Math.ListN.{get_or-map}
 pub use Rattle.std.proofs.lemmas.Bool.{cases_eq}
 pub use Rattle.std.proofs.lemmas.Bool.Decides.{nat_tests}

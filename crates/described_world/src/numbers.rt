@@ -1,11 +1,13 @@
 // The numbers that a description names.
 ghost use Rattle.std.specs.Prelude.{◌≡◌, ◌+◌, ◌<◌, ◌≤◌, ◌^◌, ◌↔◌, map, IfOk, IsTrue};
-ghost use Rattle.std.specs.List.{All, Any};
+ghost use Rattle.std.specs.List.{All};
+ghost use Rattle.layout.specs.Superblock.{IsGeometry};
 ghost use Rattle.model.specs.Sound.{object_count};
 ghost use Rattle.described_world.specs.Described.{AreDistinct, HasNumbers, node_numbers, page_numbers};
 
 use description::{BankEntry, Description, NodeEntry, ProcessEntry};
 use model::Geometry;
+use number_set::NumberSet;
 use std::alloc::{AllocError, Global};
 
 fn bank_numbers(alloc: Global, banks: &[BankEntry]) -> Result<Vec<u64>, AllocError>
@@ -73,34 +75,34 @@ fn are_of_pages(geometry: Geometry, numbers: &[u64]) -> bool
         .all(|number| geometry.nodes <= *number && *number < end)
 }
 
-fn names_number(numbers: &[u64], number: u64) -> bool
-    ensures { IsTrue result ↔ Any (λ n. n ≡ number) numbers.now }
+// Whether no number comes twice. Fails only if memory runs out.
+fn are_distinct(alloc: Global, numbers: &[u64], count: usize) -> Result<bool, AllocError>
+    requires { All (λ n. n < count) numbers.now }
+    ensures { IfOk result (λ distinct. IsTrue distinct ↔ AreDistinct numbers.now) }
 {
-    numbers.iter().any(|named| *named == number)
-}
-
-// Whether no number comes twice. There are few where all are those of objects.
-fn are_distinct(numbers: &[u64]) -> bool
-    ensures { IsTrue result ↔ AreDistinct numbers.now }
-{
-    for (i, number) in numbers.iter().enumerate() {
-        if names_number(&numbers[i + 1..], *number) {
-            return false;
+    let mut seen = NumberSet::new(alloc, count)?;
+    for number in numbers {
+        let number = *number as usize;
+        if seen.contains(number) {
+            return Ok(false);
         }
+        seen.set(number, true);
     }
-    true
+    Ok(true)
 }
 
 // Whether each number is one of its kind, and none is named twice. Fails only where memory runs
 // out.
 pub(crate) fn has_numbers(alloc: Global, description: &Description) -> Result<bool, AllocError>
-    requires { object_count description.now.geometry < 2 ^ 64 }
+    requires { IsGeometry description.now.geometry }
     ensures { IfOk result (λ has. IsTrue has ↔ HasNumbers description.now) }
 {
     let mut numbers = node_numbers(alloc, description)?;
     let pages = page_numbers(alloc, description)?;
     let geometry = description.geometry;
-    let in_range = are_of_nodes(geometry, &numbers) && are_of_pages(geometry, &pages);
+    if !are_of_nodes(geometry, &numbers) || !are_of_pages(geometry, &pages) {
+        return Ok(false);
+    }
     numbers.extend_from_slice(&pages)?;
-    Ok(in_range && are_distinct(&numbers))
+    are_distinct(alloc, &numbers, (geometry.nodes + geometry.pages) as usize)
 }
