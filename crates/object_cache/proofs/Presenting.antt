@@ -52,7 +52,7 @@ module _ {D : Type 0} (hs : StoreState D → List ObjectHeader) (cs : StoreState
           continues = continues_after i;
         }))
 
-module _ {D : Type 0} (n : ℕ) (i s t : StoreState D) (view : i ≡ s) where
+module _ {D : Type 0} (n : ℕ) {i s t : StoreState D} (view : i ≡ s) where
   -- another content
   module _ (f : Content Cap → Content Cap) (is : t ≡ record i { contents = set i.contents n (f (held_at i.contents n)) }) where
     pub whole_held : IsWhole i → IsWhole t
