@@ -11,6 +11,7 @@ use Rattle.std.proofs.Common.{◌≡◌, ◌+◌, ◌-◌, ◌≤◌, ◌<◌, �
 use Rattle.std.specs.Prelude.{◌==◌}
 use Rattle.object_cache.proofs.Leading.{IsSeenAs}
 use Rattle.object_cache.proofs.Marking.{one_fewer}
+use Rattle.object_cache.proofs.Turns.{running_in}
 
 -- ---- what is saved goes home
 
@@ -41,28 +42,7 @@ module _ (s : Stored) (m : Memory) where
       }) m left
       count
   unfolding frozen_in
-  numbered_stands left count generation entries age k is = record {
-    headers = is.headers;
-    frozen_headers = is.frozen_headers;
-    marks = is.marks;
-    dirty_marks = is.dirty_marks;
-    pending_marks = is.pending_marks;
-    entries = is.entries;
-    frames = is.frames;
-    puts = is.puts;
-    counted = is.counted;
-    within = is.within;
-    marked = is.marked;
-    clean = is.clean;
-    unput = is.unput;
-    unwritten = is.unwritten;
-    idle = is.idle;
-    running = is.running;
-    keepable = is.keepable;
-    held = is.held;
-    apart = is.apart;
-    freed = is.freed;
-  }
+  numbered_stands left count generation entries age k is = search
 
   pub home_stands : (left count : ℕ) (b : Bool) (k : ℕ) → IsCache s m left count → IsCache (stored_with s b k) m left count
   home_stands left count true k is = numbered_stands left count s.saved.generation 0 s.saved.age k is
@@ -210,13 +190,7 @@ module _ {D : Type 0} (disk : D → Disk) {d : DurableState D} {m : Memory} {lef
     (view : cache_of disk d m left order most_entries ≡ s) (is : IsCache (stored_of disk d) m left count) (f : FrozenFrames) (running : s.frozen ≡ Some f)
     (stable : f.left ≡ 0) where
   found : (h : FrozenPuts) × ((stored_of disk d).frozen ≡ Some h) × (record { frames = frozen_in (stored_of disk d) m; size = h.size; left = left } ≡ f)
-  found = go (stored_of disk d).frozen refl (ap (λ t. t.frozen) view ∙ running)
-    where
-      go : (o : Option FrozenPuts) → (stored_of disk d).frozen ≡ o →
-          option_map (λ h. record { frames = frozen_in (stored_of disk d) m; size = h.size; left = left }) o ≡ Some f →
-          (h : FrozenPuts) × ((stored_of disk d).frozen ≡ Some h) × (record { frames = frozen_in (stored_of disk d) m; size = h.size; left = left } ≡ f)
-      go None at some = absurd (none-some f some)
-      go (Some h) at some = (h, at, same_Some (record { frames = frozen_in (stored_of disk d) m; size = h.size; left = left }) f some)
+  found = running_in (frozen_in (stored_of disk d) m) left (stored_of disk d).frozen f (ap (λ t. t.frozen) view ∙ running)
 
   none_left : left ≡ 0
   none_left = ap (λ g. g.left) found.2 ∙ stable
