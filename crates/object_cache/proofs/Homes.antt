@@ -1,4 +1,5 @@
 -- What is saved goes home, or what is frozen is saved: no object changes.
+use Rattle.object_cache.proofs.Names.{AreFrozen, most}
 use Rattle.object_cache.proofs.Names.{inl, inr, ℕ, Bool, true, false, cond, List, [], length, map, Option, Some, None, option_map, Result, Ok, Err, refl, sym}
 use Rattle.object_cache.proofs.Names.{ap, subst, arith, count_by, range_with_len, cases_lt, length-map, same_lists, get_or_past, length-map-range_with_len}
 use Rattle.object_cache.proofs.Names.{get_or-map-range_with_len, sum_by-cons, none-some, same_Some, blank_frame, frame_at, header_at, AreKeepable, Disk, Put}
@@ -162,28 +163,14 @@ module _ {s : Stored} {m : Memory} {count : ℕ} (is : IsCache s m 0 count) (f :
     contents_saved = maps_same (content_at after m) (content_at s m) (length m.headers) (λ n below. content_stays n)
 
     pub saved_stands : IsCache after m 0 count
-    saved_stands = record {
-      headers = is.headers;
-      frozen_headers = is.frozen_headers;
-      marks = is.marks;
-      dirty_marks = is.dirty_marks;
-      pending_marks = is.pending_marks;
-      entries = is.entries;
-      frames = length_over ∙ is.frames;
-      puts = is.puts;
-      counted = is.counted;
-      within = is.within;
-      marked = is.marked;
-      clean = λ n clean touched. is.clean n clean touched ∙ ap Kept (sym (present_stays n));
-      unput = is.unput;
-      unwritten = λ n below untouched. present_stays n ∙ is.unwritten n below untouched ∙ sym (frozen_stays n);
-      idle = λ none n. none_pending n;
-      running = λ g g_is. absurd (none-some g g_is);
-      keepable = λ g g_is. absurd (none-some g g_is);
-      held = is.held;
-      apart = is.apart;
-      freed = is.freed;
-    }
+    saved_stands =
+        let clean : (k : ℕ) → mark_at m.dirty k ≡ false → mark_at m.touched k ≡ true → put_at s.working k ≡ Kept (present_at after m k) =
+        λ n clean touched. is.clean n clean touched ∙ ap Kept (sym (present_stays n)) in
+        let unwritten : (k : ℕ) → k < length m.headers → mark_at m.touched k ≡ false → present_at after m k ≡ frozen_at after m k =
+        λ n below untouched. present_stays n ∙ is.unwritten n below untouched ∙ sym (frozen_stays n) in
+        let running : (g : FrozenPuts) → None ≡ Some g → AreFrozen g m.pending 0 = λ g g_is. absurd (none-some g g_is) in
+        let keepable : (g : FrozenPuts) → None ≡ Some g → AreKeepable s.saved.geometry most (frozen_in after m) = λ g g_is. absurd (none-some g g_is) in
+        search (length_over ∙ is.frames, none_pending)
 
 -- the same by what is seen
 module _ {D : Type 0} (disk : D → Disk) {d : DurableState D} {m : Memory} {left count : ℕ} {order : List ℕ} {most_entries : ℕ} {s : StoreState D}
