@@ -14,8 +14,8 @@ pub use Rattle.sparse_vec.proofs.Lists.{changed_once, get_map}
 pub use Rattle.sparse_vec.proofs.Positions.{filled}
 pub use Rattle.sparse_vec.specs.SparseVec.{item_at}
 pub use Rattle.std.proofs.Common.{Bool, IsSome, List, None, Option, Some, [], ap, arith, cond, drop, false, get_or, inl, inr, is_some, length, length-append}
-pub use Rattle.std.proofs.Common.{length-set, map, nat_eq, option_map, refl, replicate, set, slice_set, subst, suc, sym, take, true, true≢false, unwrap_or}
-pub use Rattle.std.proofs.Common.{vec_capacity, vec_len, zero, ℕ}
+pub use Rattle.std.proofs.Common.{length-set, map, nat_eq, option_map, refl, replicate, set, subst, suc, sym, take, true, true≢false, vec_capacity, vec_len}
+pub use Rattle.std.proofs.Common.{zero, ℕ}
 pub use Rattle.std.proofs.lemmas.Bool.{cases_eq, cases_lt, eq-eqb, eqb-true, le-ltb, lt-ltb, ne_eqb}
 pub use Rattle.std.proofs.lemmas.List.{get_or-drop, get_or-replicate, get_or-set_other, get_or-set_same, get_or_default, get_or_past, length-drop, length-map}
 pub use Rattle.std.proofs.lemmas.List.{length-replicate, length-take-le, same_lists, set-get_or, take-append-drop, take_all, take_more}
@@ -26,11 +26,11 @@ pub use Rattle.std.specs.Map.{keys_of, lookup_entry, remove_entry}
 pub use Rattle.std.specs.NonZero.{non_zero_usize_get}
 pub use Rattle.std.specs.Option.{option_map_or}
 pub use Rattle.std.specs.Prelude.{nat_le, nat_lt}
-pub use Rattle.cache_entries.specs.Bodies.{AreBodies, HasRoom, content_at, content_in, kind_at, kind_of, kind_with_root, slots_are_of, slots_from, with_slots_of}
-pub use Rattle.cache_entries.specs.Bodies.{with_words_of, words_are_of}
+pub use Rattle.cache_entries.specs.Bodies.{AreBodies, HasRoom, content_at, content_in, kind_at, kind_of, kind_with_root, slots_are_of, slots_from}
+pub use Rattle.cache_entries.specs.Bodies.{with_slots_of, with_words_of, words_are_of}
 unfoldable pub use Rattle.cache_entries.specs.Bodies.{contents_in}
 pub use Rattle.cache_entries.specs.Entries.{Entry, changing, entry_at}
-pub use Rattle.cache_entries.specs.Order.{AllDiffer, AreLatest, AreOrdered, ArePlaced, AreSpread, AreStored, EntriesState, OrderState, entries_of, entry_in}
-pub use Rattle.cache_entries.specs.Order.{Uses, order_of, place_at, place_below, used_in_turn, used_last, used_longest_ago, with_entry_of, with_new, without}
-pub use Rattle.cache_entries.specs.Order.{without_entry}
+pub use Rattle.cache_entries.specs.Order.{AllDiffer, AreLatest, AreOrdered, ArePlaced, AreSpread, AreStored, EntriesState, OrderState, Uses, entries_of}
+pub use Rattle.cache_entries.specs.Order.{entry_in, order_of, place_at, place_below, used_in_turn, used_last, used_longest_ago, with_entry_of, with_new}
+pub use Rattle.cache_entries.specs.Order.{without, without_entry}
 pub use Rattle.cache_entries.specs.declared.bodies.Kind.{Kind}

@@ -5,9 +5,9 @@ use Rattle.cache_entries.proofs.Names.{length-set, length-take-le, length-append
 use Rattle.cache_entries.proofs.Names.{get_or-set_same, get_or-set_other, get_or_past, none-some, same_Some, slice_get, is_member, AllDiffer, ArePlaced}
 use Rattle.cache_entries.proofs.Names.{AreSpread, OrderState, order_of, place_at, place_below, used_last, used_longest_ago, without, changed_once, get_map}
 use Rattle.std.proofs.Common.{◌≡◌, ◌≢◌, ◌⊎◌, ◌+◌, ◌-◌, ◌<◌, ◌≤◌, ◌∷◌, ◌++◌, ◌∙◌}
-use Rattle.cache_entries.proofs.Orders.{differ_without, gone, length_without, member_head, member_tail, still}
+use Rattle.cache_entries.proofs.Orders.{differ_without, gone, length_without, member_head, still}
 use Rattle.cache_entries.proofs.Recent.{front_apart, front_stays, listed_member}
-use Rattle.cache_entries.proofs.Turns.{at_end, differ_end, either, in_tail, member_used, not_here, not_at_end, without_here, without_tail}
+use Rattle.cache_entries.proofs.Turns.{at_end, differ_end, either, in_tail, member_used, without_here, without_tail}
 
 -- ---- members of a list and of its first ones
 
@@ -136,7 +136,7 @@ pub record Spreads (keys numbers places : List ℕ) (count : ℕ) (s : OrderStat
   pub are : ArePlaced keys numbers places count
   pub view : order_of keys numbers places count ≡ s
 
-module _ (keys numbers places : List ℕ) (count : ℕ) (are : ArePlaced keys numbers places count) where
+module _ {keys numbers places : List ℕ} {count : ℕ} (are : ArePlaced keys numbers places count) where
   abbrev most : ℕ
   most = length numbers
 
@@ -193,7 +193,7 @@ module _ (keys numbers places : List ℕ) (count : ℕ) (are : ArePlaced keys nu
   }
 
   -- the same of an order that is seen as a value
-  module _ (s : OrderState) (view : order_of keys numbers places count ≡ s) where
+  module _ {s : OrderState} (view : order_of keys numbers places count ≡ s) where
     pub spread_is : AreSpread s
     spread_is = subst AreSpread view spread
 
@@ -253,7 +253,7 @@ module _ (keys numbers places : List ℕ) (count : ℕ) (are : ArePlaced keys nu
     known_place q is = is ∙ get_or_default places n q most (place_known n below)
 
     -- it is used last
-    module _ (s : OrderState) (view : order_of keys numbers places count ≡ s) where
+    module _ {s : OrderState} (view : order_of keys numbers places count ≡ s) where
       pub promoted_last : (after : List ℕ) → after ≡ place n ∷ without (place n) keys → Spreads after numbers places count (used_last n s)
       promoted_last after is =
           let k = some_used count here in
@@ -366,9 +366,9 @@ module _ (keys numbers places : List ℕ) (count : ℕ) (are : ArePlaced keys nu
         let at = placed_at most (place m) p (sym (place_of places most m) ∙ is) in
         true≢false (sym (are.used m at.1) ∙ ap (is_member used) at.0 ∙ p_free)
 
-    pub inserted : (s : OrderState) → order_of keys numbers places count ≡ s → (after : List ℕ) (c : ℕ) → after ≡ p ∷ without p keys → c ≡ count + 1 →
+    pub inserted : {s : OrderState} → order_of keys numbers places count ≡ s → (after : List ℕ) (c : ℕ) → after ≡ p ∷ without p keys → c ≡ count + 1 →
         Spreads after numbers_after places_after c (record { numbers = n ∷ s.numbers; places = set s.places n (Some p); most = s.most })
-    inserted s view after c is more =
+    inserted {s = s} view after c is more =
         let listed = listed_member keys (length keys - 1) p last in
         let front_is : take c after ≡ p ∷ used =
         ap (take c) is ∙ ap (λ (k : ℕ). take k (p ∷ without p keys)) more ∙ ap (λ (k : ℕ). take k (p ∷ without p keys)) (plus_one count)
@@ -418,11 +418,11 @@ module _ (keys numbers places : List ℕ) (count : ℕ) (are : ArePlaced keys nu
         }
 
   -- the number of the place that was used longest ago, where all have one
-  pub least_number : (s : OrderState) → order_of keys numbers places count ≡ s → s.most ≤ length s.numbers → (p n : ℕ) → used_longest_ago keys ≡ Some p →
+  pub least_number : {s : OrderState} → order_of keys numbers places count ≡ s → s.most ≤ length s.numbers → (p n : ℕ) → used_longest_ago keys ≡ Some p →
       n ≡ get_or numbers p n →
       Some n ≡ used_longest_ago s.numbers
-  least_number s view many p n last is =
-      let full : most ≤ count = omega (arith, many, count_is s view, most_is s view) in
+  least_number {s = s} view many p n last is =
+      let full : most ≤ count = omega (arith, many, count_is view, most_is view) in
       let whole : used ≡ keys = take_all count keys (omega (arith, full, are.all)) in
       ap Some (is ∙ get_or_default numbers p n 0 (are.known p (listed_member keys (length keys - 1) p last))) ∙ sym (
       ap (slice_get (map number used)) (omega (arith, length_used, full, are.few, are.all))

@@ -1,9 +1,9 @@
 -- Entries by number, whose bodies are at places.
 use Rattle.cache_entries.proofs.Names.{inl, inr, ℕ, zero, suc, [], Bool, true, false, true≢false, List, length, map, set, get_or, replicate, Option, Some, None}
-use Rattle.cache_entries.proofs.Names.{is_some, IsSome, option_map, cond, refl, sym, ap, subst, arith, length-map, length-set, get_or-set_same}
-use Rattle.cache_entries.proofs.Names.{get_or-set_other, cases_eq, cases_lt, get_or_past, same_Some, Content, Cap, held_at, Entry, changing, entry_at}
-use Rattle.cache_entries.proofs.Names.{AreOrdered, AreSpread, AreStored, EntriesState, OrderState, entries_of, entry_in, place_at, with_entry_of, with_new}
-use Rattle.cache_entries.proofs.Names.{without, without_entry, AllDiffer, is_member, changed_once, get_map}
+use Rattle.cache_entries.proofs.Names.{is_some, option_map, cond, refl, sym, ap, subst, arith, length-map, length-set, get_or-set_same, get_or-set_other}
+use Rattle.cache_entries.proofs.Names.{cases_lt, get_or_past, Content, Cap, held_at, Entry, changing, entry_at, AreOrdered, AreSpread, AreStored, EntriesState}
+use Rattle.cache_entries.proofs.Names.{OrderState, entries_of, entry_in, place_at, with_entry_of, with_new, without, without_entry, AllDiffer, is_member}
+use Rattle.cache_entries.proofs.Names.{changed_once, get_map}
 use Rattle.std.proofs.Common.{◌≡◌, ◌≢◌, ◌<◌, ◌≤◌, ◌∷◌, ◌∙◌}
 use Rattle.model.specs.declared.object.Content.TheVariants as content
 
@@ -17,7 +17,7 @@ some_within os n is = elim (cases_lt n (length os)) [
   | inr past ↦ absurd (true≢false (sym is ∙ ap is_some (get_or_past os n None past)))
 ]
 
-module _ (o : OrderState) (ps ks : List (Content Cap)) (ms : List Bool) (are : AreStored o.most ps ks ms) (s : EntriesState)
+module _ (o : OrderState) {ps ks : List (Content Cap)} {ms : List Bool} (are : AreStored o.most ps ks ms) {s : EntriesState}
     (view : entries_of o ps ks ms ≡ s) where
   abbrev entry : ℕ → Entry
   entry = entry_in ps ks ms
@@ -39,7 +39,7 @@ module _ (o : OrderState) (ps ks : List (Content Cap)) (ms : List Bool) (are : A
   }
 
   -- a number that has a place
-  module _ (n p : ℕ) (at : place_at o.places n ≡ Some p) (spread : AreSpread o) where
+  module _ (n : ℕ) {p : ℕ} (at : place_at o.places n ≡ Some p) (spread : AreSpread o) where
     pub entry_is : entry_at s.at n ≡ Some (entry p)
     entry_is = at_is n ∙ ap (option_map entry) at
 

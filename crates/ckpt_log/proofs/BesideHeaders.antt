@@ -33,3 +33,5 @@ spare_directories old new h p generation n fits e =
     let behind = half_behind p generation fits in
     ap (λ (b : List ℕ). take (16 * n) b) (same_sectors (directory_sector p generation) (directory_length n) old new
     (spare_sectors old new h (directory_sector p generation) (directory_length n) (omega (arith, behind)) e).1)
+
+pub ruleset header_laws = (sequences_reported, next_follows, spare_sectors, spare_frames, spare_slots, spare_directories)

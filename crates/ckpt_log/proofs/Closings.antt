@@ -1,32 +1,12 @@
 -- What is committed while the gates of both headers are closed, the lesser header's first.
-use Rattle.ckpt_log.proofs.Names.{ℕ, zero, suc, Bool, true, false, Option, Some, None, List, refl, sym, ap, subst, inl, inr, ⊎_elim, arith, cases_lt, nat_lt}
-use Rattle.ckpt_log.proofs.Names.{is_open, gate_bytes, Closed, HasNoHeader, committed_of, committed_slot, does_count, option_at, sequence_in, Image, Disk}
-use Rattle.ckpt_log.proofs.Names.{LeavesOnly, Peeks, agrees_is, leaves_on, leaves_weaker, Agrees, Elsewhere, AreClosed, AreInTurn, KeepsOrHasNone, SparesRest}
-use Rattle.ckpt_log.proofs.Names.{WasKeptOrHasNone, closed_gate}
-use Rattle.std.proofs.Common.{◌≡◌, ◌⊎◌, ◌%◌, ◌∙◌}
-use Rattle.std.specs.Prelude.{if◌then◌else◌, ◌==◌, ◌&&◌}
+use Rattle.ckpt_log.proofs.Names.{ℕ, Bool, true, false, Option, Some, None, List, refl, sym, ap, subst, inl, inr, ⊎_elim, arith, cases_eq, cases_lt, IsLesser}
+use Rattle.ckpt_log.proofs.Names.{HeaderSlot, First, Second, slot_number, other_slot, gate_at, is_open, HasNoHeader, committed_of, committed_slot, sequence_in}
+use Rattle.ckpt_log.proofs.Names.{Image, Disk, LeavesOnly, Peeks, agrees_is, leaves_on, leaves_weaker, Agrees, Elsewhere, AreClosed, KeepsOrHasNone, SparesRest}
+use Rattle.ckpt_log.proofs.Names.{WasKeptOrHasNone}
+use Rattle.std.proofs.Common.{◌≡◌, ◌≤◌, ◌+◌, ◌*◌, ◌%◌, ◌∙◌}
+use Rattle.std.specs.Prelude.{◌==◌, ◌&&◌}
 use Rattle.ckpt_log.proofs.Runs.{IsClosing}
-use Rattle.ckpt_log.proofs.Winners.{belongs, counts_if, opened, slot_of_image}
-
--- ---- of two slots
-
--- The first has the lesser number, and neither begins to count. Where it still counts, the second is unchanged.
-first_in_turn : (first second first_was : Bool) {second_was : Bool} (m n : ℕ) → nat_lt m n ≡ true → (first ≡ true → first_was ≡ true) →
-    (second ≡ true → second_was ≡ true) → (first ≡ true → second ≡ second_was)
-    → (committed_of first m second n ≡ committed_of first_was m second_was n) ⊎ (committed_of first m second n ≡ None)
-first_in_turn true second first_was m n lt was was_second same = inl (rw (was refl, same refl) refl)
-first_in_turn false true true m n lt was was_second same = inl (rw (was_second refl, lt) refl)
-first_in_turn false true false m n lt was was_second same = inl (rw (was_second refl) refl)
-first_in_turn false false first_was m n lt was was_second same = inr refl
-
--- so it is the other way round
-second_in_turn : (first second : Bool) {first_was : Bool} (second_was : Bool) (m n : ℕ) → nat_lt m n ≡ false → (first ≡ true → first_was ≡ true) →
-    (second ≡ true → second_was ≡ true) → (second ≡ true → first ≡ first_was)
-    → (committed_of first m second n ≡ committed_of first_was m second_was n) ⊎ (committed_of first m second n ≡ None)
-second_in_turn first true second_was m n lt was was_second same = inl (rw (was_second refl, same refl) refl)
-second_in_turn true false true m n lt was was_second same = inl (rw (was refl, lt) refl)
-second_in_turn true false false m n lt was was_second same = inl (rw (was refl) refl)
-second_in_turn false false second_was m n lt was was_second same = inr refl
+use Rattle.ckpt_log.proofs.Winners.{Wins, belongs, committed, counts_at, counts_if, number_at, opened, winner}
 
 -- ---- an image whose gates alone change
 
@@ -34,40 +14,46 @@ second_in_turn false false second_was m n lt was was_second same = inr refl
 abbrev OpensNoMore : ℕ → Image → Image → Type 0
 OpensNoMore gate old new = is_open (new gate) ≡ true → is_open (old gate) ≡ true
 
-counts_no_more : (header old_gate new_gate : List ℕ) (slot : ℕ) → (is_open new_gate ≡ true → is_open old_gate ≡ true) → does_count header new_gate slot ≡ true →
-    does_count header old_gate slot ≡ true
-counts_no_more header old_gate new_gate slot was counts = counts_if header old_gate (was (opened header new_gate slot counts)) (belongs header new_gate counts)
+-- The gate of slot l may be closed, and then that of slot g. While the first is open, the second is unchanged.
+module _ {old new : Image} (l g : ℕ) (both : l + g ≡ 1) (in_order : number_at old l ≤ number_at old g) (rest : SparesRest old new)
+    (lesser : OpensNoMore (2 + 2 * l) old new) (greater : OpensNoMore (2 + 2 * g) old new)
+    (same : is_open (new (2 + 2 * l)) ≡ true → new (2 + 2 * g) ≡ old (2 + 2 * g)) where
+  header : (k : ℕ) → new (1 + 2 * k) ≡ old (1 + 2 * k)
+  header k = rest (1 + 2 * k) (λ is. omega (arith, is)) (λ is. omega (arith, is))
 
-module _ {old new : Image} (elsewhere : SparesRest old new) (first : OpensNoMore 2 old new) (second : OpensNoMore 4 old new) where
-  one : new 1 ≡ old 1
-  one = elsewhere 1 (λ is. omega (arith, is)) (λ is. omega (arith, is))
+  counted : (k : ℕ) → OpensNoMore (2 + 2 * k) old new → counts_at new k ≡ true → counts_at old k ≡ true
+  counted k was counts = counts_if (old (1 + 2 * k)) (old (2 + 2 * k)) (was (opened (new (1 + 2 * k)) (new (2 + 2 * k)) k counts))
+      (subst (λ (x : List ℕ). sequence_in x % 2 ≡ k) (header k) (belongs (new (1 + 2 * k)) (new (2 + 2 * k)) counts))
 
-  three : new 3 ≡ old 3
-  three = elsewhere 3 (λ is. omega (arith, is)) (λ is. omega (arith, is))
+  -- a slot that is committed now was committed
+  lesser_won : Wins new l → Wins old l
+  lesser_won wins = record {
+    low = wins.low;
+    counts = counted l lesser wins.counts;
+    greatest = λ j sum.
+        let is : j ≡ g = omega (arith, sum, both) in
+        let gate = same (opened (new (1 + 2 * l)) (new (2 + 2 * l)) l wins.counts) in
+        rw is (λ counts. rw (header g, header l) at (wins.greatest g (omega (arith, both)) (rw (header g, gate) counts)));
+  }
 
-  same_header : (slot : Option ℕ) → committed_slot old ≡ slot → option_at new slot ≡ option_at old slot
-  same_header None is = refl
-  same_header (Some zero) is = ap (λ (b : List ℕ). Some b) one
-  same_header (Some (suc zero)) is = ap (λ (b : List ℕ). Some b) three
-  same_header (Some (suc (suc k))) is = let two = slot_of_image old is in absurd (omega (arith, two))
+  greater_won : Wins new g → Wins old g
+  greater_won wins = record {
+    low = wins.low;
+    counts = counted g greater wins.counts;
+    greatest = λ j sum. let is : j ≡ l = omega (arith, sum, both) in rw is (λ _. in_order);
+  }
 
-  kept_or_none : (committed_slot new ≡ committed_slot old) ⊎ (committed_slot new ≡ None) → KeepsOrHasNone old new
-  kept_or_none (inl same) = record { elsewhere = elsewhere; committed = inl (ap (option_at new) same ∙ same_header (committed_slot old) refl) }
-  kept_or_none (inr none) = record { elsewhere = elsewhere; committed = inr none }
-
-  pub first_is_lesser : nat_lt (sequence_in (old 1)) (sequence_in (old 3)) ≡ true → (is_open (new 2) ≡ true → new 4 ≡ old 4) → KeepsOrHasNone old new
-  first_is_lesser lt same =
-      let step = first_in_turn (does_count (old 1) (new 2) 0) (does_count (old 3) (new 4) 1) (does_count (old 1) (old 2) 0)
-      (sequence_in (old 1)) (sequence_in (old 3)) lt (counts_no_more (old 1) (old 2) (new 2) 0 first) (counts_no_more (old 3) (old 4) (new 4) 1 second)
-      (λ counts. ap (λ (b : List ℕ). does_count (old 3) b 1) (same (opened (old 1) (new 2) 0 counts))) in
-      kept_or_none (rw (one, three) step)
-
-  pub second_is_lesser : nat_lt (sequence_in (old 1)) (sequence_in (old 3)) ≡ false → (is_open (new 4) ≡ true → new 2 ≡ old 2) → KeepsOrHasNone old new
-  second_is_lesser lt same =
-      let step = second_in_turn (does_count (old 1) (new 2) 0) (does_count (old 3) (new 4) 1) (does_count (old 3) (old 4) 1)
-      (sequence_in (old 1)) (sequence_in (old 3)) lt (counts_no_more (old 1) (old 2) (new 2) 0 first) (counts_no_more (old 3) (old 4) (new 4) 1 second)
-      (λ counts. ap (λ (b : List ℕ). does_count (old 1) b 0) (same (opened (old 3) (new 4) 1 counts))) in
-      kept_or_none (rw (one, three) step)
+  closing : KeepsOrHasNone old new
+  closing = by (committed_slot new) refl where
+    by : (slot : Option ℕ) → committed_slot new ≡ slot → KeepsOrHasNone old new
+    by None none = record { elsewhere = rest; committed = inr none }
+    by (Some k) is =
+        let wins = winner new is in
+        let won : Wins old k = elim (cases_eq k l) [
+          | inl one ↦ subst (Wins old) (sym one) (lesser_won (subst (Wins new) one wins))
+          | inr other ↦ let one : k ≡ g = omega (arith, wins.low, both, other) in subst (Wins old) (sym one) (greater_won (subst (Wins new) one wins))
+        ] in
+        record { elsewhere = rest; committed = inl (committed wins (header k) ∙ sym (committed won refl)) }
 
 -- ---- what a closing leaves
 
@@ -83,52 +69,36 @@ opens_no_more gate {old} {new} same = opens_by (is_open (old gate)) gate refl sa
 beside : {gate : ℕ} {old new : Image} → Elsewhere gate 1 old new → {i : ℕ} → (i ≡ gate → ⊥) → new i ≡ old i
 beside {gate} change {i} other = ⊎_elim (λ lt. change.before i lt) (λ le. change.after i (omega (arith, le, other))) (cases_lt i gate)
 
--- closed by what closes it
-shut_by : (b : Bool) (bytes : List ℕ) → is_open bytes ≡ b → is_open (if b then gate_bytes Closed else bytes) ≡ false
-shut_by true bytes is = refl
-shut_by false bytes is = is
+beside_gate : (slot : HeaderSlot) {old new : Image} → Elsewhere (gate_at slot) 1 old new → SparesRest old new
+beside_gate First change i two _ = beside change two
+beside_gate Second change i _ four = beside change four
 
-pub is_shut : (bytes : List ℕ) → is_open (closed_gate bytes) ≡ false
-is_shut bytes = shut_by (is_open bytes) bytes refl
+both_slots : (slot : HeaderSlot) → slot_number slot + slot_number (other_slot slot) ≡ 1
+both_slots First = refl
+both_slots Second = refl
+
+in_order : (image : Image) (slot : HeaderSlot) → IsLesser image slot → number_at image (slot_number slot) ≤ number_at image (slot_number (other_slot slot))
+in_order image First le = le
+in_order image Second le = le
 
 -- while the first is closed
-pub closing_first : {lesser greater : ℕ} {old c : Image} → AreInTurn old lesser greater → Elsewhere lesser 1 old c →
-    (is_open (old lesser) ≡ false → Agrees c old) → KeepsOrHasNone old c
-closing_first {old} {c} (inl turn) change same =
-    let change_two = rw turn.0 at change in
-    let same_two = rw turn.0 at same in
-    let four : c 4 ≡ old 4 = change_two.after 4 (omega arith) in
-    first_is_lesser (λ i two _. beside change_two two) (opens_no_more 2 same_two) (λ open'. ap is_open (sym four) ∙ open') turn.2 (λ _. four)
-closing_first {old} {c} (inr turn) change same =
-    let change_four = rw turn.0 at change in
-    let same_four = rw turn.0 at same in
-    let two : c 2 ≡ old 2 = change_four.before 2 (omega arith) in
-    second_is_lesser (λ i _ four. beside change_four four) (λ open'. ap is_open (sym two) ∙ open') (opens_no_more 4 same_four) turn.2 (λ _. two)
-
-never_open : {A : Type 0} (bytes : List ℕ) → is_open bytes ≡ false → is_open bytes ≡ true → A
-never_open bytes shut open' = let never : false ≡ true = sym shut ∙ open' in cc
+pub closing_first : (slot : HeaderSlot) {old c : Image} → IsLesser old slot → IsClosing (gate_at slot) old c → KeepsOrHasNone old c
+closing_first slot {old} {c} lesser is =
+    let both = both_slots slot in
+    let greater : c (gate_at (other_slot slot)) ≡ old (gate_at (other_slot slot)) = beside is.0 (λ same. omega (arith, same, both)) in
+    closing (slot_number slot) (slot_number (other_slot slot)) both (in_order old slot lesser) (beside_gate slot is.0) (opens_no_more (gate_at slot) is.1) (λ open'. ap is_open (sym greater) ∙ open') (λ _. greater)
 
 -- and while the second is closed, the first being closed
-pub closing_second : {lesser greater : ℕ} {old mid c : Image} → AreInTurn old lesser greater → Elsewhere lesser 1 old mid → is_open (mid lesser) ≡ false
-    → Elsewhere greater 1 mid c → (is_open (mid greater) ≡ false → Agrees c mid) → KeepsOrHasNone old c
-closing_second {old} {mid} {c} (inl turn) first shut change same =
-    let first_two = rw turn.0 at first in
-    let shut_two = rw turn.0 at shut in
-    let change_four = rw turn.1 at change in
-    let same_four = rw turn.1 at same in
-    let two : is_open (c 2) ≡ false = ap is_open (change_four.before 2 (omega arith)) ∙ shut_two in
-    let four : mid 4 ≡ old 4 = first_two.after 4 (omega arith) in
-    first_is_lesser (λ i not_two not_four. beside change_four not_four ∙ beside first_two not_two)
-    (λ open'. never_open (c 2) two open') (λ open'. ap is_open (sym four) ∙ opens_no_more 4 same_four open') turn.2 (λ open'. never_open (c 2) two open')
-closing_second {old} {mid} {c} (inr turn) first shut change same =
-    let first_four = rw turn.0 at first in
-    let shut_four = rw turn.0 at shut in
-    let change_two = rw turn.1 at change in
-    let same_two = rw turn.1 at same in
-    let four : is_open (c 4) ≡ false = ap is_open (change_two.after 4 (omega arith)) ∙ shut_four in
-    let two : mid 2 ≡ old 2 = first_four.before 2 (omega arith) in
-    second_is_lesser (λ i not_two not_four. beside change_two not_two ∙ beside first_four not_four)
-    (λ open'. ap is_open (sym two) ∙ opens_no_more 2 same_two open') (λ open'. never_open (c 4) four open') turn.2 (λ open'. never_open (c 4) four open')
+pub closing_second : (slot : HeaderSlot) {old mid c : Image} → IsLesser old slot → Elsewhere (gate_at slot) 1 old mid → is_open (mid (gate_at slot)) ≡ false →
+    IsClosing (gate_at (other_slot slot)) mid c → KeepsOrHasNone old c
+closing_second slot {old} {mid} {c} lesser first shut is =
+    let both = both_slots slot in
+    let here : c (gate_at slot) ≡ mid (gate_at slot) = beside is.0 (λ same. omega (arith, same, both)) in
+    let there : mid (gate_at (other_slot slot)) ≡ old (gate_at (other_slot slot)) = beside first (λ same. omega (arith, same, both)) in
+    let closed : is_open (c (gate_at slot)) ≡ false = ap is_open here ∙ shut in
+    closing (slot_number slot) (slot_number (other_slot slot)) both (in_order old slot lesser) (λ i two four. beside_gate (other_slot slot) is.0 i two four ∙ beside_gate slot first i two four)
+    (λ open'. let never : false ≡ true = sym closed ∙ open' in cc) (λ open'. ap is_open (sym there) ∙ opens_no_more (gate_at (other_slot slot)) is.1 open')
+    (λ open'. let never : false ≡ true = sym closed ∙ open' in cc)
 
 -- nothing was touched
 pub untouched : {image : Image} → KeepsOrHasNone image image
@@ -146,19 +116,22 @@ none_committed image shut =
 -- ---- at each moment
 
 -- while the first is closed
-pub first_run : {lesser greater : ℕ} {image : Image} {old new : Disk} → AreInTurn image lesser greater → LeavesOnly old new (λ c. IsClosing lesser image c) →
-    LeavesOnly old new (λ c. KeepsOrHasNone image c)
-first_run {lesser} {greater} {image} {old} {new} turn run =
-    leaves_weaker {old = old} {new = new} {P = λ c. IsClosing lesser image c} (λ c. KeepsOrHasNone image c) (λ c is. closing_first turn is.0 is.1) run
+pub first_run : (slot : HeaderSlot) {at : ℕ} {image : Image} {old new : Disk} → at ≡ gate_at slot → IsLesser image slot →
+    LeavesOnly old new (λ c. IsClosing at image c) → LeavesOnly old new (λ c. KeepsOrHasNone image c)
+first_run slot {at} {image} {old} {new} place lesser run =
+    leaves_weaker {old = old} {new = new} {P = λ c. IsClosing at image c} (λ c. KeepsOrHasNone image c)
+    (λ c is. closing_first slot lesser (subst (λ (i : ℕ). IsClosing i image c) place is)) run
 
 -- and then the second
-pub second_run : {lesser greater : ℕ} {image mid_image : Image} {old mid new : Disk} → AreInTurn image lesser greater → Elsewhere lesser 1 image mid_image →
-    is_open (mid_image lesser) ≡ false → LeavesOnly old mid (λ c. KeepsOrHasNone image c) → LeavesOnly mid new (λ c. IsClosing greater mid_image c) →
-    LeavesOnly old new (λ c. KeepsOrHasNone image c)
-second_run {lesser} {greater} {image} {mid_image} {old} {mid} {new} turn change shut first second =
+pub second_run : (slot : HeaderSlot) {at next : ℕ} {image mid_image : Image} {old mid new : Disk} → at ≡ gate_at slot → next ≡ gate_at (other_slot slot) →
+    IsLesser image slot → Elsewhere at 1 image mid_image → is_open (mid_image at) ≡ false → LeavesOnly old mid (λ c. KeepsOrHasNone image c) →
+    LeavesOnly mid new (λ c. IsClosing next mid_image c) → LeavesOnly old new (λ c. KeepsOrHasNone image c)
+second_run slot {at} {next} {image} {mid_image} {old} {mid} {new} place next_place lesser change shut first second =
+    let before = rw place at change in
+    let closed = rw place at shut in
     leaves_on {old = old} {mid = mid} {new = new} {P = λ c. KeepsOrHasNone image c} first
-    (leaves_weaker {old = mid} {new = new} {P = λ c. IsClosing greater mid_image c} (λ c. KeepsOrHasNone image c)
-    (λ c is. closing_second turn change shut is.0 is.1) second)
+    (leaves_weaker {old = mid} {new = new} {P = λ c. IsClosing next mid_image c} (λ c. KeepsOrHasNone image c)
+    (λ c is. closing_second slot lesser before closed (subst (λ (i : ℕ). IsClosing i mid_image c) next_place is)) second)
 
 -- a sync, which may fail, and reads
 pub peek_run : {old new : Disk} → Peeks old new → LeavesOnly old new (λ c. WasKeptOrHasNone old c)

@@ -59,7 +59,7 @@ keeps : {h : CheckpointHeader} {old new : Image} → Precedes old h → Elsewher
     KeepsHeader h old new
 keeps {h} {old} {new} next e no_more = record {
   elsewhere = e;
-  committed = keeps_at (h.sequence % 2) next.0 refl next.1 next.2 e no_more ∙ sym next.1;
+  committed = keeps_at next.1 next.2 e no_more ∙ sym next.1;
 }
 
 closing_by : (b : Bool) {h : CheckpointHeader} {old new : Image} → is_open (old (gate_sector h)) ≡ b → Precedes old h → Elsewhere (gate_sector h) 1 old new
@@ -101,7 +101,7 @@ open_new {h} {old} {new} fits next written e gate =
     record {
       written = header ∙ written;
       elsewhere = within;
-      committed = new_at (h.sequence % 2) refl next.1 next.2 within (header ∙ written) (sequence_of h fits) gate;
+      committed = new_at next.1 next.2 within (header ∙ written) (sequence_of h fits) gate;
     }
 
 opening_by : (b : Bool) {h : CheckpointHeader} {old new : Image} → is_open (new (gate_sector h)) ≡ b → h.sequence < 2 ^ 64 → Precedes old h →

@@ -36,22 +36,23 @@ pub use Rattle.model.specs.declared.geometry.Geometry.{Geometry}
 pub use Rattle.std.proofs.Common.{Bool, Err, List, None, Ok, Option, Result, Some, [], ap, append-nil, arith, drop, false, inl, inr, length, length-take-le}
 pub use Rattle.std.proofs.Common.{refl, replicate, rules, subst, suc, sym, take, true, zero, ℕ, ⊎_elim}
 pub use Rattle.std.proofs.Math.Seq.{take-append_seam}
-pub use Rattle.std.proofs.lemmas.Bool.{and_from, and_parts, cases_lt, eq-eqb, eqb-true, le-ltb, lt-ltb}
+pub use Rattle.std.proofs.lemmas.Bool.{and_from, and_parts, cases_eq, cases_lt, eq-eqb, eqb-true, le-ltb, lt-ltb}
 pub use Rattle.std.proofs.lemmas.List.{drop-replicate, take-replicate, take_all}
 pub use Rattle.std.proofs.lemmas.Nat.{from_le_bytes-to_le_bytes_8}
 pub use Rattle.std.proofs.lemmas.Result.{err_from_is_err_and}
 pub use Rattle.std.specs.Int.{from_le_bytes, w64}
-pub use Rattle.std.specs.Prelude.{OnOk, codes, cond, nat_lt}
-pub use Rattle.ckpt_log.specs.Closing.{AreClosed, AreInTurn, KeepsOrHasNone, SparesRest, WasKeptOrHasNone}
+pub use Rattle.std.specs.Prelude.{OnOk, codes, cond}
+pub use Rattle.ckpt_log.specs.Closing.{AreClosed, IsLesser, KeepsOrHasNone, SparesRest, WasKeptOrHasNone}
 pub use Rattle.ckpt_log.specs.Commit.{CommitsOne, HasNew, IsInOrder, IsInOrderAfter, IsOld, IsOldOrNew, KeepsHeader, Precedes, closed_gate, gate_sector}
 pub use Rattle.ckpt_log.specs.Commit.{header_sector}
 pub use Rattle.ckpt_log.specs.CommitLaws.{FramesAreBehind, HomesAreBehind, IsReady, NewIsDenoted, OldIsDenoted}
 pub use Rattle.ckpt_log.specs.HeaderLaws.{HeadersSpareDirectories, HeadersSpareFrames, HeadersSpareSectors, HeadersSpareSlots, NextFollows}
 pub use Rattle.ckpt_log.specs.HeaderLaws.{SequencesAreReported}
-pub use Rattle.ckpt_log.specs.HeaderSlot.{gate_at, header_at, slot_number}
+pub use Rattle.ckpt_log.specs.HeaderSlot.{gate_at, header_at, other_slot, slot_number}
 pub use Rattle.ckpt_log.specs.Log.{HasCommitted, HasNoCommitted}
 pub use Rattle.ckpt_log.specs.Places.{DirectoriesAreInside, FramesAreInSlots, HalvesAreApart, HalvesAreWithin, SlotsAreApart, SlotsAreInside}
 pub use Rattle.ckpt_log.specs.Places.{SlotsSpareDirectories}
 pub use Rattle.ckpt_log.specs.SavedSectors.{SameDirectory, SameFrames, SameFrom, SameHeader, SameSaved}
 pub use Rattle.ckpt_log.specs.Slot.{DirectoriesAreReadBack, IsBadDirectory, SlotsAreReadBack}
 pub use Rattle.ckpt_log.specs.declared.header_slot.HeaderSlot.{HeaderSlot}
+pub use Rattle.ckpt_log.specs.declared.header_slot.HeaderSlot.TheVariants.{First, Second}

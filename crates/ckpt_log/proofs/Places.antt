@@ -25,3 +25,5 @@ halves_within p generation fits = half_within p generation fits
 
 pub halves_apart : HalvesAreApart
 halves_apart p a b fits differ = half_apart p a b fits differ
+
+pub ruleset place_laws = (slots_inside, frames_in_slots, directories_inside, halves_within, halves_apart, slots_apart, slots_spare_directories)

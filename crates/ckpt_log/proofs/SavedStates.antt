@@ -2,8 +2,8 @@
 use Rattle.ckpt_log.proofs.Names.{ℕ, Option, Some, None, List, take, refl, sym, ap, subst, arith, Image, shape_of, IsFrameOf, committed_slot, option_at}
 use Rattle.ckpt_log.proofs.Names.{frame_sector, directory_sector, directory_length, same_sectors, same_shaped, SameFrom, SameHeader, SameDirectory, SameFrames}
 use Rattle.ckpt_log.proofs.Names.{SameSaved, frame_at}
-use Rattle.std.proofs.Common.{◌≡◌, ◌<◌, ◌+◌, ◌*◌, ◌∙◌}
-use Rattle.ckpt_log.proofs.Winners.{slot_of_image}
+use Rattle.std.proofs.Common.{◌≡◌, ◌+◌, ◌*◌, ◌∙◌}
+use Rattle.ckpt_log.proofs.Winners.{winner}
 
 same_slot : (old new : Image) → SameFrom 1 4 old new → committed_slot new ≡ committed_slot old
 same_slot old new same =
@@ -16,9 +16,9 @@ same_slot old new same =
 same_option : (old new : Image) (slot : Option ℕ) → SameFrom 1 4 old new → committed_slot old ≡ slot → option_at new slot ≡ option_at old slot
 same_option old new None same is = refl
 same_option old new (Some k) same is =
-    let below : k < 2 = slot_of_image old is in
+    let wins = winner old is in
     let place : 1 + 2 * k ≡ 1 + (2 * k) = omega arith in
-    ap (λ (b : List ℕ). Some b) (subst (λ (i : ℕ). new i ≡ old i) (sym place) (same (2 * k) (omega (arith, below))))
+    ap (λ (b : List ℕ). Some b) (subst (λ (i : ℕ). new i ≡ old i) (sym place) (same (2 * k) (omega (arith, wins.low))))
 
 pub same_header : SameHeader
 same_header old new same = (

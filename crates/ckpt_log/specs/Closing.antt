@@ -1,7 +1,8 @@
 -- What is left where the gates of both headers are closed, so that none is committed.
-use Rattle.ckpt_log.specs.Names.{ℕ, nat_lt, true, false, is_open, HasNoHeader, committed_bytes, sequence_in, Image}
-use Rattle.ckpt_log.specs.Names.{Disk}
-use Rattle.std.specs.Prelude.{◌≡◌, ◌⊎◌}
+use Rattle.ckpt_log.specs.Names.{ℕ, false, is_open, HasNoHeader, committed_bytes, sequence_in, Image, Disk}
+use Rattle.std.specs.Prelude.{◌≡◌, ◌⊎◌, ◌≤◌}
+use Rattle.ckpt_log.specs.declared.header_slot.HeaderSlot.{HeaderSlot}
+use Rattle.ckpt_log.specs.declared.header_slot.HeaderSlot.TheVariants.{First, Second}
 
 -- both gates are closed
 pub record AreClosed (image : Image) : Type 0 where
@@ -26,8 +27,7 @@ pub record KeepsOrHasNone (old new : Image) : Type 0 where
 abbrev pub WasKeptOrHasNone : Disk → Image → Type 0
 WasKeptOrHasNone disk c = (d : Image) × disk.may_leave d × KeepsOrHasNone d c
 
--- the gates in the order in which they are closed: of two headers that count the committed one is the last
-abbrev pub AreInTurn : Image → ℕ → ℕ → Type 0
-AreInTurn image lesser greater =
-    ((lesser ≡ 2) × (greater ≡ 4) × (nat_lt (sequence_in (image 1)) (sequence_in (image 3)) ≡ true))
-    ⊎ ((lesser ≡ 4) × (greater ≡ 2) × (nat_lt (sequence_in (image 1)) (sequence_in (image 3)) ≡ false))
+-- of two headers that count the one in the other slot is the committed one
+abbrev pub IsLesser : Image → HeaderSlot → Type 0
+IsLesser image First = sequence_in (image 1) ≤ sequence_in (image 3)
+IsLesser image Second = sequence_in (image 3) ≤ sequence_in (image 1)

@@ -8,6 +8,10 @@ abbrev pub slot_number : HeaderSlot → ℕ
 slot_number First = 0
 slot_number Second = 1
 
+abbrev pub other_slot : HeaderSlot → HeaderSlot
+other_slot First = Second
+other_slot Second = First
+
 -- the sector of its header; its gate is the next one
 abbrev pub header_at : HeaderSlot → ℕ
 header_at slot = 1 + 2 * slot_number slot

@@ -25,4 +25,4 @@ pub use Rattle.layout.specs.declared.header.CheckpointHeader.{CheckpointHeader}
 pub use Rattle.model.specs.Frame.{frame_at}
 pub use Rattle.model.specs.declared.frame.Frame.{Frame}
 pub use Rattle.model.specs.declared.geometry.Geometry.{Geometry}
-pub use Rattle.std.specs.Prelude.{List, None, Option, Some, false, length, nat_lt, take, true, ℕ, ⊤}
+pub use Rattle.std.specs.Prelude.{List, None, Option, Some, false, length, take, ℕ, ⊤}

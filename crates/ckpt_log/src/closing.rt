@@ -1,9 +1,9 @@
 // Closing the gates of both headers, before an image is written over.
-ghost use Rattle.std.specs.Prelude.{◌≡◌, ◌≤◌, ◌<◌, IfOk, OnOk};
+ghost use Rattle.std.specs.Prelude.{◌≡◌, ◌≤◌, IfOk, OnOk};
 ghost use Rattle.device.specs.Calls.{Counts, Only};
 ghost use Rattle.device.specs.Moments.{LeavesOnly};
 ghost use Rattle.frame_io.specs.Calls.{ReadsOnly};
-ghost use Rattle.ckpt_log.specs.Closing.{AreClosed, AreInTurn, KeepsOrHasNone, WasKeptOrHasNone};
+ghost use Rattle.ckpt_log.specs.Closing.{AreClosed, IsLesser, KeepsOrHasNone, WasKeptOrHasNone};
 
 use crate::header_slot::HeaderSlot;
 use crate::publish::close_gate;
@@ -11,20 +11,10 @@ use crate::sector::read_sector;
 use device::{Device, Failed, SECTOR_SIZE};
 use layout::sequence_in;
 
-// The sectors of two gates.
-#[derive(Clone, Copy)]
-struct Gates {
-    lesser: u64,
-    greater: u64,
-}
-
-// The gates in the order in which they are closed: that of the header with the lesser sequence
-// number is the first.
-fn gates_in_turn<D: Device>(device: &mut D) -> Result<Gates, Failed>
+// The slot whose gate is closed first: that of the header with the lesser sequence number.
+fn lesser_slot<D: Device>(device: &mut D) -> Result<HeaderSlot, Failed>
     requires inside { 5 ≤ (D.disk device.old).sectors }
-    ensures turn { IfOk result (λ gates.
-        AreInTurn (D.disk device.old).seen gates.lesser gates.greater) }
-    ensures low { IfOk result (λ gates. (gates.lesser < 5) × (gates.greater < 5)) }
+    ensures lesser { IfOk result (λ slot. IsLesser (D.disk device.old).seen slot) }
     ensures reads { ReadsOnly (D.disk device.old) (D.disk device.new) }
     ensures cause { Counts (D.disk device.old) (D.disk device.new) result }
 {
@@ -33,22 +23,15 @@ fn gates_in_turn<D: Device>(device: &mut D) -> Result<Gates, Failed>
     read_sector(device, HeaderSlot::First.header(), &mut first)?;
     read_sector(device, HeaderSlot::Second.header(), &mut second)?;
     if sequence_in(&first) < sequence_in(&second) {
-        return Ok(Gates {
-            lesser: HeaderSlot::First.gate(),
-            greater: HeaderSlot::Second.gate(),
-        });
+        return Ok(HeaderSlot::First);
     }
-    Ok(Gates {
-        lesser: HeaderSlot::Second.gate(),
-        greater: HeaderSlot::First.gate(),
-    })
+    Ok(HeaderSlot::Second)
 }
 
-// Closes one gate and then the other, where all is durable.
-fn close_in_turn<D: Device>(device: &mut D, gates: Gates) -> Result<(), Failed>
-    requires turn { AreInTurn (D.disk device.old).seen gates.lesser gates.greater }
-    requires lesser { gates.lesser < (D.disk device.old).sectors }
-    requires greater { gates.greater < (D.disk device.old).sectors }
+// Closes the gate of a slot and then the other, where all is durable.
+fn close_in_turn<D: Device>(device: &mut D, slot: HeaderSlot) -> Result<(), Failed>
+    requires inside { 5 ≤ (D.disk device.old).sectors }
+    requires lesser { IsLesser (D.disk device.old).seen slot }
     requires durable { Only (D.disk device.old).seen (D.disk device.old) }
 
     ensures closed { OnOk result (AreClosed (D.disk device.new).seen) }
@@ -59,8 +42,8 @@ fn close_in_turn<D: Device>(device: &mut D, gates: Gates) -> Result<(), Failed>
         (λ c. KeepsOrHasNone (D.disk device.old).seen c) }
     ensures cause { Counts (D.disk device.old) (D.disk device.new) result }
 {
-    close_gate(device, gates.lesser)?;
-    close_gate(device, gates.greater)
+    close_gate(device, slot.gate())?;
+    close_gate(device, slot.other().gate())
 }
 
 /// Closes the gates of both headers, so that no header is committed, and makes that durable. All
@@ -81,6 +64,6 @@ pub fn close_gates<D: Device>(device: &mut D) -> Result<(), Failed>
     ensures cause { Counts (D.disk device.old) (D.disk device.new) result }
 {
     device.sync()?;
-    let gates = gates_in_turn(device)?;
-    close_in_turn(device, gates)
+    let slot = lesser_slot(device)?;
+    close_in_turn(device, slot)
 }

@@ -1,6 +1,6 @@
 // The two places of a header.
 ghost use Rattle.std.specs.Prelude.{◌≡◌, ◌%◌, ◌<◌, ◌^◌};
-ghost use Rattle.ckpt_log.specs.HeaderSlot.{slot_number, header_at, gate_at};
+ghost use Rattle.ckpt_log.specs.HeaderSlot.{slot_number, other_slot, header_at, gate_at};
 
 use layout::CheckpointHeader;
 
@@ -24,9 +24,20 @@ impl HeaderSlot {
         }
     }
 
+    // The slot of the headers before and after those of this one.
+    pub(crate) fn other(self) -> HeaderSlot
+        ensures { result ≡ other_slot self }
+    {
+        match self {
+            HeaderSlot::First => HeaderSlot::Second,
+            HeaderSlot::Second => HeaderSlot::First,
+        }
+    }
+
     // What a sequence number leaves on division by two, where its header belongs here.
     pub(crate) fn number(self) -> u64
-        ensures { result ≡ slot_number self }
+        ensures value { result ≡ slot_number self }
+        ensures low { result < 2 }
     {
         match self {
             HeaderSlot::First => 0,
@@ -39,10 +50,7 @@ impl HeaderSlot {
         ensures value { result ≡ header_at self }
         ensures inside { result < 5 }
     {
-        match self {
-            HeaderSlot::First => 1,
-            HeaderSlot::Second => 3,
-        }
+        1 + 2 * self.number()
     }
 
     /// The sector of its gate.
@@ -50,9 +58,6 @@ impl HeaderSlot {
         ensures value { result ≡ gate_at self }
         ensures inside { result < 5 }
     {
-        match self {
-            HeaderSlot::First => 2,
-            HeaderSlot::Second => 4,
-        }
+        2 + 2 * self.number()
     }
 }

@@ -22,6 +22,7 @@ pub fn saved_is_read_from_its_sectors()
 /// another, and a frame in its slot; the halves lie behind the headers, before the end, and apart.
 /// So what is written for the next generation touches nothing that the last one is read from. It
 /// does nothing: its contract is the law.
+#[tactic(auto, using(crate::proofs::Places::place_laws))]
 pub fn keep_halves_apart()
     ensures slots { SlotsAreInside }
     ensures frames { FramesAreInSlots }
@@ -43,6 +44,7 @@ pub fn what_is_written_is_read()
 /// The bytes of a header have its sequence number, so the header with the next one may be published
 /// after the committed one. A write of a header's slot leaves the superblock and all that lies
 /// behind the headers: frames and directories. It does nothing: its contract is the law.
+#[tactic(auto, using(crate::proofs::BesideHeaders::header_laws))]
 pub fn headers_spare_the_rest()
     ensures sequences { SequencesAreReported }
     ensures next { NextFollows }

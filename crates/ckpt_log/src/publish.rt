@@ -44,23 +44,6 @@ pub(crate) fn close_gate<D: Device>(device: &mut D, at: u64) -> Result<(), Faile
     put_sector(device, at, &sector)
 }
 
-// Writes a header into its sector.
-fn put_header<D: Device>(device: &mut D, at: u64, header: CheckpointHeader) -> Result<(), Failed>
-    requires inside { at < (D.disk device.old).sectors }
-    requires durable { Only (D.disk device.old).seen (D.disk device.old) }
-    ensures written { OnOk result ((D.disk device.new).seen at ≡ header_bytes header) }
-    ensures durable { OnOk result (Only (D.disk device.new).seen (D.disk device.new)) }
-    ensures size { (D.disk device.new).sectors ≡ (D.disk device.old).sectors }
-    ensures elsewhere { Elsewhere at 1 (D.disk device.old).seen (D.disk device.new).seen }
-    ensures any_moment { LeavesOnly (D.disk device.old) (D.disk device.new)
-        (λ c. Elsewhere at 1 (D.disk device.old).seen c) }
-    ensures cause { Counts (D.disk device.old) (D.disk device.new) result }
-{
-    let mut bytes = [0; SECTOR_SIZE];
-    encode_header(header, &mut bytes);
-    put_sector(device, at, &bytes)
-}
-
 // Closes the gate of a header where it is open, and writes the header under it. A crash at any
 // moment leaves the committed header that there is.
 fn prepare<D: Device>(device: &mut D, header: CheckpointHeader) -> Result<(), Failed>
@@ -81,7 +64,9 @@ fn prepare<D: Device>(device: &mut D, header: CheckpointHeader) -> Result<(), Fa
 {
     let slot = HeaderSlot::of(header);
     close_gate(device, slot.gate())?;
-    put_header(device, slot.header(), header)
+    let mut bytes = [0; SECTOR_SIZE];
+    encode_header(header, &mut bytes);
+    put_sector(device, slot.header(), &bytes)
 }
 
 // Opens the gate of a header that is written and durable. A crash at any moment leaves the

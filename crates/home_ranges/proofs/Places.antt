@@ -78,10 +78,10 @@ node_inside One i rank count lt = omega (arith, lt)
 node_inside Two i rank count lt = omega (arith, lt)
 
 -- its numbers are all of one kind
-node_in : {g : Geometry} {r : HomeRange} {a : ℕ} → Has g r a → r.first + r.count ≤ g.nodes → nat_lt a g.nodes ≡ true
+pub node_in : {g : Geometry} {r : HomeRange} {a : ℕ} → Has g r a → r.first + r.count ≤ g.nodes → nat_lt a g.nodes ≡ true
 node_in {g} {r} {a} has nodes = lt_true a g.nodes (omega (arith, nodes, has.high))
 
-page_in : {g : Geometry} {r : HomeRange} {a : ℕ} → Has g r a → g.nodes ≤ r.first → nat_lt a g.nodes ≡ false
+pub page_in : {g : Geometry} {r : HomeRange} {a : ℕ} → Has g r a → g.nodes ≤ r.first → nat_lt a g.nodes ≡ false
 page_in {g} {r} {a} has pages = lt_false a g.nodes (omega (arith, pages, has.low))
 
 inside_range : (v : Version) {g : Geometry} {r : HomeRange} {number : ℕ} → Has g r number → IsInside (extent_in v g r number) (range_extent v g r)
@@ -393,17 +393,15 @@ pub ranked_in : {v : Version} {g : Geometry} {r : HomeRange} {number rank : ℕ}
     IsRanked v g r number rank
 ranked_in {v} {g} {r} {number} {rank} has e = elim has.kind [
   | inl nodes ↦
-      let is = ranked_node v (rw (lt_true number g.nodes (omega (arith, nodes, has.high))) at e) in
+      let is = ranked_node v (rw (node_in has nodes) at e) in
       record { second = is.0; nodes = nodes; value = is.1 }
-  | inr pages ↦ absurd (let never : Page ≡ Packed rank = rw (lt_false number g.nodes (omega (arith, pages, has.low))) at e in cc)
+  | inr pages ↦ absurd (let never : Page ≡ Packed rank = rw (page_in has pages) at e in cc)
 ]
 
 -- the place of a rank's cluster
 cluster_place : {v : Version} {g : Geometry} {r : HomeRange} {number rank : ℕ} → Has g r number → IsRanked v g r number rank →
     place_in v g r number ≡ r.sector + 8 * ((number - r.first) / 5)
-cluster_place {g} {number} has is =
-    let number_lt : nat_lt number g.nodes ≡ true = lt_true number g.nodes (omega (arith, is.nodes, has.high)) in
-    rw (is.second, number_lt) refl
+cluster_place has is = rw (is.second, node_in has is.nodes) refl
 
 -- and of the others of its range
 same_ranked : {v : Version} {g : Geometry} {r : HomeRange} {a number rank : ℕ} → IsRanked v g r number rank → IsRanked v g r a ((a - r.first) % 5)
@@ -411,9 +409,7 @@ same_ranked is = record { second = is.second; nodes = is.nodes; value = refl }
 
 ranked_shape : {v : Version} {g : Geometry} {r : HomeRange} {number rank : ℕ} → Has g r number → IsRanked v g r number rank →
     shape_in v g r number ≡ Packed rank
-ranked_shape {g} {number} has is =
-    let number_lt : nat_lt number g.nodes ≡ true = lt_true number g.nodes (omega (arith, is.nodes, has.high)) in
-    rw (is.second, number_lt) (ap (λ (k : ℕ). Packed k) (sym is.value))
+ranked_shape has is = rw (is.second, node_in has is.nodes) (ap (λ (k : ℕ). Packed k) (sym is.value))
 
 -- in a range, what has the home of a number
 pub one_cluster : {v : Version} {g : Geometry} {r : HomeRange} {a number rank : ℕ} → Has g r a → Has g r number → IsRanked v g r number rank →
@@ -427,9 +423,8 @@ alone_in : (v : Version) {g : Geometry} {r : HomeRange} {a number : ℕ} → Has
     place_in v g r a ≡ place_in v g r number → a ≡ number
 alone_in One {g} {r} {a} {number} has_a has = λ own same. same_number refl has_a has same
 alone_in Two {g} {a} {number} has_a has = elim has.kind [
-  | inl nodes ↦ rw (lt_true number g.nodes (omega (arith, nodes, has.high))) (λ own same. absurd own)
-  | inr pages ↦ rw (lt_false a g.nodes (omega (arith, pages, has_a.low)), lt_false number g.nodes (omega (arith, pages, has.low)))
-      (λ own same. omega (arith, same, has_a.low, has.low))
+  | inl nodes ↦ rw (node_in has nodes) (λ own same. absurd own)
+  | inr pages ↦ rw (page_in has_a pages, page_in has pages) (λ own same. omega (arith, same, has_a.low, has.low))
 ]
 
 -- no other number has the home of a frame in sectors of its own

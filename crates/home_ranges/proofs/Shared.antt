@@ -1,9 +1,10 @@
 -- Homes that several numbers share.
-use Rattle.home_ranges.proofs.Names.{ℕ, Bool, true, false, nat_lt, refl, sym, ap, inl, inr, arith, Geometry, HomeRange, Shape, Node, Packed, Page, Version, One}
-use Rattle.home_ranges.proofs.Names.{Two, node_offset, place_in, home_place, shape_of, node_shape, Plan, IsPlan, IsObject}
+use Rattle.home_ranges.proofs.Names.{ℕ, Bool, nat_lt, refl, sym, ap, inl, inr, arith, Geometry, HomeRange, Shape, Node, Packed, Page, Version, One, Two}
+use Rattle.home_ranges.proofs.Names.{node_offset, place_in, home_place, shape_of, node_shape, Plan, IsPlan, IsObject}
 use Rattle.std.proofs.Common.{◌≡◌, ◌+◌, ◌-◌, ◌%◌, ◌<◌, ◌≤◌, ◌∙◌}
 use Rattle.std.specs.Prelude.{if◌then◌else◌}
-use Rattle.home_ranges.proofs.Places.{range_at, Has, found, found_too, place_is, shape_is, lt_true, lt_false, one_range, IsOwn, ranked_in, one_cluster, beside}
+use Rattle.home_ranges.proofs.Places.{range_at, Has, found, found_too, node_in, page_in, place_is, shape_is, lt_true, one_range, IsOwn, ranked_in, one_cluster}
+use Rattle.home_ranges.proofs.Places.{beside}
 
 -- ---- what lies between two numbers that share a home has it too
 
@@ -11,20 +12,12 @@ offset_between : (v : Version) {i j : ℕ} (k : ℕ) → i ≤ j → j ≤ k →
 offset_between One k low high same = omega (arith, low, high, same)
 offset_between Two k low high same = omega (arith, low, high, same)
 
-place_between : (v : Version) {g : Geometry} {r : HomeRange} {a b n : ℕ} → Has g r a → Has g r n → n ≤ b → b ≤ a → place_in v g r a ≡ place_in v g r n →
-    place_in v g r b ≡ place_in v g r n
-place_between v {g} {r} {a} {b} {n} has_a has_n low high = elim has_a.kind [
-  | inl nodes ↦
-      let a_lt : nat_lt a g.nodes ≡ true = lt_true a g.nodes (omega (arith, nodes, has_a.high)) in
-      let b_lt : nat_lt b g.nodes ≡ true = lt_true b g.nodes (omega (arith, nodes, has_a.high, high)) in
-      let n_lt : nat_lt n g.nodes ≡ true = lt_true n g.nodes (omega (arith, nodes, has_n.high)) in
-      rw (a_lt, b_lt, n_lt) (λ same. ap (λ (offset : ℕ). r.sector + offset)
+place_between : (v : Version) {g : Geometry} {r : HomeRange} {a b n : ℕ} → Has g r a → Has g r b → Has g r n → n ≤ b → b ≤ a →
+    place_in v g r a ≡ place_in v g r n → place_in v g r b ≡ place_in v g r n
+place_between v {g} {r} {a} {b} {n} has_a has_b has_n low high = elim has_a.kind [
+  | inl nodes ↦ rw (node_in has_a nodes, node_in has_b nodes, node_in has_n nodes) (λ same. ap (λ (offset : ℕ). r.sector + offset)
       (offset_between v (a - r.first) (omega (arith, low)) (omega (arith, high)) (omega (arith, same))))
-  | inr pages ↦
-      let a_ge : nat_lt a g.nodes ≡ false = lt_false a g.nodes (omega (arith, pages, has_a.low)) in
-      let b_ge : nat_lt b g.nodes ≡ false = lt_false b g.nodes (omega (arith, pages, has_n.low, low)) in
-      let n_ge : nat_lt n g.nodes ≡ false = lt_false n g.nodes (omega (arith, pages, has_n.low)) in
-      rw (a_ge, b_ge, n_ge) (λ same. omega (arith, same, low, high, has_a.low, has_n.low))
+  | inr pages ↦ rw (page_in has_a pages, page_in has_b pages, page_in has_n pages) (λ same. omega (arith, same, low, high, has_a.low, has_n.low))
 ]
 
 pub home_between : {p : Plan} {a b n : ℕ} → IsPlan p → IsObject p.geometry a → IsObject p.geometry n → n ≤ b → b ≤ a → home_place p a ≡ home_place p n →
@@ -35,7 +28,7 @@ home_between {p} {a} {b} {n} fits is_a is_n low high same =
     let r : HomeRange = range_at p.ranges there.0 in
     let has_b : Has p.geometry r b =
     record { low = omega (arith, both.other.has.low, low); high = omega (arith, both.one.has.high, high); kind = both.one.has.kind } in
-    place_is p (found_too 0 there.0 p.ranges fits.cover both.one.within has_b) ∙ place_between p.version both.one.has both.other.has low high both.place
+    place_is p (found_too 0 there.0 p.ranges fits.cover both.one.within has_b) ∙ place_between p.version both.one.has has_b both.other.has low high both.place
     ∙ sym (place_is p both.other)
 
 -- ---- where a cluster begins

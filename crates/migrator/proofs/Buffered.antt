@@ -3,14 +3,14 @@ use Rattle.migrator.proofs.Names.{ℕ, Option, Some, None, List, length, set, re
 use Rattle.migrator.proofs.Names.{shape_of, bytes_at, frame_in, half_sector, slot_sector, shape_bytes, Shape, Packed, frame_from, count_of, IsSpelt, frame_read}
 use Rattle.migrator.proofs.Names.{IsFrameOf, Plan, IsPlan, IsInside, half_extent, apart_inside, spelt_same, found_slot, Place, Whole, place_at, slot_of}
 use Rattle.migrator.proofs.Names.{slot_for, entries_of, ranked, begins, most, Unwritten, mended, IsSpeltIn, IsUnwritten, IfUnwritten, Frame, slot_bytes}
-use Rattle.migrator.proofs.Names.{slot_frame, Books, frozen_generation, working_generation, generation_after, IsKept, HasUnwritten, MayHaveUnwritten}
-use Rattle.migrator.proofs.Names.{place_extent, slot_extent, frames_in_slots, slots_apart}
-use Rattle.std.proofs.Common.{◌≡◌, ◌⊎◌, ◌+◌, ◌-◌, ◌%◌, ◌<◌, ◌∙◌}
+use Rattle.migrator.proofs.Names.{slot_frame, Books, frozen_generation, working_generation, IsKept, HasUnwritten, MayHaveUnwritten, place_extent, slot_extent}
+use Rattle.migrator.proofs.Names.{frames_in_slots, slots_apart}
+use Rattle.std.proofs.Common.{◌≡◌, ◌⊎◌, ◌-◌, ◌<◌, ◌∙◌}
 use Rattle.migrator.proofs.Committing.{frozen_fits}
 use Rattle.migrator.proofs.Completing.{packed_read}
 use Rattle.migrator.proofs.Mended.{apart_bytes, apart_frame}
 use Rattle.migrator.proofs.PlacesApart.{home_apart, other_half, spares_other}
-use Rattle.migrator.proofs.Putting.{other_parity}
+use Rattle.migrator.proofs.Putting.{later_half, other_parity}
 use Rattle.migrator.proofs.Tables.{set_here, set_there, slot_entries, slot_kept}
 
 -- ---- where nothing is unwritten
@@ -112,18 +112,12 @@ module _ (size : ℕ) (image : Image) (b : Books) where
   home_raw None kept has home lt = refl
   home_raw (Some u) kept has home {n} lt = sym (apart_bytes image u b.plan n (home_apart (frozen_generation b) kept.plan lt (inside kept has)))
 
-  later : (k : ℕ) → b.size ≡ Some k → working_generation b % 2 ≡ frozen_generation b % 2 → ⊥
-  later k running same =
-      let both : (b.header.generation + 1 + 1) % 2 ≡ frozen_generation b % 2 = ap (λ (o : Option ℕ). generation_after b.header.generation o % 2) (sym running) ∙
-      same in
-      other_parity (b.header.generation + 1) (sym both)
-
   -- what lies in the half of the frames that were put since, also after a write
   pub working_again : (new : Image) (o : Option Unwritten) → IsKept size (mended image o) b → MayHaveUnwritten b o → {s : ℕ} (n : ℕ) → s < b.plan.geometry.log
       → slot_bytes (mended new o) b.plan (working_generation b) s n ≡ slot_bytes new b.plan (working_generation b) s n
   working_again new None kept has n low = refl
   working_again new (Some u) kept has {s} n low =
-      apart_bytes new u b.plan n (other_half (working_generation b) (frozen_generation b) n kept.plan (later has.count has.running) low (inside kept has))
+      apart_bytes new u b.plan n (other_half (working_generation b) (frozen_generation b) n kept.plan (later_half b has.running) low (inside kept has))
 
   -- and in another slot of the frozen frames
   pub frozen_raw : (o : Option Unwritten) → IsKept size (mended image o) b → MayHaveUnwritten b o → {s : ℕ} (n : ℕ) → s < b.plan.geometry.log

@@ -9,14 +9,14 @@ use Rattle.migrator.proofs.Names.{place_at, slot_of, taken_count, whole_count, h
 use Rattle.migrator.proofs.Names.{puts_in, ArePut, most, Books, IsDurable, frozen_generation, working_generation, committed, generation_after, Stored}
 use Rattle.migrator.proofs.Names.{saved_state, frozen_of, stored_in, IsRunning, IsKept, next_header, puts, on_snapshots, AreComplete, MayAdopt, SavesOnly}
 use Rattle.migrator.proofs.Names.{SparesKept, adopted, SparesFrames, Spares, maps_same, IsSoundOn}
-use Rattle.std.proofs.Common.{◌≡◌, ◌+◌, ◌-◌, ◌%◌, ◌^◌, ◌<◌, ◌≤◌, ◌∙◌}
+use Rattle.std.proofs.Common.{◌≡◌, ◌+◌, ◌-◌, ◌^◌, ◌<◌, ◌≤◌, ◌∙◌}
 use Rattle.std.specs.Prelude.{◌==◌}
 use Rattle.migrator.proofs.Tables.{all_whole, whole_taken, entries_directory, length_entries, slot_entries, blank_at, blank_table, tally-blank}
 use Rattle.migrator.proofs.Spared.{state_stays}
 use Rattle.migrator.proofs.Kept.{stored_stays, kept_on}
 use Rattle.migrator.proofs.PlacesApart.{in_slot, in_frame_slot, at_home, frame_apart, home_apart, spares_other, homes_behind}
 use Rattle.migrator.proofs.FrameSlots.{no_entries, frame_slot_fits}
-use Rattle.migrator.proofs.Putting.{put_is, other_parity, half_spares, none_spares, homes_spare}
+use Rattle.migrator.proofs.Putting.{put_is, later_half, other_parity, half_spares, none_spares, homes_spare}
 
 -- ---- what is kept through a directory and a header that are written
 
@@ -213,9 +213,6 @@ module _ (disk : Disk) {b : Books} (k : ℕ) (kept : IsKept disk.sectors disk.se
   generation_is : working_generation b ≡ frozen_generation b + 1
   generation_is = ap (generation_after b.header.generation) running
 
-  later_half : working_generation b % 2 ≡ frozen_generation b % 2 → ⊥
-  later_half same = other_parity (frozen_generation b) (sym (sym (ap (λ (g : ℕ). g % 2) generation_is) ∙ same))
-
   -- what was kept lies apart from the directory
   spares_kept : SparesKept b extent
   spares_kept = record {
@@ -223,7 +220,7 @@ module _ (disk : Disk) {b : Books} (k : ℕ) (kept : IsKept disk.sectors disk.se
     homes = homes_spare (frozen_generation b) kept inside_half;
     frozen = λ n s lt is. let less = kept.frozen.table.few n s (ap slot_of is) in slots_apart_directory b.plan (frozen_generation b) (taken_count b.frozen) n
         (omega (arith, less, kept.frozen.few)) kept.frozen.few;
-    working = half_spares (working_generation b) (frozen_generation b) kept.plan later_half kept.working.table kept.working.few inside_half;
+    working = half_spares (working_generation b) (frozen_generation b) kept.plan (later_half b running) kept.working.table kept.working.few inside_half;
   }
 
   abbrev blank : List Place

@@ -2,15 +2,15 @@
 use Rattle.migrator.proofs.Names.{ℕ, Option, Some, None, List, refl, sym, ap, subst, arith, Image, Disk, IsTorn, AreKeepable, Entry, Extent, CheckpointHeader}
 use Rattle.migrator.proofs.Names.{entry_at, half_sector, count_of, IsInside, half_extent, found_slot, own_slot, Whole, place_at, slot_of, entries_of}
 use Rattle.migrator.proofs.Names.{AreComplete, Keeps, Unwritten, mended, IfUnwritten, Put, slot_bytes, puts_in, Books, frozen_generation, working_generation}
-use Rattle.migrator.proofs.Names.{generation_after, FrozenPuts, Stored, stored_in, frozen_of, next_saved, next_header, saved_state, IsKept, LeavesState}
-use Rattle.migrator.proofs.Names.{MayHaveUnwritten, Holds, LeavesSaved, kept_of, Spares, puts, Touches, SparesPuts}
-use Rattle.std.proofs.Common.{◌≡◌, ◌+◌, ◌*◌, ◌%◌, ◌<◌, ◌∙◌}
+use Rattle.migrator.proofs.Names.{FrozenPuts, Stored, stored_in, frozen_of, next_saved, next_header, saved_state, IsKept, LeavesState, MayHaveUnwritten, Holds}
+use Rattle.migrator.proofs.Names.{LeavesSaved, kept_of, Spares, puts, Touches, SparesPuts}
+use Rattle.std.proofs.Common.{◌≡◌, ◌*◌, ◌<◌, ◌∙◌}
 use Rattle.migrator.proofs.Committing.{frozen_fits}
 use Rattle.migrator.proofs.GoingOn.{GoesOnSeen, goes_spared}
 use Rattle.migrator.proofs.Kept.{puts_same, are_put_same, puts_stay, are_put_on, stored_same, home_stays, readable_stays}
 use Rattle.migrator.proofs.Mended.{mended_disk, leaves_mended, leaves_raw, unmended}
 use Rattle.migrator.proofs.PlacesApart.{spares_other}
-use Rattle.migrator.proofs.Putting.{other_parity, half_spares, homes_spare}
+use Rattle.migrator.proofs.Putting.{other_parity, half_spares, homes_spare, later_half}
 use Rattle.migrator.proofs.Spared.{state_stays}
 use Rattle.migrator.proofs.Tables.{slot_entries}
 
@@ -32,14 +32,8 @@ module _ {old new : Disk} {b : Books} {was now : Option Unwritten} {k : ℕ} (ke
   spares : Spares b.plan b.header b.directory extent
   spares = spares_other b.header (frozen_generation b) kept.plan kept.directory kept.header.entries (other_parity b.header.generation) inside
 
-  later : working_generation b % 2 ≡ frozen_generation b % 2 → ⊥
-  later same =
-      let both : (b.header.generation + 1 + 1) % 2 ≡ frozen_generation b % 2 = ap (λ (o : Option ℕ). generation_after b.header.generation o % 2) (sym running) ∙
-      same in
-      other_parity (b.header.generation + 1) (sym both)
-
   working_spares : SparesPuts b.plan (working_generation b) b.working extent
-  working_spares = half_spares (working_generation b) (frozen_generation b) kept.plan later kept.working.table kept.working.few inside
+  working_spares = half_spares (working_generation b) (frozen_generation b) kept.plan (later_half b running) kept.working.table kept.working.few inside
 
   -- the frozen frames stay in their slots
   frozen_stay : (n s : ℕ) → n < count_of b.plan → place_at b.frozen n ≡ Whole s → slot_bytes after b.plan (frozen_generation b) s n ≡ slot_bytes before b.plan
@@ -110,14 +104,7 @@ module _ {old new : Disk} {b : Books} {was now : Option Unwritten} {k : ℕ} (ke
 
 -- what is kept doesn't depend on what is unwritten
 pub kept_with : {size : ℕ} {image : Image} {b : Books} {o : Option Unwritten} → IsKept size image b → IsKept size image (record b { unwritten = o })
-kept_with {b} kept = record {
-  readable = kept.readable;
-  few = kept.few;
-  moved = kept.moved;
-  frozen = kept.frozen;
-  running = kept.running;
-  working = kept.working;
-}
+kept_with kept = search
 
 -- once all slots are complete, nothing is unwritten, and nothing changes
 pub record IsReady (old : Disk) (image : Image) (b : Books) (k : ℕ) (mid : Disk) : Type 0 where

@@ -142,9 +142,6 @@ module _ {p : Plan} (generation : ℕ) {es : List Entry} (i : ℕ) {rank : ℕ} 
   object : IsObject p.geometry entry.object
   object = (is.each i (record { object = 0; slot = 0 }) within).object
 
-  low : entry.slot < p.geometry.log
-  low = (is.each i (record { object = 0; slot = 0 }) within).slot
-
   module _ {old new : Disk} (now : Option Unwritten) (filled : IsFilled old.seen p generation (entry_at es i) bytes)
       (seen : mended new.seen now ≡ mended old.seen (Some u)) (touches : Touches u.sector 8 old new) (either : (now ≡ None) ⊎ (now ≡ Some u)) where
     change : Elsewhere u.sector 8 old.seen (mended new.seen now)

@@ -2,13 +2,13 @@
 use Rattle.migrator.proofs.Names.{MayFinish, ℕ, Bool, false, cond, Option, Some, None, List, [], refl, sym, ap, subst, inr, arith, ne_eqb, Frame, Disk, Extent}
 use Rattle.migrator.proofs.Names.{CheckpointHeader, IsDirectory, IsHeader, frame_in, frame_slot_in, half_sector, count_of, AreSpelt, frames_read, Plan, IsApart}
 use Rattle.migrator.proofs.Names.{IsInside, half_extent, half_within, within_inside, read_same, spelt_same, frame_slot_entry, home_extent, directory_extent}
-use Rattle.migrator.proofs.Names.{Nowhere, place_at, Books, stored_on, frozen_generation, working_generation, generation_after, Stored, stored_in, IsRunning}
-use Rattle.migrator.proofs.Names.{IsKept, all_moved, home_header, MayAdopt, SparesPuts, adopted, SparesFrames, Spares, Unwritten, mended, on_snapshots}
-use Rattle.std.proofs.Common.{◌≡◌, ◌+◌, ◌-◌, ◌*◌, ◌%◌, ◌<◌, ◌≤◌, ◌∙◌}
+use Rattle.migrator.proofs.Names.{Nowhere, place_at, Books, stored_on, frozen_generation, working_generation, Stored, stored_in, IsRunning, IsKept, all_moved}
+use Rattle.migrator.proofs.Names.{home_header, MayAdopt, SparesPuts, adopted, SparesFrames, Spares, Unwritten, mended, on_snapshots}
+use Rattle.std.proofs.Common.{◌≡◌, ◌+◌, ◌-◌, ◌*◌, ◌<◌, ◌≤◌, ◌∙◌}
 use Rattle.std.specs.Prelude.{◌==◌}
 use Rattle.migrator.proofs.PlacesApart.{at_home, frame_apart, home_apart}
 use Rattle.migrator.proofs.FrameSlots.{frame_slot_fits}
-use Rattle.migrator.proofs.Putting.{none_spares, half_spares, homes_spare, other_parity}
+use Rattle.migrator.proofs.Putting.{none_spares, half_spares, homes_spare, idle_half}
 use Rattle.migrator.proofs.Committing.{slots_apart_directory, directory_inside}
 use Rattle.migrator.proofs.Moving.{no_checkpoint}
 use Rattle.migrator.proofs.Adopting.{with_header, idle_books, may_adopt_idle}
@@ -86,11 +86,8 @@ module _ {disk : Disk} {b : Books} (may : MayFinish disk b) where
   spares_then : SparesFrames b.plan b.header.generation [] extent
   spares_then n lt = frame_apart b.plan b.header.generation [] n extent (λ s is. absurd (let never : None ≡ Some s = is in cc)) (λ _. spares_homes lt)
 
-  next_half : working_generation b % 2 ≡ b.header.generation % 2 → ⊥
-  next_half same = other_parity b.header.generation (sym (sym (ap (λ (o : Option ℕ). generation_after b.header.generation o % 2) none) ∙ same))
-
   working_spares : SparesPuts b.plan (working_generation b) b.working extent
-  working_spares = half_spares (working_generation b) b.header.generation kept.plan next_half kept.working.table kept.working.few inside_half
+  working_spares = half_spares (working_generation b) b.header.generation kept.plan (idle_half b none b.header.generation refl) kept.working.table kept.working.few inside_half
 
   abbrev stored_as : List Frame → ℕ → Stored
   stored_as frames to_move = record

@@ -1,11 +1,9 @@
 -- The saved frames of a cluster's nodes are put together.
-use Rattle.migrator.proofs.Names.{ℕ, Option, Some, Result, Ok, Err, List, length, take, drop, sym, ap, subst, inl, inr, arith, OnOk, IsErr, cases_lt, drop_at}
-use Rattle.migrator.proofs.Names.{Image, Disk, Counts, Entry, Shape, Packed, zeros, home_place, place_length, shape_of, frame_in, frame_sector, frame_slot_in}
-use Rattle.migrator.proofs.Names.{sector_or, sectors_from, shaped_at, slot_in, slot_sector, bytes_at, shape_bytes, shape_length, Plan, IsPlan, length-zeros}
-use Rattle.migrator.proofs.Names.{ReadsOnly, WritesAt, IsObject, EndsInZeros, HaveHome, HoldsHome, IsOwn, alone, ranked, HasZerosAt, IsGathered, IsCopied}
-use Rattle.migrator.proofs.Names.{Touches}
-use Rattle.std.proofs.Common.{◌≡◌, ◌+◌, ◌-◌, ◌*◌, ◌<◌, ◌≤◌, ◌++◌, ◌∙◌}
-use Rattle.std.specs.Prelude.{◌↔◌}
+use Rattle.migrator.proofs.Names.{ℕ, Option, Some, Result, Ok, Err, List, length, take, drop, sym, ap, subst, inl, inr, arith, OnOk, cases_lt, drop_at, Image}
+use Rattle.migrator.proofs.Names.{Disk, Entry, Shape, Packed, zeros, home_place, place_length, shape_of, frame_in, frame_sector, frame_slot_in, sector_or}
+use Rattle.migrator.proofs.Names.{sectors_from, shaped_at, slot_in, slot_sector, bytes_at, shape_bytes, shape_length, Plan, IsPlan, length-zeros, ReadsOnly}
+use Rattle.migrator.proofs.Names.{WritesAt, IsObject, EndsInZeros, HaveHome, HoldsHome, IsOwn, alone, ranked, HasZerosAt, IsGathered, IsCopied, Touches}
+use Rattle.std.proofs.Common.{◌≡◌, ◌+◌, ◌-◌, ◌*◌, ◌<◌, ◌++◌, ◌∙◌}
 use Rattle.std.proofs.lemmas.List.{length-append}
 use Rattle.migrator.proofs.Spared.{reads_then}
 use Rattle.migrator.proofs.PlacesApart.{in_slot}
@@ -86,17 +84,7 @@ copied_own old new {p} generation es {number} {slot} {s} fits is own shape has f
     (ap (shaped_at new (home_place p number)) (sym shape) ∙ ap (λ (at : ℕ). shaped_at new at s) (sym to_is) ∙ copied ∙
     ap (λ (at : ℕ). shaped_at old at s) from_is ∙ ap (shaped_at old (slot_sector p generation slot)) shape)
 
--- ---- what is so where a call succeeds, and what a write after reads does
-
-pub on_ok : {T E : Type 0} (result : Result T E) {P Q : Type 0} → (P → Q) → OnOk result P → OnOk result Q
-on_ok (Ok value) {P} {Q} follows is = follows is
-on_ok (Err error) {P} {Q} follows is = tt
-
-pub counts_on : {T E : Type 0} {old mid new : Disk} {result : Result T E} → mid.failures ≡ old.failures → Counts mid new result → Counts old new result
-counts_on {new} {result} same counts = record {
-  never_falls = subst (λ (k : ℕ). k ≤ new.failures) same counts.never_falls;
-  cause = subst (λ (k : ℕ). IsErr result ↔ (k < new.failures)) same counts.cause;
-}
+-- ---- what a write after reads does
 
 pub cluster_touched : {old mid new : Disk} {p q : Plan} (first : ℕ) → q ≡ p → shape_of p first ≡ Packed 0 → ReadsOnly old mid →
     WritesAt (home_place q first) (place_length q first) mid new → Touches (home_place p first) 8 old new

@@ -16,16 +16,16 @@ use Rattle.model.specs.declared.object.Content.TheVariants as content
 use Rattle.model.specs.declared.object.Role.TheVariants as role
 use Rattle.migrator.proofs.Spared.{touches}
 use Rattle.migrator.proofs.Kept.{are_put_same, puts_same, map_set, stored_stays, kept_on}
-use Rattle.migrator.proofs.GoingOn.{GoesOnSeen, goes_seen, goes_spared}
+use Rattle.migrator.proofs.GoingOn.{goes_seen, goes_spared}
 use Rattle.migrator.proofs.Later.{keepable_later}
 use Rattle.migrator.proofs.PlacesApart.{in_slot, at_home, frame_apart, home_apart, spares_log}
 use Rattle.migrator.proofs.FrameSlots.{none_beside, page_own, no_entries, frame_slot_fits}
-use Rattle.migrator.proofs.Putting.{other_parity, half_spares, none_spares, homes_spare}
+use Rattle.migrator.proofs.Putting.{half_spares, homes_spare, idle_half, none_spares}
 use Rattle.migrator.proofs.Committing.{one_more, slots_apart_directory, directory_inside}
 use Rattle.migrator.proofs.Adopting.{with_header, idle_books, may_adopt_idle}
 use Rattle.migrator.proofs.Saving.{kept_raw}
 use Rattle.migrator.proofs.Buffered.{none_idle}
-use Rattle.migrator.proofs.Mended.{mended_disk, unmended, writes_mended}
+use Rattle.migrator.proofs.Mended.{mended_disk, writes_mended}
 
 -- ---- generations of one half
 
@@ -113,76 +113,50 @@ module _ {size : ℕ} {image : Image} {b : Books} (kept : IsKept size image b) (
   blank : (n : ℕ) → place_at b.frozen n ≡ Nowhere
   blank = subst (IsRunning b) free kept.running
 
-  other_half : (g : ℕ) → g % 2 ≡ b.header.generation % 2 → working_generation b % 2 ≡ g % 2 → ⊥
-  other_half g same is = other_parity b.header.generation (sym (sym (ap (λ (o : Option ℕ). generation_after b.header.generation o % 2) free) ∙ is ∙ same))
-
   -- the half of the saved generation lies apart from all that is kept
   spares_half : (g : ℕ) {e : Extent} → g % 2 ≡ b.header.generation % 2 → IsInside e (half_extent b.plan.geometry (half_sector b.plan g)) → SparesKept b e
   spares_half g {e} same inside = record {
     frames = (spares_log b.header b.directory g kept.plan kept.count home inside).frames;
     homes = homes_spare g kept inside;
     frozen = none_spares b.plan (frozen_generation b) b.frozen e blank;
-    working = half_spares (working_generation b) g kept.plan (other_half g same) kept.working.table kept.working.few inside;
+    working = half_spares (working_generation b) g kept.plan (idle_half b free g same) kept.working.table kept.working.few inside;
   }
 
 -- ---- a page is written into the first slot of that half
 
-module _ {old new : Disk} {b : Books} (kept : IsKept old.sectors old.seen b) (free : b.size ≡ None) (home : b.header.entries ≡ 0)
-    (writes : WritesAt (slot_sector b.plan b.header.generation 0) 9 old new) where
-  abbrev first_slot : Extent
-  first_slot = slot_extent b.plan b.header.generation 0
-
-  inside : IsInside first_slot (half_extent b.plan.geometry (half_sector b.plan b.header.generation))
-  inside = slots_inside b.plan b.header.generation 0 (omega (arith, kept.plan.geometry.least_log))
-
-  spares : SparesKept b first_slot
-  spares = spares_half kept free home b.header.generation refl inside
-
-  put_kept : IsKept new.sectors new.seen b
-  put_kept = subst (λ (size : ℕ). IsKept size new.seen b) (sym writes.size) (kept_on old.sectors spares writes.elsewhere kept)
-
-  put_stored : stored_in new.seen b ≡ stored_in old.seen b
-  put_stored = stored_stays old.sectors spares writes.elsewhere
-
-  put_goes_on : GoesOnSeen old new b b
-  put_goes_on = goes_spared refl refl refl (spares_log b.header b.directory b.header.generation kept.plan kept.count home inside) (touches writes)
-
-  -- the slot spells the page with its words, at each age from the saved one on
-  put_spelt : {n : ℕ} {header : ObjectHeader} {words : List ℕ} → (frame_at (stored_in old.seen b).saved.frames n).header.role ≡ role.Page →
-      header ≡ (frame_at (stored_in old.seen b).saved.frames n).header → AreKeptWords 512 words
-      → sectors_from new.seen (slot_sector b.plan b.header.generation 0) 9 ≡ page_frame_bytes (record { header = header; content = content.Page words }) →
-      {age : ℕ} → b.header.age ≤ age
-      → IsFrameOf b.plan.geometry age n (first_bytes new.seen b n) (with_words words (frame_at (stored_in old.seen b).saved.frames n))
-  put_spelt {n} {header} {words} page is fits written {age} le =
-      let saved : Frame = frame_at (stored_in old.seen b).saved.frames n in
-      let lt = page_known kept home page in
-      let keepable = words_keepable page fits (keepable_later b.plan.geometry b.header.age age le (saved_keepable kept home lt)) in
-      page_spelt b.plan new.seen first_slot.sector keepable.kind.0 keepable
-      (written ∙ ap (λ (h : ObjectHeader). page_frame_bytes (record { header = h; content = content.Page words })) is)
-
--- and so over a device that is partly in memory
 module _ {old new : Disk} {b : Books} (is : IsDurable old b) (free : b.size ≡ None) (home : b.header.entries ≡ 0)
     (writes : WritesAt (slot_sector b.plan b.header.generation 0) 9 old new) where
   mended_writes : WritesAt (slot_sector b.plan b.header.generation 0) 9 (mended_disk old b.unwritten) (mended_disk new b.unwritten)
   mended_writes = writes_mended b.unwritten writes
 
+  inside : IsInside (slot_extent b.plan b.header.generation 0) (half_extent b.plan.geometry (half_sector b.plan b.header.generation))
+  inside = slots_inside b.plan b.header.generation 0 (omega (arith, is.kept.plan.geometry.least_log))
+
+  spares : SparesKept b (slot_extent b.plan b.header.generation 0)
+  spares = spares_half is.kept free home b.header.generation refl inside
+
   pub page_stays : Stays old new b b
   page_stays = record {
-    stands = record { kept = put_kept is.kept free home mended_writes; unwritten = is.unwritten };
-    stored = put_stored is.kept free home mended_writes;
-    goes_on = goes_seen (put_goes_on is.kept free home mended_writes);
+    stands = record {
+      kept = subst (λ (size : ℕ). IsKept size (mended new.seen b.unwritten) b) (sym writes.size)
+          (kept_on old.sectors spares mended_writes.elsewhere is.kept);
+      unwritten = is.unwritten;
+    };
+    stored = stored_stays old.sectors spares mended_writes.elsewhere;
+    goes_on = goes_seen (goes_spared refl refl refl (spares_log b.header b.directory b.header.generation is.kept.plan is.kept.count home inside)
+        (touches mended_writes));
   }
 
+  -- the slot spells the page with its words, at each age from the saved one on
   pub spelt_page : (n : ℕ) {header : ObjectHeader} {words : List ℕ} → (frame_at (stored_on old b).saved.frames n).header.role ≡ role.Page →
       header ≡ (frame_at (stored_on old b).saved.frames n).header → AreKeptWords 512 words
       → sectors_from new.seen (slot_sector b.plan b.header.generation 0) 9 ≡ page_frame_bytes (record { header = header; content = content.Page words }) →
       (age : ℕ) → b.header.age ≤ age → IsFrameOf b.plan.geometry age n (first_bytes new.seen b n) (with_words words (frame_at (stored_on old b).saved.frames n))
   spelt_page n {header} {words} page same fits written age le =
-      let seen = unmended (none_idle b b.unwritten is.unwritten free) in
-      subst (λ (image : Image). IsFrameOf b.plan.geometry age n (first_bytes image b n) (with_words words (frame_at (stored_on old b).saved.frames n))) seen
-      (put_spelt is.kept free home mended_writes page same fits
-      (subst (λ (image : Image). sectors_from image (slot_sector b.plan b.header.generation 0) 9 ≡ page_frame_bytes
-      (record { header = header; content = content.Page words })) (sym seen) written) le)
+      let keepable = words_keepable page fits
+      (keepable_later b.plan.geometry b.header.age age le (saved_keepable is.kept home (page_known is.kept home page))) in
+      page_spelt b.plan new.seen (slot_sector b.plan b.header.generation 0) keepable.kind.0 keepable
+      (written ∙ ap (λ (h : ObjectHeader). page_frame_bytes (record { header = h; content = content.Page words })) same)
 
 -- ---- the object of that slot is saved anew
 
@@ -292,9 +266,6 @@ module _ {disk : Disk} {b : Books} {n age : ℕ} (may : MayReplace disk b n age)
       frame_apart b.plan again (one_entry n) m extent (λ s is. slots_apart_directory b.plan again 1 m (frame_slot_fits b.plan m directory_next is) some)
       (λ _. home_apart again kept.plan within inside_half)
 
-  then_half : working_generation books % 2 ≡ again % 2 → ⊥
-  then_half is = other_parity again (sym (sym (ap (λ (o : Option ℕ). generation_after again o % 2) may.free) ∙ is))
-
   abbrev stored_as : List Put → Option FrozenPuts → List Frame → Stored
   stored_as working frozen frames = record {
     working = working;
@@ -334,7 +305,7 @@ module _ {disk : Disk} {b : Books} {n age : ℕ} (may : MayReplace disk b n age)
         frames = spares_then;
         homes = λ i less. absurd (omega (arith, less));
         frozen = none_spares b.plan (again + 1) b.frozen extent (blank kept may.free may.home);
-        working = half_spares (working_generation books) again kept.plan then_half kept.working.table kept.working.few inside_half;
+        working = half_spares (working_generation books) again kept.plan (idle_half books may.free again refl) kept.working.table kept.working.few inside_half;
       })
 
   pub replaced_on : stored_on disk (adopted (replaced_header age b) (one_entry n) b) ≡ on_snapshots (replaced age n (first_frame disk.seen b n))

@@ -1,6 +1,6 @@
 -- What can be kept at an age can be at a later one.
-use Rattle.migrator.proofs.Names.{ℕ, List, arith, All-weaker, Cap, Capability, Void, Number, Space, Process, Start, Resume, Bank, Discrim, Frame, Geometry}
-use Rattle.migrator.proofs.Names.{Content, AreKeptSlots, Follows, IsCount, IsKeepable, IsKeptCap, MayBeKept}
+use Rattle.migrator.proofs.Names.{ℕ, List, arith, All-weaker, Cap, Capability, Space, Process, Start, Resume, Bank, Frame, Geometry, Content, AreKeptSlots}
+use Rattle.migrator.proofs.Names.{Follows, IsCount, IsKeepable, IsKeptCap, MayBeKept}
 use Rattle.std.proofs.Common.{◌≤◌}
 use Rattle.model.specs.declared.capability.Capability.TheVariants.{Page, Node}
 use Rattle.model.specs.declared.object.Content.TheVariants as content

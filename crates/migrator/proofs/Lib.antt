@@ -10,8 +10,6 @@ mod Completing
 mod Counting
 pub mod Putting
 mod GoingOn
-mod Working
-mod FrozenFrames
 mod Freezing
 mod Tearing
 mod PutFrames
@@ -24,7 +22,6 @@ mod Finishing
 mod Later
 mod Journaling
 mod Moves
-mod HomeMoves
 mod Opening
 mod Reading
 mod FirstBooks

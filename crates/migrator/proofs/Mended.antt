@@ -1,45 +1,30 @@
 -- What a device gives, but for a slot that it failed to write.
-use Rattle.migrator.proofs.Names.{ℕ, Bool, true, false, Option, Some, None, List, sym, ap, subst, arith, nat_le, nat_lt, and_from, and_left, and_right}
-use Rattle.migrator.proofs.Names.{nat_tests, Image, Disk, Elsewhere, IsTorn, image_of, Elapses, LeavesOnly, agrees_is, elsewhere_on, leaves_weaker, leaves_on}
-use Rattle.migrator.proofs.Names.{Frame, Geometry, Entry, Shape, Packed, IsFrameOf, frame_from, shape_bytes, one_frame, most, Extent, place_length, bytes_at}
-use Rattle.migrator.proofs.Names.{frame_in, count_of, Plan, IsApart, IsInside, ReadsOnly, WritesAt, Unwritten, mended, unwritten_of, IsSpeltIn, SparesFrames}
-use Rattle.migrator.proofs.Names.{Touches}
+use Rattle.migrator.proofs.Names.{ℕ, Bool, true, false, Option, Some, None, List, sym, ap, subst, arith, nat_le, nat_lt, nat_tests, Image, Disk, Elsewhere}
+use Rattle.migrator.proofs.Names.{IsTorn, image_of, Elapses, LeavesOnly, agrees_is, elsewhere_on, leaves_weaker, leaves_on, Frame, Geometry, Entry, Shape}
+use Rattle.migrator.proofs.Names.{Packed, IsFrameOf, frame_from, shape_bytes, one_frame, most, Extent, place_length, bytes_at, frame_in, count_of, Plan}
+use Rattle.migrator.proofs.Names.{IsApart, IsInside, ReadsOnly, WritesAt, Unwritten, mended, unwritten_of, IsSpeltIn, SparesFrames, Touches}
 use Rattle.std.proofs.Common.{◌≡◌, ◌+◌, ◌-◌, ◌<◌, ◌≤◌, ◌∙◌}
 use Rattle.std.specs.Prelude.{◌&&◌, if◌then◌else◌}
 use Rattle.migrator.proofs.Spared.{bytes_stay, frame_stays}
 
 -- ---- its sectors and the others
 
-le_true : {a b : ℕ} → a ≤ b → nat_le a b ≡ true
-le_true le = grind (arith, nat_tests)
-
-le_false : {a b : ℕ} → b < a → nat_le a b ≡ false
-le_false lt = grind (arith, nat_tests)
-
-lt_true : {a b : ℕ} → a < b → nat_lt a b ≡ true
-lt_true lt = grind (arith, nat_tests)
-
-lt_false : {a b : ℕ} → b ≤ a → nat_lt a b ≡ false
-lt_false le = grind (arith, nat_tests)
-
 mended_by : (image : Image) (u : Unwritten) (i : ℕ) {test : Bool} → (nat_le u.sector i && nat_lt i (u.sector + 8)) ≡ test →
     mended image (Some u) i ≡ (if test then image_of u.bytes (i - u.sector) else image i)
 mended_by image u i e = ap (λ (b : Bool). if b then image_of u.bytes (i - u.sector) else image i) e
 
 pub mended_here : (image : Image) (u : Unwritten) {i : ℕ} → u.sector ≤ i → i < u.sector + 8 → mended image (Some u) i ≡ image_of u.bytes (i - u.sector)
-mended_here image u {i} low high = mended_by image u i (and_from (nat_le u.sector i) (nat_lt i (u.sector + 8)) (le_true low) (lt_true high))
+mended_here image u {i} low high = mended_by image u i {test = true} (grind (arith, nat_tests))
 
 mended_before : (image : Image) (u : Unwritten) {i : ℕ} → i < u.sector → mended image (Some u) i ≡ image i
-mended_before image u {i} lt = mended_by image u i (and_left (nat_le u.sector i) (nat_lt i (u.sector + 8)) (le_false lt))
+mended_before image u {i} lt = mended_by image u i {test = false} (grind (arith, nat_tests))
 
 mended_behind : (image : Image) (u : Unwritten) {i : ℕ} → u.sector + 8 ≤ i → mended image (Some u) i ≡ image i
-mended_behind image u {i} le = mended_by image u i (and_right (nat_le u.sector i) (nat_lt i (u.sector + 8)) (lt_false le))
+mended_behind image u {i} le = mended_by image u i {test = false} (grind (arith, nat_tests))
 
 -- it is another image in those alone
 pub mended_elsewhere : {image : Image} (u : Unwritten) → Elsewhere u.sector 8 image (mended image (Some u))
 mended_elsewhere {image} u = record { before = λ i lt. mended_before image u lt; after = λ i le. mended_behind image u le }
-
--- ---- the slot is written
 
 -- ---- what the buffer spells
 

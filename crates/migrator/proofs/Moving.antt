@@ -1,13 +1,15 @@
 -- A saved frame goes home.
 use Rattle.migrator.proofs.Names.{ℕ, Option, Some, None, List, length, refl, sym, ap, subst, inl, inr, arith, cases_lt, Image, Disk, LeavesOnly, leaves_on}
-use Rattle.migrator.proofs.Names.{started, entry_at, slot_in, count_of, Plan, IsPlan, apart_turned, own_slot, home_place, place_length, places_apart}
-use Rattle.migrator.proofs.Names.{home_extent, place_extent, Place, Nowhere, place_at, slot_of, IsTable, taken_count, IsCopied, IsFirst, SavedFrames, Holds}
-use Rattle.migrator.proofs.Names.{Books, frozen_generation, working_generation, seen_by, Stored, GoesOnDisk, stored_in, IsHome, IsRunning, IsKept, Spares}
-use Rattle.migrator.proofs.Names.{Touches, SparesPuts, SparesKept}
+use Rattle.migrator.proofs.Names.{started, entry_at, count_of, Plan, IsPlan, apart_turned, own_slot, home_place, place_length, places_apart, MovedBy}
+use Rattle.migrator.proofs.Names.{home_extent, place_extent, Place, slot_of, IsTable, taken_count, IsCopied, IsFirst, SavedFrames, Holds, Books, IsDurable}
+use Rattle.migrator.proofs.Names.{frozen_generation, working_generation, seen_by, Stored, GoesOnDisk, stored_in, stored_on, IsHome, IsRunning, IsKept, Spares}
+use Rattle.migrator.proofs.Names.{Touches, SparesPuts, SparesKept, Unwritten, mended}
 use Rattle.std.proofs.Common.{◌≡◌, ◌+◌, ◌-◌, ◌<◌, ◌≤◌, ◌∙◌}
 use Rattle.migrator.proofs.Spared.{frame_stays}
 use Rattle.migrator.proofs.Kept.{stored_stays, kept_on}
-use Rattle.migrator.proofs.GoingOn.{GoesOnSeen, holds, goes_spared}
+use Rattle.migrator.proofs.Buffered.{none_idle, without}
+use Rattle.migrator.proofs.GoingOn.{goes_seen, goes_spared, holds}
+use Rattle.migrator.proofs.Mended.{mended_disk, touches_mended}
 use Rattle.migrator.proofs.PlacesApart.{place_inside, home_apart, spares_home}
 use Rattle.migrator.proofs.Putting.{none_spares}
 
@@ -30,101 +32,100 @@ puts_home {p} generation {m} fits table few within n s lt is =
 abbrev pub moved_books : Books → ℕ → Books
 moved_books b k = record b { moved = b.moved + k }
 
--- ---- the next frame is copied
+-- one more is home
+moved_one : {size : ℕ} {image : Image} {b : Books} → IsKept size image b → b.moved < b.header.entries →
+    IsHome image b.plan b.header.generation b.directory b.moved → IsKept size image (moved_books b 1)
+moved_one {image = image} {b = b} kept some home = record {
+  readable = kept.readable;
+  few = omega (arith, some);
+  moved = λ i lt. elim (cases_lt i b.moved) [
+    | inl less ↦ kept.moved i less
+    | inr le ↦ let last : b.moved ≡ i = omega (arith, lt, le) in subst (IsHome image b.plan b.header.generation b.directory) last home
+  ];
+  frozen = kept.frozen;
+  running = kept.running;
+  working = kept.working;
+}
 
-module _ {old new : Disk} {b : Books} (kept : IsKept old.sectors old.seen b) (some : b.moved < b.header.entries) (first : IsFirst b.plan b.directory b.moved)
-    (touches : Touches (home_place b.plan (entry_at b.directory b.moved).object) (place_length b.plan (entry_at b.directory b.moved).object) old new) where
-  abbrev object : ℕ
-  object = (entry_at b.directory b.moved).object
-
-  in_list : b.moved < length b.directory
-  in_list = omega (arith, some, kept.count)
-
-  pub object_fits : object < count_of b.plan
-  object_fits = (kept.directory.each b.moved (record { object = 0; slot = 0 }) in_list).object
-
-  pub slot_low : (entry_at b.directory b.moved).slot < b.plan.geometry.log
-  slot_low = (kept.directory.each b.moved (record { object = 0; slot = 0 }) in_list).slot
-
-  has_slot : slot_in b.directory object ≡ Some (entry_at b.directory b.moved).slot
-  has_slot = own_slot b.directory b.moved kept.directory.rising in_list
-
-  spares : Spares b.plan b.header b.directory (home_extent b.plan object)
-  spares = spares_home kept.plan kept.directory kept.header.entries object_fits has_slot
-
+module _ {old : Disk} (new : Disk) {b : Books} (is : IsDurable old b) (some : b.moved < b.header.entries) where
   none : b.size ≡ None
-  none = no_checkpoint kept (omega (arith, some))
+  none = no_checkpoint is.kept (omega (arith, some))
 
-  blank : (n : ℕ) → place_at b.frozen n ≡ Nowhere
-  blank = subst (IsRunning b) none kept.running
+  written : b.unwritten ≡ None
+  written = none_idle b b.unwritten is.unwritten none
 
-  spares_all : SparesKept b (home_extent b.plan object)
-  spares_all = record {
-    frames = spares.frames;
-    homes = λ i lt.
-        places_apart b.plan (entry_at b.directory i).object object kept.plan
-        (kept.directory.each i (record { object = 0; slot = 0 }) (omega (arith, lt, in_list))).object object_fits (first i lt);
-    frozen = none_spares b.plan (frozen_generation b) b.frozen (home_extent b.plan object) blank;
-    working = puts_home (working_generation b) kept.plan kept.working.table kept.working.few object_fits;
-  }
+  -- ---- the next frame is copied
 
-  kept_new : IsKept new.sectors new.seen b
-  kept_new = subst (λ (k : ℕ). IsKept k new.seen b) (sym touches.size) (kept_on old.sectors spares_all touches.elsewhere kept)
+  module _ (first : IsFirst b.plan b.directory b.moved)
+      (touches : Touches (home_place b.plan (entry_at b.directory b.moved).object) (place_length b.plan (entry_at b.directory b.moved).object) old new) where
+    abbrev object : ℕ
+    object = (entry_at b.directory b.moved).object
 
-  stored_new : stored_in new.seen b ≡ stored_in old.seen b
-  stored_new = stored_stays old.sectors spares_all touches.elsewhere
+    seen_touches : Touches (home_place b.plan object) (place_length b.plan object) (mended_disk old b.unwritten) (mended_disk new b.unwritten)
+    seen_touches = touches_mended b.unwritten touches
 
-  is_home : IsCopied old.seen new.seen b.plan b.header.generation b.directory object → IsHome new.seen b.plan b.header.generation b.directory b.moved
-  is_home copied n lt same = copied n lt same ∙
-      sym (frame_stays b.plan b.header.generation b.directory (home_extent b.plan object) spares.frames touches.elsewhere n lt)
+    in_list : b.moved < length b.directory
+    in_list = omega (arith, some, is.kept.count)
 
-  pub copied_kept : IsCopied old.seen new.seen b.plan b.header.generation b.directory object → IsKept new.sectors new.seen (moved_books b 1)
-  copied_kept copied = record {
-    readable = kept_new.readable;
-    few = omega (arith, some);
-    moved = λ i lt. elim (cases_lt i b.moved) [
-      | inl less ↦ kept_new.moved i less
-      | inr le ↦ let same : b.moved ≡ i = omega (arith, lt, le) in subst (IsHome new.seen b.plan b.header.generation b.directory) same (is_home copied)
-    ];
-    frozen = kept_new.frozen;
-    running = kept_new.running;
-    working = kept_new.working;
-  }
+    object_fits : object < count_of b.plan
+    object_fits = (is.kept.directory.each b.moved (record { object = 0; slot = 0 }) in_list).object
 
-  pub uncopied_kept : IsKept new.sectors new.seen b
-  uncopied_kept = kept_new
+    spares : Spares b.plan b.header b.directory (home_extent b.plan object)
+    spares = spares_home is.kept.plan is.kept.directory is.kept.header.entries object_fits (own_slot b.directory b.moved is.kept.directory.rising in_list)
 
-  pub copied_stored : stored_in new.seen (moved_books b 1) ≡ record (stored_in old.seen b) { to_move = b.header.entries - (b.moved + 1) }
-  copied_stored = ap (λ (s : Stored). record s { to_move = b.header.entries - (b.moved + 1) }) stored_new
+    spares_all : SparesKept b (home_extent b.plan object)
+    spares_all = record {
+      frames = spares.frames;
+      homes = λ i lt.
+          places_apart b.plan (entry_at b.directory i).object object is.kept.plan
+          (is.kept.directory.each i (record { object = 0; slot = 0 }) (omega (arith, lt, in_list))).object object_fits (first i lt);
+      frozen = none_spares b.plan (frozen_generation b) b.frozen (home_extent b.plan object) (subst (IsRunning b) none is.kept.running);
+      working = puts_home (working_generation b) is.kept.plan is.kept.working.table is.kept.working.few object_fits;
+    }
 
-  pub uncopied_stored : stored_in new.seen b ≡ record (stored_in old.seen b) { to_move = b.header.entries - (b.moved + 0) }
-  uncopied_stored = let same : b.moved ≡ b.moved + 0 = omega arith in stored_new ∙
-      ap (λ (n : ℕ). record (stored_in old.seen b) { to_move = b.header.entries - n }) same
+    kept_new : IsKept new.sectors (seen_by new.seen b) b
+    kept_new = subst (λ (k : ℕ). IsKept k (seen_by new.seen b) b) (sym touches.size) (kept_on old.sectors spares_all seen_touches.elsewhere is.kept)
 
-  pub copied_goes_on : (k : ℕ) → GoesOnSeen old new b (moved_books b k)
-  copied_goes_on k = goes_spared refl refl refl spares touches
+    stored_new : stored_on new b ≡ stored_on old b
+    stored_new = stored_stays old.sectors spares_all seen_touches.elsewhere
 
-  pub uncopied_goes_on : GoesOnSeen old new b b
-  uncopied_goes_on = goes_spared refl refl refl spares touches
+    pub uncopied_durable : IsDurable new b
+    uncopied_durable = record { kept = kept_new; unwritten = is.unwritten }
 
--- ---- the next frame went home with the one before it
+    pub uncopied_moved : MovedBy old new b b 0
+    uncopied_moved =
+        let same : b.moved ≡ b.moved + 0 = omega arith in
+        record {
+          books = ap (λ (n : ℕ). record b { moved = n }) same;
+          stored = stored_new ∙ ap (λ (n : ℕ). record (stored_on old b) { to_move = b.header.entries - n }) same;
+          goes_on = goes_seen (goes_spared refl refl refl spares seen_touches);
+        }
 
-module _ {size : ℕ} {image : Image} {b : Books} (kept : IsKept size image b) (some : b.moved < b.header.entries) (one : 0 < b.moved)
-    (same : home_place b.plan (entry_at b.directory (b.moved - 1)).object ≡ home_place b.plan (entry_at b.directory b.moved).object) where
-  there : IsHome image b.plan b.header.generation b.directory b.moved
-  there n lt has = kept.moved (b.moved - 1) (omega (arith, one)) n lt (has ∙ sym same)
+    pub copied_moved : MovedBy old new b (moved_books b 1) 1
+    copied_moved = record {
+      books = refl;
+      stored = ap (λ (s : Stored). record s { to_move = b.header.entries - (b.moved + 1) }) stored_new;
+      goes_on = goes_seen (goes_spared refl refl refl spares seen_touches);
+    }
 
-  pub passed_kept : IsKept size image (moved_books b 1)
-  passed_kept = record {
-    readable = kept.readable;
-    few = omega (arith, some);
-    moved = λ i lt. elim (cases_lt i b.moved) [
-      | inl less ↦ kept.moved i less
-      | inr le ↦ let last : b.moved ≡ i = omega (arith, lt, le) in subst (IsHome image b.plan b.header.generation b.directory) last there
-    ];
-    frozen = kept.frozen;
-    running = kept.running;
-    working = kept.working;
+    pub copied_durable : IsCopied old.seen new.seen b.plan b.header.generation b.directory (entry_at b.directory b.moved).object →
+        IsDurable new (moved_books b 1)
+    copied_durable copied =
+        let seen = subst (λ (o : Option Unwritten). IsCopied (mended old.seen o) (mended new.seen o) b.plan b.header.generation b.directory object)
+        (sym written) copied in
+        record {
+          kept = moved_one kept_new some (λ n lt same. seen n lt same ∙
+              sym (frame_stays b.plan b.header.generation b.directory (home_extent b.plan object) spares.frames seen_touches.elsewhere n lt));
+          unwritten = without (moved_books b 1) written;
+        }
+
+  -- ---- it went home with the one before it
+
+  pub passed_durable : 0 < b.moved → home_place b.plan (entry_at b.directory (b.moved - 1)).object ≡ home_place b.plan (entry_at b.directory b.moved).object →
+      IsDurable old (moved_books b 1)
+  passed_durable one same = record {
+    kept = moved_one is.kept some (λ n lt has. is.kept.moved (b.moved - 1) (omega (arith, one)) n lt (has ∙ sym same));
+    unwritten = without (moved_books b 1) written;
   }
 
 -- ---- one after the other

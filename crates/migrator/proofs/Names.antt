@@ -68,7 +68,7 @@ pub use Rattle.model.specs.Object.{role_of}
 pub use Rattle.model.specs.Sound.{IsOfKind}
 pub use Rattle.model.specs.declared.capability.Cap.{Cap}
 pub use Rattle.model.specs.declared.capability.Capability.{Capability}
-pub use Rattle.model.specs.declared.capability.Capability.TheVariants.{Bank, Discrim, Number, Process, Resume, Space, Start, Void}
+pub use Rattle.model.specs.declared.capability.Capability.TheVariants.{Bank, Process, Resume, Space, Start}
 pub use Rattle.model.specs.declared.frame.Frame.{Frame}
 pub use Rattle.model.specs.declared.frame.ObjectHeader.{ObjectHeader}
 pub use Rattle.model.specs.declared.geometry.Geometry.{Geometry}
@@ -77,7 +77,7 @@ pub use Rattle.number_set.specs.Marks.{HasNoneMarked, IsNextMarked, is_marked}
 pub use Rattle.std.proofs.Common.{Bool, Err, List, None, Ok, Option, Result, Some, [], ap, append-nil, arith, cond, drop, false, get_or, inl, inr, length}
 pub use Rattle.std.proofs.Common.{length-append, nat_eq, nat_le, nat_lt, not, refl, rules, set, subst, suc, sym, take, true, zero, ℕ, ⊎_elim}
 pub use Rattle.std.proofs.Math.ListN.{get_or-map}
-pub use Rattle.std.proofs.lemmas.Bool.{and_from, and_left, and_right, cases_eq, cases_lt, eq-eqb, le-ltb, ne_eqb}
+pub use Rattle.std.proofs.lemmas.Bool.{cases_eq, cases_lt, eq-eqb, le-ltb, ne_eqb}
 pub use Rattle.std.proofs.lemmas.Bool.Decides.{nat_tests}
 pub use Rattle.std.proofs.lemmas.List.{drop_all, drop_at, get_or-replicate, get_or-set_other, get_or-set_same, get_or_default, get_or_past, length-map}
 pub use Rattle.std.proofs.lemmas.List.{length-replicate, length-set, map-set, nil_from_length, same_lists, take_all}

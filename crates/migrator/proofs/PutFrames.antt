@@ -1,21 +1,199 @@
--- A frame is put: what then holds of a device and its books.
-use Rattle.migrator.proofs.Names.{MayPut, PutsFrame, Stores, ℕ, Option, Some, None, Result, List, set, refl, ap, subst, arith, OnOk, OnErr, Frame, IsKeepable}
-use Rattle.migrator.proofs.Names.{Image, Disk, Failed, frame_bytes, place_length, slot_sector, count_of, WritesAt, most, Keeps, Books, Place, Torn, Whole}
-use Rattle.migrator.proofs.Names.{IsDurable, IsRunning, frozen_generation, seen_by, stored_on, with_frozen, with_working, working_generation, Unwritten, mended}
-use Rattle.migrator.proofs.Names.{Broken, HasFreeSlot, puts_in, slot_bytes, Touches, entries_of, slot_for, Counts, IsKept}
+-- A frame is put into its slot: what then holds of a device and its books.
+use Rattle.migrator.proofs.Names.{MayPut, PutsFrame, Stores, ℕ, Bool, true, false, Option, Some, None, Result, Ok, Err, List, length, set, refl, sym, ap, subst}
+use Rattle.migrator.proofs.Names.{arith, option_map, OnOk, OnErr, Frame, IsKeepable, Image, Disk, Failed, Extent, IsFrameOf, frame_bytes, half_sector}
+use Rattle.migrator.proofs.Names.{place_length, slot_sector, count_of, IsInside, half_extent, bytes_spelt, WritesAt, place_extent, most, Keeps, Books, Place}
+use Rattle.migrator.proofs.Names.{Torn, Whole, slot_of, IsDurable, IsRunning, FrozenPuts, Stored, frozen_generation, frozen_of, seen_by, stored_in, stored_on}
+use Rattle.migrator.proofs.Names.{with_frozen, with_put, with_working, working_generation, Unwritten, mended, Put, Broken, Kept, HasFreeSlot, ArePut, puts_in}
+use Rattle.migrator.proofs.Names.{slot_bytes, slot_frame, Touches, entries_of, slot_for, Counts, IsKept, Spares, SparesKept}
 use Rattle.std.proofs.Common.{◌≡◌, ◌⊎◌, ◌∙◌, ◌+◌, ◌<◌, ◌≤◌}
+use Rattle.std.specs.Prelude.{if◌then◌else◌}
 use Rattle.migrator.proofs.Buffered.{entry_of, held_after, without, working_again}
 use Rattle.migrator.proofs.Committing.{frozen_fits}
 use Rattle.migrator.proofs.Completed.{goes_after, kept_with, mid_kept, stored_after}
 use Rattle.migrator.proofs.Completing.{keeps_written, unwritten_inside}
-use Rattle.migrator.proofs.FrozenFrames as frozen
-use Rattle.migrator.proofs.GoingOn.{goes_seen, goes_with}
-use Rattle.migrator.proofs.Mended.{mended_disk, unmended, writes_mended}
-use Rattle.migrator.proofs.Gathering.{on_ok as on_ok_with}
-use Rattle.migrator.proofs.Putting.{slot_room}
-use Rattle.migrator.proofs.Working as working
+use Rattle.migrator.proofs.GoingOn.{GoesOnSeen, goes_seen, goes_spared, goes_with}
+use Rattle.migrator.proofs.Kept.{stored_stays, kept_on}
+use Rattle.migrator.proofs.Mended.{unmended, writes_mended}
+use Rattle.migrator.proofs.PlacesApart.{place_inside, spares_other}
+use Rattle.migrator.proofs.Putting.{frozen_working, half_spares, homes_spare, later_half, mended as mended_put, other_parity, puts_mended, puts_set}
+use Rattle.migrator.proofs.Putting.{saved_working}
+use Rattle.migrator.proofs.Putting.{set_twice, slot_room, slots_spare, taken_set, torn_put}
+use Rattle.migrator.proofs.Saving.{ok_then}
+use Rattle.migrator.proofs.Spared.{touches}
 
--- ---- among those put since
+-- ---- among the frames put since, or for the checkpoint on its way
+
+abbrev places : Bool → Books → List Place
+places since b = if since then b.working else b.frozen
+
+abbrev with_places : Bool → Books → List Place → Books
+with_places since b ps = record b { working = if since then ps else b.working; frozen = if since then b.frozen else ps }
+
+abbrev generation_of : Bool → Books → ℕ
+generation_of since b = if since then working_generation b else frozen_generation b
+
+abbrev putting : Bool → ℕ → Put → Stored → Stored
+putting true n x s = with_working n x s
+putting false n x s = with_frozen n x s
+
+-- there is a slot for an object
+abbrev HasSlot : Bool → Books → ℕ → Type 0
+HasSlot true b n = slot_for b.working n < b.plan.geometry.log
+HasSlot false b n = (k : ℕ) × (b.size ≡ Some k) × (slot_for b.frozen n < k)
+
+slot_low : (since : Bool) {size : ℕ} {image : Image} {b : Books} (n : ℕ) → IsKept size image b → HasSlot since b n →
+    slot_for (places since b) n < b.plan.geometry.log
+slot_low true n kept has = has
+slot_low false {b = b} n kept has = let was : IsRunning b (Some has.0) = subst (IsRunning b) has.1 kept.running in omega (arith, has.2, was.2)
+
+same_places : (since : Bool) {size : ℕ} {image : Image} {b : Books} → IsKept size image b → IsKept size image (with_places since b (places since b))
+same_places true kept = kept
+same_places false kept = kept
+
+are_put : (since : Bool) {size : ℕ} {image : Image} (b : Books) (ps : List Place) → IsKept size image (with_places since b ps) →
+    ArePut image b.plan (generation_of since b) ps
+are_put true b ps kept = kept.working
+are_put false b ps kept = kept.frozen
+
+-- the place of an object is another, with its slot
+module _ {first : ℕ} {was : Image} {b : Books} (n : ℕ) (q : Place) (before : IsKept first was b) where
+  kept_places : (since : Bool) {size : ℕ} {image : Image} (ps : List Place) → n < length (places since b) → HasSlot since b n →
+      slot_of q ≡ Some (slot_for (places since b) n) → IsKept size image (with_places since b ps) →
+      ArePut image b.plan (generation_of since b) (set (places since b) n q) → IsKept size image (with_places since b (set (places since b) n q))
+  kept_places true ps lt has slot kept are = record {
+    readable = kept.readable;
+    few = kept.few;
+    moved = kept.moved;
+    frozen = kept.frozen;
+    running = kept.running;
+    working = are;
+  }
+  kept_places false ps lt has slot kept are =
+      let runs : IsRunning b (Some has.0) = subst (IsRunning b) has.1 before.running in
+      record {
+        readable = kept.readable;
+        few = kept.few;
+        moved = kept.moved;
+        frozen = are;
+        running = subst (IsRunning (with_places false b (set b.frozen n q))) (sym has.1) (runs.0, taken_set b.frozen q lt slot runs.1 has.2, runs.2);
+        working = kept.working;
+      }
+
+-- what was put of it is all that differs
+stored_put : (since : Bool) (image : Image) (b : Books) (ps qs : List Place) (n : ℕ) (x : Put) →
+    puts_in image b.plan (generation_of since b) qs ≡ set (puts_in image b.plan (generation_of since b) ps) n x →
+    stored_in image (with_places since b qs) ≡ putting since n x (stored_in image (with_places since b ps))
+stored_put true image b ps qs n x same = ap (λ (puts : List Put). record (stored_in image b) { working = puts }) same
+stored_put false image b ps qs n x same = ap (λ (f : Option FrozenPuts). record (stored_in image b) { frozen = f }) (by b.size) where
+  by : (o : Option ℕ) →
+      option_map (frozen_of image (with_places false b qs)) o ≡ option_map (with_put n x) (option_map (frozen_of image (with_places false b ps)) o)
+  by None = refl
+  by (Some k) = ap (λ (puts : List Put). Some (record { put = puts; size = k })) same
+
+pub put_twice : (since : Bool) (s : Stored) (n : ℕ) (x y : Put) → putting since n y (putting since n x s) ≡ putting since n y s
+put_twice true s n x y = ap (λ (puts : List Put). record s { working = puts }) (set_twice s.working n x y)
+put_twice false s n x y = ap (λ (f : Option FrozenPuts). record s { frozen = f }) (by s.frozen) where
+  by : (o : Option FrozenPuts) → option_map (with_put n y) (option_map (with_put n x) o) ≡ option_map (with_put n y) o
+  by None = refl
+  by (Some f) = ap (λ (puts : List Put). Some (record { put = puts; size = f.size })) (set_twice f.put n x y)
+
+-- what was put of an object is given up
+module _ (since : Bool) {size : ℕ} {image : Image} {b : Books} {n : ℕ} (kept : IsKept size image b) (lt : n < count_of b.plan) (has : HasSlot since b n) where
+  are : ArePut image b.plan (generation_of since b) (places since b)
+  are = are_put since b (places since b) (same_places since kept)
+
+  in_list : n < length (places since b)
+  in_list = omega (arith, lt, are.count)
+
+  tear_kept : IsKept size image (with_places since b (set (places since b) n (Torn (slot_for (places since b) n))))
+  tear_kept = kept_places n (Torn (slot_for (places since b) n)) kept since (places since b) in_list has refl (same_places since kept)
+      (torn_put are lt (slot_low since n kept has))
+
+  tear_stored : stored_in image (with_places since b (set (places since b) n (Torn (slot_for (places since b) n)))) ≡ putting since n Broken (stored_in image b)
+  tear_stored = same since (stored_put since image b (places since b) (set (places since b) n (Torn (slot_for (places since b) n))) n Broken
+      (puts_set are lt (slot_low since n kept has) (Torn (slot_for (places since b) n)))) where
+        same : (t : Bool) {s : Stored} → s ≡ putting t n Broken (stored_in image (with_places t b (places t b))) → s ≡ putting t n Broken (stored_in image b)
+        same true is = is
+        same false is = is
+
+-- the sectors of its slot are none of the others
+saved_spares : (since : Bool) {size : ℕ} {image : Image} {b : Books} {e : Extent} → IsKept size image b →
+    IsInside e (half_extent b.plan.geometry (half_sector b.plan (generation_of since b))) → Spares b.plan b.header b.directory e
+saved_spares true {b = b} kept inside = saved_working b.size kept kept.running inside
+saved_spares false {b = b} kept inside =
+    spares_other b.header (frozen_generation b) kept.plan kept.directory kept.header.entries (other_parity b.header.generation) inside
+
+all_spared : (since : Bool) {size : ℕ} {image : Image} {b : Books} {n : ℕ} → IsKept size image b → HasSlot since b n → n < length (places since b) →
+    IsInside (place_extent b.plan (generation_of since b) (slot_for (places since b) n) n)
+    (half_extent b.plan.geometry (half_sector b.plan (generation_of since b))) →
+    SparesKept (with_places since b (set (places since b) n (Torn (slot_for (places since b) n))))
+    (place_extent b.plan (generation_of since b) (slot_for (places since b) n) n)
+all_spared true {b = b} kept has lt inside = record {
+  frames = (saved_spares true kept inside).frames;
+  homes = homes_spare (working_generation b) kept inside;
+  frozen = frozen_working b.size kept kept.running inside;
+  working = slots_spare b.plan (working_generation b) kept.working.table lt;
+}
+all_spared false {b = b} kept has lt inside = record {
+  frames = (saved_spares false kept inside).frames;
+  homes = homes_spare (frozen_generation b) kept inside;
+  frozen = slots_spare b.plan (frozen_generation b) kept.frozen.table lt;
+  working = half_spares (working_generation b) (frozen_generation b) kept.plan (later_half b has.1) kept.working.table kept.working.few inside;
+}
+
+-- a frame is written into its slot
+module _ (since : Bool) {old new : Disk} {b : Books} {n : ℕ} (f : Frame) (kept : IsKept old.sectors old.seen b) (lt : n < count_of b.plan)
+    (has : HasSlot since b n)
+    (writes : WritesAt (slot_sector b.plan (generation_of since b) (slot_for (places since b) n)) (place_length b.plan n) old new) where
+  abbrev g : ℕ
+  g = generation_of since b
+
+  abbrev slot : ℕ
+  slot = slot_for (places since b) n
+
+  abbrev torn : Books
+  torn = with_places since b (set (places since b) n (Torn slot))
+
+  inside : IsInside (place_extent b.plan g slot n) (half_extent b.plan.geometry (half_sector b.plan g))
+  inside = place_inside b.plan g n (slot_low since n kept has)
+
+  spared : SparesKept torn (place_extent b.plan g slot n)
+  spared = all_spared since kept has (in_list since kept lt has) inside
+
+  stays_kept : IsKept new.sectors new.seen torn
+  stays_kept = subst (λ (size : ℕ). IsKept size new.seen torn) (sym writes.size) (kept_on old.sectors spared writes.elsewhere (tear_kept since kept lt has))
+
+  stays_stored : stored_in new.seen torn ≡ putting since n Broken (stored_in old.seen b)
+  stays_stored = stored_stays old.sectors spared writes.elsewhere ∙ tear_stored since kept lt has
+
+  module _ (keepable : IsKeepable b.plan.geometry most n f) (written : slot_bytes new.seen b.plan g slot n ≡ frame_bytes b.plan.geometry n f) where
+    spelt : IsFrameOf b.plan.geometry most n (slot_bytes new.seen b.plan g slot n) (slot_frame new.seen b.plan g slot n)
+        × (slot_frame new.seen b.plan g slot n ≡ f)
+    spelt = bytes_spelt b.plan.geometry most n (slot_bytes new.seen b.plan g slot n) f keepable written
+
+    put_kept : IsKept new.sectors new.seen (with_places since b (set (places since b) n (Whole slot)))
+    put_kept = kept_places n (Whole slot) kept since (set (places since b) n (Torn slot)) (in_list since kept lt has) has refl stays_kept
+        (mended_put (places since b) n slot (are_put since b (set (places since b) n (Torn slot)) stays_kept) lt spelt.0)
+
+    put_stored : stored_in new.seen (with_places since b (set (places since b) n (Whole slot))) ≡ putting since n (Kept f) (stored_in old.seen b)
+    put_stored =
+        stored_put since new.seen b (set (places since b) n (Torn slot)) (set (places since b) n (Whole slot)) n (Kept f)
+        (puts_mended (places since b) n slot (are_put since b (set (places since b) n (Torn slot)) stays_kept) lt spelt.1)
+        ∙ ap (putting since n (Kept f)) stays_stored ∙ put_twice since (stored_in old.seen b) n Broken (Kept f)
+
+  put_goes_on : (ps : List Place) → GoesOnSeen old new b (with_places since b ps)
+  put_goes_on ps = goes_spared refl refl refl (saved_spares since kept inside) (touches writes)
+
+  -- its outcome, whether or not the device failed
+  put_either : {T : Type 0} (r : Result T Failed) (ps : List Place) → IsKeepable b.plan.geometry most n f → OnOk r (ps ≡ set (places since b) n (Whole slot)) →
+      OnErr r (ps ≡ set (places since b) n (Torn slot)) → OnOk r (slot_bytes new.seen b.plan g slot n ≡ frame_bytes b.plan.geometry n f) →
+      IsKept new.sectors new.seen (with_places since b ps)
+      × OnOk r (stored_in new.seen (with_places since b ps) ≡ putting since n (Kept f) (stored_in old.seen b))
+      × OnErr r (stored_in new.seen (with_places since b ps) ≡ putting since n Broken (stored_in old.seen b))
+  put_either (Ok u) ps keepable ok err written = rw ok (put_kept keepable written, put_stored keepable written, tt)
+  put_either (Err e) ps keepable ok err written = rw err (stays_kept, tt, stays_stored)
+
+-- ---- over a device that is partly in memory
 
 module _ {old : Disk} {b : Books} {n : ℕ} (is : IsDurable old b) (lt : n < count_of b.plan)
     (has : HasFreeSlot b.plan.geometry.log (stored_on old b).working n) where
@@ -29,17 +207,15 @@ module _ {old : Disk} {b : Books} {n : ℕ} (is : IsDurable old b) (lt : n < cou
       → OnOk r (slot_bytes new.seen b.plan (working_generation b) (slot_for b.working n) n ≡ frame_bytes b.plan.geometry n f)
       → PutsFrame old new b (record b { working = ps }) f (λ put. with_working n put (stored_on old b)) r
   working_puts {new = new} {f = f} {r = r} writes counts {ps} keepable ok err written =
-      let before : Disk = mended_disk old b.unwritten in
-      let after : Disk = mended_disk new b.unwritten in
       let wrote = writes_mended b.unwritten writes in
-      let read = on_ok_with r (λ is_written. working_again old.sectors old.seen b new.seen b.unwritten is.kept is.unwritten n working_room ∙ is_written)
+      let read = ok_then r (λ is_written. working_again old.sectors old.seen b new.seen b.unwritten is.kept is.unwritten n working_room ∙ is_written)
       written in
-      let both = working.put_either f is.kept lt working_room wrote r keepable ok err read in
+      let both = put_either true f is.kept lt working_room wrote r ps keepable ok err read in
       record {
         stands = record { kept = both.0; unwritten = is.unwritten };
         put = both.1;
         broken = both.2;
-        goes_on = goes_seen (working.put_goes_on f is.kept lt working_room wrote);
+        goes_on = goes_seen (put_goes_on true f is.kept lt working_room wrote ps);
         cause = counts;
       }
 
@@ -63,8 +239,8 @@ module _ {old : Disk} {b : Books} {k n : ℕ} (is : IsDurable old b) (size : b.s
     keeps : Keeps b.plan (frozen_generation b) (entries_of b.frozen) old b.unwritten new o
     keeps = keeps_written only_now (frozen_fits is.kept) (entry_of b b.unwritten is.unwritten) seen touches nothing either
 
-    abbrev torn : List Place
-    torn = set b.frozen n (Torn (slot_for b.frozen n))
+    has_slot : HasSlot false b n
+    has_slot = (k, size, frozen_low)
 
     mid : IsKept new.sectors (mended new.seen o) b
     mid = mid_kept is.kept size keeps
@@ -73,12 +249,11 @@ module _ {old : Disk} {b : Books} {k n : ℕ} (is : IsDurable old b) (size : b.s
         (with_frozen n Broken (stored_on old b))
     torn_stores = record {
       stands = record {
-        kept = kept_with (frozen.tear_kept n mid lt k size frozen_low);
+        kept = kept_with (tear_kept false mid lt has_slot);
         unwritten = held_after b (Torn (slot_for b.frozen n)) (omega (arith, lt, is.kept.frozen.count)) refl is.unwritten either;
       };
-      stored = frozen.tear_stored n mid lt k size frozen_low ∙ ap (with_frozen n Broken) (stored_after is.kept size keeps);
-      goes_on =
-          goes_seen (goes_with refl refl refl (goes_after is.kept size keeps));
+      stored = tear_stored false mid lt has_slot ∙ ap (with_frozen n Broken) (stored_after is.kept size keeps);
+      goes_on = goes_seen (goes_with refl refl refl (goes_after is.kept size keeps));
     }
 
 pub frozen_puts : {T : Type 0} {old new : Disk} {b : Books} {n k : ℕ} {f : Frame} {r : Result T Failed} → MayPut old b k n f → b.unwritten ≡ None →
@@ -87,19 +262,17 @@ pub frozen_puts : {T : Type 0} {old new : Disk} {b : Books} {n k : ℕ} {f : Fra
     → OnOk r (slot_bytes new.seen b.plan (frozen_generation b) (slot_for b.frozen n) n ≡ frame_bytes b.plan.geometry n f)
     → PutsFrame old new b (record b { frozen = ps }) f (λ put. with_frozen n put (stored_on old b)) r
 frozen_puts {old = old} {new = new} {b = b} {n = n} {k = k} {f = f} {r = r} may none writes counts {ps} ok err written =
-    let before : Disk = mended_disk old b.unwritten in
-    let after : Disk = mended_disk new b.unwritten in
     let is = may.stands in
-    let low = frozen_low is may.running may.object may.room in
+    let has : (j : ℕ) × (b.size ≡ Some j) × (slot_for b.frozen n < j) = (k, may.running, frozen_low is may.running may.object may.room) in
     let wrote = writes_mended b.unwritten writes in
-    let read = on_ok_with r (λ is_written. ap (λ (image : Image). slot_bytes image b.plan (frozen_generation b) (slot_for b.frozen n) n) (unmended none)
+    let read = ok_then r (λ is_written. ap (λ (image : Image). slot_bytes image b.plan (frozen_generation b) (slot_for b.frozen n) n) (unmended none)
     ∙ is_written) written in
-    let both = frozen.put_either n f is.kept may.object k may.running low wrote r may.keepable ok err read in
+    let both = put_either false f is.kept may.object has wrote r ps may.keepable ok err read in
     record {
       stands = record { kept = both.0; unwritten = without (record b { frozen = ps }) none };
       put = both.1;
       broken = both.2;
-      goes_on = goes_seen (frozen.put_goes_on n f is.kept may.object k may.running low wrote);
+      goes_on = goes_seen (put_goes_on false f is.kept may.object has wrote ps);
       cause = counts;
     }
 

@@ -5,9 +5,9 @@ use Rattle.migrator.proofs.Names.{IsFrameOf, half_sector, count_of, entry_at, Pl
 use Rattle.migrator.proofs.Names.{slot_extent, place_extent, frames_in_slots, slots_apart, Place, Nowhere, Torn, Whole, place_at, slot_of, has_slot, has_frame}
 use Rattle.migrator.proofs.Names.{tally, taken_count, whole_count, slot_or, slot_for, IsTable, Put, Absent, Kept, put_at, kept_frame, held_slot, sum_of}
 use Rattle.migrator.proofs.Names.{kept_count, HasFreeSlot, slot_bytes, slot_frame, put_of, puts_in, ArePut, most, Books, frozen_generation, generation_after}
-use Rattle.migrator.proofs.Names.{IsRunning, IsKept, Spares, SparesPuts}
+use Rattle.migrator.proofs.Names.{IsRunning, IsKept, Spares, SparesPuts, working_generation}
 use Rattle.std.proofs.Common.{◌≡◌, ◌⊎◌, ◌+◌, ◌%◌, ◌<◌, ◌≤◌, ◌∷◌, ◌∙◌}
-use Rattle.migrator.proofs.Tables.{tally-set, table_set, set_here, set_there}
+use Rattle.migrator.proofs.Tables.{some_has, tally-set, table_set, set_here, set_there}
 use Rattle.migrator.proofs.Kept.{map_set}
 use Rattle.migrator.proofs.PlacesApart.{other_half, home_apart, spares_other, spares_log}
 
@@ -87,11 +87,6 @@ slot_room image p generation {room} {ps} {n} size lt table few has =
 
 -- ---- a place is set
 
-has_one : (q : Place) {s : ℕ} → slot_of q ≡ Some s → has_slot q ≡ 1
-has_one Nowhere is = absurd cc
-has_one (Torn t) is = refl
-has_one (Whole t) is = refl
-
 few_by : (old : Place) {taken taken' room : ℕ} → taken' + has_slot old ≡ taken + 1 → taken ≤ room → slot_or (slot_of old) taken < room → taken' ≤ room
 few_by Nowhere is few lt = omega (arith, is, lt)
 few_by (Torn s) is few lt = omega (arith, is, few)
@@ -101,7 +96,7 @@ pub taken_set : (ps : List Place) {n room : ℕ} (q : Place) → n < length ps �
     taken_count (set ps n q) ≤ room
 taken_set ps {n} {room} q lt is few less =
     let set' = tally-set has_slot ps n q lt in
-    let one = has_one q is in
+    let one = some_has q is in
     few_by (place_at ps n) (omega (arith, set', one)) few less
 
 module _ {image : Image} {p : Plan} {generation : ℕ} {ps : List Place} {n : ℕ} (are : ArePut image p generation ps) (lt : n < count_of p)
@@ -151,13 +146,22 @@ module _ {image : Image} {p : Plan} {generation : ℕ} {ps : List Place} {n : �
 pub other_parity : (g : ℕ) → g % 2 ≡ (g + 1) % 2 → ⊥
 other_parity g same = omega (arith, same)
 
+-- while a checkpoint is on its way, what is put since lies in the other half
+pub later_half : (b : Books) {k : ℕ} → b.size ≡ Some k → working_generation b % 2 ≡ frozen_generation b % 2 → ⊥
+later_half b running same =
+    other_parity (frozen_generation b) (sym (sym (ap (λ (o : Option ℕ). generation_after b.header.generation o % 2) running) ∙ same))
+
+-- and where none is, in the half of the saved generation no longer
+pub idle_half : (b : Books) → b.size ≡ None → (g : ℕ) → g % 2 ≡ b.header.generation % 2 → working_generation b % 2 ≡ g % 2 → ⊥
+idle_half b none g same is =
+    other_parity b.header.generation (sym (sym (ap (λ (o : Option ℕ). generation_after b.header.generation o % 2) none) ∙ is ∙ same))
+
 -- frames in the other slots of a half lie apart from the slot of an object
 pub slots_spare : (p : Plan) (generation : ℕ) {ps : List Place} {n : ℕ} → IsTable ps → n < length ps →
     SparesPuts p generation (set ps n (Torn (slot_for ps n))) (place_extent p generation (slot_for ps n) n)
 slots_spare p generation {ps} {n} table lt m s within is = elim (cases_eq m n) [
   | inl same ↦ let never : Torn (slot_for ps n) ≡ Whole s = sym (ap (place_at (set ps n (Torn (slot_for ps n)))) same ∙ set_here ps lt) ∙ is in absurd cc
   | inr other ↦
-      let whole : Whole s ≡ place_at (set ps n (Torn (slot_for ps n))) m = sym is in
       let table' = table_set (Torn (slot_for ps n)) table lt refl in
       let differ : s ≡ slot_for ps n → ⊥ = λ e. other (table'.apart m n s (ap slot_of is) (ap slot_of (set_here ps lt) ∙ ap (λ (k : ℕ). Some k) (sym e))) in
       apart_inside (place_extent p generation s m) (place_extent p generation (slot_for ps n) n) (slot_extent p generation s)

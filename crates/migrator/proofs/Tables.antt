@@ -3,8 +3,9 @@ use native.Mathlib.Numerals.{unary_clauses}
 use Rattle.migrator.proofs.Names.{ℕ, zero, suc, Bool, true, false, Option, Some, None, List, [], length, set, take, drop, refl, sym, ap, subst, inl, inr, arith}
 use Rattle.migrator.proofs.Names.{length-append, replicate, cases_eq, get_or-map, get_or-set_same, get_or-set_other, get_or_default, take_all, drop_all}
 use Rattle.migrator.proofs.Names.{nil_from_length, length-map, map-set, is_marked, IsNextMarked, HasNoneMarked, Geometry, Entry, entry_at, AreRising, IsEntry}
-use Rattle.migrator.proofs.Names.{IsDirectory, slot_in, slot_here, slot_behind, own_slot, two_objects, Place, Nowhere, Torn, Whole, place_at, slot_of, is_held}
-use Rattle.migrator.proofs.Names.{has_slot, has_frame, tally, taken_count, whole_count, slot_or, slot_for, IsTable, entry_before, entries_from, entries_of}
+use Rattle.migrator.proofs.Names.{IsDirectory, slot_in, slot_here, slot_behind, own_slot, same_some, two_objects, Place, Nowhere, Torn, Whole, place_at}
+use Rattle.migrator.proofs.Names.{slot_of, is_held, has_slot, has_frame, tally, taken_count, whole_count, slot_or, slot_for, IsTable, entry_before}
+use Rattle.migrator.proofs.Names.{entries_from, entries_of}
 use Rattle.std.proofs.Common.{◌≡◌, ◌+◌, ◌-◌, ◌<◌, ◌≤◌, ◌∷◌, ◌++◌, ◌∙◌, map}
 use Rattle.std.proofs.lemmas.List.{append-nil}
 
@@ -72,13 +73,10 @@ none_has Nowhere is = refl
 none_has (Torn s) is = absurd cc
 none_has (Whole s) is = absurd cc
 
-some_has : (p : Place) {s : ℕ} → slot_of p ≡ Some s → has_slot p ≡ 1
+pub some_has : (p : Place) {s : ℕ} → slot_of p ≡ Some s → has_slot p ≡ 1
 some_has Nowhere is = absurd cc
 some_has (Torn t) is = refl
 some_has (Whole t) is = refl
-
-same_some : {a b : ℕ} → Some a ≡ Some b → a ≡ b
-same_some e = cc
 
 pub set_here : (ps : List Place) {n : ℕ} {q : Place} → n < length ps → place_at (set ps n q) n ≡ q
 set_here ps {n} {q} lt = get_or-set_same ps n q Nowhere lt

@@ -61,16 +61,16 @@ module _ (s : Stored) (m : Memory) (n : ℕ) (within : n < length m.entries) (e 
 
 -- the same by what is seen
 module _ {D : Type 0} (disk : D → Disk) {d : DurableState D} {m : Memory} {left count : ℕ} {order : List ℕ} {most_entries : ℕ} {s : StoreState D}
-    (view : cache_of disk d m left order most_entries ≡ s) (is : IsCache (stored_of disk d) m left count) (n : ℕ) (fetched : IsFetchedIn s n)
+    (view : cache_of disk d m left order most_entries ≡ s) (is : IsCache (stored_of disk d) m left count) {n : ℕ} (fetched : IsFetchedIn s n)
     (shared : frozen_state_at s.frozen_state n ≡ Shared) where
   known_here : n < length m.headers
-  known_here = fetched_known disk view is n fetched
+  known_here = fetched_known disk view is fetched
 
   entry_within : n < length m.entries
   entry_within = omega (arith, known_here, is.headers, is.entries)
 
   entry_here : (e : Entry) × (entry_at m.entries n ≡ Some e)
-  entry_here = entry_found disk view is n fetched
+  entry_here = entry_found disk view is fetched
 
   shared_here : frozen_state_in_memory m n ≡ Shared
   shared_here = sym (frozen_state_entry m n known_here) ∙ ap (λ t. frozen_state_at t.frozen_state n) view ∙ shared

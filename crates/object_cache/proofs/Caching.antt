@@ -209,7 +209,7 @@ frozen_state_entry m n within = get_or-map-range_with_len (frozen_state_in_memor
 
 -- the same by what is seen
 module _ {D : Type 0} (disk : D → Disk) {d : DurableState D} {m : Memory} {left count : ℕ} {order : List ℕ} {most_entries : ℕ} {s : StoreState D}
-    (view : cache_of disk d m left order most_entries ≡ s) (is : IsCache (stored_of disk d) m left count) (n : ℕ) (fetched : IsFetchedIn s n)
+    (view : cache_of disk d m left order most_entries ≡ s) (is : IsCache (stored_of disk d) m left count) {n : ℕ} (fetched : IsFetchedIn s n)
     (clean : mark_at s.dirty n ≡ false)
     (frozen_state : frozen_state_at s.frozen_state n ≡ Nothing) (masks : masked (header_at s.headers n).role (held_at s.contents n) ≡ held_at s.contents n)
   where
@@ -223,7 +223,7 @@ module _ {D : Type 0} (disk : D → Disk) {d : DurableState D} {m : Memory} {lef
     masks_here = ap (masked (header_at m.headers n).role) holds ∙ ap (λ t. masked (header_at t.headers n).role (held_at s.contents n)) view ∙ masks ∙ sym holds
 
     entry_here : (e : Entry) × (entry_at m.entries n ≡ Some e)
-    entry_here = entry_found disk view is n fetched
+    entry_here = entry_found disk view is fetched
 
     clean_here : mark_at m.dirty n ≡ false
     clean_here = ap (λ t. mark_at t.dirty n) view ∙ clean

@@ -1,4 +1,5 @@
 -- Bodies are read from the device: nothing that is seen is another.
+use Rattle.object_cache.proofs.Names.{FrozenPuts, Held}
 use Rattle.object_cache.proofs.Names.{ℕ, List, length, None, refl, sym, ap, subst, arith, header_at, held_at, Disk, put_at, DurableState, ReadsStore, below_at}
 use Rattle.object_cache.proofs.Names.{newest, stored_of, Memory, masked, in_staging, put_body, present_body, newest_body, contents_in, StoreState, IsCache}
 use Rattle.object_cache.proofs.Names.{GoesOnIn, cache_of, frozen_seen, cached_at, false, set, Some, Cap, Content, new_entry, with_cached, IsFetchedIn, inl, inr}
@@ -112,28 +113,16 @@ module _ {s : Stored} {m : Memory} {left count : ℕ} (is : IsCache s m left cou
   taken_contents = maps_same (content_at s then) (content_at s m) (length m.headers) (λ k below. content_same k)
 
   pub taken_cache : IsCache s then left count
-  taken_cache = record {
-    headers = is.headers;
-    frozen_headers = is.frozen_headers;
-    marks = is.marks;
-    dirty_marks = is.dirty_marks;
-    pending_marks = is.pending_marks;
-    entries = is.entries;
-    frames = is.frames;
-    puts = is.puts;
-    counted = is.counted;
-    within = is.within;
-    marked = is.marked;
-    clean = λ k clean touched. is.clean k clean touched ∙ ap Kept (sym (present_same k));
-    unput = is.unput;
-    unwritten = λ k below untouched. present_same k ∙ is.unwritten k below untouched ∙ sym (frozen_stays k);
-    idle = is.idle;
-    running = is.running;
-    keepable = λ f f_is. subst (AreKeepable s.saved.geometry most) (sym taken_frozen) (is.keepable f f_is);
-    held = λ h h_is. subst (λ g. mark_at m.pending g.number ≡ true) (same_Some (record { number = n; content = c }) h h_is) pending;
-    apart = is.apart;
-    freed = is.freed;
-  }
+  taken_cache =
+      let clean : (k : ℕ) → mark_at m.dirty k ≡ false → mark_at m.touched k ≡ true → put_at s.working k ≡ Kept (present_at s then k) =
+      λ k clean touched. is.clean k clean touched ∙ ap Kept (sym (present_same k)) in
+      let unwritten : (k : ℕ) → k < length m.headers → mark_at m.touched k ≡ false → present_at s then k ≡ frozen_at s then k =
+      λ k below untouched. present_same k ∙ is.unwritten k below untouched ∙ sym (frozen_stays k) in
+      let keepable : (f : FrozenPuts) → s.frozen ≡ Some f → AreKeepable s.saved.geometry most (frozen_in s then) =
+      λ f f_is. subst (AreKeepable s.saved.geometry most) (sym taken_frozen) (is.keepable f f_is) in
+      let held : (h : Held) → then.staging ≡ Some h → mark_at m.pending h.number ≡ true =
+      λ h h_is. subst (λ g. mark_at m.pending g.number ≡ true) (same_Some (record { number = n; content = c }) h h_is) pending in
+      search
 
 -- the same by what is seen
 module _ {D : Type 0} (disk : D → Disk) {d : DurableState D} {m : Memory} {left count : ℕ} {order : List ℕ} {most_entries : ℕ} {s : StoreState D}

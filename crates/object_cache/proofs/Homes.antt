@@ -1,4 +1,5 @@
 -- What is saved goes home, or what is frozen is saved: no object changes.
+use Rattle.object_cache.proofs.Names.{AreFrozen, most}
 use Rattle.object_cache.proofs.Names.{inl, inr, ℕ, Bool, true, false, cond, List, [], length, map, Option, Some, None, option_map, Result, Ok, Err, refl, sym}
 use Rattle.object_cache.proofs.Names.{ap, subst, arith, count_by, range_with_len, cases_lt, length-map, same_lists, get_or_past, length-map-range_with_len}
 use Rattle.object_cache.proofs.Names.{get_or-map-range_with_len, sum_by-cons, none-some, same_Some, blank_frame, frame_at, header_at, AreKeepable, Disk, Put}
@@ -11,6 +12,7 @@ use Rattle.std.proofs.Common.{◌≡◌, ◌+◌, ◌-◌, ◌≤◌, ◌<◌, �
 use Rattle.std.specs.Prelude.{◌==◌}
 use Rattle.object_cache.proofs.Leading.{IsSeenAs}
 use Rattle.object_cache.proofs.Marking.{one_fewer}
+use Rattle.object_cache.proofs.Turns.{running_in}
 
 -- ---- what is saved goes home
 
@@ -41,28 +43,7 @@ module _ (s : Stored) (m : Memory) where
       }) m left
       count
   unfolding frozen_in
-  numbered_stands left count generation entries age k is = record {
-    headers = is.headers;
-    frozen_headers = is.frozen_headers;
-    marks = is.marks;
-    dirty_marks = is.dirty_marks;
-    pending_marks = is.pending_marks;
-    entries = is.entries;
-    frames = is.frames;
-    puts = is.puts;
-    counted = is.counted;
-    within = is.within;
-    marked = is.marked;
-    clean = is.clean;
-    unput = is.unput;
-    unwritten = is.unwritten;
-    idle = is.idle;
-    running = is.running;
-    keepable = is.keepable;
-    held = is.held;
-    apart = is.apart;
-    freed = is.freed;
-  }
+  numbered_stands left count generation entries age k is = search
 
   pub home_stands : (left count : ℕ) (b : Bool) (k : ℕ) → IsCache s m left count → IsCache (stored_with s b k) m left count
   home_stands left count true k is = numbered_stands left count s.saved.generation 0 s.saved.age k is
@@ -182,41 +163,21 @@ module _ {s : Stored} {m : Memory} {count : ℕ} (is : IsCache s m 0 count) (f :
     contents_saved = maps_same (content_at after m) (content_at s m) (length m.headers) (λ n below. content_stays n)
 
     pub saved_stands : IsCache after m 0 count
-    saved_stands = record {
-      headers = is.headers;
-      frozen_headers = is.frozen_headers;
-      marks = is.marks;
-      dirty_marks = is.dirty_marks;
-      pending_marks = is.pending_marks;
-      entries = is.entries;
-      frames = length_over ∙ is.frames;
-      puts = is.puts;
-      counted = is.counted;
-      within = is.within;
-      marked = is.marked;
-      clean = λ n clean touched. is.clean n clean touched ∙ ap Kept (sym (present_stays n));
-      unput = is.unput;
-      unwritten = λ n below untouched. present_stays n ∙ is.unwritten n below untouched ∙ sym (frozen_stays n);
-      idle = λ none n. none_pending n;
-      running = λ g g_is. absurd (none-some g g_is);
-      keepable = λ g g_is. absurd (none-some g g_is);
-      held = is.held;
-      apart = is.apart;
-      freed = is.freed;
-    }
+    saved_stands =
+        let clean : (k : ℕ) → mark_at m.dirty k ≡ false → mark_at m.touched k ≡ true → put_at s.working k ≡ Kept (present_at after m k) =
+        λ n clean touched. is.clean n clean touched ∙ ap Kept (sym (present_stays n)) in
+        let unwritten : (k : ℕ) → k < length m.headers → mark_at m.touched k ≡ false → present_at after m k ≡ frozen_at after m k =
+        λ n below untouched. present_stays n ∙ is.unwritten n below untouched ∙ sym (frozen_stays n) in
+        let running : (g : FrozenPuts) → None ≡ Some g → AreFrozen g m.pending 0 = λ g g_is. absurd (none-some g g_is) in
+        let keepable : (g : FrozenPuts) → None ≡ Some g → AreKeepable s.saved.geometry most (frozen_in after m) = λ g g_is. absurd (none-some g g_is) in
+        search (length_over ∙ is.frames, none_pending)
 
 -- the same by what is seen
 module _ {D : Type 0} (disk : D → Disk) {d : DurableState D} {m : Memory} {left count : ℕ} {order : List ℕ} {most_entries : ℕ} {s : StoreState D}
     (view : cache_of disk d m left order most_entries ≡ s) (is : IsCache (stored_of disk d) m left count) (f : FrozenFrames) (running : s.frozen ≡ Some f)
     (stable : f.left ≡ 0) where
   found : (h : FrozenPuts) × ((stored_of disk d).frozen ≡ Some h) × (record { frames = frozen_in (stored_of disk d) m; size = h.size; left = left } ≡ f)
-  found = go (stored_of disk d).frozen refl (ap (λ t. t.frozen) view ∙ running)
-    where
-      go : (o : Option FrozenPuts) → (stored_of disk d).frozen ≡ o →
-          option_map (λ h. record { frames = frozen_in (stored_of disk d) m; size = h.size; left = left }) o ≡ Some f →
-          (h : FrozenPuts) × ((stored_of disk d).frozen ≡ Some h) × (record { frames = frozen_in (stored_of disk d) m; size = h.size; left = left } ≡ f)
-      go None at some = absurd (none-some f some)
-      go (Some h) at some = (h, at, same_Some (record { frames = frozen_in (stored_of disk d) m; size = h.size; left = left }) f some)
+  found = running_in (frozen_in (stored_of disk d) m) left (stored_of disk d).frozen f (ap (λ t. t.frozen) view ∙ running)
 
   none_left : left ≡ 0
   none_left = ap (λ g. g.left) found.2 ∙ stable

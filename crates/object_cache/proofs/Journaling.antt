@@ -1,4 +1,5 @@
 -- A page is journaled: no object changes, and what is saved of the page has the words that it has now.
+use Rattle.object_cache.proofs.Names.{AreFrozen}
 use Rattle.object_cache.proofs.Names.{inl, inr, ℕ, Bool, true, false, List, length, set, length-set, Option, Some, None, option_map, Result, Ok, Err, refl, sym}
 use Rattle.object_cache.proofs.Names.{ap, subst, arith, cases_eq, get_or-set_same, get_or-set_other, none-some, Cap, Frame, ObjectHeader, Content, blank_frame}
 use Rattle.object_cache.proofs.Names.{frame_at, frames_in, header_at, held_at, AreKeepable, is_page, role_of, words_in, object_count, Image, Disk, LeavesOnly}
@@ -120,34 +121,20 @@ module _ {s : Stored} {m : Memory} {left count : ℕ} (is : IsCache s m left cou
         (sym was ∙ page_is (content_at s m n) holds) ∙ sym below_here
 
     pub journal_stands : IsCache (on_snapshots (journaled age n (words_in (content_at s m n))) s) m left count
-    journal_stands = record {
-      headers = is.headers;
-      frozen_headers = is.frozen_headers;
-      marks = is.marks;
-      dirty_marks = is.dirty_marks;
-      pending_marks = is.pending_marks;
-      entries = is.entries;
-      frames = length-set s.saved.frames n page ∙ is.frames;
-      puts = is.puts;
-      counted = is.counted;
-      within = is.within;
-      marked = is.marked;
-      clean = λ k clean touched. is.clean k clean touched ∙ ap Kept (sym (present_same k));
-      unput = is.unput;
-      unwritten = λ k inside untouched.
-          present_same k ∙ is.unwritten k inside untouched ∙ frozen_was k
-          ∙ elim (cases_eq k n) [
-            | inl same ↦ ap (below_at s) same ∙ unwritten_here (subst (λ i. i < length m.headers) same inside)
-                (subst (λ i. mark_at m.touched i ≡ false) same untouched) ∙ sym (ap (below_at after) same)
-            | inr other ↦ sym (below_other k other)
-          ] ∙ sym (frozen_now k);
-      idle = is.idle;
-      running = λ f some. absurd (none-some f (sym none ∙ some));
-      keepable = λ f some. absurd (none-some f (sym none ∙ some));
-      held = is.held;
-      apart = is.apart;
-      freed = is.freed;
-    }
+    journal_stands =
+        let clean : (k : ℕ) → mark_at m.dirty k ≡ false → mark_at m.touched k ≡ true → put_at s.working k ≡ Kept (present_at after m k) =
+        λ k clean touched. is.clean k clean touched ∙ ap Kept (sym (present_same k)) in
+        let unwritten : (k : ℕ) → k < length m.headers → mark_at m.touched k ≡ false → present_at after m k ≡ frozen_at after m k =
+        λ k inside untouched. present_same k ∙ is.unwritten k inside untouched ∙ frozen_was k
+        ∙ elim (cases_eq k n) [
+          | inl same ↦ ap (below_at s) same ∙ unwritten_here (subst (λ i. i < length m.headers) same inside)
+              (subst (λ i. mark_at m.touched i ≡ false) same untouched) ∙ sym (ap (below_at after) same)
+          | inr other ↦ sym (below_other k other)
+        ] ∙ sym (frozen_now k) in
+        let running : (f : FrozenPuts) → s.frozen ≡ Some f → AreFrozen f m.pending left = λ f some. absurd (none-some f (sym none ∙ some)) in
+        let keepable : (f : FrozenPuts) → s.frozen ≡ Some f → AreKeepable s.saved.geometry most (frozen_in after m) =
+        λ f some. absurd (none-some f (sym none ∙ some)) in
+        search (length-set s.saved.frames n page ∙ is.frames)
 
     -- none is seen before and after
     pub journal_frozen : frozen_seen (on_snapshots (journaled age n (words_in (content_at s m n))) s) m left ≡ frozen_seen s m left

@@ -34,11 +34,4 @@ module _ {D : Type 0} (disk : D → Disk) where
   pub continues_with : {s t : StoreState D} (cached : List Bool) (frozen_state : List FrozenState) (order : List ℕ) (staging : Option Held) → GoesOnIn disk s
       t →
       GoesOnIn disk s (record t { cached = cached; frozen_state = frozen_state; order = order; staging = staging })
-  continues_with cached frozen_state order staging first = record {
-    goes_on = first.goes_on;
-    snapshots = first.snapshots;
-    later = first.later;
-    grows = first.grows;
-    capacity = first.capacity;
-    only_reads = first.only_reads;
-  }
+  continues_with cached frozen_state order staging first = search

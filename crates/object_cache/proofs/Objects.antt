@@ -126,14 +126,10 @@ pub contents_count : (s : Stored) (m : Memory) → length (contents_in s m) ≡ 
 unfolding contents_in
 contents_count s m = length-map-range_with_len (content_at s m) 0 (length m.headers)
 
-pub has_entry : {D : Type 0} (disk : D → Disk) (d : DurableState D) (m : Memory) (left : ℕ) (order : List ℕ) (most_entries : ℕ) (s : StoreState D) →
-    cache_of disk d m left order most_entries ≡ s → (n : ℕ) → IsFetchedIn s n → IsSome (entry_at m.entries n)
-has_entry {D} disk d m left order most_entries s view n fetched = sym (cached_entry m.entries n) ∙ ap (λ t. cached_at t.cached n) view ∙ fetched.cached
-
 module _ {D : Type 0} (disk : D → Disk) {d : DurableState D} {m : Memory} {left count : ℕ} {order : List ℕ} {most_entries : ℕ} {s : StoreState D}
-    (view : cache_of disk d m left order most_entries ≡ s) (is : IsCache (stored_of disk d) m left count) (n : ℕ) (fetched : IsFetchedIn s n) where
+    (view : cache_of disk d m left order most_entries ≡ s) (is : IsCache (stored_of disk d) m left count) {n : ℕ} (fetched : IsFetchedIn s n) where
   pub entry_some : IsSome (entry_at m.entries n)
-  entry_some = has_entry disk d m left order most_entries s view n fetched
+  entry_some = sym (cached_entry m.entries n) ∙ ap (λ t. cached_at t.cached n) view ∙ fetched.cached
 
   pub entry_found : (e : Entry) × (entry_at m.entries n ≡ Some e)
   entry_found = some_of (entry_at m.entries n) entry_some
@@ -156,7 +152,7 @@ pub record IsKnown (m : Memory) (n : ℕ) : Type 0 where
   pub touched : mark_at m.touched n ≡ true
 
 module _ {D : Type 0} (disk : D → Disk) {d : DurableState D} {m : Memory} {left count : ℕ} {order : List ℕ} {most_entries : ℕ} {s : StoreState D}
-    (view : cache_of disk d m left order most_entries ≡ s) (is : IsCache (stored_of disk d) m left count) (n : ℕ) (announced : IsAnnouncedIn s n) where
+    (view : cache_of disk d m left order most_entries ≡ s) (is : IsCache (stored_of disk d) m left count) {n : ℕ} (announced : IsAnnouncedIn s n) where
   abbrev IsNow : Memory → StoreState D → Type 0
   IsNow then t = IsSeenAs disk d then left count order most_entries t
 
@@ -225,20 +221,10 @@ module _ {D : Type 0} (disk : D → Disk) {d : DurableState D} {m : Memory} {lef
         is = still_cache (stored_of disk d) change is known.dirty;
         view =
             edit_seen change (cached_stay (changing f) n m.entries) (contents_changed (stored_of disk d) change c known.header
-            (body_content (stored_of disk d) m n f known.entry (entry_some disk view is n fetched)))
+            (body_content (stored_of disk d) m n f known.entry (entry_some disk view is fetched)))
             ∙ ap (λ x. with_content_in (cache_of disk d m left order most_entries) n (f x))
             (sym (content_in (stored_of disk d) m n known.header)) ∙ ap (λ t. with_content_in t n (f (held_at t.contents n))) view;
       }
-
-module _ {D : Type 0} (disk : D → Disk) (d : DurableState D) (m : Memory) (left count : ℕ) (order : List ℕ) (most_entries : ℕ) (s : StoreState D)
-    (view : cache_of disk d m left order most_entries ≡ s) (is : IsCache (stored_of disk d) m left count) (n : ℕ) (fetched : IsFetchedIn s n)
-    (announced : IsAnnouncedIn s n) (f : Content Cap → Content Cap) where
-  pub changed_stands : IsCache (stored_of disk d) (with_objects m m.headers (with_entry (changing f) n m.entries)) left count
-  changed_stands = (content_becomes disk view is n announced fetched f).is
-
-  pub changed_seen : cache_of disk d (with_objects m m.headers (with_entry (changing f) n m.entries)) left order most_entries ≡ with_content_in s n
-      (f (held_at s.contents n))
-  changed_seen = (content_becomes disk view is n announced fetched f).view
 
 -- ---- bodies are copied out of their entries, by number
 
@@ -266,4 +252,4 @@ module _ {D : Type 0} (disk : D → Disk) {d : DurableState D} {m : Memory} {lef
       ext_get_or content.Free bodies s.contents (each ∙ headers ∙ sym contents_each)
       (λ n within.
       let known : n < length m.headers = omega (arith, within, each) in
-      entry_holds disk view is n (whole n (omega (arith, known, headers))) (held_at bodies n) (copied n known))
+      entry_holds disk view is (whole n (omega (arith, known, headers))) (held_at bodies n) (copied n known))

@@ -27,17 +27,7 @@ module _ {D : Type 0} (hs : StoreState D → List ObjectHeader) (cs : StoreState
 
   module _ (all : Bool) (disk : D → Disk) (only_now : (d : D) (c : Image) → (disk d).left_since (disk d).moment c → (disk d).may_leave c) where
     continues_after : (s : StoreState D) → ContinuesIn all disk s (edited s)
-    continues_after s = let same = continues_same disk all only_now s in record {
-      goes_on = record {
-        goes_on = same.goes_on.goes_on;
-        snapshots = same.goes_on.snapshots;
-        later = same.goes_on.later;
-        grows = same.goes_on.grows;
-        capacity = same.goes_on.capacity;
-        only_reads = same.goes_on.only_reads;
-      };
-      still = same.still;
-    }
+    continues_after s = let same = continues_same disk all only_now s in search
 
     becomes : (i s t : StoreState D) → i ≡ s → t ≡ record i { headers = hs i; contents = cs i } →
         Becomes (parts_of disk) IsFetchedIn IsAnnouncedIn (ContinuesIn all disk) s t (record (parts_of disk s) { headers = hs s; contents = cs s })
@@ -52,7 +42,7 @@ module _ {D : Type 0} (hs : StoreState D → List ObjectHeader) (cs : StoreState
           continues = continues_after i;
         }))
 
-module _ {D : Type 0} (n : ℕ) (i s t : StoreState D) (view : i ≡ s) where
+module _ {D : Type 0} (n : ℕ) {i s t : StoreState D} (view : i ≡ s) where
   -- another content
   module _ (f : Content Cap → Content Cap) (is : t ≡ record i { contents = set i.contents n (f (held_at i.contents n)) }) where
     pub whole_held : IsWhole i → IsWhole t

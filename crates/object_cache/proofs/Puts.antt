@@ -137,13 +137,13 @@ module _ {s : Stored} {m : Memory} {left count : ℕ} (is : IsCache s m left cou
 -- ---- the same by what is seen
 
 module _ {D : Type 0} (disk : D → Disk) {d : DurableState D} {m : Memory} {left count : ℕ} {order : List ℕ} {most_entries : ℕ} {s : StoreState D}
-    (view : cache_of disk d m left order most_entries ≡ s) (is : IsCache (stored_of disk d) m left count) (n : ℕ) (fetched : IsFetchedIn s n)
+    (view : cache_of disk d m left order most_entries ≡ s) (is : IsCache (stored_of disk d) m left count) {n : ℕ} (fetched : IsFetchedIn s n)
     (dirty : mark_at s.dirty n ≡ true) where
   known_here : n < length m.headers
-  known_here = fetched_known disk view is n fetched
+  known_here = fetched_known disk view is fetched
 
   entry_here : (e : Entry) × (entry_at m.entries n ≡ Some e)
-  entry_here = entry_found disk view is n fetched
+  entry_here = entry_found disk view is fetched
 
   dirty_here : mark_at m.dirty n ≡ true
   dirty_here = ap (λ t. mark_at t.dirty n) view ∙ dirty

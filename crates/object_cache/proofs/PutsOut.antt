@@ -192,13 +192,13 @@ module _ {s : Stored} {m : Memory} {left count : ℕ} (is : IsCache s m left cou
 
 -- the same by what is seen
 module _ {D : Type 0} (disk : D → Disk) {d : DurableState D} {m : Memory} {left count : ℕ} {order : List ℕ} {most_entries : ℕ} {s : StoreState D}
-    (view : cache_of disk d m left order most_entries ≡ s) (is : IsCache (stored_of disk d) m left count) (n : ℕ) (fetched : IsFetchedIn s n)
+    (view : cache_of disk d m left order most_entries ≡ s) (is : IsCache (stored_of disk d) m left count) {n : ℕ} (fetched : IsFetchedIn s n)
     (frozen_state : frozen_state_at s.frozen_state n ≢ Nothing) where
   entry_here : (e : Entry) × (entry_at m.entries n ≡ Some e)
-  entry_here = entry_found disk view is n fetched
+  entry_here = entry_found disk view is fetched
 
   pub own_known : n < length m.headers
-  own_known = fetched_known disk view is n fetched
+  own_known = fetched_known disk view is fetched
 
   state_here : frozen_state_in_memory m n ≢ Nothing
   state_here none = frozen_state (ap (λ t. frozen_state_at t.frozen_state n) (sym view) ∙ frozen_state_entry m n own_known ∙ none)

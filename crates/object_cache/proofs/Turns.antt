@@ -8,7 +8,7 @@ use Rattle.object_cache.proofs.Freezing.{fewer_of}
 pub none_marked : (ts : List Bool) → HasNoneMarked ts 0 → count_by (λ b. b) ts ≤ 0
 none_marked ts none = fewer_of ts [] (λ k marked. absurd (true≢false (sym marked ∙ none k (omega arith))))
 
-running_in : (fs : List Frame) (left : ℕ) (o : Option FrozenPuts) (f : FrozenFrames) →
+pub running_in : (fs : List Frame) (left : ℕ) (o : Option FrozenPuts) (f : FrozenFrames) →
     option_map (λ h. record { frames = fs; size = h.size; left = left }) o ≡ Some f →
     (h : FrozenPuts) × (o ≡ Some h) × (record { frames = fs; size = h.size; left = left } ≡ f)
 running_in fs left None f is = absurd (none-some f is)
@@ -36,28 +36,7 @@ module _ {D : Type 0} (disk : D → Disk) where
           record { each = was.each; size = was.size; torn = was.torn; few = few_now; within = omega (arith, was.within) }
 
       pub turned_stands : IsCache (stored_of disk d) m (left - 1) count
-      turned_stands = record {
-        headers = is.headers;
-        frozen_headers = is.frozen_headers;
-        marks = is.marks;
-        dirty_marks = is.dirty_marks;
-        pending_marks = is.pending_marks;
-        entries = is.entries;
-        frames = is.frames;
-        puts = is.puts;
-        counted = is.counted;
-        within = is.within;
-        marked = is.marked;
-        clean = is.clean;
-        unput = is.unput;
-        unwritten = is.unwritten;
-        idle = is.idle;
-        running = fewer_frozen;
-        keepable = is.keepable;
-        held = is.held;
-        apart = is.apart;
-        freed = is.freed;
-      }
+      turned_stands = search fewer_frozen
 
   pub puts_more : (a b c : StoreState D) (f : FrozenFrames) (i k : ℕ) → a.frozen ≡ Some f → PutsBy disk a b i → PutsBy disk b c k → PutsBy disk a c (i + k)
   puts_more a b c f i k is_some first second = record {

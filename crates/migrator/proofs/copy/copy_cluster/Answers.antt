@@ -1,6 +1,6 @@
-use Rattle.migrator.proofs.Names.{rules}
+use Rattle.migrator.proofs.Names.{rules, counts_on}
 use Rattle.std.proofs.Common.{◌≡◌}
-use Rattle.migrator.proofs.Gathering.{copied_blank, counts_on, cluster_touched}
+use Rattle.migrator.proofs.Gathering.{copied_blank, cluster_touched}
 use Rattle.migrator.proofs.copy.copy_cluster.Goals as goal
 
 pub returns-clause-copied : goal.returns-clause-copied

@@ -1,27 +1,28 @@
 use Rattle.migrator.proofs.Names.{ℕ, ap, sym, subst, home_place, shape_length, begins, Touches}
 use Rattle.std.proofs.Common.{◌∙◌}
-use Rattle.migrator.proofs.Gathering.{on_ok, copied_own, no_cluster, zeros_there}
+use Rattle.migrator.proofs.Gathering.{copied_own, no_cluster, zeros_there}
+use Rattle.migrator.proofs.Saving.{ok_then}
 use Rattle.migrator.proofs.copy.copy_home.Goals as goal
 
 pub returns-in-Node-clause-copied : goal.returns-in-Node-clause-copied
 returns-in-Node-clause-copied g c =
     let from = rw c.new-log.ensures at c.slot_sector-from.ensures.value in
     let to = rw c.new-home.ensures at c.place-to.ensures.value in
-    on_ok c.copy_node.result (λ copied. copied_own (g.D.Device.disk c.args.device.now).seen (g.D.Device.disk c.copy_node.new.device).seen c.args.generation
+    ok_then c.copy_node.result (λ copied. copied_own (g.D.Device.disk c.args.device.now).seen (g.D.Device.disk c.copy_node.new.device).seen c.args.generation
     c.args.directory.now c.shape.ensures.plan c.requires.object tt c.in-Node.ensures.value c.requires.entry from to copied) c.copy_node.ensures.copied
 
 pub returns-in-Page-clause-copied : goal.returns-in-Page-clause-copied
 returns-in-Page-clause-copied g c =
     let from = rw c.new-log.ensures at c.slot_sector-from.ensures.value in
     let to = rw c.new-home.ensures at c.place-to.ensures.value in
-    on_ok c.copy_page.result (λ copied. copied_own (g.D.Device.disk c.args.device.now).seen (g.D.Device.disk c.copy_page.new.device).seen c.args.generation
+    ok_then c.copy_page.result (λ copied. copied_own (g.D.Device.disk c.args.device.now).seen (g.D.Device.disk c.copy_page.new.device).seen c.args.generation
     c.args.directory.now c.shape.ensures.plan c.requires.object tt c.in-Page.ensures.value c.requires.entry from to copied) c.copy_page.ensures.copied
 
 pub returns-in-Packed-clause-copied : goal.returns-in-Packed-clause-copied
 returns-in-Packed-clause-copied g c =
     let packed = sym c.shape.ensures.value ∙ c.in-Packed.is in
     let start = begins c.args.plan.now c.args.entry.object c.in-Packed.rank c.shape.ensures.plan c.requires.object packed in
-    on_ok c.copy_cluster.result (λ copied n is same. copied n is (same ∙ sym start.home)) c.copy_cluster.ensures.copied
+    ok_then c.copy_cluster.result (λ copied n is same. copied n is (same ∙ sym start.home)) c.copy_cluster.ensures.copied
 
 pub returns-in-Node-clause-zeros : goal.returns-in-Node-clause-zeros
 returns-in-Node-clause-zeros g c = no_cluster c.copy_node.result c.args.plan.now c.args.entry.object _ tt c.in-Node.ensures.value

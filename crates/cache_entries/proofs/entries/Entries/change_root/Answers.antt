@@ -4,6 +4,5 @@ use Rattle.cache_entries.proofs.entries.Entries.change_root.Goals as goal
 
 pub returns : goal.returns
 returns c =
-    rw c.change_root.ensures (present_put c.self.inside.order c.self.inside.presents c.self.inside.kepts c.self.inside.marks.items c.self.invariant
-    c.args.self.now c.self.view_is c.args.number c.place-place.result c.place-place.ensures.place c.place-place.ensures.spread
-    (with_root_in (changed_root c.args.change)))
+    rw c.change_root.ensures (present_put c.self.inside.order c.self.invariant c.self.view_is c.args.number c.place-place.ensures.place
+    c.place-place.ensures.spread (with_root_in (changed_root c.args.change)))

@@ -4,5 +4,5 @@ use Rattle.cache_entries.proofs.entries.Entries.free.Goals as goal
 
 pub returns-then-has : goal.returns-then-has
 returns-then-has c =
-    rw c.put.ensures (present_put c.self.inside.order c.self.inside.presents c.self.inside.kepts c.self.inside.marks.items c.self.invariant c.args.self.now
-    c.self.view_is c.args.number c.place-place.result c.place-place.ensures.place c.place-place.ensures.spread (λ x. content.Free))
+    rw c.put.ensures (present_put c.self.inside.order c.self.invariant c.self.view_is c.args.number c.place-place.ensures.place c.place-place.ensures.spread
+    (λ x. content.Free))

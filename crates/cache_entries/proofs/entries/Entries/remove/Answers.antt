@@ -4,6 +4,5 @@ use Rattle.cache_entries.proofs.entries.Entries.remove.Goals as goal
 
 pub returns : goal.returns
 returns c =
-    rw c.remove.ensures (left c.self.inside.order c.self.inside.presents c.self.inside.kepts c.self.inside.marks.items c.self.invariant c.args.self.now
-    c.self.view_is c.args.number (some_is c.self.inside.order c.self.inside.presents c.self.inside.kepts c.self.inside.marks.items c.self.invariant
-    c.args.self.now c.self.view_is c.args.number ∙ c.requires))
+    rw c.remove.ensures (left c.self.inside.order c.self.invariant c.self.view_is c.args.number
+    (some_is c.self.inside.order c.self.invariant c.self.view_is c.args.number ∙ c.requires))

@@ -4,6 +4,5 @@ use Rattle.cache_entries.proofs.entries.Entries.set_last_slots.Goals as goal
 
 pub returns : goal.returns
 returns c =
-    rw c.set_last_slots.ensures (present_put c.self.inside.order c.self.inside.presents c.self.inside.kepts c.self.inside.marks.items c.self.invariant
-    c.args.self.now c.self.view_is c.args.number c.place-place.result c.place-place.ensures.place c.place-place.ensures.spread
-    (λ x. with_slots_in x 28 c.args.held))
+    rw c.set_last_slots.ensures (present_put c.self.inside.order c.self.invariant c.self.view_is c.args.number c.place-place.ensures.place
+    c.place-place.ensures.spread (λ x. with_slots_in x 28 c.args.held))

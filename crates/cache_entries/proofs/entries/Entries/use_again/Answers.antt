@@ -1,4 +1,4 @@
-use Rattle.cache_entries.proofs.Names.{ℕ, List, ap, is_member, sym, take, take_all, refl, subst, AreStored, EntriesState, entries_of, used_in_turn}
+use Rattle.cache_entries.proofs.Names.{ℕ, List, ap, is_member, sym, take, take_all, refl, subst, AreStored, EntriesState, used_in_turn}
 use Rattle.std.proofs.Common.{◌∙◌}
 use Rattle.cache_entries.proofs.Stored.{ordered, some_is}
 use Rattle.cache_entries.proofs.Turns.{contains_member, spread_uses}
@@ -7,22 +7,18 @@ use Rattle.cache_entries.proofs.entries.Entries.use_again.Goals as goal
 pub returns-clause-held : goal.returns-clause-held
 returns-clause-held c =
     let ns = c.args.numbers.now in
-    λ all n has. sym (some_is c.self.inside.order c.self.inside.presents c.self.inside.kepts c.self.inside.marks.items c.self.invariant c.args.self.now
-    c.self.view_is n) ∙ sym (c.spread.ensures.listed n)
-    ∙ c.use_again.ensures.listed n (ap (λ (ks : List ℕ). is_member ks n) (take_all c.use_again.ensures.count ns (c.use_again.ensures.whole all)) ∙
-    contains_member ns n has)
+    λ all n has. sym (some_is c.self.inside.order c.self.invariant c.self.view_is n) ∙ sym (c.spread.ensures.listed n) ∙ c.use_again.ensures.listed n
+    (ap (λ (ks : List ℕ). is_member ks n) (take_all c.use_again.ensures.count ns (c.use_again.ensures.whole all)) ∙ contains_member ns n has)
 
 pub returns-clause-prefix : goal.returns-clause-prefix
 returns-clause-prefix c = (
   c.use_again.ensures.count,
-  c.use_again.ensures.numbers ∙
-      ap (λ (t : EntriesState). used_in_turn (take c.use_again.ensures.count c.args.numbers.now) t.order) c.self.view_is,
+  c.use_again.ensures.numbers ∙ ap (λ (t : EntriesState). used_in_turn (take c.use_again.ensures.count c.args.numbers.now)
+      t.order) c.self.view_is,
 )
 
 pub returns-clause-ordered : goal.returns-clause-ordered
 returns-clause-ordered c =
     let i = c.self.inside in
-    ordered c.use_again.new.self i.presents i.kepts i.marks.items (subst (λ (m : ℕ). AreStored m i.presents i.kepts i.marks.items)
-    (sym c.use_again.ensures.same_most) c.self.invariant)
-    (entries_of c.use_again.new.self i.presents i.kepts i.marks.items) refl
+    ordered c.use_again.new.self (subst (λ (m : ℕ). AreStored m i.presents i.kepts i.marks.items) (sym c.use_again.ensures.same_most) c.self.invariant) refl
     (spread_uses i.order c.use_again.new.self c.args.numbers.now c.use_again.result c.use_again.ensures c.spread.ensures)

@@ -1,8 +1,8 @@
-use Rattle.cache_entries.proofs.Names.{ℕ, List, Option, Some, ap, arith, is_member, keys_of, length, set, sym, without, place_at, LruCache, refl}
-use Rattle.std.proofs.Common.{◌≡◌, ◌<◌, ◌≤◌, ◌∷◌, ◌+◌, ◌-◌, ◌∙◌}
+use Rattle.cache_entries.proofs.Names.{ℕ, ap, arith, keys_of, length, place_at, LruCache, refl}
+use Rattle.std.proofs.Common.{◌+◌, ◌-◌, ◌∙◌}
 use Rattle.cache_entries.proofs.Orders.{used_keys}
 use Rattle.cache_entries.proofs.Recent.{listed_member}
-use Rattle.cache_entries.proofs.Spreads.{Spreads, count_is, fresh, inserted, known_is, most_is, no_place}
+use Rattle.cache_entries.proofs.Spreads.{count_is, fresh, inserted, known_is, most_is, no_place}
 use Rattle.cache_entries.proofs.places.Places.insert.Goals as goal
 
 pub index_mut-requires : goal.index_mut-requires
@@ -10,8 +10,7 @@ index_mut-requires c =
     let keys = keys_of c.self.inside.order.entries in
     omega (
       arith,
-      c.self.invariant.known c.last_place-place.result
-          (listed_member keys (length keys - 1) c.last_place-place.result c.last_place-place.ensures),
+      c.self.invariant.known c.last_place-place.result (listed_member keys (length keys - 1) c.last_place-place.result c.last_place-place.ensures),
       c.self.inside.numbers.ok.0,
     )
 
@@ -19,82 +18,36 @@ pub invariant_of-self : goal.invariant_of-self
 invariant_of-self c =
     let p = c.last_place-place.result in
     let keys = keys_of c.self.inside.order.entries in
-    (inserted (keys_of c.self.inside.order.entries) c.self.inside.numbers.items c.self.inside.places.items c.self.inside.count c.self.invariant p
-    c.args.number c.last_place-place.ensures (omega (
-      arith,
-      c.requires.room,
-      count_is (keys_of c.self.inside.order.entries) c.self.inside.numbers.items c.self.inside.places.items c.self.inside.count
-          c.self.invariant c.args.self.now c.self.view_is,
-      most_is (keys_of c.self.inside.order.entries) c.self.inside.numbers.items c.self.inside.places.items
-          c.self.inside.count c.self.invariant c.args.self.now c.self.view_is,
-    ))
-    (omega (
-      arith,
-      c.requires.known,
-      known_is (keys_of c.self.inside.order.entries) c.self.inside.numbers.items c.self.inside.places.items
-          c.self.inside.count c.self.invariant c.args.self.now c.self.view_is,
-    ))
-    (no_place (keys_of c.self.inside.order.entries) c.self.inside.numbers.items c.self.inside.places.items c.self.inside.count c.self.invariant
-    c.args.self.now c.self.view_is c.args.number c.requires.absent)
-    c.args.self.now c.self.view_is (keys_of c.promote.new.self.entries) (c.self.inside.count + 1)
-    (ap (λ (l : LruCache ℕ (Unit {0})). keys_of l.entries) c.promote.ensures.entries
-    ∙ used_keys p c.self.inside.order.entries (listed_member keys (length keys - 1) p c.last_place-place.ensures))
-    refl).are
+    (inserted c.self.invariant p c.args.number c.last_place-place.ensures (omega
+    (arith, c.requires.room, count_is c.self.invariant c.self.view_is, most_is c.self.invariant c.self.view_is))
+    (omega (arith, c.requires.known, known_is c.self.invariant c.self.view_is)) (no_place c.self.invariant c.self.view_is c.args.number c.requires.absent)
+    c.self.view_is (keys_of c.promote.new.self.entries) (c.self.inside.count + 1)
+    (ap (λ (l : LruCache ℕ (Unit {0})). keys_of l.entries) c.promote.ensures.entries ∙ used_keys p c.self.inside.order.entries
+    (listed_member keys (length keys - 1) p c.last_place-place.ensures)) refl).are
 
 pub returns-clause-inserted : goal.returns-clause-inserted
 returns-clause-inserted c =
     let p = c.last_place-place.result in
     let keys = keys_of c.self.inside.order.entries in
-    (inserted (keys_of c.self.inside.order.entries) c.self.inside.numbers.items c.self.inside.places.items c.self.inside.count c.self.invariant p
-    c.args.number c.last_place-place.ensures (omega (
-      arith,
-      c.requires.room,
-      count_is (keys_of c.self.inside.order.entries) c.self.inside.numbers.items c.self.inside.places.items c.self.inside.count
-          c.self.invariant c.args.self.now c.self.view_is,
-      most_is (keys_of c.self.inside.order.entries) c.self.inside.numbers.items c.self.inside.places.items
-          c.self.inside.count c.self.invariant c.args.self.now c.self.view_is,
-    ))
-    (omega (
-      arith,
-      c.requires.known,
-      known_is (keys_of c.self.inside.order.entries) c.self.inside.numbers.items c.self.inside.places.items
-          c.self.inside.count c.self.invariant c.args.self.now c.self.view_is,
-    ))
-    (no_place (keys_of c.self.inside.order.entries) c.self.inside.numbers.items c.self.inside.places.items c.self.inside.count c.self.invariant
-    c.args.self.now c.self.view_is c.args.number c.requires.absent)
-    c.args.self.now c.self.view_is (keys_of c.promote.new.self.entries) (c.self.inside.count + 1)
-    (ap (λ (l : LruCache ℕ (Unit {0})). keys_of l.entries) c.promote.ensures.entries
-    ∙ used_keys p c.self.inside.order.entries (listed_member keys (length keys - 1) p c.last_place-place.ensures))
-    refl).view
+    (inserted c.self.invariant p c.args.number c.last_place-place.ensures (omega
+    (arith, c.requires.room, count_is c.self.invariant c.self.view_is, most_is c.self.invariant c.self.view_is))
+    (omega (arith, c.requires.known, known_is c.self.invariant c.self.view_is)) (no_place c.self.invariant c.self.view_is c.args.number c.requires.absent)
+    c.self.view_is (keys_of c.promote.new.self.entries) (c.self.inside.count + 1)
+    (ap (λ (l : LruCache ℕ (Unit {0})). keys_of l.entries) c.promote.ensures.entries ∙ used_keys p c.self.inside.order.entries
+    (listed_member keys (length keys - 1) p c.last_place-place.ensures)) refl).view
 
 pub returns-clause-fresh : goal.returns-clause-fresh
 returns-clause-fresh c =
-    λ n is. fresh (keys_of c.self.inside.order.entries) c.self.inside.numbers.items c.self.inside.places.items c.self.inside.count c.self.invariant
-    c.last_place-place.result c.args.number c.last_place-place.ensures
-    (omega (
-      arith,
-      c.requires.room,
-      count_is (keys_of c.self.inside.order.entries) c.self.inside.numbers.items c.self.inside.places.items
-          c.self.inside.count c.self.invariant c.args.self.now c.self.view_is,
-      most_is (keys_of c.self.inside.order.entries) c.self.inside.numbers.items
-          c.self.inside.places.items c.self.inside.count c.self.invariant c.args.self.now c.self.view_is,
-    ))
-    (omega (
-      arith,
-      c.requires.known,
-      known_is (keys_of c.self.inside.order.entries) c.self.inside.numbers.items c.self.inside.places.items
-          c.self.inside.count c.self.invariant c.args.self.now c.self.view_is,
-    ))
-    (no_place (keys_of c.self.inside.order.entries) c.self.inside.numbers.items c.self.inside.places.items c.self.inside.count c.self.invariant
-    c.args.self.now c.self.view_is c.args.number c.requires.absent) n (ap (λ o. place_at o.places n) c.self.view_is ∙ is)
+    λ n is. fresh c.self.invariant c.last_place-place.result c.args.number c.last_place-place.ensures
+    (omega (arith, c.requires.room, count_is c.self.invariant c.self.view_is, most_is c.self.invariant c.self.view_is))
+    (omega (arith, c.requires.known, known_is c.self.invariant c.self.view_is)) (no_place c.self.invariant c.self.view_is c.args.number c.requires.absent) n
+    (ap (λ o. place_at o.places n) c.self.view_is ∙ is)
 
 pub returns-clause-within : goal.returns-clause-within
 returns-clause-within c =
     let keys = keys_of c.self.inside.order.entries in
     omega (
       arith,
-      c.self.invariant.known c.last_place-place.result
-          (listed_member keys (length keys - 1) c.last_place-place.result c.last_place-place.ensures),
-      most_is (keys_of c.self.inside.order.entries)
-          c.self.inside.numbers.items c.self.inside.places.items c.self.inside.count c.self.invariant c.args.self.now c.self.view_is,
+      c.self.invariant.known c.last_place-place.result (listed_member keys (length keys - 1) c.last_place-place.result c.last_place-place.ensures),
+      most_is c.self.invariant c.self.view_is,
     )

@@ -1,17 +1,12 @@
-use Rattle.cache_entries.proofs.Names.{ℕ, ap, keys_of, nat_le}
+use Rattle.cache_entries.proofs.Names.{ℕ, ap, nat_le}
 use Rattle.std.proofs.Common.{◌∙◌}
 use Rattle.cache_entries.proofs.Spreads.{count_is, most_is, spread_is}
 use Rattle.cache_entries.proofs.places.Places.is_full.Goals as goal
 
 pub returns-clause-spread : goal.returns-clause-spread
-returns-clause-spread c =
-    spread_is (keys_of c.self.inside.order.entries) c.self.inside.numbers.items c.self.inside.places.items c.self.inside.count c.self.invariant
-    c.args.self.now c.self.view_is
+returns-clause-spread c = spread_is c.self.invariant c.self.view_is
 
 pub returns-clause-full : goal.returns-clause-full
 returns-clause-full c =
-    ap (λ (m : ℕ). nat_le m c.self.inside.count)
-    (c.len.ensures ∙ c.self.inside.numbers.ok.0 ∙ most_is (keys_of c.self.inside.order.entries) c.self.inside.numbers.items c.self.inside.places.items
-    c.self.inside.count c.self.invariant c.args.self.now c.self.view_is)
-    ∙ ap (nat_le c.args.self.now.most) (count_is (keys_of c.self.inside.order.entries) c.self.inside.numbers.items c.self.inside.places.items
-    c.self.inside.count c.self.invariant c.args.self.now c.self.view_is)
+    ap (λ (m : ℕ). nat_le m c.self.inside.count) (c.len.ensures ∙ c.self.inside.numbers.ok.0 ∙ most_is c.self.invariant c.self.view_is) ∙ ap
+    (nat_le c.args.self.now.most) (count_is c.self.invariant c.self.view_is)

@@ -12,17 +12,13 @@ index-requires c =
     let keys = keys_of c.self.inside.order.entries in
     omega (
       arith,
-      c.self.invariant.known c.last_place-place.result
-          (listed_member keys (length keys - 1) c.last_place-place.result c.last_place-place.ensures),
+      c.self.invariant.known c.last_place-place.result (listed_member keys (length keys - 1) c.last_place-place.result c.last_place-place.ensures),
       c.self.inside.numbers.ok.0,
     )
 
 pub returns-clause-least : goal.returns-clause-least
 returns-clause-least c =
-    least_number (keys_of c.self.inside.order.entries) c.self.inside.numbers.items c.self.inside.places.items c.self.inside.count c.self.invariant
-    c.args.self.now c.self.view_is c.requires c.last_place-place.result c.index.result.now c.last_place-place.ensures c.index.ensures
+    least_number c.self.invariant c.self.view_is c.requires c.last_place-place.result c.index.result.now c.last_place-place.ensures c.index.ensures
 
 pub returns-clause-spread : goal.returns-clause-spread
-returns-clause-spread c =
-    spread_is (keys_of c.self.inside.order.entries) c.self.inside.numbers.items c.self.inside.places.items c.self.inside.count c.self.invariant
-    c.args.self.now c.self.view_is
+returns-clause-spread c = spread_is c.self.invariant c.self.view_is

@@ -1,5 +1,5 @@
-use Rattle.cache_entries.proofs.Names.{ℕ, List, Option, [], true, false, length, refl, sym, ap, subst, arith, length-append, keys_of, is_member, AreLatest}
-use Rattle.cache_entries.proofs.Names.{OrderState, used_in_turn, used_last, without}
+use Rattle.cache_entries.proofs.Names.{ℕ, List, Option, [], true, false, length, refl, sym, ap, subst, arith, length-append, is_member, AreLatest, OrderState}
+use Rattle.cache_entries.proofs.Names.{used_in_turn, used_last, without}
 use Rattle.std.proofs.Common.{◌≡◌, ◌∷◌, ◌∙◌}
 use Rattle.cache_entries.proofs.Orders.{length_without}
 use Rattle.cache_entries.proofs.Recent.{listed_member}

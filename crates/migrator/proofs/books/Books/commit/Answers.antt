@@ -9,7 +9,6 @@ use Rattle.migrator.proofs.books.Books.commit.Goals as goal
 
 pub complete-requires-clause-directory : goal.complete-requires-clause-directory
 complete-requires-clause-directory g c =
-    let disk = g.D.Device.disk c.args.device.now in
     rw (c.as_slice.ensures, c.fill.ensures) (frozen_fits c.requires.stands.kept)
 
 pub complete-requires-clause-unwritten : goal.complete-requires-clause-unwritten

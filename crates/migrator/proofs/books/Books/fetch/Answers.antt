@@ -6,7 +6,6 @@ use Rattle.migrator.proofs.books.Books.fetch.Goals as goal
 
 pub read_put-requires-clause-slot : goal.read_put-requires-clause-slot
 read_put-requires-clause-slot g c =
-    let b = c.args.self.now in
     whole_low c.args.number c.requires.stands.kept.working c.place.ensures c.in-Whole.is
 
 pub read_put-requires-clause-spelt : goal.read_put-requires-clause-spelt

@@ -5,21 +5,15 @@ use Rattle.migrator.proofs.books.Books.fetch_below.Goals as goal
 
 pub returns-in-Whole-clause-found : goal.returns-in-Whole-clause-found
 returns-in-Whole-clause-found g c =
-    let disk = g.D.Device.disk c.args.device.now in
-    let b = c.args.self.now in
     ok_weaker c.read_frozen.result (λ read e. e ∙ below_by c.requires.object c.requires.stands.kept
     (sym c.place.ensures ∙ c.in-Whole.is)) c.read_frozen.ensures.found
 
 pub returns-in-Torn-clause-found : goal.returns-in-Torn-clause-found
 returns-in-Torn-clause-found g c =
-    let disk = g.D.Device.disk c.args.device.now in
-    let b = c.args.self.now in
     ok_weaker c.fetch_saved.result (λ read e. e ∙ below_by c.requires.object c.requires.stands.kept
     (sym c.place.ensures ∙ c.in-Torn.is)) c.fetch_saved.ensures.found
 
 pub returns-in-Nowhere-clause-found : goal.returns-in-Nowhere-clause-found
 returns-in-Nowhere-clause-found g c =
-    let disk = g.D.Device.disk c.args.device.now in
-    let b = c.args.self.now in
     ok_weaker c.fetch_saved-in-Nowhere.result (λ read e. e ∙ below_by c.requires.object c.requires.stands.kept
     (sym c.place.ensures ∙ c.in-Nowhere.is)) c.fetch_saved-in-Nowhere.ensures.found

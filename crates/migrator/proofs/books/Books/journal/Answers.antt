@@ -7,8 +7,6 @@ use Rattle.migrator.proofs.books.Books.journal.Goals as goal
 
 pub saved_header-requires-clause-object : goal.saved_header-requires-clause-object
 saved_header-requires-clause-object g c =
-    let disk = g.D.Device.disk c.args.device.now in
-    let b = c.args.self.now in
     page_known c.requires.idle.stands.kept c.requires.idle.home c.requires.may.page
 
 pub returns-in_err-header : goal.returns-in_err-header

@@ -1,5 +1,5 @@
 use Rattle.migrator.proofs.Names.{arith, own_slot}
-use Rattle.migrator.proofs.HomeMoves.{copied_durable, copied_moved, passed_durable, uncopied_durable, uncopied_moved}
+use Rattle.migrator.proofs.Moving.{copied_durable, copied_moved, passed_durable, uncopied_durable, uncopied_moved}
 use Rattle.migrator.proofs.Moves.{moved_on}
 use Rattle.migrator.proofs.Saving.{on_err}
 use Rattle.migrator.proofs.books.Books.move_next.Goals as goal

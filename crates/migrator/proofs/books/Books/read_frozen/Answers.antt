@@ -6,8 +6,6 @@ use Rattle.migrator.proofs.books.Books.read_frozen.Goals as goal
 
 pub slot_sector-sector-requires : goal.slot_sector-sector-requires
 slot_sector-sector-requires g c =
-    let disk = g.D.Device.disk c.args.device.now in
-    let b = c.args.self.now in
     record {
       slot = rw c.new-log.ensures (whole_low c.args.number c.requires.stands.kept.frozen refl c.requires.place);
     }
@@ -31,8 +29,6 @@ returns-then-is_for-clause-found g c =
 
 pub read_put-requires-clause-slot : goal.read_put-requires-clause-slot
 read_put-requires-clause-slot g c =
-    let disk = g.D.Device.disk c.args.device.now in
-    let b = c.args.self.now in
     whole_low c.args.number c.requires.stands.kept.frozen refl c.requires.place
 
 pub read_put-requires-clause-spelt : goal.read_put-requires-clause-spelt

@@ -6,7 +6,7 @@ use Rattle.object_cache.proofs.cache.Cache.into_parts.Goals as goal
 pub copy_bodies-requires : goal.copy_bodies-requires
 copy_bodies-requires g c = λ n within.
     let headers = ap (λ t. length t.headers) c.self.view_is in
-    entry_some g.D.Device.disk c.self.view_is c.self.invariant.0 n
+    entry_some g.D.Device.disk c.self.view_is c.self.invariant.0
     (c.requires n (omega (arith, within, c.len.ensures, ap length c.into_headers-headers.ensures, headers)))
 
 pub returns-in-Ok-clause-objects : goal.returns-in-Ok-clause-objects

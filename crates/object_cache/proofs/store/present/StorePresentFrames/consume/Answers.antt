@@ -3,10 +3,7 @@ use Rattle.object_cache.proofs.Presenting.{becomes_header, whole_header}
 use Rattle.object_cache.proofs.store.present.StorePresentFrames.consume.Goals as goal
 
 pub invariant_of-self : goal.invariant_of-self
-invariant_of-self g c = λ all. whole_header c.args.root c.self.inside.cache c.args.self.now c.consume.new.self c.self.view_is called c.consume.ensures
-    (c.self.invariant all)
+invariant_of-self g c = λ all. whole_header c.args.root c.self.view_is called c.consume.ensures (c.self.invariant all)
 
 pub returns : goal.returns
-returns g c =
-    becomes_header c.args.root c.self.inside.cache c.args.self.now c.consume.new.self c.self.view_is called c.consume.ensures
-    g.P.Policy.KEEPS_ALL g.D.Device.disk g.met.D.Device.only_now
+returns g c = becomes_header c.args.root c.self.view_is called c.consume.ensures g.P.Policy.KEEPS_ALL g.D.Device.disk g.met.D.Device.only_now
