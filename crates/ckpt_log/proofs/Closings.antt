@@ -86,7 +86,8 @@ pub closing_first : (slot : HeaderSlot) {old c : Image} → IsLesser old slot �
 closing_first slot {old} {c} lesser is =
     let both = both_slots slot in
     let greater : c (gate_at (other_slot slot)) ≡ old (gate_at (other_slot slot)) = beside is.0 (λ same. omega (arith, same, both)) in
-    closing (slot_number slot) (slot_number (other_slot slot)) both (in_order old slot lesser) (beside_gate slot is.0) (opens_no_more (gate_at slot) is.1) (λ open'. ap is_open (sym greater) ∙ open') (λ _. greater)
+    closing (slot_number slot) (slot_number (other_slot slot)) both (in_order old slot lesser) (beside_gate slot is.0) (opens_no_more (gate_at slot) is.1)
+    (λ open'. ap is_open (sym greater) ∙ open') (λ _. greater)
 
 -- and while the second is closed, the first being closed
 pub closing_second : (slot : HeaderSlot) {old mid c : Image} → IsLesser old slot → Elsewhere (gate_at slot) 1 old mid → is_open (mid (gate_at slot)) ≡ false →
@@ -96,7 +97,8 @@ closing_second slot {old} {mid} {c} lesser first shut is =
     let here : c (gate_at slot) ≡ mid (gate_at slot) = beside is.0 (λ same. omega (arith, same, both)) in
     let there : mid (gate_at (other_slot slot)) ≡ old (gate_at (other_slot slot)) = beside first (λ same. omega (arith, same, both)) in
     let closed : is_open (c (gate_at slot)) ≡ false = ap is_open here ∙ shut in
-    closing (slot_number slot) (slot_number (other_slot slot)) both (in_order old slot lesser) (λ i two four. beside_gate (other_slot slot) is.0 i two four ∙ beside_gate slot first i two four)
+    closing (slot_number slot) (slot_number (other_slot slot)) both (in_order old slot lesser)
+    (λ i two four. beside_gate (other_slot slot) is.0 i two four ∙ beside_gate slot first i two four)
     (λ open'. let never : false ≡ true = sym closed ∙ open' in cc) (λ open'. ap is_open (sym there) ∙ opens_no_more (gate_at (other_slot slot)) is.1 open')
     (λ open'. let never : false ≡ true = sym closed ∙ open' in cc)
 

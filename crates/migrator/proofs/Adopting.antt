@@ -53,16 +53,14 @@ module _ {disk : Disk} {b : Books} {next : CheckpointHeader} {es : List Entry} (
   -- after a failure
   pub left_publishes : {T E U F : Type 0} {e : E} {r : Result U F} → IsErr r → Counts {T = T} disk new (Err e) →
       Publishes disk new b b (stored_on disk (adopted next es b)) r
-  left_publishes {r} failed counts = record {
-    stands = record { kept = kept_then refl (kept_saves raw_kept only may.spares); unwritten = may.stands.unwritten };
-    stored = no_ok r failed _;
-    unchanged = on_err r (stored_raw new b may.written b refl ∙ stored_saves raw_kept only may.spares ∙ sym (stored_raw disk b may.written b refl));
-    plan = refl;
-    sound = no_ok r failed _;
-    size = size;
-    any_moment = moments;
-    cause = err_counts failed counts;
-  }
+  left_publishes {r} failed counts =
+      search (
+        kept_then refl (kept_saves raw_kept only may.spares),
+        no_ok,
+        on_err r (stored_raw new b may.written b refl ∙ stored_saves raw_kept only may.spares ∙ sym (stored_raw disk b may.written b refl)),
+        moments,
+        err_counts failed counts,
+      )
 
 -- ---- where no checkpoint is on its way
 
@@ -92,13 +90,9 @@ module _ {disk : Disk} {b : Books} (next : CheckpointHeader) (es : List Entry) (
       Spares b.plan b.header b.directory (directory_extent b.plan next.generation next.entries)
       → SparesKept b (directory_extent b.plan next.generation next.entries)
       → SparesKept (with_header b next es) (directory_extent b.plan next.generation next.entries) → MayAdopt disk b next es
-  may_adopt_idle sound follows kept apart spares spares_next = record {
-    stands = is;
-    written = none;
-    sound = sound;
-    follows = follows;
-    kept = subst (IsKept disk.sectors disk.seen) idle_books kept;
-    apart = apart;
-    spares = spares;
-    spares_next = subst (λ (c : Books). SparesKept c (directory_extent b.plan next.generation next.entries)) idle_books spares_next;
-  }
+  may_adopt_idle sound follows kept apart spares spares_next =
+      search (
+        none,
+        subst (IsKept disk.sectors disk.seen) idle_books kept,
+        subst (λ (c : Books). SparesKept c (directory_extent b.plan next.generation next.entries)) idle_books spares_next,
+      )

@@ -242,14 +242,13 @@ module _ (disk : Disk) {b : Books} (k : ℕ) (kept : IsKept disk.sectors disk.se
 
   committed_kept : IsKept disk.sectors disk.seen after
   committed_kept = record {
-    readable = record {
-      plan = kept.plan;
-      inside = kept.inside;
-      header = next_fits b kept.header later most_age kept.frozen.few kept.plan.geometry.most_log;
-      count = length_entries b.frozen;
-      directory = directory_next;
-      saved = spelt_next k kept running stable complete keepable;
-    };
+    readable = search (
+      kept,
+      next_fits b kept.header later most_age kept.frozen.few kept.plan.geometry.most_log,
+      length_entries b.frozen,
+      directory_next,
+      spelt_next k kept running stable complete keepable,
+    );
     few = omega arith;
     moved = λ i lt. absurd (omega (arith, lt));
     frozen = no_place;
@@ -287,13 +286,4 @@ module _ (disk : Disk) {b : Books} (k : ℕ) (kept : IsKept disk.sectors disk.se
         same_move n fs = let same : n - 0 ≡ n = omega arith in ap (λ (m : ℕ). record (stored_as n putting fs) { to_move = m }) same
 
   pub may_commit : IsDurable disk b → b.unwritten ≡ None → IsSoundOn disk b → MayAdopt disk b (next_header age b) (entries_of b.frozen)
-  may_commit is written sound = record {
-    stands = is;
-    written = written;
-    sound = sound;
-    follows = refl;
-    kept = committed_kept;
-    apart = spares_now;
-    spares = spares_kept;
-    spares_next = committed_spares;
-  }
+  may_commit is written sound = search (committed_kept, spares_now, spares_kept, committed_spares)

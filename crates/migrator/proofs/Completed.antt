@@ -73,12 +73,7 @@ module _ {old new : Disk} {b : Books} {was now : Option Unwritten} {k : ℕ} (ke
   mid_kept = subst (λ (size : ℕ). IsKept size after b) (sym keeps.touches.size) kept_after
 
   touches : Touches extent.sector extent.length (mended_disk old was) (mended_disk new now)
-  touches = record {
-    size = keeps.touches.size;
-    elsewhere = keeps.elsewhere;
-    crash = keeps.touches.crash;
-    any_moment = leaves_mended was now (IsTorn extent.sector extent.length old) keeps.touches.any_moment;
-  }
+  touches = search (keeps.touches, leaves_mended was now (IsTorn extent.sector extent.length old) keeps.touches.any_moment)
 
   pub goes_after : GoesOnSeen (mended_disk old was) (mended_disk new now) b b
   goes_after = goes_spared refl refl refl spares touches

@@ -56,24 +56,13 @@ read_stays {old} {new} {b} reads is =
     let seen = reads_mended b.unwritten reads in
     let before : Disk = mended_disk old b.unwritten in
     let after : Disk = mended_disk new b.unwritten in
-    record {
-      stands = record { kept = fetched_kept before after b seen is.kept; unwritten = is.unwritten };
-      stored = fetched_stored before after b seen;
-      goes_on = goes_seen (fetched_goes_on before after b seen);
-    }
+    search (fetched_kept before after b seen is.kept, fetched_stored before after b seen, goes_seen (fetched_goes_on before after b seen))
 
 pub reads_store : {D : Type 0} {disk : D → Disk} {old now : DurableState D} {back : D} → old ≡ now → IsDurable (disk old.beneath) old.books →
     ReadsOnly (disk old.beneath) (disk back) → ReadsStore disk now (record { beneath = back; books = old.books })
 reads_store {disk} {old} {back = back} same is reads =
     let stays = read_stays reads is in
-    subst (λ t. ReadsStore disk t (record { beneath = back; books = old.books })) same (record {
-      books = refl;
-      stored = stays.stored;
-      goes_on = stays.goes_on;
-      seen = reads.seen;
-      crash = reads.crash;
-      any_moment = reads.any_moment;
-    })
+    subst (λ t. ReadsStore disk t (record { beneath = back; books = old.books })) same (search stays)
 
 pub ok_weaker : {T E : Type 0} {P Q : T → Type 0} (r : Result T E) → ((x : T) → P x → Q x) → IfOk r P → IfOk r Q
 ok_weaker (Ok x) f p = f x p

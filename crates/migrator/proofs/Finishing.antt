@@ -87,7 +87,8 @@ module _ {disk : Disk} {b : Books} (may : MayFinish disk b) where
   spares_then n lt = frame_apart b.plan b.header.generation [] n extent (λ s is. absurd (let never : None ≡ Some s = is in cc)) (λ _. spares_homes lt)
 
   working_spares : SparesPuts b.plan (working_generation b) b.working extent
-  working_spares = half_spares (working_generation b) b.header.generation kept.plan (idle_half b none b.header.generation refl) kept.working.table kept.working.few inside_half
+  working_spares = half_spares (working_generation b) b.header.generation kept.plan (idle_half b none b.header.generation refl) kept.working.table
+      kept.working.few inside_half
 
   abbrev stored_as : List Frame → ℕ → Stored
   stored_as frames to_move = record
@@ -105,26 +106,14 @@ module _ {disk : Disk} {b : Books} (may : MayFinish disk b) where
   pub may_finish : MayAdopt disk b (home_header b.header) []
   may_finish = may_adopt_idle header [] may.stands none may.sound refl
       (record {
-        readable = record {
-          plan = kept.plan;
-          inside = kept.inside;
-          header = home_fits kept.header may.some;
-          count = refl;
-          directory = no_directory b.plan;
-          saved = spelt_home;
-        };
+        readable = search (home_fits kept.header may.some, no_directory b.plan, spelt_home);
         few = omega arith;
         moved = λ i lt. absurd (omega (arith, lt));
         frozen = kept.frozen;
         running = subst (IsRunning books) (sym none) blank;
         working = kept.working;
       }) spares
-      (record {
-        frames = spares.frames;
-        homes = homes_spare b.header.generation kept inside_half;
-        frozen = none_spares b.plan (frozen_generation b) b.frozen extent blank;
-        working = working_spares;
-      })
+      (search (spares.frames, homes_spare b.header.generation kept inside_half, none_spares b.plan (frozen_generation b) b.frozen extent blank, working_spares))
       (record {
         frames = spares_then;
         homes = λ i lt. absurd (omega (arith, lt));

@@ -48,14 +48,7 @@ words_keepable : {g : Geometry} {age n : ℕ} {f : Frame} {words : List ℕ} →
     IsKeepable g age n (with_words words f)
 words_keepable {g} {n} {f} {words} page fits is = record {
   kind = words_kind g words f.content (sym is.kept.role ∙ page) is.kind;
-  kept = record {
-    role = page;
-    allocations = is.kept.allocations;
-    calls = is.kept.calls;
-    owner = is.kept.owner;
-    unowned = is.kept.unowned;
-    content = fits;
-  };
+  kept = search;
 }
 
 pub words_fit : {words : List ℕ} → length words ≡ 512 → ((i : ℕ) → get_or words i 0 < 2 ^ 64) → AreKeptWords 512 words
@@ -115,12 +108,13 @@ module _ {size : ℕ} {image : Image} {b : Books} (kept : IsKept size image b) (
 
   -- the half of the saved generation lies apart from all that is kept
   spares_half : (g : ℕ) {e : Extent} → g % 2 ≡ b.header.generation % 2 → IsInside e (half_extent b.plan.geometry (half_sector b.plan g)) → SparesKept b e
-  spares_half g {e} same inside = record {
-    frames = (spares_log b.header b.directory g kept.plan kept.count home inside).frames;
-    homes = homes_spare g kept inside;
-    frozen = none_spares b.plan (frozen_generation b) b.frozen e blank;
-    working = half_spares (working_generation b) g kept.plan (idle_half b free g same) kept.working.table kept.working.few inside;
-  }
+  spares_half g {e} same inside =
+      search (
+        (spares_log b.header b.directory g kept.plan kept.count home inside).frames,
+        homes_spare g kept inside,
+        none_spares b.plan (frozen_generation b) b.frozen e blank,
+        half_spares (working_generation b) g kept.plan (idle_half b free g same) kept.working.table kept.working.few inside,
+      )
 
 -- ---- a page is written into the first slot of that half
 
@@ -287,14 +281,7 @@ module _ {disk : Disk} {b : Books} {n age : ℕ} (may : MayReplace disk b n age)
   pub may_replace : MayAdopt disk b (replaced_header age b) (one_entry n)
   may_replace = may_adopt_idle (replaced_header age b) (one_entry n) may.stands may.free may.sound refl
       (record {
-        readable = record {
-          plan = kept.plan;
-          inside = kept.inside;
-          header = header_fits b kept.header may.later may.most some;
-          count = refl;
-          directory = directory_next;
-          saved = spelt_next;
-        };
+        readable = search (header_fits b kept.header may.later may.most some, directory_next, spelt_next);
         few = omega arith;
         moved = λ i less. absurd (omega (arith, less));
         frozen = half_put (half_same (again + 1) (frozen_generation b) (omega arith)) kept.frozen;
@@ -331,14 +318,7 @@ module _ {old mid : Disk} {b : Books} {n age : ℕ} {words : List ℕ} (idle : I
   found = bytes_spelt b.plan.geometry age n (first_bytes mid.seen b n) (with_words words (frame_at (stored_on old b).saved.frames n)) spelt.0 spelt.1
 
   pub may_save_first : MayReplace mid b n age
-  may_save_first = record {
-    idle = record { stands = stays.stands; free = idle.free; home = idle.home; sound = stays.goes_on.sound idle.sound };
-    object = spelt.0.kind.1;
-    page = spelt.0.kind.0;
-    spelt = found.0;
-    later = may.later;
-    most = may.most;
-  }
+  may_save_first = search (stays.goes_on.sound idle.sound, found.0)
 
   pub journaled_is : on_snapshots (replaced age n (first_frame mid.seen b n)) (stored_on mid b) ≡ on_snapshots (journaled age n words) (stored_on old b)
   journaled_is = ap (λ (f : Frame). on_snapshots (replaced age n f) (stored_on mid b)) found.1 ∙

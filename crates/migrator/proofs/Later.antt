@@ -34,12 +34,5 @@ module _ (g : Geometry) (age later : ℕ) (le : age ≤ later) where
   pub keepable_later : {n : ℕ} {f : Frame} → IsKeepable g age n f → IsKeepable g later n f
   keepable_later {f} is = record {
     kind = is.kind;
-    kept = record {
-      role = is.kept.role;
-      allocations = count_later is.kept.allocations;
-      calls = count_later is.kept.calls;
-      owner = is.kept.owner;
-      unowned = is.kept.unowned;
-      content = content_later f.content is.kept.content;
-    };
+    kept = search (is, count_later is.kept.allocations, count_later is.kept.calls, content_later f.content is.kept.content);
   }

@@ -107,21 +107,11 @@ elapses_mended : {old new : Disk} (o : Option Unwritten) → Elapses old new →
 elapses_mended o time = record { later = time.later; nothing_else = time.nothing_else; keeps = time.keeps }
 
 pub touches_mended : {at n : ℕ} {old new : Disk} (o : Option Unwritten) → Touches at n old new → Touches at n (mended_disk old o) (mended_disk new o)
-touches_mended {at} {n} {old} {new} o touches = record {
-  size = touches.size;
-  elsewhere = elsewhere_mended o touches.elsewhere;
-  crash = touches.crash;
-  any_moment = leaves_mended o o (IsTorn at n old) touches.any_moment;
-}
+touches_mended {at} {n} {old} {new} o touches = search (elsewhere_mended o touches.elsewhere, leaves_mended o o (IsTorn at n old) touches.any_moment)
 
 pub writes_mended : {at n : ℕ} {old new : Disk} (o : Option Unwritten) → WritesAt at n old new → WritesAt at n (mended_disk old o) (mended_disk new o)
-writes_mended {at} {n} {old} {new} o writes = record {
-  size = writes.size;
-  elsewhere = elsewhere_mended o writes.elsewhere;
-  crash = writes.crash;
-  any_moment = leaves_mended o o (IsTorn at n old) writes.any_moment;
-  time = elapses_mended o writes.time;
-}
+writes_mended {at} {n} {old} {new} o writes =
+    search (elsewhere_mended o writes.elsewhere, leaves_mended o o (IsTorn at n old) writes.any_moment, elapses_mended o writes.time)
 
 pub reads_mended : {old new : Disk} (o : Option Unwritten) → ReadsOnly old new → ReadsOnly (mended_disk old o) (mended_disk new o)
 reads_mended {old} {new} o reads = record {

@@ -13,16 +13,14 @@ either_first {old} {new} {saved} {next} run =
 -- the calls before it failed
 pub publishes_none : {T E U F : Type 0} {old new : Disk} {b c : Books} {next : Stored} {e : E} {r : Result U F} → Stays old new b c → IsSoundOn old b → IsErr r
     → Counts {T = T} old new (Err e) → Publishes old new b c next r
-publishes_none {old = old} {new = new} {b = b} {next = next} {r} stays sound failed counts = record {
-  stands = stays.stands;
-  stored = no_ok r failed _;
-  unchanged = on_err r stays.stored;
-  plan = stays.goes_on.plan;
-  sound = no_ok r failed _;
-  size = stays.goes_on.size;
-  any_moment = either_first (stays.goes_on.any_moment sound);
-  cause = err_counts failed counts;
-}
+publishes_none {old = old} {new = new} {b = b} {next = next} {r} stays sound failed counts =
+    search (
+      stays,
+      no_ok,
+      on_err r stays.stored,
+      either_first {next = next.saved} (stays.goes_on.any_moment sound),
+      err_counts failed counts,
+    )
 
 -- they didn't
 pub publishes_after : {T E : Type 0} {old mid new : Disk} {a b c : Books} {next after : Stored} {r : Result T E} → Stays old mid a b → IsSoundOn old a →

@@ -60,24 +60,10 @@ module _ {first : ℕ} {was : Image} {b : Books} (n : ℕ) (q : Place) (before :
   kept_places : (since : Bool) {size : ℕ} {image : Image} (ps : List Place) → n < length (places since b) → HasSlot since b n →
       slot_of q ≡ Some (slot_for (places since b) n) → IsKept size image (with_places since b ps) →
       ArePut image b.plan (generation_of since b) (set (places since b) n q) → IsKept size image (with_places since b (set (places since b) n q))
-  kept_places true ps lt has slot kept are = record {
-    readable = kept.readable;
-    few = kept.few;
-    moved = kept.moved;
-    frozen = kept.frozen;
-    running = kept.running;
-    working = are;
-  }
+  kept_places true ps lt has slot kept are = search
   kept_places false ps lt has slot kept are =
       let runs : IsRunning b (Some has.0) = subst (IsRunning b) has.1 before.running in
-      record {
-        readable = kept.readable;
-        few = kept.few;
-        moved = kept.moved;
-        frozen = are;
-        running = subst (IsRunning (with_places false b (set b.frozen n q))) (sym has.1) (runs.0, taken_set b.frozen q lt slot runs.1 has.2, runs.2);
-        working = kept.working;
-      }
+      search (subst (IsRunning (with_places false b (set b.frozen n q))) (sym has.1) (runs.0, taken_set b.frozen q lt slot runs.1 has.2, runs.2))
 
 -- what was put of it is all that differs
 stored_put : (since : Bool) (image : Image) (b : Books) (ps qs : List Place) (n : ℕ) (x : Put) →
@@ -128,18 +114,20 @@ all_spared : (since : Bool) {size : ℕ} {image : Image} {b : Books} {n : ℕ} �
     (half_extent b.plan.geometry (half_sector b.plan (generation_of since b))) →
     SparesKept (with_places since b (set (places since b) n (Torn (slot_for (places since b) n))))
     (place_extent b.plan (generation_of since b) (slot_for (places since b) n) n)
-all_spared true {b = b} kept has lt inside = record {
-  frames = (saved_spares true kept inside).frames;
-  homes = homes_spare (working_generation b) kept inside;
-  frozen = frozen_working b.size kept kept.running inside;
-  working = slots_spare b.plan (working_generation b) kept.working.table lt;
-}
-all_spared false {b = b} kept has lt inside = record {
-  frames = (saved_spares false kept inside).frames;
-  homes = homes_spare (frozen_generation b) kept inside;
-  frozen = slots_spare b.plan (frozen_generation b) kept.frozen.table lt;
-  working = half_spares (working_generation b) (frozen_generation b) kept.plan (later_half b has.1) kept.working.table kept.working.few inside;
-}
+all_spared true {b = b} kept has lt inside =
+    search (
+      (saved_spares true kept inside).frames,
+      homes_spare (working_generation b) kept inside,
+      frozen_working b.size kept kept.running inside,
+      slots_spare b.plan (working_generation b) kept.working.table lt,
+    )
+all_spared false {b = b} kept has lt inside =
+    search (
+      (saved_spares false kept inside).frames,
+      homes_spare (frozen_generation b) kept inside,
+      slots_spare b.plan (frozen_generation b) kept.frozen.table lt,
+      half_spares (working_generation b) (frozen_generation b) kept.plan (later_half b has.1) kept.working.table kept.working.few inside,
+    )
 
 -- a frame is written into its slot
 module _ (since : Bool) {old new : Disk} {b : Books} {n : ℕ} (f : Frame) (kept : IsKept old.sectors old.seen b) (lt : n < count_of b.plan)
@@ -211,13 +199,7 @@ module _ {old : Disk} {b : Books} {n : ℕ} (is : IsDurable old b) (lt : n < cou
       let read = ok_then r (λ is_written. working_again old.sectors old.seen b new.seen b.unwritten is.kept is.unwritten n working_room ∙ is_written)
       written in
       let both = put_either true f is.kept lt working_room wrote r ps keepable ok err read in
-      record {
-        stands = record { kept = both.0; unwritten = is.unwritten };
-        put = both.1;
-        broken = both.2;
-        goes_on = goes_seen (put_goes_on true f is.kept lt working_room wrote ps);
-        cause = counts;
-      }
+      search (goes_seen (put_goes_on true f is.kept lt working_room wrote ps), counts)
 
 -- ---- for the checkpoint on its way
 
@@ -247,14 +229,14 @@ module _ {old : Disk} {b : Books} {k n : ℕ} (is : IsDurable old b) (size : b.s
 
     pub torn_stores : Stores old new b (record b { frozen = set b.frozen n (Torn (slot_for b.frozen n)); unwritten = o })
         (with_frozen n Broken (stored_on old b))
-    torn_stores = record {
-      stands = record {
-        kept = kept_with (tear_kept false mid lt has_slot);
-        unwritten = held_after b (Torn (slot_for b.frozen n)) (omega (arith, lt, is.kept.frozen.count)) refl is.unwritten either;
-      };
-      stored = tear_stored false mid lt has_slot ∙ ap (with_frozen n Broken) (stored_after is.kept size keeps);
-      goes_on = goes_seen (goes_with refl refl refl (goes_after is.kept size keeps));
-    }
+    torn_stores =
+        search (
+          kept_with {o = o} (tear_kept false mid lt has_slot),
+          held_after b (Torn (slot_for b.frozen n)) (omega (arith, lt, is.kept.frozen.count)) refl is.unwritten either,
+          tear_stored false mid lt has_slot ∙ ap (with_frozen n Broken) (stored_after is.kept size keeps),
+          goes_seen (goes_with {d = record b { frozen = set b.frozen n (Torn (slot_for b.frozen n)); unwritten = o }} refl refl refl
+              (goes_after is.kept size keeps)),
+        )
 
 pub frozen_puts : {T : Type 0} {old new : Disk} {b : Books} {n k : ℕ} {f : Frame} {r : Result T Failed} → MayPut old b k n f → b.unwritten ≡ None →
     WritesAt (slot_sector b.plan (frozen_generation b) (slot_for b.frozen n)) (place_length b.plan n) old new → Counts old new r → {ps : List Place} →

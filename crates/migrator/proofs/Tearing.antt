@@ -37,13 +37,7 @@ may_put_torn {old} {mid} {a} {b} {k} {n} {f} may torn still = record {
 pub puts_none : {T E U F : Type 0} {old mid : Disk} {a b : Books} (n : ℕ) {f : Frame} {e : E} {r : Result U F} →
     Stores old mid a b (with_frozen n Broken (stored_on old a)) → IsErr r → Counts {T = T} old mid (Err e)
     → PutsFrame old mid a b f (λ put. with_frozen n put (stored_on old a)) r
-puts_none n {r} torn failed counts = record {
-  stands = torn.stands;
-  put = no_ok r failed _;
-  broken = on_err r torn.stored;
-  goes_on = torn.goes_on;
-  cause = err_counts failed counts;
-}
+puts_none n {r} torn failed counts = search (no_ok, on_err r torn.stored, err_counts failed counts)
 
 pub puts_after : {T E : Type 0} {old mid new : Disk} {a b c : Books} (n : ℕ) {f : Frame} {r : Result T E} →
     Stores old mid a b (with_frozen n Broken (stored_on old a)) → mid.failures ≡ old.failures

@@ -1,12 +1,12 @@
 -- A number gets an entry, or has one no more: no object and no frozen frame is another.
-use Rattle.object_cache.proofs.Names.{inl, inr, ℕ, Bool, true, false, true≢false, cond, List, length, set, Option, Some, None, option_map, refl, sym, ap, subst}
-use Rattle.object_cache.proofs.Names.{arith, length-set, cases_eq, ne_eqb, get_or-set_same, get_or-set_other, map-set, get_or-map-range_with_len, none-some}
-use Rattle.object_cache.proofs.Names.{same_Some, Cap, Content, Role, header_at, held_at, AreKeepable, Disk, Kept, put_at, most, DurableState, Stored, below_at}
-use Rattle.object_cache.proofs.Names.{stored_of, maps_same, map_set, Entry, Held, entry_at, new_entry, is_some, Memory, FrozenState, Nothing, mark_at, masked}
-use Rattle.object_cache.proofs.Names.{in_staging, put_body, present_body, content_at, present_at, newest_body, below_body, apart_body, frozen_body}
-use Rattle.object_cache.proofs.Names.{frozen_frame, frozen_at, frozen_state_of, frozen_state_body, frozen_state_in_memory, contents_in, frozen_in}
-use Rattle.object_cache.proofs.Names.{frozen_states_in, StoreState, IsCache, IsFetchedIn, cache_of, is_kept, frozen_state_by, frozen_state_at, cached_at}
-use Rattle.object_cache.proofs.Names.{cached_in, with_cached, without}
+use Rattle.object_cache.proofs.Names.{FrozenPuts, inl, inr, ℕ, Bool, true, false, true≢false, cond, List, length, set, Option, Some, None, option_map, refl}
+use Rattle.object_cache.proofs.Names.{sym, ap, subst, arith, length-set, cases_eq, ne_eqb, get_or-set_same, get_or-set_other, map-set}
+use Rattle.object_cache.proofs.Names.{get_or-map-range_with_len, none-some, same_Some, Cap, Content, Role, header_at, held_at, AreKeepable, Disk, Kept, put_at}
+use Rattle.object_cache.proofs.Names.{most, DurableState, Stored, below_at, stored_of, maps_same, map_set, Entry, Held, entry_at, new_entry, is_some, Memory}
+use Rattle.object_cache.proofs.Names.{FrozenState, Nothing, mark_at, masked, in_staging, put_body, present_body, content_at, present_at, newest_body}
+use Rattle.object_cache.proofs.Names.{below_body, apart_body, frozen_body, frozen_frame, frozen_at, frozen_state_of, frozen_state_body, frozen_state_in_memory}
+use Rattle.object_cache.proofs.Names.{contents_in, frozen_in, frozen_states_in, StoreState, IsCache, IsFetchedIn, cache_of, is_kept, frozen_state_by}
+use Rattle.object_cache.proofs.Names.{frozen_state_at, cached_at, cached_in, with_cached, without}
 use Rattle.std.proofs.Common.{◌≡◌, ◌≢◌, ◌⊎◌, ◌<◌, ◌∷◌, ◌∙◌}
 use Rattle.model.specs.declared.object.Role.TheVariants as role
 use Rattle.object_cache.proofs.Changing.{with_objects}
@@ -67,41 +67,30 @@ module _ {s : Stored} {m : Memory} {es : List (Option Entry)} {n : ℕ} (change 
   ])
 
   pub cached_cache : {left count : ℕ} → IsCache s m left count → IsCache s cached left count
-  cached_cache is = record {
-    headers = is.headers;
-    frozen_headers = is.frozen_headers;
-    marks = is.marks;
-    dirty_marks = is.dirty_marks;
-    pending_marks = is.pending_marks;
-    entries = change.count ∙ is.entries;
-    frames = is.frames;
-    puts = is.puts;
-    counted = is.counted;
-    within = is.within;
-    marked = is.marked;
-    clean = λ k clean touched. is.clean k clean touched ∙ ap Kept (sym (present_stays k));
-    unput = is.unput;
-    unwritten = λ k below untouched. present_stays k ∙ is.unwritten k below untouched ∙ sym (frozen_stays k);
-    idle = is.idle;
-    running = is.running;
-    keepable = λ f running. subst (AreKeepable s.saved.geometry most) (sym frozen_stay) (is.keepable f running);
-    held = is.held;
-    apart = λ k e at. elim (cases_eq k n) [
-      | inl same ↦ elim (change.apart e (ap (entry_at es) (sym same) ∙ at)) [
-        | inl none ↦ inl none
-        | inr pending ↦ inr (ap (mark_at m.pending) same ∙ pending)
-      ]
-      | inr other ↦ is.apart k e (sym (change.entries k other) ∙ at)
-    ];
-    freed = λ k none pending free. elim (cases_eq k n) [
-      | inl same ↦ elim (change.freed (ap (entry_at es) (sym same) ∙ none) (ap (mark_at m.pending) (sym same) ∙ pending)
-          (ap (λ i. (header_at m.frozen_headers i).role) (sym same) ∙ free)) [
-            | inl put ↦ inl (ap (λ i. is_kept (put_at s.working i)) same ∙ put)
-            | inr was_free ↦ inr (ap (λ i. (header_at m.headers i).role) same ∙ was_free)
-          ]
-      | inr other ↦ is.freed k (sym (change.entries k other) ∙ none) pending free
-    ];
-  }
+  cached_cache {left} is =
+      let clean : (k : ℕ) → mark_at m.dirty k ≡ false → mark_at m.touched k ≡ true → put_at s.working k ≡ Kept (present_at s cached k) =
+      λ k clean touched. is.clean k clean touched ∙ ap Kept (sym (present_stays k)) in
+      let unwritten : (k : ℕ) → k < length m.headers → mark_at m.touched k ≡ false → present_at s cached k ≡ frozen_at s cached k =
+      λ k below untouched. present_stays k ∙ is.unwritten k below untouched ∙ sym (frozen_stays k) in
+      let keepable : (f : FrozenPuts) → s.frozen ≡ Some f → AreKeepable s.saved.geometry most (frozen_in s cached) =
+      λ f running. subst (AreKeepable s.saved.geometry most) (sym frozen_stay) (is.keepable f running) in
+      let apart : (k : ℕ) (e : Entry) → entry_at es k ≡ Some e → (e.kept ≡ None) ⊎ (mark_at m.pending k ≡ true) = λ k e at. elim (cases_eq k n) [
+        | inl same ↦ elim (change.apart e (ap (entry_at es) (sym same) ∙ at)) [
+          | inl none ↦ inl none
+          | inr pending ↦ inr (ap (mark_at m.pending) same ∙ pending)
+        ]
+        | inr other ↦ is.apart k e (sym (change.entries k other) ∙ at)
+      ] in
+      let freed : (k : ℕ) → entry_at es k ≡ None → mark_at m.pending k ≡ true → (header_at m.frozen_headers k).role ≡ role.Free →
+      (is_kept (put_at s.working k) ≡ true) ⊎ ((header_at m.headers k).role ≡ role.Free) = λ k none pending free. elim (cases_eq k n) [
+        | inl same ↦ elim (change.freed (ap (entry_at es) (sym same) ∙ none) (ap (mark_at m.pending) (sym same) ∙ pending)
+            (ap (λ i. (header_at m.frozen_headers i).role) (sym same) ∙ free)) [
+              | inl put ↦ inl (ap (λ i. is_kept (put_at s.working i)) same ∙ put)
+              | inr was_free ↦ inr (ap (λ i. (header_at m.headers i).role) same ∙ was_free)
+            ]
+        | inr other ↦ is.freed k (sym (change.entries k other) ∙ none) pending free
+      ] in
+      search (is, change.count ∙ is.entries)
 
 -- ---- an entry that isn't wanted is dropped
 

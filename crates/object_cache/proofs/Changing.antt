@@ -1,9 +1,9 @@
 -- One object is changed that is to be put: no frozen frame is another, and what always holds still does.
-use Rattle.object_cache.proofs.Names.{inl, inr, ℕ, Bool, true, false, true≢false, List, length, map, set, Option, Some, None, is_some, option_map, refl, sym}
-use Rattle.object_cache.proofs.Names.{ap, subst, arith, range_with_len, cases_eq, none-some, same_Some, Cap, ObjectHeader, Content, header_at, AreKeepable}
-use Rattle.object_cache.proofs.Names.{Kept, most, Stored, below_at, maps_same, map_set, Entry, entry_at, kept_of, Memory, mark_at, present_body, content_at}
-use Rattle.object_cache.proofs.Names.{present_at, newest_body, below_body, apart_body, frozen_body, frozen_frame, frozen_at, frozen_state_of, frozen_state_body}
-use Rattle.object_cache.proofs.Names.{frozen_state_in_memory, contents_in, frozen_in, frozen_states_in, IsCache}
+use Rattle.object_cache.proofs.Names.{put_at, FrozenPuts, is_kept, inl, inr, ℕ, Bool, true, false, true≢false, List, length, map, set, Option, Some, None}
+use Rattle.object_cache.proofs.Names.{is_some, option_map, refl, sym, ap, subst, arith, range_with_len, cases_eq, none-some, same_Some, Cap, ObjectHeader}
+use Rattle.object_cache.proofs.Names.{Content, header_at, AreKeepable, Kept, most, Stored, below_at, maps_same, map_set, Entry, entry_at, kept_of, Memory}
+use Rattle.object_cache.proofs.Names.{mark_at, present_body, content_at, present_at, newest_body, below_body, apart_body, frozen_body, frozen_frame, frozen_at}
+use Rattle.object_cache.proofs.Names.{frozen_state_of, frozen_state_body, frozen_state_in_memory, contents_in, frozen_in, frozen_states_in, IsCache}
 use Rattle.std.proofs.Common.{◌≡◌, ◌≢◌, ◌⊎◌, ◌<◌, ◌∙◌}
 use Rattle.model.specs.declared.object.Role.TheVariants as role
 
@@ -136,48 +136,36 @@ module _ (s : Stored) {m : Memory} {hs : List ObjectHeader} {es : List (Option E
         go (Some f) same = absurd (none-some f.kept (sym same))
 
     pub still_cache : IsCache s changed left count
-    still_cache = record {
-      headers = change.header_count ∙ is.headers;
-      frozen_headers = is.frozen_headers;
-      marks = is.marks;
-      dirty_marks = is.dirty_marks;
-      pending_marks = is.pending_marks;
-      entries = change.entry_count ∙ is.entries;
-      frames = is.frames;
-      puts = is.puts;
-      counted = is.counted;
-      within = is.within;
-      marked = is.marked;
-      clean = λ k clean touched. is.clean k clean touched ∙ ap Kept (sym (present_elsewhere k (unmarked m.dirty dirty k clean)));
-      unput = is.unput;
-      unwritten = λ k below untouched.
-          let other = unmarked m.touched touched_here k untouched in
-          present_elsewhere k other ∙ is.unwritten k (omega (arith, below, change.header_count)) untouched ∙ sym (frozen_stays touched_here k);
-      idle = is.idle;
-      running = is.running;
-      keepable = λ f running. subst (AreKeepable s.saved.geometry most) (sym (frozen_same touched_here)) (is.keepable f running);
-      held = is.held;
-      apart = λ k e at. elim (cases_eq k n) [
-        | inl same ↦ elim (apart_here e (ap (entry_at es) (sym same) ∙ at)) [
-          | inl none ↦ inl none
-          | inr pending ↦ inr (ap (mark_at m.pending) same ∙ pending)
-        ]
-        | inr other ↦ is.apart k e (sym (change.entries k other) ∙ at)
-      ];
-      freed = λ k none pending free. elim (cases_eq k n) [
-        | inl same ↦
-            let none_n = ap (entry_at es) (sym same) ∙ none in
-            elim (is.freed k (ap (entry_at m.entries) same ∙ none_here none_n) pending free) [
-              | inl put ↦ inl put
-              | inr was_free ↦ elim (change.role none_n) [
-                | inl same_role ↦ inr
-                    (ap (λ i. (header_at hs i).role) same ∙ same_role ∙ ap (λ i. (header_at m.headers i).role) (sym same) ∙ was_free)
-                | inr free_now ↦ inr (ap (λ i. (header_at hs i).role) same ∙ free_now)
+    still_cache =
+        let clean : (k : ℕ) → mark_at m.dirty k ≡ false → mark_at m.touched k ≡ true → put_at s.working k ≡ Kept (present_at s changed k) =
+        λ k clean touched. is.clean k clean touched ∙ ap Kept (sym (present_elsewhere k (unmarked m.dirty dirty k clean))) in
+        let unwritten : (k : ℕ) → k < length hs → mark_at m.touched k ≡ false → present_at s changed k ≡ frozen_at s changed k =
+        λ k below untouched. present_elsewhere k (unmarked m.touched touched_here k untouched)
+        ∙ is.unwritten k (omega (arith, below, change.header_count)) untouched ∙ sym (frozen_stays touched_here k) in
+        let keepable : (f : FrozenPuts) → s.frozen ≡ Some f → AreKeepable s.saved.geometry most (frozen_in s changed) =
+        λ f running. subst (AreKeepable s.saved.geometry most) (sym (frozen_same touched_here)) (is.keepable f running) in
+        let apart : (k : ℕ) (e : Entry) → entry_at es k ≡ Some e → (e.kept ≡ None) ⊎ (mark_at m.pending k ≡ true) = λ k e at. elim (cases_eq k n) [
+          | inl same ↦ elim (apart_here e (ap (entry_at es) (sym same) ∙ at)) [
+            | inl none ↦ inl none
+            | inr pending ↦ inr (ap (mark_at m.pending) same ∙ pending)
+          ]
+          | inr other ↦ is.apart k e (sym (change.entries k other) ∙ at)
+        ] in
+        let freed : (k : ℕ) → entry_at es k ≡ None → mark_at m.pending k ≡ true → (header_at m.frozen_headers k).role ≡ role.Free →
+        (is_kept (put_at s.working k) ≡ true) ⊎ ((header_at hs k).role ≡ role.Free) = λ k none pending free. elim (cases_eq k n) [
+          | inl same ↦
+              let none_n = ap (entry_at es) (sym same) ∙ none in
+              elim (is.freed k (ap (entry_at m.entries) same ∙ none_here none_n) pending free) [
+                | inl put ↦ inl put
+                | inr was_free ↦ elim (change.role none_n) [
+                  | inl same_role ↦ inr
+                      (ap (λ i. (header_at hs i).role) same ∙ same_role ∙ ap (λ i. (header_at m.headers i).role) (sym same) ∙ was_free)
+                  | inr free_now ↦ inr (ap (λ i. (header_at hs i).role) same ∙ free_now)
+                ]
               ]
-            ]
-        | inr other ↦ elim (is.freed k (sym (change.entries k other) ∙ none) pending free) [
-          | inl put ↦ inl put
-          | inr was_free ↦ inr (ap (λ h. h.role) (change.headers k other) ∙ was_free)
-        ]
-      ];
-    }
+          | inr other ↦ elim (is.freed k (sym (change.entries k other) ∙ none) pending free) [
+            | inl put ↦ inl put
+            | inr was_free ↦ inr (ap (λ h. h.role) (change.headers k other) ∙ was_free)
+          ]
+        ] in
+        search (is, change.header_count ∙ is.headers, change.entry_count ∙ is.entries)

@@ -1,10 +1,10 @@
 -- Bodies are read from the device: nothing that is seen is another.
-use Rattle.object_cache.proofs.Names.{FrozenPuts, Held}
-use Rattle.object_cache.proofs.Names.{ℕ, List, length, None, refl, sym, ap, subst, arith, header_at, held_at, Disk, put_at, DurableState, ReadsStore, below_at}
-use Rattle.object_cache.proofs.Names.{newest, stored_of, Memory, masked, in_staging, put_body, present_body, newest_body, contents_in, StoreState, IsCache}
-use Rattle.object_cache.proofs.Names.{GoesOnIn, cache_of, frozen_seen, cached_at, false, set, Some, Cap, Content, new_entry, with_cached, IsFetchedIn, inl, inr}
-use Rattle.object_cache.proofs.Names.{true, cond, option_map, cases_eq, eq-eqb, ne_eqb, same_Some, AreKeepable, object_count, Kept, most, Stored, maps_same}
-use Rattle.object_cache.proofs.Names.{entry_at, mark_at, below_body, content_at, present_at, frozen_body, frozen_frame, frozen_at, frozen_in, frozen_states_in}
+use Rattle.object_cache.proofs.Names.{FrozenPuts, Held, ℕ, List, length, None, refl, sym, ap, subst, arith, header_at, held_at, Disk, put_at, DurableState}
+use Rattle.object_cache.proofs.Names.{ReadsStore, below_at, newest, stored_of, Memory, masked, in_staging, put_body, present_body, newest_body, contents_in}
+use Rattle.object_cache.proofs.Names.{StoreState, IsCache, GoesOnIn, cache_of, frozen_seen, cached_at, false, set, Some, Cap, Content, new_entry, with_cached}
+use Rattle.object_cache.proofs.Names.{IsFetchedIn, inl, inr, true, cond, option_map, cases_eq, eq-eqb, ne_eqb, same_Some, AreKeepable, object_count, Kept, most}
+use Rattle.object_cache.proofs.Names.{Stored, maps_same, entry_at, mark_at, below_body, content_at, present_at, frozen_body, frozen_frame, frozen_at, frozen_in}
+use Rattle.object_cache.proofs.Names.{frozen_states_in}
 use Rattle.std.proofs.Common.{◌≡◌, ◌<◌, ◌≤◌, ◌∷◌, ◌∙◌}
 use Rattle.object_cache.proofs.Bringing.{cached_fetched}
 use Rattle.object_cache.proofs.Changing.{with_objects}
@@ -62,12 +62,11 @@ module _ {D : Type 0} (disk : D → Disk) {d : DurableState D} {m : Memory} {lef
         let next = read_next reads later in
         let t = with_cached n (record s { durable = new }) in
         let now = cached_next disk next.view next.is n c known uncached (c_is ∙ read_holds n known uncached empty) in
-        record {
-          is = now.is;
-          view = now.view;
-          continues = subst (GoesOnIn disk s) (sym now.view) (continues_with disk t.cached t.frozen_state t.order t.staging
-              (subst (GoesOnIn disk s) next.view next.continues));
-        }
+        search (
+          now,
+          subst (GoesOnIn disk s) (sym now.view) (continues_with disk t.cached t.frozen_state t.order t.staging
+              (subst (GoesOnIn disk s) next.view next.continues)),
+        )
 
     pub kept_fetched : IsFetchedIn (cache_of disk new (with_objects m m.headers (set m.entries n (Some (new_entry c)))) left (n ∷ order) most_entries) n
     kept_fetched =

@@ -1,13 +1,12 @@
 -- What is saved goes home, or what is frozen is saved: no object changes.
-use Rattle.object_cache.proofs.Names.{AreFrozen, most}
-use Rattle.object_cache.proofs.Names.{inl, inr, ℕ, Bool, true, false, cond, List, [], length, map, Option, Some, None, option_map, Result, Ok, Err, refl, sym}
-use Rattle.object_cache.proofs.Names.{ap, subst, arith, count_by, range_with_len, cases_lt, length-map, same_lists, get_or_past, length-map-range_with_len}
-use Rattle.object_cache.proofs.Names.{get_or-map-range_with_len, sum_by-cons, none-some, same_Some, blank_frame, frame_at, header_at, AreKeepable, Disk, Put}
-use Rattle.object_cache.proofs.Names.{Absent, Broken, Kept, put_at, put_or, overlaid, kept_count, sum_of, SavedFrames, LeavesEither, LeavesOneOf, home_saved}
-use Rattle.object_cache.proofs.Names.{DurableState, MayCommit, committed, moved, next_saved, whole, on_snapshots, puts, FrozenPuts, Stored, below_at}
-use Rattle.object_cache.proofs.Names.{frozen_put, left_of, stored_of, maps_same, FrozenFrames, entry_at, Memory, mark_at, in_staging, put_body, present_body}
-use Rattle.object_cache.proofs.Names.{content_at, present_at, frozen_body, frozen_frame, frozen_at, get_or-map, get_or_default, contents_in, frozen_in}
-use Rattle.object_cache.proofs.Names.{StoreState, IsCache, snapshots_of, cache_of, frozen_seen, is_kept}
+use Rattle.object_cache.proofs.Names.{AreFrozen, most, inl, inr, ℕ, Bool, true, false, cond, List, [], length, map, Option, Some, None, option_map, Result, Ok}
+use Rattle.object_cache.proofs.Names.{Err, refl, sym, ap, subst, arith, count_by, range_with_len, cases_lt, length-map, same_lists, get_or_past}
+use Rattle.object_cache.proofs.Names.{length-map-range_with_len, get_or-map-range_with_len, sum_by-cons, none-some, same_Some, blank_frame, frame_at, header_at}
+use Rattle.object_cache.proofs.Names.{AreKeepable, Disk, Put, Absent, Broken, Kept, put_at, put_or, overlaid, kept_count, sum_of, SavedFrames, LeavesEither}
+use Rattle.object_cache.proofs.Names.{LeavesOneOf, home_saved, DurableState, MayCommit, committed, moved, next_saved, whole, on_snapshots, puts, FrozenPuts}
+use Rattle.object_cache.proofs.Names.{Stored, below_at, frozen_put, left_of, stored_of, maps_same, FrozenFrames, entry_at, Memory, mark_at, in_staging}
+use Rattle.object_cache.proofs.Names.{put_body, present_body, content_at, present_at, frozen_body, frozen_frame, frozen_at, get_or-map, get_or_default}
+use Rattle.object_cache.proofs.Names.{contents_in, frozen_in, StoreState, IsCache, snapshots_of, cache_of, frozen_seen, is_kept}
 use Rattle.std.proofs.Common.{◌≡◌, ◌+◌, ◌-◌, ◌≤◌, ◌<◌, ◌||◌, ◌∷◌, ◌∙◌, OnOk, OnErr}
 use Rattle.std.specs.Prelude.{◌==◌}
 use Rattle.object_cache.proofs.Leading.{IsSeenAs}

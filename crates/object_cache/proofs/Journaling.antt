@@ -1,10 +1,9 @@
 -- A page is journaled: no object changes, and what is saved of the page has the words that it has now.
-use Rattle.object_cache.proofs.Names.{AreFrozen}
-use Rattle.object_cache.proofs.Names.{inl, inr, ℕ, Bool, true, false, List, length, set, length-set, Option, Some, None, option_map, Result, Ok, Err, refl, sym}
-use Rattle.object_cache.proofs.Names.{ap, subst, arith, cases_eq, get_or-set_same, get_or-set_other, none-some, Cap, Frame, ObjectHeader, Content, blank_frame}
-use Rattle.object_cache.proofs.Names.{frame_at, frames_in, header_at, held_at, AreKeepable, is_page, role_of, words_in, object_count, Image, Disk, LeavesOnly}
-use Rattle.object_cache.proofs.Names.{leaves_on, leaves_weaker, Body, Scratch, content_of, frame_of, Put, Absent, Broken, Kept, put_at, put_or, most}
-use Rattle.object_cache.proofs.Names.{SavedFrames, Holds, LeavesEither, LeavesOneOf, journaled_saved, with_words, Snapshots, journaled, on_snapshots}
+use Rattle.object_cache.proofs.Names.{AreFrozen, inl, inr, ℕ, Bool, true, false, List, length, set, length-set, Option, Some, None, option_map, Result, Ok, Err}
+use Rattle.object_cache.proofs.Names.{refl, sym, ap, subst, arith, cases_eq, get_or-set_same, get_or-set_other, none-some, Cap, Frame, ObjectHeader, Content}
+use Rattle.object_cache.proofs.Names.{blank_frame, frame_at, frames_in, header_at, held_at, AreKeepable, is_page, role_of, words_in, object_count, Image, Disk}
+use Rattle.object_cache.proofs.Names.{LeavesOnly, leaves_on, leaves_weaker, Body, Scratch, content_of, frame_of, Put, Absent, Broken, Kept, put_at, put_or}
+use Rattle.object_cache.proofs.Names.{most, SavedFrames, Holds, LeavesEither, LeavesOneOf, journaled_saved, with_words, Snapshots, journaled, on_snapshots}
 use Rattle.object_cache.proofs.Names.{DurableState, FrozenPuts, Stored, below_at, ReadsStore, frozen_put, is_sound, left_of, stored_of, maps_same, frame_in}
 use Rattle.object_cache.proofs.Names.{is_page_role, next_journaled, FrozenFrames, page_is, role_is_page, content_is_page, known_page, next_same, Entry}
 use Rattle.object_cache.proofs.Names.{entry_at, entry_body, held_now, Memory, mark_at, masked, in_staging, put_body, newest_body, below_body, present_body}

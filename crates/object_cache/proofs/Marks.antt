@@ -1,11 +1,11 @@
 -- Numbers are marked that are to be written: no object and no frozen frame is another.
-use Rattle.object_cache.proofs.Names.{inl, inr, ℕ, zero, suc, Bool, true, false, true≢false, List, [], length, set, Option, Some, None, option_map, refl, sym}
-use Rattle.object_cache.proofs.Names.{ap, subst, arith, length-set, slice_index_or, Contains, cases_eq, get_or-set_other, get_or-set_same, Cap, Frame}
-use Rattle.object_cache.proofs.Names.{ObjectHeader, Content, header_at, AreKeepable, touched_count, touching, Disk, most, DurableState, Stored, below_at}
-use Rattle.object_cache.proofs.Names.{stored_of, maps_same, Entry, entry_at, Memory, Shared, mark_at, apart_body, below_body, frozen_body, frozen_frame}
-use Rattle.object_cache.proofs.Names.{frozen_at, frozen_state_of, frozen_state_body, frozen_state_in_memory, contents_in, frozen_in, frozen_states_in}
-use Rattle.object_cache.proofs.Names.{StoreState, IsCache, cache_of, frozen_state_at, is_some, length-map-range_with_len, Image, peeks_started, goes_none}
-use Rattle.object_cache.proofs.Names.{content_at, IsAnnouncedIn, GoesOnIn}
+use Rattle.object_cache.proofs.Names.{put_at, FrozenPuts, Kept, Absent, present_at, inl, inr, ℕ, zero, suc, Bool, true, false, true≢false, List, [], length}
+use Rattle.object_cache.proofs.Names.{set, Option, Some, None, option_map, refl, sym, ap, subst, arith, length-set, slice_index_or, Contains, cases_eq}
+use Rattle.object_cache.proofs.Names.{get_or-set_other, get_or-set_same, Cap, Frame, ObjectHeader, Content, header_at, AreKeepable, touched_count, touching}
+use Rattle.object_cache.proofs.Names.{Disk, most, DurableState, Stored, below_at, stored_of, maps_same, Entry, entry_at, Memory, Shared, mark_at, apart_body}
+use Rattle.object_cache.proofs.Names.{below_body, frozen_body, frozen_frame, frozen_at, frozen_state_of, frozen_state_body, frozen_state_in_memory, contents_in}
+use Rattle.object_cache.proofs.Names.{frozen_in, frozen_states_in, StoreState, IsCache, cache_of, frozen_state_at, is_some, length-map-range_with_len, Image}
+use Rattle.object_cache.proofs.Names.{peeks_started, goes_none, content_at, IsAnnouncedIn, GoesOnIn}
 use Rattle.std.proofs.Common.{◌≡◌, ◌≢◌, ◌⊎◌, ◌<◌, ◌≤◌, ◌∷◌, ◌∙◌}
 use Rattle.object_cache.proofs.Marking.{length-touching, set-marked, still_marked}
 use Rattle.object_cache.proofs.Caching.{frozen_state_entry}
@@ -107,34 +107,23 @@ module _ {s : Stored} {m : Memory} {left count : ℕ} (is : IsCache s m left cou
       go false marked = refl
 
   pub marked_cache : (total : ℕ) → total ≡ touched_count (touching m.touched ns) → total ≤ s.saved.geometry.log → IsCache s (marking ns m) left total
-  marked_cache total counted few = record {
-    headers = is.headers;
-    frozen_headers = is.frozen_headers;
-    marks = length-touching m.touched ns ∙ is.marks;
-    dirty_marks = length-touching m.dirty ns ∙ is.dirty_marks;
-    pending_marks = is.pending_marks;
-    entries = is.entries;
-    frames = is.frames;
-    puts = is.puts;
-    counted = counted;
-    within = few;
-    marked = λ k dirty. elim (marked_or m.dirty ns k) [
-      | inl as_it_was ↦ still_marked m.touched ns k (is.marked k (sym as_it_was ∙ dirty))
-      | inr has ↦ touched_here k has
-    ];
-    clean = λ k clean touched. elim (marked_or m.touched ns k) [
-      | inl as_it_was ↦ is.clean k (unmarked m.dirty k clean) (sym as_it_was ∙ touched)
-      | inr has ↦ absurd (true≢false (sym (dirty_here k has) ∙ clean))
-    ];
-    unput = λ k untouched. is.unput k (unmarked m.touched k untouched);
-    unwritten = λ k below untouched. is.unwritten k below (unmarked m.touched k untouched) ∙ sym (frozen_stays k);
-    idle = is.idle;
-    running = is.running;
-    keepable = λ f running. subst (AreKeepable s.saved.geometry most) (sym marked_frozen) (is.keepable f running);
-    held = is.held;
-    apart = is.apart;
-    freed = is.freed;
-  }
+  marked_cache total counted few =
+      let marked : (k : ℕ) → mark_at (touching m.dirty ns) k ≡ true → mark_at (touching m.touched ns) k ≡ true = λ k dirty. elim (marked_or m.dirty ns k) [
+        | inl as_it_was ↦ still_marked m.touched ns k (is.marked k (sym as_it_was ∙ dirty))
+        | inr has ↦ touched_here k has
+      ] in
+      let clean : (k : ℕ) → mark_at (touching m.dirty ns) k ≡ false → mark_at (touching m.touched ns) k ≡ true →
+      put_at s.working k ≡ Kept (present_at s (marking ns m) k) = λ k clean touched. elim (marked_or m.touched ns k) [
+        | inl as_it_was ↦ is.clean k (unmarked m.dirty k clean) (sym as_it_was ∙ touched)
+        | inr has ↦ absurd (true≢false (sym (dirty_here k has) ∙ clean))
+      ] in
+      let unput : (k : ℕ) → mark_at (touching m.touched ns) k ≡ false → put_at s.working k ≡ Absent =
+      λ k untouched. is.unput k (unmarked m.touched k untouched) in
+      let unwritten : (k : ℕ) → k < length m.headers → mark_at (touching m.touched ns) k ≡ false →
+      present_at s (marking ns m) k ≡ frozen_at s (marking ns m) k = λ k below untouched. is.unwritten k below (unmarked m.touched k untouched) ∙ sym (frozen_stays k) in
+      let keepable : (f : FrozenPuts) → s.frozen ≡ Some f → AreKeepable s.saved.geometry most (frozen_in s (marking ns m)) =
+      λ f running. subst (AreKeepable s.saved.geometry most) (sym marked_frozen) (is.keepable f running) in
+      search (is, length-touching m.touched ns ∙ is.marks, length-touching m.dirty ns ∙ is.dirty_marks)
 
 -- the same by what is seen
 module _ {D : Type 0} (disk : D → Disk) {d : DurableState D} {m : Memory} {left count : ℕ} {order : List ℕ} {most_entries : ℕ} {s : StoreState D}

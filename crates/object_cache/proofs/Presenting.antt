@@ -35,12 +35,8 @@ module _ {D : Type 0} (hs : StoreState D → List ObjectHeader) (cs : StoreState
         subst (λ x. Becomes (parts_of disk) IsFetchedIn IsAnnouncedIn (ContinuesIn all disk) x t
         (record (parts_of disk x) { headers = hs x; contents = cs x })) view
         (subst (λ x. Becomes (parts_of disk) IsFetchedIn IsAnnouncedIn (ContinuesIn all disk) i x
-        (record (parts_of disk i) { headers = hs i; contents = cs i })) (sym is) (record {
-          parts_are = refl;
-          fetched = fetched_after i;
-          announced = announced_after i;
-          continues = continues_after i;
-        }))
+        (record (parts_of disk i) { headers = hs i; contents = cs i })) (sym is)
+        (search (fetched_after, announced_after, continues_after)))
 
 module _ {D : Type 0} (n : ℕ) {i s t : StoreState D} (view : i ≡ s) where
   -- another content

@@ -1,11 +1,12 @@
 -- The present body of an object in an entry is put, or was to be.
-use Rattle.object_cache.proofs.Names.{inl, inr, ℕ, zero, suc, Bool, true, false, true≢false, cond, List, [], length, set, Some, option_map, refl, sym, ap}
-use Rattle.object_cache.proofs.Names.{subst, arith, length-set, cases_eq, get_or-set_same, get_or-set_other, sum_by-cons, none-some, Cap, ObjectHeader, Content}
-use Rattle.object_cache.proofs.Names.{header_at, held_at, IsKeepable, touched_count, Disk, Put, Absent, Broken, Kept, put_at, held_slot, sum_of, HasFreeSlot}
-use Rattle.object_cache.proofs.Names.{most, DurableState, Stored, GoesOn, stored_of, with_working, maps_same, Entry, entry_at, present_of, Memory, mark_at}
-use Rattle.object_cache.proofs.Names.{put_body, present_body, content_at, present_at, newest_body, below_body, contents_in, frozen_in, frozen_states_in}
-use Rattle.object_cache.proofs.Names.{StoreState, IsCache, IsFetchedIn, GoesOnIn, cache_of, is_kept, frozen_seen}
+use Rattle.object_cache.proofs.Names.{frozen_at, None, inl, inr, ℕ, zero, suc, Bool, true, false, true≢false, cond, List, [], length, set, Some, option_map}
+use Rattle.object_cache.proofs.Names.{refl, sym, ap, subst, arith, length-set, cases_eq, get_or-set_same, get_or-set_other, sum_by-cons, none-some, Cap}
+use Rattle.object_cache.proofs.Names.{ObjectHeader, Content, header_at, held_at, IsKeepable, touched_count, Disk, Put, Absent, Broken, Kept, put_at, held_slot}
+use Rattle.object_cache.proofs.Names.{sum_of, HasFreeSlot, most, DurableState, Stored, GoesOn, stored_of, with_working, maps_same, Entry, entry_at, present_of}
+use Rattle.object_cache.proofs.Names.{Memory, mark_at, put_body, present_body, content_at, present_at, newest_body, below_body, contents_in, frozen_in}
+use Rattle.object_cache.proofs.Names.{frozen_states_in, StoreState, IsCache, IsFetchedIn, GoesOnIn, cache_of, is_kept, frozen_seen}
 use Rattle.std.proofs.Common.{◌≡◌, ◌≢◌, ◌⊎◌, ◌<◌, ◌≤◌, ◌∷◌, ◌∙◌}
+use Rattle.model.specs.declared.object.Role.TheVariants as role
 use Rattle.object_cache.proofs.Leading.{IsNext, next_as}
 use Rattle.object_cache.proofs.Marking.{one_fewer}
 use Rattle.object_cache.proofs.Objects.{entry_found, fetched_known, content_in, present_is}
@@ -98,41 +99,29 @@ module _ {s : Stored} {m : Memory} {left count : ℕ} (is : IsCache s m left cou
 
   pub put_cache : IsCache after (with_dirty m ds) left count
   unfolding frozen_in
-  put_cache = record {
-    headers = is.headers;
-    frozen_headers = is.frozen_headers;
-    marks = is.marks;
-    dirty_marks = size ∙ is.dirty_marks;
-    pending_marks = is.pending_marks;
-    entries = is.entries;
-    frames = is.frames;
-    puts = length-set s.working n p ∙ is.puts;
-    counted = is.counted;
-    within = is.within;
-    marked = λ k marked. elim (cases_eq k n) [
-      | inl same ↦ ap (mark_at m.touched) same ∙ is.marked n dirty
-      | inr other ↦ is.marked k (sym (others k other) ∙ marked)
-    ];
-    clean = λ k clean touched. elim (cases_eq k n) [
-      | inl same ↦ elim here [
-        | inl still ↦ absurd (true≢false (sym still ∙ ap (mark_at ds) (sym same) ∙ clean))
-        | inr kept ↦ ap (put_at after.working) same ∙ put_here ∙ kept ∙ ap Kept (ap (present_at s m) (sym same) ∙ sym (present_stays k))
-      ]
-      | inr other ↦ put_elsewhere k other ∙ is.clean k (sym (others k other) ∙ clean) touched ∙ ap Kept (sym (present_stays k))
-    ];
-    unput = λ k untouched.
-        put_elsewhere k (λ same. true≢false (sym (is.marked n dirty) ∙ ap (mark_at m.touched) (sym same) ∙ untouched)) ∙ is.unput k untouched;
-    unwritten = λ k below untouched. present_stays k ∙ is.unwritten k below untouched;
-    idle = is.idle;
-    running = is.running;
-    keepable = is.keepable;
-    held = is.held;
-    apart = is.apart;
-    freed = λ k none pending free. elim (is.freed k none pending free) [
-      | inl put ↦ inl (ap is_kept (put_elsewhere k (λ same. none-some e (sym none ∙ ap (entry_at m.entries) same ∙ at))) ∙ put)
-      | inr was_free ↦ inr was_free
-    ];
-  }
+  put_cache =
+      let marked : (k : ℕ) → mark_at ds k ≡ true → mark_at m.touched k ≡ true = λ k marked. elim (cases_eq k n) [
+        | inl same ↦ ap (mark_at m.touched) same ∙ is.marked n dirty
+        | inr other ↦ is.marked k (sym (others k other) ∙ marked)
+      ] in
+      let clean : (k : ℕ) → mark_at ds k ≡ false → mark_at m.touched k ≡ true → put_at after.working k ≡ Kept (present_at after (with_dirty m ds) k) =
+      λ k clean touched. elim (cases_eq k n) [
+        | inl same ↦ elim here [
+          | inl still ↦ absurd (true≢false (sym still ∙ ap (mark_at ds) (sym same) ∙ clean))
+          | inr kept ↦ ap (put_at after.working) same ∙ put_here ∙ kept ∙ ap Kept (ap (present_at s m) (sym same) ∙ sym (present_stays k))
+        ]
+        | inr other ↦ put_elsewhere k other ∙ is.clean k (sym (others k other) ∙ clean) touched ∙ ap Kept (sym (present_stays k))
+      ] in
+      let unput : (k : ℕ) → mark_at m.touched k ≡ false → put_at after.working k ≡ Absent = λ k untouched.
+      put_elsewhere k (λ same. true≢false (sym (is.marked n dirty) ∙ ap (mark_at m.touched) (sym same) ∙ untouched)) ∙ is.unput k untouched in
+      let unwritten : (k : ℕ) → k < length m.headers → mark_at m.touched k ≡ false →
+      present_at after (with_dirty m ds) k ≡ frozen_at after (with_dirty m ds) k = λ k below untouched. present_stays k ∙ is.unwritten k below untouched in
+      let freed : (k : ℕ) → entry_at m.entries k ≡ None → mark_at m.pending k ≡ true → (header_at m.frozen_headers k).role ≡ role.Free →
+      (is_kept (put_at after.working k) ≡ true) ⊎ ((header_at m.headers k).role ≡ role.Free) = λ k none pending free. elim (is.freed k none pending free) [
+        | inl put ↦ inl (ap is_kept (put_elsewhere k (λ same. none-some e (sym none ∙ ap (entry_at m.entries) same ∙ at))) ∙ put)
+        | inr was_free ↦ inr was_free
+      ] in
+      search (is, size ∙ is.dirty_marks, length-set s.working n p ∙ is.puts)
 
 -- ---- the same by what is seen
 

@@ -12,7 +12,8 @@ returns-in_err-close_gate-clause-any_moment g c =
 
 pub returns-clause-any_moment : goal.returns-clause-any_moment
 returns-clause-any_moment g c =
-    second_run c.args.slot {old = g.D.Device.disk c.args.device.now} {mid = g.D.Device.disk c.close_gate.new.device} {new = g.D.Device.disk c.close_gate-2.new.device}
+    second_run c.args.slot {old = g.D.Device.disk c.args.device.now} {mid = g.D.Device.disk c.close_gate.new.device}
+    {new = g.D.Device.disk c.close_gate-2.new.device}
     c.gate.ensures.value (c.gate-2.ensures.value ∙ ap gate_at c.other.ensures) c.requires.lesser c.close_gate.ensures.elsewhere
     (ap is_open c.in_ok-close_gate.ensures.closed ∙ shut ((g.D.Device.disk c.args.device.now).seen c.gate.result))
     (first_run c.args.slot {old = g.D.Device.disk c.args.device.now} {new = g.D.Device.disk c.close_gate.new.device}

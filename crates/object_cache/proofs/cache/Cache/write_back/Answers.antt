@@ -4,12 +4,4 @@ use Rattle.object_cache.proofs.cache.Cache.write_back.Goals as goal
 pub returns-then-contains : goal.returns-then-contains
 returns-then-contains g c =
     let written = written_back c.put_present.result c.args.self.now c.put_present.new.self c.args.number c.put_present.ensures.put c.put_present.ensures.unput
-    in
-    record {
-      clean = written.0;
-      frozen_state = written.1;
-      put = written.2;
-      staging = written.3;
-      continues = c.put_present.ensures.continues;
-      cause = c.put_present.ensures.cause;
-    }
+    in search

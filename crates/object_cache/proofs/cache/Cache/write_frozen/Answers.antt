@@ -4,11 +4,4 @@ use Rattle.object_cache.proofs.cache.Cache.write_frozen.Goals as goal
 pub returns-then-has_frozen_body : goal.returns-then-has_frozen_body
 returns-then-has_frozen_body g c =
     let written = frozen_written c.put_own_frozen.result c.args.self.now c.put_own_frozen.new.self c.args.number c.put_own_frozen.ensures.put
-    c.put_own_frozen.ensures.unput in
-    record {
-      frozen_written = written.0;
-      put = written.1;
-      empty = written.2;
-      continues = c.put_own_frozen.ensures.continues;
-      cause = c.put_own_frozen.ensures.cause;
-    }
+    c.put_own_frozen.ensures.unput in search
