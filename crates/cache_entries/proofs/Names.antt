@@ -30,7 +30,7 @@ pub use Rattle.cache_entries.specs.Bodies.{AreBodies, HasRoom, content_at, conte
 pub use Rattle.cache_entries.specs.Bodies.{with_slots_of, with_words_of, words_are_of}
 unfoldable pub use Rattle.cache_entries.specs.Bodies.{contents_in}
 pub use Rattle.cache_entries.specs.Entries.{Entry, changing, entry_at}
-pub use Rattle.cache_entries.specs.Order.{AllDiffer, AreLatest, AreOrdered, ArePlaced, AreSpread, AreStored, EntriesState, OrderState, Uses, entries_of}
-pub use Rattle.cache_entries.specs.Order.{entry_in, order_of, place_at, place_below, used_in_turn, used_last, used_longest_ago, with_entry_of, with_new}
-pub use Rattle.cache_entries.specs.Order.{without, without_entry}
+pub use Rattle.cache_entries.specs.Order.{AllDiffer, AreLatest, AreOrdered, ArePlaced, AreReordered, AreSpread, AreStored, EntriesState, OrderState, Uses}
+pub use Rattle.cache_entries.specs.Order.{entries_of, entry_in, order_of, place_at, place_below, used_in_turn, used_last, used_longest_ago, with_entry_of}
+pub use Rattle.cache_entries.specs.Order.{with_new, without, without_entry}
 pub use Rattle.cache_entries.specs.declared.bodies.Kind.{Kind}

@@ -1,7 +1,7 @@
 -- Numbers in the order of their last use, and pairs of a cache with them as its keys.
 use Rattle.cache_entries.proofs.Names.{inl, inr, ℕ, nat_eq, Bool, true, false, cond, true≢false, List, [], length, take, Option, Some, None, is_some, refl, sym}
 use Rattle.cache_entries.proofs.Names.{ap, arith, keys_of, lookup_entry, remove_entry, option_map_or, eqb-true, eq-eqb, ne_eqb, cases_eq, take_all, LruCache}
-use Rattle.cache_entries.proofs.Names.{promoted, demoted, put_entries, Contains-lookup_entry, is_member, AllDiffer, without}
+use Rattle.cache_entries.proofs.Names.{promoted, demoted, put_entries, Contains-lookup_entry, is_member, AllDiffer, AreReordered, without}
 use Rattle.std.proofs.Common.{◌≡◌, ◌≢◌, ◌+◌, ◌-◌, ◌<◌, ◌||◌, ◌∷◌, ◌++◌, ◌∙◌}
 
 -- ---- the keys of pairs
@@ -33,6 +33,14 @@ module _ (n : ℕ) where
       go (Some e) at some =
           ap (λ (m : ℕ). m ∷ keys_of (remove_entry (nat_eq n) es)) (sym (eqb-true n e.0 (Contains-lookup_entry (nat_eq n) es e at).1))
           ∙ ap (λ (ns : List ℕ). n ∷ ns) (without_keys es)
+
+  pub unused_keys : (es : List (ℕ × Unit {0})) → is_member (keys_of es) n ≡ false → keys_of (promoted (nat_eq n) es) ≡ keys_of es
+  unused_keys es none = go (lookup_entry (nat_eq n) es) (member_entries es ∙ none)
+    where
+      go : (o : Option (ℕ × Unit {0})) → is_some o ≡ false → keys_of (option_map_or (λ (e : ℕ × Unit {0}). e ∷ remove_entry (nat_eq n) es) o es) ≡
+          keys_of es
+      go None is = refl
+      go (Some e) is = absurd (true≢false is)
 
   pub demoted_keys : (es : List (ℕ × Unit {0})) → is_member (keys_of es) n ≡ true → keys_of (demoted (nat_eq n) es) ≡ without n (keys_of es) ++ n ∷ []
   demoted_keys es is = go (lookup_entry (nat_eq n) es) refl (member_entries es ∙ is)
@@ -128,3 +136,23 @@ filled_more keys k is = record {
     | inr other ↦ omega (arith, is.known p (sym (member_tail p k keys (λ same. other (sym same))) ∙ here))
   ];
 }
+
+-- ---- the same keys in another order
+
+pub reordered_none : (keys : List ℕ) → AreReordered keys keys
+reordered_none keys = record { all = refl; once = λ once. once; members = λ p. refl }
+
+pub reordered_used : (n : ℕ) (keys : List ℕ) (es : List (ℕ × Unit {0})) → AreReordered keys (keys_of es) →
+    AreReordered keys (keys_of (promoted (nat_eq n) es))
+reordered_used n keys es are = go (is_member (keys_of es) n) refl
+  where
+    go : (t : Bool) → is_member (keys_of es) n ≡ t → AreReordered keys (keys_of (promoted (nat_eq n) es))
+    go true here = rw (used_keys n es here) (record {
+      all = omega (arith, length_without n (keys_of es) here, are.all);
+      once = λ once. (gone n (keys_of es) (are.once once), differ_without n (keys_of es) (are.once once));
+      members = λ p. elim (cases_eq p n) [
+        | inl same ↦ member_head p n (without n (keys_of es)) same ∙ sym (sym (are.members p) ∙ ap (is_member (keys_of es)) same ∙ here)
+        | inr other ↦ member_tail p n (without n (keys_of es)) (λ same. other (sym same)) ∙ still n (keys_of es) p other ∙ are.members p
+      ];
+    })
+    go false none = rw (unused_keys n es none) are

@@ -18,6 +18,12 @@ abbrev pub without : ℕ → List ℕ → List ℕ
 without n [] = []
 without n (m ∷ ms) = if n == m then ms else m ∷ without n ms
 
+-- the same numbers in another order
+pub record AreReordered (ns ms : List ℕ) : Type 0 where
+  pub all : length ms ≡ length ns
+  pub once : AllDiffer ns → AllDiffer ms
+  pub members : (n : ℕ) → is_member ms n ≡ is_member ns n
+
 -- the number used longest ago
 abbrev pub used_longest_ago : List ℕ → Option ℕ
 used_longest_ago ns = slice_get ns (length ns - 1)

@@ -20,8 +20,8 @@ use std::alloc::{AllocError, Global};
 use std::marker::Model;
 use std::num::NonZeroUsize;
 
-/// Entries by number, no more than a capacity, in the order of their last use. Only `new` takes
-/// memory.
+/// Entries by number, no more than a capacity, in the order of their last use. Only `new` and `renew`
+/// take memory.
 #[derive(Drop)]
 pub struct Entries {
     order: UseOrder,
@@ -66,6 +66,46 @@ impl Entries {
             }
             None => unreachable!(),
         }
+    }
+
+    /// The same as `new`, in the memory of `spare` if that is for as many entries and numbers. Takes
+    /// `spare`. Fails only if memory runs out.
+    pub fn renew(
+        alloc: Global,
+        spare: &mut Option<Entries>,
+        capacity: Capacity,
+        count: usize,
+    ) -> Result<Entries, AllocError>
+        ensures none { IfOk result (λ entries. entries
+            ≡ record { at = replicate count None; order = []; most = capacity }) }
+        ensures least { 8 ≤ capacity }
+    {
+        if let Some(mut entries) = spare.take() {
+            if entries.fits(capacity, count) {
+                entries.clear();
+                return Ok(entries);
+            }
+        }
+        Entries::new(alloc, capacity, count)
+    }
+
+    /// Whether it is for `capacity` entries of the numbers below `count`.
+    pub fn fits(&self, capacity: Capacity, count: usize) -> bool
+        ensures most { result ≡ true → self.now.most ≡ capacity }
+        ensures count { result ≡ true → length self.now.at ≡ count }
+    {
+        self.order.fits(capacity.count() as usize, count)
+    }
+
+    // Removes all entries.
+    fn clear(&mut self)
+        ensures { self.new ≡ record {
+          at = replicate (length self.old.at) None;
+          order = [];
+          most = self.old.most;
+        } }
+    {
+        self.order.clear();
     }
 
     /// How many entries there are.
@@ -151,6 +191,15 @@ impl Entries {
     {
         let place = self.order.place(number);
         self.presents.change_root(place, change);
+    }
+
+    /// Replaces the present body of an entry by a copy of `content`.
+    pub fn put(&mut self, number: u64, content: ContentRef<'_>)
+        requires { IsSome (entry_at self.old.at number) }
+        ensures { self.new ≡ with_entry_of (changing (λ c. content_behind content.entry)) number self.old }
+    {
+        let at = self.order.place(number);
+        self.presents.put(at, content);
     }
 
     /// Replaces the present body of an entry by a new object's.

@@ -4,7 +4,8 @@ ghost use Rattle.std.specs.Prelude.{replicate, slice_set, IfOk, IsSome};
 ghost use Rattle.std.specs.Map.{keys_of};
 ghost use Rattle.std.specs.NonZero.{non_zero_usize_get};
 ghost use Rattle.model.specs.Revoke.{is_member};
-ghost use Rattle.cache_entries.specs.Order.{AllDiffer, AreSpread, place_at, used_last, used_longest_ago, without};
+ghost use Rattle.cache_entries.specs.Order.{AllDiffer, AreReordered, AreSpread, place_at, used_last};
+ghost use Rattle.cache_entries.specs.Order.{used_longest_ago, without};
 
 use crate::number_hasher::NumberHasher;
 use lru::LruCache;
@@ -58,6 +59,15 @@ fn all_places(alloc: Global, most: NonZeroUsize) -> Result<UseList, AllocError>
     Ok(order)
 }
 
+// Puts all places below `most` back into their first order: place 0 is the one used longest ago.
+fn restore_order(order: &mut UseList, most: usize)
+    ensures { AreReordered (keys_of order.old.entries) (keys_of order.new.entries) }
+{
+    for place in 0..most {
+        order.promote(&place);
+    }
+}
+
 // The place used longest ago.
 fn last_place(order: &UseList) -> usize
     requires { 0 < length (keys_of order.now.entries) }
@@ -86,6 +96,28 @@ impl Places {
             places,
             count: 0,
         })
+    }
+
+    /// Whether there are `most` places, for the numbers below `count`.
+    pub(crate) fn fits(&self, most: usize, count: usize) -> bool
+        ensures most { result ≡ true → self.now.most ≡ most }
+        ensures count { result ≡ true → length self.now.places ≡ count }
+    {
+        self.numbers.len() == most && self.places.len() == count
+    }
+
+    /// Frees all places. The places are then in their first order.
+    pub(crate) fn clear(&mut self)
+        ensures { self.new ≡ record {
+          numbers = [];
+          places = replicate (length self.old.places) None;
+          most = self.old.most;
+        } }
+    {
+        let most = self.numbers.len();
+        restore_order(&mut self.order, most);
+        self.places.fill(most);
+        self.count = 0;
     }
 
     /// How many numbers have a place.

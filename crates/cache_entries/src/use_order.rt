@@ -181,6 +181,26 @@ impl UseOrder {
         Ok(UseOrder { order, latest })
     }
 
+    /// Whether it is for at most `most` of the numbers below `count`.
+    pub(crate) fn fits(&self, most: usize, count: usize) -> bool
+        ensures most { result ≡ true → self.now.most ≡ most }
+        ensures count { result ≡ true → length self.now.places ≡ count }
+    {
+        self.order.fits(most, count)
+    }
+
+    /// Removes all numbers.
+    pub(crate) fn clear(&mut self)
+        ensures { self.new ≡ record {
+          numbers = [];
+          places = replicate (length self.old.places) None;
+          most = self.old.most;
+        } }
+    {
+        self.latest.clear();
+        self.order.clear();
+    }
+
     /// How many numbers there are.
     pub(crate) fn len(&self) -> usize
         ensures count { result ≡ length self.now.numbers }

@@ -119,7 +119,7 @@ fn explain_sectors<D: Device>(
 pub fn explain<D: Device>(alloc: Global, device: D) -> (Result<Option<ImageFault>, OpenFault>, D)
     ensures { Explains D.disk device result.1 result.0 }
 {
-    match PlainStore::<D>::open(alloc, device, ()) {
+    match PlainStore::<D>::open(alloc, device, (), &mut None) {
         Ok(store) => explain_objects(alloc, store),
         Err(refused) => match refused.fault {
             OpenFault::Bad(_) => explain_sectors(alloc, refused.device),

@@ -8,7 +8,7 @@ use crate::fault::{Fault, status};
 use checkpoint::Checkpoint;
 use device::Device;
 use kernel::Kernel;
-use object_cache::PlainStore;
+use object_cache::{BoundedCache, Capacity};
 use script::LineText;
 use std::alloc::Global;
 use std::io::Write;
@@ -24,7 +24,17 @@ fn checked_line(saved: Checkpoint) -> LineText
     line
 }
 
-// Opens a device, reports what checkpoint it holds, and gives it back.
+// The least capacity: the check fetches one object at a time.
+fn least_capacity() -> Capacity
+    ensures { result ≡ 8 }
+{
+    match Capacity::new(8) {
+        Some(capacity) => capacity,
+        None => unreachable!(),
+    }
+}
+
+// Opens a device, reports what checkpoint it holds, and gives it back. Keeps few bodies in memory.
 fn open_and_tell<D: Device, W: Write>(
     alloc: Global,
     device: D,
@@ -32,7 +42,7 @@ fn open_and_tell<D: Device, W: Write>(
 ) -> (Result<(), Fault>, D)
     ensures { ChecksImage D.disk device result.1 (W.contents writer.old) (W.contents writer.new) result.0 }
 {
-    let kernel = match Kernel::<D, PlainStore<D>>::open(alloc, device, ()) {
+    let kernel = match Kernel::<D, BoundedCache<D>>::open(alloc, device, least_capacity()) {
         Ok(kernel) => kernel,
         Err(refused) => return (Err(Fault::Open(refused.fault)), refused.device),
     };

@@ -20,7 +20,7 @@ use checkpoint::{Checkpoint, OpenFault, OpenRefused};
 use device::{Device, Failed};
 use model::{Answer, Command, Invocation, Refusal};
 use object_store::ObjectStore;
-use recovery::{Live, recover};
+use recovery::{Live, recover, recover_in};
 use std::alloc::Global;
 use std::marker::Model;
 
@@ -34,6 +34,8 @@ pub struct Kernel<D: Device, S: ObjectStore<D>> {
     live: Option<Live<S>>,
     // The device of a machine that is down.
     device: Option<D>,
+    // Memory that a closed store left for the next.
+    memory: Option<S::Memory>,
     setting: S::Setting,
 }
 
@@ -48,18 +50,19 @@ impl<D: Device, S: ObjectStore<D>> Model for Kernel<D, S> {
     ghost invariant = { λ k. IsSomeMachine D.disk S.view S.parts (power_of k.live k.device) };
 }
 
-// Takes the device out of the fields of a kernel.
+// Takes the device out of the fields of a kernel, which keeps the memory of its store.
 #[inline(never)]
 fn take_device<D: Device, S: ObjectStore<D>>(
     live: &mut Option<Live<S>>,
     device: &mut Option<D>,
+    memory: &mut Option<S::Memory>,
 ) -> D
     requires { HasDevice D.disk S.view S.parts (power_of live.old device.old) }
     ensures is { IsDeviceOf D.disk S.view S.parts (power_of live.old device.old) result }
     ensures down { live.new ≡ None }
 {
     match live.take() {
-        Some(live) => live.store.into_device(),
+        Some(live) => live.store.close(memory),
         None => match device.take() {
             Some(device) => device,
             None => unreachable!(),
@@ -85,6 +88,7 @@ fn rise<D: Device, S: ObjectStore<D>>(
     alloc: Global,
     opened: D,
     setting: S::Setting,
+    memory: &mut Option<S::Memory>,
     live: &mut Option<Live<S>>,
     device: &mut Option<D>,
 ) -> Answer
@@ -96,7 +100,7 @@ fn rise<D: Device, S: ObjectStore<D>>(
     ensures cause { IsCaused (D.disk opened)
         (disk_of D.disk S.view S.parts (power_of live.new device.new)) result }
 {
-    match recover::<D, S>(alloc, opened, setting) {
+    match recover_in::<D, S>(alloc, opened, setting, memory) {
         Ok(found) => {
             let saved = found.store.saved();
             *live = Some(found);
@@ -131,6 +135,7 @@ impl<D: Device, S: ObjectStore<D>> Kernel<D, S> {
             Ok(live) => Ok(Kernel {
                 live: Some(live),
                 device: None,
+                memory: None,
                 setting,
             }),
             Err(refused) => Err(refused),
@@ -153,7 +158,11 @@ impl<D: Device, S: ObjectStore<D>> Kernel<D, S> {
             Some(live) => match serve::<D, S>(alloc, live, command) {
                 Ok(answer) => answer,
                 Err(Failed) => {
-                    let device = take_device::<D, S>(&mut self.live, &mut self.device);
+                    let device = take_device::<D, S>(
+                        &mut self.live,
+                        &mut self.device,
+                        &mut self.memory,
+                    );
                     self.device = Some(device);
                     Answer::Refused(Refusal::Fault)
                 }
@@ -179,7 +188,11 @@ impl<D: Device, S: ObjectStore<D>> Kernel<D, S> {
                 },
                 Err(why) => match refusal_by(why) {
                     Refusal::Fault => {
-                        let device = take_device::<D, S>(&mut self.live, &mut self.device);
+                        let device = take_device::<D, S>(
+                            &mut self.live,
+                            &mut self.device,
+                            &mut self.memory,
+                        );
                         self.device = Some(device);
                         Served::from(Answer::Refused(Refusal::Fault))
                     }
@@ -198,11 +211,12 @@ impl<D: Device, S: ObjectStore<D>> Kernel<D, S> {
         ensures cause { IsCaused (disk_of D.disk S.view S.parts self.old)
             (disk_of D.disk S.view S.parts self.new) result }
     {
-        let device = take_device::<D, S>(&mut self.live, &mut self.device);
+        let device = take_device::<D, S>(&mut self.live, &mut self.device, &mut self.memory);
         rise::<D, S>(
             alloc,
             device,
             self.setting,
+            &mut self.memory,
             &mut self.live,
             &mut self.device,
         )
@@ -216,12 +230,13 @@ impl<D: Device, S: ObjectStore<D>> Kernel<D, S> {
         ensures cause { IsCaused (disk_of D.disk S.view S.parts self.old)
             (disk_of D.disk S.view S.parts self.new) result }
     {
-        let mut device = take_device::<D, S>(&mut self.live, &mut self.device);
+        let mut device = take_device::<D, S>(&mut self.live, &mut self.device, &mut self.memory);
         device.power_cut();
         rise::<D, S>(
             alloc,
             device,
             self.setting,
+            &mut self.memory,
             &mut self.live,
             &mut self.device,
         )

@@ -9,14 +9,18 @@ use std::alloc::{AllocError, Global};
 
 /// Takes the saved frames of an image while they are read, in the order of their numbers.
 pub trait Intake: Drop + Sized {
+    /// Memory that a new intake may use.
+    type Memory: Drop;
+
     /// These frames were taken.
     ghost Took: { Self → List Frame → Type 0 };
 
     /// How many frames there is memory for.
     ghost room: { Self → ℕ };
 
-    /// An intake that took no frame, with memory for all. Fails only where memory runs out.
-    fn new(alloc: Global, geometry: Geometry) -> Result<Self, AllocError>
+    /// An intake that took no frame, with memory for all. It may take some from `memory`. Fails only where memory runs
+    /// out.
+    fn new(alloc: Global, geometry: Geometry, memory: &mut Self::Memory) -> Result<Self, AllocError>
         requires few { geometry.nodes + geometry.pages ≤ 8192 }
         ensures none { IfOk result (λ taken. Took taken []) }
         ensures room { IfOk result (λ taken. geometry.nodes + geometry.pages ≤ room taken) };
@@ -40,11 +44,13 @@ impl Intake for Vec<ObjectHeader> {
     ghost use Rattle.std.specs.Prelude.{◌≡◌, vec_capacity};
     ghost use Rattle.model.specs.Frame.{headers};
 
+    type Memory = ();
+
     ghost Took = { λ taken fs. taken.items ≡ headers fs };
 
     ghost room = { λ taken. vec_capacity taken };
 
-    fn new(alloc: Global, geometry: Geometry) -> Result<Self, AllocError> {
+    fn new(alloc: Global, geometry: Geometry, _memory: &mut ()) -> Result<Self, AllocError> {
         Vec::with_capacity(alloc, (geometry.nodes + geometry.pages) as usize)
     }
 

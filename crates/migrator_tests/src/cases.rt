@@ -236,7 +236,7 @@ fn what_is_committed_is_there_after_a_cut(rt: HostRuntime) -> Result<(), Fail> {
 
 // How many headers come out, and whether each is that of its object.
 fn headers_of<D: Device>(alloc: Global, device: D) -> Result<(usize, bool), Fail> {
-    let opened = Durable::open::<Vec<ObjectHeader>>(alloc, device)
+    let opened = Durable::open::<Vec<ObjectHeader>>(alloc, device, &mut ())
         .ok()
         .ok_or("it opens")?;
     let mut are_right = true;

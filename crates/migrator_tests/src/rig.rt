@@ -48,7 +48,7 @@ impl<D: Device> Rig<D> {
                 device,
             });
         };
-        let Opened { store, .. } = Durable::open::<Vec<ObjectHeader>>(alloc, device)?;
+        let Opened { store, .. } = Durable::open::<Vec<ObjectHeader>>(alloc, device, &mut ())?;
         Ok(Rig {
             store,
             scratch,

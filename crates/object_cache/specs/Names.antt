@@ -1,6 +1,6 @@
 -- The names of other crates that the definitions here cite.
-pub use Rattle.cache_entries.specs.Entries.{Entry, entry_at, new_entry}
-pub use Rattle.cache_entries.specs.Order.{AllDiffer, EntriesState, used_in_turn, without}
+pub use Rattle.cache_entries.specs.Entries.{Entry, changing, entry_at, new_entry}
+pub use Rattle.cache_entries.specs.Order.{AllDiffer, EntriesState, used_in_turn, with_entry_of, without}
 pub use Rattle.capability.specs.Parts.{HaveTheirRoles, Parts, frames_of}
 pub use Rattle.checkpoint.specs.Saved.{Holds, most}
 pub use Rattle.checkpoint.specs.Snapshots.{Snapshots}

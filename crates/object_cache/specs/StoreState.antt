@@ -6,7 +6,7 @@ use Rattle.object_cache.specs.Names.{touched_count, untouched, is_member, object
 use Rattle.object_cache.specs.Names.{Broken, Kept, put_at, most, DurableState, FrozenPuts, Stored, GoesOn, saved_state}
 use Rattle.object_cache.specs.Names.{seen_of, stored_of, is_sound, SavedState, Parts, HaveTheirRoles, Snapshots}
 use Rattle.object_cache.specs.Names.{FrozenFrames, View, stabilized, Entry, EntriesState, entry_at, new_entry}
-use Rattle.object_cache.specs.Names.{AllDiffer, without, nat_le, IsKeepable, HasFreeSlot, held_at, frames_of}
+use Rattle.object_cache.specs.Names.{AllDiffer, changing, with_entry_of, without, nat_le, IsKeepable, HasFreeSlot, held_at, frames_of}
 use Rattle.std.specs.Prelude.{◌≡◌, ◌⊎◌, ◌<◌, ◌∷◌, ◌||◌, ◌≤◌, if◌then◌else◌}
 use Rattle.model.specs.declared.object.Role.TheVariants as role
 use Rattle.object_cache.specs.declared.all_objects.AllObjects.{AllObjects}
@@ -205,26 +205,35 @@ AreAll e = (n : ℕ) → n < length e.at → IsSome (entry_at e.at n)
 abbrev pub all_of : ℕ → ℕ
 all_of count = if nat_le 8 count then count else 8
 
+-- the present body of a number is another one
+abbrev pub with_body : ℕ → Content Cap → EntriesState → EntriesState
+with_body n c e = with_entry_of (changing (λ (x : Content Cap). c)) n e
+
 -- what was taken of the saved objects: their headers, and entries with their bodies if all are kept
 pub record TakenState : Type 0 where
   pub headers : List ObjectHeader
   pub entries : Option EntriesState
   pub count : ℕ
 
--- there may be `count` entries, and the numbers below `taken` have one
+-- an entry without a frozen copy
+abbrev pub IsUnkept : Option Entry → Type 0
+IsUnkept o = (c : Content Cap) × (o ≡ Some (new_entry c))
+
+-- there are `count` entries, and those of the numbers from `taken` on have no frozen copy
 pub record HaveRoom (e : EntriesState) (taken count : ℕ) : Type 0 where
   pub each : length e.at ≡ count
-  pub used : length e.order ≡ taken
   pub most : e.most ≡ all_of count
   pub least : 8 ≤ e.most
-  pub whole : count ≤ e.most
-  pub later : (n : ℕ) → taken ≤ n → entry_at e.at n ≡ None
+  pub later : (n : ℕ) → taken ≤ n → n < count → IsUnkept (entry_at e.at n)
 
--- a number may get an entry
-pub record HaveSpace (e : EntriesState) (n : ℕ) : Type 0 where
-  pub known : n < length e.at
-  pub absent : entry_at e.at n ≡ None
-  pub room : length e.order < e.most
+-- of `count` numbers only those below `k` have an entry, without a frozen copy
+pub record AreInserted (e : EntriesState) (k count : ℕ) : Type 0 where
+  pub each : length e.at ≡ count
+  pub used : length e.order ≡ k
+  pub most : e.most ≡ all_of count
+  pub whole : count ≤ e.most
+  pub earlier : (n : ℕ) → n < k → IsUnkept (entry_at e.at n)
+  pub later : (n : ℕ) → k ≤ n → entry_at e.at n ≡ None
 
 -- these frames were taken
 pub record AreTaken (s : TakenState) (fs : List Frame) : Type 0 where

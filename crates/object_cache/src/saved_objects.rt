@@ -1,15 +1,17 @@
 // The saved objects, read when a device is opened.
-ghost use Rattle.std.specs.Prelude.{◌≡◌, ◌≤◌, List, Some, is_some, length, option_map, true, IfOk};
-ghost use Rattle.cache_entries.specs.Order.{EntriesState, with_new};
+ghost use Rattle.std.specs.Prelude.{◌≡◌, ◌<◌, ◌≤◌, List, Some, is_some, length, option_map, true, ℕ, IfOk, IsSome};
+ghost use Rattle.cache_entries.specs.Entries.{entry_at};
+ghost use Rattle.cache_entries.specs.Order.{EntriesState};
 ghost use Rattle.layout.specs.Frame.{content_of};
 ghost use Rattle.model.specs.declared.frame.Frame.{Frame};
-ghost use Rattle.object_cache.specs.StoreState.{AreAll, AreTaken, HaveRoom, HaveSpace, HoldBodies};
+ghost use Rattle.object_cache.specs.StoreState.{AreAll, AreInserted, AreTaken, HaveRoom, HoldBodies, IsUnkept};
+ghost use Rattle.object_cache.specs.StoreState.{with_body};
 
 use crate::policy::{Policy, capacity_for_all};
 use cache_entries::Entries;
 use layout::{Body, Scratch};
 use migrator::Intake;
-use model::{Geometry, ObjectHeader};
+use model::{ContentRef, Geometry, ObjectHeader};
 use std::alloc::{AllocError, Global};
 use std::marker::{Model, PhantomData};
 
@@ -36,40 +38,97 @@ impl<P: Policy> Model for SavedObjects<P> {
         × ((e : EntriesState) → s.entries ≡ Some e → HaveRoom e (length s.headers.items) s.count) };
 }
 
-// Entries with memory for every body, if the policy keeps every body. Fails only if memory runs out.
-fn blank_entries<P: Policy>(alloc: Global, count: usize) -> Result<Option<Entries>, AllocError>
+// Adds an entry with a free body for each number.
+fn insert_all(entries: &mut Entries, count: usize)
+    requires { AreInserted entries.old 0 count }
+    ensures { AreInserted entries.new count count }
+{
+    for number in 0..count {
+        entries.insert(number as u64, ContentRef::Free);
+    }
+}
+
+// Drops the frozen copies up to the first number that has no entry. Returns whether each number has one.
+fn drop_all_kept(entries: &mut Entries, count: usize) -> bool
+    requires { length entries.old.at ≡ count }
+    ensures each { length entries.new.at ≡ count }
+    ensures most { entries.new.most ≡ entries.old.most }
+    ensures unkept { result ≡ true → (n : ℕ) → n < count → IsUnkept (entry_at entries.new.at n) }
+{
+    for number in 0..count {
+        if !entries.holds(number as u64) {
+            return false;
+        }
+        entries.drop_kept(number as u64);
+    }
+    true
+}
+
+// An entry for each number, without a frozen copy: those in `memory` if they are as many. Fails only if memory runs
+// out.
+fn all_entries(
+    alloc: Global,
+    count: usize,
+    memory: &mut Option<Entries>,
+) -> Result<Entries, AllocError>
+    requires few { count ≤ 8192 }
+    ensures { IfOk result (λ entries. HaveRoom entries 0 count) }
+{
+    let capacity = capacity_for_all(count);
+    if let Some(mut entries) = memory.take() {
+        if entries.fits(capacity, count) && drop_all_kept(&mut entries, count) {
+            return Ok(entries);
+        }
+    }
+    let mut entries = Entries::new(alloc, capacity, count)?;
+    insert_all(&mut entries, count);
+    Ok(entries)
+}
+
+// An entry for each number, if the policy keeps every body. Fails only if memory runs out.
+fn first_entries<P: Policy>(
+    alloc: Global,
+    count: usize,
+    memory: &mut Option<Entries>,
+) -> Result<Option<Entries>, AllocError>
     requires few { count ≤ 8192 }
     ensures some { IfOk result (λ entries. is_some entries ≡ P.KEEPS_ALL) }
-    ensures blank { IfOk result (λ entries. (e : EntriesState) → entries ≡ Some e → HaveRoom e 0 count) }
+    ensures room { IfOk result (λ entries. (e : EntriesState) → entries ≡ Some e → HaveRoom e 0 count) }
 {
     if !P::KEEPS_ALL {
         return Ok(None);
     }
-    let entries = Entries::new(alloc, capacity_for_all(count), count)?;
+    let entries = all_entries(alloc, count, memory)?;
     Ok(Some(entries))
 }
 
-// Adds an entry with a body that was read, if there are entries.
+// Puts a body that was read into its entry, if there are entries.
 fn keep_body(entries: &mut Option<Entries>, number: u64, body: &Body, scratch: &Scratch)
-    requires { (e : EntriesState) → entries.old ≡ Some e → HaveSpace e number }
+    requires { (e : EntriesState) → entries.old ≡ Some e → IsSome (entry_at e.at number) }
     ensures { entries.new ≡ option_map
-        (with_new number (content_of body.now scratch.now.slots scratch.now.words)) entries.old }
+        (with_body number (content_of body.now scratch.now.slots scratch.now.words)) entries.old }
 {
     if let Some(entries) = entries {
-        entries.insert(number, body.content(scratch));
+        entries.put(number, body.content(scratch));
     }
 }
 
 impl<P: Policy> Intake for SavedObjects<P> {
     ghost use Rattle.object_cache.specs.StoreState.{AreTaken};
 
+    type Memory = Option<Entries>;
+
     ghost Took = { AreTaken };
 
     ghost room = { λ s. s.count };
 
-    fn new(alloc: Global, geometry: Geometry) -> Result<Self, AllocError> {
+    fn new(
+        alloc: Global,
+        geometry: Geometry,
+        memory: &mut Option<Entries>,
+    ) -> Result<Self, AllocError> {
         let count = (geometry.nodes + geometry.pages) as usize;
-        let entries = blank_entries::<P>(alloc, count)?;
+        let entries = first_entries::<P>(alloc, count, memory)?;
         Ok(SavedObjects {
             headers: Vec::with_capacity(alloc, count)?,
             entries,
@@ -92,12 +151,13 @@ impl<P: Policy> Intake for SavedObjects<P> {
 }
 
 impl<P: Policy> SavedObjects<P> {
-    /// The headers, and the entries: if the policy doesn't keep every body, they are made here, and hold none. Fails if
-    /// memory runs out, or if fewer frames were taken than there are numbers.
+    /// The headers, and the entries: if the policy doesn't keep every body, they are made here, if possible in
+    /// `memory`, and hold none. Fails if memory runs out, or if fewer frames were taken than there are numbers.
     pub(crate) fn into_parts(
         self,
         alloc: Global,
         setting: P::Setting,
+        memory: &mut Option<Entries>,
     ) -> Result<(Vec<ObjectHeader>, Entries), AllocError>
         requires few { length self.headers ≤ 8192 }
         ensures headers { IfOk result (λ parts. parts.0.items ≡ self.headers) }
@@ -121,7 +181,7 @@ impl<P: Policy> SavedObjects<P> {
             }
             None => {
                 let capacity = P::capacity(setting, headers.len());
-                let entries = Entries::new(alloc, capacity, headers.len())?;
+                let entries = Entries::renew(alloc, memory, capacity, headers.len())?;
                 Ok((headers, entries))
             }
         }

@@ -7,6 +7,7 @@ use crate::all_objects::AllObjects;
 use crate::cache::Cache;
 use crate::policy::{KeepAll, KeepRecent, Policy};
 use crate::saved_objects::SavedObjects;
+use cache_entries::Entries;
 use device::Device;
 use layout::Superblock;
 use migrator::Durable;
@@ -46,6 +47,7 @@ fn cache_over<D: Device, P: Policy>(
     durable: Durable<D>,
     saved: SavedObjects<P>,
     setting: P::Setting,
+    memory: &mut Option<Entries>,
 ) -> Result<Cache<D>, D>
     requires opened { IsJustOpened (stored_of D.disk durable) saved.headers }
     requires took { AreTaken saved (stored_of D.disk durable).saved.frames }
@@ -54,7 +56,7 @@ fn cache_over<D: Device, P: Policy>(
         (P.most_for setting (length saved.headers)) cache) }
     ensures back { IfErr result (λ device. device ≡ durable.beneath) }
 {
-    match saved.into_parts(alloc, setting) {
+    match saved.into_parts(alloc, setting, memory) {
         Ok(parts) => match Cache::new(alloc, durable, parts.0, parts.1) {
             Ok(cache) => Ok(cache),
             Err(durable) => Err(durable.into_device()),

@@ -31,15 +31,24 @@ pub trait ObjectStore<D: Device>: PresentFrames + Sized {
     /// How a store is set up.
     type Setting: Copy;
 
+    /// Memory that a closed store leaves for the next.
+    type Memory: Drop;
+
     /// The device beneath, what is kept beside the present objects, and whether a crash is sure to
     /// leave what is saved.
     ghost view: { Self → View D };
 
-    /// Opens a device, and writes nothing to it. The present objects are the saved ones.
+    /// Opens a device, and writes nothing to it. The present objects are the saved ones. The store takes
+    /// from `memory` what it can use.
     ///
     /// A refusal gives the device back: `Failed` exactly where the device failed, `NoMemory` only
     /// where memory ran out, and else the least of the reasons 1 to 7 to refuse an image.
-    fn open(alloc: Global, device: D, setting: Self::Setting) -> Result<Self, OpenRefused<D>>
+    fn open(
+        alloc: Global,
+        device: D,
+        setting: Self::Setting,
+        memory: &mut Option<Self::Memory>,
+    ) -> Result<Self, OpenRefused<D>>
         ensures opened { IfOk result (λ s. OpensStore D.disk device (Self.parts s) (view s)) }
         ensures refused { IfErr result (λ r. Refuses D.disk device r.device r.fault) };
 
@@ -49,6 +58,10 @@ pub trait ObjectStore<D: Device>: PresentFrames + Sized {
 
     /// Gives the device back, and makes no call of it.
     fn into_device(self) -> D
+        ensures { result ≡ (view self).beneath };
+
+    /// Gives the device back, and makes no call of it. Leaves memory in `memory`.
+    fn close(self, memory: &mut Option<Self::Memory>) -> D
         ensures { result ≡ (view self).beneath };
 
     /// The generation, the age and the number of entries of the committed checkpoint.

@@ -6,4 +6,4 @@ mod live;
 mod recovering;
 
 pub use live::Live;
-pub use recovering::recover;
+pub use recovering::{recover, recover_in};

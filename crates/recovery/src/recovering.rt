@@ -51,7 +51,20 @@ pub fn recover<D: Device, S: ObjectStore<D>>(
     ensures opened { IfOk result (λ l. Recovers D.disk S.view S.parts device l) }
     ensures refused { IfErr result (λ r. RefusesToOpen D.disk device r.device r.fault) }
 {
-    match S::open(alloc, device, setting) {
+    recover_in(alloc, device, setting, &mut None)
+}
+
+/// The same as `recover`. The store takes from `memory` what it can use.
+pub fn recover_in<D: Device, S: ObjectStore<D>>(
+    alloc: Global,
+    device: D,
+    setting: S::Setting,
+    memory: &mut Option<S::Memory>,
+) -> Result<Live<S>, OpenRefused<D>>
+    ensures opened { IfOk result (λ l. Recovers D.disk S.view S.parts device l) }
+    ensures refused { IfErr result (λ r. RefusesToOpen D.disk device r.device r.fault) }
+{
+    match S::open(alloc, device, setting, memory) {
         Ok(store) => {
             let mut store = store;
             let age = store.saved().age;

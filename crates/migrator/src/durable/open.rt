@@ -108,13 +108,13 @@ impl Reserve {
 }
 
 impl<I: Intake> Sink<I> {
-    fn new(alloc: Global, geometry: Geometry) -> Result<Sink<I>, AllocError>
+    fn new(alloc: Global, geometry: Geometry, memory: &mut I::Memory) -> Result<Sink<I>, AllocError>
         requires { geometry.nodes + geometry.pages ≤ 8192 }
         ensures none { IfOk result (λ sink. I.Took sink.taken []) }
         ensures room { IfOk result (λ sink. geometry.nodes + geometry.pages ≤ I.room sink.taken) }
     {
         Ok(Sink {
-            taken: I::new(alloc, geometry)?,
+            taken: I::new(alloc, geometry, memory)?,
             scratch: Scratch::new(alloc)?,
         })
     }
@@ -164,6 +164,7 @@ fn read_with_sink<D: Device, I: Intake>(
     device: &mut D,
     plan: Superblock,
     reserve: Reserve,
+    memory: &mut I::Memory,
 ) -> Result<Parts<I>, OpenFault>
     requires plan { HasPlan (D.disk device.old).seen (D.disk device.old).sectors plan }
     requires reserved { IsReserve plan reserve }
@@ -178,7 +179,7 @@ fn read_with_sink<D: Device, I: Intake>(
     ensures reads { ReadsOnly (D.disk device.old) (D.disk device.new) }
     ensures cause { CountsOpen (D.disk device.old) (D.disk device.new) result }
 {
-    match Sink::new(alloc, plan.geometry()) {
+    match Sink::new(alloc, plan.geometry(), memory) {
         Ok(sink) => {
             let Sink { taken, mut scratch } = sink;
             read_into(alloc, device, plan, reserve, taken, &mut scratch)
@@ -188,7 +189,11 @@ fn read_with_sink<D: Device, I: Intake>(
 }
 
 // Reads a device whole.
-fn read_parts<D: Device, I: Intake>(alloc: Global, device: &mut D) -> Result<Parts<I>, OpenFault>
+fn read_parts<D: Device, I: Intake>(
+    alloc: Global,
+    device: &mut D,
+    memory: &mut I::Memory,
+) -> Result<Parts<I>, OpenFault>
     ensures plan { IfOk result (λ parts.
         HasPlan (D.disk device.old).seen (D.disk device.old).sectors parts.plan) }
     ensures read { IfOk result (λ parts. IsRead (D.disk device.old).seen parts.plan parts.header
@@ -204,7 +209,7 @@ fn read_parts<D: Device, I: Intake>(alloc: Global, device: &mut D) -> Result<Par
 {
     match read_plan(device) {
         Ok(superblock) => match Reserve::new(alloc, superblock.geometry()) {
-            Ok(reserve) => read_with_sink(alloc, device, superblock, reserve),
+            Ok(reserve) => read_with_sink(alloc, device, superblock, reserve, memory),
             Err(_) => Err(OpenFault::NoMemory),
         },
         Err(fault) => Err(fault),
@@ -213,17 +218,22 @@ fn read_parts<D: Device, I: Intake>(alloc: Global, device: &mut D) -> Result<Par
 
 impl<D: Device> Durable<D> {
     /// Opens a device, and writes nothing to it. It begins with a sync, and reads what is committed
-    /// and every saved frame, once: `I` takes each when it is read. No later call takes memory.
+    /// and every saved frame, once: `I` takes each when it is read, and may use `memory`. No later call
+    /// takes memory.
     ///
     /// A refusal gives the device back: `Failed` exactly where the device failed, `NoMemory` only
     /// where memory ran out, and else the least of the reasons 1 to 7 to refuse an image.
-    pub fn open<I: Intake>(alloc: Global, device: D) -> Result<Opened<D, I>, OpenRefused<D>>
+    pub fn open<I: Intake>(
+        alloc: Global,
+        device: D,
+        memory: &mut I::Memory,
+    ) -> Result<Opened<D, I>, OpenRefused<D>>
         ensures opened { IfOk result (λ o. OpensDurable D.disk device o.store) }
         ensures took { IfOk result (λ o. I.Took o.taken (stored_of D.disk o.store).saved.frames) }
         ensures refused { IfErr result (λ r. Refuses D.disk device r.device r.fault) }
     {
         let mut device = device;
-        match read_parts(alloc, &mut device) {
+        match read_parts(alloc, &mut device, memory) {
             Ok(parts) => {
                 let Parts {
                     plan,

@@ -12,6 +12,7 @@ ghost use Rattle.object_cache.specs.StoreState.{AreKeepableIn, AreObjectsOf, IsW
 
 use crate::all_objects::{AllObjects, copy_bodies};
 use crate::cache::Cache;
+use cache_entries::Entries;
 use checkpoint::Checkpoint;
 use device::{Device, Failed};
 use layout::Superblock;
@@ -66,6 +67,19 @@ impl<D: Device> Cache<D> {
         ensures { result ≡ self.durable.beneath }
     {
         self.into_durable().into_device()
+    }
+
+    /// The device. Makes no call of it. Leaves the entries in `memory`.
+    pub fn close(self, memory: &mut Option<Entries>) -> D
+        ensures { result ≡ self.durable.beneath }
+    {
+        let Cache {
+            durable,
+            entries,
+            ..
+        } = self;
+        *memory = Some(entries);
+        durable.into_device()
     }
 
     /// The generation, the age and the number of entries of the committed checkpoint.

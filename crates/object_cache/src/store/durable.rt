@@ -11,6 +11,7 @@ ghost use Rattle.object_cache.specs.StoreState.{ContinuesIn, on_device, parts_of
 use crate::policy::Policy;
 use crate::saved_objects::SavedObjects;
 use crate::store::{Store, cache_over};
+use cache_entries::Entries;
 use checkpoint::{Checkpoint, OpenFault, OpenRefused};
 use device::{Device, Failed};
 use migrator::{Durable, Opened};
@@ -22,19 +23,26 @@ use std::marker::PhantomData;
 impl<D: Device, P: Policy> ObjectStore<D> for Store<D, P> {
     type Setting = P::Setting;
 
+    type Memory = Entries;
+
     ghost view = { view_of D.disk };
 
     /// Opens a device and takes all memory that the store will ever need. If the policy keeps every body, reads all of
     /// them now; else no body is in memory. Errors: see `ObjectStore::open`.
-    fn open(alloc: Global, device: D, setting: P::Setting) -> Result<Self, OpenRefused<D>>
+    fn open(
+        alloc: Global,
+        device: D,
+        setting: P::Setting,
+        memory: &mut Option<Entries>,
+    ) -> Result<Self, OpenRefused<D>>
         ensures opened { IfOk result (λ s. OpensStore D.disk device (parts_of D.disk s) (view_of D.disk s)) }
         ensures bound { IfOk result (λ s. s.capacity ≡ P.most_for setting (length s.headers)) }
         ensures refused { IfErr result (λ r. Refuses D.disk device r.device r.fault) }
     {
-        match Durable::open::<SavedObjects<P>>(alloc, device) {
+        match Durable::open::<SavedObjects<P>>(alloc, device, memory) {
             Ok(opened) => {
                 let Opened { store, taken } = opened;
-                match cache_over(alloc, store, taken, setting) {
+                match cache_over(alloc, store, taken, setting, memory) {
                     Ok(cache) => Ok(Store {
                         cache,
                         policy: PhantomData,
@@ -55,6 +63,10 @@ impl<D: Device, P: Policy> ObjectStore<D> for Store<D, P> {
 
     fn into_device(self) -> D {
         self.cache.into_device()
+    }
+
+    fn close(self, memory: &mut Option<Entries>) -> D {
+        self.cache.close(memory)
     }
 
     fn saved(&self) -> Checkpoint {

@@ -1,7 +1,7 @@
-use Rattle.object_cache.proofs.Names.{[], subst, sym, length, length-append, HaveRoom, with_new, content_of, frame_of, AreTaken, TakenState, rules}
+use Rattle.object_cache.proofs.Names.{[], subst, sym, length, length-append, HaveRoom, with_body, content_of, frame_of, AreTaken, TakenState, rules}
 use Rattle.std.proofs.Common.{◌≡◌, ◌<◌, ◌∷◌, ◌∙◌}
 use Rattle.object_cache.proofs.FrozenStates.{same_some}
-use Rattle.object_cache.proofs.Taken.{kept_room, space_in, taken_below, taken_more}
+use Rattle.object_cache.proofs.Taken.{kept_room, held_in, taken_below, taken_more}
 use Rattle.object_cache.proofs.saved_objects.SavedObjectsIntake.take.Goals as goal
 
 pub keep_body-requires : goal.keep_body-requires
@@ -11,7 +11,10 @@ keep_body-requires g c =
     let s : TakenState = record { headers = i.headers.items; entries = i.entries; count = i.count } in
     let below = taken_below s c.requires.0 (subst (λ t. AreTaken t c.requires.0) (sym c.self.view_is) c.requires.1)
     (subst (λ t. length c.requires.0 < t.count) (sym c.self.view_is) c.requires.2) in
-    rw number_is (space_in c.self.inside.entries (length c.self.inside.headers.items) c.self.inside.count below c.self.invariant.1)
+    rw number_is (held_in c.self.inside.entries (length c.self.inside.headers.items) c.self.inside.count below c.self.invariant.1)
+
+pub invariant_of-self : goal.invariant_of-self
+invariant_of-self g c = rw c.in_err-push.ensures.items c.self.invariant
 
 pub invariant_of-self-2 : goal.invariant_of-self-2
 invariant_of-self-2 g c =
@@ -23,7 +26,7 @@ invariant_of-self-2 g c =
     let below = taken_below s c.requires.0 (subst (λ t. AreTaken t c.requires.0) (sym c.self.view_is) c.requires.1)
     (subst (λ t. length c.requires.0 < t.count) (sym c.self.view_is) c.requires.2) in
     rw (c.keep_body.ensures, c.in_ok-push.ensures.items, number_is) (
-      same_some (with_new (length i.headers.items) body) i.entries ∙ c.self.invariant.0,
+      same_some (with_body (length i.headers.items) body) i.entries ∙ c.self.invariant.0,
       λ e is. subst (λ k. HaveRoom e k i.count) (sym (length-append i.headers.items (h ∷ [])))
           (kept_room i.entries (length i.headers.items) i.count below c.self.invariant.1 body e is),
     )

@@ -1,5 +1,5 @@
 use Rattle.recovery.proofs.Recovered.{found_still, recovers, refused_cause, refused_for, refuses, risen_later}
-use Rattle.recovery.proofs.recovering.recover.Goals as goal
+use Rattle.recovery.proofs.recovering.recover_in.Goals as goal
 
 pub returns-in-Ok-examine-clause-opened : goal.returns-in-Ok-examine-clause-opened
 returns-in-Ok-examine-clause-opened g c =
