@@ -1,4 +1,6 @@
 mod Names
 mod Known
 mod Paths
+mod Accesses
+mod Descending
 mod Stored

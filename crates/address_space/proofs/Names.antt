@@ -1,8 +1,9 @@
 -- The names that the proofs here cite: of other crates, and of the definitions of this one.
 pub use Rattle.capability.proofs.FrameLists.{known_used, node_used, page_used}
 pub use Rattle.capability.proofs.Keeping.{keepable_later}
-pub use Rattle.capability.specs.Parts.{Parts, frames_of, objects_in}
-pub use Rattle.model.specs.Capability.{union}
+pub use Rattle.capability.specs.Parts.{AreSound, FetchesOrFails, OnlyFetches, Parts, frames_of, objects_in}
+pub use Rattle.device.specs.declared.device.Failed.{Failed}
+pub use Rattle.model.specs.Capability.{IsAccess, IsWellFormed, union}
 unfoldable pub use Rattle.model.specs.Frame.{frames_in, objects_of}
 pub use Rattle.model.specs.Keepable.{AreCurrent, AreKeepable, IsSoundFrames, world_at}
 pub use Rattle.model.specs.Object.{is_page, is_waiting}
@@ -21,6 +22,8 @@ pub use Rattle.model.specs.declared.geometry.Geometry.{Geometry}
 pub use Rattle.model.specs.declared.object.Object.{Object}
 pub use Rattle.model_laws.proofs.SoundEdits.{edited_word}
 pub use Rattle.model_laws.proofs.SoundParts.{Waits, nearly_from, nearly_to, nearly_weaken}
-pub use Rattle.std.proofs.Common.{Err, List, Ok, Result, ap, arith, false, length, refl, rules, subst, suc, sym, true, zero, ℕ}
-pub use Rattle.std.proofs.lemmas.Bool.{eq-eqb, ne_eqb}
+pub use Rattle.std.proofs.Common.{Bool, Err, IfOk, IsErr, List, Ok, Result, [], ap, arith, bit_or, false, inl, inr, length, refl, rules, subst, suc, sym, true}
+pub use Rattle.std.proofs.Common.{zero, ℕ}
+pub use Rattle.std.proofs.lemmas.Bool.{cases_lt, eq-eqb, ne_eqb}
 pub use Rattle.std.specs.Prelude.{IsTrue}
+pub use Rattle.address_space.specs.declared.walking.Tree.{Tree}

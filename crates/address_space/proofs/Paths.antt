@@ -40,20 +40,12 @@ module _ (os : List Object) (o h index : ℕ) (a : Access) (s : Capability) (som
       let other : (suc k == 1) ≡ false = ne_eqb (suc k) 1 (λ e. early (omega (arith, e, some))) in
       descends ∙ ap (λ (c : Capability). below (suc k) a c (walk_along os c (path k index))) is ∙ rw other refl
 
-  at_tree : (n l : ℕ) (b : Access) → s ≡ Space n l b → l ≡ h - 1 →
+  pub at_tree : (n l : ℕ) (b : Access) → s ≡ Space n l b → l ≡ h - 1 →
       walk_along os (Space o h a) (path h index) ≡ restricted a (walk_along os (Space n l b) (path l index))
   at_tree n l b is level =
       let same : (suc k == l + 1) ≡ true = eq-eqb (suc k) (l + 1) (omega (arith, level)) in
       descends ∙ ap (λ (c : Capability). below (suc k) a c (walk_along os c (path k index))) is
       ∙ rw same (ap (λ (m : ℕ). restricted a (walk_along os (Space n l b) (path m index))) (sym level))
-
-  pub at_found : (n l : ℕ) (b : Access) → s ≡ Space n l b → l ≡ h - 1 → (page : ℕ) (c : Access) →
-      Ok (page, c) ≡ walk_along os (Space n l b) (path l index) → walk_along os (Space o h a) (path h index) ≡ Ok (page, union a c.0)
-  at_found n l b is level page c from = at_tree n l b is level ∙ ap (restricted a) (sym from)
-
-  pub at_fault : (n l : ℕ) (b : Access) → s ≡ Space n l b → l ≡ h - 1 → (why : MemoryFault) →
-      Err why ≡ walk_along os (Space n l b) (path l index) → walk_along os (Space o h a) (path h index) ≡ Err why
-  at_fault n l b is level why from = at_tree n l b is level ∙ ap (restricted a) (sym from)
 
   pub at_other_tree : (n l : ℕ) (b : Access) → s ≡ Space n l b → h - 1 ≢ l → walk_along os (Space o h a) (path h index) ≡ Err Malformed
   at_other_tree n l b is differ =

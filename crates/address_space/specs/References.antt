@@ -1,5 +1,6 @@
 -- Loads and stores over a store of present frames.
-use Rattle.std.specs.Prelude.{◌≡◌, ◌↔◌, ℕ, ◌%◌, ◌<◌, ◌≤◌, Bool, List, [], ◌∷◌, Result, Ok, Err, OnErr, IsErr, IsErrOf}
+use Rattle.std.specs.Prelude.{◌≡◌, ◌↔◌, ℕ, ◌%◌, ◌<◌, ◌≤◌, Bool, List, [], ◌∷◌, Result, Ok, Err, IfErr, OnErr}
+use Rattle.std.specs.Prelude.{IsErrOf}
 use Rattle.model.specs.declared.access.Access.{Access}
 use Rattle.model.specs.declared.answer.MemoryFault.{MemoryFault}
 use Rattle.model.specs.declared.object.Object.{Object}
@@ -7,10 +8,9 @@ use Rattle.model.specs.Keepable.{IsSoundFrames}
 use Rattle.model.specs.Machine.{touching, touched_count}
 use Rattle.model.specs.Step.{reached, writable}
 use Rattle.model.specs.World.{word_at, with_word}
-use Rattle.capability.specs.declared.present.PrepareFault.{PrepareFault}
-use Rattle.capability.specs.declared.present.PrepareFault.TheVariants as prepare
-use Rattle.capability.specs.Parts.{IsUnchanged, OnlyFetches, Parts, frames_of}
-use Rattle.device.specs.declared.device.Failed.{Failed}
+use Rattle.model.specs.declared.answer.Refusal.{Refusal}
+use Rattle.model.specs.declared.answer.Refusal.TheVariants as refusal
+use Rattle.capability.specs.Parts.{IsUnchanged, IsUnprepared, Parts, frames_of}
 
 -- a load gives a word, or says why there is none
 abbrev pub IsLoaded : List Object → ℕ → ℕ → Result ℕ MemoryFault → Type 0
@@ -40,11 +40,12 @@ KeepsSound old new = (age : ℕ) → IsSoundFrames old.geometry age (frames_of o
 -- A store changes one content at most, and nothing where it fails. The parameters are ghost members of a store of
 -- present frames.
 pub record WritesWord {S T : Type 0} (parts : S → Parts) (Continues : S → S → Type 0) (old new : S)
-    (result : Result T PrepareFault) : Type 0 where
+    (result : Result T Refusal) : Type 0 where
   pub sound : KeepsSound (parts old) (parts new)
   pub headers : (parts new).headers ≡ (parts old).headers
   pub unchanged : OnErr result (IsUnchanged (parts old) (parts new))
-  pub cause : IsErrOf result prepare.Failed ↔ ((parts old).failures < (parts new).failures)
+  pub refusals : IfErr result IsUnprepared
+  pub cause : IsErrOf result refusal.Fault ↔ ((parts old).failures < (parts new).failures)
   pub later : (parts old).failures ≤ (parts new).failures
   pub geometry : (parts new).geometry ≡ (parts old).geometry
   pub continues : Continues old new

@@ -11,9 +11,9 @@ ghost use Rattle.address_space.specs.References.{IsLoaded, IsStored, OverfillsSt
 
 use crate::looking::{look, space_of};
 use crate::walking::{Reached, walk};
-use capability::{Frames, PrepareFault, PresentFrames, objects};
+use capability::{Frames, PresentFrames, objects};
 use device::Failed;
-use model::{MemoryFault, WORDS};
+use model::{MemoryFault, Refusal, WORDS};
 
 /// Reads the word at an address in the address space of a running process, or returns the fault of
 /// the first place where the way to it stops, as `walk` does.
@@ -43,20 +43,21 @@ pub fn load<F: Frames>(
 /// the first place where the way to it stops, as `walk` does for a store, and writes nothing.
 ///
 /// The page alone is written, and announced only once it is reached, so a fault comes before a full
-/// log. An error changes nothing: `LogFull` if the numbers written since the last checkpoint with
-/// the page would be more than half of the log holds, and `Failed` exactly if the device failed.
+/// log. A refusal changes nothing: `LogFull` if the numbers written since the last checkpoint with
+/// the page would be more than half of the log holds, and `Fault` exactly if the device failed. There
+/// is no other refusal.
 pub fn store<F: PresentFrames>(
     frames: &mut F,
     process: u64,
     address: u64,
     word: u64,
-) -> Result<Result<(), MemoryFault>, PrepareFault>
+) -> Result<Result<(), MemoryFault>, Refusal>
     requires sound { AreSound (F.parts frames.old) }
     requires process { IsTrue (is_running_process (objects_in (F.parts frames.old)) process) }
     ensures stored { IfOk result (λ stored. IsStored (F.parts frames.old).geometry.log
         (objects_in (F.parts frames.old)) (F.parts frames.old).touched process address word
         (objects_in (F.parts frames.new)) (F.parts frames.new).touched stored) }
-    ensures full { IsErrOf result PrepareFault.LogFull
+    ensures full { IsErrOf result Refusal.LogFull
         → OverfillsStore (F.parts frames.old).geometry.log (objects_in (F.parts frames.old))
         (F.parts frames.old).touched process address }
     ensures writes { WritesWord F.parts F.ContinuesTo frames.old frames.new result }
@@ -71,6 +72,7 @@ pub fn store<F: PresentFrames>(
 }
 
 // The page that a reference of a process reaches.
+#[inline(always)]
 fn reach<F: Frames>(
     frames: &mut F,
     process: u64,
@@ -91,12 +93,7 @@ fn reach<F: Frames>(
 
 // Announces a page, and puts a word into it.
 #[tactic(auto, using(crate::proofs::Known::page_known))]
-fn put<F: PresentFrames>(
-    frames: &mut F,
-    page: u64,
-    index: usize,
-    word: u64,
-) -> Result<(), PrepareFault>
+fn put<F: PresentFrames>(frames: &mut F, page: u64, index: usize, word: u64) -> Result<(), Refusal>
     requires sound { AreSound (F.parts frames.old) }
     requires page { IsTrue (is_page (content_at (objects_in (F.parts frames.old)) page)) }
     requires within { index < 512 }
@@ -106,7 +103,7 @@ fn put<F: PresentFrames>(
         ≡ touching (F.parts frames.old).touched (page ∷ [])) }
     ensures within { touched_count (F.parts frames.new).touched
         ≤ (F.parts frames.old).geometry.log }
-    ensures full { IsErrOf result PrepareFault.LogFull
+    ensures full { IsErrOf result Refusal.LogFull
         → (F.parts frames.old).geometry.log
         < touched_count (touching (F.parts frames.old).touched (page ∷ [])) }
     ensures writes { WritesWord F.parts F.ContinuesTo frames.old frames.new result }

@@ -30,16 +30,6 @@ impl Reached {
     {
         Reached { page, access }
     }
-
-    // The same page, reached through a tree with this access.
-    fn through(self, access: Access) -> Reached
-        ensures { result ≡ record { page = self.page; access = union access self.access.0 } }
-    {
-        Reached {
-            page: self.page,
-            access: access.union(self.access),
-        }
-    }
 }
 
 // A tree of nodes.
@@ -133,7 +123,7 @@ fn find<F: Frames>(
 }
 
 // The page with an index in a tree.
-#[tactic(auto, using(crate::proofs::Paths::at_hole, crate::proofs::Paths::at_page, crate::proofs::Paths::at_other))]
+
 fn descend<F: Frames>(
     frames: &mut F,
     tree: Tree,
@@ -146,28 +136,28 @@ fn descend<F: Frames>(
     ensures page { IfOk result (ReachesPage (objects_in (F.parts frames.old))) }
     ensures fetches { FetchesOrFails F.parts F.ContinuesTo frames.old frames.new result }
 {
-    match next_slot(frames, tree, index)? {
-        Capability::Void => Ok(Err(MemoryFault::Hole)),
-        Capability::Page { object, access } => {
-            if tree.height != 1 {
-                return Ok(Err(MemoryFault::Malformed));
+    let mut at = tree;
+    loop {
+        match next_slot(frames, at, index)? {
+            Capability::Void => return Ok(Err(MemoryFault::Hole)),
+            Capability::Page { object, access } => {
+                if at.height != 1 {
+                    return Ok(Err(MemoryFault::Malformed));
+                }
+                return Ok(Ok(Reached::at(object, at.access.union(access))));
             }
-            Ok(Ok(Reached::at(object, access).through(tree.access)))
+            Capability::Space {
+                object,
+                height,
+                access,
+            } => {
+                if at.height - 1 != height {
+                    return Ok(Err(MemoryFault::Malformed));
+                }
+                at = Tree::at(object, height, at.access.union(access));
+            }
+            _ => return Ok(Err(MemoryFault::Malformed)),
         }
-        Capability::Space {
-            object,
-            height,
-            access,
-        } => {
-            if tree.height - 1 != height {
-                return Ok(Err(MemoryFault::Malformed));
-            }
-            match descend(frames, Tree::at(object, height, access), index)? {
-                Ok(found) => Ok(Ok(found.through(tree.access))),
-                Err(fault) => Ok(Err(fault)),
-            }
-        }
-        _ => Ok(Err(MemoryFault::Malformed)),
     }
 }
 

@@ -1,8 +1,7 @@
 -- What the roles in headers say of the objects that frames stand for.
 use Rattle.capability.proofs.Names.{ℕ, Bool, true, false, List, length, ⊎_elim, refl, sym, ap, subst, cases_lt, get_or_past, get_or-map, Cap, Capability, Frame}
 use Rattle.capability.proofs.Names.{ObjectHeader, Content, Object, Role, blank_frame, blank_header, conveyed, frame_at, header_at, headers, held_at, object_of}
-use Rattle.capability.proofs.Names.{objects_of, is_free, is_root, map_content, role_of, content_at, is_process, HaveTheirRoles, Parts, frames_of}
-use Rattle.capability.proofs.Names.{objects_in}
+use Rattle.capability.proofs.Names.{objects_of, is_free, is_root, map_content, role_of, content_at, is_process, HaveTheirRoles, Parts, frames_of, objects_in}
 use Rattle.std.proofs.Common.{◌≡◌, ◌<◌, ◌≤◌, ◌∙◌}
 use Rattle.model.specs.declared.object.Content.TheVariants as content
 use Rattle.model.specs.declared.object.Role.TheVariants as role

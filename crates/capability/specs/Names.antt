@@ -16,6 +16,7 @@ unfoldable pub use Rattle.model.specs.Revoke.{consume, rescind}
 pub use Rattle.model.specs.Sound.{IsSound}
 pub use Rattle.model.specs.World.{root_at}
 unfoldable pub use Rattle.model.specs.World.{with_root, with_slot, with_state, with_word}
+pub use Rattle.model.specs.declared.answer.Refusal.{Refusal}
 pub use Rattle.model.specs.declared.command.Message.{Message}
 pub use Rattle.model.specs.declared.frame.Frame.{Frame}
 pub use Rattle.model.specs.declared.frame.ObjectHeader.{ObjectHeader}
@@ -26,7 +27,7 @@ pub use Rattle.model.specs.declared.object.Root.{Root}
 pub use Rattle.model.specs.declared.object.State.TheVariants.{Available, Running}
 pub use Rattle.model.specs.declared.order.ResultCode.{ResultCode}
 pub use Rattle.std.specs.Option.{option_to_list}
-pub use Rattle.std.specs.Prelude.{Bool, IsErr, IsErrOf, List, None, OnErr, OnOk, Option, Result, Some, [], false}
+pub use Rattle.std.specs.Prelude.{Bool, IfErr, IsErr, IsErrOf, List, None, OnErr, OnOk, Option, Result, Some, [], false}
 pub use Rattle.std.specs.Prelude.{length, replicate, slice_index_or, slice_set, take, ℕ}
 pub use Rattle.model.specs.declared.capability.Cap.{Cap}
 pub use Rattle.model.specs.declared.capability.Capability.{Capability}

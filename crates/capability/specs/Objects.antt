@@ -1,7 +1,7 @@
 -- The delivery of a message.
 use Rattle.capability.specs.Names.{ℕ, List, [], Cap, Capability, ObjectHeader, Content, Object, Root, Running}
-use Rattle.capability.specs.Names.{current_count, root_at, with_root, with_slot_in}
-use Rattle.std.specs.Prelude.{◌+◌, ◌∷◌, slice_set}
+use Rattle.capability.specs.Names.{current_count, root_at, with_root, with_slot_in, slice_set}
+use Rattle.std.specs.Prelude.{◌+◌, ◌∷◌}
 use Rattle.model.specs.declared.object.Content.TheVariants as content
 use Rattle.capability.specs.declared.present.RootChange.{RootChange}
 use Rattle.capability.specs.declared.present.RootChange.TheVariants as change

@@ -1,15 +1,14 @@
 -- The parts of a store of present frames, and what goes on beside a change.
 use Rattle.capability.specs.Names.{ℕ, Bool, false, List, length, replicate, slice_index_or, slice_set, take, Result}
-use Rattle.capability.specs.Names.{OnOk, OnErr, IsErrOf, Cap, Frame, ObjectHeader, Geometry, Content, Available, Object}
-use Rattle.capability.specs.Names.{frame_at, frames_in, header_at, held_at, given_up, objects_of, AreCurrent}
+use Rattle.capability.specs.Names.{IfErr, OnOk, OnErr, IsErrOf, Cap, Frame, ObjectHeader, Geometry, Content, Available}
+use Rattle.capability.specs.Names.{Object, frame_at, frames_in, header_at, held_at, given_up, objects_of, AreCurrent}
 use Rattle.capability.specs.Names.{AreKeepable, IsSoundFrames, touching, touched_count, all_slots, role_of, zero_words}
-use Rattle.capability.specs.Names.{is_given_up, is_member, Failed, IsErr}
+use Rattle.capability.specs.Names.{is_given_up, is_member, Failed, IsErr, Refusal}
 use Rattle.std.specs.Prelude.{◌≡◌, ◌↔◌, ◌+◌, ◌<◌, ◌≤◌, ◌^◌, if◌then◌else◌}
+use Rattle.model.specs.declared.answer.Refusal.TheVariants as refusal
 use Rattle.model.specs.declared.object.Content.TheVariants as content
 use Rattle.capability.specs.declared.present.Fresh.{Fresh}
 use Rattle.capability.specs.declared.present.Fresh.TheVariants as fresh
-use Rattle.capability.specs.declared.present.PrepareFault.{PrepareFault}
-use Rattle.capability.specs.declared.present.PrepareFault.TheVariants as prepare
 use Rattle.capability.specs.declared.present.ReadFault.{ReadFault}
 use Rattle.capability.specs.declared.present.ReadFault.TheVariants as read
 
@@ -129,19 +128,26 @@ pub record OnlyReads {S T : Type 0} (parts : S → Parts) (Continues : S → S �
   pub later : (parts old).failures ≤ (parts new).failures
   pub cause : IsErrOf result read.Failed ↔ ((parts old).failures < (parts new).failures)
 
--- Frames were fetched, and numbers announced that are to be written; after an error none of them is. The parameters are
+-- a refusal to prepare objects: the log is full, or the device failed
+abbrev pub IsUnprepared : Refusal → Type 0
+IsUnprepared refusal.LogFull = Unit {0}
+IsUnprepared refusal.Fault = Unit {0}
+IsUnprepared _ = ⊥
+
+-- Frames were fetched, and numbers announced that are to be written; after a refusal none of them is. The parameters are
 -- ghost members of a store of present frames.
 pub record Prepares {S T : Type 0} (parts : S → Parts) (Continues : S → S → Type 0) (old new : S) (written : List ℕ)
-    (result : Result T PrepareFault) : Type 0 where
+    (result : Result T Refusal) : Type 0 where
   pub touched : OnOk result ((parts new).touched ≡ touching (parts old).touched written)
   pub within : touched_count (parts new).touched ≤ (parts new).geometry.log
   pub headers : (parts new).headers ≡ (parts old).headers
   pub contents : (parts new).contents ≡ (parts old).contents
   pub geometry : (parts new).geometry ≡ (parts old).geometry
   pub untouched : OnErr result ((parts new).touched ≡ (parts old).touched)
-  pub full : IsErrOf result prepare.LogFull →
+  pub refusals : IfErr result IsUnprepared
+  pub full : IsErrOf result refusal.LogFull →
       (parts old).geometry.log < touched_count (touching (parts old).touched written)
-  pub cause : IsErrOf result prepare.Failed ↔ ((parts old).failures < (parts new).failures)
+  pub cause : IsErrOf result refusal.Fault ↔ ((parts old).failures < (parts new).failures)
   pub later : (parts old).failures ≤ (parts new).failures
   pub continues : Continues old new
 

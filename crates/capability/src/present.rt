@@ -1,5 +1,5 @@
 // The frames of objects as they are now: a trait to read them, and one to change them.
-ghost use Rattle.std.specs.Prelude.{◌≡◌, ◌≢◌, ℕ, ◌<◌, ◌≤◌, ◌∷◌, [], length, OnOk, OnErr, IsErr, IsErrOf, ◌↔◌};
+ghost use Rattle.std.specs.Prelude.{◌≡◌, ◌≢◌, ℕ, ◌<◌, ◌≤◌, ◌∷◌, [], length, IfErr, OnOk, OnErr, IsErr, IsErrOf, ◌↔◌};
 ghost use Rattle.std.specs.List.{All, Contains};
 ghost use Rattle.model.specs.declared.object.Content.TheVariants as content;
 ghost use Rattle.model.specs.Machine.{touching, touched_count};
@@ -8,34 +8,15 @@ ghost use Rattle.model.specs.Keepable.{AreKeepable};
 ghost use Rattle.model.specs.Object.{role_of, with_slot_in, with_word_in};
 ghost use Rattle.capability.specs.Objects.{changed_root, with_root_in, with_slots_in};
 ghost use Rattle.capability.specs.Parts.{Parts, frames_of, with_header, with_held, with_both, fresh_content, IsFreshAt};
-ghost use Rattle.capability.specs.Parts.{Becomes, OnlyFetches};
+ghost use Rattle.capability.specs.Parts.{Becomes, IsUnprepared, OnlyFetches};
 
 use crate::table::ObjectTable;
 use device::Failed;
-use model::{Cap, ContentRef, Geometry, Role, Root, State};
+use model::{Cap, ContentRef, Geometry, Refusal, Role, Root, State};
 use std::alloc::AllocError;
 
 /// How many frames can be fetched at a time.
 pub const MAX_FETCHED: usize = 8;
-
-/// Why objects weren't prepared.
-#[derive(Clone, Copy, PartialEq, Eq, Debug)]
-pub enum PrepareFault {
-    /// More objects would be touched than half of the log has slots.
-    LogFull,
-    /// The device failed.
-    Failed,
-}
-
-impl From<Failed> for PrepareFault {
-    ghost use Rattle.capability.specs.declared.present.PrepareFault.TheVariants as prepare;
-
-    ghost from_gives = { λ _ e. e ≡ prepare.Failed };
-
-    fn from(_failed: Failed) -> PrepareFault {
-        PrepareFault::Failed
-    }
-}
 
 /// Why something that takes memory wasn't read.
 #[derive(Clone, Copy, PartialEq, Eq, Debug)]
@@ -175,9 +156,10 @@ pub trait PresentFrames: Frames {
 
     /// Brings the bodies of up to 8 objects into memory, and announces the objects to be written.
     ///
-    /// An error changes no object and no touched number: `LogFull` only if more numbers would be
-    /// touched than half of the log has slots, and `Failed` exactly if the device failed.
-    fn prepare(&mut self, fetched: &[u64], written: &[u64]) -> Result<(), PrepareFault>
+    /// A refusal changes no object and no touched number: `LogFull` only if more numbers would be
+    /// touched than half of the log has slots, and `Fault` exactly if the device failed. There is no
+    /// other refusal.
+    fn prepare(&mut self, fetched: &[u64], written: &[u64]) -> Result<(), Refusal>
         requires few { length fetched.now ≤ MAX_FETCHED }
         requires known { All (λ n. n < length (Self.parts self.old).headers) fetched.now }
         requires announced { All (λ n. n < length (Self.parts self.old).headers) written.now }
@@ -199,9 +181,10 @@ pub trait PresentFrames: Frames {
         ensures contents { (Self.parts self.new).contents ≡ (Self.parts self.old).contents }
         ensures geometry { (Self.parts self.new).geometry ≡ (Self.parts self.old).geometry }
         ensures untouched { OnErr result ((Self.parts self.new).touched ≡ (Self.parts self.old).touched) }
-        ensures full { IsErrOf result PrepareFault.LogFull → (Self.parts self.old).geometry.log
+        ensures refusals { IfErr result IsUnprepared }
+        ensures full { IsErrOf result Refusal.LogFull → (Self.parts self.old).geometry.log
             < touched_count (touching (Self.parts self.old).touched written.now) }
-        ensures cause { IsErrOf result PrepareFault.Failed
+        ensures cause { IsErrOf result Refusal.Fault
             ↔ ((Self.parts self.old).failures < (Self.parts self.new).failures) }
         ensures later { (Self.parts self.old).failures ≤ (Self.parts self.new).failures }
         ensures continues { Self.ContinuesTo self.old self.new };

@@ -3,6 +3,7 @@
 #![tactic(auto)]
 
 mod device;
+mod fault;
 mod ordered;
 
 pub use device::{Device, Failed, MAX_SECTORS, SECTOR_SIZE};

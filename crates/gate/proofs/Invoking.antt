@@ -1,40 +1,31 @@
 -- The outcome of an invocation, from what its read-only calls, its announcing and its change reported.
-use Rattle.gate.proofs.Names.{ℕ, Bool, false, List, Option, None, Some, Result, Ok, Err, refl, sym, ap, subst, arith, IfOk, IsErrOf, IsTrue, OnErr, Invocation}
-use Rattle.gate.proofs.Names.{Geometry, Object, ResultCode, Effect, invoke, AreCurrent, AreKeepable, touching, touched_count, Fits, is_running_process}
-use Rattle.gate.proofs.Names.{PrepareFault, IsUnchanged, Parts, Prepares, Renews, frames_of, objects_in, InvokeFault, Invoked, FetchesOrFails, Failed, IsErr}
-use Rattle.gate.proofs.Names.{Invokes, IsOfGate, Overfills, fault_of, result_code, unrisen}
-use Rattle.std.proofs.Common.{◌≡◌, ◌+◌, ◌^◌, ◌<◌, ◌≤◌, ◌∙◌}
+use Rattle.gate.proofs.Names.{ℕ, Bool, false, List, Option, None, Some, Result, Ok, Err, inl, inr, refl, sym, ap, subst, arith, IfOk, IsErrOf, IsTrue, OnErr}
+use Rattle.gate.proofs.Names.{Invocation, Geometry, Object, ResultCode, Effect, invoke, AreCurrent, AreKeepable, touching, touched_count, Fits}
+use Rattle.gate.proofs.Names.{is_running_process, IsUnchanged, IsUnprepared, Parts, Prepares, Renews, frames_of, objects_in, Invoked, FetchesOrFails, Failed}
+use Rattle.gate.proofs.Names.{IsErr, Invokes, IsOfGate, Overfills, Refusal, result_code, unrisen}
+use Rattle.std.proofs.Common.{◌≡◌, ◌⊎◌, ◌+◌, ◌^◌, ◌<◌, ◌≤◌, ◌∙◌}
 use Rattle.model.specs.declared.command.Command.TheVariants as command
-use Rattle.capability.specs.declared.present.PrepareFault.TheVariants as prepare
-use Rattle.gate.specs.declared.fault.InvokeFault.TheVariants as fault
+use Rattle.model.specs.declared.answer.Refusal.TheVariants as refusal
 use Rattle.gate.proofs.Effects.{invokes_by, overfills_by, sound_after}
 use Rattle.gate.proofs.Fits.{in_geometry}
-use Rattle.gate.proofs.Listed.{full_fault, on_ok}
+use Rattle.gate.proofs.Listed.{on_ok}
 use Rattle.gate.proofs.Renewing.{renews_looked}
 use Rattle.gate.proofs.Standing.{ReadsAs, keeps_looked, looked_as, looked_keepable, looked_objects, only_reads_again, prepared_as}
 
--- no failure to prepare is reported as a process that isn't available or doesn't run
-never_stalled : (e : PrepareFault) → IsErrOf {T = Option ResultCode} (Err (fault_of e)) fault.Stalled → ⊥
-never_stalled prepare.LogFull is = cc
-never_stalled prepare.Failed is = cc
+-- a refusal to prepare is one of the gate, and none of the process
+of_gate : (why : Refusal) → IsUnprepared why → IsOfGate why
+of_gate refusal.LogFull of = tt
+of_gate refusal.Fault of = tt
+of_gate c of = absurd of
 
-never_stopped : (e : PrepareFault) → IsErrOf {T = Option ResultCode} (Err (fault_of e)) fault.NotRunning → ⊥
-never_stopped prepare.LogFull is = cc
-never_stopped prepare.Failed is = cc
+of_process : (why : Refusal) → IsUnprepared why → (why ≡ refusal.Stalled) ⊎ (why ≡ refusal.NotRunning) → ⊥
+of_process refusal.LogFull of (inl is) = cc
+of_process refusal.LogFull of (inr is) = cc
+of_process refusal.Fault of (inl is) = cc
+of_process refusal.Fault of (inr is) = cc
+of_process c of is = absurd of
 
-gate_fault : (e : PrepareFault) → IsOfGate (fault_of e)
-gate_fault prepare.LogFull = tt
-gate_fault prepare.Failed = tt
-
-failed_fault : {T U : Type 0} (e : PrepareFault) → IsErrOf {T = U} (Err (fault_of e)) fault.Failed → IsErrOf {T = T} (Err e) prepare.Failed
-failed_fault prepare.Failed is = refl
-failed_fault prepare.LogFull is = cc
-
-fault_failed : {T U : Type 0} (e : PrepareFault) → IsErrOf {T = T} (Err e) prepare.Failed → IsErrOf {T = U} (Err (fault_of e)) fault.Failed
-fault_failed prepare.Failed is = refl
-fault_failed prepare.LogFull is = cc
-
-pub ok_no_failure : {T : Type 0} (x : T) → (let r : Result T PrepareFault = Ok x in IsErrOf r prepare.Failed) → ⊥
+pub ok_no_failure : {T : Type 0} (x : T) → (let r : Result T Refusal = Ok x in IsErrOf r refusal.Fault) → ⊥
 ok_no_failure x is = cc
 
 pub ok_no_err : {T : Type 0} (x : T) → IsErr {T = T} {E = Failed} (Ok x) → ⊥
@@ -61,15 +52,15 @@ module _ {S : Type 0} {parts : S → Parts} {Continues : S → S → Type 0} (i 
         (λ k. P (only_reads.snapshots.geometry k) (looked_objects (looked_as only_reads.snapshots) k) (only_reads.snapshots.touched k)) p
 
     -- a refusal that only a read reported
-    found : (k : InvokeFault) → IsOfGate k → (IsErrOf {T = Option ResultCode} (Err k) fault.LogFull → ⊥) →
-        (IsErrOf {T = Option ResultCode} (Err k) fault.Failed → ⊥) →
-        (IsErrOf {T = Option ResultCode} (Err k) fault.NotRunning → is_running_process (objects_in (parts s)) i.process ≡ false) →
-        (IsErrOf {T = Option ResultCode} (Err k) fault.Stalled → invoke (parts s).geometry (objects_in (parts s)) i ≡ None) →
+    found : (k : Refusal) → IsOfGate k → (IsErrOf {T = Option ResultCode} (Err k) refusal.LogFull → ⊥) →
+        (IsErrOf {T = Option ResultCode} (Err k) refusal.Fault → ⊥) →
+        (IsErrOf {T = Option ResultCode} (Err k) refusal.NotRunning → is_running_process (objects_in (parts s)) i.process ≡ false) →
+        (IsErrOf {T = Option ResultCode} (Err k) refusal.Stalled → invoke (parts s).geometry (objects_in (parts s)) i ≡ None) →
         Invoked parts Continues s t i (Err k)
-    found k of_gate not_full not_failed stopped stalled = record {
+    found k is_of_gate not_full not_failed stopped stalled = record {
       done = tt;
       code = tt;
-      faults = of_gate;
+      refusals = is_of_gate;
       runs = stopped;
       stalled = stalled;
       full = λ is. absurd (not_full is);
@@ -82,14 +73,14 @@ module _ {S : Type 0} {parts : S → Parts} {Continues : S → S → Type 0} (i 
       continues = only_reads.snapshots.continues;
     }
 
-    pub found_stalled : invoke (parts s).geometry (objects_in (parts s)) i ≡ None → Invoked parts Continues s t i (Err fault.Stalled)
-    found_stalled none = found fault.Stalled tt (λ is. cc) (λ is. cc) (λ is. cc) (λ is. none)
+    pub found_stalled : invoke (parts s).geometry (objects_in (parts s)) i ≡ None → Invoked parts Continues s t i (Err refusal.Stalled)
+    found_stalled none = found refusal.Stalled tt (λ is. cc) (λ is. cc) (λ is. cc) (λ is. none)
 
-    pub invoked_looked : (r : Result (Option ResultCode) InvokeFault) → Invoked parts Continues t u i r → Invoked parts Continues s u i r
+    pub invoked_looked : (r : Result (Option ResultCode) Refusal) → Invoked parts Continues t u i r → Invoked parts Continues s u i r
     invoked_looked r is = record {
       done = on_ok r (before (λ g os ts. Invokes g i os ts (objects_in (parts u)) (parts u).touched)) is.done;
       code = if_ok r (λ code replying. before (λ g os ts. code ≡ result_code g os i) replying) is.code;
-      faults = is.faults;
+      refusals = is.refusals;
       runs = λ e. before (λ g os ts. is_running_process os i.process ≡ false) (is.runs e);
       stalled = λ e. before (λ g os ts. invoke g os i ≡ None) (is.stalled e);
       full = λ e. before (λ g os ts. Overfills g i os ts) (is.full e);
@@ -112,16 +103,16 @@ module _ {S : Type 0} {parts : S → Parts} {Continues : S → S → Type 0} (i 
     -- an invocation that is known, and the numbers that it writes
     module _ (ns : List ℕ) (e : Effect) (invoked : invoke (parts s).geometry (objects_in (parts s)) i ≡ Some e) (written : ns ≡ e.written) where
       -- numbers that couldn't be announced
-      pub unannounced : {U : Type 0} (f : PrepareFault) → Prepares {T = U} parts Continues t u ns (Err f) → Invoked parts Continues s u i (Err (fault_of f))
+      pub unannounced : {U : Type 0} (f : Refusal) → Prepares {T = U} parts Continues t u ns (Err f) → Invoked parts Continues s u i (Err f)
       unannounced f replying = record {
         done = tt;
         code = tt;
-        faults = gate_fault f;
-        runs = λ is. absurd (never_stopped f is);
-        stalled = λ is. absurd (never_stalled f is);
+        refusals = of_gate f replying.refusals;
+        runs = λ is. absurd (of_process f replying.refusals (inr cc));
+        stalled = λ is. absurd (of_process f replying.refusals (inl cc));
         full = λ is. overfills_by (parts s).geometry i (objects_in (parts s)) (parts s).touched e invoked
             (subst (λ (ms : List ℕ). (parts s).geometry.log < touched_count (touching (parts s).touched ms)) written
-            (before (λ g os ts. g.log < touched_count (touching ts ns)) (replying.full (full_fault f is))));
+            (before (λ g os ts. g.log < touched_count (touching ts ns)) (replying.full cc)));
         sound = tt;
         renews = tt;
         unchanged = record {
@@ -130,8 +121,8 @@ module _ {S : Type 0} {parts : S → Parts} {Continues : S → S → Type 0} (i 
           touched = replying.untouched ∙ only_reads.snapshots.touched;
         };
         cause = (
-          λ is. subst (λ (n : ℕ). n < (parts u).failures) still (replying.cause.0 (failed_fault f is)),
-          λ rose. fault_failed f (replying.cause.1 (subst (λ (n : ℕ). n < (parts u).failures) (sym still) rose)),
+          λ is. subst (λ (n : ℕ). n < (parts u).failures) still (replying.cause.0 cc),
+          λ rose. let failed = replying.cause.1 (subst (λ (n : ℕ). n < (parts u).failures) (sym still) rose) in cc,
         );
         later = subst (λ (n : ℕ). n ≤ (parts u).failures) still replying.later;
         geometry = replying.geometry ∙ only_reads.snapshots.geometry;
@@ -159,7 +150,7 @@ module _ {S : Type 0} {parts : S → Parts} {Continues : S → S → Type 0} (i 
                 (subst (λ (ts : List Bool). touched_count ts ≤ (parts s).geometry.log) (sym touched)
                 (subst (λ (g : Geometry). touched_count (parts m).touched ≤ g.log) there.geometry replying.within));
             code = is;
-            faults = tt;
+            refusals = tt;
             runs = λ is. cc;
             stalled = λ is. cc;
             full = λ is. cc;

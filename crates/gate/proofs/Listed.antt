@@ -1,9 +1,7 @@
 -- What follows of the numbers that were listed.
-use Rattle.gate.proofs.Names.{rules, length, ℕ, zero, suc, List, [], Result, Ok, Err, refl, arith, IsErrOf, OnOk, slice_index, PrepareFault, All, Contains}
-use Rattle.gate.proofs.Names.{Operation, Call, Return, Send, fault_of, written_through}
+use Rattle.gate.proofs.Names.{rules, length, ℕ, zero, suc, List, [], Result, Ok, Err, refl, arith, OnOk, slice_index, All, Contains, Operation, Call, Return}
+use Rattle.gate.proofs.Names.{Send, written_through}
 use Rattle.std.proofs.Common.{◌≡◌, ◌<◌, ◌∷◌}
-use Rattle.capability.specs.declared.present.PrepareFault.TheVariants as prepare
-use Rattle.gate.specs.declared.fault.InvokeFault.TheVariants as invoke_fault
 
 pub on_ok : {T E : Type 0} (r : Result T E) {P Q : Type 0} → (P → Q) → OnOk r P → OnOk r Q
 on_ok (Ok x) f p = f p
@@ -51,8 +49,3 @@ all_four P a b c d x y z w (suc zero) e inside = y
 all_four P a b c d x y z w (suc (suc zero)) e inside = z
 all_four P a b c d x y z w (suc (suc (suc zero))) e inside = w
 all_four P a b c d x y z w (suc (suc (suc (suc k)))) e inside = absurd (omega arith)
-
--- a full log is reported as one
-pub full_fault : {T U : Type 0} (e : PrepareFault) → IsErrOf {T = U} (Err (fault_of e)) invoke_fault.LogFull → IsErrOf {T = T} (Err e) prepare.LogFull
-full_fault prepare.LogFull is = refl
-full_fault prepare.Failed is = cc

@@ -6,13 +6,12 @@ pub use Rattle.capability.proofs.KindNumbers.{bank_number, node_number, page_num
 pub use Rattle.capability.proofs.SnapshotLaws.{keeps_twice}
 pub use Rattle.capability.specs.Changes.{changed, message_of, outcome_by, target_of, written_of}
 pub use Rattle.capability.specs.Objects.{with_message}
-pub use Rattle.capability.specs.Parts.{AreSound, FetchesOrFails, IsUnchanged, OnlyFetches, Parts, Prepares, Renews, frames_of, objects_in}
+pub use Rattle.capability.specs.Parts.{AreSound, FetchesOrFails, IsUnchanged, IsUnprepared, OnlyFetches, Parts, Prepares, Renews, frames_of, objects_in}
 pub use Rattle.capability.specs.declared.order.BankChange.{BankChange}
 pub use Rattle.capability.specs.declared.order.Caller.{Caller}
 pub use Rattle.capability.specs.declared.order.Change.{Change}
 pub use Rattle.capability.specs.declared.order.OrderPlan.{OrderPlan}
 pub use Rattle.capability.specs.declared.order.Reply.{Reply}
-pub use Rattle.capability.specs.declared.present.PrepareFault.{PrepareFault}
 pub use Rattle.device.specs.declared.device.Failed.{Failed}
 unfoldable pub use Rattle.model.specs.Banking.{on_bank}
 pub use Rattle.model.specs.Capability.{named}
@@ -30,8 +29,9 @@ pub use Rattle.model.specs.Revoke.{resumes, void_where, without}
 unfoldable pub use Rattle.model.specs.Revoke.{consume}
 pub use Rattle.model.specs.Sound.{IsOfKind, IsSound, MayBeHeld, NamesItsKind, object_count}
 pub use Rattle.model.specs.Text.{Fits}
-pub use Rattle.model.specs.World.{World, annex_at, content_at, is_process, is_running_process, register_at, root_at, with_slots_from}
+pub use Rattle.model.specs.World.{World, annex_at, content_at, is_process, is_running_process, register_at, root_at, slot_at, with_slots_from}
 unfoldable pub use Rattle.model.specs.World.{with_content, with_root, with_slot, with_state, with_word}
+pub use Rattle.model.specs.declared.answer.Refusal.{Refusal}
 pub use Rattle.model.specs.declared.capability.Cap.{Cap}
 pub use Rattle.model.specs.declared.capability.Capability.{Capability}
 pub use Rattle.model.specs.declared.capability.Capability.TheVariants.{Bank, Node, Number, Page, Process, Resume, Space, Start, Void}
@@ -64,8 +64,8 @@ pub use Rattle.space_bank.specs.Allocating.{numbers_of}
 pub use Rattle.space_bank.specs.Banks.{AreCounted, BanksState, MayAsk}
 pub use Rattle.space_bank.specs.Carrying.{IsForBank, MayMake, PlansAs}
 pub use Rattle.space_bank.specs.Planning.{writer_count, writers}
-pub use Rattle.std.proofs.Common.{Bool, Err, List, None, Ok, Option, Result, Some, [], ap, arith, drop, false, get_or, length, refl, rules, subst, suc, sym}
-pub use Rattle.std.proofs.Common.{true, zero, ℕ, ⊎_elim}
+pub use Rattle.std.proofs.Common.{Bool, Err, List, None, Ok, Option, Result, Some, [], ap, arith, drop, false, get_or, inl, inr, length, refl, rules, subst}
+pub use Rattle.std.proofs.Common.{suc, sym, true, zero, ℕ, ⊎_elim}
 pub use Rattle.std.proofs.Math.ListN.{get_or-map}
 pub use Rattle.std.proofs.Math.Seq.{map-set_same}
 pub use Rattle.std.proofs.lemmas.List.Elements.{All-drop, All-map, All-set}
@@ -73,10 +73,9 @@ pub use Rattle.std.proofs.lemmas.Result.{err_from_is_err_and}
 pub use Rattle.std.specs.List.{All, Contains}
 pub use Rattle.std.specs.Option.{option_to_list}
 pub use Rattle.std.specs.Prelude.{IfOk, IsErr, IsErrOf, IsTrue, OnErr, OnOk, slice_index, slice_index_or, slice_set}
-pub use Rattle.gate.specs.Invoke.{Invoked, Invokes, IsKernelObject, IsOfGate, IsRequested, KeepsSoundFrames, Overfills, entered, fault_of, gate_capability}
-pub use Rattle.gate.specs.Invoke.{received, result_code, written_through}
+pub use Rattle.gate.specs.Invoke.{Invoked, Invokes, IsKernelObject, IsOfGate, IsRequested, KeepsSoundFrames, Overfills, entered, gate_capability, received}
+pub use Rattle.gate.specs.Invoke.{result_code, written_through}
 pub use Rattle.gate.specs.Ordering.{IsPlanned, Plans, answered, arguments_of, finished, ordered_by, state_before}
 pub use Rattle.gate.specs.Plan.{ChangesAs, FitsCap, HaveAnnexesOf, IsFor, IsOfProcess, IsWithinObject, MayChange, MayEdit, MayHold, fetched_of, node_named}
 pub use Rattle.gate.specs.Plan.{outcome_of, process_named}
-pub use Rattle.gate.specs.declared.fault.InvokeFault.{InvokeFault}
 pub use Rattle.gate.specs.declared.gates.Gate.{Gate}

@@ -1,8 +1,8 @@
 -- What sound frames stand for.
 use Rattle.gate.proofs.Names.{ℕ, List, length, Result, sym, subst, ap, arith, IsTrue, Capability, Frame, ObjectHeader, Geometry, header_at, objects_of}
 use Rattle.gate.proofs.Names.{AreKeepable, IsSoundFrames, world_at, is_annex, NamesItsKind, object_count, annex_at, content_at, is_process, register_at, IsNow}
-use Rattle.gate.proofs.Names.{nearly_from, PrepareFault, AreSound, OnlyFetches, Parts, Prepares, frames_of, objects_in, length_objects, keepable_count}
-use Rattle.gate.proofs.Names.{keepable_later, KeepsSoundFrames}
+use Rattle.gate.proofs.Names.{nearly_from, Refusal, AreSound, OnlyFetches, Parts, Prepares, frames_of, objects_in, length_objects, keepable_count}
+use Rattle.gate.proofs.Names.{keepable_later, KeepsSoundFrames, Invocation, IsRequested, Object, refl, slot_at}
 use Rattle.std.proofs.Common.{◌≡◌, ◌+◌, ◌-◌, ◌^◌, ◌<◌, ◌∙◌}
 use Rattle.gate.proofs.Fits.{calls_kept}
 use Rattle.gate.proofs.Known.{annex_known, same_frames}
@@ -38,7 +38,7 @@ module _ {S : Type 0} {parts : S → Parts} {Continues : S → S → Type 0} {s 
   pub looked_as : OnlyFetches parts Continues s t → ReadsAs (parts s) (parts t)
   looked_as only_reads = record { headers = only_reads.headers; contents = only_reads.contents; geometry = only_reads.geometry }
 
-  pub prepared_as : {T : Type 0} {ns : List ℕ} {r : Result T PrepareFault} → Prepares parts Continues s t ns r → ReadsAs (parts s) (parts t)
+  pub prepared_as : {T : Type 0} {ns : List ℕ} {r : Result T Refusal} → Prepares parts Continues s t ns r → ReadsAs (parts s) (parts t)
   prepared_as replying = record { headers = replying.headers; contents = replying.contents; geometry = replying.geometry }
 
 module _ {old now : Parts} (only_reads : ReadsAs old now) where
@@ -47,6 +47,18 @@ module _ {old now : Parts} (only_reads : ReadsAs old now) where
 
   pub looked_objects : objects_in now ≡ objects_in old
   looked_objects = ap (λ (fs : List Frame). objects_of fs) looked_frames
+
+  -- what a process invokes, read after its annex was fetched
+  pub requested_by : (i : Invocation) (annex : ℕ) (invoked : Capability) → annex ≡ annex_at (objects_in old) i.process →
+      invoked ≡ slot_at (objects_in now) annex i.register →
+      IsRequested (objects_in now) i (record { process = i.process; annex = annex; operation = i.operation; invoked = invoked })
+  requested_by i annex invoked annex_is is = record {
+    process = refl;
+    operation = refl;
+    annex = annex_is ∙ ap (λ (us : List Object). annex_at us i.process) (sym looked_objects);
+    invoked = is ∙ ap (λ (n : ℕ). slot_at (objects_in now) n i.register)
+        (annex_is ∙ ap (λ (us : List Object). annex_at us i.process) (sym looked_objects));
+  }
 
   pub looked_sound : AreSound old → AreSound now
   looked_sound sound =

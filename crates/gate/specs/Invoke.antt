@@ -2,18 +2,11 @@
 use Rattle.gate.specs.Names.{ℕ, Bool, true, false, List, [], Option, None, Some, slice_set, Result, Ok, Err, IfOk, OnOk}
 use Rattle.gate.specs.Names.{OnErr, IsErrOf, Capability, Start, Resume, Invocation, Operation, Call, Send, Geometry}
 use Rattle.gate.specs.Names.{Object, ResultCode, Effect, invoke, after_gate, deliver, ordered, IsSoundFrames, touching}
-use Rattle.gate.specs.Names.{touched_count, consume, annex_at, is_running_process, register_at, Caller, PrepareFault}
+use Rattle.gate.specs.Names.{touched_count, consume, annex_at, is_running_process, register_at, Caller, Refusal}
 use Rattle.gate.specs.Names.{IsUnchanged, Parts, Renews, frames_of, objects_in, IfErr}
 use Rattle.std.specs.Prelude.{◌≡◌, ◌↔◌, ◌+◌, ◌^◌, ◌<◌, ◌≤◌, ◌∷◌, if◌then◌else◌}
-use Rattle.capability.specs.declared.present.PrepareFault.TheVariants as prepare
-use Rattle.gate.specs.declared.fault.InvokeFault.{InvokeFault}
-use Rattle.gate.specs.declared.fault.InvokeFault.TheVariants as fault
+use Rattle.model.specs.declared.answer.Refusal.TheVariants as refusal
 use Rattle.gate.specs.declared.gates.Gate.{Gate}
-
--- why an invocation wasn't carried out, where it is that objects weren't prepared
-abbrev pub fault_of : PrepareFault → InvokeFault
-fault_of prepare.LogFull = fault.LogFull
-fault_of prepare.Failed = fault.Failed
 
 -- the objects after an invocation, and the numbers that it touched, which half of the log holds
 abbrev pub Invokes : Geometry → Invocation → List Object → List Bool → List Object → List Bool → Type 0
@@ -54,39 +47,40 @@ abbrev pub KeepsSoundFrames : Parts → Parts → Type 0
 KeepsSoundFrames old new = (age : ℕ) → age < 2 ^ 62 → IsSoundFrames old.geometry age (frames_of old) →
     IsSoundFrames old.geometry (age + 1) (frames_of new)
 
--- a fault that the gate may find; the others come before it
-abbrev pub IsOfGate : InvokeFault → Type 0
-IsOfGate fault.NoProcess = ⊥
-IsOfGate fault.Worn = ⊥
-IsOfGate _ = Unit {0}
+-- a refusal that the gate may give; the others of an invocation come before it
+abbrev pub IsOfGate : Refusal → Type 0
+IsOfGate refusal.NotRunning = Unit {0}
+IsOfGate refusal.Stalled = Unit {0}
+IsOfGate refusal.LogFull = Unit {0}
+IsOfGate refusal.Fault = Unit {0}
+IsOfGate _ = ⊥
 
 -- whether the process runs, where a result says so
-abbrev pub TellsState : List Object → Invocation → Result (Option ResultCode) InvokeFault → Type 0
+abbrev pub TellsState : List Object → Invocation → Result (Option ResultCode) Refusal → Type 0
 TellsState os i (Ok code) = is_running_process os i.process ≡ true
-TellsState os i (Err fault.NotRunning) = is_running_process os i.process ≡ false
-TellsState os i (Err fault.Stalled) = is_running_process os i.process ≡ true
-TellsState os i (Err fault.LogFull) = is_running_process os i.process ≡ true
-TellsState os i (Err fault.Failed) = Unit {0}
-TellsState os i (Err fault.NoProcess) = ⊥
-TellsState os i (Err fault.Worn) = ⊥
+TellsState os i (Err refusal.NotRunning) = is_running_process os i.process ≡ false
+TellsState os i (Err refusal.Stalled) = is_running_process os i.process ≡ true
+TellsState os i (Err refusal.LogFull) = is_running_process os i.process ≡ true
+TellsState os i (Err refusal.Fault) = Unit {0}
+TellsState os i (Err other) = ⊥
 
--- The outcome of an invocation. After an error nothing has changed. The parameters are ghost members of a store of
+-- The outcome of an invocation. After a refusal nothing has changed. The parameters are ghost members of a store of
 -- present frames.
 pub record Invoked {S : Type 0} (parts : S → Parts) (Continues : S → S → Type 0) (old new : S) (i : Invocation)
-    (result : Result (Option ResultCode) InvokeFault) : Type 0 where
+    (result : Result (Option ResultCode) Refusal) : Type 0 where
   pub done : OnOk result
       (Invokes (parts old).geometry i (objects_in (parts old)) (parts old).touched (objects_in (parts new))
       (parts new).touched)
   pub code : IfOk result (λ code. code ≡ result_code (parts old).geometry (objects_in (parts old)) i)
-  pub faults : IfErr result IsOfGate
-  pub runs : IsErrOf result fault.NotRunning → is_running_process (objects_in (parts old)) i.process ≡ false
-  pub stalled : IsErrOf result fault.Stalled → invoke (parts old).geometry (objects_in (parts old)) i ≡ None
-  pub full : IsErrOf result fault.LogFull → Overfills (parts old).geometry i (objects_in (parts old))
+  pub refusals : IfErr result IsOfGate
+  pub runs : IsErrOf result refusal.NotRunning → is_running_process (objects_in (parts old)) i.process ≡ false
+  pub stalled : IsErrOf result refusal.Stalled → invoke (parts old).geometry (objects_in (parts old)) i ≡ None
+  pub full : IsErrOf result refusal.LogFull → Overfills (parts old).geometry i (objects_in (parts old))
       (parts old).touched
   pub sound : OnOk result (KeepsSoundFrames (parts old) (parts new))
   pub renews : OnOk result (Renews (parts old) (parts new))
   pub unchanged : OnErr result (IsUnchanged (parts old) (parts new))
-  pub cause : IsErrOf result fault.Failed ↔ ((parts old).failures < (parts new).failures)
+  pub cause : IsErrOf result refusal.Fault ↔ ((parts old).failures < (parts new).failures)
   pub later : (parts old).failures ≤ (parts new).failures
   pub geometry : (parts new).geometry ≡ (parts old).geometry
   pub continues : Continues old new

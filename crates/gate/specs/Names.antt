@@ -5,7 +5,6 @@ pub use Rattle.capability.specs.declared.order.Caller.{Caller}
 pub use Rattle.capability.specs.declared.order.Change.{Change}
 pub use Rattle.capability.specs.declared.order.OrderPlan.{OrderPlan}
 pub use Rattle.capability.specs.declared.order.Reply.{Reply}
-pub use Rattle.capability.specs.declared.present.PrepareFault.{PrepareFault}
 pub use Rattle.model.specs.Capability.{named}
 pub use Rattle.model.specs.Invoke.{Effect, after_gate, ordered, sent_by}
 unfoldable pub use Rattle.model.specs.Invoke.{deliver, invoke}
@@ -19,6 +18,7 @@ unfoldable pub use Rattle.model.specs.Revoke.{consume}
 pub use Rattle.model.specs.Sound.{IsSpace}
 pub use Rattle.model.specs.World.{annex_at, content_at, is_process, is_running_process, register_at}
 unfoldable pub use Rattle.model.specs.World.{with_state}
+pub use Rattle.model.specs.declared.answer.Refusal.{Refusal}
 pub use Rattle.model.specs.declared.capability.Capability.{Capability}
 pub use Rattle.model.specs.declared.capability.Capability.TheVariants.{Node, Number, Page, Process, Resume, Space}
 pub use Rattle.model.specs.declared.capability.Capability.TheVariants.{Start, Void}

@@ -14,10 +14,9 @@ ghost use Rattle.gate.specs.Invoke.{Invoked};
 ghost use Rattle.gate.specs.Plan.{FitsCap};
 
 use crate::delivery::deliver;
-use crate::fault::InvokeFault;
 use crate::looking::{all_sent, look_at_process};
-use capability::{Caller, Frames, PrepareFault, PresentFrames, objects, roots};
-use model::{Capability, Invocation, Message, Operation, ResultCode, State};
+use capability::{Caller, Frames, PresentFrames, objects, roots};
+use model::{Capability, Invocation, Message, Operation, Refusal, ResultCode, State};
 use space_bank::Banks;
 use std::marker::Model;
 
@@ -117,7 +116,7 @@ fn announce<F: PresentFrames>(
     invocation: &Invocation,
     receiver: u64,
     annex: u64,
-) -> Result<(), PrepareFault>
+) -> Result<(), Refusal>
     requires keepable { AreKeepable (F.parts store.old).geometry u64.MAX
         (frames_of (F.parts store.old)) }
     requires process { invocation.now.process < length (F.parts store.old).headers }
@@ -223,7 +222,7 @@ pub fn invoke_gate<F: PresentFrames>(
     invocation: &Invocation,
     caller: Caller,
     gate: Gate,
-) -> Result<Option<ResultCode>, InvokeFault>
+) -> Result<Option<ResultCode>, Refusal>
     requires sound { AreSound (F.parts store.old) }
     requires running { IsTrue (is_running_process
         (objects_in (F.parts store.old)) invocation.now.process) }
@@ -240,7 +239,7 @@ pub fn invoke_gate<F: PresentFrames>(
     let sent = all_sent(store, invocation, caller.annex);
     let annex = look_at_process(store, banks, gate.process)?;
     if !can_enter(store, invocation, gate) {
-        return Err(InvokeFault::Stalled);
+        return Err(Refusal::Stalled);
     }
     announce(store, invocation, gate.process, annex)?;
     enter(store, invocation, gate, annex, sent);

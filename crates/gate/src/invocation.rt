@@ -6,12 +6,11 @@ ghost use Rattle.capability.specs.Parts.{AreSound, objects_in};
 ghost use Rattle.space_bank.specs.Banks.{AreCounted};
 ghost use Rattle.gate.specs.Invoke.{Invoked, TellsState};
 
-use crate::fault::InvokeFault;
 use crate::gates::{gate_of, invoke_gate};
 use crate::kernel_object::invoke_order;
-use crate::looking::{ask, numbers_fit};
-use capability::{PresentFrames, roots};
-use model::{Invocation, ResultCode};
+use crate::looking::{look_at_process, numbers_fit};
+use capability::{Caller, PresentFrames, objects, roots};
+use model::{Invocation, Refusal, ResultCode};
 use space_bank::Banks;
 
 /// Carries out the invocation of a capability by a process (EROS, KeyKOS: call, return and send).
@@ -23,14 +22,15 @@ use space_bank::Banks;
 /// `banks` keeps the usages of the banks as they are after it. The count of allocations of a number
 /// rises by one if its object is given up.
 ///
-/// An error changes nothing. `NotRunning`: the process doesn't run. `Stalled`: the process behind
+/// A refusal changes nothing. `NotRunning`: the process doesn't run. `Stalled`: the process behind
 /// the start capability isn't available. `LogFull`: with what the invocation writes, more numbers
-/// were written since the last checkpoint than half of the log holds. `Failed`: the device failed.
+/// were written since the last checkpoint than half of the log holds. `Fault`: the device failed.
+/// There is no other refusal.
 pub fn invoke<F: PresentFrames>(
     store: &mut F,
     banks: &mut Banks,
     invocation: &Invocation,
-) -> Result<Option<ResultCode>, InvokeFault>
+) -> Result<Option<ResultCode>, Refusal>
     requires sound { AreSound (F.parts store.old) }
     requires process { IsTrue (is_process
         (objects_in (F.parts store.old)) invocation.now.process) }
@@ -43,10 +43,17 @@ pub fn invoke<F: PresentFrames>(
 {
     invocation.can_be_spelt();
     numbers_fit(store);
-    let caller = ask(store, banks, invocation)?;
-    if !roots::is_running(store, invocation.process) {
-        return Err(InvokeFault::NotRunning);
+    let process = invocation.process;
+    let annex = look_at_process(store, banks, process)?;
+    if !roots::is_running(store, process) {
+        return Err(Refusal::NotRunning);
     }
+    let caller = Caller {
+        process,
+        annex,
+        operation: invocation.operation,
+        invoked: objects::slot(store, annex, invocation.register.index()),
+    };
     match gate_of(caller.invoked) {
         Some(gate) => invoke_gate(store, banks, invocation, caller, gate),
         None => invoke_order(store, banks, invocation, caller),

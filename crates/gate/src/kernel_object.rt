@@ -18,12 +18,11 @@ ghost use Rattle.gate.specs.Plan.{fetched_of};
 
 use crate::banking::requested_bank;
 use crate::carrying::carry_out;
-use crate::fault::InvokeFault;
 use crate::looking::{look_at_named, order_arguments};
 use crate::orders::plan;
-use capability::{BankChange, Caller, Change, Frames, OrderPlan, PrepareFault, PresentFrames};
+use capability::{BankChange, Caller, Change, Frames, OrderPlan, PresentFrames};
 use device::Failed;
-use model::{Arguments, Invocation, ResultCode};
+use model::{Arguments, Invocation, Refusal, ResultCode};
 use space_bank::Banks;
 
 // Lists the object that the change of an order writes, if it writes one.
@@ -142,7 +141,7 @@ fn announce<F: PresentFrames>(
     listed: &[u64],
     caller: Caller,
     change: Change,
-) -> Result<(), PrepareFault>
+) -> Result<(), Refusal>
     requires keepable { AreKeepable (F.parts store.old).geometry u64.MAX
         (frames_of (F.parts store.old)) }
     requires process { caller.process < length (F.parts store.old).headers }
@@ -165,7 +164,7 @@ pub fn invoke_order<F: PresentFrames>(
     banks: &mut Banks,
     invocation: &Invocation,
     caller: Caller,
-) -> Result<Option<ResultCode>, InvokeFault>
+) -> Result<Option<ResultCode>, Refusal>
     requires sound { AreSound (F.parts store.old) }
     requires running { IsTrue (is_running_process
         (objects_in (F.parts store.old)) invocation.now.process) }
@@ -177,7 +176,7 @@ pub fn invoke_order<F: PresentFrames>(
     requires fetched { F.IsFetched store.old caller.annex }
     requires object { IsKernelObject caller.invoked }
     ensures invoked { Invoked F.parts F.ContinuesTo store.old store.new invocation.now result }
-    ensures stalled { IsErrOf result InvokeFault.Stalled → ⊥ }
+    ensures stalled { IsErrOf result Refusal.Stalled → ⊥ }
     ensures counted { AreCounted (F.parts store.new).geometry
         (objects_in (F.parts store.new)) banks.new }
 {

@@ -5,7 +5,6 @@ mod banking;
 mod carrying;
 mod change;
 mod delivery;
-mod fault;
 mod gates;
 mod invocation;
 mod kernel_object;
@@ -15,5 +14,4 @@ mod orders;
 mod page;
 mod process;
 
-pub use fault::InvokeFault;
 pub use invocation::invoke;

@@ -10,10 +10,9 @@ ghost use Rattle.capability.specs.Parts.{frames_of, objects_in};
 ghost use Rattle.space_bank.specs.Banks.{AreCounted};
 ghost use Rattle.gate.specs.Ordering.{arguments_of};
 ghost use Rattle.capability.specs.Parts.{FetchesOrFails};
-ghost use Rattle.gate.specs.Invoke.{IsRequested};
 ghost use Rattle.gate.specs.Plan.{process_named};
 
-use capability::{Caller, Frames, objects};
+use capability::{Frames, objects};
 use device::Failed;
 use model::{Arguments, Capability, Invocation};
 use space_bank::Banks;
@@ -66,35 +65,6 @@ pub fn look_at_named<F: Frames>(
         Some(object) => store.fetch(&[object]),
         None => Ok(()),
     }
-}
-
-/// Fetches the process that invokes and its annex, and reads what it invokes.
-pub fn ask<F: Frames>(
-    store: &mut F,
-    banks: &Banks,
-    invocation: &Invocation,
-) -> Result<Caller, Failed>
-    requires keepable { AreKeepable (F.parts store.old).geometry u64.MAX
-        (frames_of (F.parts store.old)) }
-    requires process { IsTrue (is_process
-        (objects_in (F.parts store.old)) invocation.now.process) }
-    requires annex { IsTrue (is_annex
-        (content_at (objects_in (F.parts store.old))
-        (annex_at (objects_in (F.parts store.old)) invocation.now.process))) }
-    requires counted { AreCounted (F.parts store.old).geometry
-        (objects_in (F.parts store.old)) banks.now }
-    ensures requested { IfOk result (λ caller. IsRequested (objects_in (F.parts store.old)) invocation.now caller) }
-    ensures fetched { IfOk result (λ caller. F.IsFetched store.new caller.annex) }
-    ensures root { OnOk result (F.IsFetched store.new invocation.now.process) }
-    ensures fetches { FetchesOrFails F.parts F.ContinuesTo store.old store.new result }
-{
-    let annex = look_at_process(store, banks, invocation.process)?;
-    Ok(Caller {
-        process: invocation.process,
-        annex,
-        operation: invocation.operation,
-        invoked: objects::slot(store, annex, invocation.register.index()),
-    })
 }
 
 /// The arguments of an order: two words, and the first capability that is sent. The annex of the

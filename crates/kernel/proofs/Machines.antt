@@ -5,7 +5,7 @@ use Rattle.kernel.proofs.Names.{second, Only, Disk, Elapses, LeavesOnly, agrees_
 use Rattle.kernel.proofs.Names.{OpenFault, Parts, View, Live, Power, power_of, saved_of, DenotesOne, Leaves, LeavesOne, RefusesToOpen, Recovers, IsNoReason}
 use Rattle.kernel.proofs.Names.{IsSomeDown, Opens, ReopensAs, Reopened, IsSomeUp, IsUp, running, IsCaused, IsDeviceOf, IsSomeMachine, Serves, ServesFrom}
 use Rattle.kernel.proofs.Names.{ServesUp, Stands, disk_of, one_denoted, one_not_bad, refused_by, true, takes_memory, wants_memory_to_show, None, Result, Ok}
-use Rattle.kernel.proofs.Names.{Err, IfOk, Invocation, objects_in, code_with, HasCode, Refusal, ResultCode, done_with, InvokeFault}
+use Rattle.kernel.proofs.Names.{Err, IfOk, Invocation, objects_in, code_with, HasCode, Refusal, ResultCode, done_with}
 use Rattle.std.proofs.Common.{◌≡◌, ◌↔◌, ◌⊎◌, ◌<◌, ◌≤◌, ◌∷◌, ◌++◌, ◌∙◌}
 use Rattle.kernel.proofs.Crashes.{leaves_end, leaves_here, among}
 use Rattle.model.specs.declared.answer.Answer.TheVariants as answer
@@ -285,7 +285,7 @@ module _ {D S : Type 0} (disk : D → Disk) (view : S → View D) (parts : S →
       ∙ ap (λ (x : Running). code_with g x.now.objects i answer.Done) (sym stands.1)
   invoked_code l i code is g (Down saved) stands = absurd stands
 
-  pub up_code : (l : Live S) (i : Invocation) (r : Result (Option ResultCode) InvokeFault) →
+  pub up_code : (l : Live S) (i : Invocation) (r : Result (Option ResultCode) Refusal) →
       IfOk r (λ code. code ≡ code_with (parts l.store).geometry (objects_in (parts l.store)) i answer.Done)
       → IfOk r (λ code. HasCode disk view parts (power.Up l) (command.Invoke i) (done_with code))
   up_code l i (Ok code) is = invoked_code l i code is

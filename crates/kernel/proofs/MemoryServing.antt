@@ -1,10 +1,10 @@
 -- The outcome of loads and stores over present frames, from what each part of them reported.
-use Rattle.kernel.proofs.Names.{ℕ, Bool, true, List, [], Option, None, Some, Result, Ok, Err, sym, ap, subst, IsErrOf, Answer, MemoryFault, Refusal, Command}
-use Rattle.kernel.proofs.Names.{Frame, ObjectHeader, Geometry, Object, header_at, objects_of, IsSoundFrames, Frozen, Saved, Machine, touching, touched_count}
-use Rattle.kernel.proofs.Names.{Step, is_process, is_running_process, with_word, none_in_frame, renewing_none, word_frame, SameFrame, frame_refl, tests_at}
-use Rattle.kernel.proofs.Names.{PrepareFault, IsUnchanged, OnlyFetches, Parts, frames_of, objects_in, IsLoaded, IsStored, KeepsSound, OverfillsStore}
-use Rattle.kernel.proofs.Names.{renews_none, InvokeFault, IsEarly, Performs, refusal_by, machine_at, renewed_by, FetchesOrFails, Failed, unrisen, ok_no_err}
-use Rattle.kernel.proofs.Names.{ok_no_failure, AreCounted, BanksState, counted_on}
+use Rattle.kernel.proofs.Names.{ℕ, Bool, true, List, [], Option, None, Some, Result, Ok, Err, refl, sym, ap, subst, IsErrOf, Answer, MemoryFault, Refusal}
+use Rattle.kernel.proofs.Names.{Command, Frame, ObjectHeader, Geometry, Object, header_at, objects_of, IsSoundFrames, Frozen, Saved, Machine, touching}
+use Rattle.kernel.proofs.Names.{touched_count, Step, is_process, is_running_process, with_word, none_in_frame, renewing_none, word_frame, SameFrame, frame_refl}
+use Rattle.kernel.proofs.Names.{tests_at, IsUnchanged, IsUnprepared, OnlyFetches, Parts, frames_of, objects_in, IsLoaded, IsStored, KeepsSound, OverfillsStore}
+use Rattle.kernel.proofs.Names.{renews_none, IsEarly, Performs, machine_at, renewed_by, FetchesOrFails, unrisen, ok_no_err, ok_no_failure, AreCounted}
+use Rattle.kernel.proofs.Names.{BanksState, counted_on}
 use Rattle.std.proofs.Common.{◌≡◌, ◌↔◌, ◌%◌, ◌<◌, ◌≤◌, ◌∷◌, ◌∙◌}
 use Rattle.kernel.proofs.Performing.{AreSame, refused_serves, same_frames, same_renews, same_sound, serves_looked, standing, still_machine, reported_cause}
 use Rattle.kernel.proofs.ProcessSteps.{early_fine}
@@ -12,7 +12,6 @@ use Rattle.kernel.proofs.MemorySteps.{load_early, load_step, loaded_answer, stor
 use Rattle.model.specs.declared.answer.Answer.TheVariants as answer
 use Rattle.model.specs.declared.answer.Refusal.TheVariants as refusal
 use Rattle.model.specs.declared.command.Command.TheVariants as command
-use Rattle.capability.specs.declared.present.PrepareFault.TheVariants as prepare
 
 -- what was only read is the same
 pub looked_same : {S : Type 0} {parts : S → Parts} {Continues : S → S → Type 0} {old new : S} → OnlyFetches parts Continues old new →
@@ -26,8 +25,8 @@ unchanged_same old new geometry unchanged =
     record { headers = unchanged.headers; contents = unchanged.contents; touched = unchanged.touched; geometry = geometry }
 
 -- what an outcome isn't
-full_unfailed : {T : Type 0} (f : PrepareFault) → f ≡ prepare.LogFull → (let r : Result T PrepareFault = Err f in IsErrOf r prepare.Failed) → ⊥
-full_unfailed f is e = let d : f ≡ prepare.Failed = cc in cc
+full_unfailed : {T : Type 0} → (let r : Result T Refusal = Err refusal.LogFull in IsErrOf r refusal.Fault) → ⊥
+full_unfailed e = cc
 
 -- what a store answers
 abbrev pub stored_answer : Result (Unit {0}) MemoryFault → Answer
@@ -49,19 +48,19 @@ machine_is age new renewed now frozen saved to_move os ts objects touched same =
     λ k. standing age (same k) frozen saved to_move (sym objects k) (sym touched k)
 
 -- a process that can't act
-module _ {S : Type 0} {parts : S → Parts} {Continues : S → S → Type 0} {age : ℕ} {old new : S} (p address : ℕ) (why : InvokeFault)
+module _ {S : Type 0} {parts : S → Parts} {Continues : S → S → Type 0} {age : ℕ} {old new : S} (p address : ℕ) (why : Refusal)
     (sound : IsSoundFrames (parts old).geometry age (frames_of (parts old))) (early : IsEarly (objects_in (parts old)) p (Some why))
     (snapshots : OnlyFetches parts Continues old new) (later : (parts old).failures ≤ (parts new).failures)
     (stayed : (parts old).failures < (parts new).failures → ⊥) where
-  why_cause : (refusal_by why ≡ refusal.Fault) ↔ ((parts old).failures < (parts new).failures)
-  why_cause = reported_cause (refusal_by why) (early_fine (objects_in (parts old)) p why early) stayed
+  why_cause : (why ≡ refusal.Fault) ↔ ((parts old).failures < (parts new).failures)
+  why_cause = reported_cause why (early_fine (objects_in (parts old)) p why early) stayed
 
-  pub early_load : Performs age (parts old) (command.Load p address) (answer.Refused (refusal_by why)) age (parts new)
+  pub early_load : Performs age (parts old) (command.Load p address) (answer.Refused why) age (parts new)
   early_load =
       refused_serves (looked_same snapshots) sound later
       why_cause (λ renewed frozen saved to_move other. load_early (parts old).geometry _ p address why early)
 
-  pub early_store : (word : ℕ) → Performs age (parts old) (command.Store p address word) (answer.Refused (refusal_by why)) age (parts new)
+  pub early_store : (word : ℕ) → Performs age (parts old) (command.Store p address word) (answer.Refused why) age (parts new)
   early_store word =
       refused_serves (looked_same snapshots) sound later
       why_cause (λ renewed frozen saved to_move other. store_early (parts old).geometry _ p address word why early)
@@ -155,7 +154,7 @@ module _ {S : Type 0} {parts : S → Parts} {Continues : S → S → Type 0} {ag
     pub store_answers : (stored reported : Result (Unit {0}) MemoryFault) → stored ≡ reported →
         IsStored mid.geometry.log (objects_in mid) mid.touched p address word (objects_in new) new.touched stored →
         KeepsSound mid new →
-        (let r : Result (Result (Unit {0}) MemoryFault) PrepareFault = Ok stored in IsErrOf r prepare.Failed ↔ (mid.failures < new.failures)) →
+        (let r : Result (Result (Unit {0}) MemoryFault) Refusal = Ok stored in IsErrOf r refusal.Fault ↔ (mid.failures < new.failures)) →
         Performs age old (command.Store p address word) (stored_answer reported) age new
     store_answers stored reported is found keeps cause =
         subst (λ (r : Result (Unit {0}) MemoryFault). Performs age old (command.Store p address word) (stored_answer r) age new) is
@@ -169,16 +168,21 @@ module _ {S : Type 0} {parts : S → Parts} {Continues : S → S → Type 0} {ag
           cause = (λ e. absurd (stored_unfailed stored e), λ rose. absurd (ok_no_failure stored (cause.1 rose)));
         }))
 
-    pub store_full : (f : PrepareFault) → f ≡ prepare.LogFull → IsUnchanged mid new →
-        (let r : Result (Result (Unit {0}) MemoryFault) PrepareFault = Err f in IsErrOf r prepare.Failed ↔ (mid.failures < new.failures)) →
-        (let r : Result (Result (Unit {0}) MemoryFault) PrepareFault = Err f in IsErrOf r prepare.LogFull →
+    -- a store that isn't carried out
+    pub store_refused : (why : Refusal) → IsUnprepared why → IsUnchanged mid new →
+        (let r : Result (Result (Unit {0}) MemoryFault) Refusal = Err why in IsErrOf r refusal.Fault ↔ (mid.failures < new.failures)) →
+        (let r : Result (Result (Unit {0}) MemoryFault) Refusal = Err why in IsErrOf r refusal.LogFull →
         OverfillsStore mid.geometry.log (objects_in mid) mid.touched p address) →
-        Performs age old (command.Store p address word) (answer.Refused refusal.LogFull) age new
-    store_full f is unchanged cause full =
-        let over = full (ap (λ (k : PrepareFault). let r : Result (Result (Unit {0}) MemoryFault) PrepareFault = Err k in r) is) in
+        Performs age old (command.Store p address word) (answer.Refused why) age new
+    store_refused refusal.LogFull of unchanged cause full =
+        let over = full refl in
         refused_then (command.Store p address word) refusal.LogFull (λ e. cc) (unchanged_same mid new geometry unchanged) later
-        (λ rose. full_unfailed f is (cause.1 rose))
+        (λ rose. full_unfailed (cause.1 rose))
         (λ renewed frozen saved to_move. store_full_step mid.geometry _ p address word process running over.0 over.1 over.2)
+    store_refused refusal.Fault of unchanged cause full =
+        serves_looked same failures (refused_serves (unchanged_same mid new geometry unchanged) mid_sound later
+        (λ e. cause.0 refl, λ rose. refl) (λ renewed frozen saved to_move other. absurd (other refl)))
+    store_refused c of unchanged cause full = absurd of
 
 abbrev IsCountedAt : Parts → BanksState → Type 0
 IsCountedAt p s = AreCounted p.geometry (objects_in p) s

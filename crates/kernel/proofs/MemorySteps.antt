@@ -2,12 +2,11 @@
 use Rattle.kernel.proofs.Names.{ℕ, Bool, true, false, not, [], Option, None, Some, Result, Ok, Err, refl, sym, ap, arith, nat_tests, Access, Answer}
 use Rattle.kernel.proofs.Names.{MemoryFault, Refusal, Command, Geometry, Running, Up, touching, touched_count, Step, Outcome, refusal_of, carried_out}
 use Rattle.kernel.proofs.Names.{of_running, outcome, overfills, reached, unless, writable, writing, is_process, is_running_process, with_word, word_at}
-use Rattle.kernel.proofs.Names.{InvokeFault, IsLoaded, IsEarly, refusal_by}
+use Rattle.kernel.proofs.Names.{IsLoaded, IsEarly}
 use Rattle.std.proofs.Common.{◌≡◌, ◌%◌, ◌<◌, ◌≤◌, ◌∷◌, ◌∙◌}
 use Rattle.model.specs.declared.answer.Answer.TheVariants as answer
 use Rattle.model.specs.declared.answer.Refusal.TheVariants as refusal
 use Rattle.model.specs.declared.command.Command.TheVariants as command
-use Rattle.gate.specs.declared.fault.InvokeFault.TheVariants as fault
 use Rattle.kernel.proofs.ProcessSteps.{done_step, refused_step}
 
 -- a command of a process that has to run, and the refusal of one that does
@@ -19,9 +18,9 @@ module _ (g : Geometry) (s : Running) (c : Command) (p : ℕ) (next : Option Ref
   by as_a as_b = of ∙ (λ k. in_order (as_a k) (as_b k))
 
   -- a process that can't act
-  pub cannot_act : (why : InvokeFault) → IsEarly s.now.objects p (Some why) → Step g (Up s) c (answer.Refused (refusal_by why)) (Up s)
-  cannot_act fault.NoProcess early = refused_step g s c refusal.NoProcess (by early refl)
-  cannot_act fault.NotRunning early = refused_step g s c refusal.NotRunning (by early.0 early.1)
+  pub cannot_act : (why : Refusal) → IsEarly s.now.objects p (Some why) → Step g (Up s) c (answer.Refused why) (Up s)
+  cannot_act refusal.NoProcess early = refused_step g s c refusal.NoProcess (by early refl)
+  cannot_act refusal.NotRunning early = refused_step g s c refusal.NotRunning (by early.0 early.1)
   cannot_act _ early = absurd early
 
 -- what a load answers
@@ -35,8 +34,8 @@ module _ (g : Geometry) (s : Running) (p address : ℕ) where
   unfolding refusal_of
   load_order = refl
 
-  pub load_early : (why : InvokeFault) → IsEarly s.now.objects p (Some why) →
-      Step g (Up s) (command.Load p address) (answer.Refused (refusal_by why)) (Up s)
+  pub load_early : (why : Refusal) → IsEarly s.now.objects p (Some why) →
+      Step g (Up s) (command.Load p address) (answer.Refused why) (Up s)
   load_early = cannot_act g s (command.Load p address) p None load_order
 
   abbrev after_loading : Result (ℕ × Access) MemoryFault → Outcome
@@ -74,8 +73,8 @@ module _ (g : Geometry) (s : Running) (p address word : ℕ) where
   unfolding refusal_of
   store_order = refl
 
-  pub store_early : (why : InvokeFault) → IsEarly s.now.objects p (Some why) →
-      Step g (Up s) (command.Store p address word) (answer.Refused (refusal_by why)) (Up s)
+  pub store_early : (why : Refusal) → IsEarly s.now.objects p (Some why) →
+      Step g (Up s) (command.Store p address word) (answer.Refused why) (Up s)
   store_early = cannot_act g s (command.Store p address word) p (full_or_none (writable (reached s.now.objects p address))) store_order
 
   abbrev after_storing : Result ℕ MemoryFault → Outcome

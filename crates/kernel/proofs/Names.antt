@@ -2,8 +2,7 @@
 pub use Rattle.address_space.specs.References.{IsLoaded, IsStored, KeepsSound, OverfillsStore}
 pub use Rattle.capability.proofs.FrameLists.{at_set, frame_in, headers_in, process_known}
 pub use Rattle.capability.proofs.Keeping.{keepable_count, keepable_later}
-pub use Rattle.capability.specs.Parts.{FetchesOrFails, IsUnchanged, OnlyFetches, Parts, Renews, frames_of, objects_in}
-pub use Rattle.capability.specs.declared.present.PrepareFault.{PrepareFault}
+pub use Rattle.capability.specs.Parts.{FetchesOrFails, IsUnchanged, IsUnprepared, OnlyFetches, Parts, Renews, frames_of, objects_in}
 pub use Rattle.capability.specs.declared.present.ReadFault.{ReadFault}
 pub use Rattle.checkpoint.proofs.Lists.{maps_same}
 pub use Rattle.checkpoint.specs.Refused.{IsCommitAnswer, IsFreezeAnswer, IsJournalAnswer, IsRefused, IsTurnedAway}
@@ -21,7 +20,6 @@ pub use Rattle.gate.proofs.Invoking.{ok_no_err, ok_no_failure}
 pub use Rattle.gate.proofs.Known.{annex_known, one_known}
 pub use Rattle.gate.proofs.Standing.{keepable_most, looked_as}
 pub use Rattle.gate.specs.Invoke.{Invoked, Invokes, KeepsSoundFrames, TellsState}
-pub use Rattle.gate.specs.declared.fault.InvokeFault.{InvokeFault}
 pub use Rattle.model.specs.Frame.{blank_frame, conveyed, frame_at, header_at, headers, held_at, object_of}
 unfoldable pub use Rattle.model.specs.Frame.{frames_in, objects_of}
 pub use Rattle.model.specs.Invoke.{Effect}
@@ -84,5 +82,4 @@ pub use Rattle.std.specs.Prelude.{IfOk, IsErr, IsErrAnd, IsErrOf, nat_lt, option
 pub use Rattle.kernel.specs.Machine.{IsEarly, IsUnlooked, Performs, answer_of, answer_with, code_with, machine_at, renewed_by}
 pub use Rattle.kernel.specs.Opening.{IsNoReason, IsSomeDown, Opens, Reopened, ReopensAs, refused_by}
 pub use Rattle.kernel.specs.Power.{Power, power_of}
-pub use Rattle.kernel.specs.Prepared.{refusal_by}
 pub use Rattle.kernel.specs.Standing.{HasCode, IsCaused, IsDeviceOf, IsSomeMachine, Serves, ServesFrom, ServesUp, Stands, disk_of, done_with}

@@ -2,14 +2,13 @@
 use Rattle.kernel.proofs.Names.{ℕ, Bool, true, false, List, length, Option, Result, Ok, Err, refl, sym, ap, subst, arith, Answer, Refusal, Command, Invocation}
 use Rattle.kernel.proofs.Names.{Frame, Geometry, Object, ResultCode, ObjectHeader, frames_in, header_at, objects_of, IsSoundFrames, world_at, Frozen, Saved}
 use Rattle.kernel.proofs.Names.{Machine, Up, renewing, touching, touched_count, is_free, Step, shown, content_at, is_process, is_running_process, none_given_up}
-use Rattle.kernel.proofs.Names.{renewing_none, Parts, Renews, frames_of, objects_in, keepable_count, IsErr, IsErrOf, InvokeFault, Invoked, Invokes}
-use Rattle.kernel.proofs.Names.{KeepsSoundFrames, TellsState, Failed, renews_after, renews_none, Performs, machine_at, renewed_by, refusal_by, ReadFault}
+use Rattle.kernel.proofs.Names.{renewing_none, Parts, Renews, frames_of, objects_in, keepable_count, IsErr, IsErrOf, Invoked, Invokes, KeepsSoundFrames}
+use Rattle.kernel.proofs.Names.{TellsState, Failed, renews_after, renews_none, Performs, machine_at, renewed_by, ReadFault}
 use Rattle.std.proofs.Common.{◌≡◌, ◌↔◌, ◌+◌, ◌^◌, ◌<◌, ◌≤◌, ◌∙◌}
 use Rattle.model.specs.declared.answer.Answer.TheVariants as answer
 use Rattle.model.specs.declared.answer.Refusal.TheVariants as refusal
 use Rattle.model.specs.declared.command.Command.TheVariants as command
 use Rattle.capability.specs.declared.present.ReadFault.TheVariants as read
-use Rattle.gate.specs.declared.fault.InvokeFault.TheVariants as fault
 use Rattle.kernel.proofs.ProcessSteps.{bad_number_step, early_step, full_step, invoke_step, show_no_memory, show_step, stalled_step}
 
 -- the same parts but for failures
@@ -119,41 +118,41 @@ pub no_process_serves : (p : Parts) (age : ℕ) (i : Invocation) → IsSoundFram
 no_process_serves p age i sound none =
     refused_serves (record { headers = refl; contents = refl; touched = refl; geometry = refl }) sound
     (omega arith) (reported_cause refusal.NoProcess (λ e. cc) (λ rose. absurd (omega (arith, rose))))
-    (λ renewed frozen saved to_move other. early_step p.geometry _ i fault.NoProcess none)
+    (λ renewed frozen saved to_move other. early_step p.geometry _ i refusal.NoProcess none)
 
 -- what is answered to an invocation that wasn't carried out
 module _ {S : Type 0} (parts : S → Parts) (Continues : S → S → Type 0) (age : ℕ) (old new : S) (i : Invocation)
     (process : is_process (objects_in (parts old)) i.process ≡ true) (sound : IsSoundFrames (parts old).geometry age (frames_of (parts old)))
     (young : age < 2 ^ 62) where
-  module _ (f : InvokeFault) (said : Invoked parts Continues old new i (Err f)) where
+  module _ (f : Refusal) (said : Invoked parts Continues old new i (Err f)) where
     unchanged : AreSame (parts old) (parts new)
     unchanged = record { headers = said.unchanged.headers; contents = said.unchanged.contents; touched = said.unchanged.touched; geometry = said.geometry }
 
-    refused : (why : Refusal) → ((why ≡ refusal.Fault) ↔ (f ≡ fault.Failed)) →
+    refused : (why : Refusal) → ((why ≡ refusal.Fault) ↔ (f ≡ refusal.Fault)) →
         ((renewed : List Bool) (frozen : Option Frozen) (saved : Saved) (to_move : ℕ) → (why ≡ refusal.Fault → ⊥) →
         Step (parts old).geometry (machine_at age (parts old) renewed frozen saved to_move) (command.Invoke i) (answer.Refused why)
         (machine_at age (parts old) renewed frozen saved to_move)) →
         Performs age (parts old) (command.Invoke i) (answer.Refused why) age (parts new)
     refused why same step =
         refused_serves unchanged sound said.later (
-          λ e. said.cause.0 (ap (λ (k : InvokeFault). let r : Result (Option ResultCode) InvokeFault = Err k in r) (same.0 e)),
+          λ e. said.cause.0 (ap (λ (k : Refusal). let r : Result (Option ResultCode) Refusal = Err k in r) (same.0 e)),
           λ rose. let failed = said.cause.1 rose in same.1 cc,
         ) step
 
-  pub fault_serves : (f : InvokeFault) → TellsState (objects_in (parts old)) i (Err f) → Invoked parts Continues old new i (Err f) →
-      Performs age (parts old) (command.Invoke i) (answer.Refused (refusal_by f)) age (parts new)
-  fault_serves fault.NotRunning tells said =
-      refused fault.NotRunning said refusal.NotRunning (λ e. cc, λ e. cc)
-      (λ renewed frozen saved to_move other. early_step (parts old).geometry _ i fault.NotRunning (process, tells))
-  fault_serves fault.Stalled tells said =
-      refused fault.Stalled said refusal.Stalled (λ e. cc, λ e. cc)
+  pub fault_serves : (f : Refusal) → TellsState (objects_in (parts old)) i (Err f) → Invoked parts Continues old new i (Err f) →
+      Performs age (parts old) (command.Invoke i) (answer.Refused f) age (parts new)
+  fault_serves refusal.NotRunning tells said =
+      refused refusal.NotRunning said refusal.NotRunning (λ e. cc, λ e. cc)
+      (λ renewed frozen saved to_move other. early_step (parts old).geometry _ i refusal.NotRunning (process, tells))
+  fault_serves refusal.Stalled tells said =
+      refused refusal.Stalled said refusal.Stalled (λ e. cc, λ e. cc)
       (λ renewed frozen saved to_move other. stalled_step (parts old).geometry _ i process tells young (said.stalled refl))
-  fault_serves fault.LogFull tells said =
+  fault_serves refusal.LogFull tells said =
       let over = said.full refl in
-      refused fault.LogFull said refusal.LogFull (λ e. cc, λ e. cc)
+      refused refusal.LogFull said refusal.LogFull (λ e. cc, λ e. cc)
       (λ renewed frozen saved to_move other. full_step (parts old).geometry _ i process tells young over.0 over.1 over.2)
-  fault_serves fault.Failed tells said =
-      refused fault.Failed said refusal.Fault (λ e. refl, λ e. refl) (λ renewed frozen saved to_move other. absurd (other refl))
+  fault_serves refusal.Fault tells said =
+      refused refusal.Fault said refusal.Fault (λ e. refl, λ e. refl) (λ renewed frozen saved to_move other. absurd (other refl))
   fault_serves c tells said = absurd tells
 
   -- and to one that was
@@ -201,7 +200,7 @@ pub unread_unfailed : (f : ReadFault) → f ≡ read.NoMemory → (let r : Resul
 unread_unfailed f is e = let d : f ≡ read.Failed = cc in cc
 
 -- where a call succeeds no count rises
-pub ok_stayed : {X : Type 0} (early : Option InvokeFault) → (let r : Result (Option InvokeFault) Failed = Ok early in IsErr r ↔ X) → X → ⊥
+pub ok_stayed : {X : Type 0} (early : Option Refusal) → (let r : Result (Option Refusal) Failed = Ok early in IsErr r ↔ X) → X → ⊥
 ok_stayed early cause x = let never : false ≡ true = cause.1 x in cc
 
 -- what was shown isn't a failure

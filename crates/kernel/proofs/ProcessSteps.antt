@@ -2,12 +2,10 @@
 use Rattle.kernel.proofs.Names.{ℕ, Bool, true, false, not, List, Option, None, Some, refl, sym, ap, subst, inl, inr, arith, nat_lt, nat_tests, Answer, Refusal}
 use Rattle.kernel.proofs.Names.{Command, Invocation, Geometry, Object, Effect, invoke, Running, Machine, Up, renewing, touching, touched_count, object_count}
 use Rattle.kernel.proofs.Names.{Step, Outcome, refusal_of, carried_out, unless, overfills, writing, gives_way, shown, is_process, is_running_process, IsEarly}
-use Rattle.kernel.proofs.Names.{InvokeFault, refusal_by}
 use Rattle.std.proofs.Common.{◌≡◌, ◌+◌, ◌^◌, ◌<◌, ◌≤◌, ◌∙◌}
 use Rattle.model.specs.declared.answer.Answer.TheVariants as answer
 use Rattle.model.specs.declared.answer.Refusal.TheVariants as refusal
 use Rattle.model.specs.declared.command.Command.TheVariants as command
-use Rattle.gate.specs.declared.fault.InvokeFault.TheVariants as fault
 
 -- the answer by the refusal that applies
 abbrev AnswersBy : Geometry → Running → Command → Answer → Machine → Option Refusal → Type 0
@@ -42,11 +40,11 @@ module _ (g : Geometry) (s : Running) (i : Invocation) where
   by as_a as_b as_c as_o = refusal_is ∙ (λ k. in_order (as_a k) (as_b k) (as_c k) (as_o k))
 
   -- a process that can't act
-  pub early_step : (why : InvokeFault) → IsEarly s.now.objects i.process (Some why) →
-      Step g (Up s) (command.Invoke i) (answer.Refused (refusal_by why)) (Up s)
-  early_step fault.NoProcess early =
+  pub early_step : (why : Refusal) → IsEarly s.now.objects i.process (Some why) →
+      Step g (Up s) (command.Invoke i) (answer.Refused why) (Up s)
+  early_step refusal.NoProcess early =
       refused_step g s (command.Invoke i) refusal.NoProcess (by early refl refl refl)
-  early_step fault.NotRunning early =
+  early_step refusal.NotRunning early =
       refused_step g s (command.Invoke i) refusal.NotRunning (by early.0 early.1 refl refl)
   early_step _ early = absurd early
 
@@ -111,12 +109,12 @@ module _ (g : Geometry) (s : Running) (n : ℕ) where
       inr (inl (ap (λ (b : Bool). gives_way (unless b refusal.BadNumber None)) known, refl, refl))
 
 -- none of them is a failure
-pub early_fine : (os : List Object) (p : ℕ) (why : InvokeFault) → IsEarly os p (Some why) → refusal_by why ≡ refusal.Fault → ⊥
-early_fine os p fault.NoProcess early is = cc
-early_fine os p fault.NotRunning early is = cc
+pub early_fine : (os : List Object) (p : ℕ) (why : Refusal) → IsEarly os p (Some why) → why ≡ refusal.Fault → ⊥
+early_fine os p refusal.NoProcess early is = cc
+early_fine os p refusal.NotRunning early is = cc
 early_fine os p _ early is = absurd early
 
 -- one that isn't refused runs
-pub early_none : (os : List Object) (p : ℕ) (o : Option InvokeFault) → ((why : InvokeFault) → o ≡ Some why → ⊥) → IsEarly os p o → IsEarly os p None
+pub early_none : (os : List Object) (p : ℕ) (o : Option Refusal) → ((why : Refusal) → o ≡ Some why → ⊥) → IsEarly os p o → IsEarly os p None
 early_none os p None other early = early
 early_none os p (Some why) other early = absurd (other why refl)

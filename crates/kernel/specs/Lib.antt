@@ -1,6 +1,5 @@
 pub mod Names
 pub mod Machine
-pub mod Prepared
 pub mod Power
 pub mod Standing
 pub mod Opening

@@ -2,12 +2,10 @@
 use Rattle.kernel.specs.Names.{ℕ, Bool, Option, None, Some, List, true, false, Result, Ok, Err, Failed, Answer, Refusal}
 use Rattle.kernel.specs.Names.{Command, Invocation, Geometry, Object, ResultCode, IsSoundFrames, world_at, Frozen}
 use Rattle.kernel.specs.Names.{Saved, Machine, Up, renewing, Step, is_process, is_running_process, Parts, Renews}
-use Rattle.kernel.specs.Names.{frames_of, objects_in, result_code, InvokeFault}
+use Rattle.kernel.specs.Names.{frames_of, objects_in, result_code}
 use Rattle.std.specs.Prelude.{◌≡◌, ◌≢◌, ◌↔◌, ◌<◌, ◌≤◌}
 use Rattle.model.specs.declared.answer.Answer.TheVariants as answer
 use Rattle.model.specs.declared.answer.Refusal.TheVariants as refusal
-use Rattle.gate.specs.declared.fault.InvokeFault.TheVariants as fault
-use Rattle.kernel.specs.Prepared.{refusal_by}
 
 -- the machine whose objects now are those of present frames
 abbrev pub machine_at : ℕ → Parts → List Bool → Option Frozen → Saved → ℕ → Machine
@@ -36,9 +34,9 @@ IsReportedOnce (Ok a) = a ≢ answer.Refused refusal.Fault
 IsReportedOnce (Err failed) = Unit {0}
 
 -- what an invocation is answered by
-abbrev pub answer_with : Result (Option ResultCode) InvokeFault → Answer
+abbrev pub answer_with : Result (Option ResultCode) Refusal → Answer
 answer_with (Ok code) = answer.Done
-answer_with (Err why) = answer.Refused (refusal_by why)
+answer_with (Err why) = answer.Refused why
 
 -- the result code beside an answer to an invocation
 abbrev pub code_with : Geometry → List Object → Invocation → Answer → Option ResultCode
@@ -71,8 +69,8 @@ pub record Performs (old_age : ℕ) (old : Parts) (c : Command) (a : Answer) (ne
   pub cause : (a ≡ answer.Refused refusal.Fault) ↔ (old.failures < new.failures)
 
 -- why a process can't act, or nothing where it runs
-abbrev pub IsEarly : List Object → ℕ → Option InvokeFault → Type 0
+abbrev pub IsEarly : List Object → ℕ → Option Refusal → Type 0
 IsEarly os p None = (is_process os p ≡ true) × (is_running_process os p ≡ true)
-IsEarly os p (Some fault.NoProcess) = is_process os p ≡ false
-IsEarly os p (Some fault.NotRunning) = (is_process os p ≡ true) × (is_running_process os p ≡ false)
+IsEarly os p (Some refusal.NoProcess) = is_process os p ≡ false
+IsEarly os p (Some refusal.NotRunning) = (is_process os p ≡ true) × (is_running_process os p ≡ false)
 IsEarly os p _ = ⊥

@@ -7,7 +7,6 @@ pub use Rattle.device.specs.Calls.{Only}
 pub use Rattle.device.specs.Disk.{Disk}
 pub use Rattle.device.specs.declared.device.Failed.{Failed}
 pub use Rattle.gate.specs.Invoke.{result_code}
-pub use Rattle.gate.specs.declared.fault.InvokeFault.{InvokeFault}
 pub use Rattle.model.specs.Keepable.{IsSoundFrames, world_at}
 pub use Rattle.model.specs.Machine.{Down, Frozen, Machine, Saved, Up, candidates, opened}
 unfoldable pub use Rattle.model.specs.Machine.{renewing}

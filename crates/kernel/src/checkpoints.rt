@@ -5,9 +5,8 @@ ghost use Rattle.kernel.specs.Machine.{IsReportedOnce, IsUnlooked, answer_of};
 ghost use Rattle.recovery.specs.Live.{IsSomeUp, disk_at};
 ghost use Rattle.kernel.specs.Standing.{IsCaused, ServesUp};
 
-use crate::processes;
 use device::{Device, Failed};
-use model::{Answer, Refusal};
+use model::{Answer, MAX_AGE, Refusal};
 use object_store::ObjectStore;
 use recovery::Live;
 
@@ -35,7 +34,7 @@ pub fn checkpoint<D: Device, S: ObjectStore<D>>(live: &mut Live<S>) -> Result<An
     ensures only_reads { IsUnlooked (answer_of result) → ⊥ }
     ensures reported_once { IsReportedOnce result }
 {
-    if processes::is_worn(live.age) {
+    if live.age >= MAX_AGE {
         return Ok(Answer::Refused(Refusal::Worn));
     }
     match live.store.freeze() {

@@ -6,9 +6,8 @@ ghost use Rattle.recovery.specs.Live.{IsSomeUp, disk_at};
 ghost use Rattle.kernel.specs.Standing.{IsCaused, ServesUp};
 
 use crate::checkpoints::refused;
-use crate::processes;
 use device::{Device, Failed};
-use model::{Answer, Refusal};
+use model::{Answer, MAX_AGE, Refusal};
 use object_store::ObjectStore;
 use recovery::Live;
 
@@ -33,7 +32,7 @@ pub fn journal<D: Device, S: ObjectStore<D>>(
         → (S.view live.new.store).beneath ≡ (S.view live.old.store).beneath }
     ensures reported_once { IsReportedOnce result }
 {
-    if processes::is_worn(live.age) {
+    if live.age >= MAX_AGE {
         return Ok(Answer::Refused(Refusal::Worn));
     }
     let age = live.store.saved().age + 1;

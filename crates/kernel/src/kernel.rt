@@ -14,7 +14,7 @@ ghost use Rattle.kernel.specs.Standing.{HasCode, HasDevice, HasNoneToMove, IsCau
 ghost use Rattle.kernel.specs.Standing.{SameDevice, Serves, disk_of};
 ghost use Rattle.kernel.specs.Opening.{IsNoReason, IsSomeDown, Opens, Reopened, refused_by};
 
-use crate::processes::{Served, refusal_by};
+use crate::processes::Served;
 use crate::serving::{invoke, serve};
 use checkpoint::{Checkpoint, OpenFault, OpenRefused};
 use device::{Device, Failed};
@@ -186,7 +186,7 @@ impl<D: Device, S: ObjectStore<D>> Kernel<D, S> {
                     answer: Answer::Done,
                     code,
                 },
-                Err(why) => match refusal_by(why) {
+                Err(why) => match why {
                     Refusal::Fault => {
                         let device = take_device::<D, S>(
                             &mut self.live,

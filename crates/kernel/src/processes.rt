@@ -5,7 +5,6 @@ mod memory;
 mod served;
 mod showing;
 
-pub use early::{is_worn, refusal_by};
 pub use invocation::invoke;
 pub use memory::{load, store};
 pub use served::Served;

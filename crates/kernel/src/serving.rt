@@ -11,7 +11,6 @@ ghost use Rattle.kernel.specs.Standing.{HasCode, HasNoneToMove, IsCaused, Serves
 
 use crate::{checkpoints, journaling, processes};
 use device::{Device, Failed};
-use gate::InvokeFault;
 use model::{Answer, Command, Invocation, Refusal, ResultCode};
 use object_store::ObjectStore;
 use recovery::Live;
@@ -83,7 +82,7 @@ pub fn serve<D: Device, S: ObjectStore<D>>(
 pub fn invoke<D: Device, S: ObjectStore<D>>(
     live: &mut Live<S>,
     invocation: &Invocation,
-) -> Result<Option<ResultCode>, InvokeFault>
+) -> Result<Option<ResultCode>, Refusal>
     requires { IsSomeUp D.disk S.view S.parts live.old }
     ensures serves { ServesUp D.disk S.view S.parts live.old (command.Invoke invocation.now)
         (answer_with result) live.new }

@@ -1,6 +1,5 @@
 // Lines, answers, faults and sizes that no script over an image shows.
-use capability::{ObjectTable, PrepareFault};
-use gate::InvokeFault;
+use capability::ObjectTable;
 use image_writer::{NumberRange, lay_out};
 use layout::Version;
 use model::{
@@ -107,16 +106,6 @@ const REFUSALS: &[(Refusal, &[u8])] = &[
 fn refusals_have_texts(rt: HostRuntime) {
     for (refusal, expected) in REFUSALS {
         has_text(&rt, rt.alloc(), &Answer::Refused(*refusal), expected);
-    }
-}
-
-#[test]
-fn faults_of_a_store_are_reported_apart(rt: HostRuntime) {
-    for (of_store, of_invocation) in [
-        (PrepareFault::LogFull, InvokeFault::LogFull),
-        (PrepareFault::Failed, InvokeFault::Failed),
-    ] {
-        assert_eq!(rt; InvokeFault::from(of_store), of_invocation);
     }
 }
 

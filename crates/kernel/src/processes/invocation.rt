@@ -5,33 +5,31 @@ ghost use Rattle.model.specs.declared.answer.Answer.TheVariants.{Done, Refused};
 ghost use Rattle.model.specs.Keepable.{IsSoundFrames};
 ghost use Rattle.capability.specs.Parts.{OnlyFetches, frames_of, objects_in};
 ghost use Rattle.space_bank.specs.Banks.{AreCounted};
-ghost use Rattle.kernel.specs.Prepared.{refusal_by};
 ghost use Rattle.kernel.specs.Machine.{IsUnlooked, NeedsNoLook, Performs, answer_with, code_with};
 
-use crate::processes::early::{early, is_worn};
+use crate::processes::early::early;
 use capability::{Frames, PresentFrames, roots};
 use device::Failed;
-use gate::InvokeFault;
-use model::{Invocation, ResultCode};
+use model::{Invocation, MAX_AGE, Refusal, ResultCode};
 use space_bank::Banks;
 
 // Refuses an invocation at the greatest age: by `Worn`, if the process runs.
 #[inline(never)]
-fn refuse_worn<F: Frames>(store: &mut F, age: u64, invocation: &Invocation) -> InvokeFault
+fn refuse_worn<F: Frames>(store: &mut F, age: u64, invocation: &Invocation) -> Refusal
     requires sound { IsSoundFrames (F.parts store.old).geometry age
         (frames_of (F.parts store.old)) }
     requires worn { 2 ^ 62 ≤ age }
     ensures serves { Performs age (F.parts store.old) (command.Invoke invocation.now)
-        (Refused (refusal_by result)) age (F.parts store.new) }
-    ensures untouched { NeedsNoLook (refusal_by result) → store.new ≡ store.old }
+        (Refused result) age (F.parts store.new) }
+    ensures untouched { NeedsNoLook result → store.new ≡ store.old }
     ensures snapshots { OnlyFetches F.parts F.ContinuesTo store.old store.new }
 {
     match early(store, age, invocation.process) {
         Ok(why) => match why {
-            Some(fault) => fault,
-            None => InvokeFault::Worn,
+            Some(refusal) => refusal,
+            None => Refusal::Worn,
         },
-        Err(Failed) => InvokeFault::Failed,
+        Err(Failed) => Refusal::Fault,
     }
 }
 
@@ -42,13 +40,13 @@ fn refuse_worn<F: Frames>(store: &mut F, age: u64, invocation: &Invocation) -> I
 /// greatest age, `Stalled` and `LogFull`. `NoProcess` leaves the store untouched. `banks` keeps the
 /// usages of the banks as they are afterwards.
 ///
-/// `Failed`: the device failed, and nothing has changed.
+/// `Fault`: the device failed, and nothing has changed.
 pub fn invoke<F: PresentFrames>(
     store: &mut F,
     banks: &mut Banks,
     age: &mut u64,
     invocation: &Invocation,
-) -> Result<Option<ResultCode>, InvokeFault>
+) -> Result<Option<ResultCode>, Refusal>
     requires sound { IsSoundFrames (F.parts store.old).geometry age.old
         (frames_of (F.parts store.old)) }
     requires counted { AreCounted (F.parts store.old).geometry
@@ -63,11 +61,11 @@ pub fn invoke<F: PresentFrames>(
         (objects_in (F.parts store.new)) banks.new }
     ensures continues { F.ContinuesTo store.old store.new }
 {
-    if is_worn(*age) {
+    if *age >= MAX_AGE {
         return Err(refuse_worn(store, *age, invocation));
     }
     if !roots::is_process(store, invocation.process) {
-        return Err(InvokeFault::NoProcess);
+        return Err(Refusal::NoProcess);
     }
     let code = gate::invoke(store, banks, invocation)?;
     *age += 1;

@@ -6,10 +6,11 @@ ghost use Rattle.capability.specs.Parts.{OnlyFetches, frames_of, objects_in};
 ghost use Rattle.space_bank.specs.Banks.{AreCounted, BanksState};
 ghost use Rattle.kernel.specs.Machine.{IsReportedOnce, IsUnlooked, Performs, answer_of};
 
-use crate::processes::early::{early, refusal_by};
-use capability::{Frames, PrepareFault, PresentFrames};
+use crate::checkpoints::refused;
+use crate::processes::early::early;
+use capability::{Frames, PresentFrames};
 use device::Failed;
-use model::{Answer, Refusal};
+use model::Answer;
 
 /// Reads the word at an address in the address space of a process, at an age, which stays.
 ///
@@ -30,7 +31,7 @@ pub fn load<F: Frames>(
     ensures snapshots { OnlyFetches F.parts F.ContinuesTo store.old store.new }
 {
     if let Some(why) = early(store, age, process)? {
-        return Ok(Answer::Refused(refusal_by(why)));
+        return Ok(Answer::Refused(why));
     }
     match address_space::load(store, process, address)? {
         Ok(word) => Ok(Answer::Value(word)),
@@ -63,12 +64,11 @@ pub fn store<F: PresentFrames>(
     ensures continues { F.ContinuesTo store.old store.new }
 {
     if let Some(why) = early(store, age, process)? {
-        return Ok(Answer::Refused(refusal_by(why)));
+        return Ok(Answer::Refused(why));
     }
     match address_space::store(store, process, address, word) {
         Ok(Ok(())) => Ok(Answer::Done),
         Ok(Err(fault)) => Ok(Answer::MemoryFault(fault)),
-        Err(PrepareFault::LogFull) => Ok(Answer::Refused(Refusal::LogFull)),
-        Err(PrepareFault::Failed) => Err(Failed),
+        Err(why) => refused(why),
     }
 }

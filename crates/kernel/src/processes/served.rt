@@ -1,7 +1,5 @@
 // An answer with the result code of its order.
-ghost use Rattle.std.specs.Prelude.{◌≡◌, None};
-
-use model::{Answer, Refusal, ResultCode};
+use model::{Answer, ResultCode};
 
 /// The answer to a command, and the result code of the order that it carried out.
 #[derive(Drop)]
@@ -9,15 +7,6 @@ pub struct Served {
     pub answer: Answer,
     /// `None` unless an invocation of a kernel object was carried out.
     pub code: Option<ResultCode>,
-}
-
-impl Served {
-    /// A refusal.
-    pub(crate) fn refused(why: Refusal) -> Served
-        ensures { result ≡ record { answer = Answer.Refused why; code = None } }
-    {
-        Served::from(Answer::Refused(why))
-    }
 }
 
 impl From<Answer> for Served {

@@ -1,6 +1,7 @@
 // Fetching bodies and announcing numbers, before a step reads or changes them.
-ghost use Rattle.std.specs.Prelude.{◌≡◌, ◌≢◌, ◌↔◌, ℕ, ◌<◌, ◌≤◌, false, true, length, take, OnOk, OnErr, IsErrOf};
+ghost use Rattle.std.specs.Prelude.{◌≡◌, ◌≢◌, ◌↔◌, ℕ, ◌<◌, ◌≤◌, false, true, length, take, IfErr, OnOk, OnErr, IsErrOf};
 ghost use Rattle.std.specs.List.{All, Contains};
+ghost use Rattle.capability.specs.Parts.{IsUnprepared};
 ghost use Rattle.model.specs.Machine.{touching, touched_count};
 ghost use Rattle.migrator.specs.Durable.{stored_of};
 ghost use Rattle.object_cache.specs.Memory.{Shared};
@@ -12,8 +13,9 @@ ghost use Rattle.cache_entries.specs.Order.{used_in_turn};
 use crate::cache::Cache;
 use crate::frozen_state::is_shared;
 use crate::touched::{are_ready, fresh_count, mark};
-use capability::{MAX_FETCHED, PrepareFault};
+use capability::MAX_FETCHED;
 use device::Device;
+use model::Refusal;
 
 impl<D: Device> Cache<D> {
     // Whether all listed numbers are dirty already, so they need no announcement.
@@ -30,7 +32,7 @@ impl<D: Device> Cache<D> {
     // Marks numbers as touched and dirty. None of their present bodies may also be an unwritten frozen body. `LogFull`
     // exactly if more than half of the log holds would be touched; then nothing changes.
     #[inline(never)]
-    pub(crate) fn announce(&mut self, written: &[u64]) -> Result<(), PrepareFault>
+    pub(crate) fn announce(&mut self, written: &[u64]) -> Result<(), Refusal>
         requires known { All (λ n. n < length self.old.headers) written.now }
         requires apart { (n : ℕ) → Contains written.now n → frozen_state_at self.old.frozen_state n ≢ Shared }
         ensures marked { OnOk result (self.new ≡ record self.old {
@@ -42,14 +44,15 @@ impl<D: Device> Cache<D> {
         ensures fetched { (n : ℕ) → IsFetchedIn self.old n → IsFetchedIn self.new n }
         ensures within { IsWithinLog D.disk self.new }
         ensures continues { GoesOnIn D.disk self.old self.new }
-        ensures full { IsErrOf result PrepareFault.LogFull
+        ensures full { IsErrOf result Refusal.LogFull
             ↔ ((stored_of D.disk self.old.durable).saved.geometry.log
             < touched_count (touching self.old.touched written.now)) }
-        ensures cause { IsErrOf result PrepareFault.Failed → ⊥ }
+        ensures cause { IsErrOf result Refusal.Fault → ⊥ }
+        ensures refusals { IfErr result IsUnprepared }
     {
         let fresh = fresh_count(&self.touched, written);
         if fresh > self.durable.geometry().log - self.count {
-            return Err(PrepareFault::LogFull);
+            return Err(Refusal::LogFull);
         }
         mark(&mut self.touched, written);
         mark(&mut self.dirty, written);
@@ -99,9 +102,9 @@ impl<D: Device> Cache<D> {
     /// Announces numbers, without a call of the device.
     ///
     /// `LogFull` exactly if more numbers would be touched than half of the log holds; then none is announced. There is
-    /// no other error.
+    /// no other refusal.
     #[inline(always)]
-    pub(crate) fn make_writable(&mut self, written: &[u64]) -> Result<(), PrepareFault>
+    pub(crate) fn make_writable(&mut self, written: &[u64]) -> Result<(), Refusal>
         requires { All (λ n. n < length self.old.headers) written.now }
         ensures announced { OnOk result ((n : ℕ) → Contains written.now n → IsAnnouncedIn self.new n) }
         ensures touched { OnOk result (self.new.touched ≡ touching self.old.touched written.now) }
@@ -112,10 +115,11 @@ impl<D: Device> Cache<D> {
         ensures fetched { (n : ℕ) → IsFetchedIn self.old n → IsFetchedIn self.new n }
         ensures rest { self.new ≡ readied self.old self.new }
         ensures continues { GoesOnIn D.disk self.old self.new }
-        ensures full { IsErrOf result PrepareFault.LogFull
+        ensures full { IsErrOf result Refusal.LogFull
             ↔ ((stored_of D.disk self.old.durable).saved.geometry.log
             < touched_count (touching self.old.touched written.now)) }
-        ensures cause { IsErrOf result PrepareFault.Failed → ⊥ }
+        ensures cause { IsErrOf result Refusal.Fault → ⊥ }
+        ensures refusals { IfErr result IsUnprepared }
     {
         if self.is_ready(written) {
             return Ok(());
@@ -126,9 +130,9 @@ impl<D: Device> Cache<D> {
 
     /// Fetches up to 8 objects, and announces the numbers to be written.
     ///
-    /// An error changes no object and announces no number: `LogFull` only if more numbers would be touched than half of
-    /// the log holds, and `Failed` exactly if the device failed.
-    pub fn prepare(&mut self, fetched: &[u64], written: &[u64]) -> Result<(), PrepareFault>
+    /// A refusal changes no object and announces no number: `LogFull` only if more numbers would be touched than half of
+    /// the log holds, and `Fault` exactly if the device failed. There is no other refusal.
+    pub fn prepare(&mut self, fetched: &[u64], written: &[u64]) -> Result<(), Refusal>
         requires few { length fetched.now ≤ MAX_FETCHED }
         requires known { All (λ n. n < length self.old.headers) fetched.now }
         requires announced { All (λ n. n < length self.old.headers) written.now }
@@ -143,10 +147,11 @@ impl<D: Device> Cache<D> {
             ≡ take self.old.capacity (used_in_turn fetched.now self.old.order)) }
         ensures stopped { OnErr result (UsesSome self.old.capacity fetched.now self.old.order self.new.order) }
         ensures rest { self.new ≡ record (on_device_with self.old self.new) { touched = self.new.touched } }
-        ensures full { IsErrOf result PrepareFault.LogFull
+        ensures refusals { IfErr result IsUnprepared }
+        ensures full { IsErrOf result Refusal.LogFull
             → (stored_of D.disk self.old.durable).saved.geometry.log
             < touched_count (touching self.old.touched written.now) }
-        ensures cause { IsErrOf result PrepareFault.Failed
+        ensures cause { IsErrOf result Refusal.Fault
             ↔ ((D.disk self.old.durable.beneath).failures < (D.disk self.new.durable.beneath).failures) }
         ensures continues { GoesOnIn D.disk self.old self.new }
     {

@@ -1,8 +1,9 @@
 // The objects of a store as they are now.
-ghost use Rattle.std.specs.Prelude.{◌≡◌, ◌↔◌, ◌<◌, ◌≤◌, ℕ, true, false, length, take, OnOk, OnErr, IsErr, IsErrOf};
+ghost use Rattle.std.specs.Prelude.{◌≡◌, ◌↔◌, ◌<◌, ◌≤◌, ℕ, true, false, length, take, IfErr, OnOk, OnErr, IsErr};
+ghost use Rattle.std.specs.Prelude.{IsErrOf};
 ghost use Rattle.std.specs.List.{All, Contains};
 ghost use Rattle.cache_entries.specs.Order.{used_in_turn};
-ghost use Rattle.capability.specs.Parts.{OnlyFetches, frames_of};
+ghost use Rattle.capability.specs.Parts.{IsUnprepared, OnlyFetches, frames_of};
 ghost use Rattle.model.specs.Keepable.{AreKeepable};
 ghost use Rattle.model.specs.Machine.{touched_count, touching};
 ghost use Rattle.object_cache.specs.Prepared.{UsesSome};
@@ -10,11 +11,9 @@ ghost use Rattle.object_cache.specs.StoreState.{ContinuesIn, IsAnnouncedIn, IsFe
 
 use crate::policy::Policy;
 use crate::store::Store;
-use capability::{
-    Frames, Fresh, MAX_FETCHED, ObjectTable, PrepareFault, PresentFrames, RootChange,
-};
+use capability::{Frames, Fresh, MAX_FETCHED, ObjectTable, PresentFrames, RootChange};
 use device::{Device, Failed};
-use model::{Cap, ContentRef, Geometry};
+use model::{Cap, ContentRef, Geometry, Refusal};
 
 impl<D: Device, P: Policy> Frames for Store<D, P> {
     ghost parts = { parts_of D.disk };
@@ -73,9 +72,9 @@ impl<D: Device, P: Policy> Frames for Store<D, P> {
 impl<D: Device, P: Policy> PresentFrames for Store<D, P> {
     ghost IsAnnounced = { IsAnnouncedIn };
 
-    /// Fetches the bodies of up to 8 objects, as `fetch` does, and announces the numbers to be written. Errors: see
-    /// `PresentFrames::prepare`.
-    fn prepare(&mut self, fetched: &[u64], written: &[u64]) -> Result<(), PrepareFault>
+    /// Fetches the bodies of up to 8 objects, as `fetch` does, and announces the numbers to be written. Refusals:
+    /// see `PresentFrames::prepare`.
+    fn prepare(&mut self, fetched: &[u64], written: &[u64]) -> Result<(), Refusal>
         requires few { length fetched.now ≤ MAX_FETCHED }
         requires known { All (λ n. n < length (parts_of D.disk self.old).headers) fetched.now }
         requires announced { All (λ n. n < length (parts_of D.disk self.old).headers) written.now }
@@ -94,9 +93,10 @@ impl<D: Device, P: Policy> PresentFrames for Store<D, P> {
         ensures contents { self.new.contents ≡ self.old.contents }
         ensures geometry { (parts_of D.disk self.new).geometry ≡ (parts_of D.disk self.old).geometry }
         ensures untouched { OnErr result (self.new.touched ≡ self.old.touched) }
-        ensures full { IsErrOf result PrepareFault.LogFull → (parts_of D.disk self.old).geometry.log
+        ensures refusals { IfErr result IsUnprepared }
+        ensures full { IsErrOf result Refusal.LogFull → (parts_of D.disk self.old).geometry.log
             < touched_count (touching self.old.touched written.now) }
-        ensures cause { IsErrOf result PrepareFault.Failed
+        ensures cause { IsErrOf result Refusal.Fault
             ↔ ((parts_of D.disk self.old).failures < (parts_of D.disk self.new).failures) }
         ensures later { (parts_of D.disk self.old).failures ≤ (parts_of D.disk self.new).failures }
         ensures continues { ContinuesIn P.KEEPS_ALL D.disk self.old self.new }

@@ -19,6 +19,7 @@ returns-clause-writes g c =
           (λ k. done.keepable age tt k));
       headers = search rules;
       unchanged = tt;
+      refusals = tt;
       cause = search rules;
       later = search rules;
       geometry = search rules;

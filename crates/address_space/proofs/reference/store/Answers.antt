@@ -10,6 +10,7 @@ returns-in_ok-put-in-Ok-clause-writes g c =
           (frames_of (g.F.Frames.parts c.put.new.frames)) c.in_ok-put-in-Ok.ensures.writes.sound;
       headers = search rules;
       unchanged = tt;
+      refusals = tt;
       cause = search rules;
       later = search rules;
       geometry = search rules;

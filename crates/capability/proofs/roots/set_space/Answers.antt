@@ -1,4 +1,5 @@
-use Rattle.capability.proofs.Names.{arith, ap, sym, subst, List, Capability, ObjectHeader, Root, IsCurrent, IsKeptCap, IsSpace, changed_root, live_cap, with_space}
+use Rattle.capability.proofs.Names.{arith, ap, sym, subst, List, Capability, ObjectHeader, Root, IsCurrent, IsKeptCap, IsSpace, changed_root, live_cap}
+use Rattle.capability.proofs.Names.{with_space}
 use Rattle.std.proofs.Common.{◌∙◌}
 use Rattle.capability.proofs.Edited.{edited, root_edit}
 use Rattle.capability.proofs.RootEdits.{space_kept, space_through}

@@ -26,6 +26,7 @@ returns-clause-prepares g c =
       contents = c.prepare.ensures.contents;
       geometry = c.prepare.ensures.geometry;
       untouched = c.prepare.ensures.untouched;
+      refusals = c.prepare.ensures.refusals;
       full = c.prepare.ensures.full;
       cause = c.prepare.ensures.cause;
       later = c.prepare.ensures.later;

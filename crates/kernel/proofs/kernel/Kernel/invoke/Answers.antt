@@ -1,5 +1,5 @@
-use Rattle.kernel.proofs.Names.{sym, subst, Refusal, ServesUp, refusal_by}
-use Rattle.std.proofs.Common.{◌≡◌, ◌∙◌}
+use Rattle.kernel.proofs.Names.{subst, Refusal, ServesUp}
+use Rattle.std.proofs.Common.{◌≡◌}
 use Rattle.model.specs.declared.answer.Answer.TheVariants as answer
 use Rattle.model.specs.declared.answer.Refusal.TheVariants as refusal
 use Rattle.model.specs.declared.command.Command.TheVariants as command
@@ -34,7 +34,7 @@ invariant_of-self-in-Fault g c =
     let parts = g.S.Frames.parts in
     let did = command.Invoke c.args.invocation.now in
     let serves = subst (λ (r : Refusal). ServesUp disk view parts c.in-Some.live did (answer.Refused r) c.invoke.new.live)
-    (sym c.refusal_by.ensures ∙ c.in-Fault.is) c.in-Err.ensures.serves in
+    c.in-Fault.is c.in-Err.ensures.serves in
     rw c.take_device-device.ensures.down
     (some_after disk view parts (power.Up c.in-Some.live) (power.Down c.take_device-device.result) did (answer.Refused refusal.Fault)
     (goes_down disk view parts c.in-Some.live c.invoke.new.live did c.take_device-device.result (g.met.D.Device.counts_now _) serves
@@ -47,7 +47,7 @@ returns-in-Fault-clause-serves g c =
     let parts = g.S.Frames.parts in
     let did = command.Invoke c.args.invocation.now in
     let serves = subst (λ (r : Refusal). ServesUp disk view parts c.in-Some.live did (answer.Refused r) c.invoke.new.live)
-    (sym c.refusal_by.ensures ∙ c.in-Fault.is) c.in-Err.ensures.serves in
+    c.in-Fault.is c.in-Err.ensures.serves in
     rw (← c.self.view_is, c.in-Some.is, c.from.ensures, c.take_device-device.ensures.down)
     (goes_down disk view parts c.in-Some.live c.invoke.new.live did c.take_device-device.result (g.met.D.Device.counts_now _) serves
     c.take_device-device.ensures.is)
@@ -58,10 +58,10 @@ invariant_of-self-in_default g c =
     let view = g.S.ObjectStore.view in
     let parts = g.S.Frames.parts in
     let did = command.Invoke c.args.invocation.now in
-    let told = answer.Refused (refusal_by c.in-Err.why) in
+    let told = answer.Refused c.in-Err.why in
     some_after disk view parts (power.Up c.in-Some.live) (power.Up c.invoke.new.live) did told
     (stays_up disk view parts c.in-Some.live c.invoke.new.live did told
-    (λ e. let is : refusal_by c.in-Err.why ≡ refusal.Fault = cc in c.in_default.not-Fault (c.refusal_by.ensures ∙ is)) c.in-Err.ensures.serves)
+    (λ e. let is : c.in-Err.why ≡ refusal.Fault = cc in c.in_default.not-Fault is) c.in-Err.ensures.serves)
     (some_up disk view parts c.self.inside.live c.self.inside.device c.in-Some.live c.in-Some.is c.self.invariant)
 
 pub returns-in_default : goal.returns-in_default
@@ -69,10 +69,10 @@ returns-in_default g c =
     let disk = g.D.Device.disk in
     let view = g.S.ObjectStore.view in
     let parts = g.S.Frames.parts in
-    rw (c.from-in_default.ensures, c.refusal_by.ensures, ← c.self.view_is, c.in-Some.is) (record {
-      serves = stays_up disk view parts c.in-Some.live c.invoke.new.live (command.Invoke c.args.invocation.now) (answer.Refused (refusal_by c.in-Err.why))
-          (λ e. let is : refusal_by c.in-Err.why ≡ refusal.Fault = cc in c.in_default.not-Fault (c.refusal_by.ensures ∙ is)) c.in-Err.ensures.serves;
+    rw (c.from-in_default.ensures, ← c.self.view_is, c.in-Some.is) (record {
+      serves = stays_up disk view parts c.in-Some.live c.invoke.new.live (command.Invoke c.args.invocation.now) (answer.Refused c.in-Err.why)
+          (λ e. let is : c.in-Err.why ≡ refusal.Fault = cc in c.in_default.not-Fault is) c.in-Err.ensures.serves;
       untouched = c.in-Err.ensures.untouched;
       cause = c.in-Err.ensures.cause;
-      code = refused_code disk view parts (power.Up c.in-Some.live) c.args.invocation.now (refusal_by c.in-Err.why);
+      code = refused_code disk view parts (power.Up c.in-Some.live) c.args.invocation.now c.in-Err.why;
     })

@@ -1,6 +1,5 @@
-use Rattle.kernel.proofs.Names.{refl, subst, objects_in, refusal_by, IsEarly}
+use Rattle.kernel.proofs.Names.{refl, subst, objects_in, IsEarly}
 use Rattle.model.specs.declared.answer.Refusal.TheVariants as refusal
-use Rattle.model.specs.declared.command.Command.TheVariants as command
 use Rattle.kernel.proofs.MemoryServing.{looked_same}
 use Rattle.kernel.proofs.Performing.{ok_stayed, refused_serves, reported_cause}
 use Rattle.kernel.proofs.ProcessSteps.{early_fine, early_step, worn_step}
@@ -12,8 +11,8 @@ returns-in-Some-clause-serves g c =
     let i = c.args.invocation.now in
     let early = subst (IsEarly (objects_in old) i.process) c.in-Some.is c.in-Ok.ensures.why in
     refused_serves (looked_same c.early.ensures.snapshots) c.requires.sound c.early.ensures.later
-    (reported_cause (refusal_by c.in-Some.fault) (early_fine (objects_in old) i.process c.in-Some.fault early) (ok_stayed c.in-Ok.why c.in-Ok.ensures.cause))
-    (λ renewed frozen saved to_move other. early_step old.geometry _ i c.in-Some.fault early)
+    (reported_cause c.in-Some.refusal (early_fine (objects_in old) i.process c.in-Some.refusal early) (ok_stayed c.in-Ok.why c.in-Ok.ensures.cause))
+    (λ renewed frozen saved to_move other. early_step old.geometry _ i c.in-Some.refusal early)
 
 pub returns-in-None-clause-serves : goal.returns-in-None-clause-serves
 returns-in-None-clause-serves g c =

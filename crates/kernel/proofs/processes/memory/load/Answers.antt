@@ -6,9 +6,9 @@ use Rattle.kernel.proofs.processes.memory.load.Goals as goal
 
 pub returns-in-Some-clause-serves : goal.returns-in-Some-clause-serves
 returns-in-Some-clause-serves g c =
-    rw c.refusal_by.ensures (early_load c.args.process c.args.address c.in-Some.why
+    early_load c.args.process c.args.address c.in-Some.why
     c.requires (subst (IsEarly (objects_in (g.F.Frames.parts c.args.store.now)) c.args.process) c.in-Some.is c.in_ok-why.ensures.why)
-    c.early.ensures.snapshots c.early.ensures.later (ok_stayed c.in_ok-why.field-0 c.in_ok-why.ensures.cause))
+    c.early.ensures.snapshots c.early.ensures.later (ok_stayed c.in_ok-why.field-0 c.in_ok-why.ensures.cause)
 
 pub returns-in-Ok-clause-serves : goal.returns-in-Ok-clause-serves
 returns-in-Ok-clause-serves g c =

@@ -2,14 +2,14 @@ use Rattle.kernel.proofs.Names.{Ok, Err, subst, counted_looked, looked_as, objec
 use Rattle.kernel.proofs.MemoryServing.{stored_counted}
 use Rattle.kernel.proofs.Performing.{ok_stayed}
 use Rattle.kernel.proofs.ProcessSteps.{early_none}
-use Rattle.kernel.proofs.MemoryServing.{early_store, store_answers, store_full}
+use Rattle.kernel.proofs.MemoryServing.{early_store, store_answers, store_refused}
 use Rattle.kernel.proofs.processes.memory.store.Goals as goal
 
 pub returns-in-Some-clause-serves : goal.returns-in-Some-clause-serves
 returns-in-Some-clause-serves g c =
-    rw c.refusal_by.ensures (early_store c.args.process c.args.address c.in-Some.why
+    early_store c.args.process c.args.address c.in-Some.why
     c.requires (subst (IsEarly (objects_in (g.F.Frames.parts c.args.store.now)) c.args.process) c.in-Some.is c.in_ok-why.ensures.why)
-    c.early.ensures.snapshots c.early.ensures.later (ok_stayed c.in_ok-why.field-0 c.in_ok-why.ensures.cause) c.args.word)
+    c.early.ensures.snapshots c.early.ensures.later (ok_stayed c.in_ok-why.field-0 c.in_ok-why.ensures.cause) c.args.word
 
 pub returns-in-Ok-Ok-clause-serves : goal.returns-in-Ok-Ok-clause-serves
 returns-in-Ok-Ok-clause-serves g c =
@@ -29,14 +29,13 @@ returns-in-Ok-Err-clause-serves g c =
     said.writes.headers said.writes.later
     c.in-Ok-Err.field-0 (Err c.in-Ok-Err.fault) c.in-Ok-Err.field-0-is said.stored said.writes.sound said.writes.cause
 
-pub returns-in-Err-LogFull-clause-serves : goal.returns-in-Err-LogFull-clause-serves
-returns-in-Err-LogFull-clause-serves g c =
-    let said = c.in-Err-LogFull.ensures in
-    store_full c.store.new.frames c.args.process c.args.address
+pub returns-in-Err-clause-serves : goal.returns-in-Err-clause-serves
+returns-in-Err-clause-serves g c =
+    let said = c.in-Err.ensures in
+    rw c.refused.ensures.answer (store_refused c.store.new.frames c.args.process c.args.address
     c.requires (early_none (objects_in (g.F.Frames.parts c.args.store.now)) c.args.process c.in_ok-why.field-0 c.in_default.not-Some c.in_ok-why.ensures.why)
     c.early.ensures.snapshots c.early.ensures.later (ok_stayed c.in_ok-why.field-0 c.in_ok-why.ensures.cause) c.args.word said.writes.geometry
-    said.writes.headers said.writes.later
-    c.in-Err-LogFull.field-0 c.in-Err-LogFull.field-0-is said.writes.unchanged said.writes.cause said.full
+    said.writes.headers said.writes.later c.in-Err.why said.writes.refusals said.writes.unchanged said.writes.cause said.full)
 
 pub returns-in-Some-clause-counted : goal.returns-in-Some-clause-counted
 returns-in-Some-clause-counted g c banks counted = counted_looked (looked_as c.early.ensures.snapshots) counted

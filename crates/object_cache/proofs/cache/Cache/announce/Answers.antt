@@ -42,4 +42,5 @@ returns g c =
           (mark_continues g.D.Device.disk g.met.D.Device.only_now s (touching s.touched ns) (touching s.dirty ns) grows));
       full = search rules;
       cause = search rules;
+      refusals = search rules;
     }

@@ -1,0 +1,75 @@
+use Rattle.address_space.proofs.Names.{refl, sym, subst, arith, List, Object, MayBeHeld, Space, objects_in}
+use Rattle.std.proofs.Common.{◌∙◌}
+use Rattle.address_space.proofs.Accesses.{goes_on, union_access}
+use Rattle.address_space.proofs.Descending.{fetches_on, read_there, same_objects, ok_no_err, still_held, still_sound, unrisen}
+use Rattle.address_space.proofs.Paths.{at_early_page, at_hole, at_other, at_other_tree, at_page}
+use Rattle.address_space.proofs.walking.descend.Goals as goal
+
+pub loop-object-init : goal.loop-object-init
+loop-object-init g c = record {
+  snapshots = record { headers = refl; contents = refl; touched = refl; geometry = refl; continues = g.met.F.Frames.continues_same c.args.frames.now };
+  failures = refl;
+  held = c.requires.held;
+  way = refl;
+}
+
+pub next_slot-requires-clause-sound : goal.next_slot-requires-clause-sound
+next_slot-requires-clause-sound g c = still_sound c.loop-object.invariant c.requires.sound
+
+pub next_slot-requires-clause-held : goal.next_slot-requires-clause-held
+next_slot-requires-clause-held g c = still_held c.loop-object.invariant
+
+pub returns-in-Void-clause-reached : goal.returns-in-Void-clause-reached
+returns-in-Void-clause-reached g c =
+    let os = objects_in (g.F.Frames.parts c.args.frames.now) in
+    let at = c.loop-object.at in
+    sym (c.loop-object.invariant.way ∙ at_hole os at.node at.height c.args.index at.access c.in_ok-next_slot.field-0 c.loop-object.invariant.held.0.0
+    (read_there c.loop-object.invariant _ _ c.in_ok-next_slot.ensures.slot) c.in-Void.is)
+
+pub returns-then-at-ne1-clause-reached : goal.returns-then-at-ne1-clause-reached
+returns-then-at-ne1-clause-reached g c =
+    let os = objects_in (g.F.Frames.parts c.args.frames.now) in
+    let at = c.loop-object.at in
+    sym (c.loop-object.invariant.way ∙ at_early_page os at.node at.height c.args.index at.access c.in_ok-next_slot.field-0 c.loop-object.invariant.held.0.0
+    (read_there c.loop-object.invariant _ _ c.in_ok-next_slot.ensures.slot) c.in-Page.object c.in-Page.access c.in-Page.is
+    (λ e. omega (arith, e, c.if-at-ne1.true)))
+
+pub returns-in-Page-clause-reached : goal.returns-in-Page-clause-reached
+returns-in-Page-clause-reached g c =
+    let os = objects_in (g.F.Frames.parts c.args.frames.now) in
+    let at = c.loop-object.at in
+    rw (c.at.ensures, c.union.ensures) (sym (c.loop-object.invariant.way ∙ at_page os at.node at.height c.args.index at.access
+    c.in_ok-next_slot.field-0 c.loop-object.invariant.held.0.0 (read_there c.loop-object.invariant _ _ c.in_ok-next_slot.ensures.slot) c.in-Page.object c.in-Page.access c.in-Page.is (omega (arith, c.if-at-ne1.false))))
+
+pub returns-then-at-height-clause-reached : goal.returns-then-at-height-clause-reached
+returns-then-at-height-clause-reached g c =
+    let os = objects_in (g.F.Frames.parts c.args.frames.now) in
+    let at = c.loop-object.at in
+    sym (c.loop-object.invariant.way ∙ at_other_tree os at.node at.height c.args.index at.access c.in_ok-next_slot.field-0 c.loop-object.invariant.held.0.0
+    (read_there c.loop-object.invariant _ _ c.in_ok-next_slot.ensures.slot) c.in-Space.object c.in-Space.height c.in-Space.access c.in-Space.is
+    (λ e. omega (arith, e, c.if-at-height.true)))
+
+pub loop-object-preserved : goal.loop-object-preserved
+loop-object-preserved g c =
+    let old = objects_in (g.F.Frames.parts c.args.frames.now) in
+    let at = c.loop-object.at in
+    let so_far = c.loop-object.invariant in
+    let looked = c.in_ok-next_slot.ensures.fetches in
+    let held = subst (λ (us : List Object). MayBeHeld us (Space c.in-Space.object c.in-Space.height c.in-Space.access)) (same_objects so_far)
+    (subst (MayBeHeld (objects_in (g.F.Frames.parts c.loop-object.frames))) c.in-Space.is c.in_ok-next_slot.ensures.held) in
+    let further = fetches_on so_far g.met.F.Frames.continues_twice c.in_ok-next_slot.field-0 c.in_ok-next_slot.field-0 looked in
+    rw (c.at-at.ensures, c.union-in-Space.ensures) (record {
+      snapshots = further.snapshots;
+      failures = unrisen _ _ further.later (λ rose. ok_no_err c.in_ok-next_slot.field-0 (further.cause.1 rose));
+      held = ((held.0.0, held.0.1, union_access at.access c.in-Space.access so_far.held.0.2 held.0.2), held.1);
+      way = so_far.way ∙ goes_on old c.requires.sound.1.sound.slots at.node at.height c.args.index at.access c.in_ok-next_slot.field-0 so_far.held.0.0
+          (read_there so_far _ _ c.in_ok-next_slot.ensures.slot)
+          c.in-Space.object c.in-Space.height c.in-Space.access c.in-Space.is (omega (arith, c.if-at-height.false)) so_far.held.0.2 held.0.2;
+    })
+
+pub returns-in_default-clause-reached : goal.returns-in_default-clause-reached
+returns-in_default-clause-reached g c =
+    let os = objects_in (g.F.Frames.parts c.args.frames.now) in
+    let at = c.loop-object.at in
+    sym (c.loop-object.invariant.way ∙ at_other os at.node at.height c.args.index at.access c.in_ok-next_slot.field-0 c.loop-object.invariant.held.0.0
+    (read_there c.loop-object.invariant _ _ c.in_ok-next_slot.ensures.slot) c.in_default.not-Void c.in_default.not-Page c.in_default.not-Space)
