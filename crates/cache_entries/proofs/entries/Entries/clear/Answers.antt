@@ -6,7 +6,7 @@ use Rattle.cache_entries.proofs.entries.Entries.clear.Goals as goal
 pub returns : goal.returns
 returns c =
     let i = c.self.inside in
-    let known = known_is i.order i.presents i.kepts i.marks.items c.self.invariant c.args.self.now c.self.view_is in
+    let known = known_is i.order c.self.invariant c.self.view_is in
     let most = ap (λ (e : EntriesState). e.most) c.self.view_is in
     none_stored c.clear.new.self i.presents i.kepts i.marks.items (length i.order.places) i.order.most c.clear.ensures
     ∙ ap (λ (n : ℕ). let e : EntriesState = record { at = replicate n None; order = []; most = i.order.most } in e) known

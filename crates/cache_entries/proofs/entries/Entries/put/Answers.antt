@@ -4,6 +4,5 @@ use Rattle.cache_entries.proofs.entries.Entries.put.Goals as goal
 
 pub returns : goal.returns
 returns c =
-    rw c.put.ensures (present_put c.self.inside.order c.self.inside.presents c.self.inside.kepts c.self.inside.marks.items c.self.invariant
-    c.args.self.now c.self.view_is c.args.number c.place-at.result c.place-at.ensures.place c.place-at.ensures.spread
+    rw c.put.ensures (present_put c.self.inside.order c.self.invariant c.self.view_is c.args.number c.place-at.ensures.place c.place-at.ensures.spread
     (λ x. content_behind c.args.content))
