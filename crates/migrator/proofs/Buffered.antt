@@ -30,22 +30,14 @@ without b none = subst (MayHaveUnwritten b) (sym none) tt
 held_torn : (b : Books) (o : Option Unwritten) {n : ℕ} (q : Place) → n < length b.frozen → slot_of q ≡ Some (slot_for b.frozen n) → MayHaveUnwritten b o →
     MayHaveUnwritten (record b { frozen = set b.frozen n q }) o
 held_torn b None q lt is has = tt
-held_torn b (Some u) {n} q lt is has = record {
-  size = has.size;
-  count = has.count;
-  running = has.running;
-  object = has.object;
-  slot = has.slot;
-  place = elim (cases_eq has.object n) [
-    | inl same ↦
-        ap (λ (m : ℕ). slot_of (place_at (set b.frozen n q) m)) same ∙ ap slot_of (set_here b.frozen lt) ∙ is
-        ∙ ap (λ (k : ℕ). Some k) (slot_kept b.frozen n (ap (λ (m : ℕ). slot_of (place_at b.frozen m)) (sym same) ∙ has.place))
-    | inr other ↦ ap slot_of (set_there b.frozen q other) ∙ has.place
-  ];
-  sector_is = has.sector_is;
-  rank = has.rank;
-  shape = has.shape;
-}
+held_torn b (Some u) {n} q lt is has =
+    let place : slot_of (place_at (set b.frozen n q) has.object) ≡ Some has.slot = elim (cases_eq has.object n) [
+      | inl same ↦
+          ap (λ (m : ℕ). slot_of (place_at (set b.frozen n q) m)) same ∙ ap slot_of (set_here b.frozen lt) ∙ is
+          ∙ ap (λ (k : ℕ). Some k) (slot_kept b.frozen n (ap (λ (m : ℕ). slot_of (place_at b.frozen m)) (sym same) ∙ has.place))
+      | inr other ↦ ap slot_of (set_there b.frozen q other) ∙ has.place
+    ] in
+    search (has, place)
 
 pub held_after : (b : Books) {o p : Option Unwritten} {n : ℕ} (q : Place) → n < length b.frozen → slot_of q ≡ Some (slot_for b.frozen n) →
     MayHaveUnwritten b o → (p ≡ None) ⊎ (p ≡ o) → MayHaveUnwritten (record b { frozen = set b.frozen n q; unwritten = p }) p
@@ -59,14 +51,7 @@ pub entry_of : (b : Books) (o : Option Unwritten) → MayHaveUnwritten b o → I
 entry_of b None has = tt
 entry_of b (Some u) has =
     let entry = found_slot (entries_of b.frozen) has.object has.slot (slot_entries b.frozen has.object ∙ has.place) in
-    record {
-      size = has.size;
-      index = entry.index;
-      within = entry.within;
-      sector_is = has.sector_is ∙ ap (slot_sector b.plan (frozen_generation b)) (sym entry.slot_is);
-      rank = has.rank;
-      shape = ap (shape_of b.plan) entry.object_is ∙ has.shape;
-    }
+    search (has, entry, has.sector_is ∙ ap (slot_sector b.plan (frozen_generation b)) (sym entry.slot_is), ap (shape_of b.plan) entry.object_is ∙ has.shape)
 
 -- a packed frame is that of a node, and of one of five
 is_packed : {p : Plan} {n rank : ℕ} → IsPlan p → n < count_of p → shape_of p n ≡ Packed rank → (n < p.geometry.nodes) × (rank < 5)

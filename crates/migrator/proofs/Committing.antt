@@ -69,13 +69,7 @@ one_more false = omega arith
 
 pub next_fits : {room age : ℕ} (b : Books) → IsHeader room b.header → b.header.age < age → age ≤ 2 ^ 62 → taken_count b.frozen ≤ room → room ≤ 4096 →
     IsHeader room (next_header age b)
-next_fits {age} b is later most few small = record {
-  entries = few;
-  age = most;
-  generation = omega (arith, is.generation, later);
-  sequence = let more = one_more (b.header.entries == 0) in omega (arith, is.sequence, more, later);
-  entries_fit = omega (arith, few, small);
-}
+next_fits {age} b is later most few small = let more = one_more (b.header.entries == 0) in search (arith, is.generation, is.sequence, later, few, small)
 
 -- ---- the frames that are saved next
 

@@ -85,17 +85,7 @@ module _ {old new : Disk} {b : Books} {was now : Option Unwritten} {k : ℕ} (ke
     by (Some u) is =
         let entry = entry_at (entries_of b.frozen) is.index in
         let own = own_slot (entries_of b.frozen) is.index (frozen_fits kept).rising is.within in
-        record {
-          size = is.size;
-          count = k;
-          running = running;
-          object = entry.object;
-          slot = entry.slot;
-          place = sym (slot_entries b.frozen entry.object) ∙ own;
-          sector_is = is.sector_is;
-          rank = is.rank;
-          shape = is.shape;
-        }
+        search (is, running, sym (slot_entries b.frozen entry.object) ∙ own)
 
 -- what is kept doesn't depend on what is unwritten
 pub kept_with : {size : ℕ} {image : Image} {b : Books} {o : Option Unwritten} → IsKept size image b → IsKept size image (record b { unwritten = o })

@@ -155,12 +155,13 @@ module _ {p : Plan} (generation : ℕ) {es : List Entry} (i : ℕ) {rank : ℕ} 
     ]
 
     pub kept_one : KeepsOne p generation es i old new now
-    kept_one = record {
-      touches = touches;
-      elsewhere = change;
-      own = ap (λ (image : Image). slot_bytes image p generation entry.slot entry.object) seen ∙ packed_read old.seen u p entry.object size shape ∙ filled.own;
-      unwritten = now_fits either;
-    }
+    kept_one =
+        search (
+          touches,
+          change,
+          ap (λ (image : Image). slot_bytes image p generation entry.slot entry.object) seen ∙ packed_read old.seen u p entry.object size shape ∙ filled.own,
+          now_fits either,
+        )
 
     pub one_complete : now ≡ None → IsComplete new.seen p generation es i
     one_complete none first n is_n same no_slot =

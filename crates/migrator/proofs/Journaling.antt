@@ -130,16 +130,14 @@ module _ {old new : Disk} {b : Books} (is : IsDurable old b) (free : b.size ≡ 
   spares = spares_half is.kept free home b.header.generation refl inside
 
   pub page_stays : Stays old new b b
-  page_stays = record {
-    stands = record {
-      kept = subst (λ (size : ℕ). IsKept size (mended new.seen b.unwritten) b) (sym writes.size)
-          (kept_on old.sectors spares mended_writes.elsewhere is.kept);
-      unwritten = is.unwritten;
-    };
-    stored = stored_stays old.sectors spares mended_writes.elsewhere;
-    goes_on = goes_seen (goes_spared refl refl refl (spares_log b.header b.directory b.header.generation is.kept.plan is.kept.count home inside)
-        (touches mended_writes));
-  }
+  page_stays =
+      let apart = spares_log b.header b.directory b.header.generation is.kept.plan is.kept.count home inside in
+      search (
+        subst (λ (size : ℕ). IsKept size (mended new.seen b.unwritten) b) (sym writes.size) (kept_on old.sectors spares mended_writes.elsewhere is.kept),
+        is.unwritten,
+        stored_stays old.sectors spares mended_writes.elsewhere,
+        goes_seen (goes_spared {b = b} {c = b} refl refl refl apart (touches mended_writes)),
+      )
 
   -- the slot spells the page with its words, at each age from the saved one on
   pub spelt_page : (n : ℕ) {header : ObjectHeader} {words : List ℕ} → (frame_at (stored_on old b).saved.frames n).header.role ≡ role.Page →
@@ -164,25 +162,14 @@ one_fits {p} {n} fits lt = record {
   apart = λ i j less within. absurd (omega (arith, less, within));
 } where
   entry : IsEntry p.geometry (record { object = n; slot = 0 })
-  entry = record {
-    object = lt;
-    slot = omega (arith, fits.geometry.least_log);
-    object_fits = omega (arith, lt, fits.geometry.most_nodes, fits.geometry.most_pages);
-    slot_fits = omega arith;
-  }
+  entry = search (arith, lt, fits.geometry.least_log, fits.geometry.most_nodes, fits.geometry.most_pages)
 
   each : (i : ℕ) (d : Entry) → i < 1 → IsEntry p.geometry (get_or (record { object = n; slot = 0 } ∷ []) i d)
   each zero d less = entry
   each (suc i) d less = absurd (omega (arith, less))
 
 header_fits : {room age : ℕ} (b : Books) → IsHeader room b.header → b.header.age < age → age ≤ 2 ^ 62 → 1 ≤ room → IsHeader room (replaced_header age b)
-header_fits {age} b is later most some = record {
-  entries = some;
-  age = most;
-  generation = omega (arith, is.generation, later);
-  sequence = let more = one_more (b.header.entries == 0) in omega (arith, is.sequence, more, later);
-  entries_fit = omega arith;
-}
+header_fits {age} b is later most some = let more = one_more (b.header.entries == 0) in search (arith, is.generation, is.sequence, later, some)
 
 after_half : (g : ℕ) (o : Option ℕ) → half_of (generation_after (g + 2) o) ≡ half_of (generation_after g o)
 after_half g None = half_same (g + 2 + 1) (g + 1) (omega arith)

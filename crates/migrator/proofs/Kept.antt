@@ -118,11 +118,12 @@ module _ (size : ℕ) {b : Books} {e : Extent} {old new : Image} (spares : Spare
   object_fits kept {i} lt = (kept.directory.each i (record { object = 0; slot = 0 }) (omega (arith, lt, kept.few, kept.count))).object
 
   pub kept_on : IsKept size old b → IsKept size new b
-  kept_on kept = record {
-    readable = readable_stays spares.frames change kept.readable;
-    few = kept.few;
-    moved = λ i lt. home_stays b spares.frames change i kept.plan (object_fits kept lt) (spares.homes i lt) (kept.moved i lt);
-    frozen = are_put_on b.plan (frozen_generation b) b.frozen spares.frozen change kept.frozen;
-    running = kept.running;
-    working = are_put_on b.plan (working_generation b) b.working spares.working change kept.working;
-  }
+  kept_on kept =
+      let moved : (i : ℕ) → i < b.moved → IsHome new b.plan b.header.generation b.directory i =
+      λ i lt. home_stays b spares.frames change i kept.plan (object_fits kept lt) (spares.homes i lt) (kept.moved i lt) in
+      search (
+        kept,
+        readable_stays spares.frames change kept.readable,
+        are_put_on b.plan (frozen_generation b) b.frozen spares.frozen change kept.frozen,
+        are_put_on b.plan (working_generation b) b.working spares.working change kept.working,
+      )

@@ -250,13 +250,7 @@ frozen_puts {old = old} {new = new} {b = b} {n = n} {k = k} {f = f} {r = r} may 
     let read = ok_then r (λ is_written. ap (λ (image : Image). slot_bytes image b.plan (frozen_generation b) (slot_for b.frozen n) n) (unmended none)
     ∙ is_written) written in
     let both = put_either false f is.kept may.object has wrote r ps may.keepable ok err read in
-    record {
-      stands = record { kept = both.0; unwritten = without (record b { frozen = ps }) none };
-      put = both.1;
-      broken = both.2;
-      goes_on = goes_seen (put_goes_on false f is.kept may.object has wrote ps);
-      cause = counts;
-    }
+    search (without (record b { frozen = ps }) none, goes_seen (put_goes_on false f is.kept may.object has wrote ps), counts)
 
 -- the cluster lies on the device
 pub unwritten_low : {disk : Disk} {b : Books} → IsDurable disk b → (u : Unwritten) → b.unwritten ≡ Some u → u.sector + 8 ≤ disk.sectors

@@ -25,13 +25,13 @@ torn_room old mid b c {size} {n} running still torn known =
 -- it may then be put
 pub may_put_torn : {old mid : Disk} {a b : Books} {k n : ℕ} {f : Frame} → MayPut old a k n f → Stores old mid a b (with_frozen n Broken (stored_on old a)) →
     b.size ≡ Some k → MayPut mid b k n f
-may_put_torn {old} {mid} {a} {b} {k} {n} {f} may torn still = record {
-  stands = torn.stands;
-  running = still;
-  object = subst (λ (p : Plan). IsObject p.geometry n) (sym torn.goes_on.plan) may.object;
-  keepable = subst (λ (p : Plan). IsKeepable p.geometry most n f) (sym torn.goes_on.plan) may.keepable;
-  room = torn_room old mid a b may.running still torn.stored may.object;
-}
+may_put_torn {old} {mid} {a} {b} {k} {n} {f} may torn still = search (
+  torn,
+  still,
+  subst (λ (p : Plan). IsObject p.geometry n) (sym torn.goes_on.plan) may.object,
+  subst (λ (p : Plan). IsKeepable p.geometry most n f) (sym torn.goes_on.plan) may.keepable,
+  torn_room old mid a b may.running still torn.stored may.object,
+)
 
 -- the device failed before
 pub puts_none : {T E U F : Type 0} {old mid : Disk} {a b : Books} (n : ℕ) {f : Frame} {e : E} {r : Result U F} →

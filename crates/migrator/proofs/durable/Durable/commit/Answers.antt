@@ -40,15 +40,16 @@ commit-requires g c =
     let ready = subst (λ t. (f : FrozenPuts) → (stored_of g.D.Device.disk t).frozen ≡ Some f → MayCommit puts c.args.age f (stored_of g.D.Device.disk t).saved)
     (sym c.self.view_is) c.requires.ready in
     let may = ready (frozen_of (seen_by disk.seen b) b c.in-Some.size) (ap (option_map (frozen_of (seen_by disk.seen b) b)) c.in-Some.is) in
-    record {
-      stands = c.self.invariant;
-      running = c.in-Some.is;
-      stable = omega (arith, none, c.whole.ensures);
-      sound = subst (λ t. is_sound g.D.Device.disk t) (sym c.self.view_is) c.requires.sound;
-      later = may.later;
-      most = may.most;
-      keepable = may.keepable (sym (left_is c.in-Some.size c.self.invariant c.whole.ensures) ∙ none);
-    }
+    search (
+      c.self.invariant,
+      c.in-Some.is,
+      none,
+      c.whole.ensures,
+      arith,
+      subst (λ t. is_sound g.D.Device.disk t) (sym c.self.view_is) c.requires.sound,
+      may,
+      may.keepable (sym (left_is c.in-Some.size c.self.invariant c.whole.ensures) ∙ none),
+    )
 
 pub returns-clause-stable : goal.returns-clause-stable
 returns-clause-stable g c =
