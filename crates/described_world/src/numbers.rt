@@ -1,5 +1,5 @@
 // The numbers that a description names.
-ghost use Rattle.std.specs.Prelude.{◌≡◌, ◌+◌, ◌<◌, ◌≤◌, ◌^◌, ◌↔◌, map, IfOk, IsTrue};
+ghost use Rattle.std.specs.Prelude.{◌≡◌, ◌+◌, ◌++◌, ◌<◌, ◌≤◌, ◌^◌, ◌↔◌, map, IfOk, IsTrue, OnOk};
 ghost use Rattle.std.specs.List.{All, Any};
 ghost use Rattle.model.specs.Sound.{object_count};
 ghost use Rattle.described_world.specs.Described.{AreDistinct, HasNumbers, node_numbers, page_numbers};
@@ -8,41 +8,57 @@ use description::{BankEntry, Description, NodeEntry, ProcessEntry};
 use model::Geometry;
 use std::alloc::{AllocError, Global};
 
-fn bank_numbers(alloc: Global, banks: &[BankEntry]) -> Result<Vec<u64>, AllocError>
-    ensures { IfOk result (λ numbers. numbers.items ≡ map (λ b. b.number) banks.now) }
+// Adds the numbers of banks, of roots, of annexes or of nodes. Fails only where memory runs out.
+fn add_banks(numbers: &mut Vec<u64>, banks: &[BankEntry]) -> Result<(), AllocError>
+    ensures { OnOk result
+        (numbers.new.items ≡ numbers.old.items ++ map (λ b. b.number) banks.now) }
 {
-    banks.iter().map(|bank| bank.number).collect(alloc)
+    for bank in banks {
+        numbers.push(bank.number)?;
+    }
+    Ok(())
 }
 
-fn root_numbers(alloc: Global, processes: &[ProcessEntry]) -> Result<Vec<u64>, AllocError>
-    ensures { IfOk result (λ numbers. numbers.items ≡ map (λ p. p.root) processes.now) }
+fn add_roots(numbers: &mut Vec<u64>, processes: &[ProcessEntry]) -> Result<(), AllocError>
+    ensures { OnOk result
+        (numbers.new.items ≡ numbers.old.items ++ map (λ p. p.root) processes.now) }
 {
-    processes.iter().map(|process| process.root).collect(alloc)
+    for process in processes {
+        numbers.push(process.root)?;
+    }
+    Ok(())
 }
 
-fn annex_numbers(alloc: Global, processes: &[ProcessEntry]) -> Result<Vec<u64>, AllocError>
-    ensures { IfOk result (λ numbers. numbers.items ≡ map (λ p. p.annex) processes.now) }
+fn add_annexes(numbers: &mut Vec<u64>, processes: &[ProcessEntry]) -> Result<(), AllocError>
+    ensures { OnOk result
+        (numbers.new.items ≡ numbers.old.items ++ map (λ p. p.annex) processes.now) }
 {
-    processes.iter().map(|process| process.annex).collect(alloc)
+    for process in processes {
+        numbers.push(process.annex)?;
+    }
+    Ok(())
 }
 
-fn plain_node_numbers(alloc: Global, nodes: &[NodeEntry]) -> Result<Vec<u64>, AllocError>
-    ensures { IfOk result (λ numbers. numbers.items ≡ map (λ n. n.number) nodes.now) }
+fn add_nodes(numbers: &mut Vec<u64>, nodes: &[NodeEntry]) -> Result<(), AllocError>
+    ensures { OnOk result
+        (numbers.new.items ≡ numbers.old.items ++ map (λ n. n.number) nodes.now) }
 {
-    nodes.iter().map(|node| node.number).collect(alloc)
+    for node in nodes {
+        numbers.push(node.number)?;
+    }
+    Ok(())
 }
 
 /// The numbers of banks, roots, annexes and nodes, in this order. Fails only where memory runs out.
+#[tactic(auto, using(std::proofs::Common::append_assoc))]
 pub fn node_numbers(alloc: Global, description: &Description) -> Result<Vec<u64>, AllocError>
     ensures { IfOk result (λ numbers. numbers.items ≡ node_numbers description.now) }
 {
-    let roots = root_numbers(alloc, &description.processes)?;
-    let annexes = annex_numbers(alloc, &description.processes)?;
-    let nodes = plain_node_numbers(alloc, &description.nodes)?;
-    let mut numbers = bank_numbers(alloc, &description.banks)?;
-    numbers.extend_from_slice(&roots)?;
-    numbers.extend_from_slice(&annexes)?;
-    numbers.extend_from_slice(&nodes)?;
+    let mut numbers = Vec::new(alloc);
+    add_banks(&mut numbers, &description.banks)?;
+    add_roots(&mut numbers, &description.processes)?;
+    add_annexes(&mut numbers, &description.processes)?;
+    add_nodes(&mut numbers, &description.nodes)?;
     Ok(numbers)
 }
 
