@@ -1,3 +1,4 @@
 mod Names
 mod Explanations
+mod Joined
 mod Sizes

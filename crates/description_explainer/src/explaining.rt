@@ -121,8 +121,7 @@ fn explain_fields(alloc: Global, description: &Description) -> Result<Option<Rul
     requires numbers { HasNumbers description.now }
     ensures { IfOk result (λ found. ExplainsDescription description.now found) }
 {
-    let found = misfilled(alloc, description)?;
-    match found {
+    match misfilled(description) {
         Some(part) => Ok(Some(Rule::Field(part))),
         None => explain_targets(alloc, description),
     }

@@ -1,12 +1,12 @@
-// How the objects of a description are named. Each call that makes a text fails only where memory runs out.
-ghost use Rattle.std.specs.Prelude.{◌≡◌, ◌==◌, ◌||◌, IfOk, position, string_bytes};
+// How the objects of a description are named. Each call that writes fails only where memory runs out.
+ghost use Rattle.std.specs.Prelude.{◌≡◌, ◌==◌, ◌++◌, ◌||◌, OnOk, position, string_bytes};
 ghost use Rattle.std.specs.List.{list_any};
 ghost use Rattle.description_explainer.specs.Text.{listed_number, node_text, object_text, page_text, part_text};
 ghost use Rattle.description_explainer.specs.Text.{process_text};
 
 use description::{BankEntry, Description, NodeEntry, ProcessEntry};
 use description_faults::Named;
-use std::alloc::{AllocError, Global};
+use std::alloc::AllocError;
 
 // The number of an object, or 0 if it isn't listed.
 pub(crate) fn listed_number(description: &Description, named: Named) -> u64
@@ -36,38 +36,41 @@ pub(crate) fn listed_number(description: &Description, named: Named) -> u64
     }
 }
 
-// How a process, a node and a page are named, by its index in its list.
-pub(crate) fn process_text(
-    alloc: Global,
+// Writes the name of a process, a node or a page, by its index in its list.
+pub(crate) fn put_process(
+    text: &mut String,
     description: &Description,
     k: usize,
-) -> Result<String, AllocError>
-    ensures { IfOk result (λ text. string_bytes text ≡ process_text description.now k) }
+) -> Result<(), AllocError>
+    ensures { OnOk result
+        (string_bytes text.new ≡ string_bytes text.old ++ process_text description.now k) }
 {
     let root = listed_number(description, Named::Root(k));
-    format!(in alloc; "process {root}")
+    write!(text, "process {root}")
 }
 
-pub(crate) fn node_text(
-    alloc: Global,
+pub(crate) fn put_node(
+    text: &mut String,
     description: &Description,
     k: usize,
-) -> Result<String, AllocError>
-    ensures { IfOk result (λ text. string_bytes text ≡ node_text description.now k) }
+) -> Result<(), AllocError>
+    ensures { OnOk result
+        (string_bytes text.new ≡ string_bytes text.old ++ node_text description.now k) }
 {
     let number = listed_number(description, Named::Node(k));
-    format!(in alloc; "node {number}")
+    write!(text, "node {number}")
 }
 
-pub(crate) fn page_text(
-    alloc: Global,
+pub(crate) fn put_page(
+    text: &mut String,
     description: &Description,
     k: usize,
-) -> Result<String, AllocError>
-    ensures { IfOk result (λ text. string_bytes text ≡ page_text description.now k) }
+) -> Result<(), AllocError>
+    ensures { OnOk result
+        (string_bytes text.new ≡ string_bytes text.old ++ page_text description.now k) }
 {
     let number = listed_number(description, Named::Page(k));
-    format!(in alloc; "page {number}")
+    write!(text, "page {number}")
 }
 
 // Whether a number is that of a bank, or of a node.
@@ -90,34 +93,36 @@ fn process_with(processes: &[ProcessEntry], number: u64) -> Option<usize>
     processes.iter().position(|process| process.root == number || process.annex == number)
 }
 
-// How an object that is no bank is named.
-fn part_text(alloc: Global, description: &Description, number: u64) -> Result<String, AllocError>
-    ensures { IfOk result (λ text. string_bytes text ≡ part_text description.now number
+// Writes the name of an object that is no bank.
+fn put_part(text: &mut String, description: &Description, number: u64) -> Result<(), AllocError>
+    ensures { OnOk result (string_bytes text.new
+        ≡ string_bytes text.old ++ part_text description.now number
         (position (λ p. p.root == number || p.annex == number) description.now.processes.items)) }
 {
     match process_with(&description.processes, number) {
-        Some(k) => process_text(alloc, description, k),
+        Some(k) => put_process(text, description, k),
         None => {
             if is_node(&description.nodes, number) {
-                format!(in alloc; "node {number}")
+                write!(text, "node {number}")
             } else {
-                format!(in alloc; "page {number}")
+                write!(text, "page {number}")
             }
         }
     }
 }
 
-// How an object is named, by its number. The annex of a process is named as that process.
-pub(crate) fn object_text(
-    alloc: Global,
+// Writes the name of an object, by its number. The annex of a process is named as that process.
+pub(crate) fn put_object(
+    text: &mut String,
     description: &Description,
     number: u64,
-) -> Result<String, AllocError>
-    ensures { IfOk result (λ text. string_bytes text ≡ object_text description.now number) }
+) -> Result<(), AllocError>
+    ensures { OnOk result
+        (string_bytes text.new ≡ string_bytes text.old ++ object_text description.now number) }
 {
     if is_bank(&description.banks, number) {
-        format!(in alloc; "bank {number}")
+        write!(text, "bank {number}")
     } else {
-        part_text(alloc, description, number)
+        put_part(text, description, number)
     }
 }

@@ -1,10 +1,10 @@
-// The text of a place. Each call that makes a text fails only where memory runs out.
-ghost use Rattle.std.specs.Prelude.{◌≡◌, ◌++◌, [], IfOk, MatchOption, codes, string_bytes};
-ghost use Rattle.description_explainer.specs.Text.{IsFlawText, IsPlaceText, IsShapeText, entry_text, field_text};
-ghost use Rattle.description_explainer.specs.Text.{indexed_entry, item_text, limit_text, misnumbered_text, named_text};
-ghost use Rattle.description_explainer.specs.Text.{owner_text, rule_text, slot_entry, table_text, target_text};
+// The text of a place. Each call fails only where memory runs out.
+ghost use Rattle.std.specs.Prelude.{◌≡◌, ℕ, ◌++◌, List, [], IfOk, MatchOption, OnOk, codes, string_bytes};
+ghost use Rattle.description_explainer.specs.Text.{IsFlawText, IsPlaceText, IsShapeText, field_text, indexed_entry};
+ghost use Rattle.description_explainer.specs.Text.{item_text, limit_text, misnumbered_text, named_text, owner_text};
+ghost use Rattle.description_explainer.specs.Text.{rule_text, slot_entry, table_text, target_text};
 
-use crate::naming::{node_text, object_text, page_text, process_text};
+use crate::naming::{put_node, put_object, put_page, put_process};
 use crate::place::{Place, Rule};
 use consistency::Unbanked;
 use description::Description;
@@ -13,11 +13,11 @@ use description_faults::{
 };
 use std::alloc::{AllocError, Global};
 
-// An item of a list.
-fn item_text(alloc: Global, list: &str, i: usize) -> Result<String, AllocError>
-    ensures { IfOk result (λ text. string_bytes text ≡ item_text list.now i []) }
+// Writes an item of a list.
+fn put_item(text: &mut String, list: &str, i: usize) -> Result<(), AllocError>
+    ensures { OnOk result (string_bytes text.new ≡ string_bytes text.old ++ item_text list.now i []) }
 {
-    format!(in alloc; "{list}[{i}]")
+    write!(text, "{list}[{i}]")
 }
 
 /// The key of the list that a table stands in, and its index there.
@@ -34,49 +34,51 @@ pub(crate) fn list_of(name: TableName) -> Option<(&'static str, usize)>
     }
 }
 
-// What stands before a key of a table.
-fn table_text(alloc: Global, name: TableName) -> Result<String, AllocError>
-    ensures { IfOk result (λ text. string_bytes text ≡ table_text name) }
+// Writes what stands before a key of a table.
+fn put_table(text: &mut String, name: TableName) -> Result<(), AllocError>
+    ensures { OnOk result (string_bytes text.new ≡ string_bytes text.old ++ table_text name) }
 {
     match list_of(name) {
-        None => Ok(String::new(alloc)),
-        Some((key, k)) => format!(in alloc; "{key}[{k}], "),
+        None => Ok(()),
+        Some((key, k)) => write!(text, "{key}[{k}], "),
     }
 }
 
-// A key, or an item of its list.
-fn flaw_text(alloc: Global, flaw: Flaw<'_>) -> Result<String, AllocError>
-    ensures { IfOk result (λ text. IsFlawText flaw.entry (string_bytes text)) }
+// Writes a key, or an item of its list.
+fn put_flaw(alloc: Global, text: &mut String, flaw: Flaw<'_>) -> Result<(), AllocError>
+    ensures { OnOk result ((at : List ℕ) × IsFlawText flaw.entry at
+        × (string_bytes text.new ≡ string_bytes text.old ++ at)) }
 {
     match flaw {
         Flaw::Unknown(key) => {
             let shown = format!(in alloc; "{key:?}")?;
-            format!(in alloc; "key {shown}")
+            write!(text, "key {shown}")
         }
-        Flaw::Misfit(key) => String::from_str(alloc, key.name()),
-        Flaw::Item(key, i) => item_text(alloc, key.name(), i),
+        Flaw::Misfit(key) => text.push_str(key.name()),
+        Flaw::Item(key, i) => put_item(text, key.name(), i),
     }
 }
 
 fn shape_text(alloc: Global, place: ShapePlace<'_>) -> Result<String, AllocError>
     ensures { IfOk result (λ text. IsShapeText place.entry (string_bytes text)) }
 {
-    let table = table_text(alloc, place.table)?;
-    let flaw = flaw_text(alloc, place.flaw)?;
-    format!(in alloc; "{table}{flaw}")
+    let mut text = String::new(alloc);
+    put_table(&mut text, place.table)?;
+    put_flaw(alloc, &mut text, place.flaw)?;
+    Ok(text)
 }
 
-fn limit_text(alloc: Global, limit: Limit) -> Result<String, AllocError>
-    ensures { IfOk result (λ text. string_bytes text ≡ limit_text limit) }
+fn put_limit(text: &mut String, limit: Limit) -> Result<(), AllocError>
+    ensures { OnOk result (string_bytes text.new ≡ string_bytes text.old ++ limit_text limit) }
 {
     match limit {
-        Limit::Nodes => String::from_str(alloc, "nodes"),
-        Limit::Pages => String::from_str(alloc, "pages"),
-        Limit::Log => String::from_str(alloc, "log"),
-        Limit::Age => String::from_str(alloc, "age"),
-        Limit::Layout => String::from_str(alloc, "layout"),
-        Limit::RangeCount | Limit::RangesEnd { .. } => String::from_str(alloc, "ranges"),
-        Limit::Range { index, .. } => item_text(alloc, "ranges", index),
+        Limit::Nodes => text.push_str("nodes"),
+        Limit::Pages => text.push_str("pages"),
+        Limit::Log => text.push_str("log"),
+        Limit::Age => text.push_str("age"),
+        Limit::Layout => text.push_str("layout"),
+        Limit::RangeCount | Limit::RangesEnd { .. } => text.push_str("ranges"),
+        Limit::Range { index, .. } => put_item(text, "ranges", index),
     }
 }
 
@@ -93,25 +95,25 @@ pub(crate) fn parts_of(named: Named) -> (&'static str, usize, &'static str)
     }
 }
 
-// The key of a number.
-fn named_text(alloc: Global, named: Named) -> Result<String, AllocError>
-    ensures { IfOk result (λ text. string_bytes text ≡ named_text named) }
+// Writes the key of a number.
+fn put_named(text: &mut String, named: Named) -> Result<(), AllocError>
+    ensures { OnOk result (string_bytes text.new ≡ string_bytes text.old ++ named_text named) }
 {
     let (list, k, key) = parts_of(named);
-    format!(in alloc; "{list}[{k}], {key}")
+    write!(text, "{list}[{k}], {key}")
 }
 
-fn misnumbered_text(alloc: Global, place: Misnumbered) -> Result<String, AllocError>
-    ensures { IfOk result (λ text. string_bytes text ≡ misnumbered_text place) }
+fn put_misnumbered(text: &mut String, place: Misnumbered) -> Result<(), AllocError>
+    ensures { OnOk result (string_bytes text.new ≡ string_bytes text.old ++ misnumbered_text place) }
 {
     match place {
-        Misnumbered::OutOfRange(named) => named_text(alloc, named),
-        Misnumbered::Twice(_, other) => named_text(alloc, other),
+        Misnumbered::OutOfRange(named) => put_named(text, named),
+        Misnumbered::Twice(_, other) => put_named(text, other),
     }
 }
 
-// The entry that is wrong: the second of two with one index.
-fn indexed_entry(flaw: Indexed) -> usize
+/// The entry that is wrong: the second of two with one index.
+pub(crate) fn indexed_entry(flaw: Indexed) -> usize
     ensures { result ≡ indexed_entry flaw }
 {
     match flaw {
@@ -129,90 +131,98 @@ fn slot_entry(flaw: SlotFlaw) -> usize
     }
 }
 
-// An entry of a list of a process, a node or a page.
-fn entry_text(alloc: Global, object: &str, list: &str, i: usize) -> Result<String, AllocError>
-    ensures { IfOk result (λ text. string_bytes text ≡ entry_text object.now list.now i) }
+// Writes a list of a process, a node or a page, and an entry there.
+fn put_entry(text: &mut String, list: &str, i: usize) -> Result<(), AllocError>
+    ensures { OnOk result (string_bytes text.new
+        ≡ string_bytes text.old ++ (codes ", " ++ item_text list.now i [])) }
 {
-    format!(in alloc; "{object}, {list}[{i}]")
+    write!(text, ", {list}[{i}]")
 }
 
-fn field_text(alloc: Global, description: &Description, part: Part) -> Result<String, AllocError>
-    ensures { IfOk result (λ text. string_bytes text ≡ field_text description.now part) }
+#[tactic(auto, using(std::proofs::Common::append_assoc))]
+fn put_field(text: &mut String, description: &Description, part: Part) -> Result<(), AllocError>
+    ensures { OnOk result
+        (string_bytes text.new ≡ string_bytes text.old ++ field_text description.now part) }
 {
     match part {
         Part::State(k) => {
-            let object = process_text(alloc, description, k)?;
-            format!(in alloc; "{object}, state")
+            put_process(text, description, k)?;
+            text.push_str(", state")
         }
         Part::Key(k) => {
-            let object = process_text(alloc, description, k)?;
-            format!(in alloc; "{object}, key")
+            put_process(text, description, k)?;
+            text.push_str(", key")
         }
         Part::Space(k) => {
-            let object = process_text(alloc, description, k)?;
-            format!(in alloc; "{object}, space")
+            put_process(text, description, k)?;
+            text.push_str(", space")
         }
         Part::Registers(k, flaw) => {
-            let object = process_text(alloc, description, k)?;
-            entry_text(alloc, &object, "registers", slot_entry(flaw))
+            put_process(text, description, k)?;
+            put_entry(text, "registers", slot_entry(flaw))
         }
         Part::Slots(k, flaw) => {
-            let object = node_text(alloc, description, k)?;
-            entry_text(alloc, &object, "slots", slot_entry(flaw))
+            put_node(text, description, k)?;
+            put_entry(text, "slots", slot_entry(flaw))
         }
         Part::Words(k, flaw) => {
-            let object = page_text(alloc, description, k)?;
-            entry_text(alloc, &object, "words", indexed_entry(flaw))
+            put_page(text, description, k)?;
+            put_entry(text, "words", indexed_entry(flaw))
         }
     }
 }
 
-fn target_text(alloc: Global, description: &Description, held: Held) -> Result<String, AllocError>
-    ensures { IfOk result (λ text. string_bytes text ≡ target_text description.now held) }
+#[tactic(auto, using(std::proofs::Common::append_assoc))]
+fn put_target(text: &mut String, description: &Description, held: Held) -> Result<(), AllocError>
+    ensures { OnOk result
+        (string_bytes text.new ≡ string_bytes text.old ++ target_text description.now held) }
 {
     match held {
         Held::Space(k) => {
-            let object = process_text(alloc, description, k)?;
-            format!(in alloc; "{object}, space")
+            put_process(text, description, k)?;
+            text.push_str(", space")
         }
         Held::Register(k, i) => {
-            let object = process_text(alloc, description, k)?;
-            entry_text(alloc, &object, "registers", i)
+            put_process(text, description, k)?;
+            put_entry(text, "registers", i)
         }
         Held::Slot(k, i) => {
-            let object = node_text(alloc, description, k)?;
-            entry_text(alloc, &object, "slots", i)
+            put_node(text, description, k)?;
+            put_entry(text, "slots", i)
         }
     }
 }
 
-fn owner_text(
-    alloc: Global,
+#[tactic(auto, using(std::proofs::Common::append_assoc))]
+fn put_owner(
+    text: &mut String,
     description: &Description,
     unbanked: Unbanked,
-) -> Result<String, AllocError>
-    ensures { IfOk result (λ text. string_bytes text ≡ owner_text description.now unbanked) }
+) -> Result<(), AllocError>
+    ensures { OnOk result
+        (string_bytes text.new ≡ string_bytes text.old ++ owner_text description.now unbanked) }
 {
     match unbanked {
-        Unbanked::Prime => String::from_str(alloc, "bank 0"),
+        Unbanked::Prime => text.push_str("bank 0"),
         Unbanked::Owner { object, .. } => {
-            let object = object_text(alloc, description, object)?;
-            format!(in alloc; "{object}, owner")
+            put_object(text, description, object)?;
+            text.push_str(", owner")
         }
-        Unbanked::Chain(bank) => format!(in alloc; "bank {bank}, owner"),
-        Unbanked::Limit { bank, .. } => format!(in alloc; "bank {bank}, limit"),
+        Unbanked::Chain(bank) => write!(text, "bank {bank}, owner"),
+        Unbanked::Limit { bank, .. } => write!(text, "bank {bank}, limit"),
     }
 }
 
-fn rule_text(alloc: Global, description: &Description, rule: Rule) -> Result<String, AllocError>
-    ensures { IfOk result (λ text. string_bytes text ≡ rule_text description.now rule) }
+fn put_rule(text: &mut String, description: &Description, rule: Rule) -> Result<(), AllocError>
+    ensures { OnOk result
+        (string_bytes text.new ≡ string_bytes text.old ++ rule_text description.now rule) }
 {
     match rule {
-        Rule::Limit(limit) => limit_text(alloc, limit),
-        Rule::Number(place) => misnumbered_text(alloc, place),
-        Rule::Field(part) => field_text(alloc, description, part),
-        Rule::Target(held) => target_text(alloc, description, held),
-        Rule::Owner(unbanked) => owner_text(alloc, description, unbanked),
+        Rule::Limit(limit) => put_limit(text, limit),
+        Rule::Number(place) => put_misnumbered(text, place),
+        Rule::Field(part) => put_field(text, description, part),
+        Rule::Target(held) => put_target(text, description, held),
+        Rule::Owner(unbanked) => put_owner(text, description, unbanked),
     }
 }
 
@@ -222,6 +232,10 @@ pub(crate) fn place_text(alloc: Global, place: &Place<'_>) -> Result<String, All
 {
     match place {
         Place::Shape(shape) => shape_text(alloc, *shape),
-        Place::Rule(description, rule) => rule_text(alloc, description, *rule),
+        Place::Rule(description, rule) => {
+            let mut text = String::new(alloc);
+            put_rule(&mut text, description, *rule)?;
+            Ok(text)
+        }
     }
 }

@@ -1,17 +1,16 @@
-// What an explanation says. Each call that makes a text fails only where memory runs out.
+// What an explanation says. Each call that writes fails only where memory runs out.
 ghost use Rattle.std.specs.Prelude.{IfOk, string_bytes};
 ghost use Rattle.description_explainer.specs.Text.{IsExplanation};
 
 use crate::naming::listed_number;
 use crate::place::{Place, Rule};
-use crate::place_text::{list_of, parts_of, place_text};
+use crate::place_text::{indexed_entry, list_of, parts_of, place_text};
 use consistency::Unbanked;
 use described_world::is_capability;
 use description::member::member;
 use description::{Description, ProcessEntry, SlotEntry};
 use description_faults::{
     Flaw, Held, Indexed, Key, Limit, Misnumbered, Named, Part, ShapePlace, SlotFlaw, TableName,
-    slot_indexes, word_indexes,
 };
 use image_writer::NumberRange;
 use model::{Capability, Geometry};
@@ -95,102 +94,111 @@ fn entry_text<'a>(whole: &'a Table, name: TableName, key: &str, i: usize) -> &'a
     entry_at(whole, name, key, i).unwrap_or("")
 }
 
-// What was found at a key.
-fn found_text(alloc: Global, value: &Value) -> Result<String, AllocError> {
+// Writes what was found at a key.
+fn put_found(text: &mut String, value: &Value) -> Result<(), AllocError> {
     match value.as_integer() {
-        Some(number) => format!(in alloc; "found {number}"),
+        Some(number) => write!(text, "found {number}"),
         None => match value {
-            Value::Array(items) => format!(in alloc; "found a list of {}", items.len()),
-            _ => format!(in alloc; "found a {}", value.type_str()),
+            Value::Array(items) => write!(text, "found a list of {}", items.len()),
+            _ => write!(text, "found a {}", value.type_str()),
         },
     }
 }
 
-fn misfit_text(
-    alloc: Global,
+fn put_misfit(
+    text: &mut String,
     whole: &Table,
     name: TableName,
     key: Key,
-) -> Result<String, AllocError> {
+) -> Result<(), AllocError> {
     let wanted = wanted(key);
     match value_at(whole, name, key.name()) {
-        None => format!(in alloc; ": is missing; expected {wanted}"),
+        None => write!(text, ": is missing; expected {wanted}"),
         Some(value) => {
-            let found = found_text(alloc, value)?;
-            format!(in alloc; ": expected {wanted}, {found}")
+            write!(text, ": expected {wanted}, ")?;
+            put_found(text, value)
         }
     }
 }
 
-fn shape_text(alloc: Global, whole: &Table, place: ShapePlace<'_>) -> Result<String, AllocError> {
+fn put_shape(text: &mut String, whole: &Table, place: ShapePlace<'_>) -> Result<(), AllocError> {
     match place.flaw {
         Flaw::Unknown(_) => {
             let keys = keys_in(place.table);
-            format!(in alloc; " is unknown; the keys are {keys}")
+            write!(text, " is unknown; the keys are {keys}")
         }
-        Flaw::Misfit(key) => misfit_text(alloc, whole, place.table, key),
+        Flaw::Misfit(key) => put_misfit(text, whole, place.table, key),
         Flaw::Item(key, _) => {
             let wanted = wanted_item(key);
-            format!(in alloc; ": expected {wanted}")
+            write!(text, ": expected {wanted}")
         }
     }
 }
 
-// Why a range doesn't go on at a number.
-fn range_text(
-    alloc: Global,
+// Writes why a range doesn't go on at a number.
+fn put_range(
+    text: &mut String,
     geometry: Geometry,
     range: NumberRange,
     next: u64,
-) -> Result<String, AllocError> {
+) -> Result<(), AllocError> {
     let NumberRange { first, count } = range;
     let nodes = geometry.nodes;
     if first != next {
-        format!(in alloc; ": begins at {first}; expected {next}, where those before it end")
+        write!(
+            text,
+            ": begins at {first}; expected {next}, where those before it end"
+        )
     } else if count == 0 {
-        format!(in alloc; ": is empty")
+        text.push_str(": is empty")
     } else if first < nodes && count > nodes - first {
-        format!(in alloc; ": has nodes and pages; numbers below {nodes} are of nodes")
+        write!(
+            text,
+            ": has nodes and pages; numbers below {nodes} are of nodes"
+        )
     } else {
-        format!(in alloc; ": goes beyond the last page")
+        text.push_str(": goes beyond the last page")
     }
 }
 
-fn limit_text(
-    alloc: Global,
-    description: &Description,
-    limit: Limit,
-) -> Result<String, AllocError> {
+fn put_limit(text: &mut String, description: &Description, limit: Limit) -> Result<(), AllocError> {
     let Geometry { nodes, pages, log } = description.geometry;
     match limit {
-        Limit::Nodes => format!(in alloc; ": {nodes} is not from 16 to 4096"),
-        Limit::Pages => format!(in alloc; ": {pages} is not from 1 to 4096"),
-        Limit::Log => format!(in alloc; ": {log} is not from 16 to 4096"),
-        Limit::Age => {
-            format!(in alloc; ": {} is above 4611686018427387904, 2^62", description.age)
-        }
-        Limit::Layout => format!(in alloc; ": {} is not 1 or 2", description.layout),
+        Limit::Nodes => write!(text, ": {nodes} is not from 16 to 4096"),
+        Limit::Pages => write!(text, ": {pages} is not from 1 to 4096"),
+        Limit::Log => write!(text, ": {log} is not from 16 to 4096"),
+        Limit::Age => write!(
+            text,
+            ": {} is above 4611686018427387904, 2^62",
+            description.age
+        ),
+        Limit::Layout => write!(text, ": {} is not 1 or 2", description.layout),
         Limit::RangeCount => {
-            format!(in alloc; ": there are {}; expected 1 to 8", description.ranges.len())
+            write!(
+                text,
+                ": there are {}; expected 1 to 8",
+                description.ranges.len()
+            )
         }
         Limit::RangesEnd { next } => {
             let end = nodes.saturating_add(pages);
-            format!(in alloc;
+            write!(
+                text,
                 ": they end before {next}; expected {end}, that all numbers have a home"
             )
         }
         Limit::Range { index, next } => match description.ranges.get(index) {
-            Some(range) => range_text(alloc, description.geometry, *range, next),
-            None => Ok(String::new(alloc)),
+            Some(range) => put_range(text, description.geometry, *range, next),
+            None => Ok(()),
         },
     }
 }
 
-fn number_text(
-    alloc: Global,
+fn put_number(
+    text: &mut String,
     description: &Description,
     place: Misnumbered,
-) -> Result<String, AllocError> {
+) -> Result<(), AllocError> {
     let nodes = description.geometry.nodes;
     let end = nodes.saturating_add(description.geometry.pages);
     match place {
@@ -201,169 +209,181 @@ fn number_text(
                 _ => ("node", 0, nodes),
             };
             let last = end.saturating_sub(1);
-            format!(in alloc; ": {number} is not the number of a {kind}, {first} to {last}")
+            write!(
+                text,
+                ": {number} is not the number of a {kind}, {first} to {last}"
+            )
         }
         Misnumbered::Twice(one, other) => {
             let number = listed_number(description, other);
             let (list, i, key) = parts_of(one);
-            format!(in alloc; ": {number} is already used, as {key} of {list}[{i}]")
+            write!(text, ": {number} is already used, as {key} of {list}[{i}]")
         }
     }
 }
 
-// What is wrong with the index of an entry: the key of the list and what its entries are, their indexes, and
-// which indexes there are.
-fn indexed_text(
-    alloc: Global,
-    list: &str,
-    what: &str,
-    indexes: &[u64],
+// A list of entries with indexes: its table and key, what its entries are, and the first and last index.
+#[derive(Clone, Copy)]
+struct Entries {
+    table: TableName,
+    key: &'static str,
+    what: &'static str,
     first: u64,
     last: u64,
-    flaw: Indexed,
-) -> Result<String, AllocError> {
-    match flaw {
-        Indexed::OutOfRange(i) => {
-            let index = indexes.get(i).copied().unwrap_or(0);
-            format!(in alloc; ": {what} {index} is not from {first} to {last}")
-        }
-        Indexed::Twice(i, j) => {
-            let index = indexes.get(j).copied().unwrap_or(0);
-            format!(in alloc; ": {what} {index} is already named, by {list}[{i}]")
+}
+
+impl Entries {
+    fn registers(k: usize) -> Entries {
+        Entries {
+            table: TableName::Process(k),
+            key: "registers",
+            what: "register",
+            first: 1,
+            last: 31,
         }
     }
-}
 
-// Where an entry stands: the table of the process or node, and the key of the list.
-#[derive(Clone, Copy)]
-struct Entries<'a> {
-    whole: &'a Table,
-    table: TableName,
-    key: &'a str,
-}
+    fn slots(k: usize) -> Entries {
+        Entries {
+            table: TableName::Node(k),
+            key: "slots",
+            what: "slot",
+            first: 0,
+            last: 31,
+        }
+    }
 
-impl Entries<'_> {
-    // What is wrong with an entry in a list of slots or registers.
-    fn slot_text(
+    fn words(k: usize) -> Entries {
+        Entries {
+            table: TableName::Page(k),
+            key: "words",
+            what: "word",
+            first: 0,
+            last: 511,
+        }
+    }
+
+    // Writes what is wrong with the index of an entry.
+    fn put_indexed(self, text: &mut String, index: u64, flaw: Indexed) -> Result<(), AllocError> {
+        let Entries {
+            key,
+            what,
+            first,
+            last,
+            ..
+        } = self;
+        match flaw {
+            Indexed::OutOfRange(_) => {
+                write!(text, ": {what} {index} is not from {first} to {last}")
+            }
+            Indexed::Twice(i, _) => {
+                write!(text, ": {what} {index} is already named, by {key}[{i}]")
+            }
+        }
+    }
+
+    // Writes what is wrong with an entry in a list of slots or registers.
+    fn put_slot(
         self,
-        alloc: Global,
+        text: &mut String,
+        whole: &Table,
         slots: &[SlotEntry],
-        what: &str,
-        first: u64,
         flaw: SlotFlaw,
-    ) -> Result<String, AllocError> {
+    ) -> Result<(), AllocError> {
         match flaw {
             SlotFlaw::Index(flaw) => {
-                let indexes = slot_indexes(alloc, slots)?;
-                indexed_text(alloc, self.key, what, &indexes, first, 31, flaw)
+                let index = slots.get(indexed_entry(flaw)).map_or(0, |slot| slot.index);
+                self.put_indexed(text, index, flaw)
             }
             SlotFlaw::Text(i) => {
-                let text = entry_text(self.whole, self.table, self.key, i);
-                format!(in alloc; ": {text:?} is not the text of a capability")
+                let entry = entry_text(whole, self.table, self.key, i);
+                write!(text, ": {entry:?} is not the text of a capability")
             }
         }
     }
 }
 
-fn slots_text(
-    alloc: Global,
-    whole: &Table,
-    description: &Description,
-    part: Part,
-) -> Result<String, AllocError> {
-    match part {
-        Part::Registers(k, flaw) => {
-            let (table, key) = (TableName::Process(k), "registers");
-            let entries = Entries { whole, table, key };
-            match description.processes.get(k) {
-                Some(process) => entries.slot_text(alloc, &process.registers, "register", 1, flaw),
-                None => Ok(String::new(alloc)),
-            }
-        }
-        Part::Slots(k, flaw) => {
-            let (table, key) = (TableName::Node(k), "slots");
-            let entries = Entries { whole, table, key };
-            match description.nodes.get(k) {
-                Some(node) => entries.slot_text(alloc, &node.slots, "slot", 0, flaw),
-                None => Ok(String::new(alloc)),
-            }
-        }
-        _ => Ok(String::new(alloc)),
-    }
-}
-
-fn words_text(
-    alloc: Global,
-    description: &Description,
-    k: usize,
-    flaw: Indexed,
-) -> Result<String, AllocError> {
-    match description.pages.get(k) {
-        Some(page) => {
-            let indexes = word_indexes(alloc, &page.words)?;
-            indexed_text(alloc, "words", "word", &indexes, 0, 511, flaw)
-        }
-        None => Ok(String::new(alloc)),
-    }
-}
-
-// What is wrong with the address space of a process.
-fn space_text(
-    alloc: Global,
+// Writes what is wrong with the address space of a process.
+fn put_space(
+    text: &mut String,
     whole: &Table,
     k: usize,
     process: &ProcessEntry,
-) -> Result<String, AllocError> {
-    let text = text_at(whole, TableName::Process(k), "space");
+) -> Result<(), AllocError> {
+    let space = text_at(whole, TableName::Process(k), "space");
     if is_capability(process.space) {
-        format!(in alloc; ": {text:?} is not void, a page or a space")
+        write!(text, ": {space:?} is not void, a page or a space")
     } else {
-        format!(in alloc; ": {text:?} is not the text of a capability")
+        write!(text, ": {space:?} is not the text of a capability")
     }
 }
 
-fn field_text(
-    alloc: Global,
+// Writes what is wrong with a field of a process.
+fn put_process_field(
+    text: &mut String,
+    whole: &Table,
+    process: &ProcessEntry,
+    part: Part,
+) -> Result<(), AllocError> {
+    match part {
+        Part::State(k) => {
+            let state = text_at(whole, TableName::Process(k), "state");
+            write!(text, ": {state:?} is not available, running or waiting")
+        }
+        Part::Key(_) => write!(text, ": {} is above 65535", process.key),
+        Part::Space(k) => put_space(text, whole, k, process),
+        Part::Registers(k, flaw) => {
+            Entries::registers(k).put_slot(text, whole, &process.registers, flaw)
+        }
+        Part::Slots(_, _) | Part::Words(_, _) => Ok(()),
+    }
+}
+
+fn put_field(
+    text: &mut String,
     whole: &Table,
     description: &Description,
     part: Part,
-) -> Result<String, AllocError> {
+) -> Result<(), AllocError> {
     match part {
-        Part::Registers(_, _) | Part::Slots(_, _) => slots_text(alloc, whole, description, part),
-        Part::Words(k, flaw) => words_text(alloc, description, k, flaw),
-        Part::State(k) => {
-            let text = text_at(whole, TableName::Process(k), "state");
-            format!(in alloc; ": {text:?} is not available, running or waiting")
+        Part::State(k) | Part::Key(k) | Part::Space(k) | Part::Registers(k, _) => {
+            match description.processes.get(k) {
+                Some(process) => put_process_field(text, whole, process, part),
+                None => Ok(()),
+            }
         }
-        Part::Key(k) => {
-            let key = description
-                .processes
-                .get(k)
-                .map_or(0, |process| process.key);
-            format!(in alloc; ": {key} is above 65535")
-        }
-        Part::Space(k) => match description.processes.get(k) {
-            Some(process) => space_text(alloc, whole, k, process),
-            None => Ok(String::new(alloc)),
+        Part::Slots(k, flaw) => match description.nodes.get(k) {
+            Some(node) => Entries::slots(k).put_slot(text, whole, &node.slots, flaw),
+            None => Ok(()),
+        },
+        Part::Words(k, flaw) => match description.pages.get(k) {
+            Some(page) => {
+                let index = page
+                    .words
+                    .get(indexed_entry(flaw))
+                    .map_or(0, |word| word.index);
+                Entries::words(k).put_indexed(text, index, flaw)
+            }
+            None => Ok(()),
         },
     }
 }
 
-// What a capability names that isn't there.
-fn absent_text(alloc: Global, capability: Capability) -> Result<String, AllocError> {
+// Writes what a capability names that isn't there.
+fn put_absent(text: &mut String, capability: Capability) -> Result<(), AllocError> {
     match capability {
-        Capability::Page { object, .. } => format!(in alloc; "there is no page {object}"),
+        Capability::Page { object, .. } => write!(text, "there is no page {object}"),
         Capability::Node { object, .. } | Capability::Space { object, .. } => {
-            format!(in alloc; "there is no node {object}")
+            write!(text, "there is no node {object}")
         }
         Capability::Process(object)
         | Capability::Start {
             process: object,
             ..
-        } => { format!(in alloc; "there is no process {object}") }
-        Capability::Resume(process) => format!(in alloc; "no process {process} is waiting"),
-        Capability::Bank(object) => format!(in alloc; "there is no bank {object}"),
-        _ => Ok(String::new(alloc)),
+        } => write!(text, "there is no process {object}"),
+        Capability::Resume(process) => write!(text, "no process {process} is waiting"),
+        Capability::Bank(object) => write!(text, "there is no bank {object}"),
+        _ => Ok(()),
     }
 }
 
@@ -376,65 +396,62 @@ fn held_at(description: &Description, held: Held) -> Option<Capability> {
     }
 }
 
-fn target_text(
-    alloc: Global,
+// The text of that capability in the table.
+fn held_text(whole: &Table, held: Held) -> &str {
+    match held {
+        Held::Space(k) => text_at(whole, TableName::Process(k), "space"),
+        Held::Register(k, i) => entry_text(whole, TableName::Process(k), "registers", i),
+        Held::Slot(k, i) => entry_text(whole, TableName::Node(k), "slots", i),
+    }
+}
+
+fn put_target(
+    text: &mut String,
     whole: &Table,
     description: &Description,
     held: Held,
-) -> Result<String, AllocError> {
-    let absent = absent_text(
-        alloc,
-        held_at(description, held).unwrap_or(Capability::Void),
-    )?;
-    match held {
-        Held::Space(k) => {
-            let text = text_at(whole, TableName::Process(k), "space");
-            format!(in alloc; ": {text:?}: {absent}")
-        }
-        Held::Register(k, i) => {
-            let text = entry_text(whole, TableName::Process(k), "registers", i);
-            format!(in alloc; ": {text:?}: {absent}")
-        }
-        Held::Slot(k, i) => {
-            let text = entry_text(whole, TableName::Node(k), "slots", i);
-            format!(in alloc; ": {text:?}: {absent}")
-        }
+) -> Result<(), AllocError> {
+    let name = held_text(whole, held);
+    write!(text, ": {name:?}: ")?;
+    match held_at(description, held) {
+        Some(capability) => put_absent(text, capability),
+        None => Ok(()),
     }
 }
 
-fn owner_text(alloc: Global, unbanked: Unbanked) -> Result<String, AllocError> {
+fn put_owner(text: &mut String, unbanked: Unbanked) -> Result<(), AllocError> {
     match unbanked {
-        Unbanked::Prime => format!(in alloc; ": expected a bank of number 0 with owner 0"),
-        Unbanked::Owner { owner, .. } => format!(in alloc; ": there is no bank {owner}"),
+        Unbanked::Prime => text.push_str(": expected a bank of number 0 with owner 0"),
+        Unbanked::Owner { owner, .. } => write!(text, ": there is no bank {owner}"),
         Unbanked::Chain(_) => {
-            format!(in alloc; ": its owners do not lead to bank 0 in a chain of 16 banks")
+            text.push_str(": its owners do not lead to bank 0 in a chain of 16 banks")
         }
         Unbanked::Limit { used, limit, .. } => {
-            format!(in alloc; ": {limit} is below its usage {used}")
+            write!(text, ": {limit} is below its usage {used}")
         }
     }
 }
 
-fn rule_text(
-    alloc: Global,
+fn put_rule(
+    text: &mut String,
     whole: &Table,
     description: &Description,
     rule: Rule,
-) -> Result<String, AllocError> {
+) -> Result<(), AllocError> {
     match rule {
-        Rule::Limit(limit) => limit_text(alloc, description, limit),
-        Rule::Number(place) => number_text(alloc, description, place),
-        Rule::Field(part) => field_text(alloc, whole, description, part),
-        Rule::Target(held) => target_text(alloc, whole, description, held),
-        Rule::Owner(unbanked) => owner_text(alloc, unbanked),
+        Rule::Limit(limit) => put_limit(text, description, limit),
+        Rule::Number(place) => put_number(text, description, place),
+        Rule::Field(part) => put_field(text, whole, description, part),
+        Rule::Target(held) => put_target(text, whole, description, held),
+        Rule::Owner(unbanked) => put_owner(text, unbanked),
     }
 }
 
-// What is wrong at a place.
-fn fault_text(alloc: Global, table: &Table, place: &Place<'_>) -> Result<String, AllocError> {
+// Writes what is wrong at a place.
+fn put_fault(text: &mut String, table: &Table, place: &Place<'_>) -> Result<(), AllocError> {
     match place {
-        Place::Shape(shape) => shape_text(alloc, table, *shape),
-        Place::Rule(description, rule) => rule_text(alloc, table, description, *rule),
+        Place::Shape(shape) => put_shape(text, table, *shape),
+        Place::Rule(description, rule) => put_rule(text, table, description, *rule),
     }
 }
 
@@ -444,7 +461,8 @@ pub fn explanation(alloc: Global, table: &Table, place: &Place<'_>) -> Result<St
     ensures { IfOk result (λ text. IsExplanation place.now (string_bytes text)) }
 {
     let at = place_text(alloc, place)?;
-    let what = fault_text(alloc, table, place)?;
+    let mut what = String::new(alloc);
+    put_fault(&mut what, table, place)?;
     let number = place.fault().number();
     format!(in alloc; "{at}{what} (bad description {number})")
 }

@@ -11,7 +11,7 @@ mod place;
 mod shape;
 mod targets;
 
-pub use fields::{misfilled, slot_indexes, word_indexes};
+pub use fields::misfilled;
 pub use key::Key;
 pub use limits::{bad_count, bad_ranges};
 pub use numbers::misnumbered;

@@ -22,6 +22,5 @@ mod Rising
 mod Said
 pub mod SameTables
 pub mod Short
-mod Spaces
 mod Telling
 mod Written

@@ -5,9 +5,9 @@ ghost use Rattle.described_world.specs.Described.{IsSpaceEntry};
 ghost use Rattle.image_describer.specs.Text.{begin_line, field_line, list_text, list_unless_empty, number_unless};
 ghost use Rattle.image_describer.specs.Text.{space_unless_void, state_value, wide_text, words_unless_zeros};
 
-use crate::values::{Item, capability_string, put_items, put_wide, state_word};
+use crate::values::{Item, put_capability, put_items, put_wide, state_word};
 use model::{Capability, State};
-use std::alloc::{AllocError, Global};
+use std::alloc::AllocError;
 
 /// Writes the line that begins an object, behind an empty one.
 pub(crate) fn put_header(text: &mut String, name: &str) -> Result<(), AllocError>
@@ -61,24 +61,18 @@ pub(crate) fn put_state(text: &mut String, key: &str, state: State) -> Result<()
 }
 
 /// Writes a key and a list.
-pub(crate) fn put_list<T: Item>(
-    alloc: Global,
-    text: &mut String,
-    key: &str,
-    items: &[T],
-) -> Result<(), AllocError>
+pub(crate) fn put_list<T: Item>(text: &mut String, key: &str, items: &[T]) -> Result<(), AllocError>
     requires { All T.MayBePut items.now }
     ensures { OnOk result (string_bytes text.new
         ≡ string_bytes text.old ++ field_line (key.now, Some (list_text T.text_of items.now))) }
 {
     write!(text, "{key} = ")?;
-    put_items(alloc, text, items)?;
+    put_items(text, items)?;
     text.push_str("\n")
 }
 
 /// Writes a key and a list, unless it is empty.
 pub(crate) fn put_list_unless_empty<T: Item>(
-    alloc: Global,
     text: &mut String,
     key: &str,
     items: &[T],
@@ -90,7 +84,7 @@ pub(crate) fn put_list_unless_empty<T: Item>(
     if items.is_empty() {
         Ok(())
     } else {
-        put_list(alloc, text, key, items)
+        put_list(text, key, items)
     }
 }
 
@@ -102,25 +96,19 @@ fn are_zeros(words: &[u64]) -> bool
 }
 
 /// Writes a key and the words of a process, unless all are 0.
-pub(crate) fn put_words(
-    alloc: Global,
-    text: &mut String,
-    key: &str,
-    words: &[u64; 4],
-) -> Result<(), AllocError>
+pub(crate) fn put_words(text: &mut String, key: &str, words: &[u64; 4]) -> Result<(), AllocError>
     ensures { OnOk result (string_bytes text.new
         ≡ string_bytes text.old ++ field_line (key.now, words_unless_zeros words.now)) }
 {
     if are_zeros(words.as_slice()) {
         Ok(())
     } else {
-        put_list(alloc, text, key, words.as_slice())
+        put_list(text, key, words.as_slice())
     }
 }
 
 /// Writes a key and an address space, unless it is void.
 pub(crate) fn put_space(
-    alloc: Global,
     text: &mut String,
     key: &str,
     space: Option<Capability>,
@@ -133,8 +121,9 @@ pub(crate) fn put_space(
         None => unreachable!(),
         Some(Capability::Void) => Ok(()),
         Some(space) => {
-            let held = capability_string(alloc, space)?;
-            writeln!(text, "{key} = \"{held}\"")
+            write!(text, "{key} = \"")?;
+            put_capability(text, space)?;
+            text.push_str("\"\n")
         }
     }
 }

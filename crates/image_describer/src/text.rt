@@ -28,7 +28,7 @@ trait Lines {
     ghost MayBePut: { Self → Type 0 };
 
     /// Writes them.
-    fn put(&self, alloc: Global, text: &mut String) -> Result<(), AllocError>
+    fn put(&self, text: &mut String) -> Result<(), AllocError>
         requires { MayBePut self.now }
         ensures { OnOk result (string_bytes text.new ≡ string_bytes text.old ++ text_of self.now) };
 }
@@ -38,7 +38,7 @@ impl Lines for BankEntry {
 
     ghost MayBePut = { λ _. Unit {0} };
 
-    fn put(&self, _alloc: Global, text: &mut String) -> Result<(), AllocError> {
+    fn put(&self, text: &mut String) -> Result<(), AllocError> {
         put_header(text, "bank")?;
         put_number(text, "number", self.number)?;
         put_number(text, "owner", self.owner)?;
@@ -51,7 +51,7 @@ impl Lines for ProcessEntry {
 
     ghost MayBePut = { IsProcessEntry };
 
-    fn put(&self, alloc: Global, text: &mut String) -> Result<(), AllocError> {
+    fn put(&self, text: &mut String) -> Result<(), AllocError> {
         let Some(state) = self.state else {
             unreachable!()
         };
@@ -61,9 +61,9 @@ impl Lines for ProcessEntry {
         put_number(text, "owner", self.owner)?;
         put_state(text, "state", state)?;
         put_number_unless(text, "key", 0, self.key)?;
-        put_words(alloc, text, "words", &self.words)?;
-        put_space(alloc, text, "space", self.space)?;
-        put_list_unless_empty(alloc, text, "registers", &self.registers)
+        put_words(text, "words", &self.words)?;
+        put_space(text, "space", self.space)?;
+        put_list_unless_empty(text, "registers", &self.registers)
     }
 }
 
@@ -72,11 +72,11 @@ impl Lines for NodeEntry {
 
     ghost MayBePut = { λ node. AreSlots 0 node.slots.items };
 
-    fn put(&self, alloc: Global, text: &mut String) -> Result<(), AllocError> {
+    fn put(&self, text: &mut String) -> Result<(), AllocError> {
         put_header(text, "node")?;
         put_number(text, "number", self.number)?;
         put_number(text, "owner", self.owner)?;
-        put_list_unless_empty(alloc, text, "slots", &self.slots)
+        put_list_unless_empty(text, "slots", &self.slots)
     }
 }
 
@@ -85,11 +85,11 @@ impl Lines for PageEntry {
 
     ghost MayBePut = { λ _. Unit {0} };
 
-    fn put(&self, alloc: Global, text: &mut String) -> Result<(), AllocError> {
+    fn put(&self, text: &mut String) -> Result<(), AllocError> {
         put_header(text, "page")?;
         put_number(text, "number", self.number)?;
         put_number(text, "owner", self.owner)?;
-        put_list_unless_empty(alloc, text, "words", &self.words)
+        put_list_unless_empty(text, "words", &self.words)
     }
 }
 
@@ -114,7 +114,6 @@ fn are_whole(geometry: Geometry, ranges: &[NumberRange]) -> bool
 
 // Writes the ranges, unless they are those.
 fn put_ranges(
-    alloc: Global,
     text: &mut String,
     geometry: Geometry,
     ranges: &[NumberRange],
@@ -125,12 +124,12 @@ fn put_ranges(
     if are_whole(geometry, ranges) {
         Ok(())
     } else {
-        put_list(alloc, text, "ranges", ranges)
+        put_list(text, "ranges", ranges)
     }
 }
 
 // Writes the keys of the image.
-fn put_image(alloc: Global, text: &mut String, description: &Description) -> Result<(), AllocError>
+fn put_image(text: &mut String, description: &Description) -> Result<(), AllocError>
     ensures { OnOk result (string_bytes text.new
         ≡ string_bytes text.old ++ field_lines (image_fields description.now)) }
 {
@@ -140,37 +139,33 @@ fn put_image(alloc: Global, text: &mut String, description: &Description) -> Res
     put_number(text, "log", geometry.log)?;
     put_number_unless(text, "layout", 1, description.layout)?;
     put_number_unless(text, "age", 0, description.age)?;
-    put_ranges(alloc, text, geometry, &description.ranges)
+    put_ranges(text, geometry, &description.ranges)
 }
 
 // Writes objects of a kind.
-fn put_all<T: Lines>(alloc: Global, text: &mut String, entries: &[T]) -> Result<(), AllocError>
+fn put_all<T: Lines>(text: &mut String, entries: &[T]) -> Result<(), AllocError>
     requires { All T.MayBePut entries.now }
     ensures { OnOk result
         (string_bytes text.new ≡ string_bytes text.old ++ flat_map T.text_of entries.now) }
 {
     for entry in entries {
-        entry.put(alloc, text)?;
+        entry.put(text)?;
     }
     Ok(())
 }
 
 // Writes the whole.
 #[tactic(auto, unfolding(crate::specs::Text::description_text))]
-fn put_description(
-    alloc: Global,
-    text: &mut String,
-    description: &Description,
-) -> Result<(), AllocError>
+fn put_description(text: &mut String, description: &Description) -> Result<(), AllocError>
     requires { HasFields description.now }
     ensures { OnOk result
         (string_bytes text.new ≡ string_bytes text.old ++ description_text description.now) }
 {
-    put_image(alloc, text, description)?;
-    put_all(alloc, text, &description.banks)?;
-    put_all(alloc, text, &description.processes)?;
-    put_all(alloc, text, &description.nodes)?;
-    put_all(alloc, text, &description.pages)
+    put_image(text, description)?;
+    put_all(text, &description.banks)?;
+    put_all(text, &description.processes)?;
+    put_all(text, &description.nodes)?;
+    put_all(text, &description.pages)
 }
 
 /// The text of a description, in TOML: each key once, in the order of the manual, and none that has
@@ -183,6 +178,6 @@ pub fn text_of(alloc: Global, description: &Description) -> Result<String, Alloc
         × IsDescription table description.now) }
 {
     let mut text = String::new(alloc);
-    put_description(alloc, &mut text, description)?;
+    put_description(&mut text, description)?;
     Ok(text)
 }

@@ -1,5 +1,5 @@
 // The values of a description. Each call fails only where memory runs out.
-ghost use Rattle.std.specs.Prelude.{◌≡◌, ℕ, ◌++◌, List, IfOk, OnOk, codes, string_bytes};
+ghost use Rattle.std.specs.Prelude.{◌≡◌, ℕ, ◌++◌, List, OnOk, codes, string_bytes};
 ghost use Rattle.std.specs.List.{All, flat_map};
 ghost use Rattle.model.specs.Capability.{IsAccess, IsWellFormed};
 ghost use Rattle.model.specs.Text.{access_text, capability_text, state_text};
@@ -9,7 +9,7 @@ ghost use Rattle.image_describer.specs.Text.{list_text, quoted, range_text, slot
 use description::{SlotEntry, WordEntry};
 use image_writer::NumberRange;
 use model::{Access, Capability, State};
-use std::alloc::{AllocError, Global};
+use std::alloc::AllocError;
 
 // The word for an access, with the space before it.
 fn access_word(access: Access) -> &'static str
@@ -25,49 +25,50 @@ fn access_word(access: Access) -> &'static str
     }
 }
 
-// The text of a space.
+// Writes a space.
 #[tactic(auto, using(std::proofs::Common::append_assoc), unfolding(model::specs::Text::capability_text))]
-fn space_string(
-    alloc: Global,
+fn put_space_text(
+    text: &mut String,
     object: u64,
     height: u8,
     access: Access,
-) -> Result<String, AllocError>
+) -> Result<(), AllocError>
     requires { IsAccess access }
-    ensures { IfOk result (λ text.
-        string_bytes text ≡ capability_text (Capability.Space object height access)) }
+    ensures { OnOk result (string_bytes text.new
+        ≡ string_bytes text.old ++ capability_text (Capability.Space object height access)) }
 {
     let word = access_word(access);
-    format!(in alloc; "space {object} {height}{word}")
+    write!(text, "space {object} {height}{word}")
 }
 
-/// The text of a capability.
+/// Writes a capability.
 #[tactic(auto, unfolding(model::specs::Text::capability_text))]
-pub(crate) fn capability_string(alloc: Global, capability: Capability) -> Result<String, AllocError>
+pub(crate) fn put_capability(text: &mut String, capability: Capability) -> Result<(), AllocError>
     requires { IsWellFormed capability }
-    ensures { IfOk result (λ text. string_bytes text ≡ capability_text capability) }
+    ensures { OnOk result
+        (string_bytes text.new ≡ string_bytes text.old ++ capability_text capability) }
 {
     match capability {
-        Capability::Void => String::from_str(alloc, "void"),
-        Capability::Number(number) => format!(in alloc; "number {number}"),
+        Capability::Void => text.push_str("void"),
+        Capability::Number(number) => write!(text, "number {number}"),
         Capability::Page { object, access } => {
             let word = access_word(access);
-            format!(in alloc; "page {object}{word}")
+            write!(text, "page {object}{word}")
         }
         Capability::Node { object, access } => {
             let word = access_word(access);
-            format!(in alloc; "node {object}{word}")
+            write!(text, "node {object}{word}")
         }
         Capability::Space {
             object,
             height,
             access,
-        } => space_string(alloc, object, height, access),
-        Capability::Process(process) => format!(in alloc; "process {process}"),
-        Capability::Start { process, key } => format!(in alloc; "start {process} {key}"),
-        Capability::Resume(process) => format!(in alloc; "resume {process}"),
-        Capability::Bank(bank) => format!(in alloc; "bank {bank}"),
-        Capability::Discrim => String::from_str(alloc, "discrim"),
+        } => put_space_text(text, object, height, access),
+        Capability::Process(process) => write!(text, "process {process}"),
+        Capability::Start { process, key } => write!(text, "start {process} {key}"),
+        Capability::Resume(process) => write!(text, "resume {process}"),
+        Capability::Bank(bank) => write!(text, "bank {bank}"),
+        Capability::Discrim => text.push_str("discrim"),
     }
 }
 
@@ -103,30 +104,26 @@ pub(crate) trait Item {
     ghost MayBePut: { Self → Type 0 };
 
     /// Writes it.
-    fn put(&self, alloc: Global, text: &mut String) -> Result<(), AllocError>
+    fn put(&self, text: &mut String) -> Result<(), AllocError>
         requires { MayBePut self.now }
         ensures { OnOk result (string_bytes text.new ≡ string_bytes text.old ++ text_of self.now) };
 }
 
 // Writes values of a list, each behind a comma.
-fn put_others<T: Item>(alloc: Global, text: &mut String, items: &[T]) -> Result<(), AllocError>
+fn put_others<T: Item>(text: &mut String, items: &[T]) -> Result<(), AllocError>
     requires { All T.MayBePut items.now }
     ensures { OnOk result (string_bytes text.new
         ≡ string_bytes text.old ++ flat_map (λ x. codes ", " ++ T.text_of x) items.now) }
 {
     for item in items {
         text.push_str(", ")?;
-        item.put(alloc, text)?;
+        item.put(text)?;
     }
     Ok(())
 }
 
 /// Writes a list.
-pub(crate) fn put_items<T: Item>(
-    alloc: Global,
-    text: &mut String,
-    items: &[T],
-) -> Result<(), AllocError>
+pub(crate) fn put_items<T: Item>(text: &mut String, items: &[T]) -> Result<(), AllocError>
     requires { All T.MayBePut items.now }
     ensures { OnOk result
         (string_bytes text.new ≡ string_bytes text.old ++ list_text T.text_of items.now) }
@@ -135,8 +132,8 @@ pub(crate) fn put_items<T: Item>(
         [] => text.push_str("[]"),
         [first, others @ ..] => {
             text.push_str("[")?;
-            first.put(alloc, text)?;
-            put_others(alloc, text, others)?;
+            first.put(text)?;
+            put_others(text, others)?;
             text.push_str("]")
         }
     }
@@ -147,7 +144,7 @@ impl Item for u64 {
 
     ghost MayBePut = { λ _. Unit {0} };
 
-    fn put(&self, _alloc: Global, text: &mut String) -> Result<(), AllocError> {
+    fn put(&self, text: &mut String) -> Result<(), AllocError> {
         put_wide(text, *self)
     }
 }
@@ -157,13 +154,14 @@ impl Item for SlotEntry {
 
     ghost MayBePut = { λ slot. IsSomeCapability slot.capability };
 
-    fn put(&self, alloc: Global, text: &mut String) -> Result<(), AllocError> {
+    fn put(&self, text: &mut String) -> Result<(), AllocError> {
         let Some(capability) = self.capability else {
             unreachable!()
         };
         let index = self.index;
-        let held = capability_string(alloc, capability)?;
-        write!(text, "[{index}, \"{held}\"]")
+        write!(text, "[{index}, \"")?;
+        put_capability(text, capability)?;
+        text.push_str("\"]")
     }
 }
 
@@ -172,7 +170,7 @@ impl Item for WordEntry {
 
     ghost MayBePut = { λ _. Unit {0} };
 
-    fn put(&self, _alloc: Global, text: &mut String) -> Result<(), AllocError> {
+    fn put(&self, text: &mut String) -> Result<(), AllocError> {
         let index = self.index;
         write!(text, "[{index}, ")?;
         put_wide(text, self.word)?;
@@ -185,7 +183,7 @@ impl Item for NumberRange {
 
     ghost MayBePut = { λ _. Unit {0} };
 
-    fn put(&self, _alloc: Global, text: &mut String) -> Result<(), AllocError> {
+    fn put(&self, text: &mut String) -> Result<(), AllocError> {
         let NumberRange { first, count } = *self;
         write!(text, "[{first}, {count}]")
     }

@@ -1,12 +1,11 @@
 use Rattle.description_faults.proofs.Names.{subst, All-more, AreSlots}
-use Rattle.description_faults.proofs.Decisions.{at_none}
 use Rattle.description_faults.proofs.Elements.{all_taken}
 use Rattle.description_faults.proofs.fields.bad_nodes.Goals as goal
 
 pub loop-k-preserved : goal.loop-k-preserved
 loop-k-preserved c =
     All-more (λ n. AreSlots 0 n.slots.items) c.args.nodes.now c.loop-k.k c.index-nodes-k.result c.loop-k-test.true c.loop-k.invariant
-    (subst (λ es. AreSlots 0 es) c.deref.ensures.value (at_none _ _ c.in_ok-found.found c.in-None.is c.in_ok-found.ensures))
+    (subst (λ es. AreSlots 0 es) c.deref.ensures.value c.in-None.ensures)
 
 pub returns : goal.returns
 returns c = all_taken (λ n. AreSlots 0 n.slots.items) c.args.nodes.now c.loop-k.k c.loop-k-test.false c.loop-k.invariant

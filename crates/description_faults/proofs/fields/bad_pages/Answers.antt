@@ -1,12 +1,11 @@
 use Rattle.description_faults.proofs.Names.{subst, All-more, AreWords}
-use Rattle.description_faults.proofs.Decisions.{at_none}
 use Rattle.description_faults.proofs.Elements.{all_taken}
 use Rattle.description_faults.proofs.fields.bad_pages.Goals as goal
 
 pub loop-k-preserved : goal.loop-k-preserved
 loop-k-preserved c =
     All-more (λ p. AreWords p.words.items) c.args.pages.now c.loop-k.k c.index-pages-k.result c.loop-k-test.true c.loop-k.invariant
-    (subst (λ es. AreWords es) c.deref.ensures.value (at_none _ _ c.in_ok-found.found c.in-None.is c.in_ok-found.ensures))
+    (subst (λ es. AreWords es) c.deref.ensures.value c.in-None.ensures)
 
 pub returns : goal.returns
 returns c = all_taken (λ p. AreWords p.words.items) c.args.pages.now c.loop-k.k c.loop-k-test.false c.loop-k.invariant

@@ -1,13 +1,11 @@
-use Rattle.description_faults.proofs.Names.{sym, subst, IsProcessEntry}
-use Rattle.description_faults.proofs.Decisions.{at_none}
+use Rattle.description_faults.proofs.Names.{IsProcessEntry}
 use Rattle.description_faults.proofs.Elements.{all_taken, one_more}
 use Rattle.description_faults.proofs.fields.bad_processes.Goals as goal
 
 pub loop-k-preserved : goal.loop-k-preserved
 loop-k-preserved c =
     let x = c.index-processes-k in
-    one_more IsProcessEntry c.args.processes.now c.loop-k.k x.result c.loop-k-test.true x.is c.loop-k.invariant
-    (at_none _ _ c.in_ok-found.found c.in-None.is c.in_ok-found.ensures)
+    one_more IsProcessEntry c.args.processes.now c.loop-k.k x.result c.loop-k-test.true x.is c.loop-k.invariant c.in-None.ensures
 
 pub returns : goal.returns
 returns c = all_taken IsProcessEntry c.args.processes.now c.loop-k.k c.loop-k-test.false c.loop-k.invariant
