@@ -1,11 +1,11 @@
 -- Bodies by place.
-use Rattle.cache_entries.proofs.Names.{inl, inr, ℕ, Bool, true, false, List, [], length, set, get_or, replicate, Option, Some, None, IsSome, is_some}
+use Rattle.cache_entries.proofs.Names.{inl, inr, ℕ, true, false, List, [], length, set, get_or, replicate, Option, Some, None, IsSome}
 use Rattle.cache_entries.proofs.Names.{true≢false, refl, sym, ap, subst, arith, length-set, cases_eq, cases_lt, get_or-set_same, get_or-set_other, get_or_past}
 use Rattle.cache_entries.proofs.Names.{get_or_default, get_or-map-range_with_len, length-map-range_with_len, get_or-replicate, length-replicate, set-get_or}
 use Rattle.cache_entries.proofs.Names.{fill_by_all, item_at, Kind, Content, Cap, held_at, with_word_in, with_slot_in, AreBodies, HasRoom, kind_at, kind_of}
 use Rattle.cache_entries.proofs.Names.{content_in, content_at, contents_in, with_words_of, with_slots_of, words_are_of, slots_are_of, kind_with_root, slots_from}
-use Rattle.cache_entries.proofs.Names.{take, take_more, length-take-le, with_root_in, with_slots_in, Root, changed_once}
-use Rattle.std.proofs.Common.{◌≡◌, ◌≢◌, ◌+◌, ◌<◌, ◌≤◌, ◌∷◌, ◌++◌, ◌∙◌}
+use Rattle.cache_entries.proofs.Names.{with_root_in, with_slots_in, Root, changed_once}
+use Rattle.std.proofs.Common.{◌≡◌, ◌≢◌, ◌+◌, ◌<◌, ◌∷◌, ◌∙◌}
 use Rattle.model.specs.declared.object.Content.TheVariants as content
 use Rattle.cache_entries.specs.declared.bodies.Kind.TheVariants as kind
 

@@ -5,9 +5,9 @@ use Rattle.cache_entries.proofs.Names.{length-set, length-take-le, length-append
 use Rattle.cache_entries.proofs.Names.{get_or-set_same, get_or-set_other, get_or_past, none-some, same_Some, slice_get, is_member, AllDiffer, ArePlaced}
 use Rattle.cache_entries.proofs.Names.{AreSpread, OrderState, order_of, place_at, place_below, used_last, used_longest_ago, without, changed_once, get_map}
 use Rattle.std.proofs.Common.{◌≡◌, ◌≢◌, ◌⊎◌, ◌+◌, ◌-◌, ◌<◌, ◌≤◌, ◌∷◌, ◌++◌, ◌∙◌}
-use Rattle.cache_entries.proofs.Orders.{differ_without, gone, length_without, member_head, member_tail, still}
+use Rattle.cache_entries.proofs.Orders.{differ_without, gone, length_without, member_head, still}
 use Rattle.cache_entries.proofs.Recent.{front_apart, front_stays, listed_member}
-use Rattle.cache_entries.proofs.Turns.{at_end, differ_end, either, in_tail, member_used, not_here, not_at_end, without_here, without_tail}
+use Rattle.cache_entries.proofs.Turns.{at_end, differ_end, either, in_tail, member_used, without_here, without_tail}
 
 -- ---- members of a list and of its first ones
 

@@ -1,7 +1,7 @@
 -- Entries by number, whose bodies are at places.
 use Rattle.cache_entries.proofs.Names.{inl, inr, ℕ, zero, suc, [], Bool, true, false, true≢false, List, length, map, set, get_or, replicate, Option, Some, None}
-use Rattle.cache_entries.proofs.Names.{is_some, IsSome, option_map, cond, refl, sym, ap, subst, arith, length-map, length-set, get_or-set_same}
-use Rattle.cache_entries.proofs.Names.{get_or-set_other, cases_eq, cases_lt, get_or_past, same_Some, Content, Cap, held_at, Entry, changing, entry_at}
+use Rattle.cache_entries.proofs.Names.{is_some, option_map, cond, refl, sym, ap, subst, arith, length-map, length-set, get_or-set_same}
+use Rattle.cache_entries.proofs.Names.{get_or-set_other, cases_lt, get_or_past, Content, Cap, held_at, Entry, changing, entry_at}
 use Rattle.cache_entries.proofs.Names.{AreOrdered, AreSpread, AreStored, EntriesState, OrderState, entries_of, entry_in, place_at, with_entry_of, with_new}
 use Rattle.cache_entries.proofs.Names.{without, without_entry, AllDiffer, is_member, changed_once, get_map}
 use Rattle.std.proofs.Common.{◌≡◌, ◌≢◌, ◌<◌, ◌≤◌, ◌∷◌, ◌∙◌}

@@ -1,4 +1,4 @@
-use Rattle.cache_entries.proofs.Names.{Some, ap, all_slots, slice_set, zero_words, with_words_of, with_slots_of, void_held, fresh_content}
+use Rattle.cache_entries.proofs.Names.{all_slots, zero_words}
 use Rattle.cache_entries.proofs.bodies.clear_arrays.Goals as goal
 
 pub returns-in-Page-clause-pages : goal.returns-in-Page-clause-pages

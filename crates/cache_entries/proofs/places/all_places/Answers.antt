@@ -1,7 +1,6 @@
-use Rattle.cache_entries.proofs.Names.{ℕ, List, [], true, true≢false, ap, arith, length, length-map, is_member, keys_of, LruCache, subst, sym, refl}
-use Rattle.cache_entries.proofs.Names.{non_zero_usize_get, AllDiffer}
-use Rattle.std.proofs.Common.{◌≡◌, ◌<◌, ◌+◌, ◌∷◌, ◌∙◌}
-use Rattle.cache_entries.proofs.Orders.{IsFilled, filled_more, new_keys, not_yet}
+use Rattle.cache_entries.proofs.Names.{ℕ, true≢false, ap, arith, length, length-map, keys_of, LruCache, sym, refl}
+use Rattle.std.proofs.Common.{◌≡◌, ◌<◌, ◌∷◌, ◌∙◌}
+use Rattle.cache_entries.proofs.Orders.{filled_more, new_keys, not_yet}
 use Rattle.cache_entries.proofs.places.all_places.Goals as goal
 
 pub loop-place-init : goal.loop-place-init

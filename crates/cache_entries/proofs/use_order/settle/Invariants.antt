@@ -1,4 +1,4 @@
-use Rattle.cache_entries.proofs.Names.{length, vec_capacity, keys_of, AreLatest, used_in_turn}
+use Rattle.cache_entries.proofs.Names.{length, vec_capacity, AreLatest, used_in_turn}
 use Rattle.std.proofs.Common.{◌≡◌, ◌+◌, ◌≤◌}
 use Rattle.cache_entries.proofs.use_order.settle.Given as goal
 

@@ -1,5 +1,4 @@
-use Rattle.cache_entries.proofs.Names.{ℕ, ap, subst, OrderState}
-use Rattle.std.proofs.Common.{◌∙◌}
+use Rattle.cache_entries.proofs.Names.{ap, OrderState}
 use Rattle.cache_entries.proofs.Turns.{Settles, settles}
 use Rattle.cache_entries.proofs.use_order.settle_first.Goals as goal
 

@@ -1,6 +1,4 @@
-use Rattle.cache_entries.proofs.Names.{ℕ, List, Option, [], arith, ap, subst, Cap, Kind, HasRoom, content_in, item_at, unwrap_or}
-use Rattle.std.proofs.Common.{◌≡◌, ◌∙◌}
-use Rattle.model.specs.declared.object.Content.TheVariants as content
+use Rattle.cache_entries.proofs.Names.{arith}
 use Rattle.cache_entries.proofs.Contents.{kind_within, held, room_of}
 use Rattle.cache_entries.proofs.bodies.Bodies.get.Goals as goal
 

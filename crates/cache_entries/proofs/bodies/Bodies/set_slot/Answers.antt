@@ -1,4 +1,4 @@
-use Rattle.cache_entries.proofs.Names.{arith, sym, set, item_at, with_slot_in, Content, Cap}
+use Rattle.cache_entries.proofs.Names.{arith, sym, set, item_at, with_slot_in}
 use Rattle.std.proofs.Common.{◌∙◌}
 use Rattle.cache_entries.proofs.Contents.{kind_within, slots_there, slots_put, no_slots, slot_in, no_slot}
 use Rattle.cache_entries.proofs.bodies.Bodies.set_slot.Goals as goal

@@ -1,5 +1,5 @@
-use Rattle.cache_entries.proofs.Names.{arith, ap, sym, true, false, words_are_of}
-use Rattle.std.proofs.Common.{◌≡◌, ◌∙◌}
+use Rattle.cache_entries.proofs.Names.{arith, sym}
+use Rattle.std.proofs.Common.{◌∙◌}
 use Rattle.cache_entries.proofs.Contents.{kind_within, words_there, word_put, no_page}
 use Rattle.cache_entries.proofs.bodies.Bodies.set_word.Goals as goal
 

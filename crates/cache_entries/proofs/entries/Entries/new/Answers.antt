@@ -1,5 +1,3 @@
-use Rattle.cache_entries.proofs.Names.{ap, sym, refl}
-use Rattle.std.proofs.Common.{◌∙◌}
 use Rattle.cache_entries.proofs.Stored.{none_stored}
 use Rattle.cache_entries.proofs.entries.Entries.new.Goals as goal
 

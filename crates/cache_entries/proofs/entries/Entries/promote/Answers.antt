@@ -1,5 +1,5 @@
-use Rattle.cache_entries.proofs.Names.{sym, true}
-use Rattle.std.proofs.Common.{◌≡◌, ◌∙◌}
+use Rattle.cache_entries.proofs.Names.{sym}
+use Rattle.std.proofs.Common.{◌∙◌}
 use Rattle.cache_entries.proofs.entries.Entries.promote.Goals as goal
 
 pub use_now-requires : goal.use_now-requires

@@ -1,8 +1,8 @@
-use Rattle.cache_entries.proofs.Names.{ℕ, List, Option, Some, ap, arith, is_member, keys_of, length, set, sym, without, place_at, LruCache, refl}
-use Rattle.std.proofs.Common.{◌≡◌, ◌<◌, ◌≤◌, ◌∷◌, ◌+◌, ◌-◌, ◌∙◌}
+use Rattle.cache_entries.proofs.Names.{ℕ, ap, arith, keys_of, length, place_at, LruCache, refl}
+use Rattle.std.proofs.Common.{◌+◌, ◌-◌, ◌∙◌}
 use Rattle.cache_entries.proofs.Orders.{used_keys}
 use Rattle.cache_entries.proofs.Recent.{listed_member}
-use Rattle.cache_entries.proofs.Spreads.{Spreads, count_is, fresh, inserted, known_is, most_is, no_place}
+use Rattle.cache_entries.proofs.Spreads.{count_is, fresh, inserted, known_is, most_is, no_place}
 use Rattle.cache_entries.proofs.places.Places.insert.Goals as goal
 
 pub index_mut-requires : goal.index_mut-requires

@@ -1,5 +1,5 @@
-use Rattle.cache_entries.proofs.Names.{ℕ, List, ap, arith, is_member, keys_of, sym, subst, without, used_last, LruCache}
-use Rattle.std.proofs.Common.{◌≡◌, ◌∷◌, ◌∙◌}
+use Rattle.cache_entries.proofs.Names.{ℕ, ap, arith, is_member, keys_of, without, used_last, LruCache}
+use Rattle.std.proofs.Common.{◌∷◌, ◌∙◌}
 use Rattle.cache_entries.proofs.Orders.{used_keys}
 use Rattle.cache_entries.proofs.Spreads.{Spreads, known_place, listed, listed_place, place_known, promoted_last}
 use Rattle.cache_entries.proofs.places.Places.promote.Goals as goal

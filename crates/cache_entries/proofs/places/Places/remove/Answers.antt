@@ -1,7 +1,7 @@
-use Rattle.cache_entries.proofs.Names.{ℕ, List, [], ap, arith, get_or, is_member, keys_of, length, set, subst, sym, without, None, LruCache}
-use Rattle.std.proofs.Common.{◌≡◌, ◌∷◌, ◌++◌, ◌-◌, ◌∙◌}
+use Rattle.cache_entries.proofs.Names.{ℕ, [], ap, arith, is_member, keys_of, without, LruCache}
+use Rattle.std.proofs.Common.{◌∷◌, ◌++◌, ◌-◌, ◌∙◌}
 use Rattle.cache_entries.proofs.Orders.{demoted_keys}
-use Rattle.cache_entries.proofs.Spreads.{Spreads, count_some, known_place, listed, place_known, removed, some_place}
+use Rattle.cache_entries.proofs.Spreads.{count_some, known_place, listed, place_known, removed, some_place}
 use Rattle.cache_entries.proofs.places.Places.remove.Goals as goal
 
 pub index-requires : goal.index-requires

@@ -1,4 +1,4 @@
-use Rattle.cache_entries.proofs.Names.{ℕ, ap, length, nat_le, subst, sym, AreSpread, OrderState}
+use Rattle.cache_entries.proofs.Names.{ap, length, subst, sym, AreSpread, OrderState}
 use Rattle.std.proofs.Common.{◌∙◌}
 use Rattle.cache_entries.proofs.Turns.{length_in_turn, spread_in_turn}
 use Rattle.cache_entries.proofs.use_order.UseOrder.len.Goals as goal

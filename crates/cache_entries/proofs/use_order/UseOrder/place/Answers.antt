@@ -1,6 +1,5 @@
-use Rattle.cache_entries.proofs.Names.{ℕ, ap, length, nat_le, subst, sym, AreSpread, OrderState}
-use Rattle.std.proofs.Common.{◌∙◌}
-use Rattle.cache_entries.proofs.Turns.{length_in_turn, spread_in_turn}
+use Rattle.cache_entries.proofs.Names.{subst, AreSpread}
+use Rattle.cache_entries.proofs.Turns.{spread_in_turn}
 use Rattle.cache_entries.proofs.use_order.UseOrder.place.Goals as goal
 
 pub returns-clause-spread : goal.returns-clause-spread

@@ -1,4 +1,4 @@
-use Rattle.cache_entries.proofs.Names.{ℕ, List, length, take, refl, sym, ap, subst, arith, keys_of, take_all, is_member, AllDiffer, OrderState, used_in_turn}
+use Rattle.cache_entries.proofs.Names.{ℕ, List, length, take, refl, sym, ap, subst, arith, take_all, is_member, AllDiffer, OrderState, used_in_turn}
 use Rattle.std.proofs.Common.{◌≡◌, ◌++◌, ◌∙◌}
 use Rattle.cache_entries.proofs.Turns.{in_behind, listed_more, member_in_turn, one_more, used_again}
 use Rattle.cache_entries.proofs.use_order.UseOrder.use_again.Goals as goal

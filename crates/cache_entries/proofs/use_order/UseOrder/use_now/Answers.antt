@@ -1,4 +1,4 @@
-use Rattle.cache_entries.proofs.Names.{ℕ, List, Option, [], true, false, length, refl, sym, ap, subst, arith, length-append, keys_of, is_member, AreLatest}
+use Rattle.cache_entries.proofs.Names.{ℕ, List, Option, [], true, false, length, refl, sym, ap, subst, arith, length-append, is_member, AreLatest}
 use Rattle.cache_entries.proofs.Names.{OrderState, used_in_turn, used_last, without}
 use Rattle.std.proofs.Common.{◌≡◌, ◌∷◌, ◌∙◌}
 use Rattle.cache_entries.proofs.Orders.{length_without}

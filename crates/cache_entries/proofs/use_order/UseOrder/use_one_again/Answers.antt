@@ -1,4 +1,4 @@
-use Rattle.cache_entries.proofs.Names.{ℕ, List, [], true, length, sym, ap, subst, arith, length-append, keys_of, is_member, AreLatest, OrderState, used_in_turn}
+use Rattle.cache_entries.proofs.Names.{ℕ, List, [], true, length, sym, ap, subst, arith, length-append, is_member, AreLatest, OrderState, used_in_turn}
 use Rattle.cache_entries.proofs.Names.{used_last, without}
 use Rattle.std.proofs.Common.{◌≡◌, ◌∷◌, ◌∙◌}
 use Rattle.cache_entries.proofs.Orders.{length_without}
