@@ -1,5 +1,5 @@
 use Rattle.object_cache.proofs.Names.{ℕ, [], None, ap, replicate, EntriesState}
-use Rattle.std.proofs.Common.{◌≡◌, ◌∙◌}
+use Rattle.std.proofs.Common.{◌∙◌}
 use Rattle.object_cache.proofs.Taken.{none_inserted}
 use Rattle.object_cache.proofs.saved_objects.all_entries.Goals as goal
 

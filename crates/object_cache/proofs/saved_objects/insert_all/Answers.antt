@@ -1,5 +1,5 @@
-use Rattle.object_cache.proofs.Names.{ℕ, arith}
-use Rattle.std.proofs.Common.{◌≡◌, ◌<◌}
+use Rattle.object_cache.proofs.Names.{arith}
+use Rattle.std.proofs.Common.{◌<◌}
 use Rattle.model.specs.declared.object.Content.TheVariants as content
 use Rattle.object_cache.proofs.Taken.{one_inserted}
 use Rattle.object_cache.proofs.saved_objects.insert_all.Goals as goal

@@ -1,4 +1,4 @@
-use Rattle.cache_entries.proofs.Names.{ap, refl, EntriesState, ℕ, length, replicate, None, []}
+use Rattle.cache_entries.proofs.Names.{ap, EntriesState, ℕ, length, replicate, None, []}
 use Rattle.std.proofs.Common.{◌∙◌}
 use Rattle.cache_entries.proofs.Stored.{none_stored, known_is}
 use Rattle.cache_entries.proofs.entries.Entries.clear.Goals as goal

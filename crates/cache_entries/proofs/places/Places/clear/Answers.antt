@@ -1,4 +1,4 @@
-use Rattle.cache_entries.proofs.Names.{ℕ, [], None, replicate, arith, ap, sym, keys_of, length, length-map, is_member, place_below, OrderState}
+use Rattle.cache_entries.proofs.Names.{ℕ, [], None, replicate, arith, ap, sym, keys_of, length, length-map, place_below, OrderState}
 use Rattle.std.proofs.Common.{◌≡◌, ◌∙◌}
 use Rattle.cache_entries.proofs.Spreads.{Spreads, none_placed}
 use Rattle.cache_entries.proofs.places.Places.clear.Goals as goal
