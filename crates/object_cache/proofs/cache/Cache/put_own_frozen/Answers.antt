@@ -35,13 +35,7 @@ pub returns-in_err-put_body : goal.returns-in_err-put_body
 returns-in_err-put_body g c =
     let next = own_torn g.D.Device.disk c.self.view_is c.self.invariant.0 c.requires.fetched c.requires.frozen_state c.put_body.ensures.goes_on
     c.put_body.ensures.cause.never_falls c.in_err-put_body.ensures.broken in
-    record {
-      put = search rules;
-      fewer = search rules;
-      unput = on_err c.from_residual.result next.view;
-      continues = next.continues;
-      cause = search rules;
-    }
+    search (rules, next.continues, on_err c.from_residual.result next.view)
 
 pub invariant_of-self : goal.invariant_of-self
 invariant_of-self g c =
