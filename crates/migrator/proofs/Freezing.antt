@@ -46,7 +46,11 @@ module _ (size : ℕ) (image : Image) (b : Books) (k : ℕ) (none : b.size ≡ N
   freeze_kept home enough few =
       let held = held_taken image b.plan (working_generation b) b.working kept.working.count in
       let running : IsRunning (frozen_books b k) (Some k) = (home, omega (arith, enough, held), few) in
-      search (kept, subst (λ (g : ℕ). ArePut image b.plan g b.working) generation kept.working, blank_put {b = working_generation (frozen_books b k)} kept.frozen blank)
+      search (
+        kept,
+        subst (λ (g : ℕ). ArePut image b.plan g b.working) generation kept.working,
+        blank_put {b = working_generation (frozen_books b k)} kept.frozen blank,
+      )
 
   abbrev stored_of : List Put → List Put → Stored
   stored_of working put = record (stored_in image b) { working = working; frozen = Some (record { put = put; size = k }) }

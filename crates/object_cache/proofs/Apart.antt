@@ -80,10 +80,9 @@ module _ {D : Type 0} (disk : D → Disk) {d : DurableState D} {m : Memory} {lef
 
   pub apart_next : IsSeenAs disk d (with_objects m m.headers (with_entry keeping n m.entries)) left count order most_entries
       (record s { frozen_state = set s.frozen_state n Apart })
-  apart_next = record {
-    is = cached_cache recaches is;
-    view =
-        seen_cached disk d left order most_entries recaches (cached_stay keeping n m.entries) (frozen_state_changed recaches Apart known_here
+  apart_next = search (
+    cached_cache recaches is,
+    seen_cached disk d left order most_entries recaches (cached_stay keeping n m.entries) (frozen_state_changed recaches Apart known_here
         (frozen_state_apart (stored_of disk d) m n entry_within entry_here.0 entry_here.1 shared_here))
-        ∙ ap (λ (t : StoreState D). record t { frozen_state = set t.frozen_state n Apart }) view;
-  }
+        ∙ ap (λ (t : StoreState D). record t { frozen_state = set t.frozen_state n Apart }) view,
+  )

@@ -134,17 +134,14 @@ module _ {D : Type 0} (disk : D → Disk) {d : DurableState D} {m : Memory} {lef
   )
 
   pub cached_fetched : IsFetchedIn (with_cached n s) n
-  cached_fetched = record {
-    header = known;
-    content = omega (
-      arith,
-      known,
-      ap (λ t. length t.headers) view,
-      ap (λ t. length t.contents) view,
-      contents_count (stored_of disk d) m,
-    );
-    cached = get_or-set_same s.cached n true false known_cached;
-  }
+  cached_fetched = search (
+    arith,
+    known,
+    ap (λ t. length t.headers) view,
+    ap (λ t. length t.contents) view,
+    contents_count (stored_of disk d) m,
+    get_or-set_same s.cached n true false known_cached,
+  )
 
 -- ---- the objects of a list
 

@@ -225,13 +225,12 @@ module _ {D : Type 0} (disk : D → Disk) {d : DurableState D} {m : Memory} {lef
 
     pub dropped_next : IsSeenAs disk d (with_objects m m.headers (set m.entries n None)) left count (without n order) most_entries
         (record s { cached = set s.cached n false; order = without n s.order })
-    dropped_next = record {
-      is = cached_cache drops_here is;
-      view =
-          seen_cached disk d left (without n order) most_entries drops_here (cached_set m.entries n None) (frozen_state_stay drops_here
+    dropped_next = search (
+      cached_cache drops_here is,
+      seen_cached disk d left (without n order) most_entries drops_here (cached_set m.entries n None) (frozen_state_stay drops_here
           (frozen_state_dropped is n in_table entry_here.0 entry_here.1 clean_here
-          state_here masks_here)) ∙ ap (λ (t : StoreState D). record t { cached = set t.cached n false; order = without n t.order }) view;
-    }
+          state_here masks_here)) ∙ ap (λ (t : StoreState D). record t { cached = set t.cached n false; order = without n t.order }) view,
+    )
 
 -- ---- a number gets an entry
 
@@ -314,10 +313,9 @@ module _ {D : Type 0} (disk : D → Disk) {d : DurableState D} {m : Memory} {lef
     new_here = cached_new is n c there (no_entry n uncached) present_there
 
     pub cached_next : IsSeenAs disk d (with_objects m m.headers (set m.entries n (Some (new_entry c)))) left count (n ∷ order) most_entries (with_cached n s)
-    cached_next = record {
-      is = cached_cache new_here is;
-      view =
-          seen_cached disk d left (n ∷ order) most_entries new_here (cached_set m.entries n (Some (new_entry c)))
+    cached_next = search (
+      cached_cache new_here is,
+      seen_cached disk d left (n ∷ order) most_entries new_here (cached_set m.entries n (Some (new_entry c)))
           (frozen_state_changed new_here (frozen_state_by (mark_at m.pending n) false (mark_at m.touched n)) there
-          (frozen_state_new is n c there (no_entry n uncached) present_there)) ∙ ap (with_cached n) view;
-    }
+          (frozen_state_new is n c there (no_entry n uncached) present_there)) ∙ ap (with_cached n) view,
+    )

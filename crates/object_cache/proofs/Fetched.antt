@@ -143,24 +143,26 @@ module _ {D : Type 0} (disk : D → Disk) {d : DurableState D} {m : Memory} {lef
     pub taken_next : (disk d.beneath).failures ≤ (disk new.beneath).failures →
         IsNext disk s new (holding_up n c m) left count order most_entries (record s { durable = new; staging = Some (record { number = n; content = c }) })
     unfolding frozen_states_in
-    taken_next later = record {
-      is = subst (λ t. IsCache t (holding_up n c m) left count) (sym reads.stored) (taken_cache is n pending_here empty_here c read);
-      view = seen;
-      continues = subst (GoesOnIn disk s) (sym seen) (continues_with disk s.cached s.frozen_state s.order (Some (record { number = n; content = c }))
-          (let next = read_next disk view is reads later in subst (GoesOnIn disk s) next.view next.continues));
-    } where
-      seen : cache_of disk new (holding_up n c m) left order most_entries ≡ record s { durable = new; staging = Some (record { number = n; content = c }) }
-      seen =
-          ap (λ t. record (cache_of disk d m left order most_entries) {
-            durable = new;
-            contents = contents_in t (holding_up n c m);
-            frozen = frozen_seen t (holding_up n c m) left;
-            staging = Some (record { number = n; content = c });
-          }) reads.stored
-          ∙ (λ k. record (cache_of disk d m left order most_entries) {
-            durable = new;
-            contents = taken_contents is n pending_here empty_here c read k;
-            frozen = option_map (λ f. record { frames = taken_frozen is n pending_here empty_here c read k; size = f.size; left = left })
-                (stored_of disk d).frozen;
-            staging = Some (record { number = n; content = c });
-          }) ∙ ap (λ (t : StoreState D). record t { durable = new; staging = Some (record { number = n; content = c }) }) view
+    taken_next later =
+        let next = read_next disk view is reads later in
+        search (
+          subst (λ t. IsCache t (holding_up n c m) left count) (sym reads.stored) (taken_cache is n pending_here empty_here c read),
+          seen,
+          subst (GoesOnIn disk s) (sym seen) (continues_with disk s.cached s.frozen_state s.order (Some (record { number = n; content = c }))
+              (subst (GoesOnIn disk s) next.view next.continues)),
+        ) where
+          seen : cache_of disk new (holding_up n c m) left order most_entries ≡ record s { durable = new; staging = Some (record { number = n; content = c }) }
+          seen =
+              ap (λ t. record (cache_of disk d m left order most_entries) {
+                durable = new;
+                contents = contents_in t (holding_up n c m);
+                frozen = frozen_seen t (holding_up n c m) left;
+                staging = Some (record { number = n; content = c });
+              }) reads.stored
+              ∙ (λ k. record (cache_of disk d m left order most_entries) {
+                durable = new;
+                contents = taken_contents is n pending_here empty_here c read k;
+                frozen = option_map (λ f. record { frames = taken_frozen is n pending_here empty_here c read k; size = f.size; left = left })
+                    (stored_of disk d).frozen;
+                staging = Some (record { number = n; content = c });
+              }) ∙ ap (λ (t : StoreState D). record t { durable = new; staging = Some (record { number = n; content = c }) }) view

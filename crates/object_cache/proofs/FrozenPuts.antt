@@ -46,21 +46,7 @@ module _ {s : Stored} {m : Memory} {left count : ℕ} (is : IsCache s m left cou
   -- its slot is torn: all is in memory
   pub torn_releases : content_at (with_frozen n Broken s) m n ≡ content_at s m n → frozen_at (with_frozen n Broken s) m n ≡ frozen_at s m n →
       Releases s m n Broken m.pending m.entries m.staging
-  torn_releases content frozen = record {
-    mark_count = refl;
-    entry_count = refl;
-    marks = λ k other. refl;
-    entries = λ k other. refl;
-    others = λ k c other. refl;
-    content = content;
-    frozen = frozen;
-    written = ap (λ b. b || false) pending;
-    torn = λ broken. pending;
-    few = omega arith;
-    held = is.held;
-    apart = is.apart n;
-    freed = is.freed n;
-  }
+  torn_releases content frozen = search (arith, content, frozen, ap (λ b. b || false) pending, pending, is.held, is.apart n, is.freed n)
 
   -- it has its frozen frame: nothing is kept apart
   pub put_releases : {f : FrozenPuts} → s.frozen ≡ Some f → n < length m.headers → (g : Frame) → g ≡ frozen_at s m n → (es : List (Option Entry)) →
@@ -174,44 +160,36 @@ module _ {s : Stored} {m : Memory} {left count : ℕ} (is : IsCache s m left cou
       }
 
   pub released_cache : IsCache after memory left count
-  released_cache = record {
-    headers = is.headers;
-    frozen_headers = is.frozen_headers;
-    marks = is.marks;
-    dirty_marks = is.dirty_marks;
-    pending_marks = rest.mark_count ∙ is.pending_marks;
-    entries = rest.entry_count ∙ is.entries;
-    frames = is.frames;
-    puts = is.puts;
-    counted = is.counted;
-    within = is.within;
-    marked = is.marked;
-    clean = λ k clean touched. is.clean k clean touched ∙ ap Kept (sym (present_stays k));
-    unput = is.unput;
-    unwritten = λ k below untouched. present_stays k ∙ is.unwritten k below untouched ∙ sym (frozen_stays k);
-    idle = λ none. absurd (none-some (with_put n p f) (sym none ∙ frozen_now));
-    running = λ g g_is. subst (λ h. AreFrozen h ps left) (same_Some (with_put n p f) g (sym frozen_now ∙ g_is)) still_frozen;
-    keepable = λ g g_is. subst (AreKeepable s.saved.geometry most) (sym frozen_same) (is.keepable f f_is);
-    held = rest.held;
-    apart = λ k e e_is. elim (cases_eq k n) [
-      | inl same ↦ elim (rest.apart e (ap (entry_at es) (sym same) ∙ e_is)) [
-        | inl none ↦ inl none
-        | inr still ↦ inr (ap (mark_at ps) same ∙ still)
-      ]
-      | inr other ↦ elim (is.apart k e (sym (rest.entries k other) ∙ e_is)) [
-        | inl none ↦ inl none
-        | inr was ↦ inr (rest.marks k other ∙ was)
-      ]
-    ];
-    freed = λ k none now free. elim (cases_eq k n) [
-      | inl same ↦ elim (rest.freed (ap (entry_at es) (sym same) ∙ none) (ap (mark_at ps) (sym same) ∙ now)
-          (ap (λ i. (header_at m.frozen_headers i).role) (sym same) ∙ free)) [
-            | inl put ↦ inl (ap (λ i. is_kept (put_at s.working i)) same ∙ put)
-            | inr was_free ↦ inr (ap (λ i. (header_at m.headers i).role) same ∙ was_free)
-          ]
-      | inr other ↦ is.freed k (sym (rest.entries k other) ∙ none) (sym (rest.marks k other) ∙ now) free
-    ];
-  }
+  released_cache =
+      let clean : (k : ℕ) → mark_at m.dirty k ≡ false → mark_at m.touched k ≡ true → put_at s.working k ≡ Kept (present_at after memory k) =
+      λ k clean touched. is.clean k clean touched ∙ ap Kept (sym (present_stays k)) in
+      let unwritten : (k : ℕ) → k < length m.headers → mark_at m.touched k ≡ false → present_at after memory k ≡ frozen_at after memory k =
+      λ k below untouched. present_stays k ∙ is.unwritten k below untouched ∙ sym (frozen_stays k) in
+      let idle : after.frozen ≡ None → (k : ℕ) → mark_at ps k ≡ false = λ none. absurd (none-some (with_put n p f) (sym none ∙ frozen_now)) in
+      let running : (g : FrozenPuts) → after.frozen ≡ Some g → AreFrozen g ps left =
+      λ g g_is. subst (λ h. AreFrozen h ps left) (same_Some (with_put n p f) g (sym frozen_now ∙ g_is)) still_frozen in
+      let keepable : AreKeepable s.saved.geometry most (frozen_in after memory) =
+      subst (AreKeepable s.saved.geometry most) (sym frozen_same) (is.keepable f f_is) in
+      let apart : (k : ℕ) (e : Entry) → entry_at es k ≡ Some e → (e.kept ≡ None) ⊎ (mark_at ps k ≡ true) = λ k e e_is. elim (cases_eq k n) [
+        | inl same ↦ elim (rest.apart e (ap (entry_at es) (sym same) ∙ e_is)) [
+          | inl none ↦ inl none
+          | inr still ↦ inr (ap (mark_at ps) same ∙ still)
+        ]
+        | inr other ↦ elim (is.apart k e (sym (rest.entries k other) ∙ e_is)) [
+          | inl none ↦ inl none
+          | inr was ↦ inr (rest.marks k other ∙ was)
+        ]
+      ] in
+      let freed : (k : ℕ) → entry_at es k ≡ None → mark_at ps k ≡ true → (header_at m.frozen_headers k).role ≡ role.Free →
+      (is_kept (put_at s.working k) ≡ true) ⊎ ((header_at m.headers k).role ≡ role.Free) = λ k none now free. elim (cases_eq k n) [
+        | inl same ↦ elim (rest.freed (ap (entry_at es) (sym same) ∙ none) (ap (mark_at ps) (sym same) ∙ now)
+            (ap (λ i. (header_at m.frozen_headers i).role) (sym same) ∙ free)) [
+              | inl put ↦ inl (ap (λ i. is_kept (put_at s.working i)) same ∙ put)
+              | inr was_free ↦ inr (ap (λ i. (header_at m.headers i).role) same ∙ was_free)
+            ]
+        | inr other ↦ is.freed k (sym (rest.entries k other) ∙ none) (sym (rest.marks k other) ∙ now) free
+      ] in
+      search (is, rest, rest.mark_count ∙ is.pending_marks, rest.entry_count ∙ is.entries)
 
 -- nothing is pending of a number that was put
 pub state_put : (m : Memory) (n : ℕ) (es : List (Option Entry)) (staging : Option Held) → n < length m.headers → n < length m.pending →

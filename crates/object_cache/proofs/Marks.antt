@@ -120,7 +120,8 @@ module _ {s : Stored} {m : Memory} {left count : ℕ} (is : IsCache s m left cou
       let unput : (k : ℕ) → mark_at (touching m.touched ns) k ≡ false → put_at s.working k ≡ Absent =
       λ k untouched. is.unput k (unmarked m.touched k untouched) in
       let unwritten : (k : ℕ) → k < length m.headers → mark_at (touching m.touched ns) k ≡ false →
-      present_at s (marking ns m) k ≡ frozen_at s (marking ns m) k = λ k below untouched. is.unwritten k below (unmarked m.touched k untouched) ∙ sym (frozen_stays k) in
+      present_at s (marking ns m) k ≡ frozen_at s (marking ns m) k =
+      λ k below untouched. is.unwritten k below (unmarked m.touched k untouched) ∙ sym (frozen_stays k) in
       let keepable : (f : FrozenPuts) → s.frozen ≡ Some f → AreKeepable s.saved.geometry most (frozen_in s (marking ns m)) =
       λ f running. subst (AreKeepable s.saved.geometry most) (sym marked_frozen) (is.keepable f running) in
       search (is, length-touching m.touched ns ∙ is.marks, length-touching m.dirty ns ∙ is.dirty_marks)

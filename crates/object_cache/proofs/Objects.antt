@@ -160,12 +160,7 @@ module _ {D : Type 0} (disk : D → Disk) {d : DurableState D} {m : Memory} {lef
   known =
       let header : n < length m.headers = omega (arith, announced.header, ap (λ t. length t.headers) view) in
       let dirty : mark_at m.dirty n ≡ true = ap (λ t. mark_at t.dirty n) view ∙ announced.dirty in
-      record {
-        header = header;
-        entry = omega (arith, header, is.headers, is.entries);
-        dirty = dirty;
-        touched = is.marked n dirty;
-      }
+      search (arith, header, dirty, is.headers, is.entries, is.marked n dirty)
 
   module _ {hs : List ObjectHeader} {es : List (Option Entry)} (change : Changes m hs es n) where
     edit_seen : {cs : List (Content Cap)} → cached_in es ≡ cached_in m.entries → contents_in (stored_of disk d) (with_objects m hs es) ≡ cs →
@@ -185,15 +180,14 @@ module _ {D : Type 0} (disk : D → Disk) {d : DurableState D} {m : Memory} {lef
   header_becomes h same =
       let x = header_at m.headers n in
       let change = header_changes m n (h x) known.header (same x) in
-      record {
-        is = still_cache (stored_of disk d) change is known.dirty;
-        view =
-            edit_seen change refl (contents_same (stored_of disk d) change
+      search (
+        still_cache (stored_of disk d) change is known.dirty,
+        edit_seen change refl (contents_same (stored_of disk d) change
             (ap (λ i. present_body (entry_at m.entries n) i.role (newest_body (stored_of disk d) m n))
             (get_or-set_same m.headers n (h x) blank_header known.header)
             ∙ ap (λ r. present_body (entry_at m.entries n) r (newest_body (stored_of disk d) m n)) (same x)))
-            ∙ ap (λ (t : StoreState D). record t { headers = set t.headers n (h (header_at t.headers n)) }) view;
-      }
+            ∙ ap (λ (t : StoreState D). record t { headers = set t.headers n (h (header_at t.headers n)) }) view,
+      )
 
   -- another header and another content, or none where it is free
   pub both_become : (h : ObjectHeader → ObjectHeader) (c : Content Cap) →
@@ -203,13 +197,12 @@ module _ {D : Type 0} (disk : D → Disk) {d : DurableState D} {m : Memory} {lef
   both_become h c free =
       let x = h (header_at m.headers n) in
       let change = edit_changes m n x (λ y. c) known.header known.entry (λ none. (free none).0) in
-      record {
-        is = still_cache (stored_of disk d) change is known.dirty;
-        view =
-            edit_seen change (cached_stay (changing (λ y. c)) n m.entries) (contents_changed (stored_of disk d) change c known.header
+      search (
+        still_cache (stored_of disk d) change is known.dirty,
+        edit_seen change (cached_stay (changing (λ y. c)) n m.entries) (contents_changed (stored_of disk d) change c known.header
             (edited_content (stored_of disk d) m n x c known.header known.entry free))
-            ∙ ap (λ (t : StoreState D). record t { headers = set t.headers n (h (header_at t.headers n)); contents = set t.contents n c }) view;
-      }
+            ∙ ap (λ (t : StoreState D). record t { headers = set t.headers n (h (header_at t.headers n)); contents = set t.contents n c }) view,
+      )
 
   -- another content, of an object that is fetched
   pub content_becomes : IsFetchedIn s n → (f : Content Cap → Content Cap) →
@@ -217,14 +210,13 @@ module _ {D : Type 0} (disk : D → Disk) {d : DurableState D} {m : Memory} {lef
   content_becomes fetched f =
       let change = body_changes m n f known.entry in
       let c = f (content_at (stored_of disk d) m n) in
-      record {
-        is = still_cache (stored_of disk d) change is known.dirty;
-        view =
-            edit_seen change (cached_stay (changing f) n m.entries) (contents_changed (stored_of disk d) change c known.header
+      search (
+        still_cache (stored_of disk d) change is known.dirty,
+        edit_seen change (cached_stay (changing f) n m.entries) (contents_changed (stored_of disk d) change c known.header
             (body_content (stored_of disk d) m n f known.entry (entry_some disk view is fetched)))
             ∙ ap (λ x. with_content_in (cache_of disk d m left order most_entries) n (f x))
-            (sym (content_in (stored_of disk d) m n known.header)) ∙ ap (λ t. with_content_in t n (f (held_at t.contents n))) view;
-      }
+            (sym (content_in (stored_of disk d) m n known.header)) ∙ ap (λ t. with_content_in t n (f (held_at t.contents n))) view,
+      )
 
 -- ---- bodies are copied out of their entries, by number
 

@@ -1,10 +1,10 @@
 -- The frozen frame of an object is put, or was to be, from its entry or from the staging buffer.
-use Rattle.object_cache.proofs.Names.{inl, inr, ℕ, Bool, true, false, true≢false, cond, List, length, map, set, Option, Some, None, option_map, refl, sym, ap}
-use Rattle.object_cache.proofs.Names.{subst, arith, length-set, count_by, range_with_len, cases_eq, cases_lt, eq-eqb, ne_eqb, get_or-set_same, get_or-set_other}
-use Rattle.object_cache.proofs.Names.{get_or_past, length-map-range_with_len, get_or-map-range_with_len, none-some, same_Some, Cap, Frame, ObjectHeader}
-use Rattle.object_cache.proofs.Names.{Content, Role, blank_frame, header_at, IsKeepable, Disk, Put, Absent, Broken, Kept, put_at, HasFreeSlot, most}
-use Rattle.object_cache.proofs.Names.{DurableState, FrozenPuts, Stored, GoesOn, below_at, stored_of, with_frozen, Entry, Held, entry_at, with_entry, is_some}
-use Rattle.object_cache.proofs.Names.{put_body, own_body_of, Memory, FrozenState, Nothing, mark_at, in_staging, masked, released, own_body, own_frame}
+use Rattle.object_cache.proofs.Names.{object_count, inl, inr, ℕ, Bool, true, false, true≢false, cond, List, length, map, set, Option, Some, None, option_map}
+use Rattle.object_cache.proofs.Names.{refl, sym, ap, subst, arith, length-set, count_by, range_with_len, cases_eq, cases_lt, eq-eqb, ne_eqb, get_or-set_same}
+use Rattle.object_cache.proofs.Names.{get_or-set_other, get_or_past, length-map-range_with_len, get_or-map-range_with_len, none-some, same_Some, Cap, Frame}
+use Rattle.object_cache.proofs.Names.{ObjectHeader, Content, Role, blank_frame, header_at, IsKeepable, Disk, Put, Absent, Broken, Kept, put_at, HasFreeSlot}
+use Rattle.object_cache.proofs.Names.{most, DurableState, FrozenPuts, Stored, GoesOn, below_at, stored_of, with_frozen, Entry, Held, entry_at, with_entry}
+use Rattle.object_cache.proofs.Names.{is_some, put_body, own_body_of, Memory, FrozenState, Nothing, mark_at, in_staging, masked, released, own_body, own_frame}
 use Rattle.object_cache.proofs.Names.{present_body, content_at, newest_body, below_body, apart_body, frozen_body, frozen_frame, frozen_at, frozen_state_of}
 use Rattle.object_cache.proofs.Names.{frozen_state_body, frozen_state_in_memory, contents_in, frozen_in, frozen_states_in, StoreState, IsCache, IsFetchedIn}
 use Rattle.object_cache.proofs.Names.{GoesOnIn, cache_of, frozen_seen, is_kept, frozen_state_at, cached_in, MayPutFrozen}
@@ -77,15 +77,15 @@ module _ {D : Type 0} (disk : D → Disk) {d : DurableState D} {m : Memory} {lef
 
   pub frozen_ready : {g : Frame} → g ≡ frozen_at (stored_of disk d) m n → MayPutFrozen disk d n g
   unfolding frozen_in
-  frozen_ready {g = g} g_is = record {
-    running = running_here;
-    object = omega (arith, known, is.headers);
-    keepable =
+  frozen_ready {g = g} g_is =
+      let object : n < object_count (stored_of disk d).saved.geometry = omega (arith, known, is.headers) in
+      search (
+        running_here,
+        frozen_room,
         subst (IsKeepable (stored_of disk d).saved.geometry most n)
-        (get_or-map-range_with_len (frozen_at (stored_of disk d) m) 0 (length m.headers) n n blank_frame known (omega arith) ∙ sym g_is)
-        ((is.keepable running_here.0 running_here.1).each n (omega (arith, known, is.headers)));
-    room = frozen_room;
-  }
+            (get_or-map-range_with_len (frozen_at (stored_of disk d) m) 0 (length m.headers) n n blank_frame known (omega arith) ∙ sym g_is)
+            ((is.keepable running_here.0 running_here.1).each n object),
+      )
 
   -- the store goes on while the frozen frame is put
   pub put_continues : (new : DurableState D) (p : Put) → stored_of disk new ≡ with_frozen n p (stored_of disk d) → GoesOn disk d new →

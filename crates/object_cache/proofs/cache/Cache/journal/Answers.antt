@@ -27,16 +27,13 @@ returns g c =
     (journal_there (g.D.Device.disk c.self.inside.durable.beneath) (g.D.Device.disk c.journal_page.new.durable.beneath) _
     (stored_of g.D.Device.disk c.self.inside.durable).saved _ _ _ c.journal_page.result c.journal_page.ensures.answer)
     c.journal_page.ensures.journaled c.journal_page.ensures.unchanged in
-    record {
-      answer = answer_seen g.D.Device.disk c.self.view_is c.self.invariant.0 c.args.number c.requires.keepable c.journal_page.new.durable c.args.age
-          c.journal_page.result c.journal_page.ensures.answer;
-      turned_away = search rules;
-      rest = next.0.view;
-      snapshots = next.1;
-      unchanged = next.2;
-      geometry = search rules;
-      sound = search rules;
-      size = search rules;
-      any_moment = moments_seen g.D.Device.disk c.self.view_is c.self.invariant.0 c.args.number c.requires.keepable c.journal_page.new.durable c.args.age
-          c.journal_page.ensures.any_moment;
-    }
+    search (
+      rules,
+      next.0,
+      next.1,
+      next.2,
+      answer_seen g.D.Device.disk c.self.view_is c.self.invariant.0 c.args.number c.requires.keepable c.journal_page.new.durable c.args.age
+          c.journal_page.result c.journal_page.ensures.answer,
+      moments_seen g.D.Device.disk c.self.view_is c.self.invariant.0 c.args.number c.requires.keepable c.journal_page.new.durable c.args.age
+          c.journal_page.ensures.any_moment,
+    )

@@ -41,16 +41,12 @@ returns-then-is_full g c =
     let now = evicted r c.args.self.now u c.in-Some.oldest
     (is_least g.D.Device.disk c.self.view_is c.self.invariant.0 c.self.invariant.1 c.least.ensures.ordered full c.in-Some.oldest
     (sym c.in-Some.is ∙ c.least.ensures.least)) away stays in
-    record {
-      room = now.0;
-      uncached = now.1;
-      others = now.2;
-      order = now.3;
-      least = now.4;
-      stays = now.5;
-      unchanged = λ few. absurd (omega (arith, few, full));
-      rest = away_rest r c.args.self.now u c.in-Some.oldest away stays;
-      empty = subst (λ t. t.staging ≡ None → u.staging ≡ None) seen said.empty;
-      continues = subst (λ t. GoesOnIn g.D.Device.disk t u) seen said.continues;
-      cause = subst (λ t. Counts (g.D.Device.disk t.durable.beneath) (g.D.Device.disk u.durable.beneath) r) seen said.cause;
-    }
+    search (
+      arith,
+      full,
+      now,
+      away_rest r c.args.self.now u c.in-Some.oldest away stays,
+      subst (λ t. t.staging ≡ None → u.staging ≡ None) seen said.empty,
+      subst (λ t. GoesOnIn g.D.Device.disk t u) seen said.continues,
+      subst (λ t. Counts (g.D.Device.disk t.durable.beneath) (g.D.Device.disk u.durable.beneath) r) seen said.cause,
+    )

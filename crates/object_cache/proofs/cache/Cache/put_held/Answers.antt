@@ -52,10 +52,4 @@ returns-in_err-put_body g c =
     let next = held_torn g.D.Device.disk c.self.view_is c.self.invariant.0 (held_behind c.in-Some.held)
     (sym c.get.ensures ∙ ap (option_map held_behind) c.in-Some.is)
     c.requires c.put_body.ensures.goes_on c.put_body.ensures.cause.never_falls c.in_err-put_body.ensures.broken in
-    record {
-      empty = search rules;
-      fewer = search rules;
-      put = on_device_as c.args.self.now next.view refl;
-      continues = next.continues;
-      cause = search rules;
-    }
+    search (rules, next.continues, on_device_as c.args.self.now next.view refl)

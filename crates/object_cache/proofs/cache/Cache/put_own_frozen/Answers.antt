@@ -20,13 +20,11 @@ pub returns : goal.returns
 returns g c =
     let next = out_next g.D.Device.disk c.self.view_is c.self.invariant.0 c.requires.fetched c.requires.frozen_state c.own_body-content.ensures
     c.header-header.ensures c.put_body.ensures.goes_on c.put_body.ensures.cause.never_falls c.in_ok-put_body.ensures.put in
-    record {
-      put = rw (c.set.ensures, c.drop_kept.ensures, c.release.ensures) next.view;
-      fewer = rw c.set.ensures (own_fewer g.D.Device.disk c.self.view_is c.self.invariant.0 c.requires.fetched c.requires.frozen_state);
-      unput = search rules;
-      continues = rw (c.set.ensures, c.drop_kept.ensures, c.release.ensures) next.continues;
-      cause = search rules;
-    }
+    rw (c.set.ensures, c.drop_kept.ensures, c.release.ensures) (search (
+      rules,
+      next,
+      own_fewer g.D.Device.disk c.self.view_is c.self.invariant.0 c.requires.fetched c.requires.frozen_state,
+    ))
 
 pub drop_kept-requires : goal.drop_kept-requires
 drop_kept-requires g c = entry_some g.D.Device.disk c.self.view_is c.self.invariant.0 c.requires.fetched
@@ -35,13 +33,7 @@ pub returns-in_err-put_body : goal.returns-in_err-put_body
 returns-in_err-put_body g c =
     let next = own_torn g.D.Device.disk c.self.view_is c.self.invariant.0 c.requires.fetched c.requires.frozen_state c.put_body.ensures.goes_on
     c.put_body.ensures.cause.never_falls c.in_err-put_body.ensures.broken in
-    record {
-      put = search rules;
-      fewer = search rules;
-      unput = on_err c.from_residual.result next.view;
-      continues = next.continues;
-      cause = search rules;
-    }
+    search (rules, next.continues, on_err c.from_residual.result next.view)
 
 pub invariant_of-self : goal.invariant_of-self
 invariant_of-self g c =
