@@ -18,8 +18,8 @@ pub use Rattle.clap.specs.Walk.{subcommand, subcommand_met, subcommand_or_other,
 pub use Rattle.clap.specs.Walk.{used_by_id, value, values_or_missing, waits, walk, walk_from, walked_from, with_default, with_values, without, word_met}
 unfoldable pub use Rattle.clap.specs.Walk.{bundle_met, walked}
 pub use Rattle.clap.specs.Words.{AddsArg, AddsSubcommand, App, HasKind, IsUnsignedIn, Row, Rule, Text, all_of, fault_of, first_of, first_value, found_of}
-pub use Rattle.clap.specs.Words.{is_simple_and_free, kind_of, matched_of, raw_values, rows_of, rule_of, subcommand_name_of, subcommand_rows, subcommand_rows_of}
-pub use Rattle.clap.specs.Words.{with_rule, with_subcommand}
+pub use Rattle.clap.specs.Words.{is_simple_and_free, kind_of, matched_of, new_app, raw_values, rows_of, rule_of, subcommand_name_of, subcommand_rows}
+pub use Rattle.clap.specs.Words.{subcommand_rows_of, with_rule, with_subcommand}
 pub use Rattle.clap.specs.declared.builder.action.ArgAction.{ArgAction}
 pub use Rattle.clap.specs.declared.builder.action.ArgAction.TheVariants.{Append, Count, Help, HelpLong, HelpShort, Set, SetFalse, SetTrue, Version}
 pub use Rattle.clap.specs.declared.builder.arg.Arg.{Arg}
@@ -34,8 +34,9 @@ pub use Rattle.clap.specs.declared.parser.matches.Found.{Found}
 pub use Rattle.clap.specs.declared.parser.matches.SubCommand.{SubCommand}
 pub use Rattle.clap.specs.declared.parser.matches.ValueSource.{ValueSource}
 pub use Rattle.clap.specs.declared.parser.matches.ValueSource.TheVariants.{CommandLine, DefaultValue}
-pub use Rattle.std.proofs.Common.{Bool, Err, IfOk, IsNone, List, None, Ok, Option, Result, Some, [], ap, ap₂, arith, codes, drop, false, get_or, inl, inr}
-pub use Rattle.std.proofs.Common.{is_some, length, map, not, option_map, refl, rules, subst, suc, sym, take, true, true≢false, zero, ℕ}
+pub use Rattle.std.proofs.Common.{Bool, IfOk, IsNone, List, None, Option, Some, [], add-one, ap, ap₂, arith, codes, drop, false, get_or, inl, inr, is_some}
+pub use Rattle.std.proofs.Common.{length, map, not, option_map, refl, rules, subst, suc, sym, take, true, true≢false, zero, ℕ}
+pub use Rattle.std.proofs.Math.Seq.{take-length, take-suc}
 pub use Rattle.std.proofs.lemmas.Bool.{eqb-true, leb-true, lt-ltb}
 pub use Rattle.std.proofs.lemmas.List.{get_or-map, length-map, map-append, take_all, take_more}
 pub use Rattle.std.proofs.lemmas.List.Elements.{All-get_or, All-more}
@@ -52,9 +53,12 @@ pub use Rattle.std.specs.Str.{bytes_eq}
 unfoldable pub use Rattle.std.specs.Str.{chars}
 pub use Rattle.command_line.specs.Arguments.{GivesNoNumber, IsFlag, IsGiven, IsNumber, IsNumberOption, has_all, is_filled, is_whole, number_of}
 pub use Rattle.command_line.specs.Arguments.{subcommand_named, texts_of}
-pub use Rattle.command_line.specs.Commands.{IsCommand, eros_app, greatest_number}
+pub use Rattle.command_line.specs.Commands.{IsCommand, argument_rule, bare_app, eros_app, greatest_number, subcommand_app, subcommand_name, subcommands}
+pub use Rattle.command_line.specs.Commands.{with_rules, with_subcommands}
 pub use Rattle.command_line.specs.Jobs.{AreSizes, IsCache, IsNoJob, IsSameTwice, NamesJob, NamesNone}
 pub use Rattle.command_line.specs.Refusals.{AsksForSame, IsFaultOf, IsRefused}
 unfoldable pub use Rattle.command_line.specs.Refusals.{Explains}
 pub use Rattle.command_line.specs.declared.fault.JobFault.{JobFault}
 pub use Rattle.command_line.specs.declared.requested.Job.{Job}
+pub use Rattle.command_line.specs.declared.subcommands.Argument.{Argument}
+pub use Rattle.command_line.specs.declared.subcommands.Subcommand.{Subcommand}

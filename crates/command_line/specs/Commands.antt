@@ -1,11 +1,15 @@
 -- The command of `eros`, as a parse reads it.
-use Rattle.std.specs.Prelude.{◌≡◌, ℕ, [], Some, true, false, codes}
+use Rattle.std.specs.Prelude.{◌≡◌, ℕ, List, [], ◌∷◌, Some, true, false, codes}
 use Rattle.clap.specs.Words.{App, Rule, Text, app_of, new_app, new_rule, with_rule, with_subcommand}
 use Rattle.clap.specs.declared.builder.action.ArgAction.TheVariants.{SetTrue}
 use Rattle.clap.specs.declared.builder.command.Command.{Command}
 use Rattle.clap.specs.declared.builder.command.Command.TheViews.{out-Command}
 use Rattle.clap.specs.declared.builder.value_parser.ValueParser.{ValueParser}
 use Rattle.clap.specs.declared.builder.value_parser.ValueParser.TheVariants.{Unsigned}
+use Rattle.command_line.specs.declared.subcommands.Argument.{Argument}
+use Rattle.command_line.specs.declared.subcommands.Argument.TheVariants as argument
+use Rattle.command_line.specs.declared.subcommands.Subcommand.{Subcommand}
+use Rattle.command_line.specs.declared.subcommands.Subcommand.TheVariants as sub
 
 -- a required file
 abbrev pub file_rule : Text → Rule
@@ -121,3 +125,57 @@ eros_app = with_subcommand (with_subcommand (with_subcommand checking_app upgrad
 -- a parse reads the command as this one, with no argument that holds for subcommands too
 abbrev pub IsCommand : App → Command → Type 0
 IsCommand app c = (app_of c ≡ app) × ((out-Command c).has_globals ≡ false)
+
+-- Arguments and subcommands as the program names them.
+
+abbrev pub argument_rule : Argument → Rule
+argument_rule (argument.File name help) = file_rule name.now
+argument_rule argument.Cache = cache_rule
+argument_rule argument.Processes = processes_rule
+argument_rule (argument.Number name value help) = number_rule name.now
+argument_rule (argument.Flag name help) = flag_rule name.now
+
+abbrev pub subcommand_name : Subcommand → Text
+subcommand_name sub.Build = codes "build"
+subcommand_name sub.Run = codes "run"
+subcommand_name sub.Shell = codes "shell"
+subcommand_name sub.Check = codes "check"
+subcommand_name sub.Explain = codes "explain"
+subcommand_name sub.Info = codes "info"
+subcommand_name sub.Reach = codes "reach"
+subcommand_name sub.Upgrade = codes "upgrade"
+subcommand_name sub.Describe = codes "describe"
+subcommand_name sub.Draw = codes "draw"
+
+abbrev pub rules_of : Subcommand → List Rule
+rules_of sub.Build = file_rule (codes "DESCRIPTION") ∷ file_rule (codes "IMAGE") ∷ []
+rules_of sub.Run = file_rule (codes "IMAGE") ∷ file_rule (codes "SCRIPT") ∷ cache_rule ∷ flag_rule (codes "trace")
+    ∷ flag_rule (codes "strict") ∷ number_rule (codes "stop-after") ∷ []
+rules_of sub.Shell = file_rule (codes "IMAGE") ∷ cache_rule ∷ []
+rules_of sub.Check = file_rule (codes "IMAGE") ∷ []
+rules_of sub.Explain = file_rule (codes "FILE") ∷ []
+rules_of sub.Info = file_rule (codes "IMAGE") ∷ []
+rules_of sub.Reach = file_rule (codes "IMAGE") ∷ processes_rule ∷ number_rule (codes "shows") ∷ []
+rules_of sub.Upgrade = file_rule (codes "OLD") ∷ file_rule (codes "NEW") ∷ []
+rules_of sub.Describe = file_rule (codes "IMAGE") ∷ number_rule (codes "nodes") ∷ number_rule (codes "pages")
+    ∷ number_rule (codes "log") ∷ []
+rules_of sub.Draw = file_rule (codes "IMAGE") ∷ number_rule (codes "from") ∷ number_rule (codes "to") ∷ []
+
+-- a command with arguments more
+abbrev pub with_rules : App → List Rule → App
+with_rules app [] = app
+with_rules app (r ∷ rs) = with_rules (with_rule app r) rs
+
+abbrev pub subcommand_app : Subcommand → App
+subcommand_app s = with_rules (new_app (subcommand_name s)) (rules_of s)
+
+-- a command with subcommands more
+abbrev pub with_subcommands : App → List Subcommand → App
+with_subcommands app [] = app
+with_subcommands app (s ∷ rest) = with_subcommands (with_subcommand app (subcommand_app s).top) rest
+
+-- all subcommands, in the order of the help
+abbrev pub subcommands : List Subcommand
+subcommands =
+    sub.Build ∷ sub.Run ∷ sub.Shell ∷ sub.Check ∷ sub.Explain ∷ sub.Info ∷ sub.Reach ∷ sub.Upgrade ∷ sub.Describe ∷ sub.Draw
+    ∷ []

@@ -1,13 +1,8 @@
 // The command that clap takes the words by.
-ghost use Rattle.std.specs.Prelude.{◌≡◌, IfOk, false};
-ghost use Rattle.clap.specs.Words.{App, app_of, rule_of, with_subcommand};
-ghost use Rattle.command_line.specs.Commands.{IsCommand, bare_app, build_app, cache_rule, changing_app, check_app};
-ghost use Rattle.command_line.specs.Commands.{checking_app};
-ghost use Rattle.command_line.specs.Commands.{describe_app, draw_app, eros_app, file_rule, reading_app, run_app};
-ghost use Rattle.command_line.specs.Commands.{run_files_app, upgrade_app};
-ghost use Rattle.command_line.specs.Commands.{number_rule, processes_rule, reach_app};
-ghost use Rattle.command_line.specs.Commands.{explain_app, info_app};
-ghost use Rattle.command_line.specs.Commands.{flag_rule, shell_app};
+ghost use Rattle.std.specs.Prelude.{◌≡◌, IfOk, false, map};
+ghost use Rattle.clap.specs.Words.{new_app, rule_of};
+ghost use Rattle.command_line.specs.Commands.{IsCommand, argument_rule, bare_app, eros_app, rules_of, subcommand_app};
+ghost use Rattle.command_line.specs.Commands.{subcommand_name, with_rules, with_subcommands};
 
 use clap::builder::ValueParser;
 use clap::{Arg, ArgAction, Command};
@@ -56,252 +51,240 @@ pub(crate) const LEAST_CAPACITY: u64 = 8;
 /// The greatest number of objects that a cache may hold.
 pub(crate) const GREATEST_CAPACITY: u64 = 8192;
 
-// A required file.
-fn file<'a>(alloc: Global, name: &'a str, help: &'a str) -> Arg<'a>
-    ensures rule { rule_of result ≡ file_rule name.entry.now }
-    ensures local { result.global ≡ false }
-{
-    Arg::new(alloc, name).help(help).required(true)
+/// An argument or an option of a subcommand.
+#[derive(Clone, Copy)]
+enum Argument<'a> {
+    /// A required file: its name and its help.
+    File(&'a str, &'a str),
+    /// How many objects a cache may hold, which may be left out.
+    Cache,
+    /// The processes of `reach`, at least one.
+    Processes,
+    /// An option that gives a number, which may be left out: its name, the name of the number, and its help.
+    Number(&'a str, &'a str, &'a str),
+    /// An option that gives no value, and may be left out: its name and its help.
+    Flag(&'a str, &'a str),
 }
 
-// How many objects a cache may hold, which may be left out.
-fn cache<'a>(alloc: Global) -> Arg<'a>
-    ensures rule { rule_of result ≡ cache_rule }
-    ensures local { result.global ≡ false }
-{
-    Arg::new(alloc, CACHE)
-        .long("cache")
-        .value_name("C")
-        .value_parser(ValueParser::unsigned(LEAST_CAPACITY, GREATEST_CAPACITY))
-        .help(
-            "Keeps at most C objects in memory, 8 to 8192, as --cache 100; without it, all objects",
-        )
+impl<'a> Argument<'a> {
+    fn arg(self, alloc: Global) -> Arg<'a>
+        ensures rule { rule_of result ≡ argument_rule self.entry }
+        ensures local { result.global ≡ false }
+    {
+        match self {
+            Argument::File(name, help) => Arg::new(alloc, name).help(help).required(true),
+            Argument::Cache => Arg::new(alloc, CACHE)
+                .long("cache")
+                .value_name("C")
+                .value_parser(ValueParser::unsigned(LEAST_CAPACITY, GREATEST_CAPACITY))
+                .help(
+                    "Keeps at most C objects in memory, 8 to 8192, as --cache 100; without it, all objects",
+                ),
+            Argument::Processes => Arg::new(alloc, PROCESS)
+                .num_args(1..)
+                .value_parser(ValueParser::unsigned(0, u64::MAX))
+                .required(true)
+                .help("The numbers of the processes"),
+            Argument::Number(name, value, help) => Arg::new(alloc, name)
+                .long(name)
+                .value_name(value)
+                .value_parser(ValueParser::unsigned(0, u64::MAX))
+                .help(help),
+            Argument::Flag(name, help) => Arg::new(alloc, name)
+                .long(name)
+                .action(ArgAction::SetTrue)
+                .help(help),
+        }
+    }
 }
 
-// An option that gives a number, which may be left out.
-fn number<'a>(alloc: Global, name: &'a str, value: &'a str, help: &'a str) -> Arg<'a>
-    ensures rule { rule_of result ≡ number_rule name.entry.now }
-    ensures local { result.global ≡ false }
-{
-    Arg::new(alloc, name)
-        .long(name)
-        .value_name(value)
-        .value_parser(ValueParser::unsigned(0, u64::MAX))
-        .help(help)
-}
+// An image that is only read.
+const READ: Argument<'static> = Argument::File(IMAGE, "The image, which isn't changed");
 
-// The processes of `reach`, at least one.
-fn processes<'a>(alloc: Global) -> Arg<'a>
-    ensures rule { rule_of result ≡ processes_rule }
-    ensures local { result.global ≡ false }
-{
-    Arg::new(alloc, PROCESS)
-        .num_args(1..)
-        .value_parser(ValueParser::unsigned(0, u64::MAX))
-        .required(true)
-        .help("The numbers of the processes")
-}
+const BUILD: &[Argument<'static>] = &[
+    Argument::File(DESCRIPTION, "What the image is to hold, in TOML"),
+    Argument::File(IMAGE, "The file to make, in place of one that is there"),
+];
 
-// An option that gives no value, and may be left out.
-fn flag<'a>(alloc: Global, name: &'a str, help: &'a str) -> Arg<'a>
-    ensures rule { rule_of result ≡ flag_rule name.entry.now }
-    ensures local { result.global ≡ false }
-{
-    Arg::new(alloc, name)
-        .long(name)
-        .action(ArgAction::SetTrue)
-        .help(help)
-}
+const RUN: &[Argument<'static>] = &[
+    Argument::File(
+        IMAGE,
+        "The image, which is changed by what the script commits",
+    ),
+    Argument::File(SCRIPT, "The script, a command a line; - is standard input"),
+    Argument::Cache,
+    Argument::Flag(TRACE, "Says on standard error what became of each line"),
+    Argument::Flag(
+        STRICT,
+        "Stops at the first line that is bad or refused, or whose order to the kernel fails",
+    ),
+    Argument::Number(
+        STOP_AFTER,
+        "K",
+        "Lets the image's device fail after K reads, writes and syncs, as --stop-after 40",
+    ),
+];
 
-fn build<'a>(alloc: Global) -> Result<Command<'a>, AllocError>
-    ensures { IfOk result (IsCommand build_app) }
-{
-    Command::new(alloc, "build")
-        .about("Builds an image from its description")
-        .arg(file(alloc, DESCRIPTION, "What the image is to hold, in TOML"))?
-        .arg(file(
-            alloc,
-            IMAGE,
-            "The file to make, in place of one that is there",
-        ))
-}
+const SHELL: &[Argument<'static>] = &[
+    Argument::File(IMAGE, "The image, which is changed by what is committed"),
+    Argument::Cache,
+];
 
-// `run` with its two files.
-fn run_files<'a>(alloc: Global) -> Result<Command<'a>, AllocError>
-    ensures { IfOk result (IsCommand run_files_app) }
-{
-    Command::new(alloc, "run")
-        .about("Runs a script over an image, and prints an answer to each command")
-        .arg(file(
-            alloc,
-            IMAGE,
-            "The image, which is changed by what the script commits",
-        ))?
-        .arg(file(
-            alloc,
-            SCRIPT,
-            "The script, a command a line; - is standard input",
-        ))
-}
+const EXPLAIN: &[Argument<'static>] = &[Argument::File(
+    FILE,
+    "The description or the image, which isn't changed",
+)];
 
-fn run<'a>(alloc: Global) -> Result<Command<'a>, AllocError>
-    ensures { IfOk result (IsCommand run_app) }
-{
-    run_files(alloc)?
-        .arg(cache(alloc))?
-        .arg(flag(
-            alloc,
-            TRACE,
-            "Says on standard error what became of each line",
-        ))?
-        .arg(flag(
-            alloc,
-            STRICT,
-            "Stops at the first line that is bad or refused, or whose order to the kernel fails",
-        ))?
-        .arg(number(
-            alloc,
-            STOP_AFTER,
-            "K",
-            "Lets the image's device fail after K reads, writes and syncs, as --stop-after 40",
-        ))
-}
-
-fn shell<'a>(alloc: Global) -> Result<Command<'a>, AllocError>
-    ensures { IfOk result (IsCommand shell_app) }
-{
-    Command::new(alloc, "shell")
-        .about("Reads commands and runs each at once over an image; help lists them")
-        .arg(file(
-            alloc,
-            IMAGE,
-            "The image, which is changed by what is committed",
-        ))?
-        .arg(cache(alloc))
-}
-
-fn upgrade<'a>(alloc: Global) -> Result<Command<'a>, AllocError>
-    ensures { IfOk result (IsCommand upgrade_app) }
-{
-    Command::new(alloc, "upgrade")
-        .about(
-            "Writes what an image saves to a new image of version 2 of the layout, where nodes take less room",
-        )
-        .arg(file(alloc, OLD, "The image, which isn't changed"))?
-        .arg(file(
-            alloc,
-            NEW,
-            "The file to make, in place of one that is there",
-        ))
-}
-
-// A subcommand that reads one image.
-fn reading<'a>(alloc: Global, name: &'a str, about: &'a str) -> Result<Command<'a>, AllocError>
-    ensures { IfOk result (IsCommand (reading_app name.entry.now)) }
-{
-    Command::new(alloc, name)
-        .about(about)
-        .arg(file(alloc, IMAGE, "The image, which isn't changed"))
-}
-
-fn check<'a>(alloc: Global) -> Result<Command<'a>, AllocError>
-    ensures { IfOk result (IsCommand check_app) }
-{
-    reading(
-        alloc,
-        "check",
-        "Checks an image, and prints the generation, age and entries of its checkpoint",
-    )
-}
-
-fn explain<'a>(alloc: Global) -> Result<Command<'a>, AllocError>
-    ensures { IfOk result (IsCommand explain_app) }
-{
-    Command::new(alloc, "explain")
-        .about("Says why a description or an image is refused, and where, or prints ok")
-        .arg(file(
-            alloc,
-            FILE,
-            "The description or the image, which isn't changed",
-        ))
-}
-
-fn info<'a>(alloc: Global) -> Result<Command<'a>, AllocError>
-    ensures { IfOk result (IsCommand info_app) }
-{
-    reading(
-        alloc,
-        "info",
-        "Prints the layout and sizes of an image, its checkpoint and how many objects it has",
-    )
-}
-
-fn reach<'a>(alloc: Global) -> Result<Command<'a>, AllocError>
-    ensures { IfOk result (IsCommand reach_app) }
-{
-    reading(
-        alloc,
-        "reach",
-        "Prints what processes can ever change: the least closed set that has them",
-    )?
-    .arg(processes(alloc))?
-    .arg(number(
-        alloc,
+const REACH: &[Argument<'static>] = &[
+    READ,
+    Argument::Processes,
+    Argument::Number(
         SHOWS,
         "O",
         "Prints a shortest chain of capabilities from the processes to object O, as --shows 7",
-    ))
-}
+    ),
+];
 
-fn describe<'a>(alloc: Global) -> Result<Command<'a>, AllocError>
-    ensures { IfOk result (IsCommand describe_app) }
-{
-    reading(
-        alloc,
-        "describe",
-        "Prints the description of what an image saves, in TOML",
-    )?
-    .arg(number(
-        alloc,
+const UPGRADE: &[Argument<'static>] = &[
+    Argument::File(OLD, "The image, which isn't changed"),
+    Argument::File(NEW, "The file to make, in place of one that is there"),
+];
+
+const DESCRIBE: &[Argument<'static>] = &[
+    READ,
+    Argument::Number(
         NODES,
         "N",
         "Renumbers the description for an image of N nodes, as --nodes 64",
-    ))?
-    .arg(number(
-        alloc,
+    ),
+    Argument::Number(
         PAGES,
         "P",
         "Renumbers the description for an image of P pages",
-    ))?
-    .arg(number(
-        alloc,
-        LOG,
-        "R",
-        "Gives the image a checkpoint log of R sectors",
-    ))
-}
+    ),
+    Argument::Number(LOG, "R", "Gives the image a checkpoint log of R sectors"),
+];
 
-fn draw<'a>(alloc: Global) -> Result<Command<'a>, AllocError>
-    ensures { IfOk result (IsCommand draw_app) }
-{
-    reading(
-        alloc,
-        "draw",
-        "Prints what an image saves as a graph, in DOT: who owns what, and who holds which capability",
-    )?
-    .arg(number(
-        alloc,
+const DRAW: &[Argument<'static>] = &[
+    READ,
+    Argument::Number(
         FROM,
         "P",
         "Draws only what process P reaches by capabilities, as --from 3",
-    ))?
-    .arg(number(
-        alloc,
+    ),
+    Argument::Number(
         TO,
         "O",
         "Draws only the objects that lead to object O, as --to 7",
-    ))
+    ),
+];
+
+/// A subcommand of `eros`.
+#[derive(Clone, Copy)]
+enum Subcommand {
+    Build,
+    Run,
+    Shell,
+    Check,
+    Explain,
+    Info,
+    Reach,
+    Upgrade,
+    Describe,
+    Draw,
 }
+
+impl Subcommand {
+    fn name<'a>(self) -> &'a str
+        ensures { result.now ≡ subcommand_name self }
+    {
+        match self {
+            Subcommand::Build => "build",
+            Subcommand::Run => "run",
+            Subcommand::Shell => "shell",
+            Subcommand::Check => "check",
+            Subcommand::Explain => "explain",
+            Subcommand::Info => "info",
+            Subcommand::Reach => "reach",
+            Subcommand::Upgrade => "upgrade",
+            Subcommand::Describe => "describe",
+            Subcommand::Draw => "draw",
+        }
+    }
+
+    fn about<'a>(self) -> &'a str {
+        match self {
+            Subcommand::Build => "Builds an image from its description",
+            Subcommand::Run => {
+                "Runs a script over an image, and prints an answer to each command"
+            }
+            Subcommand::Shell => {
+                "Reads commands and runs each at once over an image; help lists them"
+            }
+            Subcommand::Check => {
+                "Checks an image, and prints the generation, age and entries of its checkpoint"
+            }
+            Subcommand::Explain => {
+                "Says why a description or an image is refused, and where, or prints ok"
+            }
+            Subcommand::Info => {
+                "Prints the layout and sizes of an image, its checkpoint and how many objects it has"
+            }
+            Subcommand::Reach => {
+                "Prints what processes can ever change: the least closed set that has them"
+            }
+            Subcommand::Upgrade => {
+                "Writes what an image saves to a new image of version 2 of the layout, where nodes take less room"
+            }
+            Subcommand::Describe => "Prints the description of what an image saves, in TOML",
+            Subcommand::Draw => {
+                "Prints what an image saves as a graph, in DOT: who owns what, and who holds which capability"
+            }
+        }
+    }
+
+    // Its arguments and options, in order.
+    fn arguments<'a>(self) -> &'a [Argument<'a>]
+        ensures { map argument_rule result.now ≡ rules_of self }
+    {
+        match self {
+            Subcommand::Build => BUILD,
+            Subcommand::Run => RUN,
+            Subcommand::Shell => SHELL,
+            Subcommand::Check | Subcommand::Info => &[READ],
+            Subcommand::Explain => EXPLAIN,
+            Subcommand::Reach => REACH,
+            Subcommand::Upgrade => UPGRADE,
+            Subcommand::Describe => DESCRIBE,
+            Subcommand::Draw => DRAW,
+        }
+    }
+
+    fn command<'a>(self, alloc: Global) -> Result<Command<'a>, AllocError>
+        ensures { IfOk result (IsCommand (subcommand_app self)) }
+    {
+        let arguments = self.arguments();
+        let mut command = Command::new(alloc, self.name()).about(self.about());
+        for argument in arguments {
+            command = command.arg(argument.arg(alloc))?;
+        }
+        Ok(command)
+    }
+}
+
+// All subcommands, in the order of the help.
+const SUBCOMMANDS: &[Subcommand] = &[
+    Subcommand::Build,
+    Subcommand::Run,
+    Subcommand::Shell,
+    Subcommand::Check,
+    Subcommand::Explain,
+    Subcommand::Info,
+    Subcommand::Reach,
+    Subcommand::Upgrade,
+    Subcommand::Describe,
+    Subcommand::Draw,
+];
 
 // The program, with no subcommand yet.
 fn bare<'a>(alloc: Global) -> Result<Command<'a>, AllocError>
@@ -332,41 +315,13 @@ fn bare<'a>(alloc: Global) -> Result<Command<'a>, AllocError>
     Ok(command)
 }
 
-// The command with a subcommand more, where both were made.
-fn with<'a>(
-    command: Result<Command<'a>, AllocError>,
-    subcommand: Result<Command<'a>, AllocError>,
-) -> Result<Command<'a>, AllocError>
-    ensures { (app sub : App) → IfOk command.entry (IsCommand app) → IfOk subcommand.entry (IsCommand sub)
-        → IfOk result (IsCommand (with_subcommand app sub.top)) }
-{
-    command?.subcommand(subcommand?)
-}
-
-// The program with the subcommands that make and change images.
-fn changing<'a>(alloc: Global) -> Result<Command<'a>, AllocError>
-    ensures { IfOk result (IsCommand changing_app) }
-{
-    let command = with(bare(alloc), build(alloc));
-    let command = with(command, run(alloc));
-    with(command, shell(alloc))
-}
-
-// The program with these and the subcommands that check images.
-fn checking<'a>(alloc: Global) -> Result<Command<'a>, AllocError>
-    ensures { IfOk result (IsCommand checking_app) }
-{
-    let command = with(changing(alloc), check(alloc));
-    let command = with(command, explain(alloc));
-    let command = with(command, info(alloc));
-    with(command, reach(alloc))
-}
-
 /// The command line of `eros`. Fails where memory runs out.
 pub(crate) fn command<'a>(alloc: Global) -> Result<Command<'a>, AllocError>
     ensures { IfOk result (IsCommand eros_app) }
 {
-    let command = with(checking(alloc), upgrade(alloc));
-    let command = with(command, describe(alloc));
-    with(command, draw(alloc))
+    let mut command = bare(alloc)?;
+    for subcommand in SUBCOMMANDS {
+        command = command.subcommand(subcommand.command(alloc)?)?;
+    }
+    Ok(command)
 }
