@@ -26,11 +26,13 @@ pub use Rattle.std.specs.Map.{keys_of, lookup_entry, remove_entry}
 pub use Rattle.std.specs.NonZero.{non_zero_usize_get}
 pub use Rattle.std.specs.Option.{option_map_or}
 pub use Rattle.std.specs.Prelude.{nat_le, nat_lt}
-pub use Rattle.cache_entries.specs.Bodies.{AreBodies, HasRoom, content_at, content_in, kind_at, kind_of, kind_with_root, slots_are_of, slots_from, with_slots_of}
+pub use Rattle.cache_entries.specs.Bodies.{AreBodies, HasRoom, content_at, content_in, kind_at, kind_of, kind_with_root, slots_are_of, slots_from}
+pub use Rattle.cache_entries.specs.Bodies.{with_slots_of}
 pub use Rattle.cache_entries.specs.Bodies.{with_words_of, words_are_of}
 unfoldable pub use Rattle.cache_entries.specs.Bodies.{contents_in}
 pub use Rattle.cache_entries.specs.Entries.{Entry, changing, entry_at}
-pub use Rattle.cache_entries.specs.Order.{AllDiffer, AreLatest, AreOrdered, ArePlaced, AreReordered, AreSpread, AreStored, EntriesState, OrderState, entries_of, entry_in}
+pub use Rattle.cache_entries.specs.Order.{AllDiffer, AreLatest, AreOrdered, ArePlaced, AreReordered, AreSpread, AreStored, EntriesState, OrderState, entries_of}
+pub use Rattle.cache_entries.specs.Order.{entry_in}
 pub use Rattle.cache_entries.specs.Order.{Uses, order_of, place_at, place_below, used_in_turn, used_last, used_longest_ago, with_entry_of, with_new, without}
 pub use Rattle.cache_entries.specs.Order.{without_entry}
 pub use Rattle.cache_entries.specs.declared.bodies.Kind.{Kind}
