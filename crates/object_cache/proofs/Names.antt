@@ -72,7 +72,8 @@ unfoldable pub use Rattle.object_cache.specs.Memory.{contents_in, frozen_in, fro
 pub use Rattle.object_cache.specs.Prepared.{IsRecentIn, UsesSome, on_device_with}
 pub use Rattle.object_cache.specs.PresentLaws.{continues_same, goes_on_same, goes_on_twice}
 pub use Rattle.object_cache.specs.StoreState.{AreAll, AreFrozen, AreInserted, AreTaken, ContinuesIn, GoesOnIn, HaveRoom, HoldBodies, IsAnnouncedIn, IsBounded}
-pub use Rattle.object_cache.specs.StoreState.{IsCache, IsFetchedIn, IsJustOpened, IsOpenOver, IsUnkept, IsWhole, MayPutFrozen, PutsBy, StoreState, TakenState, all_of}
+pub use Rattle.object_cache.specs.StoreState.{IsCache, IsFetchedIn, IsJustOpened, IsOpenOver, IsUnkept, IsWhole, MayPutFrozen, PutsBy, StoreState, TakenState}
+pub use Rattle.object_cache.specs.StoreState.{all_of}
 pub use Rattle.object_cache.specs.StoreState.{bodies_of, cache_of, cached_at, frozen_seen, frozen_state_at, is_kept, on_device, on_device_frozen, parts_of}
 pub use Rattle.object_cache.specs.StoreState.{pending_count, snapshots_of, view_of, with_body, with_cached, with_content_in, without_cached}
 unfoldable pub use Rattle.object_cache.specs.StoreState.{cached_in}

@@ -2,7 +2,8 @@
 use Rattle.object_cache.proofs.Names.{inl, inr, ℕ, List, [], length, Option, Some, None, option_map, refl, sym, ap, subst, arith, cases_lt, length-set}
 use Rattle.object_cache.proofs.Names.{length-append, get_or-set_same, get_or-set_other, get_or_append_left, get_or_at, get_or_past, length-map, none-some}
 use Rattle.object_cache.proofs.Names.{same_Some, Frame, Content, Cap, blank_frame, frame_at, headers, EntriesState, entry_at, new_entry, with_new, AreTaken}
-use Rattle.object_cache.proofs.Names.{AreInserted, HaveRoom, HoldBodies, IsUnkept, TakenState, true, true≢false, changing, with_body, with_entry, is_some, replicate, get_or-replicate, length-replicate, Entry, all_of}
+use Rattle.object_cache.proofs.Names.{AreInserted, HaveRoom, HoldBodies, IsUnkept, TakenState, true, true≢false, changing, with_body, with_entry, is_some}
+use Rattle.object_cache.proofs.Names.{replicate, get_or-replicate, length-replicate, Entry, all_of}
 use Rattle.object_cache.proofs.Names.{AreAll}
 use Rattle.std.proofs.Common.{◌≡◌, ◌<◌, ◌≤◌, ◌+◌, ◌∷◌, ◌++◌, ◌∙◌}
 

@@ -6,7 +6,8 @@ use Rattle.object_cache.specs.Names.{touched_count, untouched, is_member, object
 use Rattle.object_cache.specs.Names.{Broken, Kept, put_at, most, DurableState, FrozenPuts, Stored, GoesOn, saved_state}
 use Rattle.object_cache.specs.Names.{seen_of, stored_of, is_sound, SavedState, Parts, HaveTheirRoles, Snapshots}
 use Rattle.object_cache.specs.Names.{FrozenFrames, View, stabilized, Entry, EntriesState, entry_at, new_entry}
-use Rattle.object_cache.specs.Names.{AllDiffer, changing, with_entry_of, without, nat_le, IsKeepable, HasFreeSlot, held_at, frames_of}
+use Rattle.object_cache.specs.Names.{AllDiffer, changing, with_entry_of, without, nat_le, IsKeepable, HasFreeSlot}
+use Rattle.object_cache.specs.Names.{held_at, frames_of}
 use Rattle.std.specs.Prelude.{◌≡◌, ◌⊎◌, ◌<◌, ◌∷◌, ◌||◌, ◌≤◌, if◌then◌else◌}
 use Rattle.model.specs.declared.object.Role.TheVariants as role
 use Rattle.object_cache.specs.declared.all_objects.AllObjects.{AllObjects}

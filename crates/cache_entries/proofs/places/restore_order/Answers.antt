@@ -7,4 +7,5 @@ loop-place-init c = reordered_none (keys_of c.args.order.now.entries)
 
 pub loop-place-preserved : goal.loop-place-preserved
 loop-place-preserved c =
-    rw c.promote.ensures.entries (reordered_used c.loop-place.place-counter (keys_of c.args.order.now.entries) c.loop-place.order.entries c.loop-place.invariant)
+    rw c.promote.ensures.entries
+    (reordered_used c.loop-place.place-counter (keys_of c.args.order.now.entries) c.loop-place.order.entries c.loop-place.invariant)

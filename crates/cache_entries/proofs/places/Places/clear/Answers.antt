@@ -17,7 +17,8 @@ cleared c =
     rw (← most_is) (none_placed (keys_of c.restore_order.new.order.entries) i.numbers.items c.fill.new.self.items most (length c.args.self.now.places)
     c.self.invariant.some (moved.once c.self.invariant.once) (omega (arith, moved.all, c.self.invariant.all))
     (λ p here. c.self.invariant.known p (sym (moved.members p) ∙ here)) (omega arith)
-    (c.fill.ensures.items (λ y is. is) ∙ ap (λ (k : ℕ). replicate k c.len-most.result) (i.places.ok.0 ∙ count) ∙ ap (replicate (length c.args.self.now.places)) len))
+    (c.fill.ensures.items (λ y is. is) ∙ ap (λ (k : ℕ). replicate k c.len-most.result) (i.places.ok.0 ∙ count)
+    ∙ ap (replicate (length c.args.self.now.places)) len))
 
 pub invariant_of-self : goal.invariant_of-self
 invariant_of-self c = (cleared c).are
