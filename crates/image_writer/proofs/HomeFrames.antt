@@ -1,9 +1,9 @@
 -- Homes are written one after the other.
-use Rattle.image_writer.proofs.Names.{ℕ, zero, suc, Result, Ok, Err, List, length, slice_index_or, inl, inr, ⊎_elim, refl, sym, subst, ap, arith, OnOk}
-use Rattle.image_writer.proofs.Names.{cases_eq, cases_lt, get_or_read, Cap, Frame, ObjectHeader, Content, frame_at, frames_in, header_at, object_count, Image}
-use Rattle.image_writer.proofs.Names.{Elsewhere, Shape, Node, Packed, Page, frame_bytes, home_place, place_length, shape_of, bytes_at, Plan, IsPlan}
-use Rattle.image_writer.proofs.Names.{same_shaped, IsObject, IsOwn, alone, one_before, places_within, places_apart, IsHome, LieAt, frames_before, AreHome}
-use Rattle.std.proofs.Common.{◌≡◌, ◌+◌, ◌-◌, ◌<◌, ◌≤◌, ◌∙◌}
+use Rattle.image_writer.proofs.Names.{ℕ, zero, suc, Result, Ok, Err, List, length, inl, inr, ⊎_elim, refl, sym, subst, ap, arith, OnOk, cases_eq, cases_lt}
+use Rattle.image_writer.proofs.Names.{get_or_read, Cap, Frame, ObjectHeader, Content, frame_at, frames_in, header_at, object_count, Image, Elsewhere, Shape}
+use Rattle.image_writer.proofs.Names.{Node, Packed, Page, frame_bytes, home_place, place_length, shape_of, bytes_at, Plan, IsPlan, same_shaped, IsObject, IsOwn}
+use Rattle.image_writer.proofs.Names.{alone, one_before, places_within, places_apart, IsHome, LieAt, frames_before, AreHome}
+use Rattle.std.proofs.Common.{slice_index_or, ◌≡◌, ◌+◌, ◌-◌, ◌<◌, ◌≤◌, ◌∙◌}
 use Rattle.capability.proofs.FrameLists.{frame_in}
 use Rattle.model.specs.declared.object.Content.TheVariants as content
 

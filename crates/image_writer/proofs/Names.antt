@@ -40,7 +40,7 @@ pub use Rattle.layout.specs.declared.shape.Shape.{Shape}
 pub use Rattle.layout.specs.declared.shape.Shape.TheVariants.{Node, Packed, Page}
 pub use Rattle.layout.specs.declared.version.Version.{Version}
 pub use Rattle.layout.specs.declared.version.Version.TheVariants.{One, Two}
-pub use Rattle.model.specs.Frame.{frame_at, header_at}
+pub use Rattle.model.specs.Frame.{content_behind, frame_at, header_at}
 unfoldable pub use Rattle.model.specs.Frame.{frames_in}
 pub use Rattle.model.specs.Keepable.{AreKeepable}
 pub use Rattle.model.specs.Sound.{object_count}
@@ -50,11 +50,11 @@ pub use Rattle.model.specs.declared.frame.ObjectHeader.{ObjectHeader}
 pub use Rattle.model.specs.declared.geometry.Geometry.{Geometry}
 pub use Rattle.model.specs.declared.object.Content.{Content}
 pub use Rattle.std.proofs.Common.{Bool, Err, List, None, Ok, Option, Result, Some, [], ap, append_assoc, arith, drop, false, get_or, inl, inr, length, map}
-pub use Rattle.std.proofs.Common.{nat_lt, refl, rules, set, slice_index_or, subst, suc, sym, take, true, zero, ℕ, ⊎_elim}
+pub use Rattle.std.proofs.Common.{nat_lt, refl, rules, set, subst, suc, sym, take, true, zero, ℕ, ⊎_elim}
 pub use Rattle.std.proofs.lemmas.Bool.{cases_eq, cases_lt, false≢true, le-ltb, lt-ltb}
 pub use Rattle.std.proofs.lemmas.List.{append-nil, drop_all, drop_more, get_or_read, length-map, length-set, take_all, take_more_set}
 pub use Rattle.std.specs.List.{All}
-pub use Rattle.std.specs.Prelude.{OnOk}
+pub use Rattle.std.specs.Prelude.{OnOk, slice_index_or}
 pub use Rattle.image_writer.specs.Homes.{AreFramesOf, IsHome, LieAt, frames_before}
 pub use Rattle.image_writer.specs.Laid.{MayBeLaid, half_length, numbers_of, placed, plan_from, sectors_of}
 unfoldable pub use Rattle.image_writer.specs.Laid.{behind, laid}

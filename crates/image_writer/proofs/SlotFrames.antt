@@ -4,9 +4,8 @@ use Rattle.image_writer.proofs.Names.{Frame, ObjectHeader, Content, frame_at, fr
 use Rattle.image_writer.proofs.Names.{directory_bytes, entry_at, frame_bytes, home_place, place_length, shape_of, bytes_at, directory_in, directory_length}
 use Rattle.image_writer.proofs.Names.{directory_sector, frame_in, half_sector, frame_slot_in, sectors_from, slot_sector, shape_bytes, shape_length, Plan}
 use Rattle.image_writer.proofs.Names.{IsPlan, half_extent, half_within, few_sectors, same_shaped, IsObject, IsOwn, one_length, places_spare_log}
-use Rattle.image_writer.proofs.Names.{frame_slot_entry, begins, AreFramesOf, LieAt, AreHome, AreInSlots}
+use Rattle.image_writer.proofs.Names.{frame_slot_entry, begins, AreFramesOf, LieAt, AreHome, AreInSlots, slice_index_or}
 use Rattle.std.proofs.Common.{◌≡◌, ◌+◌, ◌-◌, ◌*◌, ◌/◌, ◌<◌, ◌≤◌, ◌∙◌}
-use Rattle.std.specs.Prelude.{slice_index_or}
 use Rattle.image_writer.proofs.HomeFrames.{own_at}
 
 -- ---- the slot of one entry

@@ -89,15 +89,7 @@ fn write_entry<D: Device>(
         Shape::Packed(rank) => write_cluster(
             device, log, home, generation, entry, rank, headers, contents,
         ),
-        Shape::Node => log.write_slot(
-            device,
-            generation,
-            slot,
-            object,
-            headers[at],
-            contents[at].as_ref(),
-        ),
-        Shape::Page => log.write_slot(
+        Shape::Node | Shape::Page => log.write_slot(
             device,
             generation,
             slot,

@@ -1,5 +1,4 @@
-use Rattle.image_writer.proofs.Names.{arith, node_end}
-use Rattle.model.specs.Frame.{content_behind}
+use Rattle.image_writer.proofs.Names.{arith, node_end, content_behind}
 use Rattle.image_writer.proofs.clusters.put_node.Goals as goal
 
 pub pack_node-requires-clause-end : goal.pack_node-requires-clause-end
