@@ -72,7 +72,6 @@ pub fn store<F: PresentFrames>(
 }
 
 // The page that a reference of a process reaches.
-#[inline(always)]
 fn reach<F: Frames>(
     frames: &mut F,
     process: u64,

@@ -9,8 +9,6 @@ use Rattle.model.specs.declared.answer.Refusal.TheVariants as refusal
 use Rattle.model.specs.declared.object.Content.TheVariants as content
 use Rattle.capability.specs.declared.present.Fresh.{Fresh}
 use Rattle.capability.specs.declared.present.Fresh.TheVariants as fresh
-use Rattle.capability.specs.declared.present.ReadFault.{ReadFault}
-use Rattle.capability.specs.declared.present.ReadFault.TheVariants as read
 
 -- what a store of present frames is made of: a header and a content for each number, which numbers were
 -- written since the last checkpoint, and how often the device failed
@@ -120,13 +118,20 @@ pub record FetchesOrFails {S T : Type 0} (parts : S → Parts) (Continues : S �
   pub later : (parts old).failures ≤ (parts new).failures
   pub cause : IsErr result ↔ ((parts old).failures < (parts new).failures)
 
+-- a refusal to read objects: memory ran out, or the device failed
+abbrev pub IsUnread : Refusal → Type 0
+IsUnread refusal.NoMemory = Unit {0}
+IsUnread refusal.Fault = Unit {0}
+IsUnread _ = ⊥
+
 -- Frames were fetched for a call that may want memory or fail, and nothing else came of it. The parameters are
 -- ghost members of frames.
 pub record OnlyReads {S T : Type 0} (parts : S → Parts) (Continues : S → S → Type 0) (old new : S)
-    (result : Result T ReadFault) : Type 0 where
+    (result : Result T Refusal) : Type 0 where
   pub snapshots : OnlyFetches parts Continues old new
   pub later : (parts old).failures ≤ (parts new).failures
-  pub cause : IsErrOf result read.Failed ↔ ((parts old).failures < (parts new).failures)
+  pub refusals : IfErr result IsUnread
+  pub cause : IsErrOf result refusal.Fault ↔ ((parts old).failures < (parts new).failures)
 
 -- a refusal to prepare objects: the log is full, or the device failed
 abbrev pub IsUnprepared : Refusal → Type 0
@@ -134,7 +139,7 @@ IsUnprepared refusal.LogFull = Unit {0}
 IsUnprepared refusal.Fault = Unit {0}
 IsUnprepared _ = ⊥
 
--- Frames were fetched, and numbers announced that are to be written; after a refusal none of them is. The parameters are
+-- Frames were fetched, and numbers announced that are to be written; after a refusal none is. The parameters are
 -- ghost members of a store of present frames.
 pub record Prepares {S T : Type 0} (parts : S → Parts) (Continues : S → S → Type 0) (old new : S) (written : List ℕ)
     (result : Result T Refusal) : Type 0 where

@@ -13,5 +13,5 @@ pub mod view;
 pub use model::{Access, Cap, Capability};
 pub use order::{BankChange, Caller, Change, OrderPlan, Reply};
 pub use plain::Plain;
-pub use present::{Frames, Fresh, MAX_FETCHED, PresentFrames, ReadFault, RootChange};
+pub use present::{Frames, Fresh, MAX_FETCHED, PresentFrames, RootChange};
 pub use table::ObjectTable;

@@ -13,39 +13,9 @@ ghost use Rattle.capability.specs.Parts.{Becomes, IsUnprepared, OnlyFetches};
 use crate::table::ObjectTable;
 use device::Failed;
 use model::{Cap, ContentRef, Geometry, Refusal, Role, Root, State};
-use std::alloc::AllocError;
 
 /// How many frames can be fetched at a time.
 pub const MAX_FETCHED: usize = 8;
-
-/// Why something that takes memory wasn't read.
-#[derive(Clone, Copy, PartialEq, Eq, Debug)]
-pub enum ReadFault {
-    /// Memory ran out.
-    NoMemory,
-    /// The device failed.
-    Failed,
-}
-
-impl From<Failed> for ReadFault {
-    ghost use Rattle.capability.specs.declared.present.ReadFault.TheVariants as read;
-
-    ghost from_gives = { λ _ e. e ≡ read.Failed };
-
-    fn from(_failed: Failed) -> ReadFault {
-        ReadFault::Failed
-    }
-}
-
-impl From<AllocError> for ReadFault {
-    ghost use Rattle.capability.specs.declared.present.ReadFault.TheVariants as read;
-
-    ghost from_gives = { λ _ e. e ≡ read.NoMemory };
-
-    fn from(_error: AllocError) -> ReadFault {
-        ReadFault::NoMemory
-    }
-}
 
 /// What a free number becomes.
 #[derive(Clone, Copy, PartialEq, Eq, Debug)]

@@ -10,8 +10,8 @@ ghost use Rattle.consistency.specs.Consistency.{role_at};
 
 use crate::reason::Unbanked;
 use crate::table::{has_role, owner};
-use capability::{Frames, ReadFault};
-use model::Role;
+use capability::Frames;
+use model::{Refusal, Role};
 use space_bank::{count_usages, is_in_chain, read_limits};
 use std::alloc::Global;
 
@@ -86,7 +86,7 @@ fn find_above_limit<F: Frames>(store: &F, usages: &[u64], limits: &[u64]) -> Opt
 /// fetched one at a time for their limits.
 ///
 /// `NoMemory` if memory ran out, and `Failed` exactly if the device failed. No object changes.
-pub fn find_unbanked<F: Frames>(alloc: Global, store: &mut F) -> Result<Option<Unbanked>, ReadFault>
+pub fn find_unbanked<F: Frames>(alloc: Global, store: &mut F) -> Result<Option<Unbanked>, Refusal>
     requires { AreKeepable (F.parts store.old).geometry u64.MAX (frames_of (F.parts store.old)) }
     ensures found { let frames = frames_of (F.parts store.old) in IfOk result (λ found.
         MatchOption found (AreBanked frames) (λ why. IsUnbanked frames why)) }

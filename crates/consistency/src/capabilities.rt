@@ -9,8 +9,8 @@ ghost use Rattle.consistency.specs.Noted.{AreNoted};
 
 use crate::processes::{Noted, is_waiting};
 use crate::table::has_role;
-use capability::{Frames, ReadFault};
-use model::{Cap, Capability, ContentRef, Role};
+use capability::Frames;
+use model::{Cap, Capability, ContentRef, Refusal, Role};
 
 /// Whether the object that a capability names is what the capability is for.
 #[inline(always)]
@@ -90,7 +90,7 @@ fn has_named<F: Frames>(
     store: &mut F,
     notes: &[Option<Noted>],
     number: u64,
-) -> Result<bool, ReadFault>
+) -> Result<bool, Refusal>
     requires known { number < length (F.parts store.old).headers }
     requires keepable { AreKeepable (F.parts store.old).geometry u64.MAX
         (frames_of (F.parts store.old)) }
@@ -108,10 +108,7 @@ fn has_named<F: Frames>(
 
 /// Whether each capability that an object holds has no greater count than the object that it names,
 /// and where the counts are the same names what it is for. Objects are fetched one at a time.
-pub(crate) fn are_named<F: Frames>(
-    store: &mut F,
-    notes: &[Option<Noted>],
-) -> Result<bool, ReadFault>
+pub(crate) fn are_named<F: Frames>(store: &mut F, notes: &[Option<Noted>]) -> Result<bool, Refusal>
     requires keepable { AreKeepable (F.parts store.old).geometry u64.MAX
         (frames_of (F.parts store.old)) }
     requires notes { AreNoted (frames_of (F.parts store.old)) notes.now }

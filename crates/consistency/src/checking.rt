@@ -7,13 +7,14 @@ ghost use Rattle.consistency.specs.Consistency.{IsInconsistent, Tells};
 use crate::banks::find_unbanked;
 use crate::capabilities::are_named;
 use crate::processes::{are_whole, read_notes};
-use capability::{Frames, ReadFault};
+use capability::Frames;
 use checkpoint::OpenFault;
 use layout::BadImage;
+use model::Refusal;
 use std::alloc::Global;
 
 // The least reason why frames that can be kept are inconsistent, if there is one.
-fn reason<F: Frames>(alloc: Global, store: &mut F) -> Result<Option<BadImage>, ReadFault>
+fn reason<F: Frames>(alloc: Global, store: &mut F) -> Result<Option<BadImage>, Refusal>
     requires { AreKeepable (F.parts store.old).geometry u64.MAX (frames_of (F.parts store.old)) }
     ensures tells { IfOk result (λ why. Tells (frames_of (F.parts store.old)) why) }
     ensures only_reads { OnlyReads F.parts F.ContinuesTo store.old store.new result }
@@ -31,14 +32,15 @@ fn reason<F: Frames>(alloc: Global, store: &mut F) -> Result<Option<BadImage>, R
     }
 }
 
-/// The fault of opening a device whose objects can't be read.
-pub fn opening_fault(fault: ReadFault) -> OpenFault
-    ensures failed { (result ≡ OpenFault.Failed) ↔ (fault ≡ ReadFault.Failed) }
+/// The fault of opening a device whose objects can't be read: want of memory, unless the device
+/// failed.
+pub fn opening_fault(why: Refusal) -> OpenFault
+    ensures failed { (result ≡ OpenFault.Failed) ↔ (why ≡ Refusal.Fault) }
     ensures no_reason { (why : BadImage) → result ≡ OpenFault.Bad why → ⊥ }
 {
-    match fault {
-        ReadFault::NoMemory => OpenFault::NoMemory,
-        ReadFault::Failed => OpenFault::Failed,
+    match why {
+        Refusal::Fault => OpenFault::Failed,
+        _ => OpenFault::NoMemory,
     }
 }
 

@@ -8,8 +8,8 @@ ghost use Rattle.consistency.specs.Consistency.{AreWholeProcesses, IsAnnexFor, r
 ghost use Rattle.consistency.specs.Noted.{AreNoted, AreTaken, is_taken, noted_in, waits_at, IsTaking};
 
 use crate::table::{has_role, owner};
-use capability::{Frames, ReadFault};
-use model::{ContentRef, Role, State};
+use capability::Frames;
+use model::{ContentRef, Refusal, Role, State};
 use std::alloc::{AllocError, Global};
 
 /// What is noted of the root of a process, which may not stay in memory.
@@ -43,7 +43,7 @@ fn note_there<F: Frames>(store: &F, number: u64) -> Option<Noted>
 }
 
 // What is noted of an object. A root is fetched for it.
-fn read_note<F: Frames>(store: &mut F, number: u64) -> Result<Option<Noted>, ReadFault>
+fn read_note<F: Frames>(store: &mut F, number: u64) -> Result<Option<Noted>, Refusal>
     requires known { number < length (F.parts store.old).headers }
     requires keepable { AreKeepable (F.parts store.old).geometry u64.MAX
         (frames_of (F.parts store.old)) }
@@ -59,7 +59,7 @@ fn read_note<F: Frames>(store: &mut F, number: u64) -> Result<Option<Noted>, Rea
 }
 
 /// Notes of all objects by number, nothing of what is no root. Each root is fetched, one at a time.
-pub fn read_notes<F: Frames>(alloc: Global, store: &mut F) -> Result<Vec<Option<Noted>>, ReadFault>
+pub fn read_notes<F: Frames>(alloc: Global, store: &mut F) -> Result<Vec<Option<Noted>>, Refusal>
     requires { AreKeepable (F.parts store.old).geometry u64.MAX (frames_of (F.parts store.old)) }
     ensures notes { IfOk result (λ notes.
         AreNoted (frames_of (F.parts store.old)) notes.items) }

@@ -8,10 +8,11 @@ ghost use Rattle.image_describer.specs.DescribedEntry.{HasNoObjects, IsSameBesid
 
 use crate::adding::add;
 use crate::objects::DescribedEntry;
-use capability::{Frames, ReadFault};
+use capability::Frames;
 use description::Description;
 use image_writer::NumberRange;
 use layout::Version;
+use model::Refusal;
 use std::alloc::Global;
 
 // Describes all objects of a kind, in order. It is `Failed` exactly where the device failed; so is
@@ -20,7 +21,7 @@ fn tell_all<F: Frames, E: DescribedEntry>(
     alloc: Global,
     store: &mut F,
     entries: &mut Vec<E>,
-) -> Result<(), ReadFault>
+) -> Result<(), Refusal>
     requires sound { AreSound (F.parts store.old) }
     requires none { entries.old.items ≡ [] }
     ensures entry_of { let objects = objects_in (F.parts store.old) in
@@ -39,7 +40,7 @@ fn tell_objects<F: Frames>(
     alloc: Global,
     store: &mut F,
     description: &mut Description,
-) -> Result<(), ReadFault>
+) -> Result<(), Refusal>
     requires sound { AreSound (F.parts store.old) }
     requires none { HasNoObjects description.old }
     ensures entry_of { OnOk result (TellsObjects (objects_in (F.parts store.old)) description.new) }
@@ -64,7 +65,7 @@ pub fn describe<F: Frames>(
     age: u64,
     ranges: Vec<NumberRange>,
     version: Version,
-) -> Result<Description, ReadFault>
+) -> Result<Description, Refusal>
     requires { IsSoundFrames (F.parts store.old).geometry age (frames_of (F.parts store.old)) }
     ensures describes { let parts = F.parts store.old in
         IfOk result (Describes parts.geometry (world_at age (frames_of parts))) }

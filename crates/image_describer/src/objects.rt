@@ -11,9 +11,9 @@ ghost use Rattle.image_describer.specs.Describes.{NamesSlots};
 ghost use Rattle.image_describer.specs.DescribedEntry.{MayTell, TellsBank, TellsNode, TellsPage, TellsProcess};
 
 use crate::entries::{slot_entries, word_entries};
-use capability::{Frames, ReadFault, view};
+use capability::{Frames, view};
 use description::{BankEntry, NodeEntry, PageEntry, ProcessEntry, SlotEntry};
-use model::{Content, Object, Role};
+use model::{Content, Object, Refusal, Role};
 use std::alloc::Global;
 
 // Whether an object is of a kind, by the table of headers. Nothing is fetched.
@@ -26,7 +26,7 @@ fn has_role<F: Frames>(store: &F, number: u64, role: Role) -> bool
 }
 
 // An object, fetched, its stale capabilities void.
-fn object<F: Frames>(alloc: Global, store: &mut F, number: u64) -> Result<Object, ReadFault>
+fn object<F: Frames>(alloc: Global, store: &mut F, number: u64) -> Result<Object, Refusal>
     requires sound { AreSound (F.parts store.old) }
     requires known { number < length (F.parts store.old).headers }
     ensures object { IfOk result (λ object.
@@ -38,11 +38,7 @@ fn object<F: Frames>(alloc: Global, store: &mut F, number: u64) -> Result<Object
 }
 
 // The registers of a process that aren't void, by its annex, which is fetched.
-fn registers<F: Frames>(
-    alloc: Global,
-    store: &mut F,
-    annex: u64,
-) -> Result<Vec<SlotEntry>, ReadFault>
+fn registers<F: Frames>(alloc: Global, store: &mut F, annex: u64) -> Result<Vec<SlotEntry>, Refusal>
     requires sound { AreSound (F.parts store.old) }
     requires annex { IsTrue (is_annex
         (content_at (objects_in (F.parts store.old)) annex)) }
@@ -71,7 +67,7 @@ pub(crate) trait DescribedEntry: Drop {
         alloc: Global,
         store: &mut F,
         number: u64,
-    ) -> Result<Option<Self>, ReadFault>
+    ) -> Result<Option<Self>, Refusal>
         requires sound { AreSound (F.parts store.old) }
         requires known { number < length (F.parts store.old).headers }
         ensures entry_of { let objects = objects_in (F.parts store.old) in
@@ -95,7 +91,7 @@ impl DescribedEntry for BankEntry {
         alloc: Global,
         store: &mut F,
         number: u64,
-    ) -> Result<Option<BankEntry>, ReadFault> {
+    ) -> Result<Option<BankEntry>, Refusal> {
         if !has_role(store, number, Role::Bank) {
             return Ok(None);
         }
@@ -125,7 +121,7 @@ impl DescribedEntry for ProcessEntry {
         alloc: Global,
         store: &mut F,
         number: u64,
-    ) -> Result<Option<ProcessEntry>, ReadFault> {
+    ) -> Result<Option<ProcessEntry>, Refusal> {
         if !has_role(store, number, Role::Root) {
             return Ok(None);
         }
@@ -161,7 +157,7 @@ impl DescribedEntry for NodeEntry {
         alloc: Global,
         store: &mut F,
         number: u64,
-    ) -> Result<Option<NodeEntry>, ReadFault> {
+    ) -> Result<Option<NodeEntry>, Refusal> {
         if !has_role(store, number, Role::Node) {
             return Ok(None);
         }
@@ -191,7 +187,7 @@ impl DescribedEntry for PageEntry {
         alloc: Global,
         store: &mut F,
         number: u64,
-    ) -> Result<Option<PageEntry>, ReadFault> {
+    ) -> Result<Option<PageEntry>, Refusal> {
         if !has_role(store, number, Role::Page) {
             return Ok(None);
         }

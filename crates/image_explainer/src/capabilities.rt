@@ -10,9 +10,9 @@ ghost use Rattle.image_explainer.specs.Breaking.{IsMisnamed};
 ghost use Rattle.image_explainer.specs.Finding.{NamesOr};
 
 use crate::fault::Misnamed;
-use capability::{Frames, ReadFault};
+use capability::Frames;
 use consistency::{Noted, is_named};
-use model::{Cap, ContentRef};
+use model::{Cap, ContentRef, Refusal};
 
 // The first of the capabilities that an object holds, which are these, that names what it can't.
 fn find_in<F: Frames>(
@@ -61,7 +61,7 @@ fn find_at<F: Frames>(
     store: &mut F,
     notes: &[Option<Noted>],
     number: u64,
-) -> Result<Option<Misnamed>, ReadFault>
+) -> Result<Option<Misnamed>, Refusal>
     requires known { number < length (F.parts store.old).headers }
     requires keepable { AreKeepable (F.parts store.old).geometry u64.MAX
         (frames_of (F.parts store.old)) }
@@ -80,7 +80,7 @@ fn find_at<F: Frames>(
 pub(crate) fn find_misnamed<F: Frames>(
     store: &mut F,
     notes: &[Option<Noted>],
-) -> Result<Option<Misnamed>, ReadFault>
+) -> Result<Option<Misnamed>, Refusal>
     requires keepable { AreKeepable (F.parts store.old).geometry u64.MAX
         (frames_of (F.parts store.old)) }
     requires notes { AreNoted (frames_of (F.parts store.old)) notes.now }

@@ -7,12 +7,13 @@ ghost use Rattle.image_explainer.specs.Finding.{IsConsistentOr};
 use crate::capabilities::find_misnamed;
 use crate::fault::ImageFault;
 use crate::processes::find_unmatched;
-use capability::{Frames, ReadFault};
+use capability::Frames;
 use consistency::{find_unbanked, read_notes};
+use model::Refusal;
 use std::alloc::Global;
 
 // What is wrong with frames that can be kept at any age.
-fn find_fault<F: Frames>(alloc: Global, store: &mut F) -> Result<Option<ImageFault>, ReadFault>
+fn find_fault<F: Frames>(alloc: Global, store: &mut F) -> Result<Option<ImageFault>, Refusal>
     requires { AreKeepable (F.parts store.old).geometry u64.MAX (frames_of (F.parts store.old)) }
     ensures found { IfOk result (IsConsistentOr (frames_of (F.parts store.old))) }
     ensures only_reads { OnlyReads F.parts F.ContinuesTo store.old store.new result }
@@ -36,7 +37,7 @@ pub(crate) fn find_in_objects<F: Frames>(
     alloc: Global,
     store: &mut F,
     age: u64,
-) -> Result<Option<ImageFault>, ReadFault>
+) -> Result<Option<ImageFault>, Refusal>
     requires keepable { AreKeepable (F.parts store.old).geometry age
         (frames_of (F.parts store.old)) }
     requires most { age ≤ 2 ^ 62 }

@@ -2,8 +2,7 @@
 pub use Rattle.address_space.specs.References.{IsLoaded, IsStored, KeepsSound, OverfillsStore}
 pub use Rattle.capability.proofs.FrameLists.{at_set, frame_in, headers_in, process_known}
 pub use Rattle.capability.proofs.Keeping.{keepable_count, keepable_later}
-pub use Rattle.capability.specs.Parts.{FetchesOrFails, IsUnchanged, IsUnprepared, OnlyFetches, Parts, Renews, frames_of, objects_in}
-pub use Rattle.capability.specs.declared.present.ReadFault.{ReadFault}
+pub use Rattle.capability.specs.Parts.{FetchesOrFails, IsUnchanged, IsUnprepared, IsUnread, OnlyFetches, Parts, Renews, frames_of, objects_in}
 pub use Rattle.checkpoint.proofs.Lists.{maps_same}
 pub use Rattle.checkpoint.specs.Refused.{IsCommitAnswer, IsFreezeAnswer, IsJournalAnswer, IsRefused, IsTurnedAway}
 pub use Rattle.checkpoint.specs.Saved.{Holds, LeavesEither, LeavesOneOf, LeavesSaved, SavedFrames, home_saved, journaled_saved, most, with_words}

@@ -3,12 +3,11 @@ use Rattle.kernel.proofs.Names.{ℕ, Bool, true, false, List, length, Option, Re
 use Rattle.kernel.proofs.Names.{Frame, Geometry, Object, ResultCode, ObjectHeader, frames_in, header_at, objects_of, IsSoundFrames, world_at, Frozen, Saved}
 use Rattle.kernel.proofs.Names.{Machine, Up, renewing, touching, touched_count, is_free, Step, shown, content_at, is_process, is_running_process, none_given_up}
 use Rattle.kernel.proofs.Names.{renewing_none, Parts, Renews, frames_of, objects_in, keepable_count, IsErr, IsErrOf, Invoked, Invokes, KeepsSoundFrames}
-use Rattle.kernel.proofs.Names.{TellsState, Failed, renews_after, renews_none, Performs, machine_at, renewed_by, ReadFault}
+use Rattle.kernel.proofs.Names.{TellsState, Failed, renews_after, renews_none, Performs, machine_at, renewed_by, IsUnread}
 use Rattle.std.proofs.Common.{◌≡◌, ◌↔◌, ◌+◌, ◌^◌, ◌<◌, ◌≤◌, ◌∙◌}
 use Rattle.model.specs.declared.answer.Answer.TheVariants as answer
 use Rattle.model.specs.declared.answer.Refusal.TheVariants as refusal
 use Rattle.model.specs.declared.command.Command.TheVariants as command
-use Rattle.capability.specs.declared.present.ReadFault.TheVariants as read
 use Rattle.kernel.proofs.ProcessSteps.{bad_number_step, early_step, full_step, invoke_step, show_no_memory, show_step, stalled_step}
 
 -- the same parts but for failures
@@ -186,18 +185,24 @@ module _ (age : ℕ) (old new : Parts) (n : ℕ) (same : AreSame old new) (sound
       (λ renewed frozen saved to_move other. bad_number_step old.geometry _ n
       (subst (λ (m : ℕ). m ≤ n) (keepable_count old.geometry age old sound.keepable) past))
 
-  pub show_no_memory_serves : n < length old.headers → (old.failures < new.failures → ⊥) → Performs age old (command.Show n) (answer.Refused refusal.NoMemory)
-      age new
+  show_no_memory_serves : n < length old.headers → (old.failures < new.failures → ⊥) → Performs age old (command.Show n) (answer.Refused refusal.NoMemory) age
+      new
   show_no_memory_serves known stayed =
       refused_serves same sound later (reported_cause refusal.NoMemory (λ e. cc) stayed) (λ renewed frozen saved to_move other. show_no_memory old.geometry _ n
       (subst (λ (m : ℕ). n < m) (keepable_count old.geometry age old sound.keepable) known))
 
--- what a fault of a read isn't
-pub shown_unfailed : (a : Answer) → (let r : Result Answer ReadFault = Ok a in IsErrOf r read.Failed) → ⊥
-shown_unfailed a e = cc
+  -- nothing is shown
+  pub unshown_serves : n < length old.headers → (why : Refusal) → IsUnread why →
+      (let r : Result Answer Refusal = Err why in IsErrOf r refusal.Fault ↔ (old.failures < new.failures)) →
+      Performs age old (command.Show n) (answer.Refused why) age new
+  unshown_serves known refusal.NoMemory of cause = show_no_memory_serves known (λ rose. let failed = cause.1 rose in cc)
+  unshown_serves known refusal.Fault of cause =
+      refused_serves same sound later (λ e. cause.0 refl, λ rose. refl) (λ renewed frozen saved to_move other. absurd (other refl))
+  unshown_serves known c of cause = absurd of
 
-pub unread_unfailed : (f : ReadFault) → f ≡ read.NoMemory → (let r : Result Answer ReadFault = Err f in IsErrOf r read.Failed) → ⊥
-unread_unfailed f is e = let d : f ≡ read.Failed = cc in cc
+-- what a read isn't
+pub shown_unfailed : (a : Answer) → (let r : Result Answer Refusal = Ok a in IsErrOf r refusal.Fault) → ⊥
+shown_unfailed a e = cc
 
 -- where a call succeeds no count rises
 pub ok_stayed : {X : Type 0} (early : Option Refusal) → (let r : Result (Option Refusal) Failed = Ok early in IsErr r ↔ X) → X → ⊥

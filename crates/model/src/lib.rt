@@ -10,6 +10,7 @@ pub mod geometry;
 pub mod line;
 pub mod object;
 pub mod order;
+mod want;
 
 pub use access::Access;
 pub use answer::{Answer, Description, MemoryFault, Refusal, Shown, Unjournaled};

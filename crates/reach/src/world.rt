@@ -3,12 +3,12 @@ ghost use Rattle.std.specs.Prelude.{◌≡◌, ◌<◌, length, IfOk};
 ghost use Rattle.model.specs.World.{object_at};
 ghost use Rattle.capability.specs.Parts.{AreSound, OnlyReads, objects_in};
 
-use capability::{Frames, ReadFault, view};
-use model::Object;
+use capability::{Frames, view};
+use model::{Object, Refusal};
 use std::alloc::Global;
 
 // An object, fetched, its stale capabilities void.
-fn object<F: Frames>(alloc: Global, store: &mut F, number: u64) -> Result<Object, ReadFault>
+fn object<F: Frames>(alloc: Global, store: &mut F, number: u64) -> Result<Object, Refusal>
     requires sound { AreSound (F.parts store.old) }
     requires known { number < length (F.parts store.old).headers }
     ensures object { IfOk result (λ object. object ≡ object_at (objects_in (F.parts store.old)) number) }
@@ -21,7 +21,7 @@ fn object<F: Frames>(alloc: Global, store: &mut F, number: u64) -> Result<Object
 /// All objects of a store, by number. Each is fetched, and none is changed.
 ///
 /// `NoMemory` if memory runs out, and `Failed` exactly if the device fails.
-pub fn read_objects<F: Frames>(alloc: Global, store: &mut F) -> Result<Vec<Object>, ReadFault>
+pub fn read_objects<F: Frames>(alloc: Global, store: &mut F) -> Result<Vec<Object>, Refusal>
     requires { AreSound (F.parts store.old) }
     ensures objects { IfOk result (λ objects. objects.items ≡ objects_in (F.parts store.old)) }
     ensures only_reads { OnlyReads F.parts F.ContinuesTo store.old store.new result }
@@ -30,7 +30,7 @@ pub fn read_objects<F: Frames>(alloc: Global, store: &mut F) -> Result<Vec<Objec
     for number in 0..store.table().count() {
         let object = object(alloc, store, number)?;
         if objects.push(object).is_err() {
-            return Err(ReadFault::NoMemory);
+            return Err(Refusal::NoMemory);
         }
     }
     Ok(objects)

@@ -14,9 +14,9 @@ ghost use Rattle.space_bank.specs.Counting.{AreKept, AreMarked, kept_number};
 use crate::banks::Banks;
 use crate::chains::shift;
 use crate::walking::{is_free, owner};
-use capability::{Frames, ReadFault, objects, roots};
+use capability::{Frames, objects, roots};
 use device::Failed;
-use model::{ContentRef, Role};
+use model::{ContentRef, Refusal, Role};
 use number_set::NumberSet;
 use std::alloc::{AllocError, Global};
 
@@ -72,7 +72,7 @@ pub fn read_numbers<F: Frames>(
     store: &mut F,
     count: u64,
     role: Role,
-) -> Result<Vec<u64>, ReadFault>
+) -> Result<Vec<u64>, Refusal>
     requires known { count ≤ length (F.parts store.old).headers }
     requires keepable { AreKeepable (F.parts store.old).geometry u64.MAX
         (frames_of (F.parts store.old)) }
@@ -92,11 +92,7 @@ pub fn read_numbers<F: Frames>(
 /// one at a time; nothing else is.
 ///
 /// `NoMemory` if memory ran out, and `Failed` exactly if the device failed. No object changes.
-pub fn read_limits<F: Frames>(
-    alloc: Global,
-    store: &mut F,
-    count: u64,
-) -> Result<Vec<u64>, ReadFault>
+pub fn read_limits<F: Frames>(alloc: Global, store: &mut F, count: u64) -> Result<Vec<u64>, Refusal>
     requires known { count ≤ length (F.parts store.old).headers }
     requires keepable { AreKeepable (F.parts store.old).geometry u64.MAX
         (frames_of (F.parts store.old)) }
@@ -172,7 +168,7 @@ impl Banks {
     ///
     /// Takes all the memory that any order will need; no other call takes any. `NoMemory` if memory
     /// ran out, and `Failed` exactly if the device failed. No object changes.
-    pub fn count<F: Frames>(alloc: Global, store: &mut F) -> Result<Banks, ReadFault>
+    pub fn count<F: Frames>(alloc: Global, store: &mut F) -> Result<Banks, Refusal>
         requires sound { AreSound (F.parts store.old) }
         ensures counted { IfOk result (AreCounted (F.parts store.old).geometry
             (objects_in (F.parts store.old))) }

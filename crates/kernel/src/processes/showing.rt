@@ -9,7 +9,8 @@ ghost use Rattle.capability.specs.Parts.{OnlyReads, OnlyFetches, frames_of, obje
 ghost use Rattle.space_bank.specs.Banks.{AreCounted};
 ghost use Rattle.kernel.specs.Machine.{IsReportedOnce, IsUnlooked, Performs, answer_of};
 
-use capability::{Frames, ReadFault, view};
+use crate::checkpoints::refused;
+use capability::{Frames, view};
 use device::Failed;
 use model::{Answer, Capability, Content, Description, Refusal, Shown, Slots};
 use space_bank::Banks;
@@ -30,7 +31,7 @@ fn registers_of<F: Frames>(
     alloc: Global,
     store: &mut F,
     annex: u64,
-) -> Result<Slots<Capability>, ReadFault>
+) -> Result<Slots<Capability>, Refusal>
     requires keepable { AreKeepable (F.parts store.old).geometry u64.MAX
         (frames_of (F.parts store.old)) }
     requires annex { IsTrue (is_annex
@@ -51,7 +52,7 @@ fn shown<F: Frames>(
     banks: &Banks,
     age: u64,
     number: u64,
-) -> Result<Answer, ReadFault>
+) -> Result<Answer, Refusal>
     requires sound { IsSoundFrames (F.parts store.old).geometry age
         (frames_of (F.parts store.old)) }
     requires counted { AreCounted (F.parts store.old).geometry
@@ -102,7 +103,6 @@ pub fn show<F: Frames>(
     }
     match shown(alloc, store, banks, age, number) {
         Ok(answer) => Ok(answer),
-        Err(ReadFault::NoMemory) => Ok(Answer::Refused(Refusal::NoMemory)),
-        Err(ReadFault::Failed) => Err(Failed),
+        Err(why) => refused(why),
     }
 }

@@ -39,7 +39,8 @@ returns-in-Page-clause-reached g c =
     let os = objects_in (g.F.Frames.parts c.args.frames.now) in
     let at = c.loop-object.at in
     rw (c.at.ensures, c.union.ensures) (sym (c.loop-object.invariant.way ∙ at_page os at.node at.height c.args.index at.access
-    c.in_ok-next_slot.field-0 c.loop-object.invariant.held.0.0 (read_there c.loop-object.invariant _ _ c.in_ok-next_slot.ensures.slot) c.in-Page.object c.in-Page.access c.in-Page.is (omega (arith, c.if-at-ne1.false))))
+    c.in_ok-next_slot.field-0 c.loop-object.invariant.held.0.0 (read_there c.loop-object.invariant _ _ c.in_ok-next_slot.ensures.slot)
+    c.in-Page.object c.in-Page.access c.in-Page.is (omega (arith, c.if-at-ne1.false))))
 
 pub returns-then-at-height-clause-reached : goal.returns-then-at-height-clause-reached
 returns-then-at-height-clause-reached g c =

@@ -1,6 +1,6 @@
 use Rattle.kernel.proofs.Names.{ℕ, List, length, refl, ap, subst, arith, ObjectHeader, objects_in}
 use Rattle.std.proofs.Common.{◌≡◌, ◌≤◌, ◌<◌, ◌∙◌}
-use Rattle.kernel.proofs.Performing.{AreSame, bad_number_serves, show_no_memory_serves, shown_fine, shown_serves, shown_unfailed, unread_unfailed}
+use Rattle.kernel.proofs.Performing.{AreSame, bad_number_serves, shown_fine, shown_serves, shown_unfailed, unshown_serves}
 use Rattle.kernel.proofs.processes.showing.show.Goals as goal
 
 pub returns-then-number-count-clause-serves : goal.returns-then-number-count-clause-serves
@@ -31,14 +31,13 @@ pub returns-in-Ok-clause-reported_once : goal.returns-in-Ok-clause-reported_once
 returns-in-Ok-clause-reported_once g c =
     shown_fine (objects_in (g.F.Frames.parts c.args.store.now)) c.args.number c.in-Ok.answer c.in-Ok.ensures.answer
 
-pub returns-in-Err-NoMemory-clause-serves : goal.returns-in-Err-NoMemory-clause-serves
-returns-in-Err-NoMemory-clause-serves g c =
+pub returns-in-Err-clause-serves : goal.returns-in-Err-clause-serves
+returns-in-Err-clause-serves g c =
     let old = g.F.Frames.parts c.args.store.now in
     let new = g.F.Frames.parts c.shown.new.store in
-    let said = c.in-Err-NoMemory.ensures.only_reads in
+    let said = c.in-Err.ensures.only_reads in
     let same : AreSame old new =
     record { headers = said.snapshots.headers; contents = said.snapshots.contents; touched = said.snapshots.touched; geometry = said.snapshots.geometry } in
     let counted : c.count.result ≡ length old.headers = c.count.ensures ∙ ap (λ (hs : List ObjectHeader). length hs) c.table.ensures in
-    show_no_memory_serves c.args.age old new c.args.number same c.requires.sound said.later
-    (subst (λ (m : ℕ). c.args.number < m) counted c.if-number-count.false)
-    (λ rose. unread_unfailed c.in-Err-NoMemory.field-0 c.in-Err-NoMemory.field-0-is (said.cause.1 rose))
+    rw c.refused.ensures.answer (unshown_serves c.args.age old new c.args.number same c.requires.sound said.later
+    (subst (λ (m : ℕ). c.args.number < m) counted c.if-number-count.false) c.in-Err.why said.refusals said.cause)

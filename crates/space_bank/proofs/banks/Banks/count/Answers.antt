@@ -27,5 +27,6 @@ returns-clause-only_reads g c =
           c.read_numbers-2.new.store
           first.snapshots second.snapshots;
       later = omega (arith, first.later, second.later);
+      refusals = tt;
       cause = search rules;
     }
