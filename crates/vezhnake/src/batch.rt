@@ -33,7 +33,6 @@ fn first_fault(first: Status, second: Status) -> Status
 
 // Runs a script, and copies the answers and the calls.
 fn run_script(
-    alloc: Global,
     session: &mut Session,
     script: &[u8],
     answers: &mut [u8],
@@ -43,7 +42,7 @@ fn run_script(
     ensures { RunsScript session.old session.new script.now answers.old answers.new calls.old calls.new
         batch.new.answers batch.new.calls result }
 {
-    let answered = session.step(alloc, script, answers, &mut batch.answers);
+    let answered = session.step(script, answers, &mut batch.answers);
     let taken = session.take_calls(calls, &mut batch.calls);
     first_fault(answered, taken)
 }
@@ -66,7 +65,7 @@ pub fn run_batch(
 {
     match Session::open(alloc, image, cache) {
         Ok(mut session) => {
-            let status = run_script(alloc, &mut session, script, answers, calls, batch);
+            let status = run_script(&mut session, script, answers, calls, batch);
             session.end();
             status
         }

@@ -73,7 +73,7 @@ impl Handle {
             Ok(session) => session,
             Err(status) => return status,
         };
-        match session.boxed(alloc) {
+        match session.boxed() {
             Some(session) => {
                 *self = Handle::opened(session);
                 Status::Done
@@ -109,7 +109,7 @@ impl Handle {
         let Some(mut session) = self.take(alloc) else {
             return Status::NotOpen;
         };
-        let status = session.step(alloc, text, buffer, size);
+        let status = session.step(text, buffer, size);
         *self = Handle::opened(session);
         status
     }

@@ -10,6 +10,7 @@ use std::alloc::Global;
 /// A kernel over the host's storage, the last answers, and how many calls the host has taken.
 #[derive(Drop)]
 pub struct Session {
+    alloc: Global,
     kernel: HostKernel,
     // The answers to the last text.
     answer: Vec<u8>,
@@ -37,6 +38,7 @@ impl Session {
     {
         match HostKernel::open(alloc, image, cache) {
             Ok(kernel) => Ok(Session {
+                alloc,
                 kernel,
                 answer: Vec::new(alloc),
                 taken: 0,
@@ -46,10 +48,10 @@ impl Session {
     }
 
     /// Moves the session to the heap, or drops it if memory runs out.
-    pub fn boxed(self, alloc: Global) -> Option<Box<Session>>
+    pub fn boxed(self) -> Option<Box<Session>>
         ensures { IfSome result (λ session. session.value ≡ self) }
     {
-        match Box::new(alloc, self) {
+        match Box::new(self.alloc, self) {
             Ok(session) => Some(session),
             Err(_) => None,
         }
@@ -64,17 +66,11 @@ impl Session {
     ///
     /// `SmallBuffer` if they don't fit; `NoMemory` if memory for the answers runs out: the lines up
     /// to there were served. `Failed` after 2^64 - 1 reads.
-    pub fn step(
-        &mut self,
-        alloc: Global,
-        text: &[u8],
-        buffer: &mut [u8],
-        size: &mut usize,
-    ) -> Status
+    pub fn step(&mut self, text: &[u8], buffer: &mut [u8], size: &mut usize) -> Status
         ensures { StepsSession self.old self.new text.now buffer.old buffer.new size.new result }
     {
         self.answer.clear();
-        match self.kernel.run_text(alloc, text, &mut self.answer) {
+        match self.kernel.run_text(self.alloc, text, &mut self.answer) {
             Ok(()) => {
                 if copy_out(&self.answer, buffer, size) {
                     Status::Done
