@@ -56,8 +56,10 @@ added_more app ss i d old sub new inside is adds is_sub =
 pub has_all : (app : App) (xs : List Argument) (rs : List Rule) (i : ℕ) (command : Command) → i ≡ length xs → map argument_rule xs ≡ rs →
     IsCommand (with_rules app (map argument_rule (take i xs))) command → IsCommand (with_rules app rs) command
 has_all app xs rs i command all same is =
-    subst (λ (ys : List Rule). IsCommand (with_rules app ys) command) (ap (λ (ys : List Argument). map argument_rule ys) (ap (λ (n : ℕ). take n xs) all ∙ take-length xs) ∙ same) is
+    subst (λ (ys : List Rule). IsCommand (with_rules app ys) command) (ap (λ (ys : List Argument). map argument_rule ys)
+    (ap (λ (n : ℕ). take n xs) all ∙ take-length xs) ∙ same) is
 
 pub has_each : (app : App) (ss : List Subcommand) (i : ℕ) (command : Command) → i ≡ length ss → IsCommand (with_subcommands app (take i ss)) command →
     IsCommand (with_subcommands app ss) command
-has_each app ss i command all is = subst (λ (ys : List Subcommand). IsCommand (with_subcommands app ys) command) (ap (λ (n : ℕ). take n ss) all ∙ take-length ss) is
+has_each app ss i command all is =
+    subst (λ (ys : List Subcommand). IsCommand (with_subcommands app ys) command) (ap (λ (n : ℕ). take n ss) all ∙ take-length ss) is

@@ -177,5 +177,5 @@ with_subcommands app (s ∷ rest) = with_subcommands (with_subcommand app (subco
 -- all subcommands, in the order of the help
 abbrev pub subcommands : List Subcommand
 subcommands =
-    sub.Build ∷ sub.Run ∷ sub.Shell ∷ sub.Check ∷ sub.Explain ∷ sub.Info ∷ sub.Reach ∷ sub.Upgrade ∷ sub.Describe ∷ sub.Draw
-    ∷ []
+    sub.Build ∷ sub.Run ∷ sub.Shell ∷ sub.Check ∷ sub.Explain ∷ sub.Info ∷ sub.Reach ∷ sub.Upgrade
+    ∷ sub.Describe ∷ sub.Draw ∷ []
