@@ -74,6 +74,7 @@ impl<D: Device, P: Policy> PresentFrames for Store<D, P> {
 
     /// Fetches the bodies of up to 8 objects, as `fetch` does, and announces the numbers to be written. Refusals:
     /// see `PresentFrames::prepare`.
+    #[inline(always)]
     fn prepare(&mut self, fetched: &[u64], written: &[u64]) -> Result<(), Refusal>
         requires few { length fetched.now ≤ MAX_FETCHED }
         requires known { All (λ n. n < length (parts_of D.disk self.old).headers) fetched.now }
