@@ -38,7 +38,8 @@ reads_append byte (p ∷ ps) qs =
     ap (λ (l : List OpeningCall). got byte p ∷ l) (reads_append (byte + length p) ps qs
     ∙ ap (λ (n : ℕ). reads (byte + length p) ps ++ reads n qs) (omega (arith, length-append p (concat ps))))
 
-gets_join : (byte next : ℕ) (a b c : Calls) (xs ys : List ℕ) → next ≡ byte + length xs → GetsFrom byte a b xs → GetsFrom next b c ys → GetsFrom byte a c (xs ++ ys)
+gets_join : (byte next : ℕ) (a b c : Calls) (xs ys : List ℕ) → next ≡ byte + length xs → GetsFrom byte a b xs → GetsFrom next b c ys
+    → GetsFrom byte a c (xs ++ ys)
 gets_join byte next a b c xs ys next_is first second =
     let place : next ≡ byte + length (concat first.0) = next_is ∙ ap (λ (l : List ℕ). byte + length l) (sym first.1) in (
       first.0 ++ second.0,
@@ -61,7 +62,8 @@ module _ (byte : ℕ) (a b : Calls) (old part : List ℕ) (done k : ℕ) (within
       omega (arith, size, fits, length-append (take done old) (part ++ tail), length-append part tail)
 
   -- a call got n bytes behind the first ones of a buffer
-  pub gets_on : (c : Calls) (n : ℕ) → n ≤ length part → Adds b c (got (byte + done) (take n part) ∷ []) → GetsFrom byte a c (take (done + n) (put_mid done k old part))
+  pub gets_on : (c : Calls) (n : ℕ) → n ≤ length part → Adds b c (got (byte + done) (take n part) ∷ [])
+      → GetsFrom byte a c (take (done + n) (put_mid done k old part))
   gets_on c n fits adds =
       let tail : List ℕ = drop k (drop done old) in
       let more : take (done + n) (put_mid done k old part) ≡ take done old ++ take n part =

@@ -130,8 +130,8 @@ impl<D: Device> Cache<D> {
 
     /// Fetches up to 8 objects, and announces the numbers to be written.
     ///
-    /// A refusal changes no object and announces no number: `LogFull` only if more numbers would be touched than half of
-    /// the log holds, and `Fault` exactly if the device failed. There is no other refusal.
+    /// A refusal changes no object and announces no number: `LogFull` only if more numbers would be touched than half
+    /// of the log holds, and `Fault` exactly if the device failed. There is no other refusal.
     pub fn prepare(&mut self, fetched: &[u64], written: &[u64]) -> Result<(), Refusal>
         requires few { length fetched.now ≤ MAX_FETCHED }
         requires known { All (λ n. n < length self.old.headers) fetched.now }

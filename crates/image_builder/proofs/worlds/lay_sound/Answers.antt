@@ -19,5 +19,9 @@ returns-clause-laid c =
     let known = c.in_ok-headers.ensures in
     let laid = world_laid c.args.description.now c.in_ok-headers.field-0 known.named known.described known.keepable known.headers known.contents in
     let checked : AreLaid c.args.description.now c.new-frames.result.headers c.new-frames.result.contents = rw c.new-frames.ensures laid in
-    rw (c.into_parts-headers.ensures.headers, c.into_parts-headers.ensures.contents, c.in_ok-check_frames.ensures.headers, c.in_ok-check_frames.ensures.contents)
-    checked
+    rw (
+      c.into_parts-headers.ensures.headers,
+      c.into_parts-headers.ensures.contents,
+      c.in_ok-check_frames.ensures.headers,
+      c.in_ok-check_frames.ensures.contents,
+    ) checked

@@ -22,7 +22,8 @@ pub invariant_of-self : goal.invariant_of-self
 invariant_of-self g c =
     let i = c.self.inside in (
       rw (c.len.ensures ∙ i.items.ok.0, c.in-Ok.ensures.items)
-          (added_positions i.items.items i.at.items c.self.invariant.0 c.args.self.now c.self.view_is c.args.place c.requires.within c.requires.absent c.args.item),
+          (added_positions i.items.items i.at.items c.self.invariant.0 c.args.self.now c.self.view_is c.args.place c.requires.within
+          c.requires.absent c.args.item),
       omega (arith, c.self.invariant.1, length-set i.at.items c.args.place c.len.result, c.in-Ok.ensures.capacity),
     )
 
