@@ -123,7 +123,6 @@ fn find<F: Frames>(
 }
 
 // The page with an index in a tree.
-
 fn descend<F: Frames>(
     frames: &mut F,
     tree: Tree,

@@ -85,7 +85,7 @@ fn find_above_limit<F: Frames>(store: &F, usages: &[u64], limits: &[u64]) -> Opt
 /// in a chain, or a bank accounts for more than its limit. Nothing where none of this is so. Banks are
 /// fetched one at a time for their limits.
 ///
-/// `NoMemory` if memory ran out, and `Failed` exactly if the device failed. No object changes.
+/// `NoMemory` if memory ran out, and `Fault` exactly if the device failed. No object changes.
 pub fn find_unbanked<F: Frames>(alloc: Global, store: &mut F) -> Result<Option<Unbanked>, Refusal>
     requires { AreKeepable (F.parts store.old).geometry u64.MAX (frames_of (F.parts store.old)) }
     ensures found { let frames = frames_of (F.parts store.old) in IfOk result (λ found.

@@ -20,7 +20,7 @@ fn object<F: Frames>(alloc: Global, store: &mut F, number: u64) -> Result<Object
 
 /// All objects of a store, by number. Each is fetched, and none is changed.
 ///
-/// `NoMemory` if memory runs out, and `Failed` exactly if the device fails.
+/// `NoMemory` if memory runs out, and `Fault` exactly if the device fails.
 pub fn read_objects<F: Frames>(alloc: Global, store: &mut F) -> Result<Vec<Object>, Refusal>
     requires { AreSound (F.parts store.old) }
     ensures objects { IfOk result (λ objects. objects.items ≡ objects_in (F.parts store.old)) }

@@ -66,7 +66,7 @@ fn read_number<F: Frames>(store: &mut F, number: u64, role: Role) -> Result<u64,
 /// annexes of processes, and 0 in another role. Each object with the role is fetched, one at a time;
 /// nothing else is.
 ///
-/// `NoMemory` if memory ran out, and `Failed` exactly if the device failed. No object changes.
+/// `NoMemory` if memory ran out, and `Fault` exactly if the device failed. No object changes.
 pub fn read_numbers<F: Frames>(
     alloc: Global,
     store: &mut F,
@@ -91,7 +91,7 @@ pub fn read_numbers<F: Frames>(
 /// The limits of all banks below a count by number, 0 for what is no bank. Each bank is fetched,
 /// one at a time; nothing else is.
 ///
-/// `NoMemory` if memory ran out, and `Failed` exactly if the device failed. No object changes.
+/// `NoMemory` if memory ran out, and `Fault` exactly if the device failed. No object changes.
 pub fn read_limits<F: Frames>(alloc: Global, store: &mut F, count: u64) -> Result<Vec<u64>, Refusal>
     requires known { count ≤ length (F.parts store.old).headers }
     requires keepable { AreKeepable (F.parts store.old).geometry u64.MAX
@@ -167,7 +167,7 @@ impl Banks {
     /// time; nothing else is.
     ///
     /// Takes all the memory that any order will need; no other call takes any. `NoMemory` if memory
-    /// ran out, and `Failed` exactly if the device failed. No object changes.
+    /// ran out, and `Fault` exactly if the device failed. No object changes.
     pub fn count<F: Frames>(alloc: Global, store: &mut F) -> Result<Banks, Refusal>
         requires sound { AreSound (F.parts store.old) }
         ensures counted { IfOk result (AreCounted (F.parts store.old).geometry
